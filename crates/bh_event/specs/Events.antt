@@ -1,0 +1,32 @@
+-- What comes to a host, as contracts see it.
+use Rattle.std.specs.Prelude.{ℕ, List}
+use Rattle.std.specs.String.{string_bytes}
+use Rattle.bh_event.specs.declared.event.Command.{Command}
+use Rattle.bh_event.specs.declared.event.Command.TheVariants.{TenantAdd, KeyAdd, KeyRemove}
+use Rattle.bh_event.specs.declared.event.Event.{Event}
+use Rattle.bh_event.specs.declared.event.Event.TheVariants as event
+
+-- what an operator orders; names and secrets are bytes
+pub data Order : Type 0 where
+  AddTenant : (tenant : List ℕ) (quota : ℕ) → Order
+  AddKey : (tenant : List ℕ) (name : List ℕ) (secret : List ℕ) → Order
+  RemoveKey : (tenant : List ℕ) (name : List ℕ) → Order
+
+-- the bytes of a request, or an order
+pub data Content : Type 0 where
+  Requested : (bytes : List ℕ) → Content
+  Ordered : (order : Order) → Content
+
+-- at a reading of the clock, in seconds since 1970
+pub record Arrival : Type 0 where
+  pub reading : ℕ
+  pub content : Content
+
+abbrev pub order_of : Command → Order
+order_of (TenantAdd tenant quota) = AddTenant (string_bytes tenant) quota
+order_of (KeyAdd tenant name secret) = AddKey (string_bytes tenant) (string_bytes name) (string_bytes secret)
+order_of (KeyRemove tenant name) = RemoveKey (string_bytes tenant) (string_bytes name)
+
+abbrev pub arrival : Event → Arrival
+arrival (event.Http reading bytes) = record { reading = reading; content = Requested bytes.items }
+arrival (event.Operator reading command) = record { reading = reading; content = Ordered (order_of command) }

@@ -1,0 +1,79 @@
+-- The event that a line of a script tells: one JSON object, its members in any order, none missing and none besides.
+use Rattle.std.specs.Prelude.{ℕ, ◌==◌, Bool, false, unwrap_or, List, codes, Option, Some, None, option_map, option_and_then, if◌then◌else◌}
+use Rattle.std.specs.Option.{option_or}
+use Rattle.std.specs.Result.{result_ok}
+use Rattle.std.specs.Str.{bytes_eq, is_utf8}
+use Rattle.hex.specs.Hex.{decode_of}
+use Rattle.serde_json.specs.Data.{Data}
+use Rattle.serde_json.specs.Events.{members_len}
+use Rattle.serde_json.specs.Find.{get, as_object, as_str, as_number, as_u64}
+use Rattle.serde_json.specs.Read.{read}
+use Rattle.bh_event.specs.Events.{Order, AddTenant, AddKey, RemoveKey, Content, Requested, Ordered, Arrival}
+
+abbrev pub text_at : List ℕ → Data → Option (List ℕ)
+text_at key d = option_and_then as_str (get key d)
+
+abbrev pub number_at : List ℕ → Data → Option ℕ
+number_at key d = option_and_then as_u64 (option_and_then as_number (get key d))
+
+-- an object of so many members
+abbrev pub has_members : ℕ → Data → Bool
+has_members count d = unwrap_or (option_map (λ ms. members_len ms == count) (as_object d)) false
+
+-- the bytes that an even number of hexadecimal digits stand for
+abbrev pub bytes_of_digits : List ℕ → Option (List ℕ)
+bytes_of_digits digits = result_ok (decode_of digits)
+
+-- {"at":n,"http":text} is the text's bytes, {"at":n,"hex":digits} the bytes that its digits stand for
+abbrev pub request_in : Data → Option (List ℕ)
+request_in d =
+    if has_members 2 d then option_or (text_at (codes "http") d) (option_and_then bytes_of_digits (text_at (codes "hex") d)) else None
+
+-- {"at":n,"op":"tenant-add","quota":n,"tenant":t}
+abbrev pub tenant_add_in : Data → Option Order
+tenant_add_in d =
+    if has_members 4 d
+    then option_and_then (λ tenant. option_map (AddTenant tenant) (number_at (codes "quota") d)) (text_at (codes "tenant") d)
+    else None
+
+-- {"at":n,"name":k,"op":"key-add","secret":s,"tenant":t}
+abbrev pub key_add_in : Data → Option Order
+key_add_in d =
+    if has_members 5 d
+    then option_and_then
+        (λ tenant. option_and_then (λ name. option_map (AddKey tenant name) (text_at (codes "secret") d)) (text_at (codes "name") d))
+        (text_at (codes "tenant") d)
+    else None
+
+-- {"at":n,"name":k,"op":"key-remove","tenant":t}
+abbrev pub key_remove_in : Data → Option Order
+key_remove_in d =
+    if has_members 4 d
+    then option_and_then (λ tenant. option_map (RemoveKey tenant) (text_at (codes "name") d)) (text_at (codes "tenant") d)
+    else None
+
+-- the order that an object with this `op` tells
+abbrev pub order_named : Data → List ℕ → Option Order
+order_named d op =
+    if bytes_eq op (codes "tenant-add") then tenant_add_in d
+    else if bytes_eq op (codes "key-add") then key_add_in d
+    else if bytes_eq op (codes "key-remove") then key_remove_in d
+    else None
+
+abbrev pub order_in : Data → Option Order
+order_in d = option_and_then (order_named d) (text_at (codes "op") d)
+
+abbrev pub content_in : Data → Option Content
+content_in d = option_or (option_map Requested (request_in d)) (option_map Ordered (order_in d))
+
+-- `at` is the reading of the clock
+abbrev pub arrival_in : Data → Option Arrival
+arrival_in d = option_and_then (λ reading. option_map (λ content. record { reading = reading; content = content }) (content_in d)) (number_at (codes "at") d)
+
+-- the value whose JSON text bytes are
+abbrev pub value_in : List ℕ → Option Data
+value_in bytes = if is_utf8 bytes then read bytes else None
+
+-- what a line tells, if it is the text of such an object
+abbrev pub told_by : List ℕ → Option Arrival
+told_by line = option_and_then arrival_in (value_in line)

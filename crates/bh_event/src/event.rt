@@ -1,0 +1,39 @@
+ghost use Rattle.std.specs.Prelude.{◌≡◌};
+ghost use Rattle.bh_event.specs.Events.{arrival};
+
+/// What an operator orders. Names, secrets and quotas are as they were given: whether they are in
+/// their ranges is the host's to say.
+#[derive(Drop)]
+pub enum Command {
+    /// A tenant with a quota in bytes.
+    TenantAdd { tenant: String, quota: u64 },
+    /// An access key of a tenant.
+    KeyAdd {
+        tenant: String,
+        name: String,
+        secret: String,
+    },
+    /// An access key of a tenant goes.
+    KeyRemove { tenant: String, name: String },
+}
+
+/// What comes to a host, with the clock's reading in seconds since 1970.
+#[derive(Drop)]
+pub enum Event {
+    /// The bytes of a request of HTTP/1.1 (RFC 9112).
+    Http { reading: u64, bytes: Vec<u8> },
+    /// An operator's command.
+    Operator { reading: u64, command: Command },
+}
+
+impl Event {
+    /// The clock's reading, in seconds since 1970.
+    pub fn reading(&self) -> u64
+        ensures { result ≡ (arrival self.now).reading }
+    {
+        match self {
+            Event::Http { reading, .. } => *reading,
+            Event::Operator { reading, .. } => *reading,
+        }
+    }
+}

@@ -1,0 +1,8 @@
+//! What comes to a host, and the lines of a script that tell it.
+#![tactic(auto)]
+
+pub mod event;
+pub mod line;
+
+#[cfg(test)]
+mod tests;

@@ -1,0 +1,4 @@
+pub mod Ascii
+pub mod Digits
+pub mod Names
+pub mod Readings

@@ -1,0 +1,50 @@
+-- Whose request it is, and the credentials that it carries.
+use Rattle.std.specs.Prelude.{ℕ, Bool, ◌==◌, List, take, codes, position, if◌then◌else◌, Option, Some, None, option_and_then, Result, Ok, Err}
+use Rattle.bh_types.specs.Names.{is_tenant_name}
+use Rattle.bh_types.specs.declared.refusal.Refusal.{Refusal}
+use Rattle.bh_types.specs.declared.refusal.Refusal.TheVariants.{AccessDenied}
+use Rattle.bh_http.specs.Fields.{Standing, Missing, Once, Repeated, field_named}
+use Rattle.bh_http.specs.Views.{Taken}
+use Rattle.bh_http.specs.declared.credentials.Credentials.{Credentials}
+
+abbrev pub access_key : Taken → Standing
+access_key request = field_named (codes "x-access-key") request.fields
+
+abbrev pub secret_key : Taken → Standing
+secret_key request = field_named (codes "x-secret-key") request.fields
+
+-- an access key's id and a secret, each of which has to stand once
+abbrev pub both : Standing → Standing → Result (List ℕ × List ℕ) Refusal
+both (Once id) (Once secret) = Ok (id, secret)
+both (Once id) Missing = Err AccessDenied
+both (Once id) Repeated = Err AccessDenied
+both Missing secret = Err AccessDenied
+both Repeated secret = Err AccessDenied
+
+-- the access key's id and the secret
+abbrev pub credentials : Taken → Result (List ℕ × List ℕ) Refusal
+credentials request = both (access_key request) (secret_key request)
+
+-- 36 is '$'
+abbrev pub is_dollar : ℕ → Bool
+is_dollar b = b == 36
+
+abbrev pub tenant_named : List ℕ → Option (List ℕ)
+tenant_named name = if is_tenant_name name then Some name else None
+
+-- the tenant of an access key's id: the name before its first `$`
+abbrev pub tenant_of : List ℕ → Option (List ℕ)
+tenant_of id = option_and_then (λ at. tenant_named (take at id)) (position is_dollar id)
+
+abbrev pub tenant_in : Standing → Option (List ℕ)
+tenant_in (Once id) = tenant_of id
+tenant_in Missing = None
+tenant_in Repeated = None
+
+-- the tenant that a request belongs to, by its single access key alone
+abbrev pub owner : Taken → Option (List ℕ)
+owner request = tenant_in (access_key request)
+
+-- what contracts see of credentials
+abbrev pub credentials_view : Credentials → List ℕ × List ℕ
+credentials_view found = (found.id.now, found.secret.now)

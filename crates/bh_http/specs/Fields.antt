@@ -1,0 +1,34 @@
+-- The header fields of one name.
+use Rattle.std.specs.Prelude.{ℕ, Bool, List, [], ◌∷◌, map, filter}
+use Rattle.std.specs.Str.{str_eq_ignore_ascii_case}
+use Rattle.bh_http.specs.declared.fields.Given.{Given}
+use Rattle.bh_http.specs.declared.fields.Given.TheVariants as code
+
+-- the field has this name; case doesn't count
+abbrev pub is_named : List ℕ → List ℕ × List ℕ → Bool
+is_named name field = str_eq_ignore_ascii_case field.0 name
+
+-- the values of the fields of a name, in their order
+abbrev pub values_of : List ℕ → List (List ℕ × List ℕ) → List (List ℕ)
+values_of name fields = map (λ f. f.1) (filter (is_named name) fields)
+
+-- how often a field stands, and its value where it stands once
+pub data Standing : Type 0 where
+  Missing : Standing
+  Once : List ℕ → Standing
+  Repeated : Standing
+
+abbrev pub standing : List (List ℕ) → Standing
+standing [] = Missing
+standing (value ∷ []) = Once value
+standing (value ∷ next ∷ others) = Repeated
+
+-- the field of a name
+abbrev pub field_named : List ℕ → List (List ℕ × List ℕ) → Standing
+field_named name fields = standing (values_of name fields)
+
+-- what contracts see of the code's answer
+abbrev pub given_view : Given → Standing
+given_view code.Missing = Missing
+given_view (code.Once value) = Once value.now
+given_view code.Repeated = Repeated

@@ -1,0 +1,25 @@
+-- The head that spans cover.
+use Rattle.std.specs.Prelude.{List, ℕ, map, take}
+use Rattle.httparse.specs.Spans.{span_bytes, header_bytes}
+use Rattle.httparse.specs.declared.spans.HeaderSpan.{HeaderSpan}
+use Rattle.httparse.specs.declared.spans.RequestSpans.{RequestSpans}
+use Rattle.bh_http.specs.Views.{Parts, pairs_of}
+use Rattle.bh_http.specs.declared.head.Head.{Head}
+
+-- the parts of a head whose places in the bytes are known
+abbrev pub parts_at : List ℕ → List HeaderSpan → RequestSpans → Parts
+parts_at bytes headers spans = record {
+  method = span_bytes bytes spans.method;
+  target = span_bytes bytes spans.path;
+  minor = spans.version;
+  fields = map (header_bytes bytes) (take spans.headers headers);
+}
+
+-- the parts of a head that was copied
+abbrev pub head_view : Head → Parts
+head_view head = record {
+  method = head.method;
+  target = head.target.items;
+  minor = head.minor;
+  fields = pairs_of head.fields.items;
+}

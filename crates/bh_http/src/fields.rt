@@ -1,0 +1,38 @@
+ghost use Rattle.std.specs.Prelude.{◌≡◌};
+ghost use Rattle.bh_http.specs.Fields as spec;
+ghost use Rattle.bh_http.specs.Views.{pair_of, pairs_of};
+
+use crate::request::Field;
+
+/// How often a header field stands in a request, and its value where it stands once.
+#[derive(Clone, Copy, Debug)]
+pub enum Given<'a> {
+    /// It does not stand.
+    Missing,
+    /// It stands once, with this value.
+    Once(&'a [u8]),
+    /// It stands twice or more.
+    Repeated,
+}
+
+/// The field of a name, compared without case (RFC 9110, section 5.1).
+pub fn field_named<'a>(fields: &'a [Field], name: &[u8]) -> Given<'a>
+    ensures { spec.given_view result ≡ spec.field_named name.now (pairs_of fields.now) }
+{
+    let mut given = Given::Missing;
+    for field in fields {
+        if is_named(field, name) {
+            given = match given {
+                Given::Missing => Given::Once(field.value.as_slice()),
+                _ => Given::Repeated,
+            };
+        }
+    }
+    given
+}
+
+fn is_named(field: &Field, name: &[u8]) -> bool
+    ensures { result ≡ spec.is_named name.now (pair_of field.now) }
+{
+    field.name.as_slice().eq_ignore_ascii_case(name)
+}

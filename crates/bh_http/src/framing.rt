@@ -1,0 +1,102 @@
+ghost use Rattle.std.specs.Prelude.{◌≡◌, ◌<◌, ◌≤◌, ◌^◌, ℕ, List, length, true, IfSome, IfNone};
+ghost use Rattle.std.specs.List.{list_all};
+ghost use Rattle.std.specs.Char.{is_ascii_digit};
+ghost use Rattle.std.specs.Str.Parse.{digits_value};
+ghost use Rattle.bh_http.specs.Fields.{given_view};
+ghost use Rattle.bh_http.specs.HeadSpans.{head_view};
+ghost use Rattle.bh_http.specs.Reading as spec;
+
+use crate::fields::{Given, field_named};
+use crate::head::Head;
+use bh_types::limits::Limits;
+use bh_types::refusal::Refusal;
+use http::Method;
+
+/// The length of the body that follows a head, or the first refusal.
+pub fn framing(limits: &Limits, head: &Head) -> Result<u64, Refusal>
+    ensures { result ≡ spec.framing limits.now (head_view head.now) }
+{
+    let fields = head.fields.as_slice();
+    if head.minor == 1 && !is_once(field_named(fields, b"host")) {
+        return Err(Refusal::BadRequest);
+    }
+    if !is_missing(field_named(fields, b"transfer-encoding")) {
+        return Err(Refusal::NotImplemented);
+    }
+    announced(
+        limits.max_body,
+        &head.method,
+        field_named(fields, b"content-length"),
+    )
+}
+
+fn is_once(given: Given) -> bool
+    ensures { result ≡ spec.is_once (given_view given.entry) }
+{
+    match given {
+        Given::Once(_) => true,
+        Given::Missing | Given::Repeated => false,
+    }
+}
+
+fn is_missing(given: Given) -> bool
+    ensures { result ≡ spec.is_missing (given_view given.entry) }
+{
+    match given {
+        Given::Missing => true,
+        Given::Once(_) | Given::Repeated => false,
+    }
+}
+
+/// The length that Content-Length announces for a method.
+fn announced(max_body: u64, method: &Method, content_length: Given) -> Result<u64, Refusal>
+    ensures { result ≡ spec.announced max_body method.now (given_view content_length.entry) }
+{
+    match content_length {
+        Given::Missing if needs_length(method) => Err(Refusal::MissingContentLength),
+        Given::Missing => Ok(0),
+        Given::Once(value) => length_in(max_body, value),
+        Given::Repeated => Err(Refusal::BadRequest),
+    }
+}
+
+fn needs_length(method: &Method) -> bool
+    ensures { result ≡ spec.needs_length method.now }
+{
+    method.as_str() == "PUT" || method.as_str() == "POST"
+}
+
+/// The length that a value of Content-Length announces.
+fn length_in(max_body: u64, value: &[u8]) -> Result<u64, Refusal>
+    ensures { result ≡ spec.length_in max_body value.now }
+{
+    if value.is_empty() || !are_digits(value) {
+        return Err(Refusal::BadRequest);
+    }
+    match number_of(value) {
+        Some(size) if size <= max_body => Ok(size),
+        _ => Err(Refusal::EntityTooLarge),
+    }
+}
+
+fn are_digits(text: &[u8]) -> bool
+    ensures { result ≡ list_all is_ascii_digit text.now }
+{
+    text.iter().all(|b| b.is_ascii_digit())
+}
+
+/// The number that digits stand for, if it is below 2^64.
+fn number_of(digits: &[u8]) -> Option<u64>
+    requires some_digits { 0 < length digits.now }
+    requires only_digits { list_all is_ascii_digit digits.now ≡ true }
+    ensures some { IfSome result (λ n. n ≡ digits_value 10 digits.now) }
+    ensures none { IfNone result (2 ^ 64 ≤ digits_value 10 digits.now) }
+{
+    let Ok(text) = str::from_utf8(digits) else {
+        return None;
+    };
+    match text.parse::<u64>() {
+        Ok(n) => Some(n),
+        Err(_) => None,
+    }
+}

@@ -1,0 +1,20 @@
+//! HTTP/1.1 as the host speaks it: a request's bytes to the request or its refusal, whose request
+//! it is and what it asks for, and a response to its bytes.
+#![tactic(auto)]
+
+pub mod credentials;
+pub mod encode;
+pub mod fields;
+pub mod fixed;
+mod framing;
+mod head;
+pub mod narrow;
+pub mod read;
+pub mod request;
+pub mod response;
+#[cfg(test)]
+mod tests;
+mod text;
+pub mod values;
+
+pub use http::{Method, StatusCode};

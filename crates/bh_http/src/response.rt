@@ -1,0 +1,126 @@
+ghost use Rattle.std.specs.Prelude.{◌≡◌, length};
+ghost use Rattle.bh_types.specs.Refusals;
+ghost use Rattle.bh_http.specs.Answers as spec;
+
+use crate::values::{Allow, ContentRange, ContentType};
+use bh_types::id::VersionId;
+use bh_types::moment::Moment;
+use bh_types::refusal::Refusal;
+use http::StatusCode;
+use std::alloc::Global;
+
+/// A response: its status code, what its header fields say where they stand, and its body. Each
+/// response also says `connection: close`.
+#[derive(Drop)]
+pub struct Response {
+    pub status: StatusCode,
+    pub content_type: Option<ContentType>,
+    /// The bytes of the body, or for HEAD of the body that GET would have. It stands except with
+    /// 204.
+    pub content_length: Option<u64>,
+    pub content_range: Option<ContentRange>,
+    /// Whether `accept-ranges: bytes` stands.
+    pub accepts_ranges: bool,
+    pub allow: Option<Allow>,
+    /// `x-amz-checksum-sha256`: the text of a checksum.
+    pub checksum: Option<String>,
+    /// `x-amz-version-id`.
+    pub version_id: Option<VersionId>,
+    /// Whether `x-amz-delete-marker: true` stands.
+    pub delete_marker: bool,
+    /// `x-amz-abort-date`: when the upload that was begun will be stale.
+    pub abort_date: Option<Moment>,
+    /// `x-refusal`: why the request was refused.
+    pub refusal: Option<Refusal>,
+    pub body: Vec<u8>,
+}
+
+impl Response {
+    /// A response of a status alone, without a length, as 204 has it. Takes no memory.
+    pub fn bare(alloc: Global, status: StatusCode) -> Response
+        ensures { spec.response_view result ≡ spec.bare status }
+    {
+        Response {
+            status,
+            content_type: None,
+            content_length: None,
+            content_range: None,
+            accepts_ranges: false,
+            allow: None,
+            checksum: None,
+            version_id: None,
+            delete_marker: false,
+            abort_date: None,
+            refusal: None,
+            body: Vec::new(alloc),
+        }
+    }
+
+    /// A response with a body of no bytes. Takes no memory.
+    pub fn empty(alloc: Global, status: StatusCode) -> Response
+        ensures { spec.response_view result ≡ spec.empty status }
+    {
+        let mut response = Response::bare(alloc, status);
+        response.content_length = Some(0);
+        response
+    }
+
+    /// A response with a JSON document as its body. Takes no memory.
+    pub fn with_document(alloc: Global, status: StatusCode, document: Vec<u8>) -> Response
+        ensures { spec.response_view result ≡ spec.with_document status document.items }
+    {
+        let mut response = Response::bare(alloc, status);
+        response.content_type = Some(ContentType::Json);
+        response.content_length = Some(document.len() as u64);
+        response.body = document;
+        response
+    }
+
+    /// The response to what was refused: with the document as its body, or with no bytes where the
+    /// refusal has no document. Takes no memory.
+    pub fn refused(alloc: Global, refusal: Refusal, document: Vec<u8>) -> Response
+        ensures { spec.response_view result ≡ spec.refused refusal document.items }
+    {
+        if !has_document(refusal) {
+            return Response::bare_refusal(alloc, refusal);
+        }
+        let mut response = Response::with_document(alloc, status_of(refusal), document);
+        response.refusal = Some(refusal);
+        response
+    }
+
+    /// The response without a document to what was refused. Takes no memory.
+    pub fn bare_refusal(alloc: Global, refusal: Refusal) -> Response
+        ensures { spec.response_view result ≡ spec.bare_refusal refusal }
+    {
+        let mut response = Response::empty(alloc, status_of(refusal));
+        response.refusal = Some(refusal);
+        response
+    }
+}
+
+/// Whether a refusal is answered with a document: each but BadRequest, NotImplemented,
+/// MissingContentLength, EntityTooLarge, IncompleteBody, ClockOutOfRange and ServiceUnavailable.
+pub fn has_document(refusal: Refusal) -> bool
+    ensures { result ≡ spec.has_document refusal }
+{
+    match refusal {
+        Refusal::BadRequest
+        | Refusal::NotImplemented
+        | Refusal::MissingContentLength
+        | Refusal::EntityTooLarge
+        | Refusal::IncompleteBody
+        | Refusal::ClockOutOfRange
+        | Refusal::ServiceUnavailable => false,
+        _ => true,
+    }
+}
+
+fn status_of(refusal: Refusal) -> StatusCode
+    ensures { result ≡ Refusals.status_of refusal }
+{
+    match StatusCode::from_u16(refusal.status()) {
+        Ok(status) => status,
+        Err(_) => unreachable!(),
+    }
+}

@@ -1,0 +1,5 @@
+pub mod Form
+pub mod Scan
+pub mod Means
+pub mod Keys
+pub mod Texts

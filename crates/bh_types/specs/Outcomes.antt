@@ -1,0 +1,21 @@
+-- Answers that may be refusals, and what code may return for them.
+use Rattle.std.specs.Prelude.{◌≡◌, Result, Ok, Err}
+use Rattle.bh_types.specs.declared.refusal.Refusal.{Refusal}
+use Rattle.bh_types.specs.declared.error.RequestError.{RequestError}
+use Rattle.bh_types.specs.declared.error.RequestError.TheVariants.{Refused, OutOfMemory}
+
+-- one step after another: the first refusal is the answer
+infixl 10 ◌>>=◌
+abbrev pub ◌>>=◌ : {A B : Type 0} → Result A Refusal → (A → Result B Refusal) → Result B Refusal
+(Ok x) >>= f = f x
+(Err e) >>= f = Err e
+
+-- an error is the answer's refusal, unless memory ran out
+abbrev pub Fails : {Y : Type 0} → RequestError → Result Y Refusal → Type 0
+Fails OutOfMemory answer = Unit {0}
+Fails (Refused r) answer = answer ≡ Err r
+
+-- what a function returned, seen by view, is the answer, unless memory ran out
+abbrev pub Gives : {X Y : Type 0} → (X → Y) → Result X RequestError → Result Y Refusal → Type 0
+Gives view (Ok x) answer = answer ≡ Ok (view x)
+Gives view (Err e) answer = Fails e answer

@@ -1,0 +1,10 @@
+-- Numbers of states and of counters.
+use Rattle.std.specs.Prelude.{ℕ}
+use Rattle.bh_types.specs.declared.plain.BucketState.{BucketState}
+use Rattle.bh_types.specs.declared.plain.BucketState.TheVariants.{Unversioned, Enabled, Suspended}
+
+-- the number by which a table's column keeps a bucket's state
+abbrev pub state_number : BucketState → ℕ
+state_number Unversioned = 0
+state_number Enabled = 1
+state_number Suspended = 2

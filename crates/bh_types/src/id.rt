@@ -1,0 +1,106 @@
+ghost use Rattle.std.specs.Prelude.{◌≡◌, ℕ, ◌^◌, ◌<◌, ◌≢◌, ◌↔◌, List, IsTrue, IfOk, IfSome, IfNone};
+ghost use Rattle.std.specs.String.{string_bytes};
+ghost use Rattle.bh_types.specs.Ids.{number_text, version_text, upload_text};
+ghost use Rattle.bh_types.specs.declared.id.VersionId.{VersionId as Version};
+ghost use Rattle.bh_types.specs.declared.id.UploadId.{UploadId as Upload};
+
+use hex::FromHex;
+use std::alloc::{AllocError, Global};
+
+/// A version's id: `null`, or the tenant's version counter in 16 lower hexadecimal digits.
+#[derive(Clone, Copy, Debug, PartialEq, Eq)]
+pub enum VersionId {
+    /// The version that a bucket without versioning keeps.
+    Null,
+    /// The version of this number.
+    Numbered(u64),
+}
+
+/// An upload's id: the tenant's upload counter in 16 lower hexadecimal digits.
+#[derive(Clone, Copy, Debug, PartialEq, Eq, PartialOrd, Ord)]
+pub struct UploadId {
+    /// The number that the digits are.
+    pub number: u64,
+}
+
+impl VersionId {
+    /// The id that a text is, or `None` where it is none. Takes no memory.
+    pub fn read(text: &str) -> Option<VersionId>
+        ensures value { IfSome result (λ id. version_text id ≡ text.now) }
+        ensures none { IfNone result ((id : Version) → text.now ≢ version_text id) }
+    {
+        if text == "null" {
+            return Some(VersionId::Null);
+        }
+        match read_number(text) {
+            Some(number) => Some(VersionId::Numbered(number)),
+            None => None,
+        }
+    }
+
+    /// The id as text. An error says that memory ran out.
+    pub fn print(self, alloc: Global) -> Result<String, AllocError>
+        ensures { IfOk result (λ text. string_bytes text ≡ version_text self) }
+    {
+        match self {
+            VersionId::Null => String::from_str(alloc, "null"),
+            VersionId::Numbered(number) => print_number(alloc, number),
+        }
+    }
+}
+
+impl UploadId {
+    /// The id that a text is, or `None` where it is none. Takes no memory.
+    pub fn read(text: &str) -> Option<UploadId>
+        ensures value { IfSome result (λ id. upload_text id ≡ text.now) }
+        ensures none { IfNone result ((id : Upload) → text.now ≢ upload_text id) }
+    {
+        match read_number(text) {
+            Some(number) => Some(UploadId { number }),
+            None => None,
+        }
+    }
+
+    /// The id as text. An error says that memory ran out.
+    pub fn print(self, alloc: Global) -> Result<String, AllocError>
+        ensures { IfOk result (λ text. string_bytes text ≡ upload_text self) }
+    {
+        print_number(alloc, self.number)
+    }
+}
+
+/// The number that 16 lower hexadecimal digits are, or `None` where the text is not that.
+fn read_number(text: &str) -> Option<u64>
+    ensures value { IfSome result (λ n. number_text n ≡ text.now) }
+    ensures none { IfNone result ((n : ℕ) → text.now ≢ number_text n) }
+{
+    let decoded = <[u8; 8] as FromHex>::from_hex(text);
+    let Ok(bytes) = decoded else {
+        return None;
+    };
+    let number = u64::from_be_bytes(bytes);
+    // The decoder takes upper case too.
+    if is_number_text(number, text) {
+        Some(number)
+    } else {
+        None
+    }
+}
+
+/// Whether a text is the print of a number.
+fn is_number_text(number: u64, text: &str) -> bool
+    ensures { IsTrue result ↔ (number_text number ≡ text.now) }
+{
+    let bytes = number.to_be_bytes();
+    let mut again = [0u8; 16];
+    let _ = hex::encode_to_slice(bytes.as_slice(), &mut again);
+    again.as_slice() == text.as_bytes()
+}
+
+/// A number in 16 lower hexadecimal digits.
+fn print_number(alloc: Global, number: u64) -> Result<String, AllocError>
+    ensures { IfOk result (λ text. string_bytes text ≡ number_text number) }
+{
+    let bytes = number.to_be_bytes();
+    hex::encode(alloc, bytes.as_slice())
+}

@@ -1,0 +1,15 @@
+//! Names, ids, moments, limits and refusals of a bucket host.
+#![tactic(auto)]
+
+pub mod bucket;
+mod bytes;
+pub mod error;
+pub mod id;
+pub mod key;
+pub mod limits;
+pub mod moment;
+pub mod names;
+pub mod plain;
+pub mod refusal;
+#[cfg(test)]
+mod tests;

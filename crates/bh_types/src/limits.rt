@@ -1,0 +1,137 @@
+ghost use Rattle.std.specs.Prelude.{◌↔◌, IsTrue};
+ghost use Rattle.std.specs.Option.{SomeIff};
+ghost use Rattle.bh_types.specs.Limits as spec;
+
+use std::marker::Model;
+
+/// The greatest `min_part`, in bytes.
+pub const GREATEST_MIN_PART: u64 = 1 << 30;
+/// The `min_part` that S3 has: 5 MiB.
+pub const DEFAULT_MIN_PART: u64 = 5_242_880;
+/// The greatest `max_body`, in bytes.
+pub const GREATEST_MAX_BODY: u64 = 1 << 30;
+/// The `max_body` where none is given: 16 MiB.
+pub const DEFAULT_MAX_BODY: u64 = 16_777_216;
+/// The greatest `block_size`, in bytes.
+pub const GREATEST_BLOCK_SIZE: u64 = 1_048_576;
+/// The `block_size` where none is given: 64 KiB.
+pub const DEFAULT_BLOCK_SIZE: u64 = 65_536;
+/// The greatest `cache_blocks`.
+pub const GREATEST_CACHE_BLOCKS: u64 = 65_536;
+/// The `cache_blocks` where none is given: no cache.
+pub const DEFAULT_CACHE_BLOCKS: u64 = 0;
+/// The greatest quota of a tenant, in bytes.
+pub const MAX_QUOTA: u64 = 1 << 60;
+
+/// What a host is made with and keeps.
+#[derive(Clone, Copy, Debug, PartialEq, Eq)]
+pub struct Limits {
+    /// The least size in bytes of an upload's part, the last one left out.
+    pub min_part: u64,
+    /// The greatest size in bytes of a request's body.
+    pub max_body: u64,
+}
+
+impl Model for Limits {
+    ghost use Rattle.bh_types.specs.Limits.{HostLimits, AreLimits};
+
+    ghost Value = { HostLimits };
+
+    ghost view = { λ l. record { min_part = l.min_part; max_body = l.max_body } };
+
+    ghost invariant = { λ l. AreLimits l.min_part l.max_body };
+
+    ghost inverse = { λ l. record { min_part = l.min_part; max_body = l.max_body } };
+}
+
+impl Limits {
+    /// The limits, or `None` where `min_part` is above [`GREATEST_MIN_PART`], or `max_body` is 0 or
+    /// above [`GREATEST_MAX_BODY`].
+    pub fn new(min_part: u64, max_body: u64) -> Option<Limits>
+        ensures { SomeIff result (spec.AreLimits min_part max_body)
+            (record { min_part = min_part; max_body = max_body }) }
+    {
+        if min_part <= GREATEST_MIN_PART && 1 <= max_body && max_body <= GREATEST_MAX_BODY {
+            Some(Limits { min_part, max_body })
+        } else {
+            None
+        }
+    }
+}
+
+impl Default for Limits {
+    ghost use Rattle.std.specs.Prelude.{◌≡◌};
+    ghost use Rattle.bh_types.specs.Limits.{default_limits};
+
+    ghost is_default = { λ l. l ≡ default_limits };
+
+    fn default() -> Limits {
+        Limits {
+            min_part: DEFAULT_MIN_PART,
+            max_body: DEFAULT_MAX_BODY,
+        }
+    }
+}
+
+/// What a process is set to; it may differ each time that a host is opened.
+#[derive(Clone, Copy, Debug, PartialEq, Eq)]
+pub struct Tuning {
+    /// The size in bytes of the blocks that bodies are cut into.
+    pub block_size: u64,
+    /// How many blocks may be kept in memory; 0 is no cache.
+    pub cache_blocks: u64,
+}
+
+impl Model for Tuning {
+    ghost use Rattle.bh_types.specs.Limits.{HostTuning, IsTuning};
+
+    ghost Value = { HostTuning };
+
+    ghost view = { λ t. record { block_size = t.block_size; cache_blocks = t.cache_blocks } };
+
+    ghost invariant = { λ t. IsTuning t.block_size t.cache_blocks };
+
+    ghost inverse = { λ t. record { block_size = t.block_size; cache_blocks = t.cache_blocks } };
+}
+
+impl Tuning {
+    /// The tuning, or `None` where `block_size` is 0 or above [`GREATEST_BLOCK_SIZE`], or
+    /// `cache_blocks` is above [`GREATEST_CACHE_BLOCKS`].
+    pub fn new(block_size: u64, cache_blocks: u64) -> Option<Tuning>
+        ensures { SomeIff result (spec.IsTuning block_size cache_blocks)
+            (record { block_size = block_size; cache_blocks = cache_blocks }) }
+    {
+        if 1 <= block_size
+            && block_size <= GREATEST_BLOCK_SIZE
+            && cache_blocks <= GREATEST_CACHE_BLOCKS
+        {
+            Some(Tuning {
+                block_size,
+                cache_blocks,
+            })
+        } else {
+            None
+        }
+    }
+}
+
+impl Default for Tuning {
+    ghost use Rattle.std.specs.Prelude.{◌≡◌};
+    ghost use Rattle.bh_types.specs.Limits.{default_tuning};
+
+    ghost is_default = { λ t. t ≡ default_tuning };
+
+    fn default() -> Tuning {
+        Tuning {
+            block_size: DEFAULT_BLOCK_SIZE,
+            cache_blocks: DEFAULT_CACHE_BLOCKS,
+        }
+    }
+}
+
+/// Whether a number of bytes may be a tenant's quota: at most [`MAX_QUOTA`].
+pub fn is_quota(bytes: u64) -> bool
+    ensures { IsTrue result ↔ spec.IsQuota bytes }
+{
+    bytes <= MAX_QUOTA
+}

@@ -1,0 +1,146 @@
+ghost use Rattle.std.specs.Prelude.{◌≡◌, ◌≤◌, ◌<◌, ◌*◌, pos, None, IfOk};
+ghost use Rattle.std.specs.String.{string_bytes};
+ghost use Rattle.std.specs.Option.{SomeIff};
+ghost use Rattle.jiff.specs.Words.{epoch_day, date_text, time_text};
+ghost use Rattle.bh_types.specs.Moments as spec;
+
+use jiff::ToSpan;
+use jiff::civil::{Date, Time, date};
+use std::alloc::{AllocError, Global};
+use std::marker::Model;
+
+/// The last moment, in seconds since 1970: 9923-11-16T14:13:20Z.
+pub const LAST_MOMENT: u64 = 251_000_000_000;
+
+/// The last moment that a clock may read, in seconds since 1970. Moments that are computed from
+/// readings come after it.
+pub const LAST_READING: u64 = 250_000_000_000;
+
+const SECONDS_A_DAY: u64 = 86_400;
+
+/// A moment: seconds since 1970-01-01T00:00:00Z, as POSIX counts them, 0 to [`LAST_MOMENT`].
+#[derive(Clone, Copy, Debug, PartialEq, Eq, PartialOrd, Ord)]
+pub struct Moment {
+    seconds: u64,
+}
+
+impl Model for Moment {
+    ghost use Rattle.std.specs.Prelude.{ℕ, ◌≤◌};
+
+    ghost Value = { ℕ };
+
+    ghost view = { λ m. m.seconds };
+
+    ghost invariant = { λ m. m.seconds ≤ 251_000_000_000 };
+
+    ghost inverse = { λ n. record { seconds = n } };
+}
+
+impl Moment {
+    /// The moment, or `None` past [`LAST_MOMENT`].
+    pub fn new(seconds: u64) -> Option<Moment>
+        ensures { SomeIff result (seconds ≤ 251_000_000_000) seconds }
+    {
+        if seconds <= LAST_MOMENT {
+            Some(Moment { seconds })
+        } else {
+            None
+        }
+    }
+
+    /// The moment that a clock reads, or `None` past [`LAST_READING`].
+    pub fn from_reading(seconds: u64) -> Option<Moment>
+        ensures { SomeIff result (seconds ≤ 250_000_000_000) seconds }
+    {
+        if seconds <= LAST_READING {
+            Some(Moment { seconds })
+        } else {
+            None
+        }
+    }
+
+    /// Seconds since 1970.
+    pub fn seconds(self) -> u64
+        ensures value { result ≡ self }
+        ensures valid { self ≤ 251_000_000_000 }
+    {
+        self.seconds
+    }
+}
+
+/// The moment as `YYYY-MM-DDTHH:MM:SSZ`, in UTC, as RFC 3339 writes it. An error says that memory
+/// ran out.
+pub fn moment_text(alloc: Global, moment: Moment) -> Result<String, AllocError>
+    ensures { IfOk result (λ text. string_bytes text ≡ spec.moment_text moment) }
+{
+    let seconds = moment.seconds();
+    let date = day_after((seconds / SECONDS_A_DAY) as u32);
+    let time = clock((seconds % SECONDS_A_DAY) as u32);
+    format!(in alloc; "{date}T{time}Z")
+}
+
+/// When an upload that was begun then is stale under a rule of so many days: the midnight, in UTC,
+/// that ends the day which is so many days later. S3 so rounds `x-amz-abort-date`.
+pub fn abort_moment(begun: Moment, days: u16) -> Moment
+    requires begun { begun ≤ 250_000_000_000 }
+    requires low { 1 ≤ days }
+    requires high { days ≤ 3650 }
+    ensures { result ≡ spec.abort_moment begun days }
+{
+    let day = (begun.seconds() / SECONDS_A_DAY) as u32;
+    Moment {
+        seconds: midnight(day + u32::from(days) + 1),
+    }
+}
+
+/// 1 January 1970.
+fn epoch() -> Date
+    ensures { epoch_day result ≡ pos 0 }
+{
+    date(1970, 1, 1)
+}
+
+/// When the date that so many days follow 1 January 1970 begins, in seconds since then.
+fn midnight(days: u32) -> u64
+    requires { days ≤ 2_932_896 }
+    ensures { result ≡ 86400 * days }
+{
+    let passed = epoch().duration_until(date_after(days));
+    passed.as_secs() as u64
+}
+
+/// The date that so many days follow 1 January 1970, up to the calendar's last, 9999-12-31.
+fn date_after(days: u32) -> Date
+    requires { days ≤ 2_932_896 }
+    ensures { epoch_day result ≡ pos days }
+{
+    let span = i64::from(days).days();
+    match epoch().checked_add(span) {
+        Ok(found) => found,
+        Err(_) => unreachable!(),
+    }
+}
+
+/// The date that so many days follow 1 January 1970, as the calendar of `specs` tells it.
+fn day_after(days: u32) -> Date
+    requires { days ≤ 2_932_896 }
+    ensures { date_text result ≡ spec.day_text (spec.day_at days) }
+{
+    date_after(days)
+}
+
+/// The time of a second of the day.
+fn clock(second: u32) -> Time
+    requires { second < 86400 }
+    ensures { time_text None result ≡ spec.clock_text second }
+{
+    match Time::new(
+        (second / 3600) as i8,
+        (second / 60 % 60) as i8,
+        (second % 60) as i8,
+        0,
+    ) {
+        Ok(time) => time,
+        Err(_) => unreachable!(),
+    }
+}
