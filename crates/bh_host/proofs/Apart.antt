@@ -1,0 +1,123 @@
+-- A reply to an event with a stamp is none of the fixed ones.
+use Rattle.std.proofs.Common.{◌≡◌, ◌≢◌, ℕ, Bool, true, false, List, get_or, Option, Some, None, Ok, Err, Result, refl, sym, ◌∙◌, ap, subst, IfErr, inl, inr}
+use Rattle.std.specs.Prelude.{◌&&◌, ◌||◌, ◌==◌, ok_or, if◌then◌else◌, IsTrue}
+use Rattle.std.specs.Fmt.{digits}
+use Rattle.std.proofs.lemmas.Bool.{cases_Bool}
+use Rattle.bh_http.specs.Answers.{refused}
+use Rattle.bh_http.specs.Responses.{response_text, refusal_text}
+use Rattle.bh_model.specs.Operations.{Answer, Done, Stored, Object}
+use Rattle.bh_model.specs.State.{Octets, State}
+use Rattle.bh_types.specs.declared.refusal.Refusal.{Refusal}
+use Rattle.bh_types.specs.declared.refusal.Refusal.TheVariants.{BadRequest, NotImplemented, MissingContentLength, EntityTooLarge, AccessDenied, InvalidAccessKeyId, InvalidUri, InvalidBucketName, KeyTooLong, InvalidArgument, MalformedJson, NoSuchBucket, NoSuchKey, NoSuchVersion, NoSuchUpload, MethodNotAllowed, BucketAlreadyOwnedByYou, BucketNotEmpty, InvalidBucketState, NoSuchLifecycleConfiguration, InvalidPart, InvalidPartOrder, EntityTooSmall, QuotaExceeded, InvalidRange, BadDigest, IncompleteBody, InvalidRequest, CounterExhausted, ClockOutOfRange, ServiceUnavailable, TenantExists, NoSuchTenant, KeyExists, NoSuchKeyName, InvalidName, InvalidQuota, NotAHostFile, Unavailable}
+use Rattle.bh_host.specs.Replies.{response_to}
+
+true_is_false : true ≡ false → ⊥
+true_is_false e = cc e
+
+-- ---- the bytes that tell a fixed reply from others
+
+-- a response of status 500 whose first field is the length, or of status 503
+abbrev pub is_fixed_response : Octets → Bool
+is_fixed_response bytes =
+    get_or bytes 9 0 == 53 && ((get_or bytes 11 0 == 48 && get_or bytes 44 0 == 108) || get_or bytes 11 0 == 51)
+
+-- a line that begins with 30 or 48
+abbrev pub is_fixed_line : Octets → Bool
+is_fixed_line bytes = (get_or bytes 0 0 == 51 && get_or bytes 1 0 == 48) || (get_or bytes 0 0 == 52 && get_or bytes 1 0 == 56)
+
+-- the refusals whose texts are fixed
+abbrev pub is_reserved : Refusal → Bool
+is_reserved ClockOutOfRange = true
+is_reserved ServiceUnavailable = true
+is_reserved Unavailable = true
+is_reserved refusal = false
+
+pub answer_apart : (answer : Answer) → is_fixed_response (response_text (response_to answer)) ≡ false
+unfolding digits
+answer_apart Done = refl
+answer_apart (Stored id checksum) = refl
+answer_apart (Object id bytes checksum) = refl
+
+pub refused_apart : (refusal : Refusal) (document : Octets) → is_reserved refusal ≡ false → is_fixed_response (response_text (refused refusal document)) ≡ false
+unfolding digits
+refused_apart BadRequest document h = refl
+refused_apart NotImplemented document h = refl
+refused_apart MissingContentLength document h = refl
+refused_apart EntityTooLarge document h = refl
+refused_apart AccessDenied document h = refl
+refused_apart InvalidAccessKeyId document h = refl
+refused_apart InvalidUri document h = refl
+refused_apart InvalidBucketName document h = refl
+refused_apart KeyTooLong document h = refl
+refused_apart InvalidArgument document h = refl
+refused_apart MalformedJson document h = refl
+refused_apart NoSuchBucket document h = refl
+refused_apart NoSuchKey document h = refl
+refused_apart NoSuchVersion document h = refl
+refused_apart NoSuchUpload document h = refl
+refused_apart MethodNotAllowed document h = refl
+refused_apart BucketAlreadyOwnedByYou document h = refl
+refused_apart BucketNotEmpty document h = refl
+refused_apart InvalidBucketState document h = refl
+refused_apart NoSuchLifecycleConfiguration document h = refl
+refused_apart InvalidPart document h = refl
+refused_apart InvalidPartOrder document h = refl
+refused_apart EntityTooSmall document h = refl
+refused_apart QuotaExceeded document h = refl
+refused_apart InvalidRange document h = refl
+refused_apart BadDigest document h = refl
+refused_apart IncompleteBody document h = refl
+refused_apart InvalidRequest document h = refl
+refused_apart CounterExhausted document h = refl
+refused_apart TenantExists document h = refl
+refused_apart NoSuchTenant document h = refl
+refused_apart KeyExists document h = refl
+refused_apart NoSuchKeyName document h = refl
+refused_apart InvalidName document h = refl
+refused_apart InvalidQuota document h = refl
+refused_apart NotAHostFile document h = refl
+refused_apart ClockOutOfRange document h = absurd (true_is_false h)
+refused_apart ServiceUnavailable document h = absurd (true_is_false h)
+refused_apart Unavailable document h = absurd (true_is_false h)
+
+pub line_apart : (refusal : Refusal) → is_reserved refusal ≡ false → is_fixed_line (refusal_text refusal) ≡ false
+unfolding digits
+line_apart BadRequest h = refl
+line_apart NotImplemented h = refl
+line_apart MissingContentLength h = refl
+line_apart EntityTooLarge h = refl
+line_apart AccessDenied h = refl
+line_apart InvalidAccessKeyId h = refl
+line_apart InvalidUri h = refl
+line_apart InvalidBucketName h = refl
+line_apart KeyTooLong h = refl
+line_apart InvalidArgument h = refl
+line_apart MalformedJson h = refl
+line_apart NoSuchBucket h = refl
+line_apart NoSuchKey h = refl
+line_apart NoSuchVersion h = refl
+line_apart NoSuchUpload h = refl
+line_apart MethodNotAllowed h = refl
+line_apart BucketAlreadyOwnedByYou h = refl
+line_apart BucketNotEmpty h = refl
+line_apart InvalidBucketState h = refl
+line_apart NoSuchLifecycleConfiguration h = refl
+line_apart InvalidPart h = refl
+line_apart InvalidPartOrder h = refl
+line_apart EntityTooSmall h = refl
+line_apart QuotaExceeded h = refl
+line_apart InvalidRange h = refl
+line_apart BadDigest h = refl
+line_apart IncompleteBody h = refl
+line_apart InvalidRequest h = refl
+line_apart CounterExhausted h = refl
+line_apart TenantExists h = refl
+line_apart NoSuchTenant h = refl
+line_apart KeyExists h = refl
+line_apart NoSuchKeyName h = refl
+line_apart InvalidName h = refl
+line_apart InvalidQuota h = refl
+line_apart NotAHostFile h = refl
+line_apart ClockOutOfRange h = absurd (true_is_false h)
+line_apart ServiceUnavailable h = absurd (true_is_false h)
+line_apart Unavailable h = absurd (true_is_false h)

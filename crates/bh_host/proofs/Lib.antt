@@ -1,0 +1,5 @@
+mod Apart
+mod Reserved
+mod ToldApart
+mod Turning
+mod Running

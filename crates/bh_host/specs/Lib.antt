@@ -1,0 +1,5 @@
+pub mod Answers
+pub mod Machine
+pub mod Replies
+pub mod Turns
+pub mod Runs

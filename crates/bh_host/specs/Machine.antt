@@ -1,0 +1,71 @@
+-- The private machine of a host: what an event turns out to be, whose it is, and what it makes of its owner's state.
+use Rattle.std.specs.Prelude.{◌≡◌, ℕ, Option, Some, None, Result, Ok, Err}
+use Rattle.bh_types.specs.Limits.{HostLimits}
+use Rattle.bh_types.specs.declared.refusal.Refusal.{Refusal}
+use Rattle.bh_event.specs.Events.{Order, AddTenant, AddKey, RemoveKey, Content, Requested, Ordered}
+use Rattle.bh_http.specs.Credentials.{owner, credentials}
+use Rattle.bh_http.specs.Narrow.{Operation, CreateBucket, PutObject, GetObject, narrow_operation}
+use Rattle.bh_http.specs.Reading.{Reads}
+use Rattle.bh_http.specs.Views.{Taken}
+use Rattle.bh_model.specs.Credentials.{authenticate, tenant_named}
+use Rattle.bh_model.specs.Operations.{Answer, Outcome, add_tenant, add_key, remove_key, create_bucket, put_object}
+use Rattle.bh_model.specs.Runs as runs
+use Rattle.bh_model.specs.State.{Octets, State}
+use Rattle.bh_model.specs.Steps.{◌>>=◌}
+use Rattle.bh_storage.specs.Calls.{get_current}
+
+-- what an event turns out to be: a request, or its first refusal, as its bytes are read; or an operator's order
+pub data Act : Type 0 where
+  Asked : (answer : Result Taken Refusal) → Act
+  Told : (order : Order) → Act
+
+-- the act that an event's content is
+abbrev pub Acted : HostLimits → Content → Act → Type 0
+Acted limits (Requested bytes) act = (answer : Result Taken Refusal) × Reads limits bytes answer × (act ≡ Asked answer)
+Acted limits (Ordered order) act = act ≡ Told order
+
+abbrev pub tenant_of : Order → Octets
+tenant_of (AddTenant tenant quota) = tenant
+tenant_of (AddKey tenant name secret) = tenant
+tenant_of (RemoveKey tenant name) = tenant
+
+abbrev pub asker : Result Taken Refusal → Option Octets
+asker (Ok request) = owner request
+asker (Err refusal) = None
+
+-- the tenant that an act belongs to, if it belongs to one
+abbrev pub owner_of : Act → Option Octets
+owner_of (Asked answer) = asker answer
+owner_of (Told order) = tenant_named (tenant_of order)
+
+-- an operation at a moment
+abbrev pub operated : ℕ → Octets → Operation → Option State → Result Outcome Refusal
+operated now body (CreateBucket bucket) s = create_bucket now bucket s
+operated now body (PutObject bucket key) s = put_object now bucket key body None s
+operated now body (GetObject bucket key) s = get_current bucket key s
+
+-- a request: its credentials, its target, and then what it asks for
+abbrev pub requested : ℕ → Taken → Option State → Result Outcome Refusal
+requested now request s = do
+  pair ← credentials request
+  _ ← authenticate pair.0 pair.1 s
+  operation ← narrow_operation request
+  operated now request.body operation s
+
+abbrev pub asked : ℕ → Result Taken Refusal → Option State → Result Outcome Refusal
+asked now (Ok request) s = requested now request s
+asked now (Err refusal) s = Err refusal
+
+abbrev pub ordered : Order → Option State → Result Outcome Refusal
+ordered (AddTenant tenant quota) s = add_tenant tenant quota s
+ordered (AddKey tenant name secret) s = add_key tenant name secret s
+ordered (RemoveKey tenant name) s = remove_key tenant name s
+
+-- what an act makes of its owner's state once that is purged
+abbrev pub change : ℕ → Act → Option State → Result Outcome Refusal
+change now (Asked answer) s = asked now answer s
+change now (Told order) s = ordered order s
+
+-- an act at a moment: the owner's stale uploads go, and then comes the change, or a refusal that changes nothing more
+abbrev pub step : ℕ → Act → Option State → Result Answer Refusal × Option State
+step = runs.step change

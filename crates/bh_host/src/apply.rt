@@ -1,0 +1,252 @@
+ghost use Rattle.std.specs.Prelude.{◌≡◌, ◌⊎◌, ◌<◌, ◌≤◌, ℕ, Ok, Err, Some, None, IfOk, IfSome, IfNone, OnOk, OnErr};
+ghost use Rattle.bh_event.specs.Events.{arrival, order_of};
+ghost use Rattle.bh_http.specs.Credentials.{owner};
+ghost use Rattle.bh_http.specs.Views.{view as request_view};
+ghost use Rattle.bh_model.specs.Credentials as credentials;
+ghost use Rattle.bh_model.specs.Runs.{last_reading};
+ghost use Rattle.bh_storage.specs.Calls.{Within, IsAtRest, IsWorking, IsSettled};
+ghost use Rattle.bh_tables.specs.Typed.{Tables};
+ghost use Rattle.bh_view.specs.View.{latest_of};
+ghost use Rattle.bh_host.specs.Machine.{Asked, Told, owner_of as owner_of_act};
+ghost use Rattle.bh_host.specs.Machine as machine;
+ghost use Rattle.bh_host.specs.Replies.{clock_text, reply_bytes};
+ghost use Rattle.bh_host.specs.Replies as reply;
+ghost use Rattle.bh_host.specs.Turns.{Turns, Turned, TurnsRequest, TellsUnread, IsToldApart, WouldApply, Applied};
+
+use crate::reply::{Caller, Reply, order_text, refusal_line, refused_request_text, request_text, unread_text};
+use crate::serve::{commanded, requested};
+use bh_event::event::{Command, Event};
+use bh_http::credentials::{credentials_of, owner_of};
+use bh_http::read::read_request;
+use bh_http::request::Request;
+use bh_storage::error::Trouble;
+use bh_storage::storage::Storage;
+use bh_types::error::RequestError;
+use bh_types::limits::Limits;
+use bh_types::moment::Moment;
+use bh_types::names::TenantName;
+use bh_types::refusal::Refusal;
+use std::alloc::{AllocError, Global};
+
+/// The greatest reading of the clock that is served, in seconds since 1970.
+const LAST_READING: u64 = 250_000_000_000;
+
+/// What an event was answered, and its stamp: the moment at which it counts, or none where it changed nothing.
+#[derive(Drop)]
+pub struct Done {
+    pub stamp: Option<Moment>,
+    pub reply: Reply,
+}
+
+/// A request of a tenant.
+fn serve_tenant<H: Storage>(
+    alloc: Global,
+    host: &mut H,
+    tenant: &TenantName,
+    request: &Request,
+    at: Moment,
+) -> Result<Vec<u8>, Trouble>
+    requires named { owner (request_view request.now) ≡ Some tenant.now }
+    requires working { H.IsClean host.old → IsWorking (H.seen host.old) }
+    requires early { H.IsClean host.old → at ≤ latest_of (H.seen host.old).now }
+    ensures working { OnOk result (H.IsClean host.new → IsWorking (H.seen host.new)) }
+    ensures within { Within H.IsClean H.seen H.left host.old host.new }
+    ensures turned { IfOk result (λ bytes. H.IsClean host.new → Turned (Asked (Ok (request_view request.now))) at (H.seen host.old).now (H.seen host.old).now (H.seen host.new).now bytes.items) }
+{
+    host.purge(tenant, at)?;
+    let outcome = requested(alloc, host, tenant, at, request);
+    request_text(alloc, request, outcome)
+}
+
+/// Why a request that belongs to nobody is refused.
+fn stranger_refusal(request: &Request) -> Refusal
+    ensures { (at : ℕ) → machine.requested at (request_view request.now) None ≡ Err result }
+{
+    match credentials_of(request) {
+        Ok(_) => Refusal::InvalidAccessKeyId,
+        Err(refusal) => refusal,
+    }
+}
+
+/// Bytes that are no request.
+fn serve_unread(alloc: Global, error: RequestError) -> Result<Vec<u8>, Trouble>
+    ensures { IfOk result (λ text. TellsUnread error text.items) }
+{
+    match error {
+        RequestError::Refused(refusal) => Ok(unread_text(alloc, refusal)?),
+        RequestError::OutOfMemory => Err(Trouble::Memory),
+    }
+}
+
+/// A request, as its bytes are read.
+fn serve_request<H: Storage>(
+    alloc: Global,
+    limits: &Limits,
+    host: &mut H,
+    bytes: &[u8],
+    at: Moment,
+) -> Result<Vec<u8>, Trouble>
+    requires working { H.IsClean host.old → IsWorking (H.seen host.old) }
+    requires early { H.IsClean host.old → at ≤ latest_of (H.seen host.old).now }
+    ensures working { OnOk result (H.IsClean host.new → IsWorking (H.seen host.new)) }
+    ensures within { Within H.IsClean H.seen H.left host.old host.new }
+    ensures turned { IfOk result (λ text. H.IsClean host.new → TurnsRequest limits.now bytes.now at (H.seen host.old).now (H.seen host.new).now text.items) }
+{
+    match read_request(alloc, bytes, limits) {
+        Ok(request) => match owner_of(alloc, &request)? {
+            Some(tenant) => serve_tenant(alloc, host, &tenant, &request, at),
+            None => {
+                let refusal = stranger_refusal(&request);
+                Ok(refused_request_text(alloc, &request, refusal)?)
+            }
+        },
+        Err(error) => serve_unread(alloc, error),
+    }
+}
+
+/// The tenant that a command names, if it is a tenant's name.
+fn owner_of_command(
+    alloc: Global,
+    command: &Command,
+) -> Result<Option<TenantName>, AllocError>
+    ensures { IfOk result (λ owner. owner ≡ owner_of_act (Told (order_of command.now))) }
+{
+    match command {
+        Command::TenantAdd { tenant, .. } => tenant_named(alloc, tenant.as_str()),
+        Command::KeyAdd { tenant, .. } => tenant_named(alloc, tenant.as_str()),
+        Command::KeyRemove { tenant, .. } => tenant_named(alloc, tenant.as_str()),
+    }
+}
+
+fn tenant_named(alloc: Global, text: &str) -> Result<Option<TenantName>, AllocError>
+    ensures { IfOk result (λ tenant. tenant ≡ credentials.tenant_named text.now) }
+{
+    TenantName::read(alloc, text)
+}
+
+/// An operator's command on a tenant, which need not have been added.
+fn serve_named_command<H: Storage>(
+    alloc: Global,
+    host: &mut H,
+    tenant: &TenantName,
+    command: &Command,
+    at: Moment,
+) -> Result<Vec<u8>, Trouble>
+    requires named { owner_of_act (Told (order_of command.now)) ≡ Some tenant.now }
+    requires working { H.IsClean host.old → IsWorking (H.seen host.old) }
+    ensures working { OnOk result (H.IsClean host.new → IsWorking (H.seen host.new)) }
+    ensures within { Within H.IsClean H.seen H.left host.old host.new }
+    ensures turned { IfOk result (λ bytes. H.IsClean host.new → Turned (Told (order_of command.now)) at (H.seen host.old).now (H.seen host.old).now (H.seen host.new).now bytes.items) }
+{
+    host.purge(tenant, at)?;
+    let outcome = commanded(alloc, host, tenant, command);
+    order_text(alloc, command, outcome)
+}
+
+/// An operator's command.
+fn serve_command<H: Storage>(
+    alloc: Global,
+    host: &mut H,
+    command: &Command,
+    at: Moment,
+) -> Result<Vec<u8>, Trouble>
+    requires working { H.IsClean host.old → IsWorking (H.seen host.old) }
+    ensures working { OnOk result (H.IsClean host.new → IsWorking (H.seen host.new)) }
+    ensures within { Within H.IsClean H.seen H.left host.old host.new }
+    ensures turned { IfOk result (λ bytes. H.IsClean host.new → Turned (Told (order_of command.now)) at (H.seen host.old).now (H.seen host.old).now (H.seen host.new).now bytes.items) }
+{
+    match owner_of_command(alloc, command)? {
+        Some(tenant) => serve_named_command(alloc, host, &tenant, command, at),
+        None => Ok(refusal_line(alloc, Refusal::InvalidName)?.into_bytes()),
+    }
+}
+
+/// What an event is answered, at its stamp.
+fn serve<H: Storage>(
+    alloc: Global,
+    limits: &Limits,
+    host: &mut H,
+    event: &Event,
+    at: Moment,
+) -> Result<Vec<u8>, Trouble>
+    requires working { H.IsClean host.old → IsWorking (H.seen host.old) }
+    requires early { H.IsClean host.old → at ≤ latest_of (H.seen host.old).now }
+    ensures working { OnOk result (H.IsClean host.new → IsWorking (H.seen host.new)) }
+    ensures within { Within H.IsClean H.seen H.left host.old host.new }
+    ensures turned { IfOk result (λ bytes. H.IsClean host.new → Turns limits.now (arrival event.now).content at (H.seen host.old).now (H.seen host.old).now (H.seen host.new).now bytes.items) }
+{
+    match event {
+        Event::Http { bytes, .. } => serve_request(alloc, limits, host, bytes, at),
+        Event::Operator { command, .. } => serve_command(alloc, host, command, at),
+    }
+}
+
+/// A transaction with one event: its stamp and its reply. After trouble it may be open still.
+fn try_apply<H: Storage>(
+    alloc: Global,
+    limits: &Limits,
+    host: &mut H,
+    event: &Event,
+) -> Result<(Moment, Vec<u8>), Trouble>
+    requires in_range { (arrival event.now).reading ≤ last_reading }
+    requires rest { H.IsClean host.old → IsAtRest (H.seen host.old) }
+    ensures clean { H.IsClean host.new → H.IsClean host.old }
+    ensures ready { OnOk result (H.IsClean host.new → IsAtRest (H.seen host.new)) }
+    ensures applied { IfOk result (λ done. H.IsClean host.new → Applied limits.now (arrival event.now) (H.seen host.old).now (H.seen host.new).now (Some done.0) done.1.items) }
+    ensures survives { OnOk result (H.IsClean host.new → (x : Tables) → H.left host.new x → x ≡ (H.seen host.new).now) }
+    ensures crash { OnErr result (H.IsClean host.new → (x : Tables) → H.left host.new x → H.left host.old x ⊎ WouldApply limits.now (arrival event.now) (H.seen host.old).now x) }
+    ensures kept { OnErr result (H.IsClean host.new → ((H.seen host.new).kept ≡ (H.seen host.old).kept) × IsSettled (H.seen host.new)) }
+{
+    host.begin()?;
+    let stamp = host.stamp(event.reading())?;
+    let bytes = serve(alloc, limits, host, event, stamp)?;
+    host.commit()?;
+    Ok((stamp, bytes))
+}
+
+/// Who asks by an event.
+fn caller_of(event: &Event) -> Caller
+    ensures { result ≡ reply.caller_of (arrival event.now).content }
+{
+    match event {
+        Event::Http { .. } => Caller::Request,
+        Event::Operator { .. } => Caller::Operator,
+    }
+}
+
+/// Applies one event in one transaction, and says what is answered.
+///
+/// A reading above 250,000,000,000 seconds is answered ClockOutOfRange, which takes no memory. Where memory or the
+/// store is wanting, the answer is ServiceUnavailable to a request and Unavailable to an operator. In these cases
+/// there is no stamp, and all tables are as they were. Otherwise the event counts at its stamp, the greater of its
+/// reading and the last stamp, and its tenant is answered as its private machine answers.
+pub fn apply<H: Storage>(alloc: Global, limits: &Limits, host: &mut H, event: &Event) -> Done
+    requires { H.IsClean host.old → IsAtRest (H.seen host.old) }
+    ensures clean { H.IsClean host.new → H.IsClean host.old }
+    ensures ready { H.IsClean host.new → IsAtRest (H.seen host.new) }
+    ensures applied { H.IsClean host.new → Applied limits.now (arrival event.now) (H.seen host.old).now (H.seen host.new).now result.stamp (reply_bytes result.reply) }
+    ensures acknowledged { IfSome result.stamp (λ _. H.IsClean host.new → (x : Tables) → H.left host.new x → x ≡ (H.seen host.new).now) }
+    ensures crash { IfNone result.stamp (H.IsClean host.new → (x : Tables) → H.left host.new x → H.left host.old x ⊎ WouldApply limits.now (arrival event.now) (H.seen host.old).now x) }
+    ensures clock { last_reading < (arrival event.now).reading → (result.stamp ≡ None) × (reply_bytes result.reply ≡ clock_text (reply.caller_of (arrival event.now).content)) }
+    ensures told_apart { H.IsClean host.new → IsToldApart (arrival event.now) result.stamp (reply_bytes result.reply) }
+{
+    if event.reading() > LAST_READING {
+        return Done {
+            stamp: None,
+            reply: Reply::ClockOutOfRange(caller_of(event)),
+        };
+    }
+    match try_apply(alloc, limits, host, event) {
+        Ok((stamp, bytes)) => Done {
+            stamp: Some(stamp),
+            reply: Reply::Text(bytes),
+        },
+        Err(_) => {
+            host.take_back();
+            Done {
+                stamp: None,
+                reply: Reply::Wanting(caller_of(event)),
+            }
+        }
+    }
+}

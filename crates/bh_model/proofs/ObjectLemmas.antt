@@ -1,0 +1,66 @@
+-- What was put is what is read.
+use Rattle.std.proofs.Common.{◌≡◌, ℕ, List, [], Option, Some, None, option_map, unwrap_or, Result, Ok, refl, ap, ◌∙◌, ok_or}
+use Rattle.std.specs.Result.{IfOk, result_map_both}
+use Rattle.std.specs.FinMap.{get}
+use Rattle.bh_types.specs.declared.id.VersionId.{VersionId}
+use Rattle.bh_types.specs.declared.plain.Wanted.TheVariants.{Current}
+use Rattle.bh_types.specs.declared.refusal.Refusal.{Refusal}
+use Rattle.bh_model.specs.declared.entries.LookupFault.{LookupFault}
+use Rattle.bh_types.specs.declared.refusal.Refusal.TheVariants.{NoSuchBucket, BadDigest, CounterExhausted}
+use Rattle.bh_model.specs.State.{Octets, Content.Body, Entry, Bucket, State}
+use Rattle.bh_model.specs.Steps.{◌>>=◌, require}
+use Rattle.bh_model.specs.Checksums.{checksum_text}
+use Rattle.bh_model.specs.Counting.{counts, with_counts, can_number, numbered, after_entry}
+use Rattle.bh_model.specs.Entries.{added, new_id, found_current, lookup}
+use Rattle.bh_model.specs.Parts.{is_checksum}
+use Rattle.bh_model.specs.Operations.{Outcome, Answer.Stored, Answer.Object, id_told, listed, with_bucket, with_object, shown, stored, unmarked, get_object}
+use Rattle.bh_model.specs.Laws.{PutIsRead}
+use Rattle.bh_model.proofs.KeyLemmas.{get-inserted, tested}
+
+abbrev with_found : State → Option Bucket → Result (State × Bucket) Refusal
+with_found t o = ok_or (option_map (λ b. (t, b)) o) NoSuchBucket
+
+module _ (moment : ℕ) (name key bytes : Octets) where
+  abbrev put_state : State → Bucket → State
+  put_state t b = with_bucket name (with_object moment key t.next_version bytes b) (with_counts (numbered b.mode (counts t)) t)
+
+  abbrev id_of : State → Bucket → Option VersionId
+  id_of t b = id_told b.mode (new_id b.mode t.next_version)
+
+  listed-with_object : (next : ℕ) (b : Bucket) → listed key (with_object moment key next bytes b) ≡ added b.mode next moment (Body bytes (checksum_text bytes)) (listed key b)
+  listed-with_object next b = ap (λ o. unwrap_or o []) (get-inserted b.objects key (added b.mode next moment (Body bytes (checksum_text bytes)) (listed key b)))
+
+  abbrev get_in : State → Option Bucket → Result Outcome LookupFault
+  get_in t o = do
+    f ← result_map_both (λ f. f) unmarked (with_found t o)
+    v ← lookup Current (listed key f.1)
+    Ok (shown f.1 v, Some t)
+
+  abbrev get_from : State → Bucket → List Entry → Result Outcome LookupFault
+  get_from t b entries = do
+    v ← found_current entries
+    Ok (shown b v, Some t)
+
+  read : (t : State) (b : Bucket) → get_object name key Current (Some (put_state t b)) ≡ Ok (Object (id_of t b) bytes (checksum_text bytes), Some (put_state t b))
+  read t b =
+      ap (get_in (put_state t b)) (get-inserted t.buckets name (with_object moment key t.next_version bytes b))
+      ∙ ap (get_from (put_state t b) (with_object moment key t.next_version bytes b)) (listed-with_object t.next_version b)
+
+  abbrev IsRead : Outcome → Type 0
+  IsRead put = (id : Option VersionId) × (put.0 ≡ Stored id (checksum_text bytes)) × (get_object name key Current put.1 ≡ Ok (Object id bytes (checksum_text bytes), put.1))
+
+  abbrev put_in : Option Octets → State → Option Bucket → Result Outcome Refusal
+  put_in given t o = do
+    f ← with_found t o
+    _ ← require (is_checksum given bytes) BadDigest
+    c ← after_entry f.1.mode (counts f.0)
+    Ok (stored bytes f.0.next_version f.1, Some (with_bucket name (with_object moment key f.0.next_version bytes f.1) (with_counts c f.0)))
+
+  put : (given : Option Octets) (t : State) (o : Option Bucket) → IfOk (put_in given t o) IsRead
+  put given t None = tt
+  put given t (Some b) =
+      tested (is_checksum given bytes) tt BadDigest _ IsRead (λ _. tested (can_number b.mode (counts t)) (numbered b.mode (counts t)) CounterExhausted _ IsRead (λ _. (id_of t b, refl, read t b)))
+
+pub put_is_read : PutIsRead
+put_is_read moment name key bytes given None = tt
+put_is_read moment name key bytes given (Some t) = put moment name key bytes given t (get t.buckets name)

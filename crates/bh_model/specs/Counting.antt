@@ -1,0 +1,38 @@
+-- The numbers that a tenant's counters give.
+use Rattle.std.specs.Prelude.{ℕ, ◌+◌, ◌-◌, ◌^◌, ◌≤◌, Bool, ◌&&◌, nat_le, Result, Ok, Err, if◌then◌else◌}
+use Rattle.bh_types.specs.Counts.{Counts}
+use Rattle.bh_types.specs.declared.plain.BucketState.{BucketState}
+use Rattle.bh_types.specs.declared.plain.BucketState.TheVariants.{Unversioned, Enabled, Suspended}
+use Rattle.bh_types.specs.declared.refusal.Refusal.{Refusal}
+use Rattle.bh_types.specs.declared.refusal.Refusal.TheVariants.{CounterExhausted}
+use Rattle.bh_model.specs.State.{State}
+
+abbrev pub counts : State → Counts
+counts s = record { version = s.next_version; upload = s.next_upload; entry = s.next_entry }
+
+abbrev pub with_counts : Counts → State → State
+with_counts c s = record s { next_version = c.version; next_upload = c.upload; next_entry = c.entry }
+
+-- whether a counter can give its next number: the last one that it gives is 2^62 - 1
+abbrev pub can_give : ℕ → Bool
+can_give next = nat_le next (2 ^ 62 - 1)
+
+-- each new version, marker and part takes an entry number; where versions are numbered, a new version or
+-- marker takes a version number too
+abbrev pub can_number : BucketState → Counts → Bool
+can_number Unversioned c = can_give c.entry
+can_number Enabled c = can_give c.version && can_give c.entry
+can_number Suspended c = can_give c.entry
+
+abbrev pub numbered : BucketState → Counts → Counts
+numbered Unversioned c = record c { entry = c.entry + 1 }
+numbered Enabled c = record c { version = c.version + 1; entry = c.entry + 1 }
+numbered Suspended c = record c { entry = c.entry + 1 }
+
+-- the counters once a new version or marker in a bucket of this state has its numbers
+abbrev pub after_entry : BucketState → Counts → Result Counts Refusal
+after_entry mode c = if can_number mode c then Ok (numbered mode c) else Err CounterExhausted
+
+-- no counter of the first is above that of the second
+abbrev pub AtMost : Counts → Counts → Type 0
+AtMost a b = (a.version ≤ b.version) × (a.upload ≤ b.upload) × (a.entry ≤ b.entry)

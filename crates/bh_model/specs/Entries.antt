@@ -1,0 +1,94 @@
+-- The entries of one key, newest first: what a put and a delete make of them, and what a lookup finds.
+use Rattle.std.specs.Prelude.{ℕ, Bool, true, false, not, ◌&&◌, ◌==◌, List, [], ◌∷◌, Option, Some, None, Result, Ok, Err}
+use Rattle.std.specs.List.{filter, find}
+use Rattle.bh_types.specs.declared.id.VersionId.{VersionId}
+use Rattle.bh_types.specs.declared.id.VersionId.TheVariants.{Null, Numbered}
+use Rattle.bh_types.specs.declared.plain.BucketState.{BucketState}
+use Rattle.bh_types.specs.declared.plain.BucketState.TheVariants.{Unversioned, Enabled, Suspended}
+use Rattle.bh_types.specs.declared.plain.Wanted.{Wanted}
+use Rattle.bh_types.specs.declared.plain.Wanted.TheVariants.{Current, Named, Unknown}
+use Rattle.bh_types.specs.declared.refusal.Refusal.{Refusal}
+use Rattle.bh_types.specs.declared.refusal.Refusal.TheVariants.{NoSuchKey, NoSuchVersion, MethodNotAllowed}
+use Rattle.bh_model.specs.declared.entries.LookupFault.{LookupFault}
+use Rattle.bh_model.specs.State.{Octets, Content, Content.Marker, Content.Body, Entry}
+
+abbrev pub same_id : VersionId → VersionId → Bool
+same_id Null Null = true
+same_id Null (Numbered n) = false
+same_id (Numbered m) Null = false
+same_id (Numbered m) (Numbered n) = m == n
+
+abbrev pub has_id : VersionId → Entry → Bool
+has_id id e = same_id e.id id
+
+abbrev pub is_body : Content → Bool
+is_body Marker = false
+is_body (Body bytes checksum) = true
+
+-- an entry that is no delete marker
+abbrev pub is_version : Entry → Bool
+is_version e = is_body e.content
+
+abbrev pub without : VersionId → List Entry → List Entry
+without id entries = filter (λ e. not (has_id id e)) entries
+
+abbrev pub without_null_version : List Entry → List Entry
+without_null_version entries = filter (λ e. not (has_id Null e && is_version e)) entries
+
+-- the id of a new entry: the next version number where versions are numbered, and else `null`
+abbrev pub new_id : BucketState → ℕ → VersionId
+new_id Unversioned next = Null
+new_id Enabled next = Numbered next
+new_id Suspended next = Null
+
+-- the entries that a new one leaves: it replaces `null` where it is `null`
+abbrev pub kept : BucketState → List Entry → List Entry
+kept Unversioned entries = without Null entries
+kept Enabled entries = entries
+kept Suspended entries = without Null entries
+
+-- the entries with a new one in front
+abbrev pub added : BucketState → ℕ → ℕ → Content → List Entry → List Entry
+added mode next moment content entries = record { id = new_id mode next; moment = moment; content = content } ∷ kept mode entries
+
+-- a delete without id: where versions are or were numbered, a delete marker is put in front
+abbrev pub deleted_current : BucketState → ℕ → ℕ → List Entry → List Entry
+deleted_current Unversioned next moment entries = without_null_version entries
+deleted_current Enabled next moment entries = added Enabled next moment Marker entries
+deleted_current Suspended next moment entries = added Suspended next moment Marker entries
+
+-- a delete with an id takes that entry out, and an id that no entry has changes nothing
+abbrev pub deleted : BucketState → Wanted → ℕ → ℕ → List Entry → List Entry
+deleted mode Current next moment entries = deleted_current mode next moment entries
+deleted mode (Named id) next moment entries = without id entries
+deleted mode Unknown next moment entries = entries
+
+-- an object's version that was found
+pub record Version : Type 0 where
+  pub id : VersionId
+  pub moment : ℕ
+  pub bytes : Octets
+  pub checksum : Octets
+
+-- nothing was found
+abbrev pub not_found : Refusal → Result Version LookupFault
+not_found refusal = Err (record { refusal = refusal; marker = false })
+
+-- an entry that was found: a delete marker is refused, and the answer says that one was met
+abbrev pub opened : Refusal → Entry → Content → Result Version LookupFault
+opened refusal e Marker = Err (record { refusal = refusal; marker = true })
+opened refusal e (Body bytes checksum) = Ok (record { id = e.id; moment = e.moment; bytes = bytes; checksum = checksum })
+
+abbrev pub found_current : List Entry → Result Version LookupFault
+found_current [] = not_found NoSuchKey
+found_current (e ∷ older) = opened NoSuchKey e e.content
+
+abbrev pub found_named : Option Entry → Result Version LookupFault
+found_named None = not_found NoSuchVersion
+found_named (Some e) = opened MethodNotAllowed e e.content
+
+-- the version that is wanted
+abbrev pub lookup : Wanted → List Entry → Result Version LookupFault
+lookup Current entries = found_current entries
+lookup (Named id) entries = found_named (find (has_id id) entries)
+lookup Unknown entries = not_found NoSuchVersion

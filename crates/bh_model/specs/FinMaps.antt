@@ -1,0 +1,29 @@
+-- Finite maps: one key's value set or taken out, each value changed, and the sum of a size over the values.
+use Rattle.std.specs.Prelude.{ℕ, List, [], ◌∷◌, Option, Some, None, option_map, option_and_then}
+use Rattle.std.specs.List.{filter_map, sum_by}
+use Rattle.std.specs.declared.cmp.Ordering.{Ordering}
+use Rattle.std.specs.FinMap.{FinMap, from_entries, entries, get, insert, remove}
+
+-- a list as the value of a key, where a key with an empty list is not in the map
+abbrev pub non_empty : {X : Type 0} → List X → Option (List X)
+non_empty [] = None
+non_empty (x ∷ xs) = Some (x ∷ xs)
+
+module _ {K X : Type 0} (R : K → K → Ordering) where
+  -- the map of the keys that a list names: at each of them its value, where it has one
+  abbrev pub tabulate : {T : Type 0} → (T → K) → (K → Option X) → List T → FinMap R X
+  tabulate key value items = from_entries (filter_map (λ t. option_map (λ x. (key t, x)) (value (key t))) items)
+
+module _ {K X : Type 0} {R : K → K → Ordering} where
+  -- the map with this value at a key, or with none there
+  abbrev pub set_at : FinMap R X → K → Option X → FinMap R X
+  set_at m k None = remove m k
+  set_at m k (Some x) = insert m k x
+
+  -- the map with each value changed, or taken out
+  unfoldable pub adjusted : {Y : Type 0} → (X → Option Y) → FinMap R X → FinMap R Y
+  adjusted f m = tabulate R (λ e. e.0) (λ k. option_and_then f (get m k)) (entries m)
+
+  -- the sum of a size over all values
+  unfoldable pub total : (X → ℕ) → FinMap R X → ℕ
+  total f m = sum_by (λ e. f e.1) (entries m)

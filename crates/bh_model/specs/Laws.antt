@@ -1,0 +1,102 @@
+-- What shows that the definitions are the intended ones.
+use Rattle.std.specs.Prelude.{◌≡◌, ◌≢◌, ◌++◌, ◌∷◌, Err, ℕ, ◌≤◌, false, ◌&&◌, List, drop, Option, Some, None, Result, Ok, IfOk}
+use Rattle.std.specs.List.{list_any}
+use Rattle.bh_types.specs.declared.id.VersionId.{VersionId}
+use Rattle.bh_types.specs.declared.id.VersionId.TheVariants.{Null, Numbered}
+use Rattle.bh_types.specs.declared.plain.BucketState.{BucketState}
+use Rattle.bh_types.specs.declared.plain.BucketState.TheVariants.{Enabled, Suspended}
+use Rattle.bh_types.specs.declared.plain.Wanted.{Wanted}
+use Rattle.bh_types.specs.declared.plain.Wanted.TheVariants.{Current, Named}
+use Rattle.bh_types.specs.declared.refusal.Refusal.TheVariants.{NoSuchVersion, AccessDenied, InvalidAccessKeyId}
+use Rattle.bh_model.specs.State.{Octets, Content.Body, Entry, State, purged}
+use Rattle.bh_model.specs.Counting.{counts, AtMost}
+use Rattle.bh_model.specs.Entries.{Version, has_id, is_version, without, new_id, added, deleted, lookup, not_found}
+use Rattle.bh_model.specs.Checksums.{checksum_text}
+use Rattle.bh_model.specs.Credentials.{owner_of_key, authenticate}
+use Rattle.bh_model.specs.Operations.{Answer.Stored, Answer.Object, add_tenant, add_key, remove_key, create_bucket, put_object, get_object}
+use Rattle.bh_model.specs.Runs.{solo, solo_state, step, Follows}
+
+-- to purge, and then at a later moment, is to purge at the later one
+abbrev pub PurgedLater : Type 0
+PurgedLater = (s : State) (m n : ℕ) → m ≤ n → purged (purged s m) n ≡ purged s n
+
+-- to purge twice at one moment is to purge once
+abbrev pub PurgedTwice : Type 0
+PurgedTwice = (s : State) (now : ℕ) → purged (purged s now) now ≡ purged s now
+
+-- what was put is the current version, and the version of its id
+abbrev pub put_version : BucketState → ℕ → ℕ → Octets → Octets → Version
+put_version mode next moment bytes checksum = record { id = new_id mode next; moment = moment; bytes = bytes; checksum = checksum }
+
+abbrev pub PutIsFound : Type 0
+PutIsFound = (mode : BucketState) (next moment : ℕ) (bytes checksum : Octets) (entries : List Entry)
+    → (lookup Current (added mode next moment (Body bytes checksum) entries) ≡ Ok (put_version mode next moment bytes checksum))
+    × (lookup (Named (new_id mode next)) (added mode next moment (Body bytes checksum) entries) ≡ Ok (put_version mode next moment bytes checksum))
+
+-- a delete without id in an Enabled bucket leaves every older entry, in its place and under its id
+abbrev pub EnabledDeleteKeeps : Type 0
+EnabledDeleteKeeps = (next moment : ℕ) (entries : List Entry)
+    → (drop 1 (deleted Enabled Current next moment entries) ≡ entries)
+    × ((id : VersionId) → id ≢ Numbered next → lookup (Named id) (deleted Enabled Current next moment entries) ≡ lookup (Named id) entries)
+
+-- a delete without id in a Suspended bucket leaves no version `null`, nor is there one once its marker is gone
+abbrev pub SuspendedDeleteClears : Type 0
+SuspendedDeleteClears = (next moment : ℕ) (entries : List Entry)
+    → (list_any (λ e. has_id Null e && is_version e) (deleted Suspended Current next moment entries) ≡ false)
+    × (lookup (Named Null) (without Null (deleted Suspended Current next moment entries)) ≡ not_found NoSuchVersion)
+
+-- what was put is what a get without id reads, under the id that the put told, whatever the bucket's state is
+abbrev pub PutIsRead : Type 0
+PutIsRead = (moment : ℕ) (name key bytes : Octets) (given : Option Octets) (s : Option State)
+    → IfOk (put_object moment name key bytes given s) (λ put.
+    (id : Option VersionId) × (put.0 ≡ Stored id (checksum_text bytes)) × (get_object name key Current put.1 ≡ Ok (Object id bytes (checksum_text bytes), put.1)))
+
+-- 36 is '$'
+abbrev pub key_id : Octets → Octets → Octets
+key_id tenant name = tenant ++ 36 ∷ name
+
+-- a key that was added is its tenant's, and opens with its secret and no other
+abbrev pub AddedKeyOpens : Type 0
+AddedKeyOpens = (tenant name secret : Octets) (s : Option State)
+    → IfOk (add_key tenant name secret s) (λ added.
+    (owner_of_key (key_id tenant name) ≡ Some tenant)
+    × (authenticate (key_id tenant name) secret added.1 ≡ Ok tt)
+    × ((other : Octets) → other ≢ secret → authenticate (key_id tenant name) other added.1 ≡ Err AccessDenied))
+
+-- a key that was removed is unknown
+abbrev pub RemovedKeyIsUnknown : Type 0
+RemovedKeyIsUnknown = (tenant name secret : Octets) (s : Option State)
+    → IfOk (remove_key tenant name s) (λ removed. authenticate (key_id tenant name) secret removed.1 ≡ Err InvalidAccessKeyId)
+
+-- counters never go down, and a tenant never goes away
+abbrev pub Rises : Option State → Option State → Type 0
+Rises None s = Unit {0}
+Rises (Some s) None = ⊥
+Rises (Some s) (Some t) = AtMost (counts s) (counts t)
+
+abbrev pub AlwaysRises : {X E : Type 0} → (Option State → Result (X × Option State) E) → Type 0
+AlwaysRises change = (s : Option State) → IfOk (change s) (λ o. Rises s o.1)
+
+pub record CountersRise : Type 0 where
+  pub add_tenant_rises : (name : Octets) (quota : ℕ) → AlwaysRises (add_tenant name quota)
+  pub add_key_rises : (tenant name secret : Octets) → AlwaysRises (add_key tenant name secret)
+  pub remove_key_rises : (tenant name : Octets) → AlwaysRises (remove_key tenant name)
+  pub create_bucket_rises : (moment : ℕ) (name : Octets) → AlwaysRises (create_bucket moment name)
+  pub put_object_rises : (moment : ℕ) (name key bytes : Octets) (given : Option Octets) → AlwaysRises (put_object moment name key bytes given)
+  pub get_object_rises : (name key : Octets) (wanted : Wanted) → AlwaysRises (get_object name key wanted)
+
+-- so no counter goes down in a step that purges first and then makes such a change, or is refused
+abbrev pub StepsRise : Type 0 → Type 0 → Type 0 → Type 0
+StepsRise A X E = (change : ℕ → A → Option State → Result (X × Option State) E) (now : ℕ) (act : A)
+    → AlwaysRises (change now act) → (s : Option State) → Rises s (step change now act s).1
+
+-- states that are equal once purged take the same step at any later moment
+abbrev pub FollowersStepAlike : Type 0 → Type 0 → Type 0 → Type 0
+FollowersStepAlike A X E = (change : ℕ → A → Option State → Result (X × Option State) E) (s seen : Option State) (last now : ℕ) (act : A)
+    → Follows s seen last → last ≤ now → step change now act s ≡ step change now act seen
+
+-- to run over two lists joined is to run over the second from the state after the first
+abbrev pub RunsJoin : Type 0 → Type 0 → Type 0
+RunsJoin A R = (step : ℕ → A → Option State → R × Option State) (s : Option State) (acts more : List (ℕ × A))
+    → (solo step s (acts ++ more) ≡ solo step s acts ++ solo step (solo_state step s acts) more)
+    × (solo_state step s (acts ++ more) ≡ solo_state step (solo_state step s acts) more)

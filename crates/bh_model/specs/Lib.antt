@@ -1,0 +1,12 @@
+pub mod FinMaps
+pub mod State
+pub mod Checksums
+pub mod Steps
+pub mod Counting
+pub mod Entries
+pub mod Parts
+pub mod Credentials
+pub mod Operations
+pub mod Runs
+pub mod Laws
+pub mod Shown

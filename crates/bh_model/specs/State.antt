@@ -1,0 +1,106 @@
+-- The state of one tenant's private machine. It is made of finite maps, so two states that answer alike are equal values.
+use Rattle.std.specs.Prelude.{ℕ, ◌+◌, Bool, false, nat_le, List, length, Option, Some, None, if◌then◌else◌}
+use Rattle.std.specs.List.{sum_by}
+use Rattle.std.specs.Ordering.{nat_cmp}
+use Rattle.std.specs.declared.cmp.Ordering.{Ordering}
+use Rattle.std.specs.Cmp.Lexicographic.{slice_cmp}
+use Rattle.std.specs.FinMap.{FinMap, empty}
+use Rattle.bh_types.specs.Moments.{abort_moment}
+use Rattle.bh_types.specs.declared.id.VersionId.{VersionId}
+use Rattle.bh_types.specs.declared.plain.BucketState.{BucketState}
+use Rattle.bh_types.specs.declared.plain.BucketState.TheVariants.{Unversioned}
+use Rattle.bh_model.specs.FinMaps.{adjusted, total}
+
+-- names, keys, secrets, texts and bodies, as their bytes
+abbrev pub Octets : Type 0
+Octets = List ℕ
+
+abbrev pub octets_cmp : Octets → Octets → Ordering
+octets_cmp = slice_cmp nat_cmp
+
+-- a delete marker, or an object's whole bytes with the text of their checksum
+pub data Content : Type 0 where
+  Marker : Content
+  Body : (bytes checksum : Octets) → Content
+
+-- a version or a delete marker of one key; moments are seconds since 1970
+pub record Entry : Type 0 where
+  pub id : VersionId
+  pub moment : ℕ
+  pub content : Content
+
+pub record Part : Type 0 where
+  pub bytes : Octets
+  pub moment : ℕ
+
+-- a multipart upload that is neither completed nor aborted; its parts by number
+pub record Upload : Type 0 where
+  pub key : Octets
+  pub begun : ℕ
+  pub parts : FinMap nat_cmp Part
+
+-- `days` is the bucket's rule for uploads that are left unfinished, if it has one. The entries of a key are
+-- newest first, and a key that has none is not in `objects`. Uploads stand by number
+pub record Bucket : Type 0 where
+  pub created : ℕ
+  pub mode : BucketState
+  pub days : Option ℕ
+  pub objects : FinMap octets_cmp (List Entry)
+  pub uploads : FinMap nat_cmp Upload
+
+-- `keys` has the secret of each access key's name. Each counter is the next number to give
+pub record State : Type 0 where
+  pub quota : ℕ
+  pub keys : FinMap octets_cmp Octets
+  pub next_version : ℕ
+  pub next_upload : ℕ
+  pub next_entry : ℕ
+  pub buckets : FinMap octets_cmp Bucket
+
+-- a tenant that was not added has no state
+abbrev pub absent : Option State
+absent = None
+
+abbrev pub new_tenant : ℕ → State
+new_tenant quota = record { quota = quota; keys = empty; next_version = 1; next_upload = 1; next_entry = 1; buckets = empty }
+
+abbrev pub new_bucket : ℕ → Bucket
+new_bucket created = record { created = created; mode = Unversioned; days = None; objects = empty; uploads = empty }
+
+-- sizes, in bytes
+abbrev pub content_size : Content → ℕ
+content_size Marker = 0
+content_size (Body bytes checksum) = length bytes
+
+abbrev pub entry_size : Entry → ℕ
+entry_size e = content_size e.content
+
+abbrev pub part_size : Part → ℕ
+part_size p = length p.bytes
+
+abbrev pub upload_used : Upload → ℕ
+upload_used u = total part_size u.parts
+
+abbrev pub bucket_used : Bucket → ℕ
+bucket_used b = total (sum_by entry_size) b.objects + total upload_used b.uploads
+
+-- the bytes of all bodies and of all parts
+abbrev pub used : State → ℕ
+used s = total bucket_used s.buckets
+
+-- whether an upload is stale now: under a rule of d days, one that began on day n since 1970 is so from the
+-- first second of day n + d + 1 on
+abbrev pub is_stale : Option ℕ → ℕ → ℕ → Bool
+is_stale None begun now = false
+is_stale (Some days) begun now = nat_le (abort_moment begun days) now
+
+-- an upload, if it is not stale
+abbrev pub fresh : Option ℕ → ℕ → Upload → Option Upload
+fresh days now u = if is_stale days u.begun now then None else Some u
+
+abbrev pub purged_bucket : ℕ → Bucket → Bucket
+purged_bucket now b = record b { uploads = adjusted (fresh b.days now) b.uploads }
+
+-- the state without the uploads that are stale now; its counters stay
+abbrev pub purged : State → ℕ → State
+purged s now = record s { buckets = adjusted (λ b. Some (purged_bucket now b)) s.buckets }

@@ -1,0 +1,62 @@
+//! Laws of the definitions, each the contract of a function that does nothing.
+ghost use Rattle.bh_model.specs.Laws.{PurgedLater, PurgedTwice, PutIsFound, EnabledDeleteKeeps, SuspendedDeleteClears, PutIsRead, AddedKeyOpens, RemovedKeyIsUnknown, CountersRise, StepsRise, FollowersStepAlike, RunsJoin};
+
+/// To purge a tenant's state, and then at a later moment, is to purge it at the later one.
+pub fn purged_later()
+    ensures { PurgedLater }
+{}
+
+/// To purge a tenant's state twice at one moment is to purge it once.
+pub fn purged_twice()
+    ensures { PurgedTwice }
+{}
+
+/// After a put the new version is the current one, and the one of its id.
+pub fn put_is_found()
+    ensures { PutIsFound }
+{}
+
+/// A delete without id in an Enabled bucket leaves every older entry.
+pub fn enabled_delete_keeps()
+    ensures { EnabledDeleteKeeps }
+{}
+
+/// A delete without id in a Suspended bucket leaves no version `null` under its marker.
+pub fn suspended_delete_clears()
+    ensures { SuspendedDeleteClears }
+{}
+
+/// What was put is what a get without id reads from the state after the put.
+pub fn put_is_read()
+    ensures { PutIsRead }
+{}
+
+/// An access key that was added is its tenant's, and opens with its secret and no other.
+pub fn added_key_opens()
+    ensures { AddedKeyOpens }
+{}
+
+/// An access key that was removed is unknown.
+pub fn removed_key_is_unknown()
+    ensures { RemovedKeyIsUnknown }
+{}
+
+/// No step of the machine makes a counter go down.
+pub fn counters_rise()
+    ensures { CountersRise }
+{}
+
+/// Nor does a step that purges the state first, whatever the act is.
+pub fn steps_rise<Act, Answer, Fault>()
+    ensures { StepsRise Act Answer Fault }
+{}
+
+/// Two states that are equal once purged take the same step at any later moment.
+pub fn followers_step_alike<Act, Answer, Fault>()
+    ensures { FollowersStepAlike Act Answer Fault }
+{}
+
+/// The private run over two lists of acts joined is the run over the second, from the state after the first.
+pub fn runs_join<Act, Reply>()
+    ensures { RunsJoin Act Reply }
+{}

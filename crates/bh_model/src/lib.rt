@@ -1,0 +1,10 @@
+//! The private machine of one tenant: its definitions, and a plain program that meets them.
+#![tactic(auto)]
+
+pub mod counting;
+pub mod entries;
+pub mod laws;
+pub mod parts;
+#[cfg(test)]
+mod tests;
+pub mod uploads;

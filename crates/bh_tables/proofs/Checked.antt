@@ -1,0 +1,49 @@
+-- What the CHECKs say of typed rows.
+use Rattle.std.proofs.Common.{arith, ◌≡◌, ◌≤◌, ℕ, pos, ◌∷◌, [], List, ◌&&◌, not, true, false, Bool, Option, Some, None, refl, ap, ap₂, ◌∙◌, int_le}
+use Rattle.std.proofs.lemmas.Int.{ints}
+use Rattle.sqlite.specs.Collation.TheVariants.{Binary}
+use Rattle.sqlite.specs.declared.types.Value.TheVariants.{Int, Text}
+use Rattle.sqlite_sql.specs.declared.ops.BinaryOp.TheVariants.{Compare, And, Or}
+use Rattle.sqlite_sql.specs.declared.ops.CompareOp.TheVariants.{Ge, Le, Eq}
+use Rattle.sqlite_sql.specs.Ops.{binary, is_false}
+use Rattle.sqlite_typed.specs.Columns.{or_null}
+use Rattle.sqlite_typed.specs.Tests.{null_or}
+use Rattle.sqlite_typed.proofs.TestLemmas.{truth_or, at_ints, at_texts, at_and, at_or, at_nullable}
+use Rattle.sqlite_schema.specs.Rules.{passes_checks}
+use Rattle.bh_tables.specs.Schema.{Octets, host_table, tenants_table, keys_table, buckets_table, versions_table}
+use Rattle.bh_tables.specs.Typed.{HostRow, host_columns, TenantRow, tenant_columns, BucketRow, bucket_columns, VersionRow, version_columns, number}
+use Rattle.bh_tables.specs.Shown.{is_marked_right}
+
+twice : (b : Bool) → b ≡ true → not (not b) ≡ true
+twice b h = rw h refl
+
+-- a number is at least 0
+natural : (n : ℕ) → not (is_false (binary (Compare Ge Binary) (number n) (number 0))) ≡ true
+natural n = twice _ (at_ints true Ge (pos n) (pos 0) ∙ grind (arith, ints))
+
+at_most : (n m : ℕ) → n ≤ m → not (is_false (binary (Compare Le Binary) (number n) (number m))) ≡ true
+at_most n m h = twice _ (at_ints true Le (pos n) (pos m) ∙ grind (arith, ints, h))
+
+maybe_natural : (o : Option ℕ) → not (is_false (binary (Compare Ge Binary) (or_null number o) (number 0))) ≡ true
+maybe_natural o = twice _ (at_nullable number true Ge (λ a b. int_le (pos b) (pos a)) (λ a b. at_ints true Ge (pos a) (pos b)) o (Some 0) ∙ go o)
+  where
+    go : (o : Option ℕ) → null_or (λ a b. int_le (pos b) (pos a)) o (Some 0) ≡ true
+    go None = refl
+    go (Some n) = grind (arith, ints)
+
+both : {x y : Bool} → x ≡ true → y ≡ true → (x && y) ≡ true
+both p q = ap₂ ◌&&◌ p q
+
+pub tenant_checked : (id : Rattle.std.proofs.Common.ℤ) (t : TenantRow) → passes_checks tenants_table (Int id ∷ tenant_columns t) ≡ true
+tenant_checked id t = both (natural t.quota) (both (natural t.next_version) (both (natural t.next_upload) (both (natural t.next_entry) refl)))
+
+pub bucket_checked : (id : Rattle.std.proofs.Common.ℤ) (b : BucketRow) → b.state ≤ 2 → passes_checks buckets_table (Int id ∷ bucket_columns b) ≡ true
+bucket_checked id b low = both (natural b.created) (both (natural b.state) (both (at_most b.state 2 low) (both (maybe_natural b.days) refl)))
+
+pub version_checked : (id : Rattle.std.proofs.Common.ℤ) (v : VersionRow) → is_marked_right v ≡ true → passes_checks versions_table (Int id ∷ version_columns v) ≡ true
+version_checked id v right = both (natural v.seq) (both (natural v.id) (both (natural v.marker) (both (natural v.stamp) (both (natural v.size) (both (twice _ (
+    at_or true _ _ (at_ints true Eq (pos v.marker) (pos 0)) (at_and true _ _ (at_ints true Eq (pos v.size) (pos 0)) (at_texts true Eq v.checksum [])) ∙ right)) refl)))))
+
+-- the row number of the host is 1
+pub host_checked : (h : HostRow) → passes_checks host_table (number 1 ∷ host_columns h) ≡ true
+host_checked h = both (twice _ (at_ints true Eq (pos 1) (pos 1))) (both (natural h.version) (both (natural h.latest) (both (natural h.min_part) (both (natural h.max_body) refl))))

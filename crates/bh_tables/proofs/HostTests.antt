@@ -1,0 +1,104 @@
+-- The test says what it is to say.
+use Rattle.std.proofs.Common.{◌≡◌, ◌≢◌, ◌⊎◌, inl, inr, ℕ, eqb, Bool, true, false, true≢false, ◌&&◌, cond, List, [], ◌∷◌, refl, sym, ap, ap₂, ◌∙◌, subst, Ordering, Less, Equal, Greater, is_lt}
+use Rattle.std.specs.List.{AllByRecursion, list_all}
+use Rattle.std.specs.Coded.{Coded}
+use Rattle.std.proofs.lemmas.Bool.{and_parts, and_from, cases_Bool, eqb-true, eq-eqb}
+use base.Stored.{Gv, gnil, gnum, gcons}
+use Rattle.sqlite.specs.declared.types.Value.TheVariants.{Int}
+use Rattle.sqlite.specs.Order.{Row, value_cmp}
+use Rattle.sqlite.specs.Tree.{rowid, IsTable}
+use Rattle.sqlite.specs.Edit.{id_in}
+use Rattle.sqlite.specs.Effect.{Database}
+use Rattle.sqlite_schema.specs.contracts.schema.Schema as schema
+use Rattle.bh_rows.specs.Form.{Form, AreRows}
+use Rattle.bh_tables.specs.Schema.{host_schema}
+use Rattle.bh_tables.specs.Typed.{Tables, HostRow, Raw, raw, tables_in, no_rows, AreHeld, IsHost, host_form, tenant_form, key_form, bucket_form, version_form}
+use Rattle.bh_tables.specs.Hosts.{same_code, same, ascends, coded_row, is_row, are_rows, are_held, is_host, tables_shown}
+
+-- ---- codes
+
+same_is : (a b : Gv) → same_code a b ≡ true → a ≡ b
+same_is gnil gnil h = refl
+same_is gnil (gnum n) h = absurd (true≢false (sym h))
+same_is gnil (gcons a b) h = absurd (true≢false (sym h))
+same_is (gnum m) gnil h = absurd (true≢false (sym h))
+same_is (gnum m) (gnum n) h = ap gnum (eqb-true m n h)
+same_is (gnum m) (gcons a b) h = absurd (true≢false (sym h))
+same_is (gcons a b) gnil h = absurd (true≢false (sym h))
+same_is (gcons a b) (gnum n) h = absurd (true≢false (sym h))
+same_is (gcons a b) (gcons c d) h = let parts = and_parts _ _ h in ap₂ gcons (same_is a c parts.0) (same_is b d parts.1)
+
+same_self : (a : Gv) → same_code a a ≡ true
+same_self gnil = refl
+same_self (gnum n) = eq-eqb n n refl
+same_self (gcons a b) = and_from _ _ (same_self a) (same_self b)
+
+same_value : {X : Type 0} (coded : Coded X) (x y : X) → same coded x y ≡ true → x ≡ y
+same_value coded x y h = coded.inj x y (same_is _ _ h)
+
+value_same : {X : Type 0} (coded : Coded X) (x y : X) → x ≡ y → same coded x y ≡ true
+value_same coded x y e = subst (λ z. same coded x z ≡ true) e (same_self (coded.code x))
+
+-- ---- rows
+
+each_of : {X : Type 0} (p : X → Bool) (P : X → Type 0) → ((x : X) → p x ≡ true → P x) → (xs : List X) → list_all p xs ≡ true → AllByRecursion P xs
+each_of p P f [] h = tt
+each_of p P f (x ∷ xs) h = let parts = and_parts _ _ h in (f x parts.0, each_of p P f xs parts.1)
+
+of_each : {X : Type 0} (p : X → Bool) (P : X → Type 0) → ((x : X) → P x → p x ≡ true) → (xs : List X) → AllByRecursion P xs → list_all p xs ≡ true
+of_each p P f [] h = refl
+of_each p P f (x ∷ xs) h = and_from _ _ (f x h.0) (of_each p P f xs h.1)
+
+less_is : (o : Ordering) → is_lt o ≡ true → o ≡ Less
+less_is Less h = refl
+less_is Equal h = absurd (true≢false (sym h))
+less_is Greater h = absurd (true≢false (sym h))
+
+rises_of : (rows : List Row) → ascends rows ≡ true → IsTable rows
+rises_of [] h = tt
+rises_of (r ∷ rows) h = let parts = and_parts _ _ h in (each_of _ _ (λ s is. less_is _ is) rows parts.0, rises_of rows parts.1)
+
+of_rises : (rows : List Row) → IsTable rows → ascends rows ≡ true
+of_rises [] h = refl
+of_rises (r ∷ rows) h = and_from _ _ (of_each _ _ (λ s is. ap is_lt is) rows h.0) (of_rises rows h.1)
+
+module _ {T : Type 0} (form : Form T) (rows : List Row) where
+  rows_of : are_rows form rows ≡ true → AreRows form rows
+  rows_of h = let parts = and_parts _ _ h in record { each = each_of _ _ (λ r is. same_value coded_row r _ is) rows parts.0; rises = rises_of rows parts.1 }
+
+  of_rows : AreRows form rows → are_rows form rows ≡ true
+  of_rows h = and_from _ _ (of_each _ _ (λ r is. value_same coded_row r _ is) rows h.each) (of_rises rows h.rises)
+
+held_of : (r : Raw) → are_held r ≡ true → AreHeld r
+held_of r h =
+    let a = and_parts _ _ h in
+    let b = and_parts _ _ a.1 in
+    let c = and_parts _ _ b.1 in
+    let d = and_parts _ _ c.1 in
+    record { host = rows_of host_form r.host a.0; tenants = rows_of tenant_form r.tenants b.0; keys = rows_of key_form r.keys c.0; buckets = rows_of bucket_form r.buckets d.0; versions = rows_of version_form r.versions d.1 }
+
+of_held : (r : Raw) → AreHeld r → are_held r ≡ true
+of_held r h = and_from _ _ (of_rows host_form r.host h.host) (and_from _ _ (of_rows tenant_form r.tenants h.tenants) (and_from _ _ (of_rows key_form r.keys h.keys) (and_from _ _ (of_rows bucket_form r.buckets h.buckets) (of_rows version_form r.versions h.versions))))
+
+-- ---- databases
+
+host_of : (db : Database) → is_host db ≡ true → IsHost db
+unfolding is_host
+host_of db h = let parts = and_parts _ _ h in record { schema = same_value schema.the_row.coded db.schema host_schema parts.0; held = held_of (raw db.trees) parts.1 }
+
+of_host : (db : Database) → IsHost db → is_host db ≡ true
+unfolding is_host
+of_host db h = and_from _ _ (value_same schema.the_row.coded db.schema host_schema h.schema) (of_held (raw db.trees) h.held)
+
+-- a host's database shows its tables
+pub host_shows : (db : Database) → IsHost db → tables_shown db ≡ tables_in db
+unfolding tables_shown
+host_shows db h = ap (λ b. cond b (tables_in db) no_rows) (of_host db h)
+
+-- and only a host's shows a row of the host
+pub shown_host : (db : Database) (row : HostRow) → (tables_shown db).host ≡ row ∷ [] → IsHost db
+unfolding tables_shown
+shown_host db row there = elim (cases_Bool (is_host db)) [
+  | inl is ↦ host_of db is
+  | inr other ↦ let none : [] ≡ row ∷ [] = sym (ap (λ b. (cond b (tables_in db) no_rows).host) other) ∙ there in absurd (cc)
+]

@@ -1,0 +1,25 @@
+-- The columns of a typed row are stored as they are.
+use Rattle.std.proofs.Common.{◌≡◌, ap, refl, Option, Some, None, ◌∷◌, []}
+use Rattle.sqlite.specs.Cast.{cast_all}
+use Rattle.bh_rows.proofs.InsertLemmas.{cast_int, cast_null}
+use Rattle.bh_tables.specs.Schema.{host_table, tenants_table, keys_table, buckets_table, versions_table}
+use Rattle.bh_tables.specs.Typed.{HostRow, host_columns, TenantRow, tenant_columns, KeyRow, key_columns, BucketRow, bucket_columns, VersionRow, version_columns}
+
+pub host_kept : (h : HostRow) → cast_all host_table.columns (host_columns h) ≡ host_columns h
+host_kept h = rw cast_null (simp cast_int)
+
+pub tenant_kept : (t : TenantRow) → cast_all tenants_table.columns (tenant_columns t) ≡ tenant_columns t
+tenant_kept t = simp cast_int
+
+pub key_kept : (k : KeyRow) → cast_all keys_table.columns (key_columns k) ≡ key_columns k
+key_kept k = refl
+
+pub version_kept : (v : VersionRow) → cast_all versions_table.columns (version_columns v) ≡ version_columns v
+version_kept v = simp cast_int
+
+pub bucket_kept : (b : BucketRow) → cast_all buckets_table.columns (bucket_columns b) ≡ bucket_columns b
+bucket_kept b = go b b.days
+  where
+    go : (b : BucketRow) (days : Option Rattle.std.proofs.Common.ℕ) → cast_all buckets_table.columns (bucket_columns (record b { days = days })) ≡ bucket_columns (record b { days = days })
+    go b None = rw cast_null (simp cast_int)
+    go b (Some n) = simp cast_int

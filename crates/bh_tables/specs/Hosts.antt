@@ -1,0 +1,60 @@
+-- Whether a database is a host's, as a test, and what it then shows.
+use Rattle.std.specs.Prelude.{ℕ, ◌==◌, Bool, true, false, ◌&&◌, List, [], ◌∷◌, if◌then◌else◌}
+use Rattle.std.specs.List.{list_all}
+use Rattle.std.specs.Ordering.{is_lt}
+use Rattle.std.specs.Coded.{Coded, coded_list}
+use base.Stored.{Gv, gnil, gnum, gcons}
+use Rattle.sqlite.specs.declared.types.Value.TheVariants.{Int}
+use Rattle.sqlite.specs.Order.{Row, value_cmp}
+use Rattle.sqlite.specs.Tree.{rowid}
+use Rattle.sqlite.specs.Edit.{id_in}
+use Rattle.sqlite.specs.Effect.{Database}
+use Rattle.sqlite_value.specs.contracts.value.Value as value
+use Rattle.sqlite_schema.specs.contracts.schema.Schema as schema
+use Rattle.bh_rows.specs.Form.{Form}
+use Rattle.bh_tables.specs.Schema.{host_schema}
+use Rattle.bh_tables.specs.Typed.{Tables, Raw, raw, tables_in, no_rows, host_form, tenant_form, key_form, bucket_form, version_form}
+
+-- ---- equality, by the codes that the logic gives to values
+
+abbrev pub same_code : Gv → Gv → Bool
+same_code gnil gnil = true
+same_code gnil (gnum n) = false
+same_code gnil (gcons a b) = false
+same_code (gnum m) gnil = false
+same_code (gnum m) (gnum n) = m == n
+same_code (gnum m) (gcons a b) = false
+same_code (gcons a b) gnil = false
+same_code (gcons a b) (gnum n) = false
+same_code (gcons a b) (gcons c d) = same_code a c && same_code b d
+
+abbrev pub same : {X : Type 0} → Coded X → X → X → Bool
+same coded x y = same_code (coded.code x) (coded.code y)
+
+-- ---- rows
+
+abbrev pub ascends : List Row → Bool
+ascends [] = true
+ascends (r ∷ rows) = list_all (λ s. is_lt (value_cmp (rowid r) (rowid s))) rows && ascends rows
+
+abbrev pub coded_row : Coded Row
+coded_row = coded_list value.the_row.coded
+
+-- the stored row is its number and the columns of the typed row that it reads as
+abbrev pub is_row : {T : Type 0} → Form T → Row → Bool
+is_row form r = same coded_row r (Int (id_in (rowid r)) ∷ form.encode (form.decode r))
+
+abbrev pub are_rows : {T : Type 0} → Form T → List Row → Bool
+are_rows form rows = list_all (is_row form) rows && ascends rows
+
+abbrev pub are_held : Raw → Bool
+are_held r = are_rows host_form r.host && (are_rows tenant_form r.tenants && (are_rows key_form r.keys && (are_rows bucket_form r.buckets && are_rows version_form r.versions)))
+
+-- ---- databases
+
+unfoldable pub is_host : Database → Bool
+is_host db = same schema.the_row.coded db.schema host_schema && are_held (raw db.trees)
+
+-- a host's tables; a database that is no host's shows no row
+unfoldable pub tables_shown : Database → Tables
+tables_shown db = if is_host db then tables_in db else no_rows

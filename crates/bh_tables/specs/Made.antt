@@ -1,0 +1,19 @@
+-- The schema as its tables are made, one after another.
+use Rattle.sqlite.specs.Schema.{Schema}
+use Rattle.sqlite.specs.Change.{created}
+use Rattle.bh_tables.specs.Schema.{no_schema, host_table, tenants_table, keys_table, buckets_table, versions_table}
+
+abbrev pub with_host : Schema
+with_host = created no_schema host_table
+
+abbrev pub with_tenants : Schema
+with_tenants = created with_host tenants_table
+
+abbrev pub with_keys : Schema
+with_keys = created with_tenants keys_table
+
+abbrev pub with_buckets : Schema
+with_buckets = created with_keys buckets_table
+
+abbrev pub with_versions : Schema
+with_versions = created with_buckets versions_table

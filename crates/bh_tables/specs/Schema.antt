@@ -1,0 +1,107 @@
+-- The schema of a host as a value: five tables, each as its CREATE text defines it.
+use Rattle.std.specs.Prelude.{ℕ, Bool, true, false, [], ◌∷◌, List, map, Option, Some, None, codes, pos}
+use Rattle.sqlite.specs.Collation.TheVariants.{Binary}
+use Rattle.sqlite.specs.declared.types.Value.TheVariants.{Null, Int, Text as Words}
+use Rattle.sqlite.specs.Table.{Table}
+use Rattle.sqlite.specs.Schema.{Schema}
+use Rattle.sqlite.specs.Term.{Term, lit, col, op2}
+use Rattle.sqlite.specs.Kind.{Kind}
+use Rattle.sqlite.specs.Kind.TheVariants.{Integer, Text, Blob}
+use Rattle.sqlite_sql.specs.declared.ops.BinaryOp.TheVariants.{Compare, And, Or}
+use Rattle.sqlite_sql.specs.declared.ops.CompareOp.TheVariants.{Eq, Le, Ge}
+use Rattle.sqlite_schema.specs.declared.schema.Column.{Column}
+use Rattle.sqlite_schema.specs.declared.schema.Index.{Index}
+use Rattle.sqlite_schema.specs.declared.schema.Reference.{Reference}
+use Rattle.sqlite_schema.specs.declared.schema.Action.TheVariants.{NoAction, Restrict}
+use Rattle.sqlite_value.specs.Keys.{plain}
+
+abbrev pub Octets : Type 0
+Octets = List ℕ
+
+-- ---- words for the columns and keys of a table
+
+-- a column of a STRICT table that is NOT NULL
+abbrev pub given : Octets → Kind → Column
+given name kind = record { name = name; kind = kind; is_strict = true; not_null = true; default = Null; collation = Binary }
+
+-- a column that may be NULL
+abbrev pub maybe : Octets → Kind → Column
+maybe name kind = record (given name kind) { not_null = false }
+
+-- CHECK (column >= 0), where the first column after the row's number is at place 1
+abbrev pub is_natural : ℕ → Term
+is_natural place = op2 (Compare Ge Binary) (col 1 place) (lit (Int (pos 0)))
+
+-- a table with these columns, whose primary key and other keys are the columns at these places
+abbrev pub table : Octets → List Column → List ℕ → List (List ℕ) → List Reference → List Term → Table
+table name columns primary others references checks = record {
+  name = name;
+  tree = 0;
+  columns = columns;
+  key = None;
+  primary = primary;
+  uniques = primary ∷ others;
+  orders = map (λ _. plain) (primary ∷ others);
+  checks = checks;
+  references = references;
+  computed = [];
+  stamps = record { places = []; terms = []; formats = [] };
+  is_counted = false;
+}
+
+-- the columns at these places are the primary key of a row of the parent, which may not be deleted
+abbrev pub refers : List ℕ → Octets → Reference
+refers columns parent = record { columns = columns; parent = parent; parent_columns = []; on_delete = Restrict; on_update = NoAction; is_deferred = false }
+
+-- ---- the tables
+
+-- one row, whose id is the row's number
+abbrev pub host_table : Table
+host_table = record (table (codes "host") (maybe (codes "id") Integer ∷ given (codes "version") Integer ∷ given (codes "latest") Integer ∷ given (codes "min_part") Integer ∷ given (codes "max_body") Integer ∷ []) (0 ∷ []) [] []
+    (op2 (Compare Eq Binary) (col 1 0) (lit (Int (pos 1))) ∷ is_natural 2 ∷ is_natural 3 ∷ is_natural 4 ∷ is_natural 5 ∷ [])) {
+  key = Some 0;
+  uniques = [];
+  orders = [];
+}
+
+abbrev pub tenants_table : Table
+tenants_table = table (codes "tenants") (given (codes "tenant") Text ∷ given (codes "quota") Integer ∷ given (codes "next_version") Integer ∷ given (codes "next_upload") Integer ∷ given (codes "next_entry") Integer ∷ [])
+    (1 ∷ []) [] [] (is_natural 2 ∷ is_natural 3 ∷ is_natural 4 ∷ is_natural 5 ∷ [])
+
+abbrev pub keys_table : Table
+keys_table = table (codes "keys") (given (codes "tenant") Text ∷ given (codes "name") Text ∷ given (codes "secret") Text ∷ []) (1 ∷ 2 ∷ []) [] (refers (1 ∷ []) (codes "tenants") ∷ []) []
+
+-- state 0, 1, 2: Unversioned, Enabled, Suspended
+abbrev pub buckets_table : Table
+buckets_table = table (codes "buckets") (given (codes "tenant") Text ∷ given (codes "bucket") Text ∷ given (codes "created") Integer ∷ given (codes "state") Integer ∷ maybe (codes "days") Integer ∷ []) (1 ∷ 2 ∷ []) [] (refers (1 ∷ []) (codes "tenants") ∷ [])
+    (is_natural 3 ∷ is_natural 4 ∷ op2 (Compare Le Binary) (col 1 4) (lit (Int (pos 2))) ∷ is_natural 5 ∷ [])
+
+-- id 0 is `null`; a marker has size 0 and an empty sum
+abbrev pub versions_table : Table
+versions_table = table (codes "versions")
+    (given (codes "tenant") Text ∷ given (codes "seq") Integer ∷ given (codes "bucket") Text ∷ given (codes "okey") Blob ∷ given (codes "id") Integer ∷ given (codes "marker") Integer
+      ∷ given (codes "stamp") Integer ∷ given (codes "size") Integer ∷ given (codes "sum") Text ∷ given (codes "bytes") Blob ∷ [])
+    (1 ∷ 2 ∷ []) ((1 ∷ 3 ∷ 4 ∷ 5 ∷ []) ∷ []) (refers (1 ∷ 3 ∷ []) (codes "buckets") ∷ [])
+    (is_natural 2 ∷ is_natural 5 ∷ is_natural 6 ∷ is_natural 7 ∷ is_natural 8 ∷ op2 Or (op2 (Compare Eq Binary) (col 1 6) (lit (Int (pos 0)))) (op2 And (op2 (Compare Eq Binary) (col 1 8) (lit (Int (pos 0)))) (op2 (Compare Eq Binary) (col 1 9) (lit (Words [])))) ∷ [])
+
+-- ---- the schema of them all
+
+-- the table, kept in this tree
+abbrev pub at : ℕ → Table → Table
+at tree t = record t { tree = tree }
+
+-- the index that a key makes
+abbrev pub auto : Octets → ℕ → ℕ → List ℕ → Index
+auto name tree owner columns = record { name = name; tree = tree; table = owner; columns = columns; order = plain; is_unique = true }
+
+abbrev pub no_schema : Schema
+no_schema = record { tables = []; indexes = []; views = [] }
+
+abbrev pub host_schema : Schema
+host_schema = record {
+  tables = at 0 host_table ∷ at 1 tenants_table ∷ at 3 keys_table ∷ at 5 buckets_table ∷ at 7 versions_table ∷ [];
+  indexes = auto (codes "sqlite_autoindex_tenants_1") 2 1 (1 ∷ []) ∷ auto (codes "sqlite_autoindex_keys_1") 4 3 (1 ∷ 2 ∷ [])
+      ∷ auto (codes "sqlite_autoindex_buckets_1") 6 5 (1 ∷ 2 ∷ []) ∷ auto (codes "sqlite_autoindex_versions_1") 8 7 (1 ∷ 2 ∷ [])
+      ∷ auto (codes "sqlite_autoindex_versions_2") 9 7 (1 ∷ 3 ∷ 4 ∷ 5 ∷ []) ∷ [];
+  views = [];
+}

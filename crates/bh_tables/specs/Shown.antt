@@ -1,0 +1,49 @@
+-- Which rows a text finds, and what it shows of each.
+use Rattle.std.specs.Prelude.{ℕ, Bool, ◌&&◌, ◌||◌, pos, [], ◌∷◌}
+use Rattle.std.specs.Ordering.{int_eq}
+use Rattle.sqlite.specs.declared.types.Value.TheVariants.{Text, Blob}
+use Rattle.sqlite.specs.Order.{Row}
+use Rattle.sqlite_typed.specs.Columns.{or_null}
+use Rattle.sqlite_typed.specs.Tests.{bytes_eq}
+use Rattle.bh_tables.specs.Schema.{Octets}
+use Rattle.bh_tables.specs.Typed.{HostRow, TenantRow, KeyRow, BucketRow, VersionRow, number}
+
+-- ---- the row of a primary key, or of the unique key of versions
+
+abbrev pub is_tenant : Octets → TenantRow → Bool
+is_tenant tenant t = bytes_eq t.tenant tenant
+
+abbrev pub is_key : Octets → Octets → KeyRow → Bool
+is_key tenant name k = bytes_eq k.tenant tenant && bytes_eq k.name name
+
+abbrev pub is_bucket : Octets → Octets → BucketRow → Bool
+is_bucket tenant bucket b = bytes_eq b.tenant tenant && bytes_eq b.bucket bucket
+
+-- the version of this id, where 0 is `null`
+abbrev pub is_version : Octets → Octets → Octets → ℕ → VersionRow → Bool
+is_version tenant bucket okey id v = bytes_eq v.tenant tenant && (bytes_eq v.bucket bucket && (bytes_eq v.okey okey && int_eq (pos v.id) (pos id)))
+
+-- the version of this entry number, of which a tenant gives each once
+abbrev pub is_entry : Octets → ℕ → VersionRow → Bool
+is_entry tenant seq v = bytes_eq v.tenant tenant && int_eq (pos v.seq) (pos seq)
+
+-- a marker has size 0 and an empty checksum
+abbrev pub is_marked_right : VersionRow → Bool
+is_marked_right v = int_eq (pos v.marker) (pos 0) || (int_eq (pos v.size) (pos 0) && bytes_eq v.checksum [])
+
+-- ---- the columns that are asked for
+
+abbrev pub shown_latest : HostRow → Row
+shown_latest h = number h.latest ∷ []
+
+abbrev pub shown_tenant : TenantRow → Row
+shown_tenant t = number t.quota ∷ number t.next_version ∷ number t.next_upload ∷ number t.next_entry ∷ []
+
+abbrev pub shown_secret : KeyRow → Row
+shown_secret k = Text k.secret ∷ []
+
+abbrev pub shown_bucket : BucketRow → Row
+shown_bucket b = number b.created ∷ number b.state ∷ or_null number b.days ∷ []
+
+abbrev pub shown_version : VersionRow → Row
+shown_version v = number v.seq ∷ number v.marker ∷ number v.stamp ∷ number v.size ∷ Text v.checksum ∷ Blob v.bytes ∷ []

@@ -1,0 +1,190 @@
+-- The rows of each table as typed records, and the tables that a state of the store shows.
+use Rattle.std.specs.Prelude.{◌≡◌, ℕ, pos, List, [], ◌∷◌, Option, Some, None, refl, unsigned_abs, IsTrue}
+use Rattle.sqlite.specs.declared.types.Value.{Value}
+use Rattle.sqlite.specs.declared.types.Value.TheVariants.{Null, Int, Real, Text, Blob}
+use Rattle.sqlite.specs.Order.{Row, column}
+use Rattle.sqlite.specs.Tree.{Trees}
+use Rattle.sqlite.specs.Effect.{Database}
+use Rattle.sqlite.specs.State.{State, HasCleanDisk}
+use Rattle.sqlite_typed.specs.Columns.{bytes_of, int_of, or_null}
+use Rattle.bh_rows.specs.Form.{Form, AreRows, typed}
+use Rattle.bh_tables.specs.Schema.{Octets, host_schema}
+
+-- ---- numbers in columns
+
+abbrev pub number_of : Value → ℕ
+number_of v = unsigned_abs (int_of v)
+
+abbrev pub maybe_number : Value → Option ℕ
+maybe_number Null = None
+maybe_number (Int n) = Some (unsigned_abs n)
+maybe_number _ = None
+
+abbrev pub number : ℕ → Value
+number n = Int (pos n)
+
+pub maybe_back : (o : Option ℕ) → maybe_number (or_null number o) ≡ o
+maybe_back None = refl
+maybe_back (Some n) = refl
+
+-- ---- the host: one row, whose id is the row's number and so is no column of the record
+
+pub record HostRow : Type 0 where
+  pub version : ℕ
+  -- the last stamp, in seconds since 1970
+  pub latest : ℕ
+  pub min_part : ℕ
+  pub max_body : ℕ
+
+abbrev pub host_columns : HostRow → Row
+host_columns x = Null ∷ number x.version ∷ number x.latest ∷ number x.min_part ∷ number x.max_body ∷ []
+
+abbrev pub host_of : Row → HostRow
+host_of r = record { version = number_of (column r 2); latest = number_of (column r 3); min_part = number_of (column r 4); max_body = number_of (column r 5) }
+
+abbrev pub host_form : Form HostRow
+host_form = record { encode = host_columns; decode = host_of; back = λ _ x. refl }
+
+-- ---- tenants, with the next number of each counter
+
+pub record TenantRow : Type 0 where
+  pub tenant : Octets
+  pub quota : ℕ
+  pub next_version : ℕ
+  pub next_upload : ℕ
+  pub next_entry : ℕ
+
+abbrev pub tenant_columns : TenantRow → Row
+tenant_columns x = Text x.tenant ∷ number x.quota ∷ number x.next_version ∷ number x.next_upload ∷ number x.next_entry ∷ []
+
+abbrev pub tenant_of : Row → TenantRow
+tenant_of r = record { tenant = bytes_of (column r 1); quota = number_of (column r 2); next_version = number_of (column r 3); next_upload = number_of (column r 4); next_entry = number_of (column r 5) }
+
+abbrev pub tenant_form : Form TenantRow
+tenant_form = record { encode = tenant_columns; decode = tenant_of; back = λ _ x. refl }
+
+-- ---- access keys
+
+pub record KeyRow : Type 0 where
+  pub tenant : Octets
+  pub name : Octets
+  pub secret : Octets
+
+abbrev pub key_columns : KeyRow → Row
+key_columns x = Text x.tenant ∷ Text x.name ∷ Text x.secret ∷ []
+
+abbrev pub key_of : Row → KeyRow
+key_of r = record { tenant = bytes_of (column r 1); name = bytes_of (column r 2); secret = bytes_of (column r 3) }
+
+abbrev pub key_form : Form KeyRow
+key_form = record { encode = key_columns; decode = key_of; back = λ _ x. refl }
+
+-- ---- buckets
+
+pub record BucketRow : Type 0 where
+  pub tenant : Octets
+  pub bucket : Octets
+  -- seconds since 1970
+  pub created : ℕ
+  -- 0, 1, 2: Unversioned, Enabled, Suspended
+  pub state : ℕ
+  -- after so many days an upload that was begun is stale, if the bucket has that rule
+  pub days : Option ℕ
+
+abbrev pub bucket_columns : BucketRow → Row
+bucket_columns x = Text x.tenant ∷ Text x.bucket ∷ number x.created ∷ number x.state ∷ or_null number x.days ∷ []
+
+abbrev pub bucket_of : Row → BucketRow
+bucket_of r = record { tenant = bytes_of (column r 1); bucket = bytes_of (column r 2); created = number_of (column r 3); state = number_of (column r 4); days = maybe_number (column r 5) }
+
+abbrev pub bucket_form : Form BucketRow
+bucket_form = record { encode = bucket_columns; decode = bucket_of; back = λ _ x. (λ i. record x { days = maybe_back x.days i }) }
+
+-- ---- versions and markers of a key, a later one having the greater seq
+
+pub record VersionRow : Type 0 where
+  pub tenant : Octets
+  pub seq : ℕ
+  pub bucket : Octets
+  pub okey : Octets
+  -- 0 is `null`
+  pub id : ℕ
+  -- 1 for a delete marker, 0 for a version
+  pub marker : ℕ
+  -- seconds since 1970
+  pub stamp : ℕ
+  -- bytes
+  pub size : ℕ
+  -- the column `sum`
+  pub checksum : Octets
+  pub bytes : Octets
+
+abbrev pub version_columns : VersionRow → Row
+version_columns x = Text x.tenant ∷ number x.seq ∷ Text x.bucket ∷ Blob x.okey ∷ number x.id ∷ number x.marker ∷ number x.stamp ∷ number x.size ∷ Text x.checksum ∷ Blob x.bytes ∷ []
+
+abbrev pub version_of : Row → VersionRow
+version_of r = record {
+  tenant = bytes_of (column r 1);
+  seq = number_of (column r 2);
+  bucket = bytes_of (column r 3);
+  okey = bytes_of (column r 4);
+  id = number_of (column r 5);
+  marker = number_of (column r 6);
+  stamp = number_of (column r 7);
+  size = number_of (column r 8);
+  checksum = bytes_of (column r 9);
+  bytes = bytes_of (column r 10);
+}
+
+abbrev pub version_form : Form VersionRow
+version_form = record { encode = version_columns; decode = version_of; back = λ _ x. refl }
+
+-- ---- all tables
+
+pub record Tables : Type 0 where
+  pub host : List HostRow
+  pub tenants : List TenantRow
+  pub keys : List KeyRow
+  pub buckets : List BucketRow
+  pub versions : List VersionRow
+
+abbrev pub no_rows : Tables
+no_rows = record { host = []; tenants = []; keys = []; buckets = []; versions = [] }
+
+-- the rows as they are stored
+pub record Raw : Type 0 where
+  pub host : List Row
+  pub tenants : List Row
+  pub keys : List Row
+  pub buckets : List Row
+  pub versions : List Row
+
+abbrev pub raw : Trees → Raw
+raw db = record { host = db 0; tenants = db 1; keys = db 3; buckets = db 5; versions = db 7 }
+
+abbrev pub tables_of : Raw → Tables
+tables_of r = record { host = typed host_form r.host; tenants = typed tenant_form r.tenants; keys = typed key_form r.keys; buckets = typed bucket_form r.buckets; versions = typed version_form r.versions }
+
+-- each stored row is the columns of a typed row
+pub record AreHeld (r : Raw) : Type 0 where
+  pub host : AreRows host_form r.host
+  pub tenants : AreRows tenant_form r.tenants
+  pub keys : AreRows key_form r.keys
+  pub buckets : AreRows bucket_form r.buckets
+  pub versions : AreRows version_form r.versions
+
+-- what a database has in its tables, and a state of the store in those of the database that it sees
+abbrev pub tables_in : Database → Tables
+tables_in db = tables_of (raw db.trees)
+
+abbrev pub tables : State → Tables
+tables s = tables_in s.now
+
+-- the database is a host's: it has the schema, and rows that are typed rows
+pub record IsHost (db : Database) : Type 0 where
+  pub schema : db.schema ≡ host_schema
+  pub held : AreHeld (raw db.trees)
+
+-- if the store returned what was written and the connection is open, the database is a host's
+abbrev pub IsReady : State → Type 0
+IsReady s = HasCleanDisk s → IsTrue s.is_open → IsHost s.now

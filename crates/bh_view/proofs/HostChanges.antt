@@ -1,0 +1,73 @@
+-- The row of `host`: the first of a new host, and a later stamp.
+use Rattle.std.proofs.Common.{◌≡◌, ℕ, ◌≤◌, [], ◌∷◌, map, None, refl, sym, ap, ◌∙◌, subst, arith, le_trans}
+use Rattle.std.specs.List.{AllByRecursion}
+use Rattle.sqlite_keyed.proofs.ListLemmas.{all_weaker}
+use Rattle.bh_types.specs.Limits.{AreLimits}
+use Rattle.bh_model.specs.State.{Octets}
+use Rattle.bh_model.specs.Runs.{last_reading}
+use Rattle.bh_tables.specs.Typed.{HostRow, Tables}
+use Rattle.bh_view.specs.View.{TenantRows, rows_of, view, latest_of, with_latest}
+use Rattle.bh_view.specs.Sound.{IsBucketRow, IsVersionRow, AreSound, IsSound}
+use Rattle.bh_view.specs.Becomes.{IsStamped}
+use Rattle.bh_view.specs.Laws.{new_host}
+use Rattle.bh_view.proofs.FilterLemmas.{none_some}
+use Rattle.bh_view.proofs.ViewLemmas.{view_is, same_view}
+
+-- the last stamp is that of the one row
+pub latest_is : (tables : Tables) (row : HostRow) → tables.host ≡ row ∷ [] → latest_of tables ≡ row.latest
+unfolding latest_of
+latest_is tables row alone = ap (λ rows. latest_of (record tables { host = rows })) alone
+
+-- rows that are sound at a stamp are so at a later one
+pub sound_later : (m n : ℕ) → m ≤ n → (rows : TenantRows) → AreSound m rows → AreSound n rows
+sound_later m n up rows all =
+    let buckets : AllByRecursion (IsBucketRow n) rows.buckets = all_weaker (IsBucketRow m) (IsBucketRow n) (λ r good. record { name = good.name; created = le_trans good.created up; state = good.state; days = good.days }) rows.buckets all.buckets.each in
+    let versions : AllByRecursion (IsVersionRow n) rows.versions = all_weaker (IsVersionRow m) (IsVersionRow n) (λ v good. record { key = good.key; text = good.text; marker = good.marker; bare = good.bare; stamp = le_trans good.stamp up; size = good.size }) rows.versions all.versions.each in
+    record {
+      tenants = all.tenants;
+      keys = all.keys;
+      buckets = record { each = buckets; one = all.buckets.one; owned = all.buckets.owned };
+      versions = record { each = versions; one_seq = all.versions.one_seq; one_id = all.versions.one_id; owned = all.versions.owned; unversioned = all.versions.unversioned; given = all.versions.given };
+    }
+
+-- a stamp that is not before the last one
+pub stamped : (old new : Tables) (n : ℕ) → IsSound old → latest_of old ≤ n → n ≤ last_reading → new ≡ with_latest n old → IsStamped n old new
+stamped old new n sound up top e =
+    let row = sound.host.row in
+    let alone : (with_latest n old).host ≡ record row { latest = n } ∷ [] = ap (map (λ (r : HostRow). record r { latest = n })) sound.host.alone in
+    let latest = latest_is (with_latest n old) (record row { latest = n }) alone in
+    subst (IsStamped n old) (sym e) (record {
+      latest = latest;
+      views = λ u. same_view u old (with_latest n old) refl;
+      sound = record {
+        host = record { row = record row { latest = n }; alone = alone; good = record { version = sound.host.good.version; latest = top; limits = sound.host.good.limits } };
+        tenants = λ t. subst (λ m. AreSound m (rows_of t old)) (sym latest) (sound_later (latest_of old) n up (rows_of t old) (sound.tenants t));
+      };
+    })
+
+-- to write the last stamp again changes nothing
+pub stamped_again : (tables : Tables) → IsSound tables → with_latest (latest_of tables) tables ≡ tables
+stamped_again tables sound =
+    let row = sound.host.row in
+    let alone = sound.host.alone in
+    let rows : map (λ (r : HostRow). record r { latest = latest_of tables }) tables.host ≡ tables.host =
+    ap (map (λ (r : HostRow). record r { latest = latest_of tables })) alone ∙ ap (λ n. record row { latest = n } ∷ []) (latest_is tables row alone) ∙ sym alone in
+    ap (λ l. record tables { host = l }) rows
+
+-- a new host: no tenant is there
+pub created : (tables : Tables) (min_part max_body : ℕ) → AreLimits min_part max_body → tables ≡ new_host min_part max_body → IsSound tables × (latest_of tables ≡ 0) × ((t : Octets) → view tables t ≡ None)
+created tables min_part max_body limits e =
+    let row : HostRow = record { version = 0; latest = 0; min_part = min_part; max_body = max_body } in
+    subst (λ (x : Tables). IsSound x × (latest_of x ≡ 0) × ((t : Octets) → view x t ≡ None)) (sym e) (
+      record {
+        host = record { row = row; alone = refl; good = record { version = refl; latest = omega arith; limits = limits } };
+        tenants = λ t. record {
+          tenants = record { each = tt; one = omega arith };
+          keys = record { each = tt; one = λ q. omega arith; owned = λ gone. refl };
+          buckets = record { each = tt; one = λ q. omega arith; owned = λ gone. refl };
+          versions = record { each = tt; one_seq = λ q. omega arith; one_id = λ b k q. omega arith; owned = λ q gone. refl; unversioned = λ b r none. absurd (none_some none); given = tt };
+        };
+      },
+      latest_is (new_host min_part max_body) row refl,
+      λ t. view_is (new_host min_part max_body) t,
+    )

@@ -1,0 +1,137 @@
+-- Rows of `versions` added or taken out: the entries of a key with one more in front, or without those of one id.
+use Rattle.std.proofs.Common.{◌≡◌, ◌≢◌, ℕ, zero, suc, ◌<◌, Bool, true, false, not, ◌&&◌, List, [], ◌∷◌, ◌++◌, Some, None, filter, refl, sym, ap, ◌∙◌, subst, arith}
+use Rattle.std.specs.Bool.{one_answer}
+use Rattle.std.specs.Cmp.{unsigned_Decides}
+use Rattle.std.specs.List.{AllByRecursion}
+use Rattle.std.specs.FinMap.{get, insert}
+use Rattle.std.proofs.lemmas.Bool.{and_parts}
+use Rattle.sqlite_keyed.specs.Lists.{delete_where}
+use Rattle.sqlite_keyed.proofs.ListLemmas.{all_weaker, all_both, all-filter, filter_none}
+use Rattle.sqlite_typed.specs.Tests.{bytes_eq}
+use Rattle.bh_types.specs.declared.plain.BucketState.TheVariants.{Unversioned}
+use Rattle.bh_model.specs.State.{Octets, Bucket, State}
+use Rattle.bh_model.specs.Entries.{same_id, has_id, without}
+use Rattle.bh_model.specs.Operations.{with_bucket, with_entries, listed}
+use Rattle.bh_tables.specs.Typed.{TenantRow, BucketRow, VersionRow, Tables}
+use Rattle.bh_tables.specs.Shown.{is_version}
+use Rattle.bh_view.specs.Grouped.{first, same_number, matching, HasUnique}
+use Rattle.bh_view.specs.View.{at_key, named, rows_of, id_of, mode_of, entry_of, buckets_of, view, latest_of, in_bucket}
+use Rattle.bh_view.specs.Sound.{IsVersionRow, IsBelow, AreVersions, IsSound}
+use Rattle.bh_view.specs.Becomes.{Becomes}
+use Rattle.bh_view.proofs.Keys.{octets, numbers}
+use Rattle.bh_view.proofs.FilterLemmas.{none_some, same_Some, push_here, push_other, filter_swap, filter_both}
+use Rattle.bh_view.proofs.GroupedLemmas.{is_other}
+use Rattle.bh_view.proofs.FactLemmas.{all_pushed, unique_pushed, unique_deleted, refers_pushed, refers_deleted}
+use Rattle.bh_view.proofs.ObjectLemmas.{latest_of_seq}
+use Rattle.bh_view.proofs.OwnLemmas.{rows_at, others_pushed, others_deleted, mine_pushed, mine_deleted, within_own}
+use Rattle.bh_view.proofs.ViewLemmas.{view_is, own_row, own_rows, becomes, buckets_shown}
+use Rattle.bh_view.proofs.BucketLemmas.{bucket_row, version_pushed, versions_deleted}
+
+abbrev own : VersionRow → Octets
+own v = v.tenant
+
+abbrev pub at_id : ℕ → List VersionRow → List VersionRow
+at_id = matching same_number (λ v. v.id)
+
+-- the test of an id in a row is that of the entry's id
+pub same_ids : (m n : ℕ) → same_number m n ≡ same_id (id_of m) (id_of n)
+same_ids zero zero = refl
+same_ids zero (suc n) = is_other numbers zero (suc n) (λ e. absurd (omega (arith, e)))
+same_ids (suc m) zero = is_other numbers (suc m) zero (λ e. absurd (omega (arith, e)))
+same_ids (suc m) (suc n) = one_answer _ _ (numbers.decides (suc m) (suc n)) (unsigned_Decides (suc m) (suc n))
+
+-- the rows of one id, by one test or by four
+pub one_version : (t b k : Octets) (n : ℕ) (versions : List VersionRow) → at_id n (at_key k (in_bucket b (rows_at own t versions))) ≡ filter (is_version t b k n) versions
+one_version t b k n versions =
+    filter_both (λ v. bytes_eq v.okey k) (λ v. same_number v.id n) (in_bucket b (rows_at own t versions))
+    ∙ filter_both (λ v. bytes_eq v.bucket b) (λ v. bytes_eq v.okey k && same_number v.id n) (rows_at own t versions)
+    ∙ filter_both (λ v. bytes_eq v.tenant t) (λ v. bytes_eq v.bucket b && (bytes_eq v.okey k && same_number v.id n)) versions
+
+-- ---- sound rows stay sound
+
+module _ (latest : ℕ) (tenants : List TenantRow) (buckets : List BucketRow) (versions : List VersionRow) (all : AreVersions latest tenants buckets versions) where
+  versions_left : (test : VersionRow → Bool) → AreVersions latest tenants buckets (delete_where test versions)
+  versions_left test = record {
+    each = all-filter _ _ versions all.each;
+    one_seq = unique_deleted numbers (λ (v : VersionRow). v.seq) versions test all.one_seq;
+    one_id = λ b k. subst (HasUnique same_number (λ (v : VersionRow). v.id)) (sym (ap (at_key k) (filter_swap (λ v. bytes_eq v.bucket b) (λ v. not (test v)) versions) ∙ filter_swap (λ v. bytes_eq v.okey k) (λ v. not (test v)) (in_bucket b versions)))
+        (unique_deleted numbers (λ (v : VersionRow). v.id) (at_key k (in_bucket b versions)) test (all.one_id b k));
+    owned = refers_deleted octets (λ (r : BucketRow). r.bucket) (λ (v : VersionRow). v.bucket) buckets versions test all.owned;
+    unversioned = λ b r there none. subst (AllByRecursion (λ (v : VersionRow). v.id ≡ 0)) (sym (filter_swap (λ v. bytes_eq v.bucket b) (λ v. not (test v)) versions)) (all-filter _ _ _ (all.unversioned b r there none));
+    given = all_weaker _ _ (λ r below. all-filter (λ v. IsBelow v r) _ versions below) tenants all.given;
+  }
+
+  -- in another key, or in this one with an id that no row of it has
+  one_id_more : (v : VersionRow) → at_id v.id (at_key v.okey (in_bucket v.bucket versions)) ≡ [] → (b k : Octets) → HasUnique same_number (λ (v : VersionRow). v.id) (at_key k (in_bucket b (versions ++ v ∷ [])))
+  one_id_more v fresh b k = elim (bytes_eq v.bucket b) as (λ h. bytes_eq v.bucket b ≡ h → HasUnique same_number (λ (v : VersionRow). v.id) (at_key k (in_bucket b (versions ++ v ∷ [])))) [
+    | true ↦ λ here. subst (λ l. HasUnique same_number (λ (v : VersionRow). v.id) (at_key k l)) (sym (push_here (λ x. bytes_eq x.bucket b) versions v here)) (elim (bytes_eq v.okey k) as (λ h. bytes_eq v.okey k ≡ h → HasUnique same_number (λ (v : VersionRow). v.id) (at_key k (in_bucket b versions ++ v ∷ []))) [
+      | true ↦ λ same. subst (HasUnique same_number (λ (v : VersionRow). v.id)) (sym (push_here (λ x. bytes_eq x.okey k) (in_bucket b versions) v same))
+          (unique_pushed numbers (λ (v : VersionRow). v.id) (at_key k (in_bucket b versions)) v (all.one_id b k)
+          (subst (λ z. at_id v.id (at_key k (in_bucket z versions)) ≡ []) ((octets.decides v.bucket b).0 here) (subst (λ z. at_id v.id (at_key z (in_bucket v.bucket versions)) ≡ []) ((octets.decides v.okey k).0 same) fresh)))
+      | false ↦ λ apart. subst (HasUnique same_number (λ (v : VersionRow). v.id)) (sym (push_other (λ x. bytes_eq x.okey k) (in_bucket b versions) v apart)) (all.one_id b k)
+    ] refl)
+    | false ↦ λ apart. subst (λ l. HasUnique same_number (λ (v : VersionRow). v.id) (at_key k l)) (sym (push_other (λ x. bytes_eq x.bucket b) versions v apart)) (all.one_id b k)
+  ] refl
+
+  unversioned_more : (v : VersionRow) → ((r : BucketRow) → first (named v.bucket buckets) ≡ Some r → mode_of r.state ≡ Unversioned → v.id ≡ 0)
+      → (b : Octets) (r : BucketRow) → first (named b buckets) ≡ Some r → mode_of r.state ≡ Unversioned → AllByRecursion (λ (v : VersionRow). v.id ≡ 0) (in_bucket b (versions ++ v ∷ []))
+  unversioned_more v plain b r there none = elim (bytes_eq v.bucket b) as (λ h. bytes_eq v.bucket b ≡ h → AllByRecursion (λ (v : VersionRow). v.id ≡ 0) (in_bucket b (versions ++ v ∷ []))) [
+    | true ↦ λ here. subst (AllByRecursion (λ (v : VersionRow). v.id ≡ 0)) (sym (push_here (λ x. bytes_eq x.bucket b) versions v here))
+        (all_pushed _ _ v (all.unversioned b r there none) (plain r (ap (λ z. first (named z buckets)) ((octets.decides v.bucket b).0 here) ∙ there) none))
+    | false ↦ λ apart. subst (AllByRecursion (λ (v : VersionRow). v.id ≡ 0)) (sym (push_other (λ x. bytes_eq x.bucket b) versions v apart)) (all.unversioned b r there none)
+  ] refl
+
+  versions_more : (v : VersionRow) → IsVersionRow latest v → AllByRecursion (λ x. x.seq < v.seq) versions → at_id v.id (at_key v.okey (in_bucket v.bucket versions)) ≡ []
+      → (first (named v.bucket buckets) ≡ None → ⊥) → ((r : BucketRow) → first (named v.bucket buckets) ≡ Some r → mode_of r.state ≡ Unversioned → v.id ≡ 0) → AllByRecursion (IsBelow v) tenants → AreVersions latest tenants buckets (versions ++ v ∷ [])
+  versions_more v good older fresh has plain below = record {
+    each = all_pushed _ versions v all.each good;
+    one_seq = unique_pushed numbers (λ (v : VersionRow). v.seq) versions v all.one_seq (filter_none _ versions (all_weaker _ (λ x. same_number x.seq v.seq ≡ false) (λ x less. is_other numbers x.seq v.seq (λ e. absurd (omega (arith, less, e)))) versions older));
+    one_id = one_id_more v fresh;
+    owned = refers_pushed octets (λ (r : BucketRow). r.bucket) (λ (v : VersionRow). v.bucket) buckets versions v all.owned has;
+    unversioned = unversioned_more v plain;
+    given = all_both _ (IsBelow v) _ (λ r before it. all_pushed (λ x. IsBelow x r) versions v before it) tenants all.given below;
+  }
+
+-- ---- the statements
+
+module _ (old new : Tables) (t : Octets) (s : State) (sound : IsSound old) (is : view old t ≡ Some s) where
+  -- the versions of one tenant's bucket change
+  versions_become : (b : Octets) (B : Bucket) (versions mine : List VersionRow) → ((u : Octets) → u ≢ t → rows_at own u versions ≡ rows_at own u old.versions) → rows_at own t versions ≡ mine
+      → buckets_of (record (rows_of t old) { versions = mine }) ≡ insert (buckets_of (rows_of t old)) b B → AreVersions (latest_of old) (rows_of t old).tenants (rows_of t old).buckets mine
+      → new ≡ record old { versions = versions } → Becomes t (Some (with_bucket b B s)) old new
+  versions_become b B versions mine others here shows good e =
+      let all = sound.tenants t in
+      let after : Tables = record old { versions = versions } in
+      subst (Becomes t (Some (with_bucket b B s)) old) (sym e)
+      (becomes t _ old after sound refl (λ u apart i. record (rows_of u old) { versions = others u apart i })
+      (buckets_shown (rows_of t old) s (sym (view_is old t) ∙ is) (rows_of t after) (λ m. insert m b B) refl refl (ap (λ l. buckets_of (record (rows_of t old) { versions = l })) here ∙ shows))
+      (record { tenants = all.tenants; keys = all.keys; buckets = all.buckets; versions = subst (AreVersions (latest_of old) (rows_of t old).tenants (rows_of t old).buckets) (sym here) good }))
+
+  -- the rows of one id of a key taken out
+  pub version_removed : (b k : Octets) (n : ℕ) (B : Bucket) → get s.buckets b ≡ Some B → new ≡ record old { versions = delete_where (is_version t b k n) old.versions }
+      → Becomes t (Some (with_bucket b (with_entries k (without (id_of n) (listed k B)) B) s)) old new
+  version_removed b k n B at =
+      let mine = rows_of t old in
+      let test = λ (v : VersionRow). bytes_eq v.bucket b && (bytes_eq v.okey k && same_number v.id n) in
+      versions_become b _ _ (delete_where test mine.versions)
+      (others_deleted own t (is_version t b k n) (λ v h. within_own own t v (and_parts _ _ h).0) old.versions)
+      (mine_deleted own t test old.versions)
+      (ap (λ l. buckets_of (record mine { versions = l })) (λ i. delete_where (λ v. bytes_eq v.bucket b && (bytes_eq v.okey k && same_ids v.id n i)) mine.versions)
+      ∙ versions_deleted mine b k (has_id (id_of n)) B (ap (λ (x : State). get x.buckets b) (own_row old t s is).2 ∙ at))
+      (versions_left (latest_of old) mine.tenants mine.buckets mine.versions (sound.tenants t).versions test)
+
+pub version_added : (old new : Tables) (s : State) (v : VersionRow) (B : Bucket) → IsSound old → view old v.tenant ≡ Some s → get s.buckets v.bucket ≡ Some B
+    → IsVersionRow (latest_of old) v → v.seq < s.next_entry → v.id < s.next_version → AllByRecursion (λ x. x.seq < v.seq) (rows_of v.tenant old).versions → filter (is_version v.tenant v.bucket v.okey v.id) old.versions ≡ [] → (B.mode ≡ Unversioned → v.id ≡ 0)
+    → new ≡ record old { versions = old.versions ++ v ∷ [] } → Becomes v.tenant (Some (with_bucket v.bucket (with_entries v.okey (entry_of v ∷ listed v.okey B) B) s)) old new
+version_added old new s v B sound is at good entry version older fresh plain =
+    let t = v.tenant in
+    let mine = rows_of t old in
+    let row = own_row old t s is in
+    let here = ap (λ (x : State). get x.buckets v.bucket) row.2 ∙ at in
+    let bucket = bucket_row mine v.bucket B here in
+    versions_become old new t s sound is v.bucket _ _ (mine.versions ++ v ∷ [])
+    (others_pushed own old.versions v) (mine_pushed own old.versions v)
+    (version_pushed mine v B here (all_weaker _ _ (λ x less. latest_of_seq v x less) mine.versions older))
+    (versions_more (latest_of old) mine.tenants mine.buckets mine.versions (sound.tenants t).versions v good older (one_version t v.bucket v.okey v.id old.versions ∙ fresh) (λ none. none_some (sym none ∙ bucket.1))
+    (λ r there none. plain (sym (ap (λ (x : Bucket). x.mode) bucket.2) ∙ ap (λ (x : BucketRow). mode_of x.state) (same_Some (sym bucket.1 ∙ there)) ∙ none))
+    (subst (AllByRecursion (IsBelow v)) (sym (own_rows old t s sound is)) (record { seq = subst (λ (x : State). v.seq < x.next_entry) (sym row.2) entry; id = subst (λ (x : State). v.id < x.next_version) (sym row.2) version }, tt)))

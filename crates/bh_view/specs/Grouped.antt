@@ -1,0 +1,43 @@
+-- Finite maps that are made of the rows of a table.
+use Rattle.std.specs.Prelude.{◌≡◌, ◌≤◌, ℕ, Bool, List, [], ◌∷◌, length, Option, Some, None, option_map, pos, Decides}
+use Rattle.std.specs.List.{filter}
+use Rattle.std.specs.declared.cmp.Ordering.{Ordering}
+use Rattle.std.specs.Cmp.{IsTotalOrder}
+use Rattle.std.specs.Ordering.{int_eq}
+use Rattle.std.specs.FinMap.{FinMap, IsAntisymmetric}
+use Rattle.bh_model.specs.FinMaps.{tabulate}
+
+-- SQL's `=` at numbers
+abbrev pub same_number : ℕ → ℕ → Bool
+same_number a b = int_eq (pos a) (pos b)
+
+abbrev pub first : {X : Type 0} → List X → Option X
+first [] = None
+first (x ∷ xs) = Some x
+
+-- a kind of key: an order of the maps, a test of the tables, and that both know only equal keys as the same
+pub record IsKey {K : Type 0} (R : K → K → Ordering) (is : K → K → Bool) : Type 0 where
+  pub total : IsTotalOrder R
+  pub same : IsAntisymmetric R
+  pub decides : (x y : K) → Decides (is x y) (x ≡ y)
+
+-- the rows at a key
+abbrev pub matching : {K T : Type 0} → (K → K → Bool) → (T → K) → K → List T → List T
+matching is key k = filter (λ r. is (key r) k)
+
+-- no two rows have one key
+abbrev pub HasUnique : {K T : Type 0} → (K → K → Bool) → (T → K) → List T → Type 0
+HasUnique {K} is key rows = (k : K) → length (matching is key k rows) ≤ 1
+
+-- where no row of a table has a key, no row of another table names it
+abbrev pub Refers : {K T U : Type 0} → (K → K → Bool) → (T → K) → List T → (U → K) → List U → Type 0
+Refers {K} is parent parents child children = (k : K) → first (matching is parent k parents) ≡ None → matching is child k children ≡ []
+
+module _ {K X : Type 0} (R : K → K → Ordering) where
+  -- at each key what `build` makes of the key and its rows
+  unfoldable pub grouped : {T : Type 0} → (K → K → Bool) → (T → K) → (K → List T → Option X) → List T → FinMap R X
+  grouped is key build rows = tabulate R key (λ k. build k (matching is key k rows)) rows
+
+  -- of a table in which no two rows have one key
+  abbrev pub keyed : {T : Type 0} → (K → K → Bool) → (T → K) → (K → T → X) → List T → FinMap R X
+  keyed is key value = grouped is key (λ k rows. option_map (value k) (first rows))

@@ -1,0 +1,6 @@
+pub mod Grouped
+pub mod View
+pub mod Sound
+pub mod Becomes
+pub mod Put
+pub mod Laws

@@ -1,0 +1,111 @@
+-- One tenant's rows in the tables, and the state of the private machine that they show.
+use Rattle.std.specs.Prelude.{ℕ, zero, suc, pos, List, map, Option, option_map}
+use Rattle.std.specs.Option.{option_map_or}
+use Rattle.std.specs.Ordering.{int_cmp}
+use Rattle.std.specs.declared.cmp.Ordering.{Ordering}
+use Rattle.std.specs.FinMap.{FinMap, empty}
+use Rattle.sqlite_keyed.specs.Lists.{sort_by}
+use Rattle.sqlite_typed.specs.Tests.{bytes_eq}
+use Rattle.bh_types.specs.declared.id.VersionId.{VersionId}
+use Rattle.bh_types.specs.declared.id.VersionId.TheVariants.{Null, Numbered}
+use Rattle.bh_types.specs.declared.plain.BucketState.{BucketState}
+use Rattle.bh_types.specs.declared.plain.BucketState.TheVariants.{Unversioned, Enabled, Suspended}
+use Rattle.bh_model.specs.State.{Octets, octets_cmp, Content, Content.Marker, Content.Body, Entry, Bucket, State}
+use Rattle.bh_tables.specs.Typed.{HostRow, TenantRow, KeyRow, BucketRow, VersionRow, Tables}
+use Rattle.bh_model.specs.FinMaps.{non_empty}
+use Rattle.bh_view.specs.Grouped.{first, matching, grouped, keyed}
+
+-- the greatest stamp so far, in seconds since 1970
+unfoldable pub latest_of : Tables → ℕ
+latest_of tables = option_map_or (λ (r : HostRow). r.latest) (first tables.host) 0
+
+-- the tables with this stamp as the last one
+abbrev pub with_latest : ℕ → Tables → Tables
+with_latest n tables = record tables { host = map (λ (r : HostRow). record r { latest = n }) tables.host }
+
+-- one tenant's rows of each table; `tenants` has its own row, or none
+pub record TenantRows : Type 0 where
+  pub tenants : List TenantRow
+  pub keys : List KeyRow
+  pub buckets : List BucketRow
+  pub versions : List VersionRow
+
+abbrev pub rows_of : Octets → Tables → TenantRows
+rows_of t tables = record {
+  tenants = matching bytes_eq (λ (r : TenantRow). r.tenant) t tables.tenants;
+  keys = matching bytes_eq (λ (r : KeyRow). r.tenant) t tables.keys;
+  buckets = matching bytes_eq (λ (r : BucketRow). r.tenant) t tables.buckets;
+  versions = matching bytes_eq (λ (r : VersionRow). r.tenant) t tables.versions;
+}
+
+abbrev pub named : Octets → List BucketRow → List BucketRow
+named = matching bytes_eq (λ r. r.bucket)
+
+abbrev pub in_bucket : Octets → List VersionRow → List VersionRow
+in_bucket = matching bytes_eq (λ v. v.bucket)
+
+abbrev pub at_key : Octets → List VersionRow → List VersionRow
+at_key = matching bytes_eq (λ v. v.okey)
+
+-- ---- what a row shows
+
+abbrev pub id_of : ℕ → VersionId
+id_of zero = Null
+id_of (suc n) = Numbered (suc n)
+
+abbrev pub mode_of : ℕ → BucketState
+mode_of zero = Unversioned
+mode_of (suc zero) = Enabled
+mode_of (suc (suc n)) = Suspended
+
+abbrev pub content_of : ℕ → VersionRow → Content
+content_of zero r = Body r.bytes r.checksum
+content_of (suc n) r = Marker
+
+abbrev pub entry_of : VersionRow → Entry
+entry_of r = record { id = id_of r.id; moment = r.stamp; content = content_of r.marker r }
+
+-- the greatest `seq` first
+abbrev pub newer : VersionRow → VersionRow → Ordering
+newer a b = int_cmp (pos b.seq) (pos a.seq)
+
+abbrev pub entries_of : List VersionRow → List Entry
+entries_of rows = map entry_of (sort_by newer rows)
+
+-- ---- the maps of a state
+
+abbrev pub keys_of : List KeyRow → FinMap octets_cmp Octets
+keys_of = keyed octets_cmp bytes_eq (λ (r : KeyRow). r.name) (λ _ r. r.secret)
+
+abbrev pub objects_of : List VersionRow → FinMap octets_cmp (List Entry)
+objects_of = grouped octets_cmp bytes_eq (λ (r : VersionRow). r.okey) (λ _ rows. non_empty (entries_of rows))
+
+-- no table has uploads
+abbrev pub bucket_shown : TenantRows → Octets → BucketRow → Bucket
+bucket_shown rows name r = record {
+  created = r.created;
+  mode = mode_of r.state;
+  days = r.days;
+  objects = objects_of (in_bucket name rows.versions);
+  uploads = empty;
+}
+
+abbrev pub buckets_of : TenantRows → FinMap octets_cmp Bucket
+buckets_of rows = keyed octets_cmp bytes_eq (λ (r : BucketRow). r.bucket) (bucket_shown rows) rows.buckets
+
+abbrev pub state_of : TenantRows → TenantRow → State
+state_of rows r = record {
+  quota = r.quota;
+  keys = keys_of rows.keys;
+  next_version = r.next_version;
+  next_upload = r.next_upload;
+  next_entry = r.next_entry;
+  buckets = buckets_of rows;
+}
+
+abbrev pub state_shown : TenantRows → Option State
+state_shown rows = option_map (state_of rows) (first rows.tenants)
+
+-- the state of the tenant of this name, or none where no tenant has it
+unfoldable pub view : Tables → Octets → Option State
+view tables t = state_shown (rows_of t tables)
