@@ -41,8 +41,8 @@ abbrev pub key_add_in : Data → Option Order
 key_add_in d =
     if has_members 5 d
     then option_and_then
-        (λ tenant. option_and_then (λ name. option_map (AddKey tenant name) (text_at (codes "secret") d)) (text_at (codes "name") d))
-        (text_at (codes "tenant") d)
+    (λ tenant. option_and_then (λ name. option_map (AddKey tenant name) (text_at (codes "secret") d)) (text_at (codes "name") d))
+    (text_at (codes "tenant") d)
     else None
 
 -- {"at":n,"name":k,"op":"key-remove","tenant":t}

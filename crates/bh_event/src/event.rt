@@ -6,7 +6,10 @@ ghost use Rattle.bh_event.specs.Events.{arrival};
 #[derive(Drop)]
 pub enum Command {
     /// A tenant with a quota in bytes.
-    TenantAdd { tenant: String, quota: u64 },
+    TenantAdd {
+        tenant: String,
+        quota: u64,
+    },
     /// An access key of a tenant.
     KeyAdd {
         tenant: String,
@@ -14,7 +17,10 @@ pub enum Command {
         secret: String,
     },
     /// An access key of a tenant goes.
-    KeyRemove { tenant: String, name: String },
+    KeyRemove {
+        tenant: String,
+        name: String,
+    },
 }
 
 /// What comes to a host, with the clock's reading in seconds since 1970.

@@ -3,6 +3,5 @@
 
 pub mod event;
 pub mod line;
-
 #[cfg(test)]
 mod tests;

@@ -19,17 +19,21 @@ fn a_request_is_the_bytes_of_its_text_or_digits(rt: HostRuntime) {
 
 #[test]
 fn a_command_has_its_members(rt: HostRuntime) {
-    let line = "{\"at\":0,\"op\":\"key-add\",\"tenant\":\"green\",\"name\":\"k1\",\"secret\":\"greensecret\"}";
+    let line =
+        "{\"at\":0,\"op\":\"key-add\",\"tenant\":\"green\",\"name\":\"k1\",\"secret\":\"greensecret\"}";
     match read_line(rt.alloc(), line.as_bytes()) {
-        Ok(Some(Event::Operator {
-            reading,
-            command:
-                Command::KeyAdd {
-                    tenant,
-                    name,
-                    secret,
+        Ok(
+            Some(
+                Event::Operator {
+                    reading,
+                    command: Command::KeyAdd {
+                        tenant,
+                        name,
+                        secret,
+                    },
                 },
-        })) => {
+            ),
+        ) => {
             assert_eq!(rt; reading, 0);
             assert_eq!(rt; tenant.as_str(), "green");
             assert_eq!(rt; name.as_str(), "k1");

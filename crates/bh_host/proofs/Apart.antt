@@ -1,12 +1,11 @@
 -- A reply to an event with a stamp is none of the fixed ones.
-use Rattle.std.proofs.Common.{◌≡◌, ◌≢◌, ℕ, Bool, true, false, List, get_or, Option, Some, None, Ok, Err, Result, refl, sym, ◌∙◌, ap, subst, IfErr, inl, inr}
-use Rattle.std.specs.Prelude.{◌&&◌, ◌||◌, ◌==◌, ok_or, if◌then◌else◌, IsTrue}
+use Rattle.std.proofs.Common.{◌≡◌, Bool, true, false, get_or, refl}
+use Rattle.std.specs.Prelude.{◌&&◌, ◌||◌, ◌==◌}
 use Rattle.std.specs.Fmt.{digits}
-use Rattle.std.proofs.lemmas.Bool.{cases_Bool}
 use Rattle.bh_http.specs.Answers.{refused}
 use Rattle.bh_http.specs.Responses.{response_text, refusal_text}
 use Rattle.bh_model.specs.Operations.{Answer, Done, Stored, Object}
-use Rattle.bh_model.specs.State.{Octets, State}
+use Rattle.bh_model.specs.State.{Octets}
 use Rattle.bh_types.specs.declared.refusal.Refusal.{Refusal}
 use Rattle.bh_types.specs.declared.refusal.Refusal.TheVariants.{BadRequest, NotImplemented, MissingContentLength, EntityTooLarge, AccessDenied, InvalidAccessKeyId, InvalidUri, InvalidBucketName, KeyTooLong, InvalidArgument, MalformedJson, NoSuchBucket, NoSuchKey, NoSuchVersion, NoSuchUpload, MethodNotAllowed, BucketAlreadyOwnedByYou, BucketNotEmpty, InvalidBucketState, NoSuchLifecycleConfiguration, InvalidPart, InvalidPartOrder, EntityTooSmall, QuotaExceeded, InvalidRange, BadDigest, IncompleteBody, InvalidRequest, CounterExhausted, ClockOutOfRange, ServiceUnavailable, TenantExists, NoSuchTenant, KeyExists, NoSuchKeyName, InvalidName, InvalidQuota, NotAHostFile, Unavailable}
 use Rattle.bh_host.specs.Replies.{response_to}

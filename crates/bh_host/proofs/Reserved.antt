@@ -1,6 +1,6 @@
 -- No step refuses with one of the refusals whose texts are fixed.
-use Rattle.std.proofs.Common.{◌≡◌, ◌≢◌, ℕ, Bool, true, false, List, Option, Some, None, Ok, Err, Result, refl, sym, ◌∙◌, ap, subst, rules, IfErr, inl, inr}
-use Rattle.std.specs.Prelude.{ok_or, bytes_eq, codes, if◌then◌else◌, nat_le, length, [], ◌∷◌, ◌&&◌, ◌==◌, ◌^◌, not, is_none, is_some}
+use Rattle.std.proofs.Common.{◌≡◌, ℕ, Bool, true, false, List, Option, Some, None, Ok, Err, Result, refl, sym, subst, IfErr, inl, inr}
+use Rattle.std.specs.Prelude.{ok_or, bytes_eq, codes, nat_le, length, [], ◌∷◌, ◌&&◌, ◌==◌, ◌^◌, not, is_none, is_some}
 use Rattle.std.specs.FinMap.{get}
 use Rattle.bh_types.specs.Names.{is_tenant_name, is_key_name, is_secret}
 use Rattle.std.specs.Str.Parse.{digits_value}
@@ -15,10 +15,10 @@ use Rattle.bh_http.specs.Views.{Taken, Parts}
 use Rattle.bh_model.specs.declared.entries.LookupFault.{LookupFault}
 use Rattle.bh_model.specs.Counting.{counts, can_number, after_entry}
 use Rattle.bh_model.specs.Credentials.{authenticate, key_name_of, secret_of}
-use Rattle.bh_model.specs.Entries.{Version, lookup, opened}
-use Rattle.bh_model.specs.Operations.{Outcome, added_tenant, tenant_bucket, listed, shown, unmarked, get_object}
+use Rattle.bh_model.specs.Entries.{lookup, opened}
+use Rattle.bh_model.specs.Operations.{added_tenant, tenant_bucket, listed, unmarked, get_object}
 use Rattle.bh_model.specs.Runs.{settled, purged_tenant}
-use Rattle.bh_model.specs.State.{Octets, Content, Content.Marker, Content.Body, Entry, Bucket, State}
+use Rattle.bh_model.specs.State.{Octets, Content, Content.Marker, Content.Body, Entry, State}
 use Rattle.bh_model.specs.Steps.{◌>>=◌, require}
 use Rattle.bh_types.specs.Counts.{Counts}
 use Rattle.bh_types.specs.Limits.{HostLimits}
@@ -26,8 +26,7 @@ use Rattle.bh_types.specs.declared.plain.BucketState.{BucketState}
 use Rattle.bh_types.specs.declared.plain.Wanted.TheVariants.{Current}
 use Rattle.bh_types.specs.declared.refusal.Refusal.{Refusal}
 use Rattle.bh_types.specs.declared.refusal.Refusal.TheVariants.{AccessDenied, InvalidAccessKeyId, NoSuchBucket, NoSuchKey, NoSuchTenant, BucketAlreadyOwnedByYou, InvalidName, InvalidQuota, TenantExists, KeyExists, NoSuchKeyName}
-use Rattle.bh_storage.specs.Calls.{get_current}
-use Rattle.bh_host.specs.Machine.{Act, Asked, Told, Acted, operated, requested, asked, ordered, change, step}
+use Rattle.bh_host.specs.Machine.{Act, Acted, operated, requested, asked, ordered, change, step}
 use Rattle.bh_host.proofs.Apart.{is_reserved}
 
 abbrev pub Free : {X : Type 0} → Result X Refusal → Type 0
@@ -50,8 +49,8 @@ ok_or_free (Some x) refusal free = tt
 authentic_free : (id secret : Octets) (s : Option State) → Free (authenticate id secret s)
 authentic_free id secret s =
     then_free (ok_or (key_name_of id) InvalidAccessKeyId) _ (ok_or_free (key_name_of id) InvalidAccessKeyId refl)
-        (λ name. then_free (ok_or (secret_of name s) InvalidAccessKeyId) _ (ok_or_free (secret_of name s) InvalidAccessKeyId refl)
-        (λ known. require_free (bytes_eq secret known) AccessDenied refl))
+    (λ name. then_free (ok_or (secret_of name s) InvalidAccessKeyId) _ (ok_or_free (secret_of name s) InvalidAccessKeyId refl)
+    (λ known. require_free (bytes_eq secret known) AccessDenied refl))
 
 numbers_free : (mode : BucketState) (c : Counts) → Free (after_entry mode c)
 numbers_free mode c = elim (cases_Bool (can_number mode c)) [ inl yet ↦ rw yet tt | inr over ↦ rw over refl ]
@@ -93,7 +92,7 @@ unmarked_free (Err e) free = free
 got_free : (bucket key : Octets) (s : Option State) → IfErr (get_object bucket key Current s) fault_free
 got_free bucket key s =
     fault_then (result_map_both (λ f. f) unmarked (tenant_bucket bucket s)) _ (unmarked_free (tenant_bucket bucket s) (ok_or_free _ NoSuchBucket refl))
-        (λ f. fault_then (lookup Current (listed key f.1)) _ (current_free (listed key f.1)) (λ v. tt))
+    (λ f. fault_then (lookup Current (listed key f.1)) _ (current_free (listed key f.1)) (λ v. tt))
 
 plain_free : {X : Type 0} (r : Result X LookupFault) → IfErr r fault_free → Free (result_map_both (λ (o : X). o) (λ fault. fault.refusal) r)
 plain_free (Ok x) h = tt
@@ -102,18 +101,18 @@ plain_free (Err e) h = h
 operated_free : (now : ℕ) (body : Octets) (operation : Operation) (s : Option State) → Free (operated now body operation s)
 operated_free now body (CreateBucket bucket) s =
     then_free (added_tenant s) _ (ok_or_free s NoSuchTenant refl)
-        (λ t. then_free (require (is_none (get t.buckets bucket)) BucketAlreadyOwnedByYou) _ (require_free (is_none (get t.buckets bucket)) BucketAlreadyOwnedByYou refl) (λ _. tt))
+    (λ t. then_free (require (is_none (get t.buckets bucket)) BucketAlreadyOwnedByYou) _ (require_free (is_none (get t.buckets bucket)) BucketAlreadyOwnedByYou refl) (λ _. tt))
 operated_free now body (PutObject bucket key) s =
     then_free (tenant_bucket bucket s) _ (ok_or_free _ NoSuchBucket refl)
-        (λ f. then_free (after_entry f.1.mode (counts f.0)) _ (numbers_free f.1.mode (counts f.0)) (λ c. tt))
+    (λ f. then_free (after_entry f.1.mode (counts f.0)) _ (numbers_free f.1.mode (counts f.0)) (λ c. tt))
 operated_free now body (GetObject bucket key) s = plain_free (get_object bucket key Current s) (got_free bucket key s)
 
 requested_free : (now : ℕ) (request : Taken) (s : Option State) → Free (requested now request s)
 requested_free now request s =
     then_free (credentials request) _ (both_free (access_key request) (secret_key request))
-        (λ pair. then_free (authenticate pair.0 pair.1 s) _ (authentic_free pair.0 pair.1 s)
-        (λ _. then_free (narrow_operation request) _ (asked_free request.method (place_of request.target))
-        (λ operation. operated_free now request.body operation s)))
+    (λ pair. then_free (authenticate pair.0 pair.1 s) _ (authentic_free pair.0 pair.1 s)
+    (λ _. then_free (narrow_operation request) _ (asked_free request.method (place_of request.target))
+    (λ operation. operated_free now request.body operation s)))
 
 -- ---- bytes that are no request
 
@@ -150,16 +149,16 @@ reads_free limits bytes answer (inr found) = subst Free (sym found.3) (taken_fre
 ordered_free : (order : Order) (s : Option State) → Free (ordered order s)
 ordered_free (AddTenant tenant quota) s =
     then_free (require (is_tenant_name tenant) InvalidName) _ (require_free (is_tenant_name tenant) InvalidName refl)
-        (λ _. then_free (require (nat_le quota (2 ^ 60)) InvalidQuota) _ (require_free (nat_le quota (2 ^ 60)) InvalidQuota refl)
-        (λ _. then_free (require (is_none s) TenantExists) _ (require_free (is_none s) TenantExists refl) (λ _. tt)))
+    (λ _. then_free (require (nat_le quota (2 ^ 60)) InvalidQuota) _ (require_free (nat_le quota (2 ^ 60)) InvalidQuota refl)
+    (λ _. then_free (require (is_none s) TenantExists) _ (require_free (is_none s) TenantExists refl) (λ _. tt)))
 ordered_free (AddKey tenant name secret) s =
     then_free (require (is_tenant_name tenant && is_key_name name && is_secret secret) InvalidName) _ (require_free (is_tenant_name tenant && is_key_name name && is_secret secret) InvalidName refl)
-        (λ _. then_free (added_tenant s) _ (ok_or_free s NoSuchTenant refl)
-        (λ t. then_free (require (is_none (get t.keys name)) KeyExists) _ (require_free (is_none (get t.keys name)) KeyExists refl) (λ _. tt)))
+    (λ _. then_free (added_tenant s) _ (ok_or_free s NoSuchTenant refl)
+    (λ t. then_free (require (is_none (get t.keys name)) KeyExists) _ (require_free (is_none (get t.keys name)) KeyExists refl) (λ _. tt)))
 ordered_free (RemoveKey tenant name) s =
     then_free (require (is_tenant_name tenant && is_key_name name) InvalidName) _ (require_free (is_tenant_name tenant && is_key_name name) InvalidName refl)
-        (λ _. then_free (added_tenant s) _ (ok_or_free s NoSuchTenant refl)
-        (λ t. then_free (require (is_some (get t.keys name)) NoSuchKeyName) _ (require_free (is_some (get t.keys name)) NoSuchKeyName refl) (λ _. tt)))
+    (λ _. then_free (added_tenant s) _ (ok_or_free s NoSuchTenant refl)
+    (λ t. then_free (require (is_some (get t.keys name)) NoSuchKeyName) _ (require_free (is_some (get t.keys name)) NoSuchKeyName refl) (λ _. tt)))
 
 -- ---- an act
 

@@ -1,5 +1,5 @@
 -- The reply to an event with a stamp is no fixed text.
-use Rattle.std.proofs.Common.{◌≡◌, ◌≢◌, ℕ, Bool, true, false, List, Option, Some, None, Ok, Err, Result, refl, sym, ◌∙◌, ap, rules}
+use Rattle.std.proofs.Common.{◌≡◌, ◌≢◌, ℕ, Bool, true, false, Option, Some, None, Ok, Err, Result, refl, sym, ◌∙◌, ap, rules}
 use Rattle.std.specs.Fmt.{digits}
 use Rattle.bh_docs.specs.Documents.{error_text}
 use Rattle.bh_event.specs.Events.{Order, AddTenant, AddKey, RemoveKey, Content, Requested, Ordered}

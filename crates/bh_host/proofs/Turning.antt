@@ -1,6 +1,5 @@
 -- From the stages of an event to what the event does.
-use Rattle.std.proofs.Common.{◌≡◌, ◌≢◌, ℕ, Bool, true, false, List, [], Option, Some, None, Ok, Err, Result, refl, sym, ◌∙◌, ap, subst, rules, IfErr, OnErr, inl, inr, Vec, Global}
-use Rattle.std.specs.Prelude.{◌&&◌, if◌then◌else◌}
+use Rattle.std.proofs.Common.{◌≡◌, ℕ, false, List, Option, Some, None, Ok, Err, Result, refl, sym, ◌∙◌, ap, subst, rules, IfErr, OnErr, inl, inr, Vec, Global}
 use Rattle.std.proofs.lemmas.Bool.{cases_Bool}
 use Rattle.std.proofs.lemmas.Option.{same_Some}
 use Rattle.bh_event.specs.Events.{Order, AddTenant, AddKey, RemoveKey, Arrival, arrival}
@@ -14,7 +13,6 @@ use Rattle.bh_model.specs.Credentials.{tenant_named}
 use Rattle.bh_model.specs.Operations.{Outcome}
 use Rattle.bh_model.specs.Runs.{settled}
 use Rattle.bh_model.specs.State.{Octets, State}
-use Rattle.bh_model.specs.Steps.{require}
 use Rattle.bh_storage.specs.Calls.{Stamps}
 use Rattle.bh_tables.specs.Typed.{Tables}
 use Rattle.bh_types.specs.Limits.{HostLimits}

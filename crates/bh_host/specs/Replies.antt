@@ -1,5 +1,5 @@
 -- The bytes that an act is answered with.
-use Rattle.std.specs.Prelude.{ℕ, ◌==◌, Bool, true, List, [], ◌++◌, length, codes, take, position, unwrap_or, Option, Some, Result, Ok, Err}
+use Rattle.std.specs.Prelude.{ℕ, ◌==◌, Bool, true, [], ◌++◌, length, codes, take, position, unwrap_or, Some, Result, Ok, Err}
 use Rattle.std.specs.Str.Lossy.{utf8_lossy}
 use Rattle.bh_docs.specs.Documents.{error_text}
 use Rattle.bh_event.specs.Events.{Order, AddTenant, AddKey, RemoveKey, Content, Requested, Ordered}
@@ -10,7 +10,6 @@ use Rattle.bh_http.specs.declared.values.ContentType.TheVariants.{OctetStream}
 use Rattle.bh_model.specs.Operations.{Answer, Done, Stored, Object}
 use Rattle.bh_model.specs.State.{Octets}
 use Rattle.bh_types.specs.Refusals.{code_of}
-use Rattle.bh_types.specs.declared.id.VersionId.{VersionId}
 use Rattle.bh_types.specs.declared.refusal.Refusal.{Refusal}
 use Rattle.bh_types.specs.declared.refusal.Refusal.TheVariants.{ClockOutOfRange, ServiceUnavailable, Unavailable}
 use Rattle.bh_host.specs.Machine.{Act, Asked, Told}

@@ -1,5 +1,5 @@
 -- A list of events, and what each tenant is told, as if it were alone.
-use Rattle.std.specs.Prelude.{◌≡◌, ◌++◌, ℕ, List, [], ◌∷◌, max, map, Option, Some, None}
+use Rattle.std.specs.Prelude.{◌≡◌, ◌++◌, ℕ, List, [], ◌∷◌, max, Option, Some, None}
 use Rattle.bh_types.specs.Limits.{HostLimits}
 use Rattle.bh_event.specs.Events.{Arrival}
 use Rattle.bh_model.specs.Runs as runs

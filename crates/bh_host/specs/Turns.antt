@@ -4,17 +4,17 @@ use Rattle.bh_types.specs.Limits.{HostLimits}
 use Rattle.bh_types.specs.declared.error.RequestError.{RequestError}
 use Rattle.bh_types.specs.declared.error.RequestError.TheVariants as request
 use Rattle.bh_types.specs.declared.refusal.Refusal.{Refusal}
-use Rattle.bh_event.specs.Events.{Order, Content, Requested, Ordered, Arrival}
+use Rattle.bh_event.specs.Events.{Content, Arrival}
 use Rattle.bh_http.specs.Reading.{Reads}
 use Rattle.bh_http.specs.Views.{Taken}
 use Rattle.bh_model.specs.Operations.{Answer}
 use Rattle.bh_model.specs.Runs.{last_reading}
-use Rattle.bh_model.specs.State.{Octets, State}
+use Rattle.bh_model.specs.State.{Octets}
 use Rattle.bh_storage.specs.declared.error.StepError.{StepError}
 use Rattle.bh_storage.specs.declared.error.StepError.TheVariants.{Refused, Failed}
 use Rattle.bh_tables.specs.Typed.{Tables}
 use Rattle.bh_view.specs.View.{view, latest_of, with_latest}
-use Rattle.bh_host.specs.Machine.{Act, Asked, Told, Acted, owner_of, step}
+use Rattle.bh_host.specs.Machine.{Act, Asked, Acted, owner_of, step}
 use Rattle.bh_host.specs.Replies.{text, caller_of, clock_text, wanting_text}
 
 -- what the owner is told and what it then has are those of the machine's step

@@ -13,7 +13,9 @@ ghost use Rattle.bh_host.specs.Replies.{clock_text, reply_bytes};
 ghost use Rattle.bh_host.specs.Replies as reply;
 ghost use Rattle.bh_host.specs.Turns.{Turns, Turned, TurnsRequest, TellsUnread, IsToldApart, WouldApply, Applied};
 
-use crate::reply::{Caller, Reply, order_text, refusal_line, refused_request_text, request_text, unread_text};
+use crate::reply::{
+    Caller, Reply, order_text, refusal_line, refused_request_text, request_text, unread_text,
+};
 use crate::serve::{commanded, requested};
 use bh_event::event::{Command, Event};
 use bh_http::credentials::{credentials_of, owner_of};
@@ -105,10 +107,7 @@ fn serve_request<H: Storage>(
 }
 
 /// The tenant that a command names, if it is a tenant's name.
-fn owner_of_command(
-    alloc: Global,
-    command: &Command,
-) -> Result<Option<TenantName>, AllocError>
+fn owner_of_command(alloc: Global, command: &Command) -> Result<Option<TenantName>, AllocError>
     ensures { IfOk result (λ owner. owner ≡ owner_of_act (Told (order_of command.now))) }
 {
     match command {

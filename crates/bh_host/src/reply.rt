@@ -85,9 +85,7 @@ pub fn request_text(
 {
     match outcome {
         Ok(answer) => Ok(answer_text(alloc, answer)?),
-        Err(StepError::Refused(refusal)) => {
-            Ok(refused_request_text(alloc, request, refusal)?)
-        }
+        Err(StepError::Refused(refusal)) => { Ok(refused_request_text(alloc, request, refusal)?) }
         Err(StepError::Failed(trouble)) => Err(trouble),
     }
 }

@@ -17,3 +17,4 @@ pub mod DeleteErrors
 pub mod TotalLemmas
 pub mod CrashLemmas
 pub mod TextLemmas
+pub mod Example

@@ -65,7 +65,13 @@ pub trait Storage {
         ensures purges { OnOk result (IsClean self.new → Purges tenant.now at (seen self.old).now (seen self.new).now) };
 
     /// Whether an access key of a tenant has this secret: InvalidAccessKeyId, AccessDenied.
-    fn authenticate(&mut self, alloc: Global, tenant: &TenantName, id: &[u8], secret: &[u8]) -> Result<(), StepError>
+    fn authenticate(
+        &mut self,
+        alloc: Global,
+        tenant: &TenantName,
+        id: &[u8],
+        secret: &[u8],
+    ) -> Result<(), StepError>
         requires { IsClean self.old → IsWorking (seen self.old) }
         ensures working { Unless result (IsClean self.new → IsWorking (seen self.new)) }
         ensures within { Within IsClean seen left self.old self.new }
@@ -79,7 +85,13 @@ pub trait Storage {
         ensures carries { IsClean self.new → Carries (λ _. Done) tenant.now (add_tenant tenant.now quota) (seen self.old).now (seen self.new).now result };
 
     /// Adds an access key: InvalidName, NoSuchTenant, KeyExists.
-    fn key_add(&mut self, alloc: Global, tenant: &str, name: &str, secret: &str) -> Result<(), StepError>
+    fn key_add(
+        &mut self,
+        alloc: Global,
+        tenant: &str,
+        name: &str,
+        secret: &str,
+    ) -> Result<(), StepError>
         requires { IsClean self.old → IsWorking (seen self.old) }
         ensures working { Unless result (IsClean self.new → IsWorking (seen self.new)) }
         ensures within { Within IsClean seen left self.old self.new }
@@ -93,7 +105,13 @@ pub trait Storage {
         ensures carries { IsClean self.new → Carries (λ _. Done) tenant.now (remove_key tenant.now name.now) (seen self.old).now (seen self.new).now result };
 
     /// S3's CreateBucket: BucketAlreadyOwnedByYou.
-    fn create_bucket(&mut self, alloc: Global, tenant: &TenantName, at: Moment, bucket: &BucketName) -> Result<(), StepError>
+    fn create_bucket(
+        &mut self,
+        alloc: Global,
+        tenant: &TenantName,
+        at: Moment,
+        bucket: &BucketName,
+    ) -> Result<(), StepError>
         requires working { IsClean self.old → IsWorking (seen self.old) }
         requires early { IsClean self.old → at ≤ latest_of (seen self.old).now }
         ensures working { Unless result (IsClean self.new → IsWorking (seen self.new)) }
@@ -101,7 +119,15 @@ pub trait Storage {
         ensures carries { IsClean self.new → Carries (λ _. Done) tenant.now (create_bucket at bucket.now) (seen self.old).now (seen self.new).now result };
 
     /// S3's PutObject: NoSuchBucket, CounterExhausted.
-    fn put_object(&mut self, alloc: Global, tenant: &TenantName, at: Moment, bucket: &BucketName, key: &ObjectKey, bytes: &[u8]) -> Result<StoredVersion, StepError>
+    fn put_object(
+        &mut self,
+        alloc: Global,
+        tenant: &TenantName,
+        at: Moment,
+        bucket: &BucketName,
+        key: &ObjectKey,
+        bytes: &[u8],
+    ) -> Result<StoredVersion, StepError>
         requires working { IsClean self.old → IsWorking (seen self.old) }
         requires early { IsClean self.old → at ≤ latest_of (seen self.old).now }
         ensures working { Unless result (IsClean self.new → IsWorking (seen self.new)) }
@@ -109,7 +135,13 @@ pub trait Storage {
         ensures carries { IsClean self.new → Carries stored_answer tenant.now (put_object at bucket.now key.now bytes.now None) (seen self.old).now (seen self.new).now result };
 
     /// S3's GetObject of the current version: NoSuchBucket, NoSuchKey.
-    fn get_object(&mut self, alloc: Global, tenant: &TenantName, bucket: &BucketName, key: &ObjectKey) -> Result<FoundVersion, StepError>
+    fn get_object(
+        &mut self,
+        alloc: Global,
+        tenant: &TenantName,
+        bucket: &BucketName,
+        key: &ObjectKey,
+    ) -> Result<FoundVersion, StepError>
         requires { IsClean self.old → IsWorking (seen self.old) }
         ensures working { Unless result (IsClean self.new → IsWorking (seen self.new)) }
         ensures within { Within IsClean seen left self.old self.new }

@@ -6,4 +6,4 @@ use Rattle.bh_host.proofs.reply.refusal_line.Goals as goal
 pub returns : goal.returns
 returns c =
     IfOk-weaker c.format.result _ _ (λ text h. h ∙ sym (append_assoc (decimal (number_of c.args.refusal)) (codes " ") (code_of c.args.refusal)))
-        (rw (c.number-number.ensures, c.code-code.ensures) at c.format.ensures.ok)
+    (rw (c.number-number.ensures, c.code-code.ensures) at c.format.ensures.ok)

@@ -11,5 +11,5 @@ pub returns : goal.returns
 unfolding text
 returns c =
     IfOk-weaker c.refused_text.result _ _
-        (λ bytes h. h ∙ ap (λ target. response_text (refused c.args.refusal (error_text (code_of c.args.refusal) (shown_path target)))) c.as_slice.ensures.value)
-        c.refused_text.ensures
+    (λ bytes h. h ∙ ap (λ target. response_text (refused c.args.refusal (error_text (code_of c.args.refusal) (shown_path target)))) c.as_slice.ensures.value)
+    c.refused_text.ensures

@@ -1,0 +1,109 @@
+-- The calls that make a host, one after another.
+use Rattle.std.proofs.Common.{◌≡◌, inl, inr, ℕ, List, [], ◌∷◌, ◌++◌, IsTrue, Ok, Err, Result, OnOk, OnErr, sym, ap, ◌∙◌, subst}
+use Rattle.sqlite.specs.Tree.{Trees}
+use Rattle.bh_types.specs.Limits.{AreLimits}
+use Rattle.bh_tables.specs.Schema.{no_schema, host_schema}
+use Rattle.bh_tables.specs.Made.{with_versions}
+use Rattle.bh_tables.specs.Typed.{Tables, no_rows, tables_in}
+use Rattle.bh_tables.specs.Hosts.{tables_shown}
+use Rattle.bh_tables.proofs.HostTests.{host_shows}
+use Rattle.bh_tables.proofs.Blank.{blank_host}
+use Rattle.bh_tables.proofs.Creates.{all_made}
+use Rattle.bh_view.specs.Laws.{new_host}
+use Rattle.bh_view.proofs.HostChanges.{created as host_created}
+use Rattle.sqlite.specs.Schema.{Schema}
+use Rattle.sqlite.specs.Table.{Table}
+use Rattle.sqlite.specs.Change.{created}
+use Rattle.sqlite.specs.State.{State, HasCleanDisk, Survives, Executes, CommitsBy}
+use Rattle.sqlite.specs.declared.error.Error.{Error}
+use Rattle.bh_rows.specs.Means.{IsBlank, IsUndone, StaysInside, Changes, Grows}
+use Rattle.bh_rows.proofs.CreateLemmas.{Makes as Creates, grows, create_changes}
+use Rattle.bh_schema.specs.Layer.{Standing, standing, IsIntact, IsOpen, IsClean, Leaves, IsInside, Holds, Follows, begun, committed}
+use Rattle.bh_schema.specs.Storage.{seen_in, left_in}
+use Rattle.bh_schema.proofs.TurnLemmas.{follows}
+use Rattle.bh_create.specs.Creation.{IsEmpty, IsNewHost, IsMaking, Keeps, Makes}
+
+-- ---- one CREATE
+
+module _ (before : Schema) (sql : List ℕ) (table : Table) (creates : Creates before sql table) (old new : State) (making : IsClean old → IsMaking before old) where
+  blank_before : HasCleanDisk old → IsTrue old.is_open → IsBlank before old
+  unfolding IsIntact IsOpen
+  blank_before clean up = (making (record { intact = clean; is_open = up })).blank
+
+  module _ (result : Result ℕ Error) (changes : Changes old new result) (after : Grows (created before table) old new result) (was : IsClean new → IsClean old) where
+    kept_by : IsClean new → (standing new).kept ≡ (standing old).kept
+    unfolding standing IsIntact IsOpen
+    kept_by c = go result (changes.inside c.intact (was c).is_open) (changes.undone c.intact)
+      where
+        go : (r : Result ℕ Error) → OnOk r (StaysInside old new) → OnErr r (IsUndone old new) → new.committed ≡ old.committed
+        go (Ok x) stays undone = stays.committed (making (was c)).inside
+        go (Err e) stays (inl same) = same.0.committed_is
+        go (Err e) stays (inr back) = (back.undone c.is_open).1
+
+    made_by : OnOk result (IsClean new → IsMaking (created before table) new)
+    unfolding standing IsIntact IsOpen
+    made_by = go result changes.inside after.blank
+      where
+        go : (r : Result ℕ Error) → (HasCleanDisk new → IsTrue old.is_open → OnOk r (StaysInside old new)) → (HasCleanDisk new → IsTrue old.is_open → OnOk r (IsBlank (created before table) new)) → OnOk r (IsClean new → IsMaking (created before table) new)
+        go (Ok x) stays blank = λ c. record { inside = (stays c.intact (was c).is_open).inside (making (was c)).inside; blank = blank c.intact (was c).is_open }
+        go (Err e) stays blank = tt
+
+  pub makes : (result : Result ℕ Error) → (HasCleanDisk new → Executes sql [] old new result) → Survives old new (CommitsBy sql [] old) → Makes (created before table) old new result
+  makes result runs s =
+      let changes = create_changes before sql table creates old new blank_before result runs s in
+      let after = grows before sql table creates old new blank_before result runs s in
+      let follow = follows old new s changes.up in
+      record { keeps = record { follows = follow; kept = kept_by result changes after follow.clean }; made = made_by result changes after follow.clean }
+
+-- ---- several calls
+
+pub follows_then : (a b c : State) → Follows a b → Follows b c → Follows a c
+follows_then a b c one two = record { clean = λ h. one.clean (two.clean h); intact = λ h. one.intact (two.intact h); limit = two.limit ∙ one.limit }
+
+pub keeps_then : (a b c : State) → Keeps a b → Keeps b c → Keeps a c
+keeps_then a b c one two = record { follows = follows_then a b c one.follows two.follows; kept = λ clean. two.kept clean ∙ one.kept (two.follows.clean clean) }
+
+-- BEGIN, over an empty database
+pub begun_making : (old new : State) → IsEmpty old → standing new ≡ begun (standing old) → IsMaking no_schema new
+unfolding standing
+begun_making old new empty is = record { inside = ap (λ (x : Standing). x.inside) is; blank = record { schema_is = ap (λ (x : Standing). x.now.schema) is ∙ empty; blank = tt } }
+
+-- all tables are made
+made_host : (s : State) → IsMaking with_versions s → IsInside (standing s) × (tables_in (standing s).now ≡ no_rows)
+unfolding standing
+made_host s making =
+    let it = blank_host s (subst (λ schema. IsBlank schema s) all_made making.blank) in
+    (record { inside = making.inside; host = it.0 }, it.1)
+
+pub made_inside : (s : State) → IsMaking with_versions s → IsInside (standing s)
+made_inside s making = (made_host s making).0
+
+-- the host's row is added
+pub filled : (old new : State) (min_part max_body : ℕ) → IsMaking with_versions old
+    → Holds (record (tables_in (standing old).now) { host = (tables_in (standing old).now).host ++ record { version = 0; latest = 0; min_part = min_part; max_body = max_body } ∷ [] }) (standing new)
+    → Holds (new_host min_part max_body) (standing new)
+filled old new min_part max_body making it =
+    record { within = it.within; is = it.is ∙ ap (λ (t : Tables). record t { host = t.host ++ record { version = 0; latest = 0; min_part = min_part; max_body = max_body } ∷ [] }) (made_host old making).1 }
+
+-- and committed
+pub stands : (old new : State) (min_part max_body : ℕ) → AreLimits min_part max_body → Holds (new_host min_part max_body) (standing old) → standing new ≡ committed (standing old)
+    → ((db : Trees) → Leaves new db → db ≡ (standing new).kept.trees) → IsNewHost (record { min_part = min_part; max_body = max_body }) new
+unfolding seen_in left_in
+stands old new min_part max_body good it is settled =
+    let trees = (standing old).now.trees in
+    let host = ap (λ (s : Schema). tables_shown (record { schema = s; trees = trees })) (sym it.within.host.schema) in
+    let shows = host_shows (standing old).now it.within.host ∙ it.is in
+    let now : (seen_in new).now ≡ new_host min_part max_body = ap (λ (x : Standing). tables_shown x.now) is ∙ shows in
+    let kept : (seen_in new).kept ≡ new_host min_part max_body = ap (λ (x : Standing). tables_shown x.kept) is ∙ shows in
+    let made = host_created (seen_in new).now min_part max_body good now in
+    record {
+      rest = record { outside = ap (λ (x : Standing). x.inside) is; committed = kept ∙ sym now; sound = made.0 };
+      tables = now;
+      latest = made.1;
+      vacant = made.2;
+      left = λ x its. its.2 ∙ ap (λ (t : Trees). tables_shown (record { schema = host_schema; trees = t })) (settled its.0 its.1 ∙ ap (λ (y : Standing). y.kept.trees) is) ∙ host ∙ shows;
+    }
+
+pub on_ok : {X E : Type 0} (r : Result X E) {P Q : Type 0} → (P → Q) → OnOk r P → OnOk r Q
+on_ok (Ok x) f h = f h
+on_ok (Err e) f h = tt

@@ -1,0 +1,74 @@
+ghost use Rattle.std.specs.Prelude.{◌≡◌, ◌≢◌, ◌↔◌, IsTrue, IfOk, IfErr};
+ghost use Rattle.sqlite.specs.Held.{state};
+ghost use Rattle.bh_types.specs.declared.refusal.Refusal.TheVariants as refusal;
+ghost use Rattle.bh_tables.specs.Schema.{no_schema};
+ghost use Rattle.bh_schema.specs.Layer.{standing, IsClean, taken_back, Follows};
+ghost use Rattle.bh_create.specs.Creation.{IsEmpty, IsNewHost};
+
+use crate::fill::make;
+use bh_schema::host::{Digester, Host};
+use bh_types::limits::{Limits, Tuning};
+use bh_types::refusal::Refusal;
+use sqlite::{Alter, Connection};
+use sqlite_schema::schema::Schema;
+
+/// Why no host was made, with what was given for it.
+#[derive(Drop)]
+pub struct CreateError<S: Alter + Drop, D: Digester + Drop> {
+    /// `NotAHostFile` or `Unavailable`.
+    pub refusal: Refusal,
+    /// The database.
+    pub connection: Connection<S>,
+    /// What was to name blocks of bytes.
+    pub digester: D,
+}
+
+fn is_empty(schema: &Schema) -> bool
+    ensures { IsTrue result ↔ (schema.now ≡ no_schema) }
+{
+    schema.tables.is_empty() && schema.indexes.is_empty() && schema.views.is_empty()
+}
+
+/// A new host in an empty database: it has these limits and no tenant, its last stamp is 0 (seconds since
+/// 1970), and it is committed, so that a crash leaves it.
+///
+/// `NotAHostFile` where the database has a table, an index or a view, and then the connection is as it was.
+/// `Unavailable` where memory or the store was wanting, or a transaction was open: an open transaction is
+/// taken back, and the database is as it was last committed.
+pub fn create<S: Alter + Drop, D: Digester + Drop>(
+    connection: Connection<S>,
+    digester: D,
+    limits: Limits,
+    tuning: Tuning,
+) -> Result<Host<S, D>, CreateError<S, D>>
+    ensures given { IfOk result (λ host. (host.limits ≡ limits) × (host.tuning ≡ tuning) × (host.digester ≡ digester)) }
+    ensures empty { IfOk result (λ host. IsEmpty (state S.Store connection)) }
+    ensures follows { IfOk result (λ host. Follows (state S.Store connection) (state S.Store host.connection)) }
+    ensures made { IfOk result (λ host. IsClean (state S.Store host.connection) → IsNewHost limits (state S.Store host.connection)) }
+    ensures back { IfErr result (λ e. e.digester ≡ digester) }
+    ensures refused { IfErr result (λ e. e.refusal ≡ refusal.NotAHostFile → (e.connection ≡ connection) × ¬ IsEmpty (state S.Store connection)) }
+    ensures failed { IfErr result (λ e. e.refusal ≢ refusal.NotAHostFile → (e.refusal ≡ refusal.Unavailable) × IsEmpty (state S.Store connection) × Follows (state S.Store connection) (state S.Store e.connection)
+        × (IsClean (state S.Store e.connection) → standing (state S.Store e.connection) ≡ taken_back (standing (state S.Store connection)))) }
+{
+    if !is_empty(connection.schema()) {
+        return Err(CreateError {
+            refusal: Refusal::NotAHostFile,
+            connection,
+            digester,
+        });
+    }
+    let mut connection = connection;
+    match make(&mut connection, limits) {
+        Ok(()) => Ok(Host {
+            connection,
+            digester,
+            limits,
+            tuning,
+        }),
+        Err(_) => Err(CreateError {
+            refusal: Refusal::Unavailable,
+            connection,
+            digester,
+        }),
+    }
+}

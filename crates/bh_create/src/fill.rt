@@ -1,0 +1,54 @@
+ghost use Rattle.std.specs.Prelude.{◌≡◌, OnOk, OnErr};
+ghost use Rattle.sqlite.specs.Held.{state};
+ghost use Rattle.bh_types.specs.Limits.{AreLimits};
+ghost use Rattle.bh_tables.specs.Schema.{no_schema};
+ghost use Rattle.bh_view.specs.Laws.{new_host};
+ghost use Rattle.bh_schema.specs.Layer.{standing, IsClean, taken_back, Follows, Holds};
+ghost use Rattle.bh_create.specs.Creation.{IsEmpty, IsNewHost, IsMaking, Keeps};
+
+use crate::tables::create_tables;
+use bh_schema::rows::host::insert_host;
+use bh_schema::rows::transactions::{begin, commit, take_back};
+use bh_types::limits::Limits;
+use sqlite::{Alter, Connection, Error};
+
+fn fill<S: Alter>(
+    connection: &mut Connection<S>,
+    min_part: u64,
+    max_body: u64,
+) -> Result<usize, Error>
+    requires limits { AreLimits min_part max_body }
+    requires making { IsClean (state S.Store connection.old) → IsMaking no_schema (state S.Store connection.old) }
+    ensures keeps { Keeps (state S.Store connection.old) (state S.Store connection.new) }
+    ensures holds { OnOk result (IsClean (state S.Store connection.new) → Holds (new_host min_part max_body) (standing (state S.Store connection.new))) }
+{
+    create_tables(connection)?;
+    insert_host(connection, min_part, max_body)
+}
+
+fn commit_new<S: Alter>(connection: &mut Connection<S>, limits: Limits) -> Result<usize, Error>
+    requires { IsClean (state S.Store connection.old) → IsEmpty (state S.Store connection.old) }
+    ensures follows { Follows (state S.Store connection.old) (state S.Store connection.new) }
+    ensures made { OnOk result (IsClean (state S.Store connection.new) → IsNewHost limits (state S.Store connection.new)) }
+    ensures kept { OnErr result (IsClean (state S.Store connection.new) → (standing (state S.Store connection.new)).kept ≡ (standing (state S.Store connection.old)).kept) }
+{
+    begin(connection)?;
+    fill(connection, limits.min_part, limits.max_body)?;
+    commit(connection)
+}
+
+/// Makes a host in an empty database and commits it. After an error nothing of it stands.
+pub fn make<S: Alter>(connection: &mut Connection<S>, limits: Limits) -> Result<(), Error>
+    requires { IsClean (state S.Store connection.old) → IsEmpty (state S.Store connection.old) }
+    ensures follows { Follows (state S.Store connection.old) (state S.Store connection.new) }
+    ensures made { OnOk result (IsClean (state S.Store connection.new) → IsNewHost limits (state S.Store connection.new)) }
+    ensures back { OnErr result (IsClean (state S.Store connection.new) → standing (state S.Store connection.new) ≡ taken_back (standing (state S.Store connection.old))) }
+{
+    match commit_new(connection, limits) {
+        Ok(_) => Ok(()),
+        Err(error) => {
+            take_back(connection);
+            Err(error)
+        }
+    }
+}

@@ -1,0 +1,122 @@
+-- What is read of a bucket and of a tenant, in the words of the machine.
+use Rattle.std.proofs.Common.{◌≡◌, ℕ, Option, Some, None, option_map, option_and_then, is_none, ok_or, find, Result, Ok, Err, refl, sym, ap, ◌∙◌}
+use Rattle.std.specs.Result.{result_map_both}
+use Rattle.std.specs.FinMap.{get}
+use Rattle.bh_types.specs.Counts.{Counts}
+use Rattle.bh_types.specs.Plain.{state_number}
+use Rattle.bh_types.specs.declared.plain.BucketState.{BucketState}
+use Rattle.bh_types.specs.declared.plain.BucketState.TheVariants.{Unversioned, Enabled, Suspended}
+use Rattle.bh_types.specs.declared.refusal.Refusal.{Refusal}
+use Rattle.bh_types.specs.declared.refusal.Refusal.TheVariants.{NoSuchBucket, NoSuchTenant, BucketAlreadyOwnedByYou}
+use Rattle.bh_model.specs.State.{Octets, State, Bucket}
+use Rattle.bh_model.specs.Steps.{require}
+use Rattle.bh_tables.specs.Typed.{Tables, TenantRow, BucketRow}
+use Rattle.bh_tables.specs.Shown.{is_tenant, is_bucket}
+use Rattle.bh_view.specs.View.{view, mode_of, rows_of, bucket_shown, state_of}
+use Rattle.bh_view.specs.Sound.{IsSound}
+use Rattle.bh_view.proofs.FindLemmas.{first_find, bucket_found, counts_found, tenant_found}
+use Rattle.bh_schema.specs.Rows.{bucket_numbers, tenant_numbers}
+use Rattle.bh_schema.specs.declared.rows.tenants.TenantNumbers.{TenantNumbers}
+use Rattle.bh_schema.specs.declared.rows.buckets.BucketNumbers.{BucketNumbers}
+use Rattle.bh_objects.specs.Working.{mode_in, counts_in, tenant_in, name_free}
+
+abbrev mode_or : Option Bucket → Result BucketState Refusal
+mode_or o = ok_or (option_map (λ (b : Bucket). b.mode) o) NoSuchBucket
+
+mode_shape : (name : Octets) (v : Option State) → mode_in name v ≡ mode_or (option_and_then (λ (s : State). get s.buckets name) v)
+mode_shape name None = refl
+mode_shape name (Some s) = go (get s.buckets name)
+  where
+    go : (o : Option Bucket) → result_map_both (λ (f : State × Bucket). f.1.mode) (λ refusal. refusal) (ok_or (option_map (λ b. (s, b)) o) NoSuchBucket) ≡ mode_or o
+    go None = refl
+    go (Some b) = refl
+
+number_back : (mode : BucketState) (n : ℕ) → state_number mode ≡ n → mode_of n ≡ mode
+number_back Unversioned n e = ap mode_of (sym e)
+number_back Enabled n e = ap mode_of (sym e)
+number_back Suspended n e = ap mode_of (sym e)
+
+module _ (tables : Tables) (t name : Octets) (sound : IsSound tables) where
+  abbrev row : Option BucketRow
+  row = find (is_bucket t name) tables.buckets
+
+  shown : mode_in name (view tables t) ≡ mode_or (option_map (bucket_shown (rows_of t tables) name) row)
+  shown = mode_shape name (view tables t) ∙ ap mode_or (bucket_found tables t sound name) ∙ ap (λ o. mode_or (option_map (bucket_shown (rows_of t tables) name) o)) (first_find (is_bucket t name) tables.buckets)
+
+  pub mode_found : (numbers : BucketNumbers) (mode : BucketState) → Some numbers ≡ option_map bucket_numbers row → state_number mode ≡ numbers.state → mode_in name (view tables t) ≡ Ok mode
+  mode_found numbers mode is its = shown ∙ go row is
+    where
+      go : (o : Option BucketRow) → Some numbers ≡ option_map bucket_numbers o → mode_or (option_map (bucket_shown (rows_of t tables) name) o) ≡ Ok mode
+      go None e = cc
+      go (Some r) e = ap (λ m. Ok m) (number_back mode r.state (its ∙ (let same : numbers ≡ bucket_numbers r = cc in ap (λ (n : BucketNumbers). n.state) same)))
+
+  pub no_mode : None ≡ option_map bucket_numbers row → mode_in name (view tables t) ≡ Err NoSuchBucket
+  no_mode is = shown ∙ go row is
+    where
+      go : (o : Option BucketRow) → None ≡ option_map bucket_numbers o → mode_or (option_map (bucket_shown (rows_of t tables) name) o) ≡ Err NoSuchBucket
+      go None e = refl
+      go (Some r) e = cc
+
+module _ (tables : Tables) (t : Octets) where
+  abbrev row_counts : Option TenantRow → Option Counts
+  row_counts = option_map (λ (r : TenantRow). record { version = r.next_version; upload = r.next_upload; entry = r.next_entry })
+
+  abbrev own : Option TenantRow
+  own = find (is_tenant t) tables.tenants
+
+  counts_shown : counts_in (view tables t) ≡ ok_or (row_counts own) NoSuchBucket
+  counts_shown = ap (λ o. ok_or o NoSuchBucket) (counts_found tables t ∙ ap row_counts (first_find (is_tenant t) tables.tenants))
+
+  pub counts_read : (n : TenantNumbers) (c : Counts) → Some n ≡ option_map tenant_numbers own → c ≡ record { version = n.next_version; upload = n.next_upload; entry = n.next_entry } → counts_in (view tables t) ≡ Ok c
+  counts_read n c is its = counts_shown ∙ go own is
+    where
+      go : (o : Option TenantRow) → Some n ≡ option_map tenant_numbers o → ok_or (row_counts o) NoSuchBucket ≡ Ok c
+      go None e = cc
+      go (Some r) e =
+          let same : n ≡ tenant_numbers r = cc in
+          ap (λ (x : TenantNumbers). Ok (record { version = x.next_version; upload = x.next_upload; entry = x.next_entry })) (sym same) ∙ ap (λ x. Ok x) (sym its)
+
+  pub no_counts : None ≡ option_map tenant_numbers own → counts_in (view tables t) ≡ Err NoSuchBucket
+  no_counts is = counts_shown ∙ go own is
+    where
+      go : (o : Option TenantRow) → None ≡ option_map tenant_numbers o → ok_or (row_counts o) NoSuchBucket ≡ Err NoSuchBucket
+      go None e = refl
+      go (Some r) e = cc
+
+  tenant_shown : view tables t ≡ option_map (state_of (rows_of t tables)) own
+  tenant_shown = tenant_found tables t ∙ ap (option_map (state_of (rows_of t tables))) (first_find (is_tenant t) tables.tenants)
+
+  pub has_tenant : (n : TenantNumbers) → Some n ≡ option_map tenant_numbers own → tenant_in (view tables t) ≡ Ok tt
+  has_tenant n is = ap tenant_in tenant_shown ∙ go own is
+    where
+      go : (o : Option TenantRow) → Some n ≡ option_map tenant_numbers o → tenant_in (option_map (state_of (rows_of t tables)) o) ≡ Ok tt
+      go None e = cc
+      go (Some r) e = refl
+
+  pub no_tenant : None ≡ option_map tenant_numbers own → tenant_in (view tables t) ≡ Err NoSuchTenant
+  no_tenant is = ap tenant_in tenant_shown ∙ go own is
+    where
+      go : (o : Option TenantRow) → None ≡ option_map tenant_numbers o → tenant_in (option_map (state_of (rows_of t tables)) o) ≡ Err NoSuchTenant
+      go None e = refl
+      go (Some r) e = cc
+
+module _ (tables : Tables) (t name : Octets) (sound : IsSound tables) where
+  abbrev bucket_row : Option BucketRow
+  bucket_row = find (is_bucket t name) tables.buckets
+
+  free_shown : name_free name (view tables t) ≡ require (is_none (option_map (bucket_shown (rows_of t tables) name) bucket_row)) BucketAlreadyOwnedByYou
+  free_shown = ap (λ o. require (is_none o) BucketAlreadyOwnedByYou) (bucket_found tables t sound name ∙ ap (option_map (bucket_shown (rows_of t tables) name)) (first_find (is_bucket t name) tables.buckets))
+
+  pub is_free : None ≡ option_map bucket_numbers bucket_row → name_free name (view tables t) ≡ Ok tt
+  is_free is = free_shown ∙ go bucket_row is
+    where
+      go : (o : Option BucketRow) → None ≡ option_map bucket_numbers o → require (is_none (option_map (bucket_shown (rows_of t tables) name) o)) BucketAlreadyOwnedByYou ≡ Ok tt
+      go None e = refl
+      go (Some r) e = cc
+
+  pub is_taken : (n : BucketNumbers) → Some n ≡ option_map bucket_numbers bucket_row → name_free name (view tables t) ≡ Err BucketAlreadyOwnedByYou
+  is_taken n is = free_shown ∙ go bucket_row is
+    where
+      go : (o : Option BucketRow) → Some n ≡ option_map bucket_numbers o → require (is_none (option_map (bucket_shown (rows_of t tables) name) o)) BucketAlreadyOwnedByYou ≡ Err BucketAlreadyOwnedByYou
+      go None e = cc
+      go (Some r) e = refl

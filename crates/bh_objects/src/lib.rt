@@ -1,0 +1,10 @@
+//! S3's buckets and objects over a host's SQL tables.
+#![tactic(auto)]
+
+pub mod buckets;
+pub mod gets;
+pub mod objects;
+pub mod reads;
+pub mod rows;
+pub mod storage;
+pub mod writes;

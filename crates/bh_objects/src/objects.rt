@@ -1,0 +1,65 @@
+ghost use Rattle.std.specs.Prelude.{◌≡◌, ◌≤◌, ◌<◌, ◌^◌, length, OnOk, None};
+ghost use Rattle.sqlite.specs.Held.{state};
+ghost use Rattle.bh_model.specs.Entries.{new_id};
+ghost use Rattle.bh_model.specs.Operations as machine;
+ghost use Rattle.bh_schema.specs.Layer.{IsClean};
+ghost use Rattle.bh_storage.specs.Calls.{Unless, Carries, stored_answer};
+ghost use Rattle.bh_view.specs.View.{latest_of};
+ghost use Rattle.bh_objects.specs.Working.{tables_at, IsWorking, Within};
+
+use crate::reads::{bucket_state, next_counters};
+use crate::writes::{NewObject, write_object};
+use bh_docs::checksum::checksum_of;
+use bh_model::counting::after_entry;
+use bh_storage::answer::StoredVersion;
+use bh_storage::error::{StepError, Trouble};
+use bh_types::id::VersionId;
+use bh_types::plain::BucketState;
+use sqlite::{Alter, Connection};
+use std::alloc::Global;
+
+/// The id that is told of a new version: none where the bucket never had versions.
+fn told_id(mode: BucketState, version: u64) -> Option<VersionId>
+    ensures { result ≡ machine.id_told mode (new_id mode version) }
+{
+    match mode {
+        BucketState::Unversioned => None,
+        BucketState::Enabled => Some(VersionId::Numbered(version)),
+        BucketState::Suspended => Some(VersionId::Null),
+    }
+}
+
+/// No allocation has 2^62 bytes, so memory is wanting for an object of that size.
+fn check_size(bytes: &[u8]) -> Result<(), Trouble>
+    ensures { OnOk result (length bytes.now < 2 ^ 63) }
+{
+    if bytes.len() < 1 << 62 {
+        Ok(())
+    } else {
+        Err(Trouble::Memory)
+    }
+}
+
+/// S3's PutObject, at a moment that is not after the last stamp: NoSuchBucket, CounterExhausted.
+pub fn put_object<S: Alter>(
+    connection: &mut Connection<S>,
+    alloc: Global,
+    object: &NewObject<'_>,
+) -> Result<StoredVersion, StepError>
+    requires working { IsClean (state S.Store connection.old) → IsWorking (state S.Store connection.old) }
+    requires early { IsClean (state S.Store connection.old) → object.now.at ≤ latest_of (tables_at (state S.Store connection.old)) }
+    ensures working { Unless result (IsClean (state S.Store connection.new) → IsWorking (state S.Store connection.new)) }
+    ensures within { Within (state S.Store connection.old) (state S.Store connection.new) }
+    ensures carries { IsClean (state S.Store connection.new) → Carries stored_answer object.now.tenant.now (machine.put_object object.now.at object.now.bucket.now object.now.key.now object.now.bytes.now None) (tables_at (state S.Store connection.old)) (tables_at (state S.Store connection.new)) result }
+{
+    let mode = bucket_state(connection, object.tenant, object.bucket)?;
+    let before = next_counters(connection, object.tenant)?;
+    let after = after_entry(mode, before)?;
+    check_size(object.bytes)?;
+    let checksum = checksum_of(alloc, object.bytes)?;
+    write_object(connection, object, mode, before, after, checksum.as_str())?;
+    Ok(StoredVersion {
+        id: told_id(mode, before.version),
+        checksum,
+    })
+}

@@ -1,0 +1,176 @@
+ghost use Rattle.std.specs.Prelude.{◌≡◌, ◌<◌, ◌^◌, ◌++◌, ◌∷◌, [], length, OnOk};
+ghost use Rattle.sqlite.specs.Held.{state};
+ghost use Rattle.sqlite_keyed.specs.Lists.{update_where, delete_where};
+ghost use Rattle.bh_model.specs.Checksums.{checksum_text};
+ghost use Rattle.bh_tables.specs.Shown.{is_tenant, is_version};
+ghost use Rattle.bh_view.specs.Put as put;
+ghost use Rattle.bh_view.specs.Put.{counters_row, rows_left};
+ghost use Rattle.bh_schema.specs.Layer.{standing, IsClean, IsInside, Holds};
+ghost use Rattle.bh_objects.specs.Working.{tables_at, Within, IsKeyText, with_put};
+
+use crate::rows::set_numbers;
+use bh_schema::rows;
+use bh_schema::rows::versions::NewVersion;
+use bh_schema::trouble::trouble_of;
+use bh_storage::error::Trouble;
+use bh_types::bucket::BucketName;
+use bh_types::key::ObjectKey;
+use bh_types::moment::Moment;
+use bh_types::names::TenantName;
+use bh_types::plain::{BucketState, Counters};
+use sqlite::{Alter, Connection};
+
+/// An object that is sent whole.
+#[derive(Clone, Copy, Debug)]
+pub struct NewObject<'a> {
+    pub tenant: &'a TenantName,
+    pub bucket: &'a BucketName,
+    pub key: &'a ObjectKey,
+    /// When it is stored.
+    pub at: Moment,
+    pub bytes: &'a [u8],
+}
+
+/// The counters go on, as a new version in a bucket of this state has them.
+fn set_counters<S: Alter>(
+    connection: &mut Connection<S>,
+    tenant: &TenantName,
+    mode: BucketState,
+    counters: Counters,
+) -> Result<(), Trouble>
+    requires { IsClean (state S.Store connection.old) → IsInside (standing (state S.Store connection.old)) }
+    ensures within { Within (state S.Store connection.old) (state S.Store connection.new) }
+    ensures holds { OnOk result (IsClean (state S.Store connection.new) → Holds (record (tables_at (state S.Store connection.old)) { tenants = update_where (is_tenant tenant.now) (counters_row mode counters) (tables_at (state S.Store connection.old)).tenants }) (standing (state S.Store connection.new))) }
+{
+    match mode {
+        BucketState::Enabled => match set_numbers(
+            connection,
+            tenant.as_str(),
+            counters.version,
+            counters.entry,
+        ) {
+            Ok(_) => Ok(()),
+            Err(error) => Err(trouble_of(error)),
+        },
+        BucketState::Unversioned => set_next_entry(connection, tenant, counters.entry),
+        BucketState::Suspended => set_next_entry(connection, tenant, counters.entry),
+    }
+}
+
+fn set_next_entry<S: Alter>(
+    connection: &mut Connection<S>,
+    tenant: &TenantName,
+    entry: u64,
+) -> Result<(), Trouble>
+    requires inside { IsClean (state S.Store connection.old) → IsInside (standing (state S.Store connection.old)) }
+    requires small { entry < 2 ^ 63 }
+    ensures within { Within (state S.Store connection.old) (state S.Store connection.new) }
+    ensures holds { OnOk result (IsClean (state S.Store connection.new) → Holds (record (tables_at (state S.Store connection.old)) { tenants = update_where (is_tenant tenant.now) (λ t. record t { next_entry = entry }) (tables_at (state S.Store connection.old)).tenants }) (standing (state S.Store connection.new))) }
+{
+    match rows::tenants::set_next_entry(connection, tenant.as_str(), entry) {
+        Ok(_) => Ok(()),
+        Err(error) => Err(trouble_of(error)),
+    }
+}
+
+/// What a new version in a bucket of this state replaces is taken away: the version `null`, unless
+/// versions are numbered.
+fn make_room<S: Alter>(
+    connection: &mut Connection<S>,
+    object: &NewObject<'_>,
+    mode: BucketState,
+) -> Result<(), Trouble>
+    requires { IsClean (state S.Store connection.old) → IsInside (standing (state S.Store connection.old)) }
+    ensures within { Within (state S.Store connection.old) (state S.Store connection.new) }
+    ensures holds { OnOk result (IsClean (state S.Store connection.new) → Holds (record (tables_at (state S.Store connection.old)) { versions = rows_left mode object.now.tenant.now object.now.bucket.now object.now.key.now (tables_at (state S.Store connection.old)).versions }) (standing (state S.Store connection.new))) }
+{
+    match mode {
+        BucketState::Enabled => Ok(()),
+        BucketState::Unversioned => drop_null(connection, object),
+        BucketState::Suspended => drop_null(connection, object),
+    }
+}
+
+fn drop_null<S: Alter>(
+    connection: &mut Connection<S>,
+    object: &NewObject<'_>,
+) -> Result<(), Trouble>
+    requires { IsClean (state S.Store connection.old) → IsInside (standing (state S.Store connection.old)) }
+    ensures within { Within (state S.Store connection.old) (state S.Store connection.new) }
+    ensures holds { OnOk result (IsClean (state S.Store connection.new) → Holds (record (tables_at (state S.Store connection.old)) { versions = delete_where (is_version object.now.tenant.now object.now.bucket.now object.now.key.now 0) (tables_at (state S.Store connection.old)).versions }) (standing (state S.Store connection.new))) }
+{
+    let key = object.key.as_str().as_bytes();
+    match rows::versions::delete_version(
+        connection,
+        object.tenant.as_str(),
+        object.bucket.as_str(),
+        key,
+        0,
+    ) {
+        Ok(_) => Ok(()),
+        Err(error) => Err(trouble_of(error)),
+    }
+}
+
+/// The column `id` of a new version: 0, which is `null`, unless versions are numbered.
+fn row_number(mode: BucketState, version: u64) -> u64
+    ensures { result ≡ put.row_number mode version }
+{
+    match mode {
+        BucketState::Unversioned => 0,
+        BucketState::Enabled => version,
+        BucketState::Suspended => 0,
+    }
+}
+
+fn add_row<S: Alter>(
+    connection: &mut Connection<S>,
+    object: &NewObject<'_>,
+    mode: BucketState,
+    counters: Counters,
+    checksum: &str,
+) -> Result<(), Trouble>
+    requires inside { IsClean (state S.Store connection.old) → IsInside (standing (state S.Store connection.old)) }
+    requires size { length object.now.bytes.now < 2 ^ 63 }
+    requires checksum { checksum.now ≡ checksum_text object.now.bytes.now }
+    ensures within { Within (state S.Store connection.old) (state S.Store connection.new) }
+    ensures holds { OnOk result (IsClean (state S.Store connection.new) → Holds (record (tables_at (state S.Store connection.old)) { versions = (tables_at (state S.Store connection.old)).versions ++ put.object_row object.now.tenant.now object.now.bucket.now object.now.key.now counters.entry (put.row_number mode counters.version) object.now.at object.now.bytes.now ∷ [] }) (standing (state S.Store connection.new))) }
+    ensures key { IsKeyText object.now.key.now }
+{
+    let version = NewVersion {
+        tenant: object.tenant.as_str(),
+        seq: counters.entry,
+        bucket: object.bucket.as_str(),
+        okey: object.key.as_str().as_bytes(),
+        id: row_number(mode, counters.version),
+        stamp: object.at.seconds(),
+        checksum,
+        bytes: object.bytes,
+    };
+    match rows::versions::insert_version(connection, &version) {
+        Ok(_) => Ok(()),
+        Err(error) => Err(trouble_of(error)),
+    }
+}
+
+/// Puts an object into a bucket of this state, whose tenant's counters were `before` and go on to
+/// `after`, with the text of the checksum of its bytes.
+pub fn write_object<S: Alter>(
+    connection: &mut Connection<S>,
+    object: &NewObject<'_>,
+    mode: BucketState,
+    before: Counters,
+    after: Counters,
+    checksum: &str,
+) -> Result<(), Trouble>
+    requires inside { IsClean (state S.Store connection.old) → IsInside (standing (state S.Store connection.old)) }
+    requires size { length object.now.bytes.now < 2 ^ 63 }
+    requires checksum { checksum.now ≡ checksum_text object.now.bytes.now }
+    ensures within { Within (state S.Store connection.old) (state S.Store connection.new) }
+    ensures holds { OnOk result (IsClean (state S.Store connection.new) → Holds (with_put mode before after object.now.tenant.now object.now.bucket.now object.now.key.now object.now.at object.now.bytes.now (tables_at (state S.Store connection.old))) (standing (state S.Store connection.new))) }
+    ensures key { OnOk result (IsKeyText object.now.key.now) }
+{
+    set_counters(connection, object.tenant, mode, after)?;
+    make_room(connection, object, mode)?;
+    add_row(connection, object, mode, before, checksum)
+}

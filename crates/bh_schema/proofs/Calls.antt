@@ -1,0 +1,196 @@
+-- A call inside a transaction, in the words of the layer.
+use Rattle.std.proofs.Common.{◌≡◌, ◌⊎◌, inl, inr, ℕ, List, Bool, true, false, IsTrue, None, Option, Ok, Err, Result, OnOk, OnErr, IfOk, IfErr, refl, sym, ap, ◌∙◌, true≢false, subst}
+use Rattle.sqlite.specs.Order.{Row}
+use Rattle.sqlite.specs.Tree.{Trees}
+use Rattle.sqlite.specs.State.{State, HasCleanDisk, IsUnchanged, Survives}
+use Rattle.sqlite.specs.declared.error.Error.{Error}
+use Rattle.bh_rows.specs.Means.{is_trouble, IsUndone, IsOutside, Asks, StaysInside, Changes}
+use Rattle.bh_rows.proofs.CallLemmas.{clean_before}
+use Rattle.bh_tables.specs.Typed.{IsHost, IsReady, Tables, tables_in, tables}
+use Rattle.bh_schema.specs.Layer.{Standing, standing, IsIntact, IsOpen, IsClean, Leaves, IsInside, Holds, taken_back, Follows, LeavesNothingNew, IsSettled, Within, Unwinds}
+use Rattle.bh_schema.proofs.TurnLemmas.{follows, unwinds}
+
+pub ready : (old : State) → (IsClean old → IsInside (standing old)) → IsReady old
+unfolding standing IsIntact IsOpen
+ready old inside clean up = (inside (record { intact = clean; is_open = up })).host
+
+module _ (old new : State) (inside : IsClean old → (standing old).inside ≡ true) where
+  -- ---- what an error leaves, and a crash
+
+  undone_leaves : IsClean new → (standing old).inside ≡ true → Unwinds (standing old) (standing new) → ((standing new).kept ≡ (standing old).kept) × IsSettled (standing new)
+  undone_leaves c was (inl same) = (ap (λ (x : Standing). x.kept) same, inl (ap (λ (x : Standing). x.inside) same ∙ was))
+  undone_leaves c was (inr back) = (ap (λ (x : Standing). x.kept) back, subst IsSettled (sym back) (inr refl))
+
+  crash_within : Follows old new → Survives old new (λ _. IsOutside old) → IsOpen old → LeavesNothingNew old new
+  unfolding IsIntact IsOpen Leaves standing
+  crash_within f s up clean db h = elim (s.crash clean db h) [
+    | inl was ↦ was
+    | inr (inl outside) ↦ absurd (true≢false (sym (inside (record { intact = f.intact clean; is_open = up })) ∙ outside))
+    | inr (inr shut) ↦ absurd (true≢false (sym up ∙ shut))
+  ]
+
+  -- ---- a question
+
+  module _ {X : Type 0} (result : Result X Error) (asks : Asks old new result) where
+    asks_follows : Follows old new
+    asks_follows = follows old new asks.survives asks.up
+
+    pub asks_same : OnOk result (IsIntact new → standing new ≡ standing old)
+    unfolding IsIntact standing
+    asks_same = go result asks.same
+      where
+        go : (r : Result X Error) → (HasCleanDisk new → OnOk r (IsUnchanged old new)) → OnOk r (HasCleanDisk new → standing new ≡ standing old)
+        go (Err e) h = tt
+        go (Ok x) h = λ clean. λ i. record { now = (h clean).0.now_is i; kept = (h clean).0.committed_is i; inside = (h clean).0.mode i; limit = asks.survives.limit i }
+
+    pub asks_opens : OnOk result (IsIntact new → IsOpen old × IsOpen new)
+    unfolding IsIntact IsOpen
+    asks_opens = go result asks.same
+      where
+        go : (r : Result X Error) → (HasCleanDisk new → OnOk r (IsUnchanged old new)) → OnOk r (HasCleanDisk new → IsTrue old.is_open × IsTrue new.is_open)
+        go (Err e) h = tt
+        go (Ok x) h = λ clean. ((h clean).0.was_open, (h clean).0.is_open)
+
+    pub asks_trouble : IfErr result (λ e. IsIntact new → (standing old).limit ≡ None → is_trouble e ≡ true)
+    unfolding IsIntact standing
+    asks_trouble = go result asks.trouble
+      where
+        go : (r : Result X Error) → (HasCleanDisk new → old.step_limit ≡ None → IfErr r (λ e. is_trouble e ≡ true)) → IfErr r (λ e. HasCleanDisk new → old.step_limit ≡ None → is_trouble e ≡ true)
+        go (Ok x) h = tt
+        go (Err e) h = h
+
+    asks_unwinds : OnErr result (IsClean new → Unwinds (standing old) (standing new))
+    unfolding IsIntact IsOpen
+    asks_unwinds = go result asks.undone
+      where
+        go : (r : Result X Error) → (HasCleanDisk new → OnErr r (IsUndone old new)) → OnErr r (IsClean new → Unwinds (standing old) (standing new))
+        go (Ok x) h = tt
+        go (Err e) h = λ c. unwinds old new asks.survives c.is_open (h c.intact)
+
+    pub asks_within : Within old new
+    asks_within = record {
+      follows = asks_follows;
+      kept = λ c. (go result asks_same asks_unwinds c).0;
+      settled = λ c. (go result asks_same asks_unwinds c).1;
+      survives = crash_within asks_follows asks.survives;
+    }
+      where
+        go : (r : Result X Error) → OnOk r (IsIntact new → standing new ≡ standing old) → OnErr r (IsClean new → Unwinds (standing old) (standing new)) → IsClean new → ((standing new).kept ≡ (standing old).kept) × IsSettled (standing new)
+        go (Ok x) ok err c = undone_leaves c (inside (asks_follows.clean c)) (inl (ok c.intact))
+        go (Err e) ok err c = undone_leaves c (inside (asks_follows.clean c)) (err c)
+
+  -- ---- a write
+
+  module _ {X : Type 0} (result : Result X Error) (changes : Changes old new result) where
+    changes_follows : Follows old new
+    changes_follows = follows old new changes.survives changes.up
+
+    pub changes_opens : OnOk result (IsIntact new → IsOpen old → IsOpen new)
+    unfolding IsIntact IsOpen
+    changes_opens = go result changes.inside
+      where
+        go : (r : Result X Error) → (HasCleanDisk new → IsTrue old.is_open → OnOk r (StaysInside old new)) → OnOk r (HasCleanDisk new → IsTrue old.is_open → IsTrue new.is_open)
+        go (Err e) h = tt
+        go (Ok x) h = λ clean up. (h clean up).is_open
+
+    changes_stays : OnOk result (IsClean new → StaysInside old new)
+    unfolding IsIntact IsOpen
+    changes_stays = go result changes.inside
+      where
+        go : (r : Result X Error) → (HasCleanDisk new → IsTrue old.is_open → OnOk r (StaysInside old new)) → OnOk r (IsClean new → StaysInside old new)
+        go (Err e) h = tt
+        go (Ok x) h = λ c. h c.intact (changes.up c.intact c.is_open)
+
+    changes_unwinds : OnErr result (IsClean new → Unwinds (standing old) (standing new))
+    unfolding IsIntact IsOpen
+    changes_unwinds = go result changes.undone
+      where
+        go : (r : Result X Error) → (HasCleanDisk new → OnErr r (IsUndone old new)) → OnErr r (IsClean new → Unwinds (standing old) (standing new))
+        go (Ok x) h = tt
+        go (Err e) h = λ c. unwinds old new changes.survives c.is_open (h c.intact)
+
+    stayed : (standing old).inside ≡ true → StaysInside old new → ((standing new).kept ≡ (standing old).kept) × ((standing new).inside ≡ true)
+    unfolding standing
+    stayed was stays = (stays.committed was, stays.inside was)
+
+    pub changes_within : Within old new
+    changes_within = record {
+      follows = changes_follows;
+      kept = λ c. (go result changes_stays changes_unwinds c).0;
+      settled = λ c. (go result changes_stays changes_unwinds c).1;
+      survives = crash_within changes_follows changes.survives;
+    }
+      where
+        go : (r : Result X Error) → OnOk r (IsClean new → StaysInside old new) → OnErr r (IsClean new → Unwinds (standing old) (standing new)) → IsClean new → ((standing new).kept ≡ (standing old).kept) × IsSettled (standing new)
+        go (Ok x) ok err c = let it = stayed (inside (changes_follows.clean c)) (ok c) in (it.0, inl it.1)
+        go (Err e) ok err c = undone_leaves c (inside (changes_follows.clean c)) (err c)
+
+    -- the transaction goes on
+    pub changes_inside : OnOk result (IsClean new → (standing new).inside ≡ true)
+    changes_inside = go result changes_stays
+      where
+        go : (r : Result X Error) → OnOk r (IsClean new → StaysInside old new) → OnOk r (IsClean new → (standing new).inside ≡ true)
+        go (Err e) h = tt
+        go (Ok x) h = λ c. (stayed (inside (changes_follows.clean c)) (h c)).1
+
+    -- the equation of a write's tables
+    pub changes_holds : (tables : Tables) → (HasCleanDisk new → IsTrue old.is_open → OnOk result (IsHost new.now × (tables_in new.now ≡ tables))) → OnOk result (IsClean new → Holds tables (standing new))
+    unfolding IsIntact IsOpen standing
+    changes_holds tables = go result changes_stays
+      where
+        go : (r : Result X Error) → OnOk r (IsClean new → StaysInside old new) → (HasCleanDisk new → IsTrue old.is_open → OnOk r (IsHost new.now × (tables_in new.now ≡ tables))) → OnOk r (IsClean new → Holds tables (standing new))
+        go (Err e) stays h = tt
+        go (Ok x) stays h = λ c.
+            let was = changes_follows.clean c in
+            let it = h c.intact was.is_open in
+            record { within = record { inside = (stayed (inside was) (stays c)).1; host = it.0 }; is = it.1 }
+
+-- what holds of a value on an intact disk holds on a clean connection
+pub if_clean : {X E : Type 0} (new : State) (result : Result X E) (P : X → Type 0) → (HasCleanDisk new → IfOk result P) → IfOk result (λ x. IsClean new → P x)
+unfolding IsIntact
+if_clean new (Ok x) P h = λ c. h c.intact
+if_clean new (Err e) P h = tt
+
+-- ---- all that is said of a question, and of a write
+
+pub record Question {X : Type 0} (old new : State) (rows_in : X → List Row) (shown : Tables → List Row) (result : Result X Error) : Type 0 where
+  pub within : Within old new
+  pub opens : OnOk result (IsIntact new → IsOpen old × IsOpen new)
+  pub same : OnOk result (IsIntact new → standing new ≡ standing old)
+  pub rows : IfOk result (λ x. IsClean new → rows_in x ≡ shown (tables_in (standing old).now))
+  pub trouble : IfErr result (λ e. IsIntact new → (standing old).limit ≡ None → is_trouble e ≡ true)
+
+pub question : {X : Type 0} (old new : State) (rows_in : X → List Row) (shown : Tables → List Row) (result : Result X Error) → (IsClean old → IsInside (standing old)) → Asks old new result
+    → (HasCleanDisk new → IfOk result (λ x. rows_in x ≡ shown (tables old))) → Question old new rows_in shown result
+unfolding standing
+question old new rows_in shown result inside asks rows = record {
+  within = asks_within old new (λ c. (inside c).inside) result asks;
+  opens = asks_opens old new (λ c. (inside c).inside) result asks;
+  same = asks_same old new (λ c. (inside c).inside) result asks;
+  rows = if_clean new result (λ x. rows_in x ≡ shown (tables old)) rows;
+  trouble = asks_trouble old new (λ c. (inside c).inside) result asks;
+}
+
+pub record Write {X : Type 0} (old new : State) (change : Tables → Tables) (result : Result X Error) : Type 0 where
+  pub within : Within old new
+  pub opens : OnOk result (IsIntact new → IsOpen old → IsOpen new)
+  pub holds : OnOk result (IsClean new → Holds (change (tables_in (standing old).now)) (standing new))
+
+pub write : {X : Type 0} (old new : State) (change : Tables → Tables) (result : Result X Error) → (IsClean old → IsInside (standing old)) → Changes old new result
+    → (HasCleanDisk new → IsTrue old.is_open → OnOk result (IsHost new.now × (tables_in new.now ≡ change (tables old)))) → Write old new change result
+unfolding standing
+write old new change result inside changes holds = record {
+  within = changes_within old new (λ c. (inside c).inside) result changes;
+  opens = changes_opens old new (λ c. (inside c).inside) result changes;
+  holds = changes_holds old new (λ c. (inside c).inside) result changes (change (tables old)) holds;
+}
+
+pub error_always : {X : Type 0} (old new : State) (result : Result X Error) → (HasCleanDisk new → old.step_limit ≡ None → IfErr result (λ e. is_trouble e ≡ true)) → IfErr result (λ e. IsIntact new → (standing old).limit ≡ None → is_trouble e ≡ true)
+unfolding IsIntact standing
+error_always old new (Ok x) h = tt
+error_always old new (Err e) h = h
+
+pub error_if : {X A : Type 0} (old new : State) (result : Result X Error) → (HasCleanDisk new → old.step_limit ≡ None → A → IfErr result (λ e. is_trouble e ≡ true)) → IfErr result (λ e. IsIntact new → (standing old).limit ≡ None → A → is_trouble e ≡ true)
+unfolding IsIntact standing
+error_if old new (Ok x) h = tt
+error_if old new (Err e) h = h

@@ -1,0 +1,10 @@
+pub mod TurnLemmas
+pub mod Calls
+pub mod Finds
+pub mod Storing
+pub mod TenantSteps
+pub mod Committing
+pub mod Stamping
+pub mod KeySteps
+pub mod NameTexts
+pub mod CredentialSteps

@@ -1,0 +1,75 @@
+-- What is seen of a tenant, and the step that adds one.
+use Rattle.std.proofs.Common.{◌≡◌, ◌≢◌, ◌≤◌, ℕ, nat_le, ◌^◌, Bool, true, false, not, List, [], ◌∷◌, ◌++◌, find, Option, Some, None, option_map, is_some, is_none, IsTrue, Result, Ok, Err, cond, refl, sym, ap, ◌∙◌, subst}
+use Rattle.std.proofs.lemmas.Bool.{leb-true}
+use Rattle.sqlite.specs.State.{State}
+use Rattle.bh_types.specs.Names.{is_tenant_name}
+use Rattle.bh_types.specs.declared.refusal.Refusal.{Refusal}
+use Rattle.bh_types.specs.declared.refusal.Refusal.TheVariants.{TenantExists}
+use Rattle.bh_model.specs.State.{Octets, State as Machine, new_tenant}
+use Rattle.bh_model.specs.Operations.{Done, add_tenant}
+use Rattle.bh_tables.specs.Typed.{TenantRow, Tables, tables_in}
+use Rattle.bh_tables.specs.Shown.{is_tenant}
+use Rattle.bh_view.specs.View.{view, rows_of, state_of}
+use Rattle.bh_view.specs.Sound.{IsSound}
+use Rattle.bh_view.specs.Becomes.{Becomes}
+use Rattle.bh_view.proofs.FindLemmas.{first_find, tenant_found}
+use Rattle.bh_view.proofs.TenantChanges.{tenant_added}
+use Rattle.bh_storage.specs.Calls.{IsWorking, Gives}
+use Rattle.bh_schema.specs.Layer.{standing, IsClean, Holds}
+use Rattle.bh_schema.specs.Storage.{seen_in}
+use Rattle.bh_schema.proofs.Storing.{shows_in, holds_seen}
+
+-- ---- options
+
+pub some_mapped : {X Y : Type 0} (f : X → Y) (o : Option X) → is_some (option_map f o) ≡ is_some o
+some_mapped f None = refl
+some_mapped f (Some x) = refl
+
+pub none_of : {X : Type 0} (o : Option X) → is_some o ≡ false → o ≡ None
+none_of None h = refl
+none_of (Some x) h = absurd (cc)
+
+pub some_of : {X : Type 0} (o : Option X) → is_some o ≡ true → (x : X) × (o ≡ Some x)
+some_of None h = absurd (cc)
+some_of (Some x) h = (x, refl)
+
+-- ---- a tenant that is found
+
+pub view_found : (tables : Tables) (t : Octets) → is_some (view tables t) ≡ is_some (find (is_tenant t) tables.tenants)
+view_found tables t = ap is_some (tenant_found tables t) ∙ some_mapped _ _ ∙ ap is_some (first_find (is_tenant t) tables.tenants)
+
+pub tenant_seen : {X : Type 0} (s : State) (t : Octets) (read : TenantRow → X) (found : Option X) → IsWorking (seen_in s) → found ≡ option_map read (find (is_tenant t) (tables_in (standing s).now).tenants)
+    → is_some (view (seen_in s).now t) ≡ is_some found
+tenant_seen s t read found working is = view_found (seen_in s).now t ∙ ap (λ (x : Tables). is_some (find (is_tenant t) x.tenants)) (shows_in s working) ∙ sym (ap is_some is ∙ some_mapped read _)
+
+-- ---- the step
+
+pub required : {E : Type 0} (b : Bool) (e : E) → b ≡ true → Rattle.bh_model.specs.Steps.require b e ≡ Ok tt
+required b e h = ap (λ x. Rattle.bh_model.specs.Steps.require x e) h
+
+pub refused : {E : Type 0} (b : Bool) (e : E) → b ≡ false → Rattle.bh_model.specs.Steps.require b e ≡ Err e
+refused b e h = ap (λ x. Rattle.bh_model.specs.Steps.require x e) h
+
+pub adds_tenant : (t : Octets) (quota : ℕ) (s : Option Machine) → IsTrue (is_tenant_name t) → nat_le quota (2 ^ 60) ≡ true → s ≡ None → add_tenant t quota s ≡ Ok (Done, Some (new_tenant quota))
+adds_tenant t quota s name few none = rw (required (is_tenant_name t) _ name, required (nat_le quota (2 ^ 60)) _ few, none) refl
+
+pub tenant_exists : (t : Octets) (quota : ℕ) (s : Option Machine) → IsTrue (is_tenant_name t) → nat_le quota (2 ^ 60) ≡ true → is_some s ≡ true → add_tenant t quota s ≡ Err TenantExists
+tenant_exists t quota s name few there = let it = some_of s there in rw (required (is_tenant_name t) _ name, required (nat_le quota (2 ^ 60)) _ few, it.1) refl
+
+pub gives_of : {Y : Type 0} (t : Octets) (step : Option Machine → Result (Y × Option Machine) Refusal) (y : Y) (s : Option Machine) (old new : Tables) → step (view old t) ≡ Ok (y, s) → Becomes t s old new → Gives t step y old new
+gives_of t step y s old new given b = record { gives = given ∙ ap (λ v. Ok (y, v)) (sym b.shown); others = b.others; latest = b.latest }
+
+pub works_of : (t : Octets) (s : Option Machine) (old new : State) → (seen_in new).inside ≡ true → Becomes t s (seen_in old).now (seen_in new).now → IsWorking (seen_in new)
+works_of t s old new inside b = record { inside = inside; sound = b.sound }
+
+-- a tenant's row that was added
+pub tenant_becomes : (old new : State) (t : Octets) (quota : ℕ) → IsWorking (seen_in old) → view (seen_in old).now t ≡ None → IsTrue (is_tenant_name t) → quota ≤ 2 ^ 60
+    → Holds (record (tables_in (standing old).now) { tenants = (tables_in (standing old).now).tenants ++ record { tenant = t; quota = quota; next_version = 1; next_upload = 1; next_entry = 1 } ∷ [] }) (standing new)
+    → Becomes t (Some (new_tenant quota)) (seen_in old).now (seen_in new).now
+tenant_becomes old new t quota working none name few h =
+    tenant_added (seen_in old).now (seen_in new).now t quota working.sound none name few ((holds_seen _ new h).0
+    ∙ ap (λ (x : Tables). record x { tenants = x.tenants ++ record { tenant = t; quota = quota; next_version = 1; next_upload = 1; next_entry = 1 } ∷ [] }) (sym (shows_in old working)))
+
+-- the tables that a write holds, after questions that changed nothing
+pub holds_after : (old mid new : State) (change : Tables → Tables) → standing mid ≡ standing old → Holds (change (tables_in (standing mid).now)) (standing new) → Holds (change (tables_in (standing old).now)) (standing new)
+holds_after old mid new change same = subst (λ x. Holds (change (tables_in x.now)) (standing new)) same

@@ -1,0 +1,6 @@
+pub mod Layer
+pub mod Rows
+pub mod Storage
+pub mod Troubles
+pub mod Views
+pub mod Known

@@ -1,0 +1,53 @@
+-- What the columns that are read stand for, and which new rows no key forbids.
+use Rattle.std.specs.Prelude.{◌≡◌, ◌<◌, ◌^◌, ℕ, true, false}
+use Rattle.std.specs.List.{list_any}
+use Rattle.bh_tables.specs.Schema.{Octets}
+use Rattle.bh_tables.specs.Typed.{HostRow, TenantRow, KeyRow, BucketRow, VersionRow, Tables}
+use Rattle.bh_tables.specs.Shown.{is_tenant, is_key, is_bucket, is_entry, is_version}
+use Rattle.bh_schema.specs.declared.rows.tenants.TenantNumbers.{TenantNumbers}
+use Rattle.bh_schema.specs.declared.rows.buckets.BucketNumbers.{BucketNumbers}
+
+abbrev pub latest_in : HostRow → ℕ
+latest_in h = h.latest
+
+abbrev pub with_stamp : ℕ → HostRow → HostRow
+with_stamp n h = record h { latest = n }
+
+abbrev pub tenant_numbers : TenantRow → TenantNumbers
+tenant_numbers t = record { quota = t.quota; next_version = t.next_version; next_upload = t.next_upload; next_entry = t.next_entry }
+
+abbrev pub secret_in : KeyRow → Octets
+secret_in k = k.secret
+
+abbrev pub bucket_numbers : BucketRow → BucketNumbers
+bucket_numbers b = record { created = b.created; state = b.state; days = b.days }
+
+-- the columns of a version that are read
+pub record FoundVersion : Type 0 where
+  pub seq : ℕ
+  pub marker : ℕ
+  pub stamp : ℕ
+  pub size : ℕ
+  pub checksum : Octets
+  pub bytes : Octets
+
+abbrev pub found_version : VersionRow → FoundVersion
+found_version v = record { seq = v.seq; marker = v.marker; stamp = v.stamp; size = v.size; checksum = v.checksum; bytes = v.bytes }
+
+-- ---- rows that may be added
+
+pub record IsNewTenant (tables : Tables) (tenant : Octets) : Type 0 where
+  pub free : list_any (is_tenant tenant) tables.tenants ≡ false
+
+pub record IsNewKey (tables : Tables) (tenant name : Octets) : Type 0 where
+  pub free : list_any (is_key tenant name) tables.keys ≡ false
+  pub owned : list_any (is_tenant tenant) tables.tenants ≡ true
+
+pub record IsNewBucket (tables : Tables) (tenant bucket : Octets) : Type 0 where
+  pub free : list_any (is_bucket tenant bucket) tables.buckets ≡ false
+  pub owned : list_any (is_tenant tenant) tables.tenants ≡ true
+
+pub record IsNewVersion (tables : Tables) (tenant bucket okey : Octets) (seq id : ℕ) : Type 0 where
+  pub unnumbered : list_any (is_entry tenant seq) tables.versions ≡ false
+  pub free : list_any (is_version tenant bucket okey id) tables.versions ≡ false
+  pub owned : list_any (is_bucket tenant bucket) tables.buckets ≡ true

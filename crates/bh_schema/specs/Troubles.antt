@@ -1,0 +1,10 @@
+-- An error of the store, as the trouble that is told.
+use Rattle.sqlite.specs.declared.error.Error.{Error}
+use Rattle.sqlite.specs.declared.error.Error.TheVariants.{SqliteFailure}
+use Rattle.sqlite.specs.declared.error.ErrorCode.TheVariants.{OutOfMemory}
+use Rattle.bh_storage.specs.declared.error.Trouble.{Trouble}
+use Rattle.bh_storage.specs.declared.error.Trouble.TheVariants.{Memory, Store}
+
+abbrev pub trouble_of : Error → Trouble
+trouble_of (SqliteFailure OutOfMemory) = Memory
+trouble_of _ = Store

@@ -1,0 +1,41 @@
+ghost use Rattle.std.specs.Prelude.{◌≡◌, ℕ, List};
+
+use bh_types::limits::{Limits, Tuning};
+use sqlite::{Alter, Connection};
+
+/// Some function from bytes to 32 bytes, of which nothing else is assumed.
+pub trait Digester {
+    /// The digest of some bytes.
+    ghost digest_of: { Self → List ℕ → List ℕ };
+
+    fn digest(&self, bytes: &[u8]) -> [u8; 32]
+        ensures { result ≡ digest_of self.now bytes.now };
+}
+
+/// A host of buckets over a SQL database.
+#[derive(Drop)]
+pub struct Host<S: Alter + Drop, D: Digester + Drop> {
+    /// The database.
+    pub connection: Connection<S>,
+    /// Names blocks of bytes.
+    pub digester: D,
+    /// What the host was made with.
+    pub limits: Limits,
+    /// What this process is set to.
+    pub tuning: Tuning,
+}
+
+impl<S: Alter + Drop, D: Digester + Drop> Host<S, D> {
+    /// The database, which is what is left of the host.
+    pub fn into_connection(self) -> Connection<S>
+        ensures { result ≡ self.connection }
+    {
+        let Host {
+            connection,
+            digester: _,
+            limits: _,
+            tuning: _,
+        } = self;
+        connection
+    }
+}

@@ -1,0 +1,70 @@
+ghost use Rattle.std.specs.Prelude.{◌≡◌};
+ghost use Rattle.sqlite.specs.Held.{state};
+ghost use Rattle.bh_model.specs.Operations.{Done, add_key, remove_key};
+ghost use Rattle.bh_storage.specs.Calls.{IsWorking, Unless, Carries};
+ghost use Rattle.bh_schema.specs.Layer.{IsClean};
+ghost use Rattle.bh_schema.specs.Storage.{seen_in, Keeps};
+
+use crate::host::{Digester, Host};
+use crate::rows::keys::{delete_key, insert_key};
+use crate::rows::known::{Known, find_key};
+use crate::trouble::told;
+use crate::words::{are_names, are_words};
+use bh_storage::error::StepError;
+use bh_types::refusal::Refusal;
+use sqlite::Alter;
+use std::alloc::Global;
+
+impl<S: Alter + Drop, D: Digester + Drop> Host<S, D> {
+    /// Adds an access key to a tenant: InvalidName for either name or the secret, NoSuchTenant,
+    /// KeyExists.
+    pub fn key_add(
+        &mut self,
+        alloc: Global,
+        tenant: &str,
+        name: &str,
+        secret: &str,
+    ) -> Result<(), StepError>
+        requires { IsClean (state S.Store self.old.connection) → IsWorking (seen_in (state S.Store self.old.connection)) }
+        ensures working { Unless result (IsClean (state S.Store self.new.connection) → IsWorking (seen_in (state S.Store self.new.connection))) }
+        ensures within { Keeps S.Store self.old.connection self.new.connection }
+        ensures carries { IsClean (state S.Store self.new.connection)
+            → Carries (λ _. Done) tenant.now (add_key tenant.now name.now secret.now) (seen_in (state S.Store self.old.connection)).now (seen_in (state S.Store self.new.connection)).now result }
+    {
+        if !are_words(alloc, tenant, name, secret)? {
+            return Err(StepError::Refused(Refusal::InvalidName));
+        }
+        match told(find_key(&mut self.connection, tenant, name))? {
+            Known::NoTenant => return Err(StepError::Refused(Refusal::NoSuchTenant)),
+            Known::Key => return Err(StepError::Refused(Refusal::KeyExists)),
+            Known::NoKey => (),
+        }
+        told(insert_key(&mut self.connection, tenant, name, secret))?;
+        Ok(())
+    }
+
+    /// Takes an access key of a tenant away: InvalidName for either name, NoSuchTenant, NoSuchKeyName.
+    pub fn key_remove(
+        &mut self,
+        alloc: Global,
+        tenant: &str,
+        name: &str,
+    ) -> Result<(), StepError>
+        requires { IsClean (state S.Store self.old.connection) → IsWorking (seen_in (state S.Store self.old.connection)) }
+        ensures working { Unless result (IsClean (state S.Store self.new.connection) → IsWorking (seen_in (state S.Store self.new.connection))) }
+        ensures within { Keeps S.Store self.old.connection self.new.connection }
+        ensures carries { IsClean (state S.Store self.new.connection)
+            → Carries (λ _. Done) tenant.now (remove_key tenant.now name.now) (seen_in (state S.Store self.old.connection)).now (seen_in (state S.Store self.new.connection)).now result }
+    {
+        if !are_names(alloc, tenant, name)? {
+            return Err(StepError::Refused(Refusal::InvalidName));
+        }
+        match told(find_key(&mut self.connection, tenant, name))? {
+            Known::NoTenant => return Err(StepError::Refused(Refusal::NoSuchTenant)),
+            Known::NoKey => return Err(StepError::Refused(Refusal::NoSuchKeyName)),
+            Known::Key => (),
+        }
+        told(delete_key(&mut self.connection, tenant, name))?;
+        Ok(())
+    }
+}

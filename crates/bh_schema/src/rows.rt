@@ -1,0 +1,10 @@
+//! The SQL texts that a host runs, one call for each.
+
+pub mod buckets;
+pub mod host;
+pub mod keys;
+pub mod known;
+mod number;
+pub mod tenants;
+pub mod transactions;
+pub mod versions;

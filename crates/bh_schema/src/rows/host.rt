@@ -1,0 +1,76 @@
+ghost use Rattle.std.specs.Prelude.{◌≡◌, ◌++◌, ◌∷◌, [], ◌<◌, ◌^◌, true, None, map, filter, find, option_map, IfOk, IfErr, OnOk};
+ghost use Rattle.sqlite.specs.Held.{state};
+ghost use Rattle.bh_tables.specs.Typed.{HostRow as Stored, tables_in};
+ghost use Rattle.bh_tables.specs.Shown.{shown_latest};
+ghost use Rattle.bh_rows.specs.Means.{is_trouble};
+ghost use Rattle.bh_schema.specs.Layer.{standing, IsIntact, IsOpen, IsClean, IsInside, Holds, Within};
+ghost use Rattle.bh_schema.specs.Rows.{latest_in, with_stamp};
+
+use crate::rows::number::number;
+use sqlite::{Alter, Connection, Error, Row};
+
+fn read_latest(row: &Row) -> Result<u64, Error>
+    ensures read { IfOk result (λ latest. (h : Stored) → row.now ≡ shown_latest h → latest ≡ h.latest) }
+    ensures trouble { IfErr result (λ e. (h : Stored) → row.now ≡ shown_latest h → is_trouble e ≡ true) }
+{
+    row.get(0)
+}
+
+fn latest_rows<S: Alter>(connection: &mut Connection<S>) -> Result<Vec<Row>, Error>
+    requires inside { IsClean (state S.Store connection.old) → IsInside (standing (state S.Store connection.old)) }
+    ensures within { Within (state S.Store connection.old) (state S.Store connection.new) }
+    ensures opens { OnOk result (IsIntact (state S.Store connection.new) → IsOpen (state S.Store connection.old) × IsOpen (state S.Store connection.new)) }
+    ensures same { OnOk result (IsIntact (state S.Store connection.new) → standing (state S.Store connection.new) ≡ standing (state S.Store connection.old)) }
+    ensures rows { IfOk result (λ rows. IsClean (state S.Store connection.new) → rows.items ≡ map shown_latest (filter (λ _. true) (tables_in (standing (state S.Store connection.old)).now).host)) }
+    ensures trouble { IfErr result (λ e. IsIntact (state S.Store connection.new) → (standing (state S.Store connection.old)).limit ≡ None → is_trouble e ≡ true) }
+{
+    connection.query_all(
+        "SELECT latest FROM host ORDER BY rowid",
+        &[],
+    )
+}
+
+/// The last stamp, in seconds since 1970, if the host has its row.
+pub fn find_latest<S: Alter>(connection: &mut Connection<S>) -> Result<Option<u64>, Error>
+    requires inside { IsClean (state S.Store connection.old) → IsInside (standing (state S.Store connection.old)) }
+    ensures within { Within (state S.Store connection.old) (state S.Store connection.new) }
+    ensures opens { OnOk result (IsIntact (state S.Store connection.new) → IsOpen (state S.Store connection.old) × IsOpen (state S.Store connection.new)) }
+    ensures same { OnOk result (IsIntact (state S.Store connection.new) → standing (state S.Store connection.new) ≡ standing (state S.Store connection.old)) }
+    ensures found { IfOk result (λ found. IsClean (state S.Store connection.new) → found ≡ option_map latest_in (find (λ _. true) (tables_in (standing (state S.Store connection.old)).now).host)) }
+    ensures trouble { IfErr result (λ e. IsIntact (state S.Store connection.new) → (standing (state S.Store connection.old)).limit ≡ None → is_trouble e ≡ true) }
+{
+    let rows = latest_rows(connection)?;
+    match rows.first() {
+        None => Ok(None),
+        Some(row) => Ok(Some(read_latest(row)?)),
+    }
+}
+
+/// Sets the last stamp.
+pub fn set_latest<S: Alter>(connection: &mut Connection<S>, stamp: u64) -> Result<usize, Error>
+    requires inside { IsClean (state S.Store connection.old) → IsInside (standing (state S.Store connection.old)) }
+    requires small { stamp < 2 ^ 63 }
+    ensures within { Within (state S.Store connection.old) (state S.Store connection.new) }
+    ensures opens { OnOk result (IsIntact (state S.Store connection.new) → IsOpen (state S.Store connection.old) → IsOpen (state S.Store connection.new)) }
+    ensures holds { OnOk result (IsClean (state S.Store connection.new) → Holds (record (tables_in (standing (state S.Store connection.old)).now) { host = map (with_stamp stamp) (tables_in (standing (state S.Store connection.old)).now).host }) (standing (state S.Store connection.new))) }
+{
+    connection.execute(
+        "UPDATE host SET latest = ?1",
+        &[number(stamp)],
+    )
+}
+
+/// Adds the row of a new host, whose last stamp is 0.
+pub fn insert_host<S: Alter>(connection: &mut Connection<S>, min_part: u64, max_body: u64) -> Result<usize, Error>
+    requires inside { IsClean (state S.Store connection.old) → IsInside (standing (state S.Store connection.old)) }
+    requires min_part { min_part < 2 ^ 63 }
+    requires max_body { max_body < 2 ^ 63 }
+    ensures within { Within (state S.Store connection.old) (state S.Store connection.new) }
+    ensures opens { OnOk result (IsIntact (state S.Store connection.new) → IsOpen (state S.Store connection.old) → IsOpen (state S.Store connection.new)) }
+    ensures holds { OnOk result (IsClean (state S.Store connection.new) → Holds (record (tables_in (standing (state S.Store connection.old)).now) { host = (tables_in (standing (state S.Store connection.old)).now).host ++ record { version = 0; latest = 0; min_part = min_part; max_body = max_body } ∷ [] }) (standing (state S.Store connection.new))) }
+{
+    connection.execute(
+        "INSERT INTO host (version, latest, min_part, max_body) VALUES (0, 0, ?1, ?2)",
+        &[number(min_part), number(max_body)],
+    )
+}

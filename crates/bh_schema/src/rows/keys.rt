@@ -1,0 +1,82 @@
+ghost use Rattle.std.specs.Prelude.{◌≡◌, ◌++◌, ◌∷◌, [], true, None, Some, map, filter, find, option_map, IfOk, IfErr, OnOk};
+ghost use Rattle.sqlite.specs.Held.{state};
+ghost use Rattle.std.specs.String.{string_bytes};
+ghost use Rattle.std.specs.Str.{IsUtf8};
+ghost use Rattle.sqlite_keyed.specs.Lists.{delete_where};
+ghost use Rattle.bh_tables.specs.Typed.{KeyRow as Stored, tables_in};
+ghost use Rattle.bh_tables.specs.Shown.{is_key, shown_secret};
+ghost use Rattle.bh_rows.specs.Means.{is_trouble};
+ghost use Rattle.bh_schema.specs.Layer.{standing, IsIntact, IsOpen, IsClean, IsInside, Holds, Within};
+ghost use Rattle.bh_schema.specs.Rows.{secret_in, IsNewKey};
+
+use sqlite::types::ToSql;
+use sqlite::{Alter, Connection, Error, Row};
+
+fn read_secret(row: &Row) -> Result<String, Error>
+    ensures read { IfOk result (λ secret. (k : Stored) → row.now ≡ shown_secret k → string_bytes secret ≡ k.secret) }
+    ensures trouble { IfErr result (λ e. (k : Stored) → row.now ≡ shown_secret k → IsUtf8 k.secret → is_trouble e ≡ true) }
+{
+    row.get(0)
+}
+
+fn secret_rows<S: Alter>(connection: &mut Connection<S>, tenant: &str, name: &str) -> Result<Vec<Row>, Error>
+    requires inside { IsClean (state S.Store connection.old) → IsInside (standing (state S.Store connection.old)) }
+    ensures within { Within (state S.Store connection.old) (state S.Store connection.new) }
+    ensures opens { OnOk result (IsIntact (state S.Store connection.new) → IsOpen (state S.Store connection.old) × IsOpen (state S.Store connection.new)) }
+    ensures same { OnOk result (IsIntact (state S.Store connection.new) → standing (state S.Store connection.new) ≡ standing (state S.Store connection.old)) }
+    ensures rows { IfOk result (λ rows. IsClean (state S.Store connection.new) → rows.items ≡ map shown_secret (filter (is_key tenant.now name.now) (tables_in (standing (state S.Store connection.old)).now).keys)) }
+    ensures trouble { IfErr result (λ e. IsIntact (state S.Store connection.new) → (standing (state S.Store connection.old)).limit ≡ None → is_trouble e ≡ true) }
+{
+    connection.query_all(
+        "SELECT secret FROM keys WHERE tenant = ?1 AND name = ?2 ORDER BY rowid",
+        &[tenant.to_sql(), name.to_sql()],
+    )
+}
+
+/// The secret of a tenant's access key of this name, if there is one.
+pub fn find_secret<S: Alter>(connection: &mut Connection<S>, tenant: &str, name: &str) -> Result<Option<String>, Error>
+    requires inside { IsClean (state S.Store connection.old) → IsInside (standing (state S.Store connection.old)) }
+    ensures within { Within (state S.Store connection.old) (state S.Store connection.new) }
+    ensures opens { OnOk result (IsIntact (state S.Store connection.new) → IsOpen (state S.Store connection.old) × IsOpen (state S.Store connection.new)) }
+    ensures same { OnOk result (IsIntact (state S.Store connection.new) → standing (state S.Store connection.new) ≡ standing (state S.Store connection.old)) }
+    ensures found { IfOk result (λ found. IsClean (state S.Store connection.new) → option_map string_bytes found ≡ option_map secret_in (find (is_key tenant.now name.now) (tables_in (standing (state S.Store connection.old)).now).keys)) }
+    ensures trouble { IfErr result (λ e. IsIntact (state S.Store connection.new) → (standing (state S.Store connection.old)).limit ≡ None → ((k : Stored) → find (is_key tenant.now name.now) (tables_in (standing (state S.Store connection.old)).now).keys ≡ Some k → IsUtf8 k.secret) → is_trouble e ≡ true) }
+{
+    let rows = secret_rows(connection, tenant, name)?;
+    match rows.first() {
+        None => Ok(None),
+        Some(row) => Ok(Some(read_secret(row)?)),
+    }
+}
+
+/// Adds an access key to a tenant.
+pub fn insert_key<S: Alter>(connection: &mut Connection<S>, tenant: &str, name: &str, secret: &str) -> Result<usize, Error>
+    requires inside { IsClean (state S.Store connection.old) → IsInside (standing (state S.Store connection.old)) }
+    ensures within { Within (state S.Store connection.old) (state S.Store connection.new) }
+    ensures opens { OnOk result (IsIntact (state S.Store connection.new) → IsOpen (state S.Store connection.old) → IsOpen (state S.Store connection.new)) }
+    ensures holds { OnOk result (IsClean (state S.Store connection.new) → Holds (record (tables_in (standing (state S.Store connection.old)).now) { keys = (tables_in (standing (state S.Store connection.old)).now).keys ++ record { tenant = tenant.now; name = name.now; secret = secret.now } ∷ [] }) (standing (state S.Store connection.new))) }
+    ensures trouble { IfErr result (λ e. IsIntact (state S.Store connection.new) → (standing (state S.Store connection.old)).limit ≡ None → IsNewKey (tables_in (standing (state S.Store connection.old)).now) tenant.now name.now → is_trouble e ≡ true) }
+{
+    // Asked for what it ensures: the rows obey the schema.
+    let _schema = connection.schema();
+    connection.execute(
+        "INSERT INTO keys (tenant, name, secret) VALUES (?1, ?2, ?3)",
+        &[tenant.to_sql(), name.to_sql(), secret.to_sql()],
+    )
+}
+
+/// Takes an access key away, if it is there.
+pub fn delete_key<S: Alter>(connection: &mut Connection<S>, tenant: &str, name: &str) -> Result<usize, Error>
+    requires inside { IsClean (state S.Store connection.old) → IsInside (standing (state S.Store connection.old)) }
+    ensures within { Within (state S.Store connection.old) (state S.Store connection.new) }
+    ensures opens { OnOk result (IsIntact (state S.Store connection.new) → IsOpen (state S.Store connection.old) → IsOpen (state S.Store connection.new)) }
+    ensures holds { OnOk result (IsClean (state S.Store connection.new) → Holds (record (tables_in (standing (state S.Store connection.old)).now) { keys = delete_where (is_key tenant.now name.now) (tables_in (standing (state S.Store connection.old)).now).keys }) (standing (state S.Store connection.new))) }
+    ensures trouble { IfErr result (λ e. IsIntact (state S.Store connection.new) → (standing (state S.Store connection.old)).limit ≡ None → is_trouble e ≡ true) }
+{
+    // Asked for what it ensures: the rows obey the schema.
+    let _schema = connection.schema();
+    connection.execute(
+        "DELETE FROM keys WHERE tenant = ?1 AND name = ?2",
+        &[tenant.to_sql(), name.to_sql()],
+    )
+}

@@ -1,0 +1,42 @@
+ghost use Rattle.std.specs.Prelude.{◌≡◌, ◌⊎◌, true, OnOk, OnErr};
+ghost use Rattle.sqlite.specs.Tree.{Trees};
+ghost use Rattle.sqlite.specs.Held.{state};
+ghost use Rattle.bh_schema.specs.Layer.{standing, IsIntact, IsOpen, IsClean, Leaves, begun, committed, taken_back, Follows, LeavesNothingNew, Within, Unwinds};
+
+use sqlite::{Alter, Connection, Error};
+
+/// Begins a transaction.
+pub fn begin<S: Alter>(connection: &mut Connection<S>) -> Result<usize, Error>
+    ensures opens { OnOk result (IsIntact (state S.Store connection.new) → IsOpen (state S.Store connection.old) × IsOpen (state S.Store connection.new)) }
+    ensures begins { OnOk result (IsIntact (state S.Store connection.new) → standing (state S.Store connection.new) ≡ begun (standing (state S.Store connection.old))) }
+    ensures within { Within (state S.Store connection.old) (state S.Store connection.new) }
+    ensures survives { LeavesNothingNew (state S.Store connection.old) (state S.Store connection.new) }
+{
+    // Asked for what it ensures: outside a transaction, what is standing was committed.
+    let _outside = connection.is_autocommit();
+    connection.execute("BEGIN", &[])
+}
+
+/// Commits the transaction. An error leaves it open, or takes it back.
+pub fn commit<S: Alter>(connection: &mut Connection<S>) -> Result<usize, Error>
+    ensures opens { OnOk result (IsIntact (state S.Store connection.new) → IsOpen (state S.Store connection.old) × IsOpen (state S.Store connection.new)) }
+    ensures commits { OnOk result (IsIntact (state S.Store connection.new) → standing (state S.Store connection.new) ≡ committed (standing (state S.Store connection.old))) }
+    ensures follows { Follows (state S.Store connection.old) (state S.Store connection.new) }
+    ensures unwinds { OnErr result (IsClean (state S.Store connection.new) → Unwinds (standing (state S.Store connection.old)) (standing (state S.Store connection.new))) }
+    ensures survives { IsIntact (state S.Store connection.new) → (standing (state S.Store connection.old)).inside ≡ true
+        → (db : Trees) → Leaves (state S.Store connection.new) db → Leaves (state S.Store connection.old) db ⊎ (db ≡ (standing (state S.Store connection.old)).now.trees) }
+{
+    connection.execute("COMMIT", &[])
+}
+
+/// Ends the transaction, if one is open: what was committed before it stands.
+pub fn take_back<S: Alter>(connection: &mut Connection<S>)
+    ensures back { IsClean (state S.Store connection.new) → standing (state S.Store connection.new) ≡ taken_back (standing (state S.Store connection.old)) }
+    ensures follows { Follows (state S.Store connection.old) (state S.Store connection.new) }
+    ensures survives { LeavesNothingNew (state S.Store connection.old) (state S.Store connection.new) }
+{
+    // Asked for what it ensures: outside a transaction, what is standing was committed.
+    let _outside = connection.is_autocommit();
+    // A failure rolls back too, and outside a transaction there is nothing to take back.
+    let _ = connection.execute("ROLLBACK", &[]);
+}

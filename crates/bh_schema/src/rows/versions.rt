@@ -1,0 +1,140 @@
+ghost use Rattle.std.specs.Prelude.{◌≡◌, ◌++◌, ◌∷◌, [], ◌<◌, ◌^◌, true, None, Some, length, map, filter, find, option_map, IfOk, IfErr, OnOk};
+ghost use Rattle.sqlite.specs.Held.{state};
+ghost use Rattle.std.specs.Str.{IsUtf8};
+ghost use Rattle.sqlite_keyed.specs.Lists.{delete_where};
+ghost use Rattle.bh_tables.specs.Typed.{VersionRow as Stored, tables_in};
+ghost use Rattle.bh_tables.specs.Shown.{is_version, shown_version};
+ghost use Rattle.bh_rows.specs.Means.{is_trouble};
+ghost use Rattle.bh_schema.specs.Layer.{standing, IsIntact, IsOpen, IsClean, IsInside, Holds, Within};
+ghost use Rattle.bh_schema.specs.Rows.{found_version, IsNewVersion};
+ghost use Rattle.bh_schema.specs.Views.{version_seen};
+
+use crate::rows::number::number;
+use sqlite::types::ToSql;
+use sqlite::{Alter, Connection, Error, Row};
+
+/// What is kept of a version or a marker.
+#[derive(Debug, Drop)]
+pub struct StoredVersion {
+    /// Its entry number, which orders the versions of a key.
+    pub seq: u64,
+    /// 1 for a delete marker, 0 for a version.
+    pub marker: u64,
+    /// When it was made, in seconds since 1970.
+    pub stamp: u64,
+    /// Bytes.
+    pub size: u64,
+    /// The text of its checksum, empty for a marker.
+    pub checksum: String,
+    /// The object, empty for a marker.
+    pub bytes: Vec<u8>,
+}
+
+/// A version that is to be added.
+#[derive(Clone, Copy, Debug)]
+pub struct NewVersion<'a> {
+    pub tenant: &'a str,
+    /// Its entry number.
+    pub seq: u64,
+    pub bucket: &'a str,
+    pub okey: &'a [u8],
+    /// 0 for `null`.
+    pub id: u64,
+    /// When it is made, in seconds since 1970.
+    pub stamp: u64,
+    pub checksum: &'a str,
+    pub bytes: &'a [u8],
+}
+
+fn read_version(row: &Row) -> Result<StoredVersion, Error>
+    ensures read { IfOk result (λ version. (v : Stored) → row.now ≡ shown_version v → version_seen version ≡ found_version v) }
+    ensures trouble { IfErr result (λ e. (v : Stored) → row.now ≡ shown_version v → IsUtf8 v.checksum → is_trouble e ≡ true) }
+{
+    Ok(StoredVersion {
+        seq: row.get(0)?,
+        marker: row.get(1)?,
+        stamp: row.get(2)?,
+        size: row.get(3)?,
+        checksum: row.get(4)?,
+        bytes: row.get(5)?,
+    })
+}
+
+fn version_rows<S: Alter>(connection: &mut Connection<S>, tenant: &str, bucket: &str, okey: &[u8], id: u64) -> Result<Vec<Row>, Error>
+    requires inside { IsClean (state S.Store connection.old) → IsInside (standing (state S.Store connection.old)) }
+    requires small { id < 2 ^ 63 }
+    ensures within { Within (state S.Store connection.old) (state S.Store connection.new) }
+    ensures opens { OnOk result (IsIntact (state S.Store connection.new) → IsOpen (state S.Store connection.old) × IsOpen (state S.Store connection.new)) }
+    ensures same { OnOk result (IsIntact (state S.Store connection.new) → standing (state S.Store connection.new) ≡ standing (state S.Store connection.old)) }
+    ensures rows { IfOk result (λ rows. IsClean (state S.Store connection.new) → rows.items ≡ map shown_version (filter (is_version tenant.now bucket.now okey.now id) (tables_in (standing (state S.Store connection.old)).now).versions)) }
+    ensures trouble { IfErr result (λ e. IsIntact (state S.Store connection.new) → (standing (state S.Store connection.old)).limit ≡ None → is_trouble e ≡ true) }
+{
+    connection.query_all(
+        "SELECT seq, marker, stamp, size, sum, bytes FROM versions WHERE tenant = ?1 AND bucket = ?2 AND okey = ?3 AND id = ?4 ORDER BY rowid",
+        &[tenant.to_sql(), bucket.to_sql(), okey.to_sql(), number(id)],
+    )
+}
+
+/// The version or marker of a key with this id, if there is one; 0 is `null`.
+pub fn find_version<S: Alter>(connection: &mut Connection<S>, tenant: &str, bucket: &str, okey: &[u8], id: u64) -> Result<Option<StoredVersion>, Error>
+    requires inside { IsClean (state S.Store connection.old) → IsInside (standing (state S.Store connection.old)) }
+    requires small { id < 2 ^ 63 }
+    ensures within { Within (state S.Store connection.old) (state S.Store connection.new) }
+    ensures opens { OnOk result (IsIntact (state S.Store connection.new) → IsOpen (state S.Store connection.old) × IsOpen (state S.Store connection.new)) }
+    ensures same { OnOk result (IsIntact (state S.Store connection.new) → standing (state S.Store connection.new) ≡ standing (state S.Store connection.old)) }
+    ensures found { IfOk result (λ found. IsClean (state S.Store connection.new) → option_map version_seen found ≡ option_map found_version (find (is_version tenant.now bucket.now okey.now id) (tables_in (standing (state S.Store connection.old)).now).versions)) }
+    ensures trouble { IfErr result (λ e. IsIntact (state S.Store connection.new) → (standing (state S.Store connection.old)).limit ≡ None → ((v : Stored) → find (is_version tenant.now bucket.now okey.now id) (tables_in (standing (state S.Store connection.old)).now).versions ≡ Some v → IsUtf8 v.checksum) → is_trouble e ≡ true) }
+{
+    let rows = version_rows(connection, tenant, bucket, okey, id)?;
+    match rows.first() {
+        None => Ok(None),
+        Some(row) => Ok(Some(read_version(row)?)),
+    }
+}
+
+/// Adds a version.
+pub fn insert_version<S: Alter>(connection: &mut Connection<S>, version: &NewVersion<'_>) -> Result<usize, Error>
+    requires inside { IsClean (state S.Store connection.old) → IsInside (standing (state S.Store connection.old)) }
+    requires seq { version.now.seq < 2 ^ 63 }
+    requires id { version.now.id < 2 ^ 63 }
+    requires stamp { version.now.stamp < 2 ^ 63 }
+    requires size { length version.now.bytes.now < 2 ^ 63 }
+    ensures within { Within (state S.Store connection.old) (state S.Store connection.new) }
+    ensures opens { OnOk result (IsIntact (state S.Store connection.new) → IsOpen (state S.Store connection.old) → IsOpen (state S.Store connection.new)) }
+    ensures holds { OnOk result (IsClean (state S.Store connection.new) → Holds (record (tables_in (standing (state S.Store connection.old)).now) { versions = (tables_in (standing (state S.Store connection.old)).now).versions ++ record { tenant = version.now.tenant.now; seq = version.now.seq; bucket = version.now.bucket.now; okey = version.now.okey.now; id = version.now.id; marker = 0; stamp = version.now.stamp; size = length version.now.bytes.now; checksum = version.now.checksum.now; bytes = version.now.bytes.now } ∷ [] }) (standing (state S.Store connection.new))) }
+    ensures trouble { IfErr result (λ e. IsIntact (state S.Store connection.new) → (standing (state S.Store connection.old)).limit ≡ None → IsNewVersion (tables_in (standing (state S.Store connection.old)).now) version.now.tenant.now version.now.bucket.now version.now.okey.now version.now.seq version.now.id → is_trouble e ≡ true) }
+{
+    // Asked for what it ensures: the rows obey the schema.
+    let _schema = connection.schema();
+    connection.execute(
+        "INSERT INTO versions (tenant, seq, bucket, okey, id, marker, stamp, size, sum, bytes) VALUES (?1, ?2, ?3, ?4, ?5, 0, ?6, ?7, ?8, ?9)",
+        &[
+            version.tenant.to_sql(),
+            number(version.seq),
+            version.bucket.to_sql(),
+            version.okey.to_sql(),
+            number(version.id),
+            number(version.stamp),
+            number(version.bytes.len() as u64),
+            version.checksum.to_sql(),
+            version.bytes.to_sql(),
+        ],
+    )
+}
+
+/// Takes the version or marker of a key with this id away, if it is there.
+pub fn delete_version<S: Alter>(connection: &mut Connection<S>, tenant: &str, bucket: &str, okey: &[u8], id: u64) -> Result<usize, Error>
+    requires inside { IsClean (state S.Store connection.old) → IsInside (standing (state S.Store connection.old)) }
+    requires small { id < 2 ^ 63 }
+    ensures within { Within (state S.Store connection.old) (state S.Store connection.new) }
+    ensures opens { OnOk result (IsIntact (state S.Store connection.new) → IsOpen (state S.Store connection.old) → IsOpen (state S.Store connection.new)) }
+    ensures holds { OnOk result (IsClean (state S.Store connection.new) → Holds (record (tables_in (standing (state S.Store connection.old)).now) { versions = delete_where (is_version tenant.now bucket.now okey.now id) (tables_in (standing (state S.Store connection.old)).now).versions }) (standing (state S.Store connection.new))) }
+    ensures trouble { IfErr result (λ e. IsIntact (state S.Store connection.new) → (standing (state S.Store connection.old)).limit ≡ None → is_trouble e ≡ true) }
+{
+    // Asked for what it ensures: the rows obey the schema.
+    let _schema = connection.schema();
+    connection.execute(
+        "DELETE FROM versions WHERE tenant = ?1 AND bucket = ?2 AND okey = ?3 AND id = ?4",
+        &[tenant.to_sql(), bucket.to_sql(), okey.to_sql(), number(id)],
+    )
+}

@@ -1,0 +1,17 @@
+ghost use Rattle.std.specs.Prelude.{◌≡◌};
+ghost use Rattle.sha2.specs.Sha256.{sha256};
+
+use bh_schema::host::Digester;
+use sha2::{Digest, Sha256};
+
+/// SHA-256 (FIPS 180-4).
+#[derive(Clone, Copy, Debug, PartialEq, Eq)]
+pub struct Sha256Digester;
+
+impl Digester for Sha256Digester {
+    ghost digest_of = { λ _ bytes. sha256 bytes };
+
+    fn digest(&self, bytes: &[u8]) -> [u8; 32] {
+        Sha256::digest(bytes)
+    }
+}

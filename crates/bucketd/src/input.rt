@@ -1,0 +1,55 @@
+use bh_event::event::Event;
+use bh_event::line::read_line;
+use std::alloc::{AllocError, Global};
+use std::io;
+use std::io::Read;
+
+/// The most bytes that a script may have.
+const GREATEST_SCRIPT: usize = 1 << 26;
+
+/// A script: the events before the first line that tells none, and that line's number, from 1.
+#[derive(Drop)]
+pub struct Script {
+    pub events: Vec<Event>,
+    pub bad_line: Option<usize>,
+}
+
+/// All bytes of a reader, or none where they are more than a script may have.
+pub fn read_all<R: Read>(alloc: Global, reader: &mut R) -> io::Result<Option<Vec<u8>>> {
+    let mut bytes = Vec::new(alloc);
+    let mut piece = [0u8; 16384];
+    for _ in 0..u64::MAX {
+        let count = reader.read(&mut piece)?;
+        if count == 0 {
+            break;
+        }
+        bytes.extend_from_slice(&piece[..count])?;
+        if bytes.len() > GREATEST_SCRIPT {
+            return Ok(None);
+        }
+    }
+    Ok(Some(bytes))
+}
+
+/// The script whose lines these bytes are; an empty line is skipped.
+pub fn read_script(alloc: Global, bytes: &[u8]) -> Result<Script, AllocError> {
+    let mut events = Vec::new(alloc);
+    for (index, line) in bytes.split(|b| *b == b'\n').enumerate() {
+        if line.is_empty() {
+            continue;
+        }
+        match read_line(alloc, line)? {
+            Some(event) => events.push(event)?,
+            None => {
+                return Ok(Script {
+                    events,
+                    bad_line: Some(index.saturating_add(1)),
+                });
+            }
+        }
+    }
+    Ok(Script {
+        events,
+        bad_line: None,
+    })
+}
