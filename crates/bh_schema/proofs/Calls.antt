@@ -1,13 +1,11 @@
 -- A call inside a transaction, in the words of the layer.
-use Rattle.std.proofs.Common.{◌≡◌, ◌⊎◌, inl, inr, ℕ, List, Bool, true, false, IsTrue, None, Option, Ok, Err, Result, OnOk, OnErr, IfOk, IfErr, refl, sym, ap, ◌∙◌, true≢false, subst}
+use Rattle.std.proofs.Common.{◌≡◌, inl, inr, List, true, IsTrue, None, Ok, Err, Result, OnOk, OnErr, IfOk, IfErr, refl, sym, ap, ◌∙◌, true≢false, subst}
 use Rattle.sqlite.specs.Order.{Row}
-use Rattle.sqlite.specs.Tree.{Trees}
 use Rattle.sqlite.specs.State.{State, HasCleanDisk, IsUnchanged, Survives}
 use Rattle.sqlite.specs.declared.error.Error.{Error}
 use Rattle.bh_rows.specs.Means.{is_trouble, IsUndone, IsOutside, Asks, StaysInside, Changes}
-use Rattle.bh_rows.proofs.CallLemmas.{clean_before}
 use Rattle.bh_tables.specs.Typed.{IsHost, IsReady, Tables, tables_in, tables}
-use Rattle.bh_schema.specs.Layer.{Standing, standing, IsIntact, IsOpen, IsClean, Leaves, IsInside, Holds, taken_back, Follows, LeavesNothingNew, IsSettled, Within, Unwinds}
+use Rattle.bh_schema.specs.Layer.{Standing, standing, IsIntact, IsOpen, IsClean, Leaves, IsInside, Holds, Follows, LeavesNothingNew, IsSettled, Within, Unwinds}
 use Rattle.bh_schema.proofs.TurnLemmas.{follows, unwinds}
 
 pub ready : (old : State) → (IsClean old → IsInside (standing old)) → IsReady old

@@ -1,5 +1,5 @@
 -- BEGIN, COMMIT and ROLLBACK, in the words of a host's storage.
-use Rattle.std.proofs.Common.{◌≡◌, ◌⊎◌, inl, inr, true, false, Result, Ok, Err, OnErr, IsTrue, refl, sym, ap, ◌∙◌, subst}
+use Rattle.std.proofs.Common.{◌≡◌, inl, inr, false, Result, Ok, Err, OnErr, IsTrue, refl, sym, ap, ◌∙◌, subst}
 use Rattle.std.specs.Result.{IsErrAnd}
 use Rattle.sqlite.specs.Schema.{Schema}
 use Rattle.sqlite.specs.Tree.{Trees}
@@ -10,8 +10,8 @@ use Rattle.sqlite_trees.specs.declared.store.Store.{Ghosts}
 use Rattle.bh_tables.specs.Schema.{host_schema}
 use Rattle.bh_tables.specs.Typed.{Tables, IsHost}
 use Rattle.bh_tables.specs.Hosts.{tables_shown}
-use Rattle.bh_storage.specs.Calls.{Seen, IsAtRest, IsWorking, IsSettled}
-use Rattle.bh_schema.specs.Layer.{Standing, standing, IsClean, Leaves, begun, committed, taken_back, Unwinds}
+use Rattle.bh_storage.specs.Calls.{IsAtRest, IsWorking, IsSettled}
+use Rattle.bh_schema.specs.Layer.{Standing, standing, IsClean, begun, committed, taken_back, Unwinds}
 use Rattle.bh_schema.specs.Storage.{shown, seen_in, left_in}
 use Rattle.bh_schema.proofs.Storing.{sound_host, left_kept, left_before}
 

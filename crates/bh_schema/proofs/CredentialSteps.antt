@@ -1,11 +1,10 @@
 -- What is seen of a secret, and the answers about credentials.
-use Rattle.std.proofs.Common.{◌≡◌, Bool, true, false, List, find, Option, Some, None, option_map, bytes_eq, Ok, Err, refl, sym, ap, ◌∙◌}
-use Rattle.std.specs.String.{string_bytes}
+use Rattle.std.proofs.Common.{◌≡◌, true, false, find, Option, Some, None, option_map, bytes_eq, Ok, Err, refl, sym, ap, ◌∙◌}
 use Rattle.sqlite.specs.State.{State}
 use Rattle.bh_types.specs.declared.refusal.Refusal.TheVariants.{AccessDenied, InvalidAccessKeyId}
 use Rattle.bh_model.specs.State.{Octets, State as Machine}
 use Rattle.bh_model.specs.Credentials.{key_name_of, secret_of, authenticate}
-use Rattle.bh_tables.specs.Typed.{KeyRow, Tables, tables_in}
+use Rattle.bh_tables.specs.Typed.{Tables, tables_in}
 use Rattle.bh_tables.specs.Shown.{is_key}
 use Rattle.bh_view.specs.View.{view}
 use Rattle.bh_view.proofs.FindLemmas.{first_find, secret_found}

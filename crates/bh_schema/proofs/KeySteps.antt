@@ -1,16 +1,15 @@
 -- What is seen of an access key, and the steps that add one and take one away.
-use Rattle.std.proofs.Common.{◌≡◌, ◌≤◌, ℕ, Bool, true, false, true≢false, ◌&&◌, List, [], ◌∷◌, ◌++◌, find, Option, Some, None, option_map, is_some, is_none, IsTrue, Result, Ok, Err, cond, refl, sym, ap, ◌∙◌, subst}
+use Rattle.std.proofs.Common.{◌≡◌, Bool, true, false, ◌&&◌, [], ◌∷◌, ◌++◌, find, Option, Some, None, is_some, Ok, Err, cond, refl, sym, ap, ◌∙◌}
 use Rattle.std.specs.FinMap.{get, insert, remove}
-use Rattle.std.proofs.lemmas.Bool.{cases_Bool, and_parts}
+use Rattle.std.proofs.lemmas.Bool.{and_parts}
 use Rattle.sqlite.specs.State.{State}
 use Rattle.sqlite_keyed.specs.Lists.{delete_where}
 use Rattle.bh_types.specs.Names.{is_tenant_name, is_key_name, is_secret}
-use Rattle.bh_types.specs.declared.refusal.Refusal.{Refusal}
 use Rattle.bh_types.specs.declared.refusal.Refusal.TheVariants.{NoSuchTenant, KeyExists, NoSuchKeyName}
 use Rattle.bh_model.specs.State.{Octets, State as Machine}
 use Rattle.bh_model.specs.Operations.{Done, add_key, remove_key}
 use Rattle.bh_tables.specs.Typed.{KeyRow, Tables, tables_in}
-use Rattle.bh_tables.specs.Shown.{is_tenant, is_key}
+use Rattle.bh_tables.specs.Shown.{is_key}
 use Rattle.bh_view.specs.View.{view}
 use Rattle.bh_view.specs.Becomes.{Becomes}
 use Rattle.bh_view.proofs.FindLemmas.{first_find, key_of_state}
@@ -22,7 +21,7 @@ use Rattle.bh_schema.specs.Known.{key_known}
 use Rattle.bh_schema.specs.declared.rows.known.Known.{Known}
 use Rattle.bh_schema.specs.declared.rows.known.Known.TheVariants.{NoTenant, NoKey, Key}
 use Rattle.bh_schema.proofs.Storing.{shows_in, holds_seen}
-use Rattle.bh_schema.proofs.TenantSteps.{none_of, some_of, some_mapped, view_found, required, refused}
+use Rattle.bh_schema.proofs.TenantSteps.{none_of, some_of, some_mapped, view_found, required}
 
 -- ---- what the tables say, of the state
 
@@ -43,7 +42,7 @@ known_seen_in tables t n = go (view tables t) refl
     go : (o : Option Machine) → view tables t ≡ o → key_known tables t n ≡ known_of n o
     go None is = ap (λ b. cond b (cond (is_some (find (is_key t n) tables.keys)) Key NoKey) NoTenant) (sym (view_found tables t) ∙ ap is_some is)
     go (Some s) is = ap (λ b. cond b (cond (is_some (find (is_key t n) tables.keys)) Key NoKey) NoTenant) (sym (view_found tables t) ∙ ap is_some is)
-      ∙ ap (λ b. cond b Key NoKey) (sym (key_seen_in tables t n s is))
+        ∙ ap (λ b. cond b Key NoKey) (sym (key_seen_in tables t n s is))
 
 pub known_seen : (s : State) (t n : Octets) (known : Known) → IsWorking (seen_in s) → known ≡ key_known (tables_in (standing s).now) t n → known ≡ known_of n (view (seen_in s).now t)
 known_seen s t n known working is = is ∙ ap (λ (x : Tables). key_known x t n) (sym (shows_in s working)) ∙ known_seen_in (seen_in s).now t n

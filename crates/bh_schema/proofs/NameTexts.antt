@@ -1,11 +1,11 @@
 -- Names and secrets are ASCII, and so UTF-8.
-use Rattle.std.proofs.Common.{◌≡◌, ℕ, zero, suc, ◌<◌, List, [], ◌∷◌, get_or, Bool, true, false, ◌&&◌, cond, Option, Some, None, refl, sym, ap, ◌∙◌, arith}
+use Rattle.std.proofs.Common.{◌≡◌, ℕ, zero, suc, ◌<◌, List, [], ◌∷◌, get_or, Bool, true, false, ◌&&◌, cond, Some, None, refl, arith}
 use Rattle.std.specs.List.{list_all}
 use Rattle.std.specs.Str.{IsUtf8}
 use Rattle.std.proofs.lemmas.Str.{IsUtf8-from_ascii}
-use Rattle.std.proofs.lemmas.Bool.{and_parts, cases_Bool}
+use Rattle.std.proofs.lemmas.Bool.{and_parts}
 use Rattle.std.proofs.lemmas.Bool.Decides.{nat_tests}
-use Rattle.bh_types.specs.Names.{has_length, is_name_byte, is_secret_byte, is_tenant_name, is_key_name, is_secret}
+use Rattle.bh_types.specs.Names.{is_name_byte, is_secret_byte, is_tenant_name, is_key_name, is_secret}
 use Rattle.bh_model.specs.Credentials.{key_name}
 
 below : (p : ℕ → Bool) → ((b : ℕ) → p b ≡ true → b < 128) → (text : List ℕ) → list_all p text ≡ true → (i : ℕ) → get_or text i 0 < 128

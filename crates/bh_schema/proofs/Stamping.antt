@@ -1,10 +1,9 @@
 -- The last stamp, read and written.
-use Rattle.std.proofs.Common.{arith, ◌≡◌, ◌≤◌, ◌<◌, ℕ, max, true, find, List, [], ◌∷◌, map, Option, Some, None, option_map, unwrap_or, refl, sym, ap, ◌∙◌, subst}
+use Rattle.std.proofs.Common.{arith, ◌≡◌, ◌≤◌, ◌<◌, ℕ, true, find, [], ◌∷◌, map, Option, option_map, unwrap_or, refl, sym, ap, ◌∙◌, subst}
 use Rattle.sqlite.specs.State.{State}
 use Rattle.bh_model.specs.Runs.{last_reading}
-use Rattle.bh_tables.specs.Typed.{HostRow, Tables, tables_in}
+use Rattle.bh_tables.specs.Typed.{Tables, tables_in}
 use Rattle.bh_view.specs.View.{latest_of, with_latest}
-use Rattle.bh_view.specs.Sound.{IsSound}
 use Rattle.bh_view.specs.Becomes.{IsStamped}
 use Rattle.bh_view.proofs.HostChanges.{latest_is, stamped, stamped_again}
 use Rattle.bh_storage.specs.Calls.{IsWorking, Stamps}

@@ -1,5 +1,5 @@
 -- From the words of a connection to those of a host's storage.
-use Rattle.std.proofs.Common.{◌≡◌, ◌⊎◌, inl, inr, ℕ, Bool, true, false, IsTrue, Option, Ok, Err, Result, OnOk, IfOk, refl, sym, ap, ◌∙◌, subst}
+use Rattle.std.proofs.Common.{◌≡◌, inl, inr, true, IsTrue, Ok, Result, OnOk, IfOk, sym, ap, ◌∙◌, subst}
 use Rattle.sqlite.specs.Tree.{Trees}
 use Rattle.sqlite.specs.Effect.{Database}
 use Rattle.sqlite.specs.Held.{Held, state}
@@ -9,8 +9,8 @@ use Rattle.bh_tables.specs.Typed.{Tables, IsHost, tables_in}
 use Rattle.bh_tables.specs.Hosts.{tables_shown}
 use Rattle.bh_tables.proofs.HostTests.{host_shows, shown_host}
 use Rattle.bh_view.specs.Sound.{IsSound}
-use Rattle.bh_storage.specs.Calls.{Seen, IsAtRest, IsWorking}
-use Rattle.bh_schema.specs.Layer.{Standing, standing, IsIntact, IsOpen, IsClean, Leaves, IsInside, Holds, Follows, LeavesNothingNew, IsSettled, Within}
+use Rattle.bh_storage.specs.Calls.{Seen, IsWorking}
+use Rattle.bh_schema.specs.Layer.{standing, IsIntact, IsOpen, IsClean, Leaves, IsInside, Holds, Follows, Within}
 use Rattle.bh_schema.specs.Storage.{shown, seen_in, left_in, Keeps}
 
 -- ---- what an answer tells

@@ -1,6 +1,5 @@
 -- What is seen of a tenant, and the step that adds one.
-use Rattle.std.proofs.Common.{◌≡◌, ◌≢◌, ◌≤◌, ℕ, nat_le, ◌^◌, Bool, true, false, not, List, [], ◌∷◌, ◌++◌, find, Option, Some, None, option_map, is_some, is_none, IsTrue, Result, Ok, Err, cond, refl, sym, ap, ◌∙◌, subst}
-use Rattle.std.proofs.lemmas.Bool.{leb-true}
+use Rattle.std.proofs.Common.{◌≡◌, ◌≤◌, ℕ, nat_le, ◌^◌, Bool, true, false, [], ◌∷◌, ◌++◌, find, Option, Some, None, option_map, is_some, IsTrue, Result, Ok, Err, refl, sym, ap, ◌∙◌, subst}
 use Rattle.sqlite.specs.State.{State}
 use Rattle.bh_types.specs.Names.{is_tenant_name}
 use Rattle.bh_types.specs.declared.refusal.Refusal.{Refusal}
@@ -9,13 +8,12 @@ use Rattle.bh_model.specs.State.{Octets, State as Machine, new_tenant}
 use Rattle.bh_model.specs.Operations.{Done, add_tenant}
 use Rattle.bh_tables.specs.Typed.{TenantRow, Tables, tables_in}
 use Rattle.bh_tables.specs.Shown.{is_tenant}
-use Rattle.bh_view.specs.View.{view, rows_of, state_of}
-use Rattle.bh_view.specs.Sound.{IsSound}
+use Rattle.bh_view.specs.View.{view}
 use Rattle.bh_view.specs.Becomes.{Becomes}
 use Rattle.bh_view.proofs.FindLemmas.{first_find, tenant_found}
 use Rattle.bh_view.proofs.TenantChanges.{tenant_added}
 use Rattle.bh_storage.specs.Calls.{IsWorking, Gives}
-use Rattle.bh_schema.specs.Layer.{standing, IsClean, Holds}
+use Rattle.bh_schema.specs.Layer.{standing, Holds}
 use Rattle.bh_schema.specs.Storage.{seen_in}
 use Rattle.bh_schema.proofs.Storing.{shows_in, holds_seen}
 

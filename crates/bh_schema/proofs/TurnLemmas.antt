@@ -1,5 +1,5 @@
 -- BEGIN, COMMIT and ROLLBACK, in the words of the layer.
-use Rattle.std.proofs.Common.{◌≡◌, ◌⊎◌, inl, inr, ℕ, List, [], length, Bool, true, false, IsTrue, None, Ok, Err, Result, OnOk, OnErr, refl, sym, ap, ◌∙◌, true≢false, subst, not}
+use Rattle.std.proofs.Common.{◌≡◌, ◌⊎◌, inl, inr, ℕ, List, [], Bool, true, false, IsTrue, None, Ok, Err, Result, OnOk, OnErr, refl, sym, ap, ◌∙◌, true≢false, subst, not}
 use Rattle.std.proofs.lemmas.Bool.{cases_Bool}
 use Rattle.sqlite.specs.Tree.{Trees}
 use Rattle.sqlite.specs.Effect.{Database}
@@ -9,9 +9,9 @@ use Rattle.sqlite.specs.State.{State, HasCleanDisk, IsUnchanged, IsRolledBack, S
 use Rattle.sqlite.specs.Does.{Does, Tally}
 use Rattle.sqlite.specs.declared.error.Error.{Error}
 use Rattle.sqlite.proofs.Callers.{runs_as}
-use Rattle.bh_rows.specs.Means.{Means, IsUndone, IsOutside}
-use Rattle.bh_rows.proofs.CallLemmas.{clean_before, compiled_command, compiled_plain, executes_undone, executes_up, survives_less}
-use Rattle.bh_rows.proofs.TransactionLemmas.{turn_undone, turn_up, begins, commits, rolls_back, rollback_fails, commits_now}
+use Rattle.bh_rows.specs.Means.{Means, IsUndone}
+use Rattle.bh_rows.proofs.CallLemmas.{clean_before, compiled_command, compiled_plain, executes_undone}
+use Rattle.bh_rows.proofs.TransactionLemmas.{turn_undone, turn_up, rollback_fails, commits_now}
 use Rattle.bh_schema.specs.Layer.{Standing, standing, IsIntact, IsOpen, IsClean, Leaves, begun, committed, taken_back, Follows, LeavesNothingNew, IsSettled, Within, Unwinds}
 
 -- ---- any call

@@ -1,5 +1,5 @@
 -- What the tables say of an access key.
-use Rattle.std.specs.Prelude.{Bool, is_some, find, if◌then◌else◌}
+use Rattle.std.specs.Prelude.{is_some, find, if◌then◌else◌}
 use Rattle.bh_tables.specs.Schema.{Octets}
 use Rattle.bh_tables.specs.Typed.{Tables}
 use Rattle.bh_tables.specs.Shown.{is_tenant, is_key}

@@ -34,11 +34,7 @@ impl<S: Alter + Drop, D: Digester + Drop> Host<S, D> {
         let Some(name) = key_name_of(alloc, id)? else {
             return Err(StepError::Refused(Refusal::InvalidAccessKeyId));
         };
-        let found = told(find_secret(
-            &mut self.connection,
-            tenant.as_str(),
-            name.as_str(),
-        ))?;
+        let found = told(find_secret(&mut self.connection, tenant.as_str(), name.as_str()))?;
         let Some(known) = found else {
             return Err(StepError::Refused(Refusal::InvalidAccessKeyId));
         };

@@ -44,12 +44,7 @@ impl<S: Alter + Drop, D: Digester + Drop> Host<S, D> {
     }
 
     /// Takes an access key of a tenant away: InvalidName for either name, NoSuchTenant, NoSuchKeyName.
-    pub fn key_remove(
-        &mut self,
-        alloc: Global,
-        tenant: &str,
-        name: &str,
-    ) -> Result<(), StepError>
+    pub fn key_remove(&mut self, alloc: Global, tenant: &str, name: &str) -> Result<(), StepError>
         requires { IsClean (state S.Store self.old.connection) → IsWorking (seen_in (state S.Store self.old.connection)) }
         ensures working { Unless result (IsClean (state S.Store self.new.connection) → IsWorking (seen_in (state S.Store self.new.connection))) }
         ensures within { Keeps S.Store self.old.connection self.new.connection }

@@ -3,10 +3,10 @@
 
 mod clock;
 mod credentials;
-mod keys;
-mod words;
 pub mod host;
+mod keys;
 pub mod rows;
 mod tenants;
-mod turns;
 pub mod trouble;
+mod turns;
+mod words;

@@ -17,12 +17,7 @@ use std::alloc::Global;
 
 impl<S: Alter + Drop, D: Digester + Drop> Host<S, D> {
     /// Adds a tenant with a quota in bytes: InvalidName, InvalidQuota, TenantExists.
-    pub fn tenant_add(
-        &mut self,
-        alloc: Global,
-        tenant: &str,
-        quota: u64,
-    ) -> Result<(), StepError>
+    pub fn tenant_add(&mut self, alloc: Global, tenant: &str, quota: u64) -> Result<(), StepError>
         requires { IsClean (state S.Store self.old.connection) → IsWorking (seen_in (state S.Store self.old.connection)) }
         ensures working { Unless result (IsClean (state S.Store self.new.connection) → IsWorking (seen_in (state S.Store self.new.connection))) }
         ensures within { Keeps S.Store self.old.connection self.new.connection }

@@ -17,12 +17,7 @@ pub fn are_names(alloc: Global, tenant: &str, name: &str) -> Result<bool, AllocE
 }
 
 /// The same, and a third text is a secret.
-pub fn are_words(
-    alloc: Global,
-    tenant: &str,
-    name: &str,
-    secret: &str,
-) -> Result<bool, AllocError>
+pub fn are_words(alloc: Global, tenant: &str, name: &str, secret: &str) -> Result<bool, AllocError>
     ensures { IfOk result (λ are. are ≡ (is_tenant_name tenant.now && is_key_name name.now && is_secret secret.now)) }
 {
     if !are_names(alloc, tenant, name)? {
@@ -42,11 +37,7 @@ fn text_of(bytes: &[u8]) -> Option<&str>
     }
 }
 
-fn read_names(
-    alloc: Global,
-    tenant: &[u8],
-    name: &[u8],
-) -> Result<Option<KeyName>, AllocError>
+fn read_names(alloc: Global, tenant: &[u8], name: &[u8]) -> Result<Option<KeyName>, AllocError>
     ensures { IfOk result (λ found. found ≡ spec.key_name tenant.now name.now) }
 {
     let Some(tenant) = text_of(tenant) else {

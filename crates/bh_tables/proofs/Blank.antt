@@ -1,11 +1,10 @@
 -- An empty database of the schema is a host's, with no row.
-use Rattle.std.proofs.Common.{◌≡◌, List, [], sym, ap, subst, ◌∙◌}
-use Rattle.sqlite.specs.Order.{Row}
+use Rattle.std.proofs.Common.{◌≡◌, [], sym, ap, subst}
 use Rattle.sqlite.specs.State.{State}
 use Rattle.bh_rows.specs.Form.{Form, AreRows}
 use Rattle.bh_rows.specs.Means.{IsBlank}
 use Rattle.bh_tables.specs.Schema.{host_schema}
-use Rattle.bh_tables.specs.Typed.{IsHost, Tables, Raw, raw, tables_of, tables_in, no_rows, AreHeld, host_form, tenant_form, key_form, bucket_form, version_form}
+use Rattle.bh_tables.specs.Typed.{IsHost, Raw, raw, tables_of, tables_in, no_rows, AreHeld, host_form, tenant_form, key_form, bucket_form, version_form}
 
 none_held : {T : Type 0} (form : Form T) → AreRows form []
 none_held form = record { each = tt; rises = tt }

@@ -2,15 +2,15 @@
 use Rattle.std.proofs.Common.{arith, ◌≡◌, ◌≤◌, ℕ, pos, ◌∷◌, [], List, ◌&&◌, not, true, false, Bool, Option, Some, None, refl, ap, ap₂, ◌∙◌, int_le}
 use Rattle.std.proofs.lemmas.Int.{ints}
 use Rattle.sqlite.specs.Collation.TheVariants.{Binary}
-use Rattle.sqlite.specs.declared.types.Value.TheVariants.{Int, Text}
-use Rattle.sqlite_sql.specs.declared.ops.BinaryOp.TheVariants.{Compare, And, Or}
+use Rattle.sqlite.specs.declared.types.Value.TheVariants.{Int}
+use Rattle.sqlite_sql.specs.declared.ops.BinaryOp.TheVariants.{Compare}
 use Rattle.sqlite_sql.specs.declared.ops.CompareOp.TheVariants.{Ge, Le, Eq}
 use Rattle.sqlite_sql.specs.Ops.{binary, is_false}
 use Rattle.sqlite_typed.specs.Columns.{or_null}
 use Rattle.sqlite_typed.specs.Tests.{null_or}
-use Rattle.sqlite_typed.proofs.TestLemmas.{truth_or, at_ints, at_texts, at_and, at_or, at_nullable}
+use Rattle.sqlite_typed.proofs.TestLemmas.{at_ints, at_texts, at_and, at_or, at_nullable}
 use Rattle.sqlite_schema.specs.Rules.{passes_checks}
-use Rattle.bh_tables.specs.Schema.{Octets, host_table, tenants_table, keys_table, buckets_table, versions_table}
+use Rattle.bh_tables.specs.Schema.{host_table, tenants_table, buckets_table, versions_table}
 use Rattle.bh_tables.specs.Typed.{HostRow, host_columns, TenantRow, tenant_columns, BucketRow, bucket_columns, VersionRow, version_columns, number}
 use Rattle.bh_tables.specs.Shown.{is_marked_right}
 

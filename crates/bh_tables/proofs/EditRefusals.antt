@@ -1,6 +1,6 @@
 -- An UPDATE of a counter, and a DELETE of rows that no table refers to, are refused in trouble alone.
-use Rattle.std.proofs.Common.{◌≡◌, ℕ, ℤ, pos, List, [], ◌∷◌, map, filter, refl, true, false, None, Result, IfErr, IsTrue}
-use Rattle.sqlite.specs.declared.types.Value.TheVariants.{Int, Text, Blob}
+use Rattle.std.proofs.Common.{◌≡◌, ℕ, ℤ, pos, List, [], ◌∷◌, map, refl, true, false, None, Result, IfErr}
+use Rattle.sqlite.specs.declared.types.Value.TheVariants.{Text, Blob}
 use Rattle.sqlite.specs.Order.{Row, column}
 use Rattle.sqlite.specs.Tree.{Trees}
 use Rattle.sqlite.specs.State.{State, IsLive, HasCleanDisk, Survives, Executes}
@@ -14,8 +14,8 @@ use Rattle.bh_rows.specs.Keys.{watched, are_fit, AreUnused}
 use Rattle.bh_rows.specs.Means.{is_trouble}
 use Rattle.bh_rows.proofs.UpdateErrors.{update_trouble}
 use Rattle.bh_rows.proofs.DeleteErrors.{delete_trouble}
-use Rattle.bh_tables.specs.Schema.{Octets, host_schema, host_table, tenants_table, keys_table, versions_table, at}
-use Rattle.bh_tables.specs.Typed.{TenantRow, tenant_form, tenant_columns, key_form, version_form, number, IsReady, IsHost, tables}
+use Rattle.bh_tables.specs.Schema.{Octets, host_schema, tenants_table, keys_table, versions_table, at}
+use Rattle.bh_tables.specs.Typed.{TenantRow, tenant_form, key_form, version_form, number, IsReady}
 use Rattle.bh_tables.specs.Shown.{is_tenant, is_key, is_version}
 use Rattle.bh_tables.proofs.Terms.{is}
 use Rattle.bh_tables.proofs.Checked.{tenant_checked}

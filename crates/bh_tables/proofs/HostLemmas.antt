@@ -1,5 +1,5 @@
 -- The texts over the host's row.
-use Rattle.std.proofs.Common.{◌≡◌, ℕ, pos, codes, List, [], ◌∷◌, ◌++◌, map, filter, refl, true, false, None, Bool, Result, Ok, Err, OnOk, IfOk, IfErr, IsTrue, ap, ◌∙◌}
+use Rattle.std.proofs.Common.{◌≡◌, ℕ, pos, codes, List, [], ◌∷◌, ◌++◌, map, filter, refl, true, Result, Ok, Err, OnOk, IfOk, IfErr, IsTrue, ap, ◌∙◌}
 use Rattle.sqlite.specs.declared.types.Value.TheVariants.{Null, Int}
 use Rattle.sqlite.specs.Order.{Row}
 use Rattle.sqlite.specs.Term.{Term, lit, col}
@@ -8,7 +8,6 @@ use Rattle.sqlite.specs.Command.TheVariants.{Insert, Update}
 use Rattle.sqlite.specs.Listing.{understood}
 use Rattle.sqlite.specs.State.{State, Shown, FailsToQuery, HasCleanDisk, Survives, CommitsShowing, CommitsBy, Executes}
 use Rattle.sqlite.specs.declared.error.Error.{Error}
-use Rattle.sqlite_keyed.specs.Lists.{update_where}
 use Rattle.sqlite_tied.specs.Compute.{everything}
 use Rattle.bh_rows.specs.Means.{Means, Asks, Changes}
 use Rattle.bh_rows.specs.Scan.{scan, no_limit, by_rowid}
@@ -18,7 +17,7 @@ use Rattle.bh_rows.proofs.InsertLemmas.{inserts, inserted_rows, typed_last, held
 use Rattle.bh_rows.proofs.ScanLemmas.{selects, scan_rows, scan_asks}
 use Rattle.bh_rows.proofs.WriteLemmas.{updates, updated_rows}
 use Rattle.bh_tables.specs.Schema.{Octets, host_schema, host_table, at}
-use Rattle.bh_tables.specs.Typed.{HostRow, host_columns, host_form, number, IsReady, IsHost, tables, tables_in}
+use Rattle.bh_tables.specs.Typed.{HostRow, host_columns, host_form, number, IsReady, IsHost, tables}
 use Rattle.bh_tables.specs.Shown.{shown_latest}
 use Rattle.bh_tables.proofs.Kept.{host_kept}
 use Rattle.bh_tables.proofs.Quiet.{update_quiet}

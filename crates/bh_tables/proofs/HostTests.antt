@@ -1,19 +1,17 @@
 -- The test says what it is to say.
-use Rattle.std.proofs.Common.{◌≡◌, ◌≢◌, ◌⊎◌, inl, inr, ℕ, eqb, Bool, true, false, true≢false, ◌&&◌, cond, List, [], ◌∷◌, refl, sym, ap, ap₂, ◌∙◌, subst, Ordering, Less, Equal, Greater, is_lt}
+use Rattle.std.proofs.Common.{◌≡◌, inl, inr, Bool, true, true≢false, cond, List, [], ◌∷◌, refl, sym, ap, ap₂, ◌∙◌, subst, Ordering, Less, Equal, Greater, is_lt}
 use Rattle.std.specs.List.{AllByRecursion, list_all}
 use Rattle.std.specs.Coded.{Coded}
 use Rattle.std.proofs.lemmas.Bool.{and_parts, and_from, cases_Bool, eqb-true, eq-eqb}
 use base.Stored.{Gv, gnil, gnum, gcons}
-use Rattle.sqlite.specs.declared.types.Value.TheVariants.{Int}
-use Rattle.sqlite.specs.Order.{Row, value_cmp}
-use Rattle.sqlite.specs.Tree.{rowid, IsTable}
-use Rattle.sqlite.specs.Edit.{id_in}
+use Rattle.sqlite.specs.Order.{Row}
+use Rattle.sqlite.specs.Tree.{IsTable}
 use Rattle.sqlite.specs.Effect.{Database}
 use Rattle.sqlite_schema.specs.contracts.schema.Schema as schema
 use Rattle.bh_rows.specs.Form.{Form, AreRows}
 use Rattle.bh_tables.specs.Schema.{host_schema}
-use Rattle.bh_tables.specs.Typed.{Tables, HostRow, Raw, raw, tables_in, no_rows, AreHeld, IsHost, host_form, tenant_form, key_form, bucket_form, version_form}
-use Rattle.bh_tables.specs.Hosts.{same_code, same, ascends, coded_row, is_row, are_rows, are_held, is_host, tables_shown}
+use Rattle.bh_tables.specs.Typed.{HostRow, Raw, raw, tables_in, no_rows, AreHeld, IsHost, host_form, tenant_form, key_form, bucket_form, version_form}
+use Rattle.bh_tables.specs.Hosts.{same_code, same, ascends, coded_row, are_rows, are_held, is_host, tables_shown}
 
 -- ---- codes
 

@@ -1,27 +1,27 @@
 -- The texts over access keys.
-use Rattle.std.proofs.Common.{◌≡◌, ℕ, pos, codes, List, [], ◌∷◌, ◌++◌, map, filter, refl, true, false, None, Option, Bool, Result, Ok, Err, OnOk, IfOk, IfErr, IsTrue, ap, ◌∙◌}
-use Rattle.sqlite.specs.declared.types.Value.TheVariants.{Null, Int, Text, Blob}
+use Rattle.std.proofs.Common.{◌≡◌, ℕ, codes, List, [], ◌∷◌, ◌++◌, map, filter, refl, false, Result, Ok, Err, OnOk, IfOk, IfErr, IsTrue, ap, ◌∙◌}
+use Rattle.sqlite.specs.declared.types.Value.TheVariants.{Null, Text}
 use Rattle.sqlite.specs.Term.{Term, lit, col}
 use Rattle.sqlite.specs.Source.TheVariants.{Values}
-use Rattle.sqlite.specs.Command.TheVariants.{Insert, Update, Delete}
-use Rattle.sqlite_keyed.specs.Lists.{update_where, delete_where}
+use Rattle.sqlite.specs.Command.TheVariants.{Insert, Delete}
+use Rattle.sqlite_keyed.specs.Lists.{delete_where}
 use Rattle.sqlite.specs.Listing.{understood}
 use Rattle.sqlite.specs.State.{State, Shown, FailsToQuery, HasCleanDisk, Survives, CommitsShowing, CommitsBy, Executes}
 use Rattle.sqlite.specs.declared.error.Error.{Error}
 use Rattle.sqlite.specs.Order.{Row}
 use Rattle.sqlite_sql.specs.declared.ops.CompareOp.TheVariants.{Eq}
 use Rattle.sqlite_tied.specs.Compute.{everything}
-use Rattle.sqlite_typed.proofs.TestLemmas.{at_texts, at_blobs, at_ints, last_term, then_term}
+use Rattle.sqlite_typed.proofs.TestLemmas.{at_texts, last_term, then_term}
 use Rattle.bh_rows.specs.Means.{Means, Asks, Changes}
 use Rattle.bh_rows.specs.Scan.{scan, no_limit, by_rowid}
 use Rattle.bh_rows.proofs.CallLemmas.{write_changes, clean_before}
-use Rattle.bh_rows.proofs.FormLemmas.{held_update, typed_update, held_delete, typed_delete}
+use Rattle.bh_rows.proofs.FormLemmas.{held_delete, typed_delete}
 use Rattle.bh_rows.proofs.InsertLemmas.{inserts, inserted_rows, typed_last, held_last}
 use Rattle.bh_rows.proofs.ScanLemmas.{selects, scan_rows, scan_asks}
-use Rattle.bh_rows.proofs.WriteLemmas.{updates, updated_rows, deletes, deleted_rows}
+use Rattle.bh_rows.proofs.WriteLemmas.{deletes, deleted_rows}
 use Rattle.bh_tables.proofs.Terms.{is}
 use Rattle.bh_tables.specs.Schema.{Octets, host_schema, keys_table, at}
-use Rattle.bh_tables.specs.Typed.{KeyRow, key_columns, key_form, IsReady, IsHost, tables, tables_in}
+use Rattle.bh_tables.specs.Typed.{KeyRow, key_columns, key_form, IsReady, IsHost, tables}
 use Rattle.bh_tables.specs.Shown.{is_key, shown_secret}
 use Rattle.bh_tables.proofs.Kept.{key_kept}
 use Rattle.bh_tables.proofs.Quiet.{delete_key_quiet}

@@ -1,7 +1,7 @@
 -- A new key of a tenant is refused in trouble alone.
-use Rattle.std.proofs.Common.{arith, ◌≡◌, ◌≤◌, ◌⊎◌, inl, inr, ℕ, ℤ, pos, List, [], ◌∷◌, ◌++◌, ◌&&◌, ◌||◌, not, refl, true, false, None, Bool, Result, Ok, Err, IfErr, IsTrue, sym, ap, subst, ◌∙◌}
+use Rattle.std.proofs.Common.{◌≡◌, inl, inr, ℕ, ℤ, List, [], ◌∷◌, ◌&&◌, ◌||◌, not, refl, true, false, None, Result, Ok, Err, IfErr, ap, subst, ◌∙◌}
 use Rattle.std.specs.List.{list_any, list_all}
-use Rattle.sqlite.specs.declared.types.Value.TheVariants.{Text, Null, Int, Blob}
+use Rattle.sqlite.specs.declared.types.Value.TheVariants.{Text, Null, Int}
 use Rattle.sqlite.specs.Order.{Row}
 use Rattle.sqlite.specs.Tree.{Trees}
 use Rattle.sqlite.specs.State.{State, IsLive, HasCleanDisk, Survives, Executes, mode_of}
@@ -16,7 +16,7 @@ use Rattle.sqlite_schema.specs.declared.schema.Constraint.TheVariants.{Unique, F
 use Rattle.sqlite_schema.specs.declared.schema.Keys.TheVariants.{Enforced}
 use Rattle.sqlite_schema.specs.Rules.{agree, has_parent, clashes}
 use Rattle.sqlite_rules.specs.Keys.{are_unique}
-use Rattle.sqlite_typed.proofs.TestLemmas.{at_texts, at_blobs, at_ints, last_term, then_term}
+use Rattle.sqlite_typed.proofs.TestLemmas.{at_texts, last_term, then_term}
 use Rattle.sqlite_tied.specs.Compute.{everything}
 use Rattle.bh_rows.specs.Means.{is_trouble}
 use Rattle.bh_rows.specs.Form.{typed, AreRows}
@@ -26,7 +26,7 @@ use Rattle.bh_rows.proofs.InsertLemmas.{added}
 use Rattle.bh_rows.proofs.RefusedLemmas.{insert_refused}
 use Rattle.bh_rows.proofs.AllowedLemmas.{unclashed, allowed, refers_still}
 use Rattle.bh_tables.specs.Schema.{Octets, host_schema, keys_table, at}
-use Rattle.bh_tables.specs.Typed.{KeyRow, key_columns, key_form, tenant_form, number, IsReady, IsHost, tables}
+use Rattle.bh_tables.specs.Typed.{KeyRow, key_columns, key_form, tenant_form, IsReady, tables}
 use Rattle.bh_tables.specs.Shown.{is_key, is_tenant}
 use Rattle.bh_tables.proofs.KeyLemmas.{insert_key_text, insert_key_terms, insert_key_means}
 use Rattle.bh_tables.proofs.Apart.{host_apart}

@@ -1,11 +1,11 @@
 -- A write to one table leaves the others.
-use Rattle.std.proofs.Common.{◌≡◌, ◌≢◌, ◌⊎◌, inl, inr, ℕ, eqb, cond, Bool, true, false, refl, sym, ap, ◌∙◌}
+use Rattle.std.proofs.Common.{◌≡◌, ◌≢◌, inl, inr, ℕ, cond, sym, ap, ◌∙◌}
 use Rattle.std.proofs.lemmas.Bool.{cases_eq, eq-eqb, ne_eqb}
 use Rattle.std.specs.List.{AllByRecursion}
 use Rattle.sqlite.specs.Tree.{Trees}
 use Rattle.sqlite_trees.specs.Tree.{with_tree}
 use Rattle.bh_tables.specs.Schema.{host_schema}
-use Rattle.bh_tables.specs.Typed.{Raw, raw}
+use Rattle.bh_tables.specs.Typed.{raw}
 
 module _ (tree : ℕ) (db next : Trees) where
   at : (t : ℕ) → (t ≢ tree → next t ≡ db t) → next t ≡ with_tree db tree (next tree) t

@@ -1,7 +1,7 @@
 -- A new tenant is refused in trouble alone.
-use Rattle.std.proofs.Common.{arith, ◌≡◌, ◌≤◌, ◌⊎◌, inl, inr, ℕ, ℤ, pos, List, [], ◌∷◌, ◌++◌, ◌&&◌, ◌||◌, not, refl, true, false, None, Bool, Result, Ok, Err, IfErr, IsTrue, sym, ap, subst, ◌∙◌}
-use Rattle.std.specs.List.{list_any, list_all}
-use Rattle.sqlite.specs.declared.types.Value.TheVariants.{Text, Null, Int, Blob}
+use Rattle.std.proofs.Common.{◌≡◌, inl, inr, ℕ, ℤ, List, [], ◌∷◌, ◌&&◌, ◌||◌, not, refl, true, false, None, Result, Ok, Err, IfErr, ap, subst, ◌∙◌}
+use Rattle.std.specs.List.{list_any}
+use Rattle.sqlite.specs.declared.types.Value.TheVariants.{Text, Null, Int}
 use Rattle.sqlite.specs.Order.{Row}
 use Rattle.sqlite.specs.Tree.{Trees}
 use Rattle.sqlite.specs.State.{State, IsLive, HasCleanDisk, Survives, Executes, mode_of}
@@ -14,19 +14,18 @@ use Rattle.sqlite_sql.specs.declared.ops.CompareOp.TheVariants.{Eq}
 use Rattle.sqlite_value.specs.Keys.{plain, first_key}
 use Rattle.sqlite_schema.specs.declared.schema.Constraint.TheVariants.{Unique, ForeignKey}
 use Rattle.sqlite_schema.specs.declared.schema.Keys.TheVariants.{Enforced}
-use Rattle.sqlite_schema.specs.Rules.{agree, has_parent, clashes}
+use Rattle.sqlite_schema.specs.Rules.{agree, clashes}
 use Rattle.sqlite_rules.specs.Keys.{are_unique}
-use Rattle.sqlite_typed.proofs.TestLemmas.{at_texts, at_blobs, at_ints, last_term, then_term}
+use Rattle.sqlite_typed.proofs.TestLemmas.{at_texts, last_term}
 use Rattle.sqlite_tied.specs.Compute.{everything}
 use Rattle.bh_rows.specs.Means.{is_trouble}
-use Rattle.bh_rows.specs.Form.{typed, AreRows}
 use Rattle.bh_rows.proofs.FormLemmas.{any_typed}
 use Rattle.bh_rows.proofs.CallLemmas.{write_open, write_refused, clean_before}
 use Rattle.bh_rows.proofs.InsertLemmas.{added}
 use Rattle.bh_rows.proofs.RefusedLemmas.{insert_refused}
 use Rattle.bh_rows.proofs.AllowedLemmas.{unclashed, allowed, refers_still}
 use Rattle.bh_tables.specs.Schema.{Octets, host_schema, tenants_table, at}
-use Rattle.bh_tables.specs.Typed.{TenantRow, tenant_columns, tenant_form, number, IsReady, IsHost, tables}
+use Rattle.bh_tables.specs.Typed.{TenantRow, tenant_columns, tenant_form, number, IsReady, tables}
 use Rattle.bh_tables.specs.Shown.{is_tenant}
 use Rattle.bh_tables.proofs.TenantLemmas.{insert_tenant_text, insert_tenant_terms, insert_tenant_means}
 use Rattle.bh_tables.proofs.Checked.{tenant_checked}

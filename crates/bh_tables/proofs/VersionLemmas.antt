@@ -1,10 +1,10 @@
 -- The texts over versions.
-use Rattle.std.proofs.Common.{◌≡◌, ℕ, pos, codes, List, [], ◌∷◌, ◌++◌, map, filter, refl, true, false, None, Option, Bool, Result, Ok, Err, OnOk, IfOk, IfErr, IsTrue, ap, ◌∙◌}
+use Rattle.std.proofs.Common.{◌≡◌, ℕ, pos, codes, List, [], ◌∷◌, ◌++◌, map, filter, refl, false, Result, Ok, Err, OnOk, IfOk, IfErr, IsTrue, ap, ◌∙◌}
 use Rattle.sqlite.specs.declared.types.Value.TheVariants.{Null, Int, Text, Blob}
 use Rattle.sqlite.specs.Term.{Term, lit, col}
 use Rattle.sqlite.specs.Source.TheVariants.{Values}
-use Rattle.sqlite.specs.Command.TheVariants.{Insert, Update, Delete}
-use Rattle.sqlite_keyed.specs.Lists.{update_where, delete_where}
+use Rattle.sqlite.specs.Command.TheVariants.{Insert, Delete}
+use Rattle.sqlite_keyed.specs.Lists.{delete_where}
 use Rattle.sqlite.specs.Listing.{understood}
 use Rattle.sqlite.specs.State.{State, Shown, FailsToQuery, HasCleanDisk, Survives, CommitsShowing, CommitsBy, Executes}
 use Rattle.sqlite.specs.declared.error.Error.{Error}
@@ -15,13 +15,13 @@ use Rattle.sqlite_typed.proofs.TestLemmas.{at_texts, at_blobs, at_ints, last_ter
 use Rattle.bh_rows.specs.Means.{Means, Asks, Changes}
 use Rattle.bh_rows.specs.Scan.{scan, no_limit, by_rowid}
 use Rattle.bh_rows.proofs.CallLemmas.{write_changes, clean_before}
-use Rattle.bh_rows.proofs.FormLemmas.{held_update, typed_update, held_delete, typed_delete}
+use Rattle.bh_rows.proofs.FormLemmas.{held_delete, typed_delete}
 use Rattle.bh_rows.proofs.InsertLemmas.{inserts, inserted_rows, typed_last, held_last}
 use Rattle.bh_rows.proofs.ScanLemmas.{selects, scan_rows, scan_asks}
-use Rattle.bh_rows.proofs.WriteLemmas.{updates, updated_rows, deletes, deleted_rows}
+use Rattle.bh_rows.proofs.WriteLemmas.{deletes, deleted_rows}
 use Rattle.bh_tables.proofs.Terms.{is}
 use Rattle.bh_tables.specs.Schema.{Octets, host_schema, versions_table, at}
-use Rattle.bh_tables.specs.Typed.{VersionRow, version_columns, version_form, number, IsReady, IsHost, tables, tables_in}
+use Rattle.bh_tables.specs.Typed.{VersionRow, version_columns, version_form, number, IsReady, IsHost, tables}
 use Rattle.bh_tables.specs.Shown.{is_version, shown_version}
 use Rattle.bh_tables.proofs.Kept.{version_kept}
 use Rattle.bh_tables.proofs.Quiet.{delete_version_quiet}

@@ -1,5 +1,5 @@
 -- A new version in a bucket is refused in trouble alone.
-use Rattle.std.proofs.Common.{arith, ◌≡◌, ◌≤◌, ◌⊎◌, inl, inr, ℕ, ℤ, pos, List, [], ◌∷◌, ◌++◌, ◌&&◌, ◌||◌, not, refl, true, false, None, Bool, Result, Ok, Err, IfErr, IsTrue, sym, ap, subst, ◌∙◌}
+use Rattle.std.proofs.Common.{◌≡◌, inl, inr, ℕ, ℤ, pos, List, [], ◌∷◌, ◌&&◌, ◌||◌, not, refl, true, false, None, Result, Ok, Err, IfErr, ap, subst, ◌∙◌}
 use Rattle.std.specs.List.{list_any, list_all}
 use Rattle.sqlite.specs.declared.types.Value.TheVariants.{Text, Null, Int, Blob}
 use Rattle.sqlite.specs.Order.{Row}
@@ -26,8 +26,8 @@ use Rattle.bh_rows.proofs.InsertLemmas.{added}
 use Rattle.bh_rows.proofs.RefusedLemmas.{insert_refused}
 use Rattle.bh_rows.proofs.AllowedLemmas.{unclashed, allowed, refers_still}
 use Rattle.bh_tables.specs.Schema.{Octets, host_schema, versions_table, at}
-use Rattle.bh_tables.specs.Typed.{VersionRow, version_columns, version_form, bucket_form, number, IsReady, IsHost, tables}
-use Rattle.bh_tables.specs.Shown.{is_version, is_entry, is_bucket, is_marked_right}
+use Rattle.bh_tables.specs.Typed.{VersionRow, version_columns, version_form, bucket_form, number, IsReady, tables}
+use Rattle.bh_tables.specs.Shown.{is_version, is_entry, is_bucket}
 use Rattle.bh_tables.proofs.VersionLemmas.{insert_version_text, insert_version_terms, insert_version_means}
 use Rattle.bh_tables.proofs.Checked.{version_checked}
 use Rattle.bh_tables.proofs.Apart.{host_apart}

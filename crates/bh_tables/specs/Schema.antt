@@ -1,5 +1,5 @@
 -- The schema of a host as a value: five tables, each as its CREATE text defines it.
-use Rattle.std.specs.Prelude.{ℕ, Bool, true, false, [], ◌∷◌, List, map, Option, Some, None, codes, pos}
+use Rattle.std.specs.Prelude.{ℕ, true, false, [], ◌∷◌, List, map, Some, None, codes, pos}
 use Rattle.sqlite.specs.Collation.TheVariants.{Binary}
 use Rattle.sqlite.specs.declared.types.Value.TheVariants.{Null, Int, Text as Words}
 use Rattle.sqlite.specs.Table.{Table}
@@ -59,10 +59,10 @@ refers columns parent = record { columns = columns; parent = parent; parent_colu
 abbrev pub host_table : Table
 host_table = record (table (codes "host") (maybe (codes "id") Integer ∷ given (codes "version") Integer ∷ given (codes "latest") Integer ∷ given (codes "min_part") Integer ∷ given (codes "max_body") Integer ∷ []) (0 ∷ []) [] []
     (op2 (Compare Eq Binary) (col 1 0) (lit (Int (pos 1))) ∷ is_natural 2 ∷ is_natural 3 ∷ is_natural 4 ∷ is_natural 5 ∷ [])) {
-  key = Some 0;
-  uniques = [];
-  orders = [];
-}
+      key = Some 0;
+      uniques = [];
+      orders = [];
+    }
 
 abbrev pub tenants_table : Table
 tenants_table = table (codes "tenants") (given (codes "tenant") Text ∷ given (codes "quota") Integer ∷ given (codes "next_version") Integer ∷ given (codes "next_upload") Integer ∷ given (codes "next_entry") Integer ∷ [])
@@ -80,7 +80,7 @@ buckets_table = table (codes "buckets") (given (codes "tenant") Text ∷ given (
 abbrev pub versions_table : Table
 versions_table = table (codes "versions")
     (given (codes "tenant") Text ∷ given (codes "seq") Integer ∷ given (codes "bucket") Text ∷ given (codes "okey") Blob ∷ given (codes "id") Integer ∷ given (codes "marker") Integer
-      ∷ given (codes "stamp") Integer ∷ given (codes "size") Integer ∷ given (codes "sum") Text ∷ given (codes "bytes") Blob ∷ [])
+    ∷ given (codes "stamp") Integer ∷ given (codes "size") Integer ∷ given (codes "sum") Text ∷ given (codes "bytes") Blob ∷ [])
     (1 ∷ 2 ∷ []) ((1 ∷ 3 ∷ 4 ∷ 5 ∷ []) ∷ []) (refers (1 ∷ 3 ∷ []) (codes "buckets") ∷ [])
     (is_natural 2 ∷ is_natural 5 ∷ is_natural 6 ∷ is_natural 7 ∷ is_natural 8 ∷ op2 Or (op2 (Compare Eq Binary) (col 1 6) (lit (Int (pos 0)))) (op2 And (op2 (Compare Eq Binary) (col 1 8) (lit (Int (pos 0)))) (op2 (Compare Eq Binary) (col 1 9) (lit (Words [])))) ∷ [])
 

@@ -1,11 +1,9 @@
 //! bucketd: a host of S3 buckets for many tenants.
 #![tactic(auto)]
 
-mod digester;
-mod input;
-mod script;
-
-use crate::script::{Fault, run_script};
+use bh_script::input::read_all;
+use bh_script::script::answer_script;
+use std::io::Write;
 use std::process::ExitCode;
 use std::rt::Runtime;
 use std::{env, io};
@@ -33,16 +31,31 @@ fn asks_for_script(rt: &impl Runtime) -> io::Result<bool> {
     }
 }
 
-fn main(rt: HostRuntime) -> io::Result<ExitCode> {
-    if !asks_for_script(&rt)? {
-        print!(rt; "{USAGE}")?;
-        return Ok(ExitCode::from(2));
-    }
-    match run_script(&rt) {
-        Ok(code) => Ok(code),
-        Err(Fault::Memory | Fault::Store | Fault::Io) => {
-            println!(rt; "fault")?;
-            Ok(ExitCode::from(1))
+/// Answers the script of standard input on standard output.
+fn run_script(rt: &(impl Input + Print + AllocGlobal)) -> io::Result<ExitCode> {
+    let alloc = rt.alloc();
+    let answered = match read_all(alloc, &mut rt.reader()) {
+        Ok(Some(bytes)) => answer_script(alloc, bytes.as_slice()),
+        Ok(None) | Err(_) => return fault(rt),
+    };
+    match answered {
+        Ok(answered) => {
+            io::writer(rt).write_all(answered.text.as_slice())?;
+            Ok(ExitCode::from(u8::from(answered.bad_line.is_some())))
         }
+        Err(_) => fault(rt),
     }
+}
+
+fn fault(rt: &impl Print) -> io::Result<ExitCode> {
+    println!(rt; "fault")?;
+    Ok(ExitCode::from(1))
+}
+
+fn main(rt: HostRuntime) -> io::Result<ExitCode> {
+    if asks_for_script(&rt)? {
+        return run_script(&rt);
+    }
+    print!(rt; "{USAGE}")?;
+    Ok(ExitCode::from(2))
 }

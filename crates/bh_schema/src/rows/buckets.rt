@@ -32,7 +32,11 @@ fn read_numbers(row: &Row) -> Result<BucketNumbers, Error>
     })
 }
 
-fn bucket_rows<S: Alter>(connection: &mut Connection<S>, tenant: &str, bucket: &str) -> Result<Vec<Row>, Error>
+fn bucket_rows<S: Alter>(
+    connection: &mut Connection<S>,
+    tenant: &str,
+    bucket: &str,
+) -> Result<Vec<Row>, Error>
     requires inside { IsClean (state S.Store connection.old) → IsInside (standing (state S.Store connection.old)) }
     ensures within { Within (state S.Store connection.old) (state S.Store connection.new) }
     ensures opens { OnOk result (IsIntact (state S.Store connection.new) → IsOpen (state S.Store connection.old) × IsOpen (state S.Store connection.new)) }
@@ -47,7 +51,11 @@ fn bucket_rows<S: Alter>(connection: &mut Connection<S>, tenant: &str, bucket: &
 }
 
 /// The numbers of a tenant's bucket of this name, if there is one.
-pub fn find_bucket<S: Alter>(connection: &mut Connection<S>, tenant: &str, bucket: &str) -> Result<Option<BucketNumbers>, Error>
+pub fn find_bucket<S: Alter>(
+    connection: &mut Connection<S>,
+    tenant: &str,
+    bucket: &str,
+) -> Result<Option<BucketNumbers>, Error>
     requires inside { IsClean (state S.Store connection.old) → IsInside (standing (state S.Store connection.old)) }
     ensures within { Within (state S.Store connection.old) (state S.Store connection.new) }
     ensures opens { OnOk result (IsIntact (state S.Store connection.new) → IsOpen (state S.Store connection.old) × IsOpen (state S.Store connection.new)) }
@@ -63,7 +71,12 @@ pub fn find_bucket<S: Alter>(connection: &mut Connection<S>, tenant: &str, bucke
 }
 
 /// Adds an Unversioned bucket with no rule, made at this second since 1970.
-pub fn insert_bucket<S: Alter>(connection: &mut Connection<S>, tenant: &str, bucket: &str, created: u64) -> Result<usize, Error>
+pub fn insert_bucket<S: Alter>(
+    connection: &mut Connection<S>,
+    tenant: &str,
+    bucket: &str,
+    created: u64,
+) -> Result<usize, Error>
     requires inside { IsClean (state S.Store connection.old) → IsInside (standing (state S.Store connection.old)) }
     requires small { created < 2 ^ 63 }
     ensures within { Within (state S.Store connection.old) (state S.Store connection.new) }

@@ -24,10 +24,7 @@ fn latest_rows<S: Alter>(connection: &mut Connection<S>) -> Result<Vec<Row>, Err
     ensures rows { IfOk result (λ rows. IsClean (state S.Store connection.new) → rows.items ≡ map shown_latest (filter (λ _. true) (tables_in (standing (state S.Store connection.old)).now).host)) }
     ensures trouble { IfErr result (λ e. IsIntact (state S.Store connection.new) → (standing (state S.Store connection.old)).limit ≡ None → is_trouble e ≡ true) }
 {
-    connection.query_all(
-        "SELECT latest FROM host ORDER BY rowid",
-        &[],
-    )
+    connection.query_all("SELECT latest FROM host ORDER BY rowid", &[])
 }
 
 /// The last stamp, in seconds since 1970, if the host has its row.
@@ -54,14 +51,15 @@ pub fn set_latest<S: Alter>(connection: &mut Connection<S>, stamp: u64) -> Resul
     ensures opens { OnOk result (IsIntact (state S.Store connection.new) → IsOpen (state S.Store connection.old) → IsOpen (state S.Store connection.new)) }
     ensures holds { OnOk result (IsClean (state S.Store connection.new) → Holds (record (tables_in (standing (state S.Store connection.old)).now) { host = map (with_stamp stamp) (tables_in (standing (state S.Store connection.old)).now).host }) (standing (state S.Store connection.new))) }
 {
-    connection.execute(
-        "UPDATE host SET latest = ?1",
-        &[number(stamp)],
-    )
+    connection.execute("UPDATE host SET latest = ?1", &[number(stamp)])
 }
 
 /// Adds the row of a new host, whose last stamp is 0.
-pub fn insert_host<S: Alter>(connection: &mut Connection<S>, min_part: u64, max_body: u64) -> Result<usize, Error>
+pub fn insert_host<S: Alter>(
+    connection: &mut Connection<S>,
+    min_part: u64,
+    max_body: u64,
+) -> Result<usize, Error>
     requires inside { IsClean (state S.Store connection.old) → IsInside (standing (state S.Store connection.old)) }
     requires min_part { min_part < 2 ^ 63 }
     requires max_body { max_body < 2 ^ 63 }

@@ -19,7 +19,11 @@ fn read_secret(row: &Row) -> Result<String, Error>
     row.get(0)
 }
 
-fn secret_rows<S: Alter>(connection: &mut Connection<S>, tenant: &str, name: &str) -> Result<Vec<Row>, Error>
+fn secret_rows<S: Alter>(
+    connection: &mut Connection<S>,
+    tenant: &str,
+    name: &str,
+) -> Result<Vec<Row>, Error>
     requires inside { IsClean (state S.Store connection.old) → IsInside (standing (state S.Store connection.old)) }
     ensures within { Within (state S.Store connection.old) (state S.Store connection.new) }
     ensures opens { OnOk result (IsIntact (state S.Store connection.new) → IsOpen (state S.Store connection.old) × IsOpen (state S.Store connection.new)) }
@@ -34,7 +38,11 @@ fn secret_rows<S: Alter>(connection: &mut Connection<S>, tenant: &str, name: &st
 }
 
 /// The secret of a tenant's access key of this name, if there is one.
-pub fn find_secret<S: Alter>(connection: &mut Connection<S>, tenant: &str, name: &str) -> Result<Option<String>, Error>
+pub fn find_secret<S: Alter>(
+    connection: &mut Connection<S>,
+    tenant: &str,
+    name: &str,
+) -> Result<Option<String>, Error>
     requires inside { IsClean (state S.Store connection.old) → IsInside (standing (state S.Store connection.old)) }
     ensures within { Within (state S.Store connection.old) (state S.Store connection.new) }
     ensures opens { OnOk result (IsIntact (state S.Store connection.new) → IsOpen (state S.Store connection.old) × IsOpen (state S.Store connection.new)) }
@@ -50,7 +58,12 @@ pub fn find_secret<S: Alter>(connection: &mut Connection<S>, tenant: &str, name:
 }
 
 /// Adds an access key to a tenant.
-pub fn insert_key<S: Alter>(connection: &mut Connection<S>, tenant: &str, name: &str, secret: &str) -> Result<usize, Error>
+pub fn insert_key<S: Alter>(
+    connection: &mut Connection<S>,
+    tenant: &str,
+    name: &str,
+    secret: &str,
+) -> Result<usize, Error>
     requires inside { IsClean (state S.Store connection.old) → IsInside (standing (state S.Store connection.old)) }
     ensures within { Within (state S.Store connection.old) (state S.Store connection.new) }
     ensures opens { OnOk result (IsIntact (state S.Store connection.new) → IsOpen (state S.Store connection.old) → IsOpen (state S.Store connection.new)) }
@@ -66,7 +79,11 @@ pub fn insert_key<S: Alter>(connection: &mut Connection<S>, tenant: &str, name: 
 }
 
 /// Takes an access key away, if it is there.
-pub fn delete_key<S: Alter>(connection: &mut Connection<S>, tenant: &str, name: &str) -> Result<usize, Error>
+pub fn delete_key<S: Alter>(
+    connection: &mut Connection<S>,
+    tenant: &str,
+    name: &str,
+) -> Result<usize, Error>
     requires inside { IsClean (state S.Store connection.old) → IsInside (standing (state S.Store connection.old)) }
     ensures within { Within (state S.Store connection.old) (state S.Store connection.new) }
     ensures opens { OnOk result (IsIntact (state S.Store connection.new) → IsOpen (state S.Store connection.old) → IsOpen (state S.Store connection.new)) }

@@ -51,7 +51,10 @@ fn tenant_rows<S: Alter>(connection: &mut Connection<S>, name: &str) -> Result<V
 }
 
 /// The numbers of the tenant of this name, if there is one.
-pub fn find_tenant<S: Alter>(connection: &mut Connection<S>, name: &str) -> Result<Option<TenantNumbers>, Error>
+pub fn find_tenant<S: Alter>(
+    connection: &mut Connection<S>,
+    name: &str,
+) -> Result<Option<TenantNumbers>, Error>
     requires inside { IsClean (state S.Store connection.old) → IsInside (standing (state S.Store connection.old)) }
     ensures within { Within (state S.Store connection.old) (state S.Store connection.new) }
     ensures opens { OnOk result (IsIntact (state S.Store connection.new) → IsOpen (state S.Store connection.old) × IsOpen (state S.Store connection.new)) }
@@ -67,7 +70,11 @@ pub fn find_tenant<S: Alter>(connection: &mut Connection<S>, name: &str) -> Resu
 }
 
 /// Adds a tenant, each of whose counters gives 1 next.
-pub fn insert_tenant<S: Alter>(connection: &mut Connection<S>, name: &str, quota: u64) -> Result<usize, Error>
+pub fn insert_tenant<S: Alter>(
+    connection: &mut Connection<S>,
+    name: &str,
+    quota: u64,
+) -> Result<usize, Error>
     requires inside { IsClean (state S.Store connection.old) → IsInside (standing (state S.Store connection.old)) }
     requires small { quota < 2 ^ 63 }
     ensures within { Within (state S.Store connection.old) (state S.Store connection.new) }
@@ -84,7 +91,11 @@ pub fn insert_tenant<S: Alter>(connection: &mut Connection<S>, name: &str, quota
 }
 
 /// Sets the number that the tenant's next version, marker or part takes.
-pub fn set_next_entry<S: Alter>(connection: &mut Connection<S>, tenant: &str, next: u64) -> Result<usize, Error>
+pub fn set_next_entry<S: Alter>(
+    connection: &mut Connection<S>,
+    tenant: &str,
+    next: u64,
+) -> Result<usize, Error>
     requires inside { IsClean (state S.Store connection.old) → IsInside (standing (state S.Store connection.old)) }
     requires small { next < 2 ^ 63 }
     ensures within { Within (state S.Store connection.old) (state S.Store connection.new) }

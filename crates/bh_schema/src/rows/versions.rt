@@ -60,7 +60,13 @@ fn read_version(row: &Row) -> Result<StoredVersion, Error>
     })
 }
 
-fn version_rows<S: Alter>(connection: &mut Connection<S>, tenant: &str, bucket: &str, okey: &[u8], id: u64) -> Result<Vec<Row>, Error>
+fn version_rows<S: Alter>(
+    connection: &mut Connection<S>,
+    tenant: &str,
+    bucket: &str,
+    okey: &[u8],
+    id: u64,
+) -> Result<Vec<Row>, Error>
     requires inside { IsClean (state S.Store connection.old) → IsInside (standing (state S.Store connection.old)) }
     requires small { id < 2 ^ 63 }
     ensures within { Within (state S.Store connection.old) (state S.Store connection.new) }
@@ -76,7 +82,13 @@ fn version_rows<S: Alter>(connection: &mut Connection<S>, tenant: &str, bucket: 
 }
 
 /// The version or marker of a key with this id, if there is one; 0 is `null`.
-pub fn find_version<S: Alter>(connection: &mut Connection<S>, tenant: &str, bucket: &str, okey: &[u8], id: u64) -> Result<Option<StoredVersion>, Error>
+pub fn find_version<S: Alter>(
+    connection: &mut Connection<S>,
+    tenant: &str,
+    bucket: &str,
+    okey: &[u8],
+    id: u64,
+) -> Result<Option<StoredVersion>, Error>
     requires inside { IsClean (state S.Store connection.old) → IsInside (standing (state S.Store connection.old)) }
     requires small { id < 2 ^ 63 }
     ensures within { Within (state S.Store connection.old) (state S.Store connection.new) }
@@ -93,7 +105,10 @@ pub fn find_version<S: Alter>(connection: &mut Connection<S>, tenant: &str, buck
 }
 
 /// Adds a version.
-pub fn insert_version<S: Alter>(connection: &mut Connection<S>, version: &NewVersion<'_>) -> Result<usize, Error>
+pub fn insert_version<S: Alter>(
+    connection: &mut Connection<S>,
+    version: &NewVersion<'_>,
+) -> Result<usize, Error>
     requires inside { IsClean (state S.Store connection.old) → IsInside (standing (state S.Store connection.old)) }
     requires seq { version.now.seq < 2 ^ 63 }
     requires id { version.now.id < 2 ^ 63 }
@@ -123,7 +138,13 @@ pub fn insert_version<S: Alter>(connection: &mut Connection<S>, version: &NewVer
 }
 
 /// Takes the version or marker of a key with this id away, if it is there.
-pub fn delete_version<S: Alter>(connection: &mut Connection<S>, tenant: &str, bucket: &str, okey: &[u8], id: u64) -> Result<usize, Error>
+pub fn delete_version<S: Alter>(
+    connection: &mut Connection<S>,
+    tenant: &str,
+    bucket: &str,
+    okey: &[u8],
+    id: u64,
+) -> Result<usize, Error>
     requires inside { IsClean (state S.Store connection.old) → IsInside (standing (state S.Store connection.old)) }
     requires small { id < 2 ^ 63 }
     ensures within { Within (state S.Store connection.old) (state S.Store connection.new) }

@@ -1,7 +1,6 @@
-use Rattle.std.proofs.Common.{rules, ◌≡◌, true, false, Option, Some, None, option_map, bytes_eq, sym, ap, ◌∙◌}
+use Rattle.std.proofs.Common.{rules, ◌≡◌, true, false, Some, None, option_map, bytes_eq, ap, ◌∙◌}
 use Rattle.std.specs.String.{string_bytes}
 use Rattle.sqlite.specs.Held.{state}
-use Rattle.bh_model.specs.State.{Octets}
 use Rattle.bh_model.specs.Credentials.{key_name_of, secret_of}
 use Rattle.bh_view.specs.View.{view}
 use Rattle.bh_schema.specs.Storage.{seen_in}
@@ -24,7 +23,7 @@ returns-in_default-found g c =
     let same : IsIntact new → standing new ≡ standing old = on_ok _ c.in_ok-found.ensures.ok c.find_secret.ensures.same in
     let named : key_name_of c.args.id.now ≡ Some c.in-Some.name = search rules in
     let seen : IsClean new → secret_of c.in-Some.name (view (seen_in old).now c.args.tenant.now) ≡ option_map string_bytes c.in_ok-found.found = λ clean.
-      rw (c.as_str.ensures.value, c.as_str-2.ensures.value) at (secret_seen old c.as_str.result.now c.as_str-2.result.now (option_map string_bytes c.in_ok-found.found) (c.requires (w.follows.clean clean)) (if_ok _ c.in_ok-found.ensures.ok c.find_secret.ensures.found clean)) in
+    rw (c.as_str.ensures.value, c.as_str-2.ensures.value) at (secret_seen old c.as_str.result.now c.as_str-2.result.now (option_map string_bytes c.in_ok-found.found) (c.requires (w.follows.clean clean)) (if_ok _ c.in_ok-found.ensures.ok c.find_secret.ensures.found clean)) in
     let none : c.in_ok-found.found ≡ None = search rules in
     record {
       working = asked_works old new c.requires w same;
@@ -40,7 +39,7 @@ returns-then-eq g c =
     let same : IsIntact new → standing new ≡ standing old = on_ok _ c.in_ok-found.ensures.ok c.find_secret.ensures.same in
     let named : key_name_of c.args.id.now ≡ Some c.in-Some.name = search rules in
     let seen : IsClean new → secret_of c.in-Some.name (view (seen_in old).now c.args.tenant.now) ≡ option_map string_bytes c.in_ok-found.found = λ clean.
-      rw (c.as_str.ensures.value, c.as_str-2.ensures.value) at (secret_seen old c.as_str.result.now c.as_str-2.result.now (option_map string_bytes c.in_ok-found.found) (c.requires (w.follows.clean clean)) (if_ok _ c.in_ok-found.ensures.ok c.find_secret.ensures.found clean)) in
+    rw (c.as_str.ensures.value, c.as_str-2.ensures.value) at (secret_seen old c.as_str.result.now c.as_str-2.result.now (option_map string_bytes c.in_ok-found.found) (c.requires (w.follows.clean clean)) (if_ok _ c.in_ok-found.ensures.ok c.find_secret.ensures.found clean)) in
     let found : c.in_ok-found.found ≡ Some c.in-Some-found.known = search rules in
     let equal : bytes_eq c.args.secret.now (string_bytes c.in-Some-found.known) ≡ true = search rules in
     record {
@@ -57,7 +56,7 @@ returns g c =
     let same : IsIntact new → standing new ≡ standing old = on_ok _ c.in_ok-found.ensures.ok c.find_secret.ensures.same in
     let named : key_name_of c.args.id.now ≡ Some c.in-Some.name = search rules in
     let seen : IsClean new → secret_of c.in-Some.name (view (seen_in old).now c.args.tenant.now) ≡ option_map string_bytes c.in_ok-found.found = λ clean.
-      rw (c.as_str.ensures.value, c.as_str-2.ensures.value) at (secret_seen old c.as_str.result.now c.as_str-2.result.now (option_map string_bytes c.in_ok-found.found) (c.requires (w.follows.clean clean)) (if_ok _ c.in_ok-found.ensures.ok c.find_secret.ensures.found clean)) in
+    rw (c.as_str.ensures.value, c.as_str-2.ensures.value) at (secret_seen old c.as_str.result.now c.as_str-2.result.now (option_map string_bytes c.in_ok-found.found) (c.requires (w.follows.clean clean)) (if_ok _ c.in_ok-found.ensures.ok c.find_secret.ensures.found clean)) in
     let found : c.in_ok-found.found ≡ Some c.in-Some-found.known = search rules in
     let other : bytes_eq c.args.secret.now (string_bytes c.in-Some-found.known) ≡ false = search rules in
     record {

@@ -1,8 +1,4 @@
-use Rattle.std.proofs.Common.{◌≡◌, ap, sym, ◌∙◌}
 use Rattle.sqlite.specs.Held.{state}
-use Rattle.bh_storage.specs.Calls.{Seen}
-use Rattle.bh_schema.specs.Layer.{standing, begun}
-use Rattle.bh_schema.specs.Storage.{seen_in}
 use Rattle.bh_schema.proofs.Storing.{on_ok, keeps}
 use Rattle.bh_schema.proofs.Committing.{begun_works, begun_shows}
 use Rattle.bh_schema.proofs.host.Host.begin.Goals as goal

@@ -1,11 +1,9 @@
 use Rattle.std.proofs.Common.{rules, arith, ◌≡◌, ◌≤◌, ◌<◌, sym, subst, map}
 use Rattle.sqlite.specs.Held.{state}
-use Rattle.bh_tables.specs.Typed.{Tables}
-use Rattle.bh_model.specs.Runs.{last_reading}
-use Rattle.bh_view.specs.View.{latest_of, with_latest}
+use Rattle.bh_view.specs.View.{with_latest}
 use Rattle.bh_view.specs.Becomes.{IsStamped}
 use Rattle.bh_storage.specs.Calls.{IsWorking, Stamps}
-use Rattle.bh_schema.specs.Layer.{standing, IsClean, IsInside, Holds}
+use Rattle.bh_schema.specs.Layer.{IsClean, IsInside}
 use Rattle.bh_schema.specs.Rows.{with_stamp}
 use Rattle.bh_schema.specs.Storage.{seen_in}
 use Rattle.bh_schema.proofs.Storing.{on_ok, inside_of, seen_same, holds_seen, within_then, keeps}
@@ -51,14 +49,14 @@ returns-in-Some g c =
     let high : c.in_ok-latest.latest < c.args.reading = search rules in
     let same_read : c.in-Some.read ≡ c.args.reading = search rules in
     let written : IsClean new → IsStamped c.args.reading (seen_in old).now (seen_in new).now × ((seen_in new).now ≡ with_latest c.args.reading (seen_in old).now) = λ clean.
-      let clean_mid = c.set_latest.ensures.within.follows.clean clean in
-      stamp_written old new c.args.reading c.in_ok-latest.latest (c.requires.working (h.within.follows.clean clean_mid)) (h.latest clean_mid) high c.requires.in_range
-      (holds_after old mid new (λ x. record x { host = map (with_stamp c.args.reading) x.host }) (h.same clean_mid.intact) (on_ok _ c.in_ok-told.ensures.ok c.set_latest.ensures.holds clean)) in
+    let clean_mid = c.set_latest.ensures.within.follows.clean clean in
+    stamp_written old new c.args.reading c.in_ok-latest.latest (c.requires.working (h.within.follows.clean clean_mid)) (h.latest clean_mid) high c.requires.in_range
+    (holds_after old mid new (λ x. record x { host = map (with_stamp c.args.reading) x.host }) (h.same clean_mid.intact) (on_ok _ c.in_ok-told.ensures.ok c.set_latest.ensures.holds clean)) in
     record {
       working = λ clean. record { inside = (holds_seen _ new (on_ok _ c.in_ok-told.ensures.ok c.set_latest.ensures.holds clean)).1; sound = (written clean).0.sound };
       within = keeps g.S.Store g.met.S.Store.settled g.met.S.Store.stays c.args.self.now.connection c.set_latest.new.connection
-        (within_then old mid new (λ intact up. (h.opens intact).1) h.within c.set_latest.ensures.within);
+          (within_then old mid new (λ intact up. (h.opens intact).1) h.within c.set_latest.ensures.within);
       stamps = λ clean. subst (λ m. Stamps c.args.reading m (seen_in old).now (seen_in new).now) (sym same_read)
-        (stamps_of (seen_in old).now (seen_in new).now c.args.reading c.in_ok-latest.latest (h.latest (c.set_latest.ensures.within.follows.clean clean)) high (written clean).1 (written clean).0);
+          (stamps_of (seen_in old).now (seen_in new).now c.args.reading c.in_ok-latest.latest (h.latest (c.set_latest.ensures.within.follows.clean clean)) high (written clean).1 (written clean).0);
       unwritten = λ clean is. absurd (omega (arith, high, h.latest (c.set_latest.ensures.within.follows.clean clean), is, same_read));
     }

@@ -1,4 +1,4 @@
-use Rattle.std.proofs.Common.{rules, ◌≡◌, ◌≤◌, ◌^◌, ℕ, nat_le, true, false, None, Some, List, [], ◌∷◌, ◌++◌, is_some, IsTrue, sym, ap, ◌∙◌, subst}
+use Rattle.std.proofs.Common.{rules, ◌≡◌, ◌^◌, nat_le, true, false, None, Some, [], ◌∷◌, ◌++◌, is_some, IsTrue, sym, ap, ◌∙◌, subst}
 use Rattle.sqlite.specs.Held.{state}
 use Rattle.bh_types.specs.Names.{is_tenant_name}
 use Rattle.bh_model.specs.Operations.{Done, add_tenant}
@@ -7,7 +7,7 @@ use Rattle.bh_model.specs.State.{new_tenant}
 use Rattle.bh_view.specs.Becomes.{Becomes}
 use Rattle.bh_view.specs.View.{view}
 use Rattle.bh_storage.specs.Calls.{Seen, IsWorking}
-use Rattle.bh_schema.specs.Layer.{standing, IsClean, IsInside, Holds}
+use Rattle.bh_schema.specs.Layer.{standing, IsClean, IsInside}
 use Rattle.bh_schema.specs.Storage.{seen_in}
 use Rattle.bh_schema.specs.Rows.{tenant_numbers}
 use Rattle.bh_schema.proofs.Storing.{if_ok, on_ok, inside_of, seen_same, within_then, keeps, holds_seen}
@@ -67,15 +67,15 @@ returns g c =
     let few : nat_le c.args.quota (2 ^ 60) ≡ true = search rules in
     let away : is_some c.in_ok-found.found ≡ false = search rules in
     let none : IsClean new → view (seen_in old).now t ≡ None = λ clean.
-      let clean_mid = c.insert_tenant.ensures.within.follows.clean clean in
-      none_of _ (tenant_seen old t tenant_numbers c.in_ok-found.found (c.requires (c.find_tenant.ensures.within.follows.clean clean_mid)) (if_ok _ c.in_ok-found.ensures.ok c.find_tenant.ensures.found clean_mid) ∙ away) in
+    let clean_mid = c.insert_tenant.ensures.within.follows.clean clean in
+    none_of _ (tenant_seen old t tenant_numbers c.in_ok-found.found (c.requires (c.find_tenant.ensures.within.follows.clean clean_mid)) (if_ok _ c.in_ok-found.ensures.ok c.find_tenant.ensures.found clean_mid) ∙ away) in
     let becomes : IsClean new → Becomes t (Some (new_tenant c.args.quota)) (seen_in old).now (seen_in new).now = λ clean.
-      let clean_mid = c.insert_tenant.ensures.within.follows.clean clean in
-      tenant_becomes old new t c.args.quota (c.requires (c.find_tenant.ensures.within.follows.clean clean_mid)) (none clean) name (leb-true _ _ few)
-      (holds_after old mid new (λ x. record x { tenants = x.tenants ++ record { tenant = t; quota = c.args.quota; next_version = 1; next_upload = 1; next_entry = 1 } ∷ [] }) (on_ok _ c.in_ok-found.ensures.ok c.find_tenant.ensures.same clean_mid.intact) (on_ok _ c.in_ok-told.ensures.ok c.insert_tenant.ensures.holds clean)) in
+    let clean_mid = c.insert_tenant.ensures.within.follows.clean clean in
+    tenant_becomes old new t c.args.quota (c.requires (c.find_tenant.ensures.within.follows.clean clean_mid)) (none clean) name (leb-true _ _ few)
+    (holds_after old mid new (λ x. record x { tenants = x.tenants ++ record { tenant = t; quota = c.args.quota; next_version = 1; next_upload = 1; next_entry = 1 } ∷ [] }) (on_ok _ c.in_ok-found.ensures.ok c.find_tenant.ensures.same clean_mid.intact) (on_ok _ c.in_ok-told.ensures.ok c.insert_tenant.ensures.holds clean)) in
     record {
       working = λ clean. works_of t _ old new (holds_seen _ new (on_ok _ c.in_ok-told.ensures.ok c.insert_tenant.ensures.holds clean)).1 (becomes clean);
       within = keeps g.S.Store g.met.S.Store.settled g.met.S.Store.stays c.args.self.now.connection c.insert_tenant.new.connection
-        (within_then old mid new (λ intact up. (on_ok _ c.in_ok-found.ensures.ok c.find_tenant.ensures.opens intact).1) c.find_tenant.ensures.within c.insert_tenant.ensures.within);
+          (within_then old mid new (λ intact up. (on_ok _ c.in_ok-found.ensures.ok c.find_tenant.ensures.opens intact).1) c.find_tenant.ensures.within c.insert_tenant.ensures.within);
       carries = λ clean. gives_of t (add_tenant t c.args.quota) Done _ (seen_in old).now (seen_in new).now (adds_tenant t c.args.quota _ name few (none clean)) (becomes clean);
     }

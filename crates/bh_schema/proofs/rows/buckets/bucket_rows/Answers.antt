@@ -11,6 +11,6 @@ returns g c =
     let old = state g.S.Store c.args.connection.now in
     let new = state g.S.Store c.query_all.new.self in
     let q = question old new (λ v. v.items) (λ t. map shown_bucket (filter (is_bucket c.args.tenant.now c.args.bucket.now) t.buckets)) c.query_all.result c.requires.inside
-      (find_bucket_asks old new c.args.tenant.now c.args.bucket.now (ready old c.requires.inside) (λ v. v.items) c.query_all.result h.ok h.err h.survives)
-      (find_bucket_rows old new c.args.tenant.now c.args.bucket.now (ready old c.requires.inside) (λ v. v.items) c.query_all.result h.ok h.survives) in
+    (find_bucket_asks old new c.args.tenant.now c.args.bucket.now (ready old c.requires.inside) (λ v. v.items) c.query_all.result h.ok h.err h.survives)
+    (find_bucket_rows old new c.args.tenant.now c.args.bucket.now (ready old c.requires.inside) (λ v. v.items) c.query_all.result h.ok h.survives) in
     record { within = q.within; opens = q.opens; same = q.same; rows = q.rows; trouble = q.trouble }

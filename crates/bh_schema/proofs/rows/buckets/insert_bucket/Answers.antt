@@ -13,6 +13,6 @@ returns g c =
     let old = state g.S.Store c.args.connection.now in
     let new = state g.S.Store c.execute.new.self in
     let w = write old new (λ t. record t { buckets = t.buckets ++ record { tenant = c.args.tenant.now; bucket = c.args.bucket.now; created = c.args.created; state = 0; days = None } ∷ [] }) c.execute.result c.requires.inside
-      (insert_bucket_changes old new c.args.tenant.now c.args.bucket.now c.args.created (ready old c.requires.inside) c.execute.result h.runs h.survives)
-      (insert_bucket_adds old new c.args.tenant.now c.args.bucket.now c.args.created (ready old c.requires.inside) c.execute.result h.runs h.survives) in
+    (insert_bucket_changes old new c.args.tenant.now c.args.bucket.now c.args.created (ready old c.requires.inside) c.execute.result h.runs h.survives)
+    (insert_bucket_adds old new c.args.tenant.now c.args.bucket.now c.args.created (ready old c.requires.inside) c.execute.result h.runs h.survives) in
     record { within = w.within; opens = w.opens; holds = w.holds; trouble = error_if old new c.execute.result (λ clean unlimited is. insert_bucket_trouble old new c.args.tenant.now c.args.bucket.now c.args.created (ready old c.requires.inside) c.schema-schema.ensures.live c.execute.result h.runs h.survives clean unlimited is.free is.owned) }

@@ -10,6 +10,6 @@ returns g c =
     let old = state g.S.Store c.args.connection.now in
     let new = state g.S.Store c.execute.new.self in
     let w = write old new (λ t. record t { host = t.host ++ record { version = 0; latest = 0; min_part = c.args.min_part; max_body = c.args.max_body } ∷ [] }) c.execute.result c.requires.inside
-      (insert_host_changes old new c.args.min_part c.args.max_body (ready old c.requires.inside) c.execute.result h.runs h.survives)
-      (insert_host_adds old new c.args.min_part c.args.max_body (ready old c.requires.inside) c.execute.result h.runs h.survives) in
+    (insert_host_changes old new c.args.min_part c.args.max_body (ready old c.requires.inside) c.execute.result h.runs h.survives)
+    (insert_host_adds old new c.args.min_part c.args.max_body (ready old c.requires.inside) c.execute.result h.runs h.survives) in
     record { within = w.within; opens = w.opens; holds = w.holds }

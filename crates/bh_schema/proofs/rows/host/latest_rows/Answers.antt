@@ -11,6 +11,6 @@ returns g c =
     let old = state g.S.Store c.args.connection.now in
     let new = state g.S.Store c.query_all.new.self in
     let q = question old new (λ v. v.items) (λ t. map shown_latest (filter (λ _. true) t.host)) c.query_all.result c.requires.inside
-      (latest_asks old new (ready old c.requires.inside) (λ v. v.items) c.query_all.result h.ok h.err h.survives)
-      (latest_rows old new (ready old c.requires.inside) (λ v. v.items) c.query_all.result h.ok h.survives) in
+    (latest_asks old new (ready old c.requires.inside) (λ v. v.items) c.query_all.result h.ok h.err h.survives)
+    (latest_rows old new (ready old c.requires.inside) (λ v. v.items) c.query_all.result h.ok h.survives) in
     record { within = q.within; opens = q.opens; same = q.same; rows = q.rows; trouble = q.trouble }

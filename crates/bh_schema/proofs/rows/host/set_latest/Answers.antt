@@ -11,6 +11,6 @@ returns g c =
     let old = state g.S.Store c.args.connection.now in
     let new = state g.S.Store c.execute.new.self in
     let w = write old new (λ t. record t { host = map (with_stamp c.args.stamp) t.host }) c.execute.result c.requires.inside
-      (set_latest_changes old new c.args.stamp (ready old c.requires.inside) c.execute.result h.runs h.survives)
-      (set_latest_sets old new c.args.stamp (ready old c.requires.inside) c.execute.result h.runs h.survives) in
+    (set_latest_changes old new c.args.stamp (ready old c.requires.inside) c.execute.result h.runs h.survives)
+    (set_latest_sets old new c.args.stamp (ready old c.requires.inside) c.execute.result h.runs h.survives) in
     record { within = w.within; opens = w.opens; holds = w.holds }

@@ -13,6 +13,6 @@ returns g c =
     let old = state g.S.Store c.args.connection.now in
     let new = state g.S.Store c.execute.new.self in
     let w = write old new (λ t. record t { keys = t.keys ++ record { tenant = c.args.tenant.now; name = c.args.name.now; secret = c.args.secret.now } ∷ [] }) c.execute.result c.requires.inside
-      (insert_key_changes old new c.args.tenant.now c.args.name.now c.args.secret.now (ready old c.requires.inside) c.execute.result h.runs h.survives)
-      (insert_key_adds old new c.args.tenant.now c.args.name.now c.args.secret.now (ready old c.requires.inside) c.execute.result h.runs h.survives) in
+    (insert_key_changes old new c.args.tenant.now c.args.name.now c.args.secret.now (ready old c.requires.inside) c.execute.result h.runs h.survives)
+    (insert_key_adds old new c.args.tenant.now c.args.name.now c.args.secret.now (ready old c.requires.inside) c.execute.result h.runs h.survives) in
     record { within = w.within; opens = w.opens; holds = w.holds; trouble = error_if old new c.execute.result (λ clean unlimited is. insert_key_trouble old new c.args.tenant.now c.args.name.now c.args.secret.now (ready old c.requires.inside) c.schema-schema.ensures.live c.execute.result h.runs h.survives clean unlimited is.free is.owned) }

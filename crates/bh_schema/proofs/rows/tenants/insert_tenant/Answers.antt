@@ -13,6 +13,6 @@ returns g c =
     let old = state g.S.Store c.args.connection.now in
     let new = state g.S.Store c.execute.new.self in
     let w = write old new (λ t. record t { tenants = t.tenants ++ record { tenant = c.args.name.now; quota = c.args.quota; next_version = 1; next_upload = 1; next_entry = 1 } ∷ [] }) c.execute.result c.requires.inside
-      (insert_tenant_changes old new c.args.name.now c.args.quota (ready old c.requires.inside) c.execute.result h.runs h.survives)
-      (insert_tenant_adds old new c.args.name.now c.args.quota (ready old c.requires.inside) c.execute.result h.runs h.survives) in
+    (insert_tenant_changes old new c.args.name.now c.args.quota (ready old c.requires.inside) c.execute.result h.runs h.survives)
+    (insert_tenant_adds old new c.args.name.now c.args.quota (ready old c.requires.inside) c.execute.result h.runs h.survives) in
     record { within = w.within; opens = w.opens; holds = w.holds; trouble = error_if old new c.execute.result (λ clean unlimited is. insert_tenant_trouble old new c.args.name.now c.args.quota (ready old c.requires.inside) c.schema-schema.ensures.live c.execute.result h.runs h.survives clean unlimited is.free) }

@@ -12,6 +12,6 @@ returns g c =
     let old = state g.S.Store c.args.connection.now in
     let new = state g.S.Store c.execute.new.self in
     let w = write old new (λ t. record t { versions = delete_where (is_version c.args.tenant.now c.args.bucket.now c.args.okey.now c.args.id) t.versions }) c.execute.result c.requires.inside
-      (delete_version_changes old new c.args.tenant.now c.args.bucket.now c.args.okey.now c.args.id (ready old c.requires.inside) c.execute.result h.runs h.survives)
-      (delete_version_deletes old new c.args.tenant.now c.args.bucket.now c.args.okey.now c.args.id (ready old c.requires.inside) c.execute.result h.runs h.survives) in
+    (delete_version_changes old new c.args.tenant.now c.args.bucket.now c.args.okey.now c.args.id (ready old c.requires.inside) c.execute.result h.runs h.survives)
+    (delete_version_deletes old new c.args.tenant.now c.args.bucket.now c.args.okey.now c.args.id (ready old c.requires.inside) c.execute.result h.runs h.survives) in
     record { within = w.within; opens = w.opens; holds = w.holds; trouble = error_always old new c.execute.result (λ clean unlimited. delete_version_trouble old new c.args.tenant.now c.args.bucket.now c.args.okey.now c.args.id (ready old c.requires.inside) c.schema-schema.ensures.live c.execute.result h.runs h.survives clean unlimited) }

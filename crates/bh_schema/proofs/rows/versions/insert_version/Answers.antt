@@ -14,6 +14,6 @@ returns g c =
     let old = state g.S.Store c.args.connection.now in
     let new = state g.S.Store c.execute.new.self in
     let w = write old new (λ t. record t { versions = t.versions ++ record { tenant = v.tenant.now; seq = v.seq; bucket = v.bucket.now; okey = v.okey.now; id = v.id; marker = 0; stamp = v.stamp; size = length v.bytes.now; checksum = v.checksum.now; bytes = v.bytes.now } ∷ [] }) c.execute.result c.requires.inside
-      (insert_version_changes old new v.tenant.now v.bucket.now v.okey.now v.checksum.now v.bytes.now v.seq v.id v.stamp (length v.bytes.now) (ready old c.requires.inside) c.execute.result h.runs h.survives)
-      (insert_version_adds old new v.tenant.now v.bucket.now v.okey.now v.checksum.now v.bytes.now v.seq v.id v.stamp (length v.bytes.now) (ready old c.requires.inside) c.execute.result h.runs h.survives) in
+    (insert_version_changes old new v.tenant.now v.bucket.now v.okey.now v.checksum.now v.bytes.now v.seq v.id v.stamp (length v.bytes.now) (ready old c.requires.inside) c.execute.result h.runs h.survives)
+    (insert_version_adds old new v.tenant.now v.bucket.now v.okey.now v.checksum.now v.bytes.now v.seq v.id v.stamp (length v.bytes.now) (ready old c.requires.inside) c.execute.result h.runs h.survives) in
     record { within = w.within; opens = w.opens; holds = w.holds; trouble = error_if old new c.execute.result (λ clean unlimited is. insert_version_trouble old new v.tenant.now v.bucket.now v.okey.now v.checksum.now v.bytes.now v.seq v.id v.stamp (length v.bytes.now) (ready old c.requires.inside) c.schema-schema.ensures.live c.execute.result h.runs h.survives clean unlimited is.unnumbered is.free is.owned) }

@@ -1,0 +1,18 @@
+-- Checksum texts: base64 (RFC 4648) of SHA-256 digests (FIPS 180-4).
+use Rattle.std.specs.Prelude.{ℕ, List, ◌++◌, length, codes, decimal}
+use Rattle.std.specs.List.{flat_map}
+use Rattle.sha2.specs.Sha256.{sha256}
+use Rattle.base64.specs.GeneralPurpose.{encode_of}
+use Rattle.base64.specs.Engines.{standard}
+
+-- the base64 of a digest
+abbrev pub digest_text : List ℕ → List ℕ
+digest_text digest = encode_of standard digest
+
+-- the base64 of the SHA-256 digest of the bytes
+abbrev pub checksum_text : List ℕ → List ℕ
+checksum_text bytes = digest_text (sha256 bytes)
+
+-- the checksum of the parts' digests joined, then `-` and the number of parts
+abbrev pub joined_text : List (List ℕ) → List ℕ
+joined_text digests = checksum_text (flat_map (λ d. d) digests) ++ codes "-" ++ decimal (length digests)

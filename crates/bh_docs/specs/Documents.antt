@@ -1,0 +1,123 @@
+-- The reply documents as JSON data. What is written is the compact text of the data.
+use Rattle.std.specs.Prelude.{ℕ, List, codes, map, Option, Some, None, string_bytes}
+use Rattle.serde_json.specs.Data.{Data, number, unsigned, string, array, object, Members, member, no_members, put, item, no_items}
+use Rattle.serde_json.specs.View.{items_of}
+use Rattle.serde_json.specs.Written.{compact_text}
+use Rattle.bh_types.specs.Ids.{upload_text}
+use Rattle.bh_types.specs.Moments.{moment_text}
+use Rattle.bh_types.specs.declared.id.UploadId.{UploadId}
+use Rattle.bh_types.specs.declared.plain.BucketState.{BucketState}
+use Rattle.bh_types.specs.declared.plain.BucketState.TheVariants.{Unversioned, Enabled, Suspended}
+use Rattle.bh_docs.specs.declared.reply.BucketEntry.{BucketEntry}
+use Rattle.bh_docs.specs.declared.reply.Usage.{Usage}
+
+-- ---- words
+
+abbrev pub whole : ℕ → Data
+whole n = number (unsigned n)
+
+-- seconds since 1970
+abbrev pub moment : ℕ → Data
+moment m = string (moment_text m)
+
+-- the entries, each as it is shown
+abbrev pub array_of : {A : Type 0} → (A → Data) → List A → Data
+array_of shown entries = array (items_of (map shown entries))
+
+-- a member that may be missing
+abbrev pub member_if : List ℕ → Option Data → Members → Members
+member_if name None rest = rest
+member_if name (Some d) rest = member name d rest
+
+-- an object with one more member, in the order of names, if there is data for it
+abbrev pub with_member : List ℕ → Option Data → Data → Data
+with_member name (Some d) (object members) = object (put name d members)
+with_member name other whole = whole
+
+-- ---- documents
+
+-- {"Code":code,"Resource":resource}
+abbrev pub error_data : List ℕ → List ℕ → Data
+error_data code resource =
+    object (member (codes "Code") (string code) (member (codes "Resource") (string resource) no_members))
+
+abbrev pub error_text : List ℕ → List ℕ → List ℕ
+error_text code resource = compact_text (error_data code resource)
+
+-- {"CreationDate":created,"Name":name}
+abbrev pub bucket_data : BucketEntry → Data
+bucket_data b =
+    object (member (codes "CreationDate") (moment b.created)
+    (member (codes "Name") (string (string_bytes b.name)) no_members))
+
+-- {"Buckets":[..]}
+abbrev pub buckets_data : List BucketEntry → Data
+buckets_data buckets = object (member (codes "Buckets") (array_of bucket_data buckets) no_members)
+
+abbrev pub buckets_text : List BucketEntry → List ℕ
+buckets_text buckets = compact_text (buckets_data buckets)
+
+abbrev pub usage_data : Usage → Data
+usage_data u =
+    object (member (codes "Buckets") (whole u.buckets)
+    (member (codes "Bytes") (whole u.bytes)
+    (member (codes "Markers") (whole u.markers)
+    (member (codes "Objects") (whole u.objects)
+    (member (codes "PartBytes") (whole u.part_bytes)
+    (member (codes "Quota") (whole u.quota)
+    (member (codes "Uploads") (whole u.uploads)
+    (member (codes "VersionBytes") (whole u.version_bytes)
+    (member (codes "Versions") (whole u.versions) no_members)))))))))
+
+abbrev pub usage_text : Usage → List ℕ
+usage_text u = compact_text (usage_data u)
+
+-- {}, {"Status":"Enabled"} or {"Status":"Suspended"}
+abbrev pub versioning_data : BucketState → Data
+versioning_data Unversioned = object no_members
+versioning_data Enabled = object (member (codes "Status") (string (codes "Enabled")) no_members)
+versioning_data Suspended = object (member (codes "Status") (string (codes "Suspended")) no_members)
+
+abbrev pub versioning_text : BucketState → List ℕ
+versioning_text state = compact_text (versioning_data state)
+
+-- {"Rules":[{"AbortIncompleteMultipartUpload":{"DaysAfterInitiation":days},"Status":"Enabled"}]}
+abbrev pub lifecycle_data : ℕ → Data
+lifecycle_data days =
+    object (member (codes "Rules") (array (item
+    (object (member (codes "AbortIncompleteMultipartUpload")
+    (object (member (codes "DaysAfterInitiation") (whole days) no_members))
+    (member (codes "Status") (string (codes "Enabled")) no_members)))
+    no_items)) no_members)
+
+abbrev pub lifecycle_text : ℕ → List ℕ
+lifecycle_text days = compact_text (lifecycle_data days)
+
+-- {"Bucket":bucket,"Key":key,"UploadId":upload}
+abbrev pub begun_data : List ℕ → List ℕ → UploadId → Data
+begun_data bucket key upload =
+    object (member (codes "Bucket") (string bucket)
+    (member (codes "Key") (string key)
+    (member (codes "UploadId") (string (upload_text upload)) no_members)))
+
+abbrev pub begun_text : List ℕ → List ℕ → UploadId → List ℕ
+begun_text bucket key upload = compact_text (begun_data bucket key upload)
+
+-- {"Bucket":bucket,"ChecksumSHA256":checksum,"Key":key}
+abbrev pub completed_data : List ℕ → List ℕ → List ℕ → Data
+completed_data bucket checksum key =
+    object (member (codes "Bucket") (string bucket)
+    (member (codes "ChecksumSHA256") (string checksum)
+    (member (codes "Key") (string key) no_members)))
+
+abbrev pub completed_text : List ℕ → List ℕ → List ℕ → List ℕ
+completed_text bucket checksum key = compact_text (completed_data bucket checksum key)
+
+-- {"ChecksumSHA256":checksum,"LastModified":modified}
+abbrev pub copied_data : List ℕ → ℕ → Data
+copied_data checksum modified =
+    object (member (codes "ChecksumSHA256") (string checksum)
+    (member (codes "LastModified") (moment modified) no_members))
+
+abbrev pub copied_text : List ℕ → ℕ → List ℕ
+copied_text checksum modified = compact_text (copied_data checksum modified)

@@ -1,0 +1,6 @@
+pub mod Checksums
+pub mod Documents
+pub mod Pages
+pub mod Requests
+pub mod Shapes
+pub mod Tokens

@@ -1,0 +1,157 @@
+-- The pages of listings as JSON data. A page says where the next one begins where it is truncated,
+-- and only there.
+use Rattle.std.specs.Prelude.{ℕ, ◌+◌, List, length, codes, true, false, is_some, Option, Some, None, option_map, option_and_then, string_bytes, String}
+use Rattle.std.specs.declared.alloc.Global.{Global}
+use Rattle.serde_json.specs.Data.{Data, boolean, string, object, Members, member, no_members}
+use Rattle.serde_json.specs.Written.{compact_text}
+use Rattle.bh_types.specs.Ids.{version_text, upload_text}
+use Rattle.bh_docs.specs.Documents.{whole, moment, array_of, member_if}
+use Rattle.bh_docs.specs.Tokens.{token_text}
+use Rattle.bh_docs.specs.declared.objects.ObjectEntry.{ObjectEntry}
+use Rattle.bh_docs.specs.declared.objects.ObjectsPage.{ObjectsPage}
+use Rattle.bh_docs.specs.declared.prefix.CommonPrefix.{CommonPrefix}
+use Rattle.bh_docs.specs.declared.parts.PartEntry.{PartEntry}
+use Rattle.bh_docs.specs.declared.parts.PartsPage.{PartsPage}
+use Rattle.bh_docs.specs.declared.uploads.UploadEntry.{UploadEntry}
+use Rattle.bh_docs.specs.declared.uploads.UploadsNext.{UploadsNext}
+use Rattle.bh_docs.specs.declared.uploads.UploadsPage.{UploadsPage}
+use Rattle.bh_docs.specs.declared.versions.StoredObject.{StoredObject}
+use Rattle.bh_docs.specs.declared.versions.VersionEntry.{VersionEntry}
+use Rattle.bh_docs.specs.declared.versions.VersionsNext.{VersionsNext}
+use Rattle.bh_docs.specs.declared.versions.VersionsPage.{VersionsPage}
+
+-- {"Prefix":prefix}
+abbrev pub prefix_data : CommonPrefix → Data
+prefix_data p = object (member (codes "Prefix") (string (string_bytes p.prefix)) no_members)
+
+-- ---- ListObjectsV2
+
+abbrev pub object_data : ObjectEntry → Data
+object_data o =
+    object (member (codes "ChecksumSHA256") (string (string_bytes o.checksum))
+    (member (codes "Key") (string (string_bytes o.key))
+    (member (codes "LastModified") (moment o.modified)
+    (member (codes "Size") (whole o.size) no_members))))
+
+-- KeyCount counts both lists
+abbrev pub objects_with : ObjectsPage → Option Data → Data
+objects_with p token =
+    object (member (codes "CommonPrefixes") (array_of prefix_data p.prefixes.items)
+    (member (codes "Contents") (array_of object_data p.objects.items)
+    (member (codes "IsTruncated") (boolean (is_some p.next))
+    (member (codes "KeyCount") (whole (length p.prefixes.items + length p.objects.items))
+    (member (codes "MaxKeys") (whole p.max)
+    (member (codes "Name") (string (string_bytes p.bucket))
+    (member_if (codes "NextContinuationToken") token
+    (member (codes "Prefix") (string (string_bytes p.prefix)) no_members))))))))
+
+-- the token is that of the last name shown
+abbrev pub token_data : Option (String Global) → Option Data
+token_data next = option_map (λ name. string (token_text (string_bytes name))) next
+
+abbrev pub objects_data : ObjectsPage → Data
+objects_data p = objects_with p (token_data p.next)
+
+abbrev pub objects_text : ObjectsPage → List ℕ
+objects_text p = compact_text (objects_data p)
+
+-- ---- ListObjectVersions
+
+-- a version, or a delete marker where no object is stored
+abbrev pub version_end : VersionEntry → Members → Members
+version_end v rest =
+    member (codes "IsLatest") (boolean v.latest)
+    (member (codes "Key") (string (string_bytes v.key))
+    (member (codes "LastModified") (moment v.modified) rest))
+
+abbrev pub version_id : VersionEntry → Members
+version_id v = member (codes "VersionId") (string (version_text v.id)) no_members
+
+abbrev pub version_members : VersionEntry → Option StoredObject → Members
+version_members v None = member (codes "DeleteMarker") (boolean true) (version_end v (version_id v))
+version_members v (Some o) =
+    member (codes "ChecksumSHA256") (string (string_bytes o.checksum))
+    (member (codes "DeleteMarker") (boolean false)
+    (version_end v (member (codes "Size") (whole o.size) (version_id v))))
+
+abbrev pub version_data : VersionEntry → Data
+version_data v = object (version_members v v.object)
+
+abbrev pub versions_with : VersionsPage → Option Data → Option Data → Data
+versions_with p name id =
+    object (member (codes "CommonPrefixes") (array_of prefix_data p.prefixes.items)
+    (member (codes "IsTruncated") (boolean (is_some p.next))
+    (member (codes "MaxKeys") (whole p.max)
+    (member (codes "Name") (string (string_bytes p.bucket))
+    (member_if (codes "NextKeyMarker") name
+    (member_if (codes "NextVersionIdMarker") id
+    (member (codes "Prefix") (string (string_bytes p.prefix))
+    (member (codes "Versions") (array_of version_data p.versions.items) no_members))))))))
+
+abbrev pub version_name_data : Option VersionsNext → Option Data
+version_name_data next = option_map (λ n. string (string_bytes n.name)) next
+
+abbrev pub version_id_data : Option VersionsNext → Option Data
+version_id_data next = option_map (λ id. string (version_text id)) (option_and_then (λ n. n.id) next)
+
+abbrev pub versions_data : VersionsPage → Data
+versions_data p = versions_with p (version_name_data p.next) (version_id_data p.next)
+
+abbrev pub versions_text : VersionsPage → List ℕ
+versions_text p = compact_text (versions_data p)
+
+-- ---- ListMultipartUploads
+
+abbrev pub upload_data : UploadEntry → Data
+upload_data u =
+    object (member (codes "Initiated") (moment u.initiated)
+    (member (codes "Key") (string (string_bytes u.key))
+    (member (codes "UploadId") (string (upload_text u.id)) no_members)))
+
+abbrev pub uploads_with : UploadsPage → Option Data → Option Data → Data
+uploads_with p name id =
+    object (member (codes "Bucket") (string (string_bytes p.bucket))
+    (member (codes "CommonPrefixes") (array_of prefix_data p.prefixes.items)
+    (member (codes "IsTruncated") (boolean (is_some p.next))
+    (member (codes "MaxUploads") (whole p.max)
+    (member_if (codes "NextKeyMarker") name
+    (member_if (codes "NextUploadIdMarker") id
+    (member (codes "Prefix") (string (string_bytes p.prefix))
+    (member (codes "Uploads") (array_of upload_data p.uploads.items) no_members))))))))
+
+abbrev pub upload_name_data : Option UploadsNext → Option Data
+upload_name_data next = option_map (λ n. string (string_bytes n.name)) next
+
+abbrev pub upload_id_data : Option UploadsNext → Option Data
+upload_id_data next = option_map (λ id. string (upload_text id)) (option_and_then (λ n. n.id) next)
+
+abbrev pub uploads_data : UploadsPage → Data
+uploads_data p = uploads_with p (upload_name_data p.next) (upload_id_data p.next)
+
+abbrev pub uploads_text : UploadsPage → List ℕ
+uploads_text p = compact_text (uploads_data p)
+
+-- ---- ListParts
+
+abbrev pub part_data : PartEntry → Data
+part_data p =
+    object (member (codes "ChecksumSHA256") (string (string_bytes p.checksum))
+    (member (codes "LastModified") (moment p.modified)
+    (member (codes "PartNumber") (whole p.number)
+    (member (codes "Size") (whole p.size) no_members))))
+
+abbrev pub parts_with : PartsPage → Option Data → Data
+parts_with p number =
+    object (member (codes "Bucket") (string (string_bytes p.bucket))
+    (member (codes "IsTruncated") (boolean (is_some p.next))
+    (member (codes "Key") (string (string_bytes p.key))
+    (member (codes "MaxParts") (whole p.max)
+    (member_if (codes "NextPartNumberMarker") number
+    (member (codes "Parts") (array_of part_data p.parts.items)
+    (member (codes "UploadId") (string (upload_text p.upload)) no_members)))))))
+
+abbrev pub parts_data : PartsPage → Data
+parts_data p = parts_with p (option_map whole p.next)
+
+abbrev pub parts_text : PartsPage → List ℕ
+parts_text p = compact_text (parts_data p)

@@ -1,0 +1,60 @@
+-- What request documents ask: MalformedJSON where the shape is another, anywhere in the document,
+-- and then InvalidArgument where a whole number is out of its range.
+use Rattle.std.specs.Prelude.{ℕ, ℤ, pos, negsuc, ◌&&◌, nat_le, List, [], ◌∷◌, Option, Some, None, option_map, Result, Ok, Err, if◌then◌else◌, string_bytes}
+use Rattle.serde_json.specs.Data.{Data}
+use Rattle.bh_types.specs.Outcomes.{◌>>=◌}
+use Rattle.bh_types.specs.declared.refusal.Refusal.{Refusal}
+use Rattle.bh_types.specs.declared.refusal.Refusal.TheVariants.{InvalidArgument, MalformedJson}
+use Rattle.bh_types.specs.declared.plain.BucketState.{BucketState}
+use Rattle.bh_types.specs.declared.plain.Named.{Named}
+use Rattle.bh_docs.specs.Shapes.{Part, data_of, versioning_shape, lifecycle_shape, complete_shape}
+
+abbrev pub or_malformed : {A : Type 0} → Option A → Result A Refusal
+or_malformed None = Err MalformedJson
+or_malformed (Some a) = Ok a
+
+-- a number from low to high
+abbrev pub ranged : ℕ → ℕ → ℤ → Result ℕ Refusal
+ranged low high (pos n) = if nat_le low n && nat_le n high then Ok n else Err InvalidArgument
+ranged low high (negsuc n) = Err InvalidArgument
+
+-- the document of a body
+abbrev pub document_of : List ℕ → Result Data Refusal
+document_of body = or_malformed (data_of body)
+
+-- the state that a bucket's versioning is to have
+abbrev pub versioning_of : List ℕ → Result BucketState Refusal
+versioning_of body = do
+  document ← document_of body
+  or_malformed (versioning_shape document)
+
+-- the days after which a bucket's uploads are aborted
+abbrev pub lifecycle_of : List ℕ → Result ℕ Refusal
+lifecycle_of body = do
+  document ← document_of body
+  days ← or_malformed (lifecycle_shape document)
+  ranged 1 3650 days
+
+-- a part with a number from 1 to 10,000
+abbrev pub in_range : Part → Result (ℕ × Option (List ℕ)) Refusal
+in_range part = do
+  number ← ranged 1 10000 part.0
+  Ok (number, part.1)
+
+abbrev pub in_ranges : List Part → Result (List (ℕ × Option (List ℕ))) Refusal
+in_ranges [] = Ok []
+in_ranges (part ∷ rest) = do
+  first ← in_range part
+  others ← in_ranges rest
+  Ok (first ∷ others)
+
+-- the parts that complete an upload
+abbrev pub complete_of : List ℕ → Result (List (ℕ × Option (List ℕ))) Refusal
+complete_of body = do
+  document ← document_of body
+  parts ← or_malformed (complete_shape document)
+  in_ranges parts
+
+-- a part as a request names it
+abbrev pub named_view : Named → ℕ × Option (List ℕ)
+named_view part = (part.number, option_map string_bytes part.sum)

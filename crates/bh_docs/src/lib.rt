@@ -1,0 +1,33 @@
+//! The texts of a bucket host: JSON documents (RFC 8259), checksums and tokens.
+//!
+//! A request's document is read exactly where it has its shape, and a reply's document is one exact
+//! text. Beside that, only memory can be wanting.
+#![tactic(auto)]
+
+pub mod checksum;
+mod document;
+pub mod objects;
+pub mod parts;
+pub mod prefix;
+pub mod read;
+pub mod reply;
+mod shape;
+pub mod token;
+pub mod uploads;
+pub mod versions;
+
+pub use checksum::{checksum_of, checksum_of_digest, digest_of, joined_checksum, read_checksum};
+pub use objects::{ObjectEntry, ObjectsPage, objects_document};
+pub use parts::{PartEntry, PartsPage, parts_document};
+pub use prefix::CommonPrefix;
+pub use read::{read_complete, read_lifecycle, read_versioning};
+pub use reply::{
+    BucketEntry, Usage, begun_document, buckets_document, completed_document, copied_document,
+    error_document, lifecycle_document, usage_document, versioning_document,
+};
+pub use token::{read_token, token_text};
+pub use uploads::{UploadEntry, UploadsNext, UploadsPage, uploads_document};
+pub use versions::{StoredObject, VersionEntry, VersionsNext, VersionsPage, versions_document};
+
+#[cfg(test)]
+mod tests;

@@ -1,0 +1,21 @@
+//! Common prefixes of keys.
+
+use crate::document::Entry;
+use serde_json::{Value, json};
+use std::alloc::{AllocError, Global};
+
+/// The keys of a listing that begin alike up to the delimiter, rolled up into one name.
+#[derive(Drop)]
+pub struct CommonPrefix {
+    pub prefix: String,
+}
+
+impl Entry for CommonPrefix {
+    ghost use Rattle.bh_docs.specs.Pages.{prefix_data};
+
+    ghost shown = { prefix_data };
+
+    fn value(&self, alloc: Global) -> Result<Value, AllocError> {
+        json!(in alloc; {"Prefix": &self.prefix})
+    }
+}

@@ -1,0 +1,106 @@
+//! Reading request documents. Each reader answers with what the document asks, a refusal, or want
+//! of memory.
+
+ghost use Rattle.std.specs.Prelude.{◌≡◌, map};
+ghost use Rattle.serde_json.specs.View.{view};
+ghost use Rattle.bh_types.specs.Outcomes.{Gives};
+ghost use Rattle.bh_docs.specs.Requests as spec;
+ghost use Rattle.bh_docs.specs.Shapes.{part_view};
+
+use crate::shape::{PartShape, complete_shape, lifecycle_shape, versioning_shape};
+use bh_types::error::RequestError;
+use bh_types::plain::{BucketState, Named};
+use bh_types::refusal::Refusal;
+use serde_json::Value;
+use std::alloc::{AllocError, Global};
+
+/// The state that a bucket's versioning is to have, by `{"Status":"Enabled"}` or
+/// `{"Status":"Suspended"}`. Any other body is refused with `MalformedJson`.
+pub fn read_versioning(alloc: Global, body: &[u8]) -> Result<BucketState, RequestError>
+    ensures { Gives (λ state. state) result (spec.versioning_of body.now) }
+{
+    let document = read_document(alloc, body)?;
+    or_malformed(versioning_shape(&document))
+}
+
+/// The days after which a bucket's uploads are aborted, by
+/// `{"Rules":[{"AbortIncompleteMultipartUpload":{"DaysAfterInitiation":n},"Status":"Enabled"}]}`
+/// with n from 1 to 3,650. A body of another shape is refused with `MalformedJson`, another whole
+/// number n with `InvalidArgument`.
+pub fn read_lifecycle(alloc: Global, body: &[u8]) -> Result<u16, RequestError>
+    ensures { Gives (λ days. days) result (spec.lifecycle_of body.now) }
+{
+    let document = read_document(alloc, body)?;
+    let days = or_malformed(lifecycle_shape(&document))?;
+    let days = ranged(1, 3650, days)?;
+    Ok(days as u16)
+}
+
+/// The parts that complete an upload, as they are named, by
+/// `{"Parts":[{"ChecksumSHA256":text,"PartNumber":n},..]}` with 1 to 10,000 parts and n from 1 to
+/// 10,000, where a part's checksum may be missing and may be any text. A body of another shape is
+/// refused with `MalformedJson`, and else one with another whole number n with `InvalidArgument`.
+pub fn read_complete(alloc: Global, body: &[u8]) -> Result<Vec<Named>, RequestError>
+    ensures { Gives (λ parts. map spec.named_view parts.items) result (spec.complete_of body.now) }
+{
+    let document = read_document(alloc, body)?;
+    let parts = or_malformed(complete_shape(alloc, &document)?)?;
+    named_parts(alloc, parts.as_slice())
+}
+
+fn named_parts(alloc: Global, parts: &[PartShape<'_>]) -> Result<Vec<Named>, RequestError>
+    ensures { Gives (λ named. map spec.named_view named.items) result (spec.in_ranges (map part_view parts.now)) }
+{
+    let mut named = Vec::with_capacity(alloc, parts.len())?;
+    for part in parts {
+        let part = named_part(alloc, *part)?;
+        named.push(part).map_err(AllocError::from)?;
+    }
+    Ok(named)
+}
+
+fn named_part(alloc: Global, part: PartShape<'_>) -> Result<Named, RequestError>
+    ensures { Gives spec.named_view result (spec.in_range (part_view part.entry)) }
+{
+    let number = ranged(1, 10_000, part.number)?;
+    let sum = match part.sum {
+        Some(sum) => Some(String::from_str(alloc, sum)?),
+        None => None,
+    };
+    Ok(Named { number, sum })
+}
+
+/// A number from `low` to `high`.
+fn ranged(low: u32, high: u32, number: i128) -> Result<u32, RequestError>
+    ensures { Gives (λ n. n) result (spec.ranged low high number) }
+{
+    if i128::from(low) <= number && number <= i128::from(high) {
+        Ok(number as u32)
+    } else {
+        Err(RequestError::Refused(Refusal::InvalidArgument))
+    }
+}
+
+fn or_malformed<T: Drop>(found: Option<T>) -> Result<T, RequestError>
+    ensures { Gives (λ value. value) result (spec.or_malformed found) }
+{
+    match found {
+        Some(value) => Ok(value),
+        None => Err(RequestError::Refused(Refusal::MalformedJson)),
+    }
+}
+
+fn read_document(alloc: Global, body: &[u8]) -> Result<Value, RequestError>
+    ensures { Gives view result (spec.document_of body.now) }
+{
+    match Value::from_slice(alloc, body) {
+        Ok(document) => Ok(document),
+        Err(error) => {
+            if error.is_memory() {
+                Err(RequestError::OutOfMemory)
+            } else {
+                Err(RequestError::Refused(Refusal::MalformedJson))
+            }
+        }
+    }
+}

@@ -1,0 +1,213 @@
+//! The documents of replies, but for the pages of listings. Each is compact JSON (RFC 8259) with
+//! its members in byte order. An error says that memory ran out.
+
+ghost use Rattle.std.specs.Prelude.{◌≡◌, ◌≢◌, ◌≤◌, IfOk};
+ghost use Rattle.std.specs.String.{string_bytes};
+ghost use Rattle.serde_json.specs.View.{view};
+ghost use Rattle.bh_docs.specs.Documents as spec;
+ghost use Rattle.bh_docs.specs.Requests.{versioning_of, lifecycle_of};
+
+use crate::document::{Entry, array_value, print};
+use bh_types::id::UploadId;
+use bh_types::moment::{Moment, moment_text};
+use bh_types::plain::BucketState;
+use serde_json::{Value, json};
+use std::alloc::{AllocError, Global};
+
+/// `{"Code":code,"Resource":resource}`: an S3 error code, and the path of the request's target.
+pub fn error_document(alloc: Global, code: &str, resource: &str) -> Result<String, AllocError>
+    ensures { IfOk result (λ text. string_bytes text ≡ spec.error_text code.now resource.now) }
+{
+    let document = error_value(alloc, code, resource)?;
+    print(alloc, &document)
+}
+
+fn error_value(alloc: Global, code: &str, resource: &str) -> Result<Value, AllocError>
+    ensures { IfOk result (λ value. view value ≡ spec.error_data code.now resource.now) }
+{
+    json!(in alloc; {"Code": code, "Resource": resource})
+}
+
+/// A bucket, as ListBuckets shows it.
+#[derive(Drop)]
+pub struct BucketEntry {
+    /// When it was made.
+    pub created: Moment,
+    /// Its name, without a tenant.
+    pub name: String,
+}
+
+impl Entry for BucketEntry {
+    ghost use Rattle.bh_docs.specs.Documents.{bucket_data};
+
+    ghost shown = { bucket_data };
+
+    fn value(&self, alloc: Global) -> Result<Value, AllocError> {
+        let created = moment_text(alloc, self.created)?;
+        json!(in alloc; {"CreationDate": created, "Name": &self.name})
+    }
+}
+
+/// The answer to ListBuckets: `{"Buckets":[{"CreationDate":created,"Name":name},..]}`.
+pub fn buckets_document(alloc: Global, buckets: &[BucketEntry]) -> Result<String, AllocError>
+    ensures { IfOk result (λ text. string_bytes text ≡ spec.buckets_text buckets.now) }
+{
+    let document = buckets_value(alloc, buckets)?;
+    print(alloc, &document)
+}
+
+fn buckets_value(alloc: Global, buckets: &[BucketEntry]) -> Result<Value, AllocError>
+    ensures { IfOk result (λ value. view value ≡ spec.buckets_data buckets.now) }
+{
+    let entries = array_value(alloc, buckets)?;
+    json!(in alloc; {"Buckets": entries})
+}
+
+/// What a tenant stores. Sizes are in bytes.
+#[derive(Clone, Copy, Debug, PartialEq, Eq)]
+pub struct Usage {
+    pub buckets: u64,
+    /// Of versions and of uploads' parts together, as the quota counts them.
+    pub bytes: u64,
+    /// Delete markers.
+    pub markers: u64,
+    /// Keys whose newest entry is no delete marker.
+    pub objects: u64,
+    pub part_bytes: u64,
+    pub quota: u64,
+    pub uploads: u64,
+    pub version_bytes: u64,
+    /// Delete markers left out.
+    pub versions: u64,
+}
+
+/// The answer to a tenant who asks for the usage: each count and size under its own name.
+pub fn usage_document(alloc: Global, usage: &Usage) -> Result<String, AllocError>
+    ensures { IfOk result (λ text. string_bytes text ≡ spec.usage_text usage.now) }
+{
+    let document = usage_value(alloc, usage)?;
+    print(alloc, &document)
+}
+
+fn usage_value(alloc: Global, usage: &Usage) -> Result<Value, AllocError>
+    ensures { IfOk result (λ value. view value ≡ spec.usage_data usage.now) }
+{
+    json!(in alloc; {
+        "Buckets": usage.buckets,
+        "Bytes": usage.bytes,
+        "Markers": usage.markers,
+        "Objects": usage.objects,
+        "PartBytes": usage.part_bytes,
+        "Quota": usage.quota,
+        "Uploads": usage.uploads,
+        "VersionBytes": usage.version_bytes,
+        "Versions": usage.versions,
+    })
+}
+
+/// The answer to GetBucketVersioning: `{}`, `{"Status":"Enabled"}` or `{"Status":"Suspended"}`.
+pub fn versioning_document(alloc: Global, state: BucketState) -> Result<String, AllocError>
+    ensures text { IfOk result (λ text. string_bytes text ≡ spec.versioning_text state) }
+    ensures reads_back { state ≢ BucketState.Unversioned → IfOk result (λ text. versioning_of (string_bytes text) ≡ Ok state) }
+{
+    let document = versioning_value(alloc, state)?;
+    print(alloc, &document)
+}
+
+fn versioning_value(alloc: Global, state: BucketState) -> Result<Value, AllocError>
+    ensures { IfOk result (λ value. view value ≡ spec.versioning_data state) }
+{
+    match state {
+        BucketState::Unversioned => json!(in alloc; {}),
+        BucketState::Enabled => json!(in alloc; {"Status": "Enabled"}),
+        BucketState::Suspended => json!(in alloc; {"Status": "Suspended"}),
+    }
+}
+
+/// The answer to GetBucketLifecycleConfiguration: the document that sets the rule of so many days.
+pub fn lifecycle_document(alloc: Global, days: u16) -> Result<String, AllocError>
+    ensures text { IfOk result (λ text. string_bytes text ≡ spec.lifecycle_text days) }
+    ensures reads_back { 1 ≤ days → days ≤ 3650 → IfOk result (λ text. lifecycle_of (string_bytes text) ≡ Ok days) }
+{
+    let document = lifecycle_value(alloc, days)?;
+    print(alloc, &document)
+}
+
+fn lifecycle_value(alloc: Global, days: u16) -> Result<Value, AllocError>
+    ensures { IfOk result (λ value. view value ≡ spec.lifecycle_data days) }
+{
+    json!(in alloc; {
+        "Rules": [{
+            "AbortIncompleteMultipartUpload": {"DaysAfterInitiation": days},
+            "Status": "Enabled",
+        }],
+    })
+}
+
+/// The answer to CreateMultipartUpload: `{"Bucket":bucket,"Key":key,"UploadId":upload}`.
+pub fn begun_document(
+    alloc: Global,
+    bucket: &str,
+    key: &str,
+    upload: UploadId,
+) -> Result<String, AllocError>
+    ensures { IfOk result (λ text. string_bytes text ≡ spec.begun_text bucket.now key.now upload) }
+{
+    let document = begun_value(alloc, bucket, key, upload)?;
+    print(alloc, &document)
+}
+
+fn begun_value(
+    alloc: Global,
+    bucket: &str,
+    key: &str,
+    upload: UploadId,
+) -> Result<Value, AllocError>
+    ensures { IfOk result (λ value. view value ≡ spec.begun_data bucket.now key.now upload) }
+{
+    let upload = upload.print(alloc)?;
+    json!(in alloc; {"Bucket": bucket, "Key": key, "UploadId": upload})
+}
+
+/// The answer to CompleteMultipartUpload: `{"Bucket":bucket,"ChecksumSHA256":checksum,"Key":key}`.
+pub fn completed_document(
+    alloc: Global,
+    bucket: &str,
+    checksum: &str,
+    key: &str,
+) -> Result<String, AllocError>
+    ensures { IfOk result (λ text. string_bytes text ≡ spec.completed_text bucket.now checksum.now key.now) }
+{
+    let document = completed_value(alloc, bucket, checksum, key)?;
+    print(alloc, &document)
+}
+
+fn completed_value(
+    alloc: Global,
+    bucket: &str,
+    checksum: &str,
+    key: &str,
+) -> Result<Value, AllocError>
+    ensures { IfOk result (λ value. view value ≡ spec.completed_data bucket.now checksum.now key.now) }
+{
+    json!(in alloc; {"Bucket": bucket, "ChecksumSHA256": checksum, "Key": key})
+}
+
+/// The answer to CopyObject: `{"ChecksumSHA256":checksum,"LastModified":modified}`.
+pub fn copied_document(
+    alloc: Global,
+    checksum: &str,
+    modified: Moment,
+) -> Result<String, AllocError>
+    ensures { IfOk result (λ text. string_bytes text ≡ spec.copied_text checksum.now modified) }
+{
+    let document = copied_value(alloc, checksum, modified)?;
+    print(alloc, &document)
+}
+
+fn copied_value(alloc: Global, checksum: &str, modified: Moment) -> Result<Value, AllocError>
+    ensures { IfOk result (λ value. view value ≡ spec.copied_data checksum.now modified) }
+{
+    let modified = moment_text(alloc, modified)?;
+    json!(in alloc; {"ChecksumSHA256": checksum, "LastModified": modified})
+}

@@ -1,0 +1,4 @@
+mod checksums;
+mod pages;
+mod replies;
+mod requests;

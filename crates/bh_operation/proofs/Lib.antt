@@ -1,0 +1,4 @@
+pub mod Digits
+pub mod IdLemmas
+pub mod Routing
+pub mod Texts

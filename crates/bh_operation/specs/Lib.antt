@@ -1,0 +1,10 @@
+pub mod Actions
+pub mod Addresses
+pub mod Allowed
+pub mod Headers
+pub mod Numbers
+pub mod Operations
+pub mod Pages
+pub mod Queries
+pub mod Sources
+pub mod Targets

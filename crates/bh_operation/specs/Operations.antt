@@ -1,0 +1,157 @@
+-- The operation that a request asks for, or its first refusal.
+use Rattle.std.specs.Prelude.{ℕ, List, codes, Option, Some, None, option_and_then, Result, Ok, Err}
+use Rattle.bh_types.specs.Outcomes.{◌>>=◌}
+use Rattle.bh_types.specs.declared.id.UploadId.{UploadId}
+use Rattle.bh_types.specs.declared.plain.Wanted.{Wanted}
+use Rattle.bh_types.specs.declared.refusal.Refusal.{Refusal}
+use Rattle.bh_types.specs.declared.refusal.Refusal.TheVariants.{MethodNotAllowed}
+use Rattle.bh_http.specs.Views.{Taken}
+use Rattle.bh_operation.specs.Actions.{method_of, bucket_action, object_action}
+use Rattle.bh_operation.specs.Addresses.{bucket_named, object_named}
+use Rattle.bh_operation.specs.Headers.{supported, checksum_in, copy_source, range_in, stands}
+use Rattle.bh_operation.specs.Numbers.{part_number, upload_of, wanted}
+use Rattle.bh_operation.specs.Pages.{key_page, part_page, upload_page, second_version, token_of, version_marker, upload_marker}
+use Rattle.bh_operation.specs.Queries.{parameters_in, selected, value_of, is_given}
+use Rattle.bh_operation.specs.Sources.{source_in}
+use Rattle.bh_operation.specs.Targets.{path_of, query_of, routed, target_at}
+use Rattle.bh_operation.specs.declared.action.Method.{Method}
+use Rattle.bh_operation.specs.declared.action.Method.TheVariants as method
+use Rattle.bh_operation.specs.declared.action.BucketAction.{BucketAction}
+use Rattle.bh_operation.specs.declared.action.BucketAction.TheVariants as bucket
+use Rattle.bh_operation.specs.declared.action.ObjectAction.{ObjectAction}
+use Rattle.bh_operation.specs.declared.action.ObjectAction.TheVariants as object
+use Rattle.bh_operation.specs.declared.operation.Operation.{Operation}
+use Rattle.bh_operation.specs.declared.operation.Operation.TheVariants as op
+use Rattle.bh_operation.specs.declared.query.Parameter.{Parameter}
+use Rattle.bh_operation.specs.declared.query.Selector.{Selector}
+use Rattle.bh_operation.specs.declared.query.Selector.TheVariants as by
+use Rattle.bh_operation.specs.declared.target.Target.{Target}
+use Rattle.bh_operation.specs.declared.target.Target.TheVariants as target
+
+-- a request's header fields, and a text
+abbrev pub Fields : Type 0
+Fields = List (List ℕ × List ℕ)
+
+abbrev pub Octets : Type 0
+Octets = List ℕ
+
+-- the version that a request speaks of
+abbrev pub version_in : List Parameter → Wanted
+version_in parameters = wanted (value_of (codes "versionId") parameters)
+
+-- the upload that a request speaks of, if its id is one
+abbrev pub upload_in : List Parameter → Option UploadId
+upload_in parameters = option_and_then upload_of (value_of (codes "uploadId") parameters)
+
+-- fifth step, for the host itself
+unfoldable pub host_operation : Method → Option Selector → Result Operation Refusal
+host_operation method.Get None = Ok op.ListBuckets
+host_operation method.Get (Some by.Usage) = Ok op.Usage
+host_operation m selector = Err MethodNotAllowed
+
+-- sixth and seventh step: first the parameters and fields that an operation reads, and then the names
+unfoldable pub list_objects : Octets → Octets → List Parameter → Result Operation Refusal
+list_objects caller text parameters = do
+  _ ← second_version parameters
+  page ← key_page parameters
+  token ← token_of parameters
+  name ← bucket_named caller text
+  Ok (op.ListObjectsV2 name page token)
+
+unfoldable pub list_versions : Octets → Octets → List Parameter → Result Operation Refusal
+list_versions caller text parameters = do
+  page ← key_page parameters
+  after ← version_marker parameters
+  name ← bucket_named caller text
+  Ok (op.ListObjectVersions name page after)
+
+unfoldable pub list_uploads : Octets → Octets → List Parameter → Result Operation Refusal
+list_uploads caller text parameters = do
+  page ← upload_page parameters
+  after ← upload_marker parameters
+  name ← bucket_named caller text
+  Ok (op.ListMultipartUploads name page after)
+
+-- an operation that reads nothing but a bucket's name, or an object's
+abbrev pub at_name : {A : Type 0} → (A → Operation) → Result A Refusal → Result Operation Refusal
+at_name make (Ok name) = Ok (make name)
+at_name make (Err refusal) = Err refusal
+
+unfoldable pub bucket_operation : Octets → Octets → List Parameter → BucketAction → Result Operation Refusal
+bucket_operation caller text parameters bucket.Create = at_name op.CreateBucket (bucket_named caller text)
+bucket_operation caller text parameters bucket.Head = at_name op.HeadBucket (bucket_named caller text)
+bucket_operation caller text parameters bucket.Delete = at_name op.DeleteBucket (bucket_named caller text)
+bucket_operation caller text parameters bucket.ListObjects = list_objects caller text parameters
+bucket_operation caller text parameters bucket.ListVersions = list_versions caller text parameters
+bucket_operation caller text parameters bucket.ListUploads = list_uploads caller text parameters
+bucket_operation caller text parameters bucket.GetVersioning = at_name op.GetBucketVersioning (bucket_named caller text)
+bucket_operation caller text parameters bucket.PutVersioning = at_name op.PutBucketVersioning (bucket_named caller text)
+bucket_operation caller text parameters bucket.GetLifecycle = at_name op.GetLifecycle (bucket_named caller text)
+bucket_operation caller text parameters bucket.PutLifecycle = at_name op.PutLifecycle (bucket_named caller text)
+bucket_operation caller text parameters bucket.DeleteLifecycle = at_name op.DeleteLifecycle (bucket_named caller text)
+
+unfoldable pub put_object : Octets → Octets → Octets → Fields → Result Operation Refusal
+put_object caller text key fields = do
+  checksum ← checksum_in fields
+  name ← object_named caller text key
+  Ok (op.PutObject name checksum)
+
+-- a checksum of a copy is only counted; the names of the source come last
+unfoldable pub copy_object : Octets → Octets → Octets → Fields → Result Operation Refusal
+copy_object caller text key fields = do
+  source ← source_in (copy_source fields)
+  _ ← checksum_in fields
+  name ← object_named caller text key
+  from ← object_named caller source.bucket source.key
+  Ok (op.CopyObject name (record { object = from; version = source.version }))
+
+unfoldable pub upload_part : Octets → Octets → Octets → List Parameter → Fields → Result Operation Refusal
+upload_part caller text key parameters fields = do
+  number ← part_number (value_of (codes "partNumber") parameters)
+  checksum ← checksum_in fields
+  name ← object_named caller text key
+  Ok (op.UploadPart name (upload_in parameters) number checksum)
+
+unfoldable pub list_parts : Octets → Octets → Octets → List Parameter → Result Operation Refusal
+list_parts caller text key parameters = do
+  page ← part_page parameters
+  name ← object_named caller text key
+  Ok (op.ListParts name (upload_in parameters) page)
+
+unfoldable pub object_operation : Octets → Octets → Octets → List Parameter → Fields → ObjectAction → Result Operation Refusal
+object_operation caller text key parameters fields object.Put = put_object caller text key fields
+object_operation caller text key parameters fields object.Copy = copy_object caller text key fields
+object_operation caller text key parameters fields object.Get =
+    at_name (λ name. op.GetObject name (version_in parameters) (range_in fields)) (object_named caller text key)
+object_operation caller text key parameters fields object.Head =
+    at_name (λ name. op.HeadObject name (version_in parameters)) (object_named caller text key)
+object_operation caller text key parameters fields object.Delete =
+    at_name (λ name. op.DeleteObject name (version_in parameters)) (object_named caller text key)
+object_operation caller text key parameters fields object.CreateUpload =
+    at_name op.CreateMultipartUpload (object_named caller text key)
+object_operation caller text key parameters fields object.UploadPart = upload_part caller text key parameters fields
+object_operation caller text key parameters fields object.ListParts = list_parts caller text key parameters
+object_operation caller text key parameters fields object.CompleteUpload =
+    at_name (λ name. op.CompleteMultipartUpload name (upload_in parameters)) (object_named caller text key)
+object_operation caller text key parameters fields object.AbortUpload =
+    at_name (λ name. op.AbortMultipartUpload name (upload_in parameters)) (object_named caller text key)
+
+-- fifth to seventh step
+unfoldable pub operation_at : Octets → Method → List Parameter → Fields → Target → Option Selector → Result Operation Refusal
+operation_at caller m parameters fields target.Host selector = host_operation m selector
+operation_at caller m parameters fields (target.Bucket text) selector = do
+  action ← bucket_action m selector
+  bucket_operation caller text parameters action
+operation_at caller m parameters fields (target.Object text key) selector = do
+  action ← object_action m selector (is_given (codes "partNumber") parameters) (stands (copy_source fields))
+  object_operation caller text key parameters fields action
+
+-- the operation that a request of a caller asks for, or the first refusal
+unfoldable pub operation : Octets → Taken → Result Operation Refusal
+operation caller request = do
+  kind ← routed (path_of request.target)
+  target ← target_at kind (path_of request.target)
+  parameters ← parameters_in (query_of request.target)
+  _ ← supported parameters request.fields
+  selector ← selected parameters
+  operation_at caller (method_of request.method) parameters request.fields target selector

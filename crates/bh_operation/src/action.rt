@@ -1,0 +1,115 @@
+ghost use Rattle.std.specs.Prelude.{◌≡◌};
+ghost use Rattle.bh_operation.specs.Actions as spec;
+
+use crate::query::Selector;
+use bh_types::refusal::Refusal;
+
+/// A request's method (RFC 9110, section 9), which is compared with case.
+#[derive(Clone, Copy)]
+pub enum Method {
+    Get,
+    Head,
+    Put,
+    Post,
+    Delete,
+    /// A method that no operation has.
+    Other,
+}
+
+/// What is asked of a bucket.
+#[derive(Clone, Copy)]
+pub enum BucketAction {
+    Create,
+    Head,
+    Delete,
+    ListObjects,
+    ListVersions,
+    ListUploads,
+    GetVersioning,
+    PutVersioning,
+    GetLifecycle,
+    PutLifecycle,
+    DeleteLifecycle,
+}
+
+/// What is asked of an object.
+#[derive(Clone, Copy)]
+pub enum ObjectAction {
+    Put,
+    Copy,
+    Get,
+    Head,
+    Delete,
+    CreateUpload,
+    UploadPart,
+    ListParts,
+    CompleteUpload,
+    AbortUpload,
+}
+
+/// The method of a name.
+pub fn method_of(name: &str) -> Method
+    ensures { result ≡ spec.method_of name.now }
+{
+    match name {
+        "GET" => Method::Get,
+        "HEAD" => Method::Head,
+        "PUT" => Method::Put,
+        "POST" => Method::Post,
+        "DELETE" => Method::Delete,
+        _ => Method::Other,
+    }
+}
+
+/// What a method and a selector ask of a bucket: NotImplemented for the first version of S3's ListObjects,
+/// MethodNotAllowed where they ask nothing.
+#[tactic(auto, unfolding(crate::specs::Actions::bucket_action))]
+pub fn bucket_action(method: Method, selector: Option<Selector>) -> Result<BucketAction, Refusal>
+    ensures { result ≡ spec.bucket_action method selector }
+{
+    match (method, selector) {
+        (Method::Put, None) => Ok(BucketAction::Create),
+        (Method::Head, None) => Ok(BucketAction::Head),
+        (Method::Delete, None) => Ok(BucketAction::Delete),
+        (Method::Get, None) => Err(Refusal::NotImplemented),
+        (Method::Get, Some(Selector::ListType)) => Ok(BucketAction::ListObjects),
+        (Method::Get, Some(Selector::Versions)) => Ok(BucketAction::ListVersions),
+        (Method::Get, Some(Selector::Uploads)) => Ok(BucketAction::ListUploads),
+        (Method::Get, Some(Selector::Versioning)) => Ok(BucketAction::GetVersioning),
+        (Method::Put, Some(Selector::Versioning)) => Ok(BucketAction::PutVersioning),
+        (Method::Get, Some(Selector::Lifecycle)) => Ok(BucketAction::GetLifecycle),
+        (Method::Put, Some(Selector::Lifecycle)) => Ok(BucketAction::PutLifecycle),
+        (Method::Delete, Some(Selector::Lifecycle)) => Ok(BucketAction::DeleteLifecycle),
+        _ => Err(Refusal::MethodNotAllowed),
+    }
+}
+
+/// What a method and a selector ask of an object, where the query has a part number or not and the header a
+/// copy source or not: InvalidArgument for a part number that nothing reads or that is missing, NotImplemented
+/// for S3's UploadPartCopy, MethodNotAllowed where they ask nothing.
+#[tactic(auto, unfolding(crate::specs::Actions::object_action))]
+pub fn object_action(
+    method: Method,
+    selector: Option<Selector>,
+    numbered: bool,
+    copied: bool,
+) -> Result<ObjectAction, Refusal>
+    ensures { result ≡ spec.object_action method selector numbered copied }
+{
+    match (method, selector) {
+        (_, None) if numbered => Err(Refusal::InvalidArgument),
+        (Method::Put, None) if copied => Ok(ObjectAction::Copy),
+        (Method::Put, None) => Ok(ObjectAction::Put),
+        (Method::Get, None) => Ok(ObjectAction::Get),
+        (Method::Head, None) => Ok(ObjectAction::Head),
+        (Method::Delete, None) => Ok(ObjectAction::Delete),
+        (Method::Post, Some(Selector::Uploads)) => Ok(ObjectAction::CreateUpload),
+        (Method::Put, Some(Selector::UploadId)) if !numbered => Err(Refusal::InvalidArgument),
+        (Method::Put, Some(Selector::UploadId)) if copied => Err(Refusal::NotImplemented),
+        (Method::Put, Some(Selector::UploadId)) => Ok(ObjectAction::UploadPart),
+        (Method::Get, Some(Selector::UploadId)) => Ok(ObjectAction::ListParts),
+        (Method::Post, Some(Selector::UploadId)) => Ok(ObjectAction::CompleteUpload),
+        (Method::Delete, Some(Selector::UploadId)) => Ok(ObjectAction::AbortUpload),
+        _ => Err(Refusal::MethodNotAllowed),
+    }
+}

@@ -1,0 +1,77 @@
+ghost use Rattle.bh_types.specs.Outcomes.{Gives};
+ghost use Rattle.bh_operation.specs.Addresses as spec;
+
+use bh_types::bucket::BucketName;
+use bh_types::error::RequestError;
+use bh_types::key::ObjectKey;
+use bh_types::names::TenantName;
+use bh_types::refusal::Refusal;
+use std::alloc::Global;
+
+/// An object of the caller's, by its bucket's name and its key.
+#[derive(Drop)]
+pub struct ObjectName {
+    pub bucket: BucketName,
+    pub key: ObjectKey,
+}
+
+/// The name in `tenant:bucket`, or in a text with no colon: AccessDenied where the tenant is another one.
+#[tactic(auto, unfolding(crate::specs::Addresses::own_part))]
+fn own_part<'a>(caller: &TenantName, text: &'a str) -> Result<&'a str, RequestError>
+    ensures { Gives (λ name. name.now) result (spec.own_part caller.now text.now) }
+{
+    match text.split_once(':') {
+        None => Ok(text),
+        Some((tenant, name)) if tenant == caller.as_str() => Ok(name),
+        Some(_) => Err(RequestError::Refused(Refusal::AccessDenied)),
+    }
+}
+
+#[tactic(auto, unfolding(crate::specs::Addresses::bucket_name))]
+fn bucket_name(alloc: Global, text: &str) -> Result<BucketName, RequestError>
+    ensures { Gives (λ x. x) result (spec.bucket_name text.now) }
+{
+    match BucketName::read(alloc, text)? {
+        Some(bucket) => Ok(bucket),
+        None => Err(RequestError::Refused(Refusal::InvalidBucketName)),
+    }
+}
+
+#[tactic(auto, unfolding(crate::specs::Addresses::object_key))]
+fn object_key(alloc: Global, text: &str) -> Result<ObjectKey, RequestError>
+    ensures { Gives (λ x. x) result (spec.object_key text.now) }
+{
+    match ObjectKey::read(alloc, text)? {
+        Some(key) => Ok(key),
+        None => Err(RequestError::Refused(Refusal::KeyTooLong)),
+    }
+}
+
+/// The caller's bucket that a text names, told from the text alone: AccessDenied where it names another tenant,
+/// InvalidBucketName where it is no name.
+#[tactic(auto, unfolding(crate::specs::Addresses::bucket_named))]
+pub(crate) fn bucket_named(
+    alloc: Global,
+    caller: &TenantName,
+    text: &str,
+) -> Result<BucketName, RequestError>
+    ensures { Gives (λ x. x) result (spec.bucket_named caller.now text.now) }
+{
+    let name = own_part(caller, text)?;
+    bucket_name(alloc, name)
+}
+
+/// The caller's object that two texts name: as for its bucket, and then KeyTooLong where the key is too long.
+#[tactic(auto, unfolding(crate::specs::Addresses::object_named))]
+pub(crate) fn object_named(
+    alloc: Global,
+    caller: &TenantName,
+    bucket: &str,
+    key: &str,
+) -> Result<ObjectName, RequestError>
+    ensures { Gives (λ x. x) result (spec.object_named caller.now bucket.now key.now) }
+{
+    let bucket = bucket_named(alloc, caller, bucket)?;
+    let key = object_key(alloc, key)?;
+    Ok(ObjectName { bucket, key })
+}

@@ -1,0 +1,17 @@
+//! Which operation of the host a request asks for, told from its method, target, query and header fields with one
+//! order of refusals.
+#![tactic(auto)]
+
+mod action;
+pub mod address;
+pub mod allow;
+mod headers;
+mod number;
+pub mod operation;
+pub mod page;
+mod query;
+mod source;
+mod target;
+#[cfg(test)]
+mod tests;
+pub mod text;

@@ -1,0 +1,139 @@
+ghost use Rattle.std.specs.Prelude.{◌≡◌, ◌≤◌, ◌^◌, true, IfSome, IfNone};
+ghost use Rattle.std.specs.Char.{is_ascii_digit};
+ghost use Rattle.std.specs.List.{list_all};
+ghost use Rattle.std.specs.Option.{option_copied};
+ghost use Rattle.std.specs.Str.Parse.{digits_value};
+ghost use Rattle.bh_types.specs.Outcomes.{Gives};
+ghost use Rattle.bh_operation.specs.Numbers as spec;
+
+use crate::text::Bytes;
+use bh_types::error::RequestError;
+use bh_types::id::{UploadId, VersionId};
+use bh_types::plain::Wanted;
+use bh_types::refusal::Refusal;
+use hex::FromHexError;
+use std::alloc::Global;
+
+/// The entries of a page where a request does not say how many, and the most that it gets.
+const MAX_PAGE: u64 = 1000;
+
+/// The greatest number of a part.
+const MAX_PART: u64 = 10_000;
+
+fn are_digits(text: &[u8]) -> bool
+    ensures { result ≡ list_all is_ascii_digit text.now }
+{
+    text.iter().all(|b| b.is_ascii_digit())
+}
+
+fn is_number(text: &str) -> bool
+    ensures { result ≡ spec.is_number text.now }
+{
+    !text.is_empty() && are_digits(text.as_bytes())
+}
+
+/// The number that digits write, if it is below 2^64.
+fn number_of(digits: &str) -> Option<u64>
+    requires { spec.is_number digits.now ≡ true }
+    ensures some { IfSome result (λ n. n ≡ digits_value 10 digits.now) }
+    ensures none { IfNone result (2 ^ 64 ≤ digits_value 10 digits.now) }
+{
+    match digits.parse::<u64>() {
+        Ok(n) => Some(n),
+        Err(_) => None,
+    }
+}
+
+/// The number of 1 to 10 digits: InvalidArgument for another text.
+#[tactic(auto, unfolding(crate::specs::Numbers::short_number))]
+fn short_number(text: &str) -> Result<u64, Refusal>
+    ensures { result ≡ spec.short_number text.now }
+{
+    if !is_number(text) || text.len() > 10 {
+        return Err(Refusal::InvalidArgument);
+    }
+    match number_of(text) {
+        Some(n) => Ok(n),
+        None => unreachable!(),
+    }
+}
+
+/// The number of entries of a page, 1,000 where none is given and at most that: InvalidArgument for a text that
+/// is not 1 to 10 digits.
+#[tactic(auto, unfolding(crate::specs::Numbers::page_size))]
+pub fn page_size(text: Option<&str>) -> Result<u64, Refusal>
+    ensures { result ≡ spec.page_size (option_copied text.entry) }
+{
+    match text {
+        None => Ok(MAX_PAGE),
+        Some(text) => Ok(short_number(text)?.min(MAX_PAGE)),
+    }
+}
+
+/// The number of the part after which a page of parts begins, 0 where none is given: InvalidArgument for a text
+/// that is not 1 to 10 digits.
+#[tactic(auto, unfolding(crate::specs::Numbers::part_marker))]
+pub fn part_marker(text: Option<&str>) -> Result<u64, Refusal>
+    ensures { result ≡ spec.part_marker (option_copied text.entry) }
+{
+    match text {
+        None => Ok(0),
+        Some(text) => short_number(text),
+    }
+}
+
+/// The number of a part, 1 to 10,000: InvalidArgument for another text or none.
+#[tactic(auto, unfolding(crate::specs::Numbers::part_number))]
+pub fn part_number(text: Option<&str>) -> Result<u32, Refusal>
+    ensures { result ≡ spec.part_number (option_copied text.entry) }
+{
+    match text {
+        Some(text) if is_number(text) => match number_of(text) {
+            Some(n) if 1 <= n && n <= MAX_PART => Ok(n as u32),
+            _ => Err(Refusal::InvalidArgument),
+        },
+        _ => Err(Refusal::InvalidArgument),
+    }
+}
+
+/// The bytes that pairs of hexadecimal digits write (RFC 4648, section 8, in either case): InvalidArgument for
+/// another text.
+#[tactic(auto, unfolding(crate::specs::Numbers::token_in))]
+pub fn token_in(alloc: Global, text: &str) -> Result<Bytes, RequestError>
+    ensures { Gives (λ x. x) result (spec.token_in text.now) }
+{
+    match hex::decode(alloc, text) {
+        Ok(bytes) => Ok(Bytes::new(bytes)),
+        Err(FromHexError::OutOfMemory) => Err(RequestError::OutOfMemory),
+        Err(_) => Err(RequestError::Refused(Refusal::InvalidArgument)),
+    }
+}
+
+/// The upload that a text is the id of, if it is an id.
+pub fn upload_of(text: &str) -> Option<UploadId>
+    ensures { result ≡ spec.upload_of text.now }
+{
+    UploadId::read(text)
+}
+
+fn version_of(text: &str) -> Option<VersionId>
+    ensures { result ≡ spec.version_of text.now }
+{
+    VersionId::read(text)
+}
+
+/// The version that a request speaks of by the text of an id, or by none. No version has a number that is 0, or
+/// is 2^63 or more.
+#[tactic(auto, unfolding(crate::specs::Numbers::wanted))]
+pub fn wanted(text: Option<&str>) -> Wanted
+    ensures { result ≡ spec.wanted (option_copied text.entry) }
+{
+    let Some(text) = text else {
+        return Wanted::Current;
+    };
+    match version_of(text) {
+        Some(VersionId::Numbered(n)) if n == 0 || n >= 1 << 63 => Wanted::Unknown,
+        Some(id) => Wanted::Named(id),
+        None => Wanted::Unknown,
+    }
+}

@@ -1,0 +1,441 @@
+ghost use Rattle.std.specs.Prelude.{◌≡◌};
+ghost use Rattle.bh_types.specs.Outcomes.{Gives};
+ghost use Rattle.bh_http.specs.Views.{pairs_of, view};
+ghost use Rattle.bh_operation.specs.Operations as spec;
+
+use crate::action::{BucketAction, Method, ObjectAction, bucket_action, method_of, object_action};
+use crate::address::{ObjectName, bucket_named, object_named};
+use crate::headers::{checksum_in, copy_source, range_in, stands, supported};
+use crate::number::{part_number, upload_of, wanted};
+use crate::page::{
+    Page, PartPage, UploadMarker, VersionMarker, key_page, part_page, second_version, token_of,
+    upload_marker, upload_page, version_marker,
+};
+use crate::query::{Parameter, Selector, parameters_in, selected, value_of};
+use crate::source::source_in;
+use crate::target::{Target, routed, split_target, target_at};
+use crate::text::Bytes;
+use bh_http::request::{Field, Request};
+use bh_types::bucket::BucketName;
+use bh_types::error::RequestError;
+use bh_types::id::UploadId;
+use bh_types::names::TenantName;
+use bh_types::plain::Wanted;
+use bh_types::refusal::Refusal;
+use std::alloc::Global;
+
+/// What an object is copied from.
+#[derive(Drop)]
+pub struct CopySource {
+    pub object: ObjectName,
+    pub version: Wanted,
+}
+
+/// What a request asks of the host, by the names of the Amazon S3 API Reference. An upload is `None` where the given
+/// id is none.
+#[derive(Drop)]
+pub enum Operation {
+    /// `GET /`
+    ListBuckets,
+    /// `GET /?usage`, which S3 has not.
+    Usage,
+    /// `PUT /bucket`
+    CreateBucket(BucketName),
+    /// `HEAD /bucket`
+    HeadBucket(BucketName),
+    /// `DELETE /bucket`
+    DeleteBucket(BucketName),
+    /// `GET /bucket?list-type=2`, the names greater than the token's.
+    ListObjectsV2 {
+        bucket: BucketName,
+        page: Page,
+        token: Option<Bytes>,
+    },
+    /// `GET /bucket?versions`
+    ListObjectVersions {
+        bucket: BucketName,
+        page: Page,
+        after: Option<VersionMarker>,
+    },
+    /// `GET /bucket?uploads`
+    ListMultipartUploads {
+        bucket: BucketName,
+        page: Page,
+        after: Option<UploadMarker>,
+    },
+    /// `GET /bucket?versioning`
+    GetBucketVersioning(BucketName),
+    /// `PUT /bucket?versioning`
+    PutBucketVersioning(BucketName),
+    /// `GET /bucket?lifecycle`
+    GetLifecycle(BucketName),
+    /// `PUT /bucket?lifecycle`
+    PutLifecycle(BucketName),
+    /// `DELETE /bucket?lifecycle`
+    DeleteLifecycle(BucketName),
+    /// `PUT /bucket/key`, with the checksum that the body must have, if one is given.
+    PutObject {
+        object: ObjectName,
+        checksum: Option<Bytes>,
+    },
+    /// `PUT /bucket/key` with `x-amz-copy-source`.
+    CopyObject {
+        object: ObjectName,
+        source: CopySource,
+    },
+    /// `GET /bucket/key`, with the text of the header field Range, if just one stands.
+    GetObject {
+        object: ObjectName,
+        version: Wanted,
+        range: Option<Bytes>,
+    },
+    /// `HEAD /bucket/key`
+    HeadObject {
+        object: ObjectName,
+        version: Wanted,
+    },
+    /// `DELETE /bucket/key`
+    DeleteObject {
+        object: ObjectName,
+        version: Wanted,
+    },
+    /// `POST /bucket/key?uploads`
+    CreateMultipartUpload(ObjectName),
+    /// `PUT /bucket/key?uploadId=..&partNumber=..`, its number 1 to 10,000.
+    UploadPart {
+        object: ObjectName,
+        upload: Option<UploadId>,
+        number: u32,
+        checksum: Option<Bytes>,
+    },
+    /// `GET /bucket/key?uploadId=..`
+    ListParts {
+        object: ObjectName,
+        upload: Option<UploadId>,
+        page: PartPage,
+    },
+    /// `POST /bucket/key?uploadId=..`
+    CompleteMultipartUpload {
+        object: ObjectName,
+        upload: Option<UploadId>,
+    },
+    /// `DELETE /bucket/key?uploadId=..`
+    AbortMultipartUpload {
+        object: ObjectName,
+        upload: Option<UploadId>,
+    },
+}
+
+fn version_in(parameters: &[Parameter]) -> Wanted
+    ensures { result ≡ spec.version_in parameters.now }
+{
+    wanted(value_of("versionId", parameters))
+}
+
+fn upload_in(parameters: &[Parameter]) -> Option<UploadId>
+    ensures { result ≡ spec.upload_in parameters.now }
+{
+    match value_of("uploadId", parameters) {
+        Some(id) => upload_of(id),
+        None => None,
+    }
+}
+
+/// The operation of a method and a selector on the host itself.
+#[tactic(auto, unfolding(crate::specs::Operations::host_operation))]
+fn host_operation(method: Method, selector: Option<Selector>) -> Result<Operation, Refusal>
+    ensures { result ≡ spec.host_operation method selector }
+{
+    match (method, selector) {
+        (Method::Get, None) => Ok(Operation::ListBuckets),
+        (Method::Get, Some(Selector::Usage)) => Ok(Operation::Usage),
+        _ => Err(Refusal::MethodNotAllowed),
+    }
+}
+
+#[tactic(auto, unfolding(crate::specs::Operations::list_objects))]
+fn list_objects(
+    alloc: Global,
+    caller: &TenantName,
+    text: &str,
+    parameters: &[Parameter],
+) -> Result<Operation, RequestError>
+    ensures { Gives (λ x. x) result (spec.list_objects caller.now text.now parameters.now) }
+{
+    second_version(parameters)?;
+    let page = key_page(alloc, parameters)?;
+    let token = token_of(alloc, parameters)?;
+    let bucket = bucket_named(alloc, caller, text)?;
+    Ok(Operation::ListObjectsV2 {
+        bucket,
+        page,
+        token,
+    })
+}
+
+#[tactic(auto, unfolding(crate::specs::Operations::list_versions))]
+fn list_versions(
+    alloc: Global,
+    caller: &TenantName,
+    text: &str,
+    parameters: &[Parameter],
+) -> Result<Operation, RequestError>
+    ensures { Gives (λ x. x) result (spec.list_versions caller.now text.now parameters.now) }
+{
+    let page = key_page(alloc, parameters)?;
+    let after = version_marker(alloc, parameters)?;
+    let bucket = bucket_named(alloc, caller, text)?;
+    Ok(Operation::ListObjectVersions {
+        bucket,
+        page,
+        after,
+    })
+}
+
+#[tactic(auto, unfolding(crate::specs::Operations::list_uploads))]
+fn list_uploads(
+    alloc: Global,
+    caller: &TenantName,
+    text: &str,
+    parameters: &[Parameter],
+) -> Result<Operation, RequestError>
+    ensures { Gives (λ x. x) result (spec.list_uploads caller.now text.now parameters.now) }
+{
+    let page = upload_page(alloc, parameters)?;
+    let after = upload_marker(alloc, parameters)?;
+    let bucket = bucket_named(alloc, caller, text)?;
+    Ok(Operation::ListMultipartUploads {
+        bucket,
+        page,
+        after,
+    })
+}
+
+/// The operation on the bucket that a text names: first the parameters that it reads are looked at, and then the text.
+#[tactic(auto, unfolding(crate::specs::Operations::bucket_operation))]
+fn bucket_operation(
+    alloc: Global,
+    caller: &TenantName,
+    text: &str,
+    parameters: &[Parameter],
+    action: BucketAction,
+) -> Result<Operation, RequestError>
+    ensures { Gives (λ x. x) result
+        (spec.bucket_operation caller.now text.now parameters.now action) }
+{
+    let named = || bucket_named(alloc, caller, text);
+    match action {
+        BucketAction::Create => Ok(Operation::CreateBucket(named()?)),
+        BucketAction::Head => Ok(Operation::HeadBucket(named()?)),
+        BucketAction::Delete => Ok(Operation::DeleteBucket(named()?)),
+        BucketAction::ListObjects => list_objects(alloc, caller, text, parameters),
+        BucketAction::ListVersions => list_versions(alloc, caller, text, parameters),
+        BucketAction::ListUploads => list_uploads(alloc, caller, text, parameters),
+        BucketAction::GetVersioning => Ok(Operation::GetBucketVersioning(named()?)),
+        BucketAction::PutVersioning => Ok(Operation::PutBucketVersioning(named()?)),
+        BucketAction::GetLifecycle => Ok(Operation::GetLifecycle(named()?)),
+        BucketAction::PutLifecycle => Ok(Operation::PutLifecycle(named()?)),
+        BucketAction::DeleteLifecycle => Ok(Operation::DeleteLifecycle(named()?)),
+    }
+}
+
+#[tactic(auto, unfolding(crate::specs::Operations::put_object))]
+fn put_object(
+    alloc: Global,
+    caller: &TenantName,
+    text: &str,
+    key: &str,
+    fields: &[Field],
+) -> Result<Operation, RequestError>
+    ensures { Gives (λ x. x) result
+        (spec.put_object caller.now text.now key.now (pairs_of fields.now)) }
+{
+    let checksum = checksum_in(alloc, fields)?;
+    let object = object_named(alloc, caller, text, key)?;
+    Ok(Operation::PutObject { object, checksum })
+}
+
+/// A copy: the names of its source are looked at last. Its checksum is only counted.
+#[tactic(auto, unfolding(crate::specs::Operations::copy_object))]
+fn copy_object(
+    alloc: Global,
+    caller: &TenantName,
+    text: &str,
+    key: &str,
+    fields: &[Field],
+) -> Result<Operation, RequestError>
+    ensures { Gives (λ x. x) result
+        (spec.copy_object caller.now text.now key.now (pairs_of fields.now)) }
+{
+    let source = source_in(alloc, copy_source(fields))?;
+    checksum_in(alloc, fields)?;
+    let object = object_named(alloc, caller, text, key)?;
+    let from = object_named(alloc, caller, source.bucket.as_str(), source.key.as_str())?;
+    Ok(Operation::CopyObject {
+        object,
+        source: CopySource {
+            object: from,
+            version: source.version,
+        },
+    })
+}
+
+#[tactic(auto, unfolding(crate::specs::Operations::upload_part))]
+fn upload_part(
+    alloc: Global,
+    caller: &TenantName,
+    text: &str,
+    key: &str,
+    parameters: &[Parameter],
+    fields: &[Field],
+) -> Result<Operation, RequestError>
+    ensures { Gives (λ x. x) result
+        (spec.upload_part caller.now text.now key.now parameters.now (pairs_of fields.now)) }
+{
+    let number = part_number(value_of("partNumber", parameters))?;
+    let checksum = checksum_in(alloc, fields)?;
+    let object = object_named(alloc, caller, text, key)?;
+    Ok(Operation::UploadPart {
+        object,
+        upload: upload_in(parameters),
+        number,
+        checksum,
+    })
+}
+
+#[tactic(auto, unfolding(crate::specs::Operations::list_parts))]
+fn list_parts(
+    alloc: Global,
+    caller: &TenantName,
+    text: &str,
+    key: &str,
+    parameters: &[Parameter],
+) -> Result<Operation, RequestError>
+    ensures { Gives (λ x. x) result (spec.list_parts caller.now text.now key.now parameters.now) }
+{
+    let page = part_page(parameters)?;
+    let object = object_named(alloc, caller, text, key)?;
+    Ok(Operation::ListParts {
+        object,
+        upload: upload_in(parameters),
+        page,
+    })
+}
+
+/// The operation on the object that two texts name: first the parameters and header fields that it reads are looked
+/// at, and then the texts.
+#[tactic(auto, unfolding(crate::specs::Operations::object_operation))]
+fn object_operation(
+    alloc: Global,
+    caller: &TenantName,
+    text: &str,
+    key: &str,
+    parameters: &[Parameter],
+    fields: &[Field],
+    action: ObjectAction,
+) -> Result<Operation, RequestError>
+    ensures { Gives (λ x. x) result
+        (spec.object_operation caller.now text.now key.now parameters.now (pairs_of fields.now) action) }
+{
+    let named = || object_named(alloc, caller, text, key);
+    let version = version_in(parameters);
+    let upload = upload_in(parameters);
+    match action {
+        ObjectAction::Put => put_object(alloc, caller, text, key, fields),
+        ObjectAction::Copy => copy_object(alloc, caller, text, key, fields),
+        ObjectAction::Get => Ok(Operation::GetObject {
+            object: named()?,
+            version,
+            range: range_in(alloc, fields)?,
+        }),
+        ObjectAction::Head => Ok(Operation::HeadObject {
+            object: named()?,
+            version,
+        }),
+        ObjectAction::Delete => Ok(Operation::DeleteObject {
+            object: named()?,
+            version,
+        }),
+        ObjectAction::CreateUpload => Ok(Operation::CreateMultipartUpload(named()?)),
+        ObjectAction::UploadPart => upload_part(alloc, caller, text, key, parameters, fields),
+        ObjectAction::ListParts => list_parts(alloc, caller, text, key, parameters),
+        ObjectAction::CompleteUpload => Ok(Operation::CompleteMultipartUpload {
+            object: named()?,
+            upload,
+        }),
+        ObjectAction::AbortUpload => Ok(Operation::AbortMultipartUpload {
+            object: named()?,
+            upload,
+        }),
+    }
+}
+
+/// The operation of a method and a selector on a target.
+#[tactic(auto, unfolding(crate::specs::Operations::operation_at))]
+fn operation_at(
+    alloc: Global,
+    caller: &TenantName,
+    method: Method,
+    parameters: &[Parameter],
+    fields: &[Field],
+    target: &Target,
+    selector: Option<Selector>,
+) -> Result<Operation, RequestError>
+    ensures { Gives (λ x. x) result
+        (spec.operation_at caller.now method parameters.now (pairs_of fields.now) target.now selector) }
+{
+    match target {
+        Target::Host => Ok(host_operation(method, selector)?),
+        Target::Bucket(text) => {
+            let action = bucket_action(method, selector)?;
+            bucket_operation(alloc, caller, text.as_str(), parameters, action)
+        }
+        Target::Object(text, key) => {
+            let numbered = value_of("partNumber", parameters).is_some();
+            let action = object_action(method, selector, numbered, stands(copy_source(fields)))?;
+            object_operation(
+                alloc,
+                caller,
+                text.as_str(),
+                key.as_str(),
+                parameters,
+                fields,
+                action,
+            )
+        }
+    }
+}
+
+/// The operation that a request of a caller asks for, or its first refusal, in this order:
+///
+/// - InvalidUri for a path that has no route or does not decode,
+/// - InvalidArgument for a parameter that the host knows and that is given twice,
+/// - NotImplemented for a parameter or header field of what the host does not do,
+/// - InvalidArgument, NotImplemented or MethodNotAllowed where method, target and parameters make no operation,
+/// - InvalidArgument for a value that is not of its form,
+/// - AccessDenied, InvalidBucketName and KeyTooLong for the names, those of a copy's source last.
+#[tactic(auto, unfolding(crate::specs::Operations::operation))]
+pub fn operation_of(
+    alloc: Global,
+    request: &Request,
+    caller: &TenantName,
+) -> Result<Operation, RequestError>
+    ensures { Gives (λ x. x) result (spec.operation caller.now (view request.now)) }
+{
+    let (path, query) = split_target(request.target.as_slice());
+    let fields = request.fields.as_slice();
+    let kind = routed(alloc, path)?;
+    let target = target_at(alloc, kind, path)?;
+    let parameters = parameters_in(alloc, query)?;
+    supported(parameters.as_slice(), fields)?;
+    let selector = selected(parameters.as_slice())?;
+    operation_at(
+        alloc,
+        caller,
+        method_of(request.method.as_str()),
+        parameters.as_slice(),
+        fields,
+        &target,
+        selector,
+    )
+}

@@ -1,0 +1,188 @@
+ghost use Rattle.std.specs.Prelude.{◌≡◌, IfOk};
+ghost use Rattle.std.specs.Option.{option_copied};
+ghost use Rattle.bh_types.specs.Outcomes.{Gives};
+ghost use Rattle.bh_operation.specs.Numbers as number;
+ghost use Rattle.bh_operation.specs.Pages as spec;
+
+use crate::number::{page_size, part_marker, token_in, upload_of, wanted};
+use crate::query::{Parameter, value_of};
+use crate::text::{Bytes, Text};
+use bh_types::error::RequestError;
+use bh_types::id::UploadId;
+use bh_types::plain::Wanted;
+use bh_types::refusal::Refusal;
+use std::alloc::{AllocError, Global};
+
+/// The names that a listing of a bucket asks for.
+#[derive(Drop)]
+pub struct Page {
+    /// What the listed keys begin with.
+    pub prefix: Text,
+    /// Where keys are rolled up to one name, after the prefix; empty for nowhere.
+    pub delimiter: Text,
+    /// How many entries the page has at most: 0 to 1,000.
+    pub size: u64,
+}
+
+/// The parts that a listing of an upload asks for.
+#[derive(Clone, Copy, Debug, PartialEq, Eq)]
+pub struct PartPage {
+    /// How many parts the page has at most: 0 to 1,000.
+    pub size: u64,
+    /// The part after whose number it begins, 0 for the first.
+    pub after: u64,
+}
+
+/// The entry after which a page of versions begins.
+#[derive(Drop)]
+pub struct VersionMarker {
+    /// The name; it may be that of no key.
+    pub key: Text,
+    /// `Current` for after all versions of that name.
+    pub version: Wanted,
+}
+
+/// The entry after which a page of uploads begins.
+#[derive(Drop)]
+pub struct UploadMarker {
+    /// The name; it may be that of no key.
+    pub key: Text,
+    /// `None` for after all uploads of that name.
+    pub upload: Option<UploadId>,
+}
+
+fn text_or_empty(alloc: Global, name: &str, parameters: &[Parameter]) -> Result<Text, AllocError>
+    ensures { IfOk result (λ text. text ≡ spec.text_or_empty name.now parameters.now) }
+{
+    Text::copy_of(alloc, value_of(name, parameters).unwrap_or(""))
+}
+
+/// The page that the parameters ask for, its size given by the one of this name.
+#[tactic(auto, unfolding(crate::specs::Pages::page_in))]
+fn page_in(alloc: Global, size_name: &str, parameters: &[Parameter]) -> Result<Page, RequestError>
+    ensures { Gives (λ x. x) result (spec.page_in size_name.now parameters.now) }
+{
+    let size = page_size(value_of(size_name, parameters))?;
+    let prefix = text_or_empty(alloc, "prefix", parameters)?;
+    let delimiter = text_or_empty(alloc, "delimiter", parameters)?;
+    Ok(Page {
+        prefix,
+        delimiter,
+        size,
+    })
+}
+
+/// The page of keys, or of versions, that the parameters ask for: InvalidArgument where its size is not 1 to 10
+/// digits. A size above 1,000 is taken as that, and so is none.
+#[tactic(auto, unfolding(crate::specs::Pages::key_page))]
+pub(crate) fn key_page(alloc: Global, parameters: &[Parameter]) -> Result<Page, RequestError>
+    ensures { Gives (λ x. x) result (spec.key_page parameters.now) }
+{
+    page_in(alloc, "max-keys", parameters)
+}
+
+/// The page of uploads that the parameters ask for, as [`key_page`].
+#[tactic(auto, unfolding(crate::specs::Pages::upload_page))]
+pub(crate) fn upload_page(alloc: Global, parameters: &[Parameter]) -> Result<Page, RequestError>
+    ensures { Gives (λ x. x) result (spec.upload_page parameters.now) }
+{
+    page_in(alloc, "max-uploads", parameters)
+}
+
+/// The page of parts that the parameters ask for: InvalidArgument where its size or its marker is not 1 to 10
+/// digits.
+#[tactic(auto, unfolding(crate::specs::Pages::part_page))]
+pub(crate) fn part_page(parameters: &[Parameter]) -> Result<PartPage, Refusal>
+    ensures { result ≡ spec.part_page parameters.now }
+{
+    let size = page_size(value_of("max-parts", parameters))?;
+    let after = part_marker(value_of("part-number-marker", parameters))?;
+    Ok(PartPage { size, after })
+}
+
+fn is_second(text: Option<&str>) -> bool
+    ensures { result ≡ spec.is_second (option_copied text.entry) }
+{
+    match text {
+        Some(text) => text == "2",
+        None => false,
+    }
+}
+
+/// InvalidArgument unless `list-type` is `2`, as S3's ListObjectsV2 has it.
+#[tactic(auto, unfolding(crate::specs::Pages::second_version))]
+pub(crate) fn second_version(parameters: &[Parameter]) -> Result<(), Refusal>
+    ensures { result ≡ spec.second_version parameters.now }
+{
+    if is_second(value_of("list-type", parameters)) {
+        Ok(())
+    } else {
+        Err(Refusal::InvalidArgument)
+    }
+}
+
+/// The bytes of the continuation token, if one is given: InvalidArgument where it is not pairs of hexadecimal
+/// digits.
+#[tactic(auto, unfolding(crate::specs::Pages::token_of))]
+pub(crate) fn token_of(
+    alloc: Global,
+    parameters: &[Parameter],
+) -> Result<Option<Bytes>, RequestError>
+    ensures { Gives (λ x. x) result (spec.token_of parameters.now) }
+{
+    match value_of("continuation-token", parameters) {
+        Some(text) => Ok(Some(token_in(alloc, text)?)),
+        None => Ok(None),
+    }
+}
+
+/// Where a page of versions begins: InvalidArgument where an id is given without a key.
+#[tactic(auto, unfolding(crate::specs::Pages::version_marker))]
+pub(crate) fn version_marker(
+    alloc: Global,
+    parameters: &[Parameter],
+) -> Result<Option<VersionMarker>, RequestError>
+    ensures { Gives (λ x. x) result (spec.version_marker parameters.now) }
+{
+    let key = value_of("key-marker", parameters);
+    let id = value_of("version-id-marker", parameters);
+    match (key, id) {
+        (Some(key), id) => Ok(Some(VersionMarker {
+            key: Text::copy_of(alloc, key)?,
+            version: wanted(id),
+        })),
+        (None, None) => Ok(None),
+        (None, Some(_)) => Err(RequestError::Refused(Refusal::InvalidArgument)),
+    }
+}
+
+fn marked_upload(id: &str) -> Result<UploadId, Refusal>
+    ensures { result ≡ number.or_invalid_argument (number.upload_of id.now) }
+{
+    match upload_of(id) {
+        Some(upload) => Ok(upload),
+        None => Err(Refusal::InvalidArgument),
+    }
+}
+
+/// Where a page of uploads begins: InvalidArgument where an id is given with a key and is none. With no key it is
+/// not looked at.
+#[tactic(auto, unfolding(crate::specs::Pages::upload_marker))]
+pub(crate) fn upload_marker(
+    alloc: Global,
+    parameters: &[Parameter],
+) -> Result<Option<UploadMarker>, RequestError>
+    ensures { Gives (λ x. x) result (spec.upload_marker parameters.now) }
+{
+    let Some(key) = value_of("key-marker", parameters) else {
+        return Ok(None);
+    };
+    let upload = match value_of("upload-id-marker", parameters) {
+        None => None,
+        Some(id) => Some(marked_upload(id)?),
+    };
+    Ok(Some(UploadMarker {
+        key: Text::copy_of(alloc, key)?,
+        upload,
+    }))
+}

@@ -1,0 +1,100 @@
+ghost use Rattle.std.specs.Prelude.{◌≡◌};
+ghost use Rattle.bh_types.specs.Outcomes.{Gives};
+ghost use Rattle.bh_http.specs.Fields.{given_view};
+ghost use Rattle.bh_operation.specs.Sources as spec;
+
+use crate::number::wanted;
+use crate::target::{decode, question_at, split_at_slash, split_target, text_of};
+use crate::text::Text;
+use bh_http::fields::Given;
+use bh_types::error::RequestError;
+use bh_types::plain::Wanted;
+use bh_types::refusal::Refusal;
+use std::alloc::Global;
+
+/// What a copy source names, decoded.
+#[derive(Drop)]
+pub struct Source {
+    /// The text that stands for its bucket's name.
+    pub bucket: Text,
+    /// The text that stands for its key.
+    pub key: Text,
+    pub version: Wanted,
+}
+
+fn without_slash(bytes: &[u8]) -> &[u8]
+    ensures { result.now ≡ spec.without_slash bytes.now }
+{
+    match bytes {
+        [b'/', rest @ ..] => rest,
+        _ => bytes,
+    }
+}
+
+/// The version of a query `versionId=` and an id, which is not decoded: InvalidArgument for another query.
+#[tactic(auto, unfolding(crate::specs::Sources::version_after))]
+fn version_after(query: &[u8]) -> Result<Wanted, Refusal>
+    ensures { result ≡ spec.version_after query.now }
+{
+    let Some(id) = query.strip_prefix(b"versionId=") else {
+        return Err(Refusal::InvalidArgument);
+    };
+    match text_of(id) {
+        Some(text) => Ok(wanted(Some(text))),
+        None => Ok(Wanted::Unknown),
+    }
+}
+
+/// The version that a copy source speaks of: InvalidArgument where its query names something else.
+#[tactic(auto, unfolding(crate::specs::Sources::source_version))]
+fn source_version(value: &[u8]) -> Result<Wanted, Refusal>
+    ensures { result ≡ spec.source_version value.now }
+{
+    match question_at(value) {
+        Some(at) if at < value.len() => version_after(&value[at + 1..]),
+        _ => Ok(Wanted::Current),
+    }
+}
+
+#[tactic(auto, unfolding(crate::specs::Sources::source_part))]
+fn source_part(alloc: Global, part: &[u8]) -> Result<Text, RequestError>
+    ensures { Gives (λ x. x) result (spec.source_part part.now) }
+{
+    if part.is_empty() {
+        return Err(RequestError::Refused(Refusal::InvalidArgument));
+    }
+    match decode(alloc, part)? {
+        Some(text) => Ok(text),
+        None => Err(RequestError::Refused(Refusal::InvalidArgument)),
+    }
+}
+
+/// What a copy source names. It is split first and decoded then, so that an escaped slash is no separator.
+#[tactic(auto, unfolding(crate::specs::Sources::source_of))]
+fn source_of(alloc: Global, value: &[u8]) -> Result<Source, RequestError>
+    ensures { Gives (λ x. x) result (spec.source_of value.now) }
+{
+    let version = source_version(value)?;
+    let (path, _) = split_target(value);
+    let (bucket, key) = split_at_slash(without_slash(path));
+    let bucket = source_part(alloc, bucket)?;
+    let key = source_part(alloc, key)?;
+    Ok(Source {
+        bucket,
+        key,
+        version,
+    })
+}
+
+/// What the copy source of a request names: InvalidArgument where it stands twice, or is of another form than
+/// `bucket/key` or `/bucket/key`, percent-encoded, and then perhaps `?versionId=` and an id (`x-amz-copy-source`
+/// of S3's CopyObject).
+#[tactic(auto, unfolding(crate::specs::Sources::source_in))]
+pub fn source_in(alloc: Global, field: Given) -> Result<Source, RequestError>
+    ensures { Gives (λ x. x) result (spec.source_in (given_view field.entry)) }
+{
+    match field {
+        Given::Once(value) => source_of(alloc, value),
+        Given::Missing | Given::Repeated => Err(RequestError::Refused(Refusal::InvalidArgument)),
+    }
+}

@@ -1,0 +1,193 @@
+ghost use Rattle.std.specs.Prelude.{◌≡◌, ◌<◌, length, drop, position, IfOk, IfSome};
+ghost use Rattle.std.specs.List.{before_first, after_first};
+ghost use Rattle.std.specs.Option.{option_copied};
+ghost use Rattle.bh_types.specs.Outcomes.{Gives};
+ghost use Rattle.bh_operation.specs.Targets as spec;
+
+use crate::text::Text;
+use bh_types::error::RequestError;
+use bh_types::refusal::Refusal;
+use matchit::{InsertError, Router};
+use percent_encoding::percent_decode;
+use std::alloc::{AllocError, Global};
+
+/// What kind of target a path is, by the host's routes.
+#[derive(Clone, Copy)]
+pub enum Kind {
+    /// The host itself: `/`.
+    Host,
+    /// A bucket: `/bucket` or `/bucket/`.
+    Bucket,
+    /// An object: `/bucket/key`, where the key may hold slashes.
+    Object,
+}
+
+/// What a target names, percent-decoded (RFC 3986, section 2.1).
+#[derive(Drop)]
+pub enum Target {
+    /// The host itself.
+    Host,
+    /// A bucket, by the text that stands for its name.
+    Bucket(Text),
+    /// An object, by the texts that stand for its bucket's name and its key.
+    Object(Text, Text),
+}
+
+/// The path of a target, which ends at the first `?`, and the query after that.
+pub fn split_target(target: &[u8]) -> (&[u8], &[u8])
+    ensures path { result.0.now ≡ spec.path_of target.now }
+    ensures query { result.1.now ≡ spec.query_of target.now }
+{
+    match question_at(target) {
+        Some(at) if at < target.len() => (&target[..at], &target[at + 1..]),
+        _ => (target, &[]),
+    }
+}
+
+/// Where the first `?` stands.
+pub fn question_at(bytes: &[u8]) -> Option<usize>
+    ensures place { result ≡ position spec.is_question bytes.now }
+    ensures within { IfSome result (λ at. at < length bytes.now) }
+{
+    bytes.iter().position(|b| *b == b'?')
+}
+
+fn slash_at(bytes: &[u8]) -> Option<usize>
+    ensures place { result ≡ position spec.is_slash bytes.now }
+    ensures within { IfSome result (λ at. at < length bytes.now) }
+{
+    bytes.iter().position(|b| *b == b'/')
+}
+
+/// What stands before the first slash, and what stands after it.
+pub fn split_at_slash(bytes: &[u8]) -> (&[u8], &[u8])
+    ensures before { result.0.now ≡ before_first spec.is_slash bytes.now }
+    ensures after { result.1.now ≡ after_first spec.is_slash bytes.now }
+{
+    match slash_at(bytes) {
+        Some(at) if at < bytes.len() => (&bytes[..at], &bytes[at + 1..]),
+        _ => (bytes, &[]),
+    }
+}
+
+fn begins_with_digits(bytes: &[u8]) -> bool
+    ensures { result ≡ spec.begins_with_digits bytes.now }
+{
+    match bytes {
+        [high, low, ..] => high.is_ascii_hexdigit() && low.is_ascii_hexdigit(),
+        _ => false,
+    }
+}
+
+/// Whether each percent sign is followed by two hexadecimal digits.
+fn has_whole_escapes(bytes: &[u8]) -> bool
+    ensures { result ≡ spec.has_whole_escapes bytes.now }
+{
+    let mut rest = bytes;
+    while let [first, tail @ ..] = rest {
+        if *first == b'%' && !begins_with_digits(tail) {
+            return false;
+        }
+        rest = tail;
+    }
+    true
+}
+
+/// The text that percent-encoded bytes stand for, if each `%` begins an escape and the bytes are UTF-8.
+pub fn decode(alloc: Global, bytes: &[u8]) -> Result<Option<Text>, AllocError>
+    ensures { IfOk result (λ text. text ≡ spec.decoded bytes.now) }
+{
+    if !has_whole_escapes(bytes) {
+        return Ok(None);
+    }
+    let mut decoded = Vec::new(alloc);
+    percent_decode(bytes).append_to(&mut decoded)?;
+    match text_of(decoded.as_slice()) {
+        Some(text) => Ok(Some(Text::copy_of(alloc, text)?)),
+        None => Ok(None),
+    }
+}
+
+/// The text that bytes are, if they are UTF-8.
+pub fn text_of(bytes: &[u8]) -> Option<&str>
+    ensures { option_copied result ≡ spec.text_of bytes.now }
+{
+    match str::from_utf8(bytes) {
+        Ok(text) => Some(text),
+        Err(_) => None,
+    }
+}
+
+/// The routes of the host, which find what kind of target a path is.
+fn routes(alloc: Global) -> Result<Router<Kind>, InsertError>
+    ensures { IfOk result spec.FindsKind }
+{
+    let mut router = Router::new(alloc);
+    router.insert("/", Kind::Host)?;
+    router.insert("/{bucket}", Kind::Bucket)?;
+    router.insert("/{bucket}/", Kind::Bucket)?;
+    router.insert("/{bucket}/{*key}", Kind::Object)?;
+    Ok(router)
+}
+
+/// What kind of target a path is, if it is a text that a route fits. An error says that memory ran out.
+pub fn kind_of(alloc: Global, path: &[u8]) -> Result<Option<Kind>, AllocError>
+    ensures { IfOk result (λ found. found ≡ spec.kind_of path.now) }
+{
+    let Some(text) = text_of(path) else {
+        return Ok(None);
+    };
+    // No two of the routes conflict, so that an error is want of memory.
+    let Ok(router) = routes(alloc) else {
+        return Err(AllocError);
+    };
+    match router.at(text) {
+        Ok(found) => Ok(Some(*found.value)),
+        Err(_) => Ok(None),
+    }
+}
+
+/// The kind of a path: InvalidUri where no route fits it.
+#[tactic(auto, unfolding(crate::specs::Targets::routed))]
+pub fn routed(alloc: Global, path: &[u8]) -> Result<Kind, RequestError>
+    ensures { Gives (λ x. x) result (spec.routed path.now) }
+{
+    match kind_of(alloc, path)? {
+        Some(kind) => Ok(kind),
+        None => Err(RequestError::Refused(Refusal::InvalidUri)),
+    }
+}
+
+/// A name in a path, decoded: InvalidUri where it is at fault.
+#[tactic(auto, unfolding(crate::specs::Targets::name_at))]
+fn name_at(alloc: Global, part: &[u8]) -> Result<Text, RequestError>
+    ensures { Gives (λ x. x) result (spec.name_at part.now) }
+{
+    match decode(alloc, part)? {
+        Some(text) => Ok(text),
+        None => Err(RequestError::Refused(Refusal::InvalidUri)),
+    }
+}
+
+fn after_first(bytes: &[u8]) -> &[u8]
+    ensures { result.now ≡ drop 1 bytes.now }
+{
+    if bytes.is_empty() { bytes } else { &bytes[1..] }
+}
+
+/// What a path of a kind names: InvalidUri where a name in it is at fault.
+#[tactic(auto, unfolding(crate::specs::Targets::target_at))]
+pub fn target_at(alloc: Global, kind: Kind, path: &[u8]) -> Result<Target, RequestError>
+    ensures { Gives (λ x. x) result (spec.target_at kind path.now) }
+{
+    let (bucket, key) = split_at_slash(after_first(path));
+    match kind {
+        Kind::Host => Ok(Target::Host),
+        Kind::Bucket => Ok(Target::Bucket(name_at(alloc, bucket)?)),
+        Kind::Object => {
+            let bucket = name_at(alloc, bucket)?;
+            let key = name_at(alloc, key)?;
+            Ok(Target::Object(bucket, key))
+        }
+    }
+}
