@@ -1,12 +1,11 @@
 -- The numbers and ids that parameters give.
-use Rattle.std.specs.Prelude.{ℕ, ◌^◌, Bool, ◌&&◌, min, nat_le, nat_lt, List, length, codes, Option, Some, None, option_map, option_and_then, if◌then◌else◌, Result, Ok, Err}
-use Rattle.std.specs.Char.{is_ascii_digit}
+use Rattle.std.specs.Prelude.{ℕ, ◌^◌, ◌&&◌, min, nat_le, nat_lt, List, length, codes, Option, Some, None, option_map, option_and_then, if◌then◌else◌, Result, Ok, Err}
 use Rattle.std.specs.Int.{w64, from_be_bytes}
-use Rattle.std.specs.List.{list_all}
 use Rattle.std.specs.Str.{bytes_eq}
 use Rattle.std.specs.Str.Parse.{digits_value}
 use Rattle.hex.specs.Hex.{decode_sized, decode_of}
 use Rattle.bh_types.specs.Ids.{number_text}
+use Rattle.bh_http.specs.Reading.{is_number}
 use Rattle.bh_types.specs.Outcomes.{◌>>=◌}
 use Rattle.bh_types.specs.declared.id.UploadId.{UploadId}
 use Rattle.bh_types.specs.declared.id.VersionId.{VersionId}
@@ -19,10 +18,6 @@ use Rattle.bh_types.specs.declared.refusal.Refusal.TheVariants.{InvalidArgument}
 abbrev pub or_invalid_argument : {A : Type 0} → Option A → Result A Refusal
 or_invalid_argument None = Err InvalidArgument
 or_invalid_argument (Some x) = Ok x
-
--- one digit or more
-abbrev pub is_number : List ℕ → Bool
-is_number text = nat_lt 0 (length text) && list_all is_ascii_digit text
 
 -- 1 to 10 digits
 unfoldable pub short_number : List ℕ → Result ℕ Refusal

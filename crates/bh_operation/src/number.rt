@@ -4,6 +4,7 @@ ghost use Rattle.std.specs.List.{list_all};
 ghost use Rattle.std.specs.Option.{option_copied};
 ghost use Rattle.std.specs.Str.Parse.{digits_value};
 ghost use Rattle.bh_types.specs.Outcomes.{Gives};
+ghost use Rattle.bh_http.specs.Reading as digits;
 ghost use Rattle.bh_operation.specs.Numbers as spec;
 
 use crate::text::Bytes;
@@ -27,18 +28,18 @@ fn are_digits(text: &[u8]) -> bool
 }
 
 fn is_number(text: &str) -> bool
-    ensures { result ≡ spec.is_number text.now }
+    ensures { result ≡ digits.is_number text.now }
 {
     !text.is_empty() && are_digits(text.as_bytes())
 }
 
 /// The number that digits write, if it is below 2^64.
-fn number_of(digits: &str) -> Option<u64>
-    requires { spec.is_number digits.now ≡ true }
-    ensures some { IfSome result (λ n. n ≡ digits_value 10 digits.now) }
-    ensures none { IfNone result (2 ^ 64 ≤ digits_value 10 digits.now) }
+fn number_of(text: &str) -> Option<u64>
+    requires { digits.is_number text.now ≡ true }
+    ensures some { IfSome result (λ n. n ≡ digits_value 10 text.now) }
+    ensures none { IfNone result (2 ^ 64 ≤ digits_value 10 text.now) }
 {
-    match digits.parse::<u64>() {
+    match text.parse::<u64>() {
         Ok(n) => Some(n),
         Err(_) => None,
     }
