@@ -4,7 +4,7 @@
 use bh_script::script::answer_script;
 use std::{fs, io};
 
-const SCRIPTS: [&str; 17] = [
+const SCRIPTS: [&str; 18] = [
     "first-path",
     "incomplete-body",
     "clock-end",
@@ -22,6 +22,7 @@ const SCRIPTS: [&str; 17] = [
     "no-digits",
     "unknown-command",
     "wrong-type",
+    "empty-lines",
 ];
 
 fn main(rt: HostRuntime) -> io::Result<()> {
