@@ -1,4 +1,3 @@
-pub mod Checksums
 pub mod Documents
 pub mod Pages
 pub mod Requests

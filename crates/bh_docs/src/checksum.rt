@@ -5,7 +5,7 @@ ghost use Rattle.std.specs.List.{flat_map};
 ghost use Rattle.std.specs.String.{string_bytes};
 ghost use Rattle.sha2.specs.Sha256.{sha256};
 ghost use Rattle.base64.specs.GeneralPurpose.{IsBytes};
-ghost use Rattle.bh_docs.specs.Checksums.{digest_text, checksum_text, joined_text};
+ghost use Rattle.bh_types.specs.Checksums.{digest_text, checksum_text, joined_text};
 
 use base64::DecodeAllocError;
 use base64::engine::general_purpose::STANDARD;

@@ -1,8 +1,9 @@
 -- A reply to an event with a stamp is none of the fixed ones.
-use Rattle.std.proofs.Common.{◌≡◌, Bool, true, false, get_or, refl}
+use Rattle.std.proofs.Common.{◌≡◌, Bool, true, false, get_or, refl, Option}
 use Rattle.std.specs.Prelude.{◌&&◌, ◌||◌, ◌==◌}
 use Rattle.std.specs.Fmt.{digits}
 use Rattle.bh_http.specs.Answers.{refused}
+use Rattle.bh_http.specs.declared.values.Allow.{Allow}
 use Rattle.bh_http.specs.Responses.{response_text, refusal_text}
 use Rattle.bh_model.specs.Operations.{Answer, Done, Stored, Object}
 use Rattle.bh_model.specs.State.{Octets}
@@ -31,53 +32,54 @@ is_reserved ServiceUnavailable = true
 is_reserved Unavailable = true
 is_reserved refusal = false
 
-pub answer_apart : (answer : Answer) → is_fixed_response (response_text (response_to answer)) ≡ false
+pub answer_apart : (answer : Answer) (body : Octets) → is_fixed_response (response_text (record (response_to answer) { body = body })) ≡ false
 unfolding digits
-answer_apart Done = refl
-answer_apart (Stored id checksum) = refl
-answer_apart (Object id bytes checksum) = refl
+answer_apart Done body = refl
+answer_apart (Stored id checksum) body = refl
+answer_apart (Object id bytes checksum) body = refl
 
-pub refused_apart : (refusal : Refusal) (document : Octets) → is_reserved refusal ≡ false → is_fixed_response (response_text (refused refusal document)) ≡ false
+pub refused_apart : (refusal : Refusal) (document : Octets) (allow : Option Allow) (body : Octets) → is_reserved refusal ≡ false
+    → is_fixed_response (response_text (record (refused refusal document) { allow = allow; body = body })) ≡ false
 unfolding digits
-refused_apart BadRequest document h = refl
-refused_apart NotImplemented document h = refl
-refused_apart MissingContentLength document h = refl
-refused_apart EntityTooLarge document h = refl
-refused_apart AccessDenied document h = refl
-refused_apart InvalidAccessKeyId document h = refl
-refused_apart InvalidUri document h = refl
-refused_apart InvalidBucketName document h = refl
-refused_apart KeyTooLong document h = refl
-refused_apart InvalidArgument document h = refl
-refused_apart MalformedJson document h = refl
-refused_apart NoSuchBucket document h = refl
-refused_apart NoSuchKey document h = refl
-refused_apart NoSuchVersion document h = refl
-refused_apart NoSuchUpload document h = refl
-refused_apart MethodNotAllowed document h = refl
-refused_apart BucketAlreadyOwnedByYou document h = refl
-refused_apart BucketNotEmpty document h = refl
-refused_apart InvalidBucketState document h = refl
-refused_apart NoSuchLifecycleConfiguration document h = refl
-refused_apart InvalidPart document h = refl
-refused_apart InvalidPartOrder document h = refl
-refused_apart EntityTooSmall document h = refl
-refused_apart QuotaExceeded document h = refl
-refused_apart InvalidRange document h = refl
-refused_apart BadDigest document h = refl
-refused_apart IncompleteBody document h = refl
-refused_apart InvalidRequest document h = refl
-refused_apart CounterExhausted document h = refl
-refused_apart TenantExists document h = refl
-refused_apart NoSuchTenant document h = refl
-refused_apart KeyExists document h = refl
-refused_apart NoSuchKeyName document h = refl
-refused_apart InvalidName document h = refl
-refused_apart InvalidQuota document h = refl
-refused_apart NotAHostFile document h = refl
-refused_apart ClockOutOfRange document h = absurd (true_is_false h)
-refused_apart ServiceUnavailable document h = absurd (true_is_false h)
-refused_apart Unavailable document h = absurd (true_is_false h)
+refused_apart BadRequest document allow body h = refl
+refused_apart NotImplemented document allow body h = refl
+refused_apart MissingContentLength document allow body h = refl
+refused_apart EntityTooLarge document allow body h = refl
+refused_apart AccessDenied document allow body h = refl
+refused_apart InvalidAccessKeyId document allow body h = refl
+refused_apart InvalidUri document allow body h = refl
+refused_apart InvalidBucketName document allow body h = refl
+refused_apart KeyTooLong document allow body h = refl
+refused_apart InvalidArgument document allow body h = refl
+refused_apart MalformedJson document allow body h = refl
+refused_apart NoSuchBucket document allow body h = refl
+refused_apart NoSuchKey document allow body h = refl
+refused_apart NoSuchVersion document allow body h = refl
+refused_apart NoSuchUpload document allow body h = refl
+refused_apart MethodNotAllowed document allow body h = refl
+refused_apart BucketAlreadyOwnedByYou document allow body h = refl
+refused_apart BucketNotEmpty document allow body h = refl
+refused_apart InvalidBucketState document allow body h = refl
+refused_apart NoSuchLifecycleConfiguration document allow body h = refl
+refused_apart InvalidPart document allow body h = refl
+refused_apart InvalidPartOrder document allow body h = refl
+refused_apart EntityTooSmall document allow body h = refl
+refused_apart QuotaExceeded document allow body h = refl
+refused_apart InvalidRange document allow body h = refl
+refused_apart BadDigest document allow body h = refl
+refused_apart IncompleteBody document allow body h = refl
+refused_apart InvalidRequest document allow body h = refl
+refused_apart CounterExhausted document allow body h = refl
+refused_apart TenantExists document allow body h = refl
+refused_apart NoSuchTenant document allow body h = refl
+refused_apart KeyExists document allow body h = refl
+refused_apart NoSuchKeyName document allow body h = refl
+refused_apart InvalidName document allow body h = refl
+refused_apart InvalidQuota document allow body h = refl
+refused_apart NotAHostFile document allow body h = refl
+refused_apart ClockOutOfRange document allow body h = absurd (true_is_false h)
+refused_apart ServiceUnavailable document allow body h = absurd (true_is_false h)
+refused_apart Unavailable document allow body h = absurd (true_is_false h)
 
 pub line_apart : (refusal : Refusal) → is_reserved refusal ≡ false → is_fixed_line (refusal_text refusal) ≡ false
 unfolding digits

@@ -1,4 +1,6 @@
 mod Apart
+mod Free
+mod OperationRefusals
 mod Reserved
 mod ToldApart
 mod Turning

@@ -7,9 +7,8 @@ use Rattle.std.specs.Str.Parse.{digits_value}
 use Rattle.std.proofs.lemmas.Bool.{cases_Bool}
 use Rattle.std.specs.Result.{result_map_both}
 use Rattle.bh_event.specs.Events.{Order, AddTenant, AddKey, RemoveKey, Content as Arrived, Requested, Ordered}
-use Rattle.bh_http.specs.Credentials.{credentials, both, access_key, secret_key}
+use Rattle.bh_http.specs.Credentials.{owner, credentials, both, access_key, secret_key}
 use Rattle.bh_http.specs.Fields.{Standing, Missing, Once, Repeated, field_named}
-use Rattle.bh_http.specs.Narrow.{Operation, CreateBucket, PutObject, GetObject, Place, Place.Bucket as BucketPlace, Place.Object as ObjectPlace, asked as asked_at, place_of, narrow_operation}
 use Rattle.bh_http.specs.Reading.{Reads, parts_of, taken, framing, announced, length_in, is_number, needs_length, is_once, is_missing}
 use Rattle.bh_http.specs.Views.{Taken, Parts}
 use Rattle.bh_model.specs.declared.entries.LookupFault.{LookupFault}
@@ -19,7 +18,10 @@ use Rattle.bh_model.specs.Entries.{lookup, opened}
 use Rattle.bh_model.specs.Operations.{added_tenant, tenant_bucket, listed, unmarked, get_object}
 use Rattle.bh_model.specs.Runs.{settled, purged_tenant}
 use Rattle.bh_model.specs.State.{Octets, Content, Content.Marker, Content.Body, Entry, State}
-use Rattle.bh_model.specs.Steps.{◌>>=◌, require}
+use Rattle.bh_types.specs.Outcomes.{◌>>=◌, require}
+use Rattle.bh_operation.specs.Operations.{operation}
+use Rattle.bh_operation.specs.declared.operation.Operation.{Operation}
+use Rattle.bh_operation.specs.declared.operation.Operation.TheVariants as op
 use Rattle.bh_types.specs.Counts.{Counts}
 use Rattle.bh_types.specs.Limits.{HostLimits}
 use Rattle.bh_types.specs.declared.plain.BucketState.{BucketState}
@@ -28,21 +30,8 @@ use Rattle.bh_types.specs.declared.refusal.Refusal.{Refusal}
 use Rattle.bh_types.specs.declared.refusal.Refusal.TheVariants.{AccessDenied, InvalidAccessKeyId, NoSuchBucket, NoSuchKey, NoSuchTenant, BucketAlreadyOwnedByYou, InvalidName, InvalidQuota, TenantExists, KeyExists, NoSuchKeyName}
 use Rattle.bh_host.specs.Machine.{Act, Acted, operated, requested, asked, ordered, change, step}
 use Rattle.bh_host.proofs.Apart.{is_reserved}
-
-abbrev pub Free : {X : Type 0} → Result X Refusal → Type 0
-Free r = IfErr r (λ refusal. is_reserved refusal ≡ false)
-
-then_free : {A B : Type 0} (r : Result A Refusal) (f : A → Result B Refusal) → Free r → ((x : A) → Free (f x)) → Free (r >>= f)
-then_free (Ok x) f free next = next x
-then_free (Err e) f free next = free
-
-require_free : (holds : Bool) (refusal : Refusal) → is_reserved refusal ≡ false → Free (require holds refusal)
-require_free true refusal free = tt
-require_free false refusal free = free
-
-ok_or_free : {A : Type 0} (o : Option A) (refusal : Refusal) → is_reserved refusal ≡ false → Free (ok_or o refusal)
-ok_or_free None refusal free = free
-ok_or_free (Some x) refusal free = tt
+use Rattle.bh_host.proofs.Free.{Free, then_free, require_free, ok_or_free}
+use Rattle.bh_host.proofs.OperationRefusals.{operation_free}
 
 -- ---- a request
 
@@ -61,14 +50,6 @@ both_free (Once id) Missing = refl
 both_free (Once id) Repeated = refl
 both_free Missing secret = refl
 both_free Repeated secret = refl
-
-asked_free : (method : Octets) (place : Option Place) → Free (asked_at method place)
-asked_free method None = refl
-asked_free method (Some (BucketPlace bucket)) = elim (cases_Bool (bytes_eq method (codes "PUT"))) [ inl put ↦ rw put tt | inr other ↦ rw other refl ]
-asked_free method (Some (ObjectPlace bucket key)) = elim (cases_Bool (bytes_eq method (codes "PUT"))) [
-  | inl put ↦ rw put tt
-  | inr other ↦ elim (cases_Bool (bytes_eq method (codes "GET"))) [ inl get ↦ rw (other, get) tt | inr none ↦ rw (other, none) refl ]
-]
 
 abbrev fault_free : LookupFault → Type 0
 fault_free fault = is_reserved fault.refusal ≡ false
@@ -99,20 +80,42 @@ plain_free (Ok x) h = tt
 plain_free (Err e) h = h
 
 operated_free : (now : ℕ) (body : Octets) (operation : Operation) (s : Option State) → Free (operated now body operation s)
-operated_free now body (CreateBucket bucket) s =
+unfolding operated
+operated_free now body (op.CreateBucket bucket) s =
     then_free (added_tenant s) _ (ok_or_free s NoSuchTenant refl)
     (λ t. then_free (require (is_none (get t.buckets bucket)) BucketAlreadyOwnedByYou) _ (require_free (is_none (get t.buckets bucket)) BucketAlreadyOwnedByYou refl) (λ _. tt))
-operated_free now body (PutObject bucket key) s =
-    then_free (tenant_bucket bucket s) _ (ok_or_free _ NoSuchBucket refl)
+operated_free now body (op.PutObject object checksum) s =
+    then_free (tenant_bucket object.bucket s) _ (ok_or_free _ NoSuchBucket refl)
     (λ f. then_free (after_entry f.1.mode (counts f.0)) _ (numbers_free f.1.mode (counts f.0)) (λ c. tt))
-operated_free now body (GetObject bucket key) s = plain_free (get_object bucket key Current s) (got_free bucket key s)
+operated_free now body (op.GetObject object version range) s = plain_free (get_object object.bucket object.key Current s) (got_free object.bucket object.key s)
+operated_free now body op.ListBuckets s = refl
+operated_free now body op.Usage s = refl
+operated_free now body (op.HeadBucket bucket) s = refl
+operated_free now body (op.DeleteBucket bucket) s = refl
+operated_free now body (op.ListObjectsV2 bucket page token) s = refl
+operated_free now body (op.ListObjectVersions bucket page after) s = refl
+operated_free now body (op.ListMultipartUploads bucket page after) s = refl
+operated_free now body (op.GetBucketVersioning bucket) s = refl
+operated_free now body (op.PutBucketVersioning bucket) s = refl
+operated_free now body (op.GetLifecycle bucket) s = refl
+operated_free now body (op.PutLifecycle bucket) s = refl
+operated_free now body (op.DeleteLifecycle bucket) s = refl
+operated_free now body (op.CopyObject object source) s = refl
+operated_free now body (op.HeadObject object version) s = refl
+operated_free now body (op.DeleteObject object version) s = refl
+operated_free now body (op.CreateMultipartUpload object) s = refl
+operated_free now body (op.UploadPart object upload number checksum) s = refl
+operated_free now body (op.ListParts object upload page) s = refl
+operated_free now body (op.CompleteMultipartUpload object upload) s = refl
+operated_free now body (op.AbortMultipartUpload object upload) s = refl
 
 requested_free : (now : ℕ) (request : Taken) (s : Option State) → Free (requested now request s)
 requested_free now request s =
     then_free (credentials request) _ (both_free (access_key request) (secret_key request))
     (λ pair. then_free (authenticate pair.0 pair.1 s) _ (authentic_free pair.0 pair.1 s)
-    (λ _. then_free (narrow_operation request) _ (asked_free request.method (place_of request.target))
-    (λ operation. operated_free now request.body operation s)))
+    (λ _. then_free (ok_or (owner request) InvalidAccessKeyId) _ (ok_or_free (owner request) InvalidAccessKeyId refl)
+    (λ caller. then_free (operation caller request) _ (operation_free caller request)
+    (λ asked_for. operated_free now request.body asked_for s))))
 
 -- ---- bytes that are no request
 

@@ -1,27 +1,30 @@
 -- The reply to an event with a stamp is no fixed text.
-use Rattle.std.proofs.Common.{◌≡◌, ◌≢◌, ℕ, Bool, true, false, Option, Some, None, Ok, Err, Result, refl, sym, ◌∙◌, ap, rules}
+use Rattle.std.proofs.Common.{◌≡◌, ◌≢◌, ℕ, Bool, true, false, Option, Some, None, [], Ok, Err, Result, refl, sym, ◌∙◌, ap, rules}
 use Rattle.std.specs.Fmt.{digits}
-use Rattle.bh_docs.specs.Documents.{error_text}
 use Rattle.bh_event.specs.Events.{Order, AddTenant, AddKey, RemoveKey, Content, Requested, Ordered}
 use Rattle.bh_http.specs.Views.{Taken}
 use Rattle.bh_model.specs.Operations.{Answer}
 use Rattle.bh_model.specs.State.{Octets, State}
 use Rattle.bh_tables.specs.Typed.{Tables}
 use Rattle.bh_types.specs.Limits.{HostLimits}
-use Rattle.bh_types.specs.Refusals.{code_of}
 use Rattle.bh_types.specs.declared.refusal.Refusal.{Refusal}
 use Rattle.bh_view.specs.View.{view}
 use Rattle.bh_host.specs.Machine.{Act, Asked, Told, owner_of, step}
-use Rattle.bh_host.specs.Replies.{text, path_in, caller_of, clock_text, wanting_text}
+use Rattle.bh_host.specs.Replies.{text, response_to, document_for, allow_for, refusal_to, body_for, caller_of, clock_text, wanting_text}
 use Rattle.bh_host.specs.Turns.{Turned, Turns}
 use Rattle.bh_host.specs.declared.reply.Caller.TheVariants.{Request, Operator}
 use Rattle.bh_host.proofs.Apart.{is_fixed_response, is_fixed_line, answer_apart, refused_apart, line_apart}
-use Rattle.bh_host.proofs.Reserved.{Free, step_free}
+use Rattle.bh_host.proofs.Free.{Free}
+use Rattle.bh_host.proofs.Reserved.{step_free}
 
 answered_apart : (answer : Result Taken Refusal) (o : Result Answer Refusal) → Free o → is_fixed_response (text (Asked answer) o) ≡ false
 unfolding text
-answered_apart answer (Ok a) free = answer_apart a
-answered_apart answer (Err refusal) free = refused_apart refusal (error_text (code_of refusal) (path_in answer)) free
+answered_apart (Ok request) (Ok a) free = answer_apart a (body_for request.method (response_to a).body)
+answered_apart (Ok request) (Err refusal) free =
+    let sent = refusal_to request.target refusal in
+    refused_apart refusal (document_for request.target refusal) (allow_for request.target refusal) (body_for request.method sent.body) free
+answered_apart (Err unread) (Ok a) free = answer_apart a (response_to a).body
+answered_apart (Err unread) (Err refusal) free = refused_apart refusal (document_for [] refusal) (allow_for [] refusal) (refusal_to [] refusal).body free
 
 ordered_apart : (order : Order) (o : Result Answer Refusal) → Free o → is_fixed_line (text (Told order) o) ≡ false
 unfolding text

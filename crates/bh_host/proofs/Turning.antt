@@ -9,7 +9,7 @@ use Rattle.bh_http.specs.Credentials.{owner}
 use Rattle.bh_http.specs.Reading.{Reads, ReadsError}
 use Rattle.bh_http.specs.Responses.{refusal_text}
 use Rattle.bh_http.specs.Views.{Taken}
-use Rattle.bh_model.specs.Credentials.{tenant_named}
+use Rattle.bh_types.specs.AccessKeys.{tenant_named}
 use Rattle.bh_model.specs.Operations.{Outcome}
 use Rattle.bh_model.specs.Runs.{settled}
 use Rattle.bh_model.specs.State.{Octets, State}

@@ -1,17 +1,21 @@
 -- The private machine of a host: what an event turns out to be, whose it is, and what it makes of its owner's state.
-use Rattle.std.specs.Prelude.{◌≡◌, ℕ, Option, None, Result, Ok, Err}
+use Rattle.std.specs.Prelude.{◌≡◌, ℕ, Option, None, ok_or, Result, Ok, Err}
 use Rattle.bh_types.specs.Limits.{HostLimits}
 use Rattle.bh_types.specs.declared.refusal.Refusal.{Refusal}
+use Rattle.bh_types.specs.declared.refusal.Refusal.TheVariants.{InvalidAccessKeyId, NotImplemented}
 use Rattle.bh_event.specs.Events.{Order, AddTenant, AddKey, RemoveKey, Content, Requested, Ordered}
 use Rattle.bh_http.specs.Credentials.{owner, credentials}
-use Rattle.bh_http.specs.Narrow.{Operation, CreateBucket, PutObject, GetObject, narrow_operation}
 use Rattle.bh_http.specs.Reading.{Reads}
 use Rattle.bh_http.specs.Views.{Taken}
-use Rattle.bh_model.specs.Credentials.{authenticate, tenant_named}
+use Rattle.bh_types.specs.AccessKeys.{tenant_named}
+use Rattle.bh_model.specs.Credentials.{authenticate}
 use Rattle.bh_model.specs.Operations.{Answer, Outcome, add_tenant, add_key, remove_key, create_bucket, put_object}
 use Rattle.bh_model.specs.Runs as runs
 use Rattle.bh_model.specs.State.{Octets, State}
-use Rattle.bh_model.specs.Steps.{◌>>=◌}
+use Rattle.bh_types.specs.Outcomes.{◌>>=◌}
+use Rattle.bh_operation.specs.Operations.{operation}
+use Rattle.bh_operation.specs.declared.operation.Operation.{Operation}
+use Rattle.bh_operation.specs.declared.operation.Operation.TheVariants.{CreateBucket, PutObject, GetObject}
 use Rattle.bh_storage.specs.Calls.{get_current}
 
 -- what an event turns out to be: a request, or its first refusal, as its bytes are read; or an operator's order
@@ -38,19 +42,22 @@ abbrev pub owner_of : Act → Option Octets
 owner_of (Asked answer) = asker answer
 owner_of (Told order) = tenant_named (tenant_of order)
 
--- an operation at a moment
-abbrev pub operated : ℕ → Octets → Operation → Option State → Result Outcome Refusal
+-- an operation at a moment; those that the host doesn't carry out yet are refused. A version id, a range and a checksum
+-- are read, and not yet looked at here
+unfoldable pub operated : ℕ → Octets → Operation → Option State → Result Outcome Refusal
 operated now body (CreateBucket bucket) s = create_bucket now bucket s
-operated now body (PutObject bucket key) s = put_object now bucket key body None s
-operated now body (GetObject bucket key) s = get_current bucket key s
+operated now body (PutObject object checksum) s = put_object now object.bucket object.key body None s
+operated now body (GetObject object version range) s = get_current object.bucket object.key s
+operated now body other s = Err NotImplemented
 
--- a request: its credentials, its target, and then what it asks for
+-- a request: its credentials, what it asks for by its target and names, and then what comes of that
 abbrev pub requested : ℕ → Taken → Option State → Result Outcome Refusal
 requested now request s = do
   pair ← credentials request
   _ ← authenticate pair.0 pair.1 s
-  operation ← narrow_operation request
-  operated now request.body operation s
+  caller ← ok_or (owner request) InvalidAccessKeyId
+  asked_for ← operation caller request
+  operated now request.body asked_for s
 
 abbrev pub asked : ℕ → Result Taken Refusal → Option State → Result Outcome Refusal
 asked now (Ok request) s = requested now request s

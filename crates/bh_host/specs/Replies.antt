@@ -1,32 +1,28 @@
 -- The bytes that an act is answered with.
-use Rattle.std.specs.Prelude.{ℕ, ◌==◌, Bool, true, [], ◌++◌, length, codes, take, position, unwrap_or, Some, Result, Ok, Err}
+use Rattle.std.specs.Prelude.{true, [], ◌++◌, length, codes, if◌then◌else◌, Option, Some, None, Result, Ok, Err}
+use Rattle.std.specs.Str.{bytes_eq}
 use Rattle.std.specs.Str.Lossy.{utf8_lossy}
 use Rattle.bh_docs.specs.Documents.{error_text}
 use Rattle.bh_event.specs.Events.{Order, AddTenant, AddKey, RemoveKey, Content, Requested, Ordered}
 use Rattle.bh_http.specs.Answers.{bare, empty, refused, bare_refusal}
 use Rattle.bh_http.specs.Responses.{Sent, response_text, refusal_text}
 use Rattle.bh_http.specs.Views.{Taken}
+use Rattle.bh_http.specs.declared.values.Allow.{Allow}
 use Rattle.bh_http.specs.declared.values.ContentType.TheVariants.{OctetStream}
 use Rattle.bh_model.specs.Operations.{Answer, Done, Stored, Object}
 use Rattle.bh_model.specs.State.{Octets}
+use Rattle.bh_operation.specs.Allowed.{allow_of}
+use Rattle.bh_operation.specs.Targets.{path_of}
 use Rattle.bh_types.specs.Refusals.{code_of}
 use Rattle.bh_types.specs.declared.refusal.Refusal.{Refusal}
-use Rattle.bh_types.specs.declared.refusal.Refusal.TheVariants.{ClockOutOfRange, ServiceUnavailable, Unavailable}
+use Rattle.bh_types.specs.declared.refusal.Refusal.TheVariants.{MethodNotAllowed, ClockOutOfRange, ServiceUnavailable, Unavailable}
 use Rattle.bh_host.specs.Machine.{Act, Asked, Told}
 use Rattle.bh_host.specs.declared.reply.Caller.{Caller}
 use Rattle.bh_host.specs.declared.reply.Caller.TheVariants.{Request, Operator}
 use Rattle.bh_host.specs.declared.reply.Reply.{Reply}
 use Rattle.bh_host.specs.declared.reply.Reply.TheVariants as reply
 
--- 63 is '?'
-abbrev pub is_question : ℕ → Bool
-is_question b = b == 63
-
--- the path of a target, as it was sent
-abbrev pub path_of : Octets → Octets
-path_of target = take (unwrap_or (position is_question target) (length target)) target
-
--- the text of bytes, which is these bytes where they are UTF-8, as a target's are
+-- the path of a target as it was sent; bytes that are no UTF-8 are shown as U+FFFD
 abbrev pub shown_path : Octets → Octets
 shown_path target = utf8_lossy (path_of target)
 
@@ -43,15 +39,34 @@ response_to (Object id bytes checksum) = record (bare 200) {
   body = bytes;
 }
 
--- the response to a request with this path: a refusal's document names it
-abbrev pub response : Octets → Result Answer Refusal → Sent
-response path (Ok answer) = response_to answer
-response path (Err refusal) = refused refusal (error_text (code_of refusal) path)
+-- the methods that a target takes are told where the method was at fault
+abbrev pub allow_for : Octets → Refusal → Option Allow
+allow_for target MethodNotAllowed = allow_of target
+allow_for target refusal = None
 
--- the path that a refusal names; bytes that are no request have a refusal without a document
-abbrev pub path_in : Result Taken Refusal → Octets
-path_in (Ok request) = shown_path request.target
-path_in (Err refusal) = shown_path []
+-- the document of a refusal names the target's path
+abbrev pub document_for : Octets → Refusal → Octets
+document_for target refusal = error_text (code_of refusal) (shown_path target)
+
+-- the response that refuses a request with this target
+abbrev pub refusal_to : Octets → Refusal → Sent
+refusal_to target refusal = record (refused refusal (document_for target refusal)) { allow = allow_for target refusal }
+
+abbrev pub response : Octets → Result Answer Refusal → Sent
+response target (Ok answer) = response_to answer
+response target (Err refusal) = refusal_to target refusal
+
+-- HEAD is answered with the head of the response alone (RFC 9110, section 9.3.2)
+abbrev pub body_for : Octets → Octets → Octets
+body_for method body = if bytes_eq method (codes "HEAD") then [] else body
+
+abbrev pub sent_for : Octets → Sent → Sent
+sent_for method sent = record sent { body = body_for method sent.body }
+
+-- the response to a request, or to bytes that are none
+abbrev pub asked_text : Result Taken Refusal → Result Answer Refusal → Octets
+asked_text (Ok request) outcome = response_text (sent_for request.method (response request.target outcome))
+asked_text (Err refusal) outcome = response_text (response [] outcome)
 
 -- the line that tells what an order did
 abbrev pub line_of : Order → Octets
@@ -65,7 +80,7 @@ line order (Err refusal) = refusal_text refusal
 
 -- the bytes that an act's outcome is told in
 unfoldable pub text : Act → Result Answer Refusal → Octets
-text (Asked answer) outcome = response_text (response (path_in answer) outcome)
+text (Asked answer) outcome = asked_text answer outcome
 text (Told order) outcome = line order outcome
 
 -- who asks: a request, or an operator

@@ -2,7 +2,7 @@ ghost use Rattle.std.specs.Prelude.{◌≡◌, ◌⊎◌, ◌<◌, ◌≤◌, �
 ghost use Rattle.bh_event.specs.Events.{arrival, order_of};
 ghost use Rattle.bh_http.specs.Credentials.{owner};
 ghost use Rattle.bh_http.specs.Views.{view as request_view};
-ghost use Rattle.bh_model.specs.Credentials as credentials;
+ghost use Rattle.bh_types.specs.AccessKeys as keys;
 ghost use Rattle.bh_model.specs.Runs.{last_reading};
 ghost use Rattle.bh_storage.specs.Calls.{Within, IsAtRest, IsWorking, IsSettled};
 ghost use Rattle.bh_tables.specs.Typed.{Tables};
@@ -118,7 +118,7 @@ fn owner_of_command(alloc: Global, command: &Command) -> Result<Option<TenantNam
 }
 
 fn tenant_named(alloc: Global, text: &str) -> Result<Option<TenantName>, AllocError>
-    ensures { IfOk result (λ tenant. tenant ≡ credentials.tenant_named text.now) }
+    ensures { IfOk result (λ tenant. tenant ≡ keys.tenant_named text.now) }
 {
     TenantName::read(alloc, text)
 }

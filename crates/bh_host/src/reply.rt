@@ -1,11 +1,9 @@
-ghost use Rattle.std.specs.Prelude.{◌≡◌, ◌<◌, Ok, Err, IfOk, IfSome, position, length};
-ghost use Rattle.bh_docs.specs.Documents.{error_text};
+ghost use Rattle.std.specs.Prelude.{◌≡◌, Ok, Err, IfOk};
 ghost use Rattle.bh_event.specs.Events.{order_of};
-ghost use Rattle.bh_http.specs.Answers.{refused, response_view};
+ghost use Rattle.bh_http.specs.Answers.{response_view};
 ghost use Rattle.bh_http.specs.Responses.{response_text, refusal_text};
 ghost use Rattle.bh_http.specs.Views.{view as request_view};
 ghost use Rattle.bh_model.specs.Operations.{Done};
-ghost use Rattle.bh_types.specs.Refusals.{code_of};
 ghost use Rattle.std.specs.String.{string_bytes};
 ghost use Rattle.bh_host.specs.Answers.{answer_view};
 ghost use Rattle.bh_host.specs.Machine.{Asked, Told};
@@ -19,7 +17,9 @@ use bh_http::encode::response_bytes;
 use bh_http::fixed::{clock_out_of_range, service_unavailable};
 use bh_http::request::Request;
 use bh_http::response::Response;
-use bh_http::values::ContentType;
+use bh_http::values::{Allow, ContentType};
+use bh_operation::allow::allow_of;
+use bh_operation::path_of;
 use bh_storage::error::{StepError, Trouble};
 use bh_types::refusal::Refusal;
 use http::StatusCode;
@@ -84,13 +84,14 @@ pub fn request_text(
     ensures { IfOk result (λ bytes. Tells answer_view (Asked (Ok (request_view request.now))) outcome bytes.items) }
 {
     match outcome {
-        Ok(answer) => Ok(answer_text(alloc, answer)?),
-        Err(StepError::Refused(refusal)) => { Ok(refused_request_text(alloc, request, refusal)?) }
+        Ok(answer) => Ok(answer_text(alloc, request, answer)?),
+        Err(StepError::Refused(refusal)) => Ok(refused_request_text(alloc, request, refusal)?),
         Err(StepError::Failed(trouble)) => Err(trouble),
     }
 }
 
 /// The response that refuses a request.
+#[tactic(auto, unfolding(crate::specs::Replies::text))]
 pub fn refused_request_text(
     alloc: Global,
     request: &Request,
@@ -98,14 +99,36 @@ pub fn refused_request_text(
 ) -> Result<Vec<u8>, AllocError>
     ensures { IfOk result (λ bytes. bytes.items ≡ spec.text (Asked (Ok (request_view request.now))) (Err refusal)) }
 {
-    refused_text(alloc, request.target.as_slice(), refusal)
+    let response = refusal_to(alloc, request.target.as_slice(), refusal)?;
+    sent_text(alloc, request.method.as_str(), response)
 }
 
-fn answer_text(alloc: Global, answer: Answer) -> Result<Vec<u8>, AllocError>
-    ensures { IfOk result (λ bytes. bytes.items ≡ response_text (spec.response_to (answer_view answer))) }
+#[tactic(auto, unfolding(crate::specs::Replies::text))]
+fn answer_text(alloc: Global, request: &Request, answer: Answer) -> Result<Vec<u8>, AllocError>
+    ensures { IfOk result (λ bytes. bytes.items ≡ spec.text (Asked (Ok (request_view request.now))) (Ok (answer_view answer))) }
 {
-    let response = response_to(alloc, answer);
-    response_bytes(alloc, &response)
+    sent_text(alloc, request.method.as_str(), response_to(alloc, answer))
+}
+
+/// The bytes of a response to a request of this method.
+fn sent_text(alloc: Global, method: &str, response: Response) -> Result<Vec<u8>, AllocError>
+    ensures { IfOk result (λ bytes. bytes.items ≡ response_text (spec.sent_for method.now (response_view response))) }
+{
+    let sent = sent_for(alloc, method, response);
+    response_bytes(alloc, &sent)
+}
+
+/// The response to this method: HEAD is answered with the head alone (RFC 9110, section 9.3.2).
+fn sent_for(alloc: Global, method: &str, response: Response) -> Response
+    ensures { response_view result ≡ spec.sent_for method.now (response_view response) }
+{
+    if method == "HEAD" {
+        let mut head = response;
+        head.body = Vec::new(alloc);
+        head
+    } else {
+        response
+    }
 }
 
 fn response_to(alloc: Global, answer: Answer) -> Response
@@ -133,13 +156,24 @@ fn response_to(alloc: Global, answer: Answer) -> Response
 }
 
 /// The response that refuses a request with this target.
-fn refused_text(alloc: Global, target: &[u8], refusal: Refusal) -> Result<Vec<u8>, AllocError>
-    ensures { IfOk result (λ bytes. bytes.items ≡ response_text (refused refusal (error_text (code_of refusal) (spec.shown_path target.now)))) }
+fn refusal_to(alloc: Global, target: &[u8], refusal: Refusal) -> Result<Response, AllocError>
+    ensures { IfOk result (λ response. response_view response ≡ spec.refusal_to target.now refusal) }
 {
     let path = String::from_utf8_lossy(alloc, path_of(target))?;
     let document = error_document(alloc, refusal.code(), path.as_str())?;
-    let response = Response::refused(alloc, refusal, document.into_bytes());
-    response_bytes(alloc, &response)
+    let mut response = Response::refused(alloc, refusal, document.into_bytes());
+    response.allow = allow_for(alloc, target, refusal)?;
+    Ok(response)
+}
+
+/// The methods to tell of with a refusal of this target.
+fn allow_for(alloc: Global, target: &[u8], refusal: Refusal) -> Result<Option<Allow>, AllocError>
+    ensures { IfOk result (λ allow. allow ≡ spec.allow_for target.now refusal) }
+{
+    match refusal {
+        Refusal::MethodNotAllowed => allow_of(alloc, target),
+        _ => Ok(None),
+    }
 }
 
 /// The response that refuses bytes that are no request.
@@ -147,23 +181,8 @@ fn refused_text(alloc: Global, target: &[u8], refusal: Refusal) -> Result<Vec<u8
 pub fn unread_text(alloc: Global, refusal: Refusal) -> Result<Vec<u8>, AllocError>
     ensures { IfOk result (λ bytes. bytes.items ≡ spec.text (Asked (Err refusal)) (Err refusal)) }
 {
-    refused_text(alloc, b"", refusal)
-}
-
-fn path_of(target: &[u8]) -> &[u8]
-    ensures { result.now ≡ spec.path_of target.now }
-{
-    match question_at(target) {
-        Some(at) => &target[..at],
-        None => target,
-    }
-}
-
-fn question_at(target: &[u8]) -> Option<usize>
-    ensures place { result ≡ position spec.is_question target.now }
-    ensures within { IfSome result (λ at. at < length target.now) }
-{
-    target.iter().position(|b| *b == b'?')
+    let response = refusal_to(alloc, b"", refusal)?;
+    response_bytes(alloc, &response)
 }
 
 /// The line that tells an operator what a command did, or its refusal.

@@ -1,6 +1,6 @@
 -- Whose request it is, and the credentials that it carries.
-use Rattle.std.specs.Prelude.{ℕ, Bool, ◌==◌, List, take, codes, position, if◌then◌else◌, Option, Some, None, option_and_then, Result, Ok, Err}
-use Rattle.bh_types.specs.Names.{is_tenant_name}
+use Rattle.std.specs.Prelude.{ℕ, List, codes, Option, None, Result, Ok, Err}
+use Rattle.bh_types.specs.AccessKeys.{tenant_of_key}
 use Rattle.bh_types.specs.declared.refusal.Refusal.{Refusal}
 use Rattle.bh_types.specs.declared.refusal.Refusal.TheVariants.{AccessDenied}
 use Rattle.bh_http.specs.Fields.{Standing, Missing, Once, Repeated, field_named}
@@ -25,19 +25,8 @@ both Repeated secret = Err AccessDenied
 abbrev pub credentials : Taken → Result (List ℕ × List ℕ) Refusal
 credentials request = both (access_key request) (secret_key request)
 
--- 36 is '$'
-abbrev pub is_dollar : ℕ → Bool
-is_dollar b = b == 36
-
-abbrev pub tenant_named : List ℕ → Option (List ℕ)
-tenant_named name = if is_tenant_name name then Some name else None
-
--- the tenant of an access key's id: the name before its first `$`
-abbrev pub tenant_of : List ℕ → Option (List ℕ)
-tenant_of id = option_and_then (λ at. tenant_named (take at id)) (position is_dollar id)
-
 abbrev pub tenant_in : Standing → Option (List ℕ)
-tenant_in (Once id) = tenant_of id
+tenant_in (Once id) = tenant_of_key id
 tenant_in Missing = None
 tenant_in Repeated = None
 

@@ -3,8 +3,6 @@ pub mod Credentials
 pub mod Fields
 pub mod HeadSpans
 pub mod Lines
-pub mod Narrow
-pub mod Places
 pub mod Reading
 pub mod Responses
 pub mod Values

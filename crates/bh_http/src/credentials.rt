@@ -1,4 +1,5 @@
 ghost use Rattle.std.specs.Prelude.{◌≡◌, IfOk, IfErr, Ok, Err, position};
+ghost use Rattle.bh_types.specs.AccessKeys as keys;
 ghost use Rattle.bh_http.specs.Credentials as spec;
 ghost use Rattle.bh_http.specs.Views.{view};
 
@@ -47,7 +48,7 @@ pub fn owner_of(alloc: Global, request: &Request) -> Result<Option<TenantName>, 
 
 /// The tenant of an access key's id.
 fn tenant_of(alloc: Global, id: &[u8]) -> Result<Option<TenantName>, AllocError>
-    ensures { IfOk result (λ tenant. tenant ≡ spec.tenant_of id.now) }
+    ensures { IfOk result (λ tenant. tenant ≡ keys.tenant_of_key id.now) }
 {
     match dollar_at(id) {
         Some(at) => tenant_named(alloc, &id[..at]),
@@ -56,13 +57,13 @@ fn tenant_of(alloc: Global, id: &[u8]) -> Result<Option<TenantName>, AllocError>
 }
 
 fn dollar_at(id: &[u8]) -> Option<usize>
-    ensures { result ≡ position spec.is_dollar id.now }
+    ensures { result ≡ position keys.is_dollar id.now }
 {
     id.iter().position(|b| *b == b'$')
 }
 
 fn tenant_named(alloc: Global, name: &[u8]) -> Result<Option<TenantName>, AllocError>
-    ensures { IfOk result (λ tenant. tenant ≡ spec.tenant_named name.now) }
+    ensures { IfOk result (λ tenant. tenant ≡ keys.tenant_named name.now) }
 {
     match text_of(name) {
         Some(text) => TenantName::read(alloc, text),

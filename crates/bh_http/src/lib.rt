@@ -1,5 +1,5 @@
 //! HTTP/1.1 as the host speaks it: a request's bytes to the request or its refusal, whose request
-//! it is and what it asks for, and a response to its bytes.
+//! it is, and a response to its bytes.
 #![tactic(auto)]
 
 pub mod credentials;
@@ -8,7 +8,6 @@ pub mod fields;
 pub mod fixed;
 mod framing;
 mod head;
-pub mod narrow;
 pub mod read;
 pub mod request;
 pub mod response;

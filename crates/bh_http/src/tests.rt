@@ -1,9 +1,7 @@
 use crate::credentials::{credentials_of, owner_of};
 use crate::encode::response_bytes;
 use crate::fixed::{clock_out_of_range, service_unavailable};
-use crate::narrow::{NarrowOperation, narrow_operation_of};
 use crate::read::read_request;
-use crate::request::Request;
 use crate::response::Response;
 use crate::values::{Allow, ContentRange, ContentType};
 use bh_types::error::RequestError;
@@ -11,7 +9,7 @@ use bh_types::id::VersionId;
 use bh_types::limits::Limits;
 use bh_types::moment::Moment;
 use bh_types::refusal::Refusal;
-use http::{Method, StatusCode};
+use http::StatusCode;
 use std::alloc::{AllocError, Global};
 use std::test::Fail;
 
@@ -157,62 +155,6 @@ fn refuses_in_order(rt: HostRuntime) -> Result<(), Fail> {
             expected,
             "{bytes}"
         );
-    }
-    Ok(())
-}
-
-/// The tenant and the bucket and key of a target, as text.
-fn operation_text(alloc: Global, method: Method, target: &str) -> Result<String, RequestError> {
-    let request = Request {
-        method,
-        target: Vec::from_slice(alloc, target.as_bytes())?,
-        fields: Vec::new(alloc),
-        body: Vec::new(alloc),
-    };
-    let text = match narrow_operation_of(alloc, &request)? {
-        NarrowOperation::CreateBucket(bucket) => format!(in alloc; "create {}", bucket.as_str())?,
-        NarrowOperation::PutObject(bucket, key) => format!(in alloc;
-            "put {} {}",
-            bucket.as_str(),
-            key.as_str()
-        )?,
-        NarrowOperation::GetObject(bucket, key) => format!(in alloc;
-            "get {} {}",
-            bucket.as_str(),
-            key.as_str()
-        )?,
-    };
-    Ok(text)
-}
-
-#[test]
-fn names_operations(rt: HostRuntime) -> Result<(), Fail> {
-    let table = [
-        (Method::PUT, "/plans", "create plans"),
-        (Method::PUT, "/plans/x", "put plans x"),
-        (Method::GET, "/plans//a/", "get plans /a/"),
-    ];
-    for (method, target, expected) in table {
-        assert_eq!(rt;
-            operation_text(rt.alloc(), method, target)?.as_str(),
-            expected
-        );
-    }
-    for (method, target) in [
-        (Method::GET, "/plans"),
-        (Method::PUT, "/plans/"),
-        (Method::PUT, "/pl"),
-        (Method::GET, "/plans/%41"),
-        (Method::GET, "/plans/x?y"),
-        (Method::HEAD, "/plans/x"),
-        (Method::PUT, "*"),
-    ] {
-        let refusal = match operation_text(rt.alloc(), method, target) {
-            Ok(_) => None,
-            Err(RequestError::Refused(refusal)) => Some(refusal),
-            Err(RequestError::OutOfMemory) => return Err(Fail::from(AllocError)),
-        };
-        assert_eq!(rt; refusal, Some(Refusal::NotImplemented), "{target}");
     }
     Ok(())
 }

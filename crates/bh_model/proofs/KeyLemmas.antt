@@ -11,9 +11,10 @@ use Rattle.std.specs.FinMap.{FinMap, get, insert, remove, get-insert, get-remove
 use Rattle.bh_types.specs.Names.{is_name_byte, is_tenant_name, is_key_name, is_secret}
 use Rattle.bh_types.specs.declared.refusal.Refusal.{Refusal}
 use Rattle.bh_types.specs.declared.refusal.Refusal.TheVariants.{AccessDenied, InvalidAccessKeyId, InvalidName, KeyExists, NoSuchKeyName}
-use Rattle.bh_model.specs.Steps.{◌>>=◌, require}
+use Rattle.bh_types.specs.Outcomes.{◌>>=◌, require}
 use Rattle.bh_model.specs.State.{Octets, octets_cmp, State}
-use Rattle.bh_model.specs.Credentials.{is_dollar, key_name, key_name_of, tenant_named, owner_of_key, secret_of, authenticate}
+use Rattle.bh_types.specs.AccessKeys.{is_dollar, tenant_named, tenant_of_key}
+use Rattle.bh_model.specs.Credentials.{key_name, key_name_of, secret_of, authenticate}
 use Rattle.bh_model.specs.Laws.{key_id, AddedKeyOpens, RemovedKeyIsUnknown}
 
 first : (a b : Bool) → a && b ≡ true → a ≡ true
@@ -49,7 +50,7 @@ drop_past [] y ys = refl
 drop_past (x ∷ xs) y ys = ap (λ n. drop n (x ∷ xs ++ y ∷ ys)) (let e : length (x ∷ xs) + 1 ≡ suc (length xs + 1) = omega arith in e) ∙ drop_past xs y ys
 
 module _ (tenant name : List ℕ) (is_tenant : is_tenant_name tenant ≡ true) where
-  owner-key_id : owner_of_key (key_id tenant name) ≡ Some tenant
+  owner-key_id : tenant_of_key (key_id tenant name) ≡ Some tenant
   owner-key_id =
       ap (option_and_then (λ i. tenant_named (take i (key_id tenant name)))) (dollar_at tenant name (second _ _ is_tenant))
       ∙ ap tenant_named (take-append_seam tenant (36 ∷ name)) ∙ ap (λ t. cond t (Some tenant) None) is_tenant

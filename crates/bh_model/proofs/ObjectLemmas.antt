@@ -8,8 +8,8 @@ use Rattle.bh_types.specs.declared.refusal.Refusal.{Refusal}
 use Rattle.bh_model.specs.declared.entries.LookupFault.{LookupFault}
 use Rattle.bh_types.specs.declared.refusal.Refusal.TheVariants.{NoSuchBucket, BadDigest, CounterExhausted}
 use Rattle.bh_model.specs.State.{Octets, Content.Body, Entry, Bucket, State}
-use Rattle.bh_model.specs.Steps.{◌>>=◌, require}
-use Rattle.bh_model.specs.Checksums.{checksum_text}
+use Rattle.bh_types.specs.Outcomes.{◌>>=◌, require}
+use Rattle.bh_types.specs.Checksums.{checksum_text}
 use Rattle.bh_model.specs.Counting.{counts, with_counts, can_number, numbered, after_entry}
 use Rattle.bh_model.specs.Entries.{added, new_id, found_current, lookup}
 use Rattle.bh_model.specs.Parts.{is_checksum}

@@ -10,9 +10,9 @@ use Rattle.bh_types.specs.declared.error.RequestError.{RequestError}
 use Rattle.bh_types.specs.declared.error.RequestError.TheVariants.{Refused, OutOfMemory}
 use Rattle.bh_types.specs.Outcomes.{Fails}
 use Rattle.bh_model.specs.State.{Part}
-use Rattle.bh_model.specs.Steps.{◌>>=◌}
+use Rattle.bh_types.specs.Outcomes.{◌>>=◌}
 use Rattle.bh_model.specs.Parts.{Naming, choice, chosen, are_large}
-use Rattle.bh_model.specs.Checksums.{checksum_text, joined_text}
+use Rattle.bh_types.specs.Checksums.{checksum_text, joined_text}
 use Rattle.sha2.specs.Sha256.{sha256}
 use Rattle.bh_types.specs.declared.plain.Named.{Named}
 use Rattle.std.proofs.Math.Seq.{take-suc}

@@ -1,24 +1,12 @@
--- Whose request it is, and whether it may be made. The id of an access key is `tenant$name`.
-use Rattle.std.specs.Prelude.{ℕ, ◌+◌, Bool, ◌&&◌, ◌==◌, take, drop, position, Option, Some, None, option_and_then, ok_or, Result, bytes_eq, if◌then◌else◌}
+-- Whether a request may be made. The id of an access key is `tenant$name`.
+use Rattle.std.specs.Prelude.{◌+◌, ◌&&◌, take, drop, position, Option, Some, None, option_and_then, ok_or, Result, bytes_eq, if◌then◌else◌}
 use Rattle.std.specs.FinMap.{get}
+use Rattle.bh_types.specs.AccessKeys.{is_dollar}
 use Rattle.bh_types.specs.Names.{is_tenant_name, is_key_name}
 use Rattle.bh_types.specs.declared.refusal.Refusal.{Refusal}
 use Rattle.bh_types.specs.declared.refusal.Refusal.TheVariants.{AccessDenied, InvalidAccessKeyId}
 use Rattle.bh_model.specs.State.{Octets, State}
-use Rattle.bh_model.specs.Steps.{◌>>=◌, require}
-
--- 36 is '$'
-abbrev pub is_dollar : ℕ → Bool
-is_dollar b = b == 36
-
--- a text, if it is a tenant's name: so of a command, the tenant that it belongs to
-abbrev pub tenant_named : Octets → Option Octets
-tenant_named text = if is_tenant_name text then Some text else None
-
--- the tenant that a request with this access key belongs to: the name before the first '$'. It need not
--- have been added, nor need the key be there
-abbrev pub owner_of_key : Octets → Option Octets
-owner_of_key id = option_and_then (λ i. tenant_named (take i id)) (position is_dollar id)
+use Rattle.bh_types.specs.Outcomes.{◌>>=◌, require}
 
 -- the name of the key, where an id has the form
 abbrev pub key_name : Octets → Octets → Option Octets

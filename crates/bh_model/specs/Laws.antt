@@ -11,8 +11,9 @@ use Rattle.bh_types.specs.declared.refusal.Refusal.TheVariants.{NoSuchVersion, A
 use Rattle.bh_model.specs.State.{Octets, Content.Body, Entry, State, purged}
 use Rattle.bh_model.specs.Counting.{counts, AtMost}
 use Rattle.bh_model.specs.Entries.{Version, has_id, is_version, without, new_id, added, deleted, lookup, not_found}
-use Rattle.bh_model.specs.Checksums.{checksum_text}
-use Rattle.bh_model.specs.Credentials.{owner_of_key, authenticate}
+use Rattle.bh_types.specs.Checksums.{checksum_text}
+use Rattle.bh_types.specs.AccessKeys.{tenant_of_key}
+use Rattle.bh_model.specs.Credentials.{authenticate}
 use Rattle.bh_model.specs.Operations.{Answer.Stored, Answer.Object, add_tenant, add_key, remove_key, create_bucket, put_object, get_object}
 use Rattle.bh_model.specs.Runs.{solo, solo_state, step, Follows}
 
@@ -59,7 +60,7 @@ key_id tenant name = tenant ++ 36 ∷ name
 abbrev pub AddedKeyOpens : Type 0
 AddedKeyOpens = (tenant name secret : Octets) (s : Option State)
     → IfOk (add_key tenant name secret s) (λ added.
-    (owner_of_key (key_id tenant name) ≡ Some tenant)
+    (tenant_of_key (key_id tenant name) ≡ Some tenant)
     × (authenticate (key_id tenant name) secret added.1 ≡ Ok tt)
     × ((other : Octets) → other ≢ secret → authenticate (key_id tenant name) other added.1 ≡ Err AccessDenied))
 

@@ -1,7 +1,5 @@
 pub mod FinMaps
 pub mod State
-pub mod Checksums
-pub mod Steps
 pub mod Counting
 pub mod Entries
 pub mod Parts

@@ -13,8 +13,8 @@ use Rattle.bh_types.specs.declared.refusal.Refusal.TheVariants.{NoSuchBucket, Bu
 use Rattle.bh_model.specs.declared.entries.LookupFault.{LookupFault}
 use Rattle.bh_model.specs.FinMaps.{set_at, non_empty}
 use Rattle.bh_model.specs.State.{Octets, Content.Body, Entry, Bucket, State, new_tenant, new_bucket}
-use Rattle.bh_model.specs.Checksums.{checksum_text}
-use Rattle.bh_model.specs.Steps.{◌>>=◌, require}
+use Rattle.bh_types.specs.Checksums.{checksum_text}
+use Rattle.bh_types.specs.Outcomes.{◌>>=◌, require}
 use Rattle.bh_model.specs.Counting.{counts, with_counts, after_entry}
 use Rattle.bh_model.specs.Entries.{Version, added, new_id, lookup}
 use Rattle.bh_model.specs.Parts.{is_checksum}

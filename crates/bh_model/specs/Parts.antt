@@ -6,9 +6,9 @@ use Rattle.std.specs.FinMap.{FinMap, get}
 use Rattle.sha2.specs.Sha256.{sha256}
 use Rattle.bh_types.specs.declared.refusal.Refusal.{Refusal}
 use Rattle.bh_types.specs.declared.refusal.Refusal.TheVariants.{InvalidPartOrder, InvalidPart, EntityTooSmall}
-use Rattle.bh_model.specs.Checksums.{checksum_text, joined_text}
+use Rattle.bh_types.specs.Checksums.{checksum_text, joined_text}
 use Rattle.bh_model.specs.State.{Octets, Content, Content.Body, Part}
-use Rattle.bh_model.specs.Steps.{◌>>=◌, require}
+use Rattle.bh_types.specs.Outcomes.{◌>>=◌, require}
 
 -- a part as the completion of its upload names it, with the checksum text that it must have if one is given
 pub record Naming : Type 0 where

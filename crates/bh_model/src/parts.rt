@@ -6,7 +6,7 @@ ghost use Rattle.std.specs.String.{string_bytes};
 ghost use Rattle.std.specs.FinMap.{get};
 ghost use Rattle.sha2.specs.Sha256.{sha256};
 ghost use Rattle.bh_types.specs.Outcomes.{Gives};
-ghost use Rattle.bh_model.specs.Checksums.{checksum_text, joined_text};
+ghost use Rattle.bh_types.specs.Checksums.{checksum_text, joined_text};
 ghost use Rattle.bh_model.specs.Parts as spec;
 ghost use Rattle.bh_model.specs.Shown.{content_of, naming_of, parts_of, shown_parts};
 

@@ -4,7 +4,7 @@ use Rattle.std.specs.FinMap.{get}
 use Rattle.bh_types.specs.Names.{is_bucket_name}
 use Rattle.bh_types.specs.declared.refusal.Refusal.TheVariants.{BucketAlreadyOwnedByYou}
 use Rattle.bh_model.specs.State.{Octets, State, Bucket}
-use Rattle.bh_model.specs.Steps.{require}
+use Rattle.bh_types.specs.Outcomes.{require}
 use Rattle.bh_model.specs.Operations.{Done, create_bucket}
 use Rattle.bh_tables.specs.Typed.{Tables}
 use Rattle.bh_view.specs.View.{view, latest_of}

@@ -9,7 +9,7 @@ use Rattle.bh_types.specs.declared.plain.BucketState.TheVariants.{Unversioned, E
 use Rattle.bh_types.specs.declared.refusal.Refusal.{Refusal}
 use Rattle.bh_types.specs.declared.refusal.Refusal.TheVariants.{NoSuchBucket, NoSuchTenant, BucketAlreadyOwnedByYou}
 use Rattle.bh_model.specs.State.{Octets, State, Bucket}
-use Rattle.bh_model.specs.Steps.{require}
+use Rattle.bh_types.specs.Outcomes.{require}
 use Rattle.bh_tables.specs.Typed.{Tables, TenantRow, BucketRow}
 use Rattle.bh_tables.specs.Shown.{is_tenant, is_bucket}
 use Rattle.bh_view.specs.View.{view, mode_of, rows_of, bucket_shown, state_of}

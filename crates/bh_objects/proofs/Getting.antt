@@ -5,7 +5,7 @@ use Rattle.std.specs.FinMap.{get}
 use Rattle.bh_types.specs.declared.plain.BucketState.TheVariants.{Unversioned}
 use Rattle.bh_types.specs.declared.refusal.Refusal.{Refusal}
 use Rattle.bh_model.specs.State.{Octets, State, Bucket, Entry}
-use Rattle.bh_model.specs.Steps.{◌>>=◌}
+use Rattle.bh_types.specs.Outcomes.{◌>>=◌}
 use Rattle.bh_model.specs.Entries.{Version, found_current}
 use Rattle.bh_model.specs.Operations.{Answer, Outcome, Object, id_told, listed, shown}
 use Rattle.bh_model.specs.declared.entries.LookupFault.{LookupFault}

@@ -12,7 +12,7 @@ use Rattle.bh_types.specs.declared.refusal.Refusal.TheVariants.{NoSuchBucket, Bu
 use Rattle.bh_types.specs.Names.{is_object_key}
 use Rattle.bh_types.specs.Counts.{Counts}
 use Rattle.bh_model.specs.State.{Octets, State}
-use Rattle.bh_model.specs.Steps.{require}
+use Rattle.bh_types.specs.Outcomes.{require}
 use Rattle.bh_model.specs.Counting.{counts}
 use Rattle.bh_model.specs.Operations.{tenant_bucket, added_tenant}
 use Rattle.bh_tables.specs.Typed.{Tables, tables_in}

@@ -1,7 +1,7 @@
 ghost use Rattle.std.specs.Prelude.{◌≡◌, ◌<◌, ◌^◌, ◌++◌, ◌∷◌, [], length, OnOk};
 ghost use Rattle.sqlite.specs.Held.{state};
 ghost use Rattle.sqlite_keyed.specs.Lists.{update_where, delete_where};
-ghost use Rattle.bh_model.specs.Checksums.{checksum_text};
+ghost use Rattle.bh_types.specs.Checksums.{checksum_text};
 ghost use Rattle.bh_tables.specs.Shown.{is_tenant, is_version};
 ghost use Rattle.bh_view.specs.Put as put;
 ghost use Rattle.bh_view.specs.Put.{counters_row, rows_left};

@@ -1,7 +1,7 @@
 ghost use Rattle.std.specs.Prelude.{◌≡◌, IfOk};
 ghost use Rattle.bh_operation.specs.Allowed as spec;
 
-use crate::target::{Kind, kind_of, split_target};
+use crate::target::{Kind, kind_of, path_of};
 use bh_http::values::Allow;
 use std::alloc::{AllocError, Global};
 
@@ -20,8 +20,7 @@ fn allow_at(kind: Kind) -> Allow
 pub fn allow_of(alloc: Global, target: &[u8]) -> Result<Option<Allow>, AllocError>
     ensures { IfOk result (λ allow. allow ≡ spec.allow_of target.now) }
 {
-    let (path, _) = split_target(target);
-    match kind_of(alloc, path)? {
+    match kind_of(alloc, path_of(target))? {
         Some(kind) => Ok(Some(allow_at(kind))),
         None => Ok(None),
     }

@@ -15,3 +15,5 @@ mod target;
 #[cfg(test)]
 mod tests;
 pub mod text;
+
+pub use target::path_of;

@@ -4,7 +4,7 @@ ghost use Rattle.bh_http.specs.Fields.{given_view};
 ghost use Rattle.bh_operation.specs.Sources as spec;
 
 use crate::number::wanted;
-use crate::target::{decode, question_at, split_at_slash, split_target, text_of};
+use crate::target::{decode, path_of, question_at, split_at_slash, text_of};
 use crate::text::Text;
 use bh_http::fields::Given;
 use bh_types::error::RequestError;
@@ -75,8 +75,7 @@ fn source_of(alloc: Global, value: &[u8]) -> Result<Source, RequestError>
     ensures { Gives (λ x. x) result (spec.source_of value.now) }
 {
     let version = source_version(value)?;
-    let (path, _) = split_target(value);
-    let (bucket, key) = split_at_slash(without_slash(path));
+    let (bucket, key) = split_at_slash(without_slash(path_of(value)));
     let bucket = source_part(alloc, bucket)?;
     let key = source_part(alloc, key)?;
     Ok(Source {

@@ -44,6 +44,13 @@ pub fn split_target(target: &[u8]) -> (&[u8], &[u8])
     }
 }
 
+/// The path of a target, as it was sent.
+pub fn path_of(target: &[u8]) -> &[u8]
+    ensures { result.now ≡ spec.path_of target.now }
+{
+    split_target(target).0
+}
+
 /// Where the first `?` stands.
 pub fn question_at(bytes: &[u8]) -> Option<usize>
     ensures place { result ≡ position spec.is_question bytes.now }

@@ -42,11 +42,11 @@ tenant_seen s t read found working is = view_found (seen_in s).now t ∙ ap (λ 
 
 -- ---- the step
 
-pub required : {E : Type 0} (b : Bool) (e : E) → b ≡ true → Rattle.bh_model.specs.Steps.require b e ≡ Ok tt
-required b e h = ap (λ x. Rattle.bh_model.specs.Steps.require x e) h
+pub required : {E : Type 0} (b : Bool) (e : E) → b ≡ true → Rattle.bh_types.specs.Outcomes.require b e ≡ Ok tt
+required b e h = ap (λ x. Rattle.bh_types.specs.Outcomes.require x e) h
 
-pub refused : {E : Type 0} (b : Bool) (e : E) → b ≡ false → Rattle.bh_model.specs.Steps.require b e ≡ Err e
-refused b e h = ap (λ x. Rattle.bh_model.specs.Steps.require x e) h
+pub refused : {E : Type 0} (b : Bool) (e : E) → b ≡ false → Rattle.bh_types.specs.Outcomes.require b e ≡ Err e
+refused b e h = ap (λ x. Rattle.bh_types.specs.Outcomes.require x e) h
 
 pub adds_tenant : (t : Octets) (quota : ℕ) (s : Option Machine) → IsTrue (is_tenant_name t) → nat_le quota (2 ^ 60) ≡ true → s ≡ None → add_tenant t quota s ≡ Ok (Done, Some (new_tenant quota))
 adds_tenant t quota s name few none = rw (required (is_tenant_name t) _ name, required (nat_le quota (2 ^ 60)) _ few, none) refl

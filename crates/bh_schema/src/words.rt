@@ -1,6 +1,7 @@
 ghost use Rattle.std.specs.Prelude.{◌≡◌, ◌<◌, ◌&&◌, length, position, IfOk, IfSome, IfNone};
 ghost use Rattle.std.specs.Str.{IsUtf8};
 ghost use Rattle.bh_types.specs.Names.{is_tenant_name, is_key_name, is_secret};
+ghost use Rattle.bh_types.specs.AccessKeys.{is_dollar};
 ghost use Rattle.bh_model.specs.Credentials as spec;
 
 use bh_types::names::{KeyName, Secret, TenantName};
@@ -53,7 +54,7 @@ fn read_names(alloc: Global, tenant: &[u8], name: &[u8]) -> Result<Option<KeyNam
 }
 
 fn dollar_at(id: &[u8]) -> Option<usize>
-    ensures place { result ≡ position spec.is_dollar id.now }
+    ensures place { result ≡ position is_dollar id.now }
     ensures bound { IfSome result (λ at. at < length id.now) }
 {
     id.iter().position(|b| *b == b'$')

@@ -2,4 +2,6 @@
 #![tactic(auto)]
 
 #[cfg(test)]
-mod tests;
+mod refused;
+#[cfg(test)]
+mod stamps;

@@ -1,3 +1,5 @@
+pub mod AccessKeys
+pub mod Checksums
 pub mod Counts
 pub mod Ids
 pub mod Limits

@@ -15,7 +15,7 @@ use Rattle.bh_types.specs.declared.id.VersionId.{VersionId}
 use Rattle.bh_types.specs.declared.id.VersionId.TheVariants.{Null, Numbered}
 use Rattle.bh_model.specs.FinMaps.{non_empty}
 use Rattle.bh_model.specs.State.{Octets, Content.Body, Entry, Bucket, State}
-use Rattle.bh_model.specs.Checksums.{checksum_text}
+use Rattle.bh_types.specs.Checksums.{checksum_text}
 use Rattle.bh_model.specs.Counting.{counts, with_counts, can_give, after_entry}
 use Rattle.bh_model.specs.Entries.{without, added}
 use Rattle.bh_model.specs.Operations.{with_bucket, with_entries, with_object, listed}

@@ -11,7 +11,7 @@ use Rattle.bh_types.specs.declared.refusal.Refusal.TheVariants.{InvalidName, Inv
 use Rattle.bh_model.specs.Counting.{counts, with_counts, after_entry}
 use Rattle.bh_model.specs.Parts.{is_checksum}
 use Rattle.bh_model.specs.State.{Octets, Bucket, State, new_tenant, new_bucket}
-use Rattle.bh_model.specs.Steps.{◌>>=◌, require}
+use Rattle.bh_types.specs.Outcomes.{◌>>=◌, require}
 use Rattle.bh_model.specs.Operations.{Answer, Answer.Done, Outcome, add_tenant, add_key, remove_key, create_bucket, put_object, stored, with_bucket, with_object}
 use Rattle.bh_tables.specs.Typed.{Tables}
 use Rattle.bh_tables.specs.Shown.{is_tenant, is_key}

@@ -5,7 +5,7 @@ use Rattle.bh_types.specs.Counts.{Counts}
 use Rattle.bh_types.specs.declared.plain.BucketState.{BucketState}
 use Rattle.bh_types.specs.declared.plain.BucketState.TheVariants.{Unversioned, Enabled, Suspended}
 use Rattle.bh_model.specs.State.{Octets}
-use Rattle.bh_model.specs.Checksums.{checksum_text}
+use Rattle.bh_types.specs.Checksums.{checksum_text}
 use Rattle.bh_tables.specs.Typed.{TenantRow, VersionRow}
 use Rattle.bh_tables.specs.Shown.{is_version}
 

@@ -4,13 +4,19 @@
 use bh_script::script::answer_script;
 use std::{fs, io};
 
-const SCRIPTS: [&str; 18] = [
+const SCRIPTS: [&str; 24] = [
     "first-path",
     "incomplete-body",
     "clock-end",
     "content-length",
     "put-again",
-    "plain-targets",
+    "targets",
+    "first-refusals",
+    "other-operations",
+    "head-bucket",
+    "foreign-bucket",
+    "foreign-bucket-not-there",
+    "key-length",
     "keys",
     "tenant-twice",
     "beginnings",

@@ -1,7 +1,11 @@
-use Rattle.std.proofs.Common.{ap, ◌∙◌}
+use Rattle.std.proofs.Common.{ap₂, ◌∙◌}
 use Rattle.std.proofs.lemmas.Result.{IfOk-weaker}
 use Rattle.bh_http.specs.Responses.{response_text}
+use Rattle.bh_host.specs.Replies.{text, sent_for}
 use Rattle.bh_host.proofs.reply.answer_text.Goals as goal
 
 pub returns : goal.returns
-returns c = IfOk-weaker c.response_bytes.result _ _ (λ bytes h. h ∙ ap response_text c.response_to-response.ensures) c.response_bytes.ensures
+unfolding text
+returns c =
+    IfOk-weaker c.sent_text.result _ _
+    (λ bytes h. h ∙ ap₂ (λ method sent. response_text (sent_for method sent)) c.as_str.ensures.value c.response_to.ensures) c.sent_text.ensures

@@ -1,15 +1,12 @@
-use Rattle.std.proofs.Common.{ap, ◌∙◌}
+use Rattle.std.proofs.Common.{ap, ap₂, ◌∙◌}
 use Rattle.std.proofs.lemmas.Result.{IfOk-weaker}
-use Rattle.bh_docs.specs.Documents.{error_text}
-use Rattle.bh_http.specs.Answers.{refused}
 use Rattle.bh_http.specs.Responses.{response_text}
-use Rattle.bh_types.specs.Refusals.{code_of}
-use Rattle.bh_host.specs.Replies.{text, shown_path}
+use Rattle.bh_host.specs.Replies.{text, refusal_to, sent_for}
 use Rattle.bh_host.proofs.reply.refused_request_text.Goals as goal
 
 pub returns : goal.returns
 unfolding text
 returns c =
-    IfOk-weaker c.refused_text.result _ _
-    (λ bytes h. h ∙ ap (λ target. response_text (refused c.args.refusal (error_text (code_of c.args.refusal) (shown_path target)))) c.as_slice.ensures.value)
-    c.refused_text.ensures
+    let response = c.in_ok-response.ensures ∙ ap (λ target. refusal_to target c.args.refusal) c.as_slice.ensures.value in
+    IfOk-weaker c.sent_text.result _ _
+    (λ bytes h. h ∙ ap₂ (λ method sent. response_text (sent_for method sent)) c.as_str.ensures.value response) c.sent_text.ensures

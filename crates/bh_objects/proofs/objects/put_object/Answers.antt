@@ -1,7 +1,7 @@
 use Rattle.std.proofs.Common.{◌≡◌, Ok, None, sym, ap, ◌∙◌}
 use Rattle.sqlite.specs.Held.{state}
 use Rattle.bh_types.specs.Counts.{Counts}
-use Rattle.bh_model.specs.Checksums.{checksum_text}
+use Rattle.bh_types.specs.Checksums.{checksum_text}
 use Rattle.bh_model.specs.Entries.{new_id}
 use Rattle.bh_model.specs.Operations.{Stored, id_told, put_object}
 use Rattle.bh_tables.specs.Typed.{Tables}
