@@ -1,5 +1,5 @@
 -- The calls that make a host, one after another.
-use Rattle.std.proofs.Common.{◌≡◌, inl, inr, ℕ, List, [], ◌∷◌, ◌++◌, IsTrue, Ok, Err, Result, OnOk, OnErr, sym, ap, ◌∙◌, subst}
+use Rattle.std.proofs.Common.{◌≡◌, inl, inr, ℕ, List, [], ◌∷◌, ◌++◌, IsTrue, true, Ok, Err, Result, OnOk, OnErr, IfErr, sym, ap, ◌∙◌, subst}
 use Rattle.sqlite.specs.Tree.{Trees}
 use Rattle.bh_types.specs.Limits.{AreLimits}
 use Rattle.bh_tables.specs.Schema.{no_schema, host_schema}
@@ -16,8 +16,9 @@ use Rattle.sqlite.specs.Table.{Table}
 use Rattle.sqlite.specs.Change.{created}
 use Rattle.sqlite.specs.State.{State, HasCleanDisk, Survives, Executes, CommitsBy}
 use Rattle.sqlite.specs.declared.error.Error.{Error}
-use Rattle.bh_rows.specs.Means.{IsBlank, IsUndone, StaysInside, Changes, Grows}
+use Rattle.bh_rows.specs.Means.{IsBlank, is_trouble, IsUndone, StaysInside, Changes, Grows}
 use Rattle.bh_rows.proofs.CreateLemmas.{Makes as Creates, grows, create_changes}
+use Rattle.bh_rows.proofs.CreateErrors.{IsFree, create_trouble}
 use Rattle.bh_schema.specs.Layer.{Standing, standing, IsIntact, IsOpen, IsClean, Leaves, IsInside, Holds, Follows, begun, committed}
 use Rattle.bh_schema.specs.Storage.{seen_in, left_in}
 use Rattle.bh_schema.proofs.TurnLemmas.{follows}
@@ -55,6 +56,15 @@ module _ (before : Schema) (sql : List ℕ) (table : Table) (creates : Creates b
       let follow = follows old new s changes.up in
       record { keeps = record { follows = follow; kept = kept_by result changes after follow.clean }; made = made_by result changes after follow.clean }
 
+  -- where nothing stands against the table, trouble alone
+  pub fails : IsFree before sql table → (result : Result ℕ Error) → (HasCleanDisk new → Executes sql [] old new result) → Survives old new (CommitsBy sql [] old) → IfErr result (λ e. IsIntact new → is_trouble e ≡ true)
+  unfolding IsIntact
+  fails free result runs s = go result (create_trouble before sql table creates free old new blank_before result runs s)
+    where
+      go : (r : Result ℕ Error) → (HasCleanDisk new → IfErr r (λ e. is_trouble e ≡ true)) → IfErr r (λ e. HasCleanDisk new → is_trouble e ≡ true)
+      go (Ok count) h = tt
+      go (Err e) h = h
+
 -- ---- several calls
 
 pub follows_then : (a b c : State) → Follows a b → Follows b c → Follows a c
@@ -74,6 +84,9 @@ unfolding standing
 made_host s making =
     let it = blank_host s (subst (λ schema. IsBlank schema s) all_made making.blank) in
     (record { inside = making.inside; host = it.0 }, it.1)
+
+pub made_empty : (s : State) → IsMaking with_versions s → (tables_in (standing s).now).host ≡ []
+made_empty s making = ap (λ (t : Tables). t.host) (made_host s making).1
 
 pub made_inside : (s : State) → IsMaking with_versions s → IsInside (standing s)
 made_inside s making = (made_host s making).0
@@ -107,3 +120,7 @@ stands old new min_part max_body good it is settled =
 pub on_ok : {X E : Type 0} (r : Result X E) {P Q : Type 0} → (P → Q) → OnOk r P → OnOk r Q
 on_ok (Ok x) f h = f h
 on_ok (Err e) f h = tt
+
+pub on_err : {X E : Type 0} (r : Result X E) {P Q : E → Type 0} → ((e : E) → P e → Q e) → IfErr r P → IfErr r Q
+on_err (Ok x) f h = tt
+on_err (Err e) f h = f e h

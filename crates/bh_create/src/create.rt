@@ -1,15 +1,16 @@
-ghost use Rattle.std.specs.Prelude.{◌≡◌, ◌≢◌, ◌↔◌, IsTrue, IfOk, IfErr};
+ghost use Rattle.std.specs.Prelude.{◌≡◌, ◌≢◌, ◌↔◌, true, false, None, IsTrue, IsSome, IfSome, IfOk, IfErr};
 ghost use Rattle.sqlite.specs.Held.{state};
 ghost use Rattle.bh_types.specs.declared.refusal.Refusal.TheVariants as refusal;
+ghost use Rattle.bh_rows.specs.Means.{is_trouble};
 ghost use Rattle.bh_tables.specs.Schema.{no_schema};
-ghost use Rattle.bh_schema.specs.Layer.{standing, IsClean, taken_back, Follows};
+ghost use Rattle.bh_schema.specs.Layer.{standing, IsIntact, IsClean, taken_back, Follows};
 ghost use Rattle.bh_create.specs.Creation.{IsEmpty, IsNewHost};
 
 use crate::fill::make;
 use bh_schema::host::{Digester, Host};
 use bh_types::limits::{Limits, Tuning};
 use bh_types::refusal::Refusal;
-use sqlite::{Alter, Connection};
+use sqlite::{Alter, Connection, Error};
 use sqlite_schema::schema::Schema;
 
 /// Why no host was made, with what was given for it.
@@ -17,6 +18,8 @@ use sqlite_schema::schema::Schema;
 pub struct CreateError<S: Alter + Drop, D: Digester + Drop> {
     /// `NotAHostFile` or `Unavailable`.
     pub refusal: Refusal,
+    /// The error of the database, where the refusal is `Unavailable`.
+    pub cause: Option<Error>,
     /// The database.
     pub connection: Connection<S>,
     /// What was to name blocks of bytes.
@@ -33,8 +36,8 @@ fn is_empty(schema: &Schema) -> bool
 /// 1970), and it is committed, so that a crash leaves it.
 ///
 /// `NotAHostFile` where the database has a table, an index or a view, and then the connection is as it was.
-/// `Unavailable` where memory or the store was wanting, or a transaction was open: an open transaction is
-/// taken back, and the database is as it was last committed.
+/// `Unavailable` where memory or the store was wanting, or a transaction was open, or a limit on the steps of a
+/// statement is set: an open transaction is taken back, and the database is as it was last committed.
 pub fn create<S: Alter + Drop, D: Digester + Drop>(
     connection: Connection<S>,
     digester: D,
@@ -49,10 +52,14 @@ pub fn create<S: Alter + Drop, D: Digester + Drop>(
     ensures refused { IfErr result (λ e. e.refusal ≡ refusal.NotAHostFile → (e.connection ≡ connection) × ¬ IsEmpty (state S.Store connection)) }
     ensures failed { IfErr result (λ e. e.refusal ≢ refusal.NotAHostFile → (e.refusal ≡ refusal.Unavailable) × IsEmpty (state S.Store connection) × Follows (state S.Store connection) (state S.Store e.connection)
         × (IsClean (state S.Store e.connection) → standing (state S.Store e.connection) ≡ taken_back (standing (state S.Store connection)))) }
+    ensures cause { IfErr result (λ e. (e.refusal ≡ refusal.Unavailable) ↔ IsSome e.cause) }
+    ensures trouble { IfErr result (λ e. IfSome e.cause (λ cause. IsIntact (state S.Store e.connection) → (standing (state S.Store connection)).limit ≡ None
+        → (IsClean (state S.Store connection) → (standing (state S.Store connection)).inside ≡ false) → is_trouble cause ≡ true)) }
 {
     if !is_empty(connection.schema()) {
         return Err(CreateError {
             refusal: Refusal::NotAHostFile,
+            cause: None,
             connection,
             digester,
         });
@@ -65,8 +72,9 @@ pub fn create<S: Alter + Drop, D: Digester + Drop>(
             limits,
             tuning,
         }),
-        Err(_) => Err(CreateError {
+        Err(error) => Err(CreateError {
             refusal: Refusal::Unavailable,
+            cause: Some(error),
             connection,
             digester,
         }),

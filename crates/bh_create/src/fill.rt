@@ -1,9 +1,10 @@
-ghost use Rattle.std.specs.Prelude.{◌≡◌, OnOk, OnErr};
+ghost use Rattle.std.specs.Prelude.{◌≡◌, true, false, None, IfErr, OnOk, OnErr};
 ghost use Rattle.sqlite.specs.Held.{state};
+ghost use Rattle.bh_rows.specs.Means.{is_trouble};
 ghost use Rattle.bh_types.specs.Limits.{AreLimits};
 ghost use Rattle.bh_tables.specs.Schema.{no_schema};
 ghost use Rattle.bh_view.specs.Laws.{new_host};
-ghost use Rattle.bh_schema.specs.Layer.{standing, IsClean, taken_back, Follows, Holds};
+ghost use Rattle.bh_schema.specs.Layer.{standing, IsIntact, IsClean, taken_back, Follows, Holds};
 ghost use Rattle.bh_create.specs.Creation.{IsEmpty, IsNewHost, IsMaking, Keeps};
 
 use crate::tables::create_tables;
@@ -21,6 +22,7 @@ fn fill<S: Alter>(
     requires making { IsClean (state S.Store connection.old) → IsMaking no_schema (state S.Store connection.old) }
     ensures keeps { Keeps (state S.Store connection.old) (state S.Store connection.new) }
     ensures holds { OnOk result (IsClean (state S.Store connection.new) → Holds (new_host min_part max_body) (standing (state S.Store connection.new))) }
+    ensures trouble { IfErr result (λ e. IsIntact (state S.Store connection.new) → (standing (state S.Store connection.old)).limit ≡ None → is_trouble e ≡ true) }
 {
     create_tables(connection)?;
     insert_host(connection, min_part, max_body)
@@ -31,6 +33,8 @@ fn commit_new<S: Alter>(connection: &mut Connection<S>, limits: Limits) -> Resul
     ensures follows { Follows (state S.Store connection.old) (state S.Store connection.new) }
     ensures made { OnOk result (IsClean (state S.Store connection.new) → IsNewHost limits (state S.Store connection.new)) }
     ensures kept { OnErr result (IsClean (state S.Store connection.new) → (standing (state S.Store connection.new)).kept ≡ (standing (state S.Store connection.old)).kept) }
+    ensures trouble { IfErr result (λ e. IsIntact (state S.Store connection.new) → (standing (state S.Store connection.old)).limit ≡ None
+        → (IsClean (state S.Store connection.old) → (standing (state S.Store connection.old)).inside ≡ false) → is_trouble e ≡ true) }
 {
     begin(connection)?;
     fill(connection, limits.min_part, limits.max_body)?;
@@ -43,6 +47,8 @@ pub fn make<S: Alter>(connection: &mut Connection<S>, limits: Limits) -> Result<
     ensures follows { Follows (state S.Store connection.old) (state S.Store connection.new) }
     ensures made { OnOk result (IsClean (state S.Store connection.new) → IsNewHost limits (state S.Store connection.new)) }
     ensures back { OnErr result (IsClean (state S.Store connection.new) → standing (state S.Store connection.new) ≡ taken_back (standing (state S.Store connection.old))) }
+    ensures trouble { IfErr result (λ e. IsIntact (state S.Store connection.new) → (standing (state S.Store connection.old)).limit ≡ None
+        → (IsClean (state S.Store connection.old) → (standing (state S.Store connection.old)).inside ≡ false) → is_trouble e ≡ true) }
 {
     match commit_new(connection, limits) {
         Ok(_) => Ok(()),

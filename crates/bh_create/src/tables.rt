@@ -1,14 +1,17 @@
+ghost use Rattle.std.specs.Prelude.{◌≡◌, true, IfErr};
 ghost use Rattle.sqlite.specs.Held.{state};
+ghost use Rattle.bh_rows.specs.Means.{is_trouble};
 ghost use Rattle.bh_tables.specs.Schema.{no_schema};
 ghost use Rattle.bh_tables.specs.Made.{with_host, with_tenants, with_keys, with_buckets, with_versions};
-ghost use Rattle.bh_schema.specs.Layer.{IsClean};
+ghost use Rattle.bh_schema.specs.Layer.{IsIntact, IsClean};
 ghost use Rattle.bh_create.specs.Creation.{IsMaking, Makes};
 
 use sqlite::{Alter, Connection, Error};
 
 fn create_host<S: Alter>(connection: &mut Connection<S>) -> Result<usize, Error>
     requires { IsClean (state S.Store connection.old) → IsMaking no_schema (state S.Store connection.old) }
-    ensures { Makes with_host (state S.Store connection.old) (state S.Store connection.new) result }
+    ensures makes { Makes with_host (state S.Store connection.old) (state S.Store connection.new) result }
+    ensures trouble { IfErr result (λ e. IsIntact (state S.Store connection.new) → is_trouble e ≡ true) }
 {
     connection.execute(
         "CREATE TABLE host (id INTEGER PRIMARY KEY CHECK (id = 1), version INTEGER NOT NULL CHECK (version >= 0), latest INTEGER NOT NULL CHECK (latest >= 0), min_part INTEGER NOT NULL CHECK (min_part >= 0), max_body INTEGER NOT NULL CHECK (max_body >= 0)) STRICT",
@@ -18,7 +21,8 @@ fn create_host<S: Alter>(connection: &mut Connection<S>) -> Result<usize, Error>
 
 fn create_tenants<S: Alter>(connection: &mut Connection<S>) -> Result<usize, Error>
     requires { IsClean (state S.Store connection.old) → IsMaking with_host (state S.Store connection.old) }
-    ensures { Makes with_tenants (state S.Store connection.old) (state S.Store connection.new) result }
+    ensures makes { Makes with_tenants (state S.Store connection.old) (state S.Store connection.new) result }
+    ensures trouble { IfErr result (λ e. IsIntact (state S.Store connection.new) → is_trouble e ≡ true) }
 {
     connection.execute(
         "CREATE TABLE tenants (tenant TEXT NOT NULL PRIMARY KEY, quota INTEGER NOT NULL CHECK (quota >= 0), next_version INTEGER NOT NULL CHECK (next_version >= 0), next_upload INTEGER NOT NULL CHECK (next_upload >= 0), next_entry INTEGER NOT NULL CHECK (next_entry >= 0)) STRICT",
@@ -28,7 +32,8 @@ fn create_tenants<S: Alter>(connection: &mut Connection<S>) -> Result<usize, Err
 
 fn create_keys<S: Alter>(connection: &mut Connection<S>) -> Result<usize, Error>
     requires { IsClean (state S.Store connection.old) → IsMaking with_tenants (state S.Store connection.old) }
-    ensures { Makes with_keys (state S.Store connection.old) (state S.Store connection.new) result }
+    ensures makes { Makes with_keys (state S.Store connection.old) (state S.Store connection.new) result }
+    ensures trouble { IfErr result (λ e. IsIntact (state S.Store connection.new) → is_trouble e ≡ true) }
 {
     connection.execute(
         "CREATE TABLE keys (tenant TEXT NOT NULL REFERENCES tenants ON DELETE RESTRICT, name TEXT NOT NULL, secret TEXT NOT NULL, PRIMARY KEY (tenant, name)) STRICT",
@@ -38,7 +43,8 @@ fn create_keys<S: Alter>(connection: &mut Connection<S>) -> Result<usize, Error>
 
 fn create_buckets<S: Alter>(connection: &mut Connection<S>) -> Result<usize, Error>
     requires { IsClean (state S.Store connection.old) → IsMaking with_keys (state S.Store connection.old) }
-    ensures { Makes with_buckets (state S.Store connection.old) (state S.Store connection.new) result }
+    ensures makes { Makes with_buckets (state S.Store connection.old) (state S.Store connection.new) result }
+    ensures trouble { IfErr result (λ e. IsIntact (state S.Store connection.new) → is_trouble e ≡ true) }
 {
     connection.execute(
         "CREATE TABLE buckets (tenant TEXT NOT NULL REFERENCES tenants ON DELETE RESTRICT, bucket TEXT NOT NULL, created INTEGER NOT NULL CHECK (created >= 0), state INTEGER NOT NULL CHECK (state >= 0) CHECK (state <= 2), days INTEGER CHECK (days >= 0), PRIMARY KEY (tenant, bucket)) STRICT",
@@ -48,7 +54,8 @@ fn create_buckets<S: Alter>(connection: &mut Connection<S>) -> Result<usize, Err
 
 fn create_versions<S: Alter>(connection: &mut Connection<S>) -> Result<usize, Error>
     requires { IsClean (state S.Store connection.old) → IsMaking with_buckets (state S.Store connection.old) }
-    ensures { Makes with_versions (state S.Store connection.old) (state S.Store connection.new) result }
+    ensures makes { Makes with_versions (state S.Store connection.old) (state S.Store connection.new) result }
+    ensures trouble { IfErr result (λ e. IsIntact (state S.Store connection.new) → is_trouble e ≡ true) }
 {
     connection.execute(
         "CREATE TABLE versions (tenant TEXT NOT NULL, seq INTEGER NOT NULL CHECK (seq >= 0), bucket TEXT NOT NULL, okey BLOB NOT NULL, id INTEGER NOT NULL CHECK (id >= 0), marker INTEGER NOT NULL CHECK (marker >= 0), stamp INTEGER NOT NULL CHECK (stamp >= 0), size INTEGER NOT NULL CHECK (size >= 0), sum TEXT NOT NULL, bytes BLOB NOT NULL, PRIMARY KEY (tenant, seq), UNIQUE (tenant, bucket, okey, id), FOREIGN KEY (tenant, bucket) REFERENCES buckets ON DELETE RESTRICT, CHECK (marker = 0 OR (size = 0 AND sum = ''))) STRICT",
@@ -58,7 +65,8 @@ fn create_versions<S: Alter>(connection: &mut Connection<S>) -> Result<usize, Er
 
 fn create_accounts<S: Alter>(connection: &mut Connection<S>) -> Result<usize, Error>
     requires { IsClean (state S.Store connection.old) → IsMaking no_schema (state S.Store connection.old) }
-    ensures { Makes with_keys (state S.Store connection.old) (state S.Store connection.new) result }
+    ensures makes { Makes with_keys (state S.Store connection.old) (state S.Store connection.new) result }
+    ensures trouble { IfErr result (λ e. IsIntact (state S.Store connection.new) → is_trouble e ≡ true) }
 {
     create_host(connection)?;
     create_tenants(connection)?;
@@ -67,7 +75,8 @@ fn create_accounts<S: Alter>(connection: &mut Connection<S>) -> Result<usize, Er
 
 fn create_objects<S: Alter>(connection: &mut Connection<S>) -> Result<usize, Error>
     requires { IsClean (state S.Store connection.old) → IsMaking with_keys (state S.Store connection.old) }
-    ensures { Makes with_versions (state S.Store connection.old) (state S.Store connection.new) result }
+    ensures makes { Makes with_versions (state S.Store connection.old) (state S.Store connection.new) result }
+    ensures trouble { IfErr result (λ e. IsIntact (state S.Store connection.new) → is_trouble e ≡ true) }
 {
     create_buckets(connection)?;
     create_versions(connection)
@@ -76,7 +85,8 @@ fn create_objects<S: Alter>(connection: &mut Connection<S>) -> Result<usize, Err
 /// Makes the tables of a host, with no row.
 pub fn create_tables<S: Alter>(connection: &mut Connection<S>) -> Result<(), Error>
     requires { IsClean (state S.Store connection.old) → IsMaking no_schema (state S.Store connection.old) }
-    ensures { Makes with_versions (state S.Store connection.old) (state S.Store connection.new) result }
+    ensures makes { Makes with_versions (state S.Store connection.old) (state S.Store connection.new) result }
+    ensures trouble { IfErr result (λ e. IsIntact (state S.Store connection.new) → is_trouble e ≡ true) }
 {
     create_accounts(connection)?;
     create_objects(connection)?;

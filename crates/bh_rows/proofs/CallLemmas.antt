@@ -155,25 +155,28 @@ module _ (sql : List ℕ) (params : Row) (old new : State) (schema : Schema) (ha
           | inr wrote ↦ wrote.0
         ]
 
-    -- a write is refused by the database, or is in trouble
-    pub write_refused : length params ≡ parameters → (e : Error) → Executes sql params old new (Err e)
-        → (is_trouble e ≡ true) ⊎ ((text : List ℕ) × Does old.step_limit (mode_of old) params (record { schema = schema; trees = old.now.trees }) text None command (Err (Some e)))
+    -- a write is refused by the database, of the text that it is, or is in trouble
+    pub write_refused_text : length params ≡ parameters → (e : Error) → Executes sql params old new (Err e)
+        → (is_trouble e ≡ true) ⊎ Does old.step_limit (mode_of old) params (record { schema = schema; trees = old.now.trees }) (statement_of sql (understood schema sql)) None command (Err (Some e))
     unfolding ExecutesIn
-    write_refused given e (inl h) = inl (not_run given e h)
-    write_refused given e (inr ran) =
+    write_refused_text given e (inl h) = inl (not_run given e h)
+    write_refused_text given e (inr ran) =
         let bare = compiled_plain ran.0 ran.1 in
         let is = compiled_command ran.0 ran.1 in
         let quiet : shows_rows false ran.0 ≡ false = quiet_write ran.0.command ran.0.returning (ap is_write is ∙ writes) bare.0 in
         let it : RunsCommand old new sql ran.0 params (Err e) = rw (bare.1, append-nil params) at (rw quiet at ran.2) in
+        let text : text_of sql ran.0 ≡ statement_of sql (understood schema sql) = ap (statement_of sql) (sym ran.1.is ∙ here) in
         elim it [
           | inr failed ↦ inl (failed_is_trouble old new _ e failed)
           | inl (inl misplaced, same) ↦ absurd (not_misplaced old ran.0.command e (ap is_write is ∙ writes) misplaced)
-          | inl (inr refused, same) ↦ inr (
-            text_of sql ran.0,
-            subst (λ (d : Database). Does old.step_limit (mode_of old) params d (text_of sql ran.0) None command (Err (Some e))) (λ i. record { schema = has i; trees = old.now.trees })
-                (subst₂ (λ r k. Does old.step_limit (mode_of old) params old.now (text_of sql ran.0) r k (Err (Some e))) bare.0 is refused.1),
-          )
+          | inl (inr refused, same) ↦ inr (subst₂ (λ (d : Database) t. Does old.step_limit (mode_of old) params d t None command (Err (Some e))) (λ i. record { schema = has i; trees = old.now.trees }) text
+              (subst₂ (λ r k. Does old.step_limit (mode_of old) params old.now (text_of sql ran.0) r k (Err (Some e))) bare.0 is refused.1))
         ]
+
+    -- the same, of some text
+    pub write_refused : length params ≡ parameters → (e : Error) → Executes sql params old new (Err e)
+        → (is_trouble e ≡ true) ⊎ ((text : List ℕ) × Does old.step_limit (mode_of old) params (record { schema = schema; trees = old.now.trees }) text None command (Err (Some e)))
+    write_refused given e h = elim (write_refused_text given e h) [ inl bad ↦ inl bad | inr refused ↦ inr (statement_of sql (understood schema sql), refused) ]
 
 -- a statement that fails leaves the tables, or ends the transaction
 pub executes_undone : (sql : List ℕ) (params : Row) (old new : State) (e : Error) → Executes sql params old new (Err e) → IsUndone old new

@@ -8,6 +8,7 @@ pub mod TransactionLemmas
 pub mod RefusedLemmas
 pub mod AllowedLemmas
 pub mod CreateLemmas
+pub mod CreateErrors
 pub mod RestrictLemmas
 pub mod FreshLemmas
 pub mod KeptLemmas

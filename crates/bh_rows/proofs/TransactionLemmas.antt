@@ -1,15 +1,36 @@
 -- BEGIN, COMMIT and ROLLBACK as texts.
-use Rattle.std.proofs.Common.{◌≡◌, ◌⊎◌, inl, inr, ℕ, List, [], length, Bool, true, false, IsTrue, Ok, Err, Result, OnOk, OnErr, refl, sym, ap, ◌∙◌, true≢false, subst}
+use Rattle.std.proofs.Common.{◌≡◌, ◌⊎◌, ◌||◌, inl, inr, ℕ, List, [], length, Bool, true, false, IsTrue, Option, None, is_some, Ok, Err, Result, OnOk, OnErr, IfErr, refl, sym, ap, ◌∙◌, true≢false, subst}
 use Rattle.std.proofs.lemmas.Bool.{cases_Bool}
 use Rattle.sqlite.specs.Schema.{Schema}
 use Rattle.sqlite.specs.Command.{Command}
 use Rattle.sqlite.specs.Command.TheVariants.{Begin, Commit, Rollback}
-use Rattle.sqlite.specs.State.{State, HasCleanDisk, IsRolledBack, Survives, Executes, ExecutesIn, IsNotRun, CommitsBy, Shows, Runs, RunsCommand, IsMisplaced, shows_rows}
+use Rattle.sqlite.specs.State.{State, HasCleanDisk, IsRolledBack, Survives, Executes, ExecutesIn, IsNotRun, CommitsBy, Shows, Runs, RunsCommand, IsMisplaced, is_pragma, shows_rows}
 use Rattle.sqlite.specs.Calls.{IsWrite}
+use Rattle.sqlite.specs.Effect.{is_query}
+use Rattle.sqlite_schema.specs.declared.command.Returning.{Returning}
 use Rattle.sqlite.specs.declared.error.Error.{Error}
 use Rattle.sqlite.proofs.Callers.{runs_as}
-use Rattle.bh_rows.specs.Means.{Means, IsUndone, IsOutside, StaysInside}
-use Rattle.bh_rows.proofs.CallLemmas.{clean_before, compiled_command, compiled_plain, is_known, executes_undone, executes_up, survives_less}
+use Rattle.bh_rows.specs.Means.{Means, is_trouble, IsUndone, IsOutside, StaysInside}
+use Rattle.bh_rows.proofs.CallLemmas.{clean_before, compiled_command, compiled_plain, is_known, not_run, failed_is_trouble, write_open, executes_undone, executes_up, survives_less}
+
+-- the command is one of the three
+abbrev is_turn : Command → Bool
+is_turn Begin = true
+is_turn Commit = true
+is_turn Rollback = true
+is_turn _ = false
+
+quiet_turn : (k : Command) (r : Option Returning) → is_turn k ≡ true → r ≡ None → (is_query k || (is_pragma k || is_some r)) ≡ false
+quiet_turn Begin r h none = rw none
+quiet_turn Commit r h none = rw none
+quiet_turn Rollback r h none = rw none
+quiet_turn _ r h none = absurd (true≢false (sym h))
+
+no_write : (k : Command) → is_turn k ≡ true → ¬ IsWrite k
+no_write Begin h writes = writes
+no_write Commit h writes = writes
+no_write Rollback h writes = writes
+no_write _ h writes = absurd (true≢false (sym h))
 
 module _ (sql : List ℕ) (old new : State) (schema : Schema) (ready : HasCleanDisk old → IsTrue old.is_open → old.now.schema ≡ schema)
     (result : Result ℕ Error) (runs : HasCleanDisk new → Executes sql [] old new result) (s : Survives old new (CommitsBy sql [] old)) where
@@ -94,6 +115,50 @@ module _ (sql : List ℕ) (old new : State) (schema : Schema) (ready : HasCleanD
           wrong e (inl (named, inr (which, outside))) = true≢false (sym inside ∙ outside)
           wrong e (inr (named, name, inl release, _)) = absurd (let x = release in cc)
           wrong e (inr (named, name, inr back, _)) = absurd (let x = back in cc)
+
+  -- a text of the three that fails stands in the wrong place, or is in trouble
+  turn_fails : (command : Command) → Means schema sql command 0 → is_turn command ≡ true → (HasCleanDisk old → IsTrue old.is_open → (e : Error) → ¬ IsMisplaced old command e) → HasCleanDisk new → IfErr result (λ e. is_trouble e ≡ true)
+  unfolding ExecutesIn
+  turn_fails command means turns placed clean = go result (runs clean)
+    where
+      ran_on : (e : Error) → old.now.schema ≡ schema → ¬ IsMisplaced old command e → Executes sql [] old new (Err e) → is_trouble e ≡ true
+      ran_on e has allowed (inl h) = not_run sql [] old new schema has command 0 means refl e h
+      ran_on e has allowed (inr ran) =
+          let bare = compiled_plain sql [] old new schema has command 0 means ran.0 ran.1 in
+          let is = compiled_command sql [] old new schema has command 0 means ran.0 ran.1 in
+          let quiet : shows_rows false ran.0 ≡ false = quiet_turn ran.0.command ran.0.returning (ap is_turn is ∙ turns) bare.0 in
+          let it : RunsCommand old new sql ran.0 [] (Err e) = rw bare.1 at (rw quiet at ran.2) in
+          elim it [
+            | inr failed ↦ failed_is_trouble old new _ e failed
+            | inl (inl misplaced, same) ↦ absurd (allowed (subst (λ k. IsMisplaced old k e) is misplaced))
+            | inl (inr (inl writes, _), same) ↦ absurd (no_write ran.0.command (ap is_turn is ∙ turns) writes)
+            | inl (inr (inr shows, _), same) ↦ absurd (let some = rw bare.0 at shows in cc)
+          ]
+
+      go : (r : Result ℕ Error) → Executes sql [] old new r → IfErr r (λ e. is_trouble e ≡ true)
+      go (Ok count) h = tt
+      go (Err e) h = elim (write_open sql [] old new e h) [ inr bad ↦ bad | inl up ↦ let was = clean_before old new _ s clean in ran_on e (ready was up) (placed was up e) h ]
+
+  -- outside a transaction BEGIN is refused in trouble alone
+  pub begin_trouble : Means schema sql Begin 0 → (HasCleanDisk old → IsTrue old.is_open → old.in_transaction ≡ false) → HasCleanDisk new → IfErr result (λ e. is_trouble e ≡ true)
+  begin_trouble means outside = turn_fails Begin means refl (λ clean up e misplaced. placed e (outside clean up) misplaced)
+    where
+      placed : (e : Error) → old.in_transaction ≡ false → ¬ IsMisplaced old Begin e
+      placed e out (inl (named, inl begin)) = true≢false (sym begin.1 ∙ out)
+      placed e out (inl (named, inr (inl commit, _))) = absurd (let x = commit in cc)
+      placed e out (inl (named, inr (inr back, _))) = absurd (let x = back in cc)
+      placed e out (inr (named, name, inl release, _)) = absurd (let x = release in cc)
+      placed e out (inr (named, name, inr back, _)) = absurd (let x = back in cc)
+
+  -- and inside one COMMIT
+  pub commit_trouble : Means schema sql Commit 0 → (HasCleanDisk old → IsTrue old.is_open → old.in_transaction ≡ true) → HasCleanDisk new → IfErr result (λ e. is_trouble e ≡ true)
+  commit_trouble means inside = turn_fails Commit means refl (λ clean up e misplaced. placed e (inside clean up) misplaced)
+    where
+      placed : (e : Error) → old.in_transaction ≡ true → ¬ IsMisplaced old Commit e
+      placed e in_one (inl (named, inl begin)) = absurd (let x = begin.0 in cc)
+      placed e in_one (inl (named, inr (which, outside))) = true≢false (sym in_one ∙ outside)
+      placed e in_one (inr (named, name, inl release, _)) = absurd (let x = release in cc)
+      placed e in_one (inr (named, name, inr back, _)) = absurd (let x = back in cc)
 
 -- after a BEGIN, a call that fails and a ROLLBACK, the database is as it was committed
 pub taken_back : (a b c d : State) → Shows a b a.now a.committed true → IsUndone b c → (IsTrue c.is_open → IsTrue c.in_transaction → IsRolledBack c d) → IsUndone c d → IsTrue d.is_open → (d.now ≡ a.committed) × (d.committed ≡ a.committed)

@@ -1,5 +1,5 @@
 -- BEGIN, COMMIT and ROLLBACK, in the words of the layer.
-use Rattle.std.proofs.Common.{◌≡◌, ◌⊎◌, inl, inr, ℕ, List, [], Bool, true, false, IsTrue, None, Ok, Err, Result, OnOk, OnErr, refl, sym, ap, ◌∙◌, true≢false, subst, not}
+use Rattle.std.proofs.Common.{◌≡◌, ◌⊎◌, inl, inr, ℕ, List, [], Bool, true, false, IsTrue, None, Ok, Err, Result, OnOk, OnErr, IfErr, refl, sym, ap, ◌∙◌, true≢false, subst, not}
 use Rattle.std.proofs.lemmas.Bool.{cases_Bool}
 use Rattle.sqlite.specs.Tree.{Trees}
 use Rattle.sqlite.specs.Effect.{Database}
@@ -9,9 +9,9 @@ use Rattle.sqlite.specs.State.{State, HasCleanDisk, IsUnchanged, IsRolledBack, S
 use Rattle.sqlite.specs.Does.{Does, Tally}
 use Rattle.sqlite.specs.declared.error.Error.{Error}
 use Rattle.sqlite.proofs.Callers.{runs_as}
-use Rattle.bh_rows.specs.Means.{Means, IsUndone}
+use Rattle.bh_rows.specs.Means.{Means, is_trouble, IsUndone}
 use Rattle.bh_rows.proofs.CallLemmas.{clean_before, compiled_command, compiled_plain, executes_undone}
-use Rattle.bh_rows.proofs.TransactionLemmas.{turn_undone, turn_up, rollback_fails, commits_now}
+use Rattle.bh_rows.proofs.TransactionLemmas.{turn_undone, turn_up, begin_trouble, commit_trouble, rollback_fails, commits_now}
 use Rattle.bh_schema.specs.Layer.{Standing, standing, IsIntact, IsOpen, IsClean, Leaves, begun, committed, taken_back, Follows, LeavesNothingNew, IsSettled, Within, Unwinds}
 
 -- ---- any call
@@ -122,6 +122,15 @@ module _ (sql : List ℕ) (old new : State) (result : Result ℕ Error) (runs : 
       go (Ok count) ok err c = let is = ok c.intact in (ap (λ (x : Standing). x.kept) is, inl (ap (λ (x : Standing). x.inside) is))
       go (Err e) ok err c = unwound c (err c)
 
+  -- outside a transaction it fails in trouble alone
+  pub begin_fails : Means old.now.schema sql Begin 0 → IfErr result (λ e. IsIntact new → (IsClean old → (standing old).inside ≡ false) → is_trouble e ≡ true)
+  unfolding IsIntact IsOpen standing
+  begin_fails means = go result (λ outside. begin_trouble sql old new old.now.schema always result runs s means (λ clean up. outside (record { intact = clean; is_open = up })))
+    where
+      go : (r : Result ℕ Error) → ((IsClean old → old.in_transaction ≡ false) → HasCleanDisk new → IfErr r (λ e. is_trouble e ≡ true)) → IfErr r (λ e. HasCleanDisk new → (IsClean old → old.in_transaction ≡ false) → is_trouble e ≡ true)
+      go (Ok count) h = tt
+      go (Err e) h = λ clean outside. h outside clean
+
   -- ---- COMMIT
 
   ran_commit : Means old.now.schema sql Commit 0 → HasCleanDisk new → OnOk result (Shows old new old.now old.now false)
@@ -155,6 +164,15 @@ module _ (sql : List ℕ) (old new : State) (result : Result ℕ Error) (runs : 
     | inr (inl is) ↦ inr is
     | inr (inr outside) ↦ absurd (true≢false (sym inside ∙ outside))
   ]
+
+  -- and it fails in trouble alone
+  pub commit_fails : Means old.now.schema sql Commit 0 → IfErr result (λ e. IsIntact new → (IsClean old → (standing old).inside ≡ true) → is_trouble e ≡ true)
+  unfolding IsIntact IsOpen standing
+  commit_fails means = go result (λ inside. commit_trouble sql old new old.now.schema always result runs s means (λ clean up. inside (record { intact = clean; is_open = up })))
+    where
+      go : (r : Result ℕ Error) → ((IsClean old → old.in_transaction ≡ true) → HasCleanDisk new → IfErr r (λ e. is_trouble e ≡ true)) → IfErr r (λ e. HasCleanDisk new → (IsClean old → old.in_transaction ≡ true) → is_trouble e ≡ true)
+      go (Ok count) h = tt
+      go (Err e) h = λ clean inside. h inside clean
 
   -- ---- ROLLBACK
 

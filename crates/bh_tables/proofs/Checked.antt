@@ -1,6 +1,7 @@
 -- What the CHECKs say of typed rows.
 use Rattle.std.proofs.Common.{arith, ◌≡◌, ◌≤◌, ℕ, pos, ◌∷◌, [], List, ◌&&◌, not, true, false, Bool, Option, Some, None, refl, ap, ap₂, ◌∙◌, int_le}
 use Rattle.std.proofs.lemmas.Int.{ints}
+use Rattle.std.proofs.lemmas.Bool.{and_parts}
 use Rattle.sqlite.specs.Collation.TheVariants.{Binary}
 use Rattle.sqlite.specs.declared.types.Value.TheVariants.{Int}
 use Rattle.sqlite_sql.specs.declared.ops.BinaryOp.TheVariants.{Compare}
@@ -47,3 +48,7 @@ version_checked id v right = both (natural v.seq) (both (natural v.id) (both (na
 -- the row number of the host is 1
 pub host_checked : (h : HostRow) → passes_checks host_table (number 1 ∷ host_columns h) ≡ true
 host_checked h = both (twice _ (at_ints true Eq (pos 1) (pos 1))) (both (natural h.version) (both (natural h.latest) (both (natural h.min_part) (both (natural h.max_body) refl))))
+
+-- and stays so under another last stamp
+pub host_checked_still : (id : Rattle.std.proofs.Common.ℤ) (h : HostRow) (n : ℕ) → passes_checks host_table (Int id ∷ host_columns h) ≡ true → passes_checks host_table (Int id ∷ host_columns (record h { latest = n })) ≡ true
+host_checked_still id h n was = both (and_parts _ _ was).0 (both (natural h.version) (both (natural n) (both (natural h.min_part) (both (natural h.max_body) refl))))

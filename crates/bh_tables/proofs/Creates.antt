@@ -1,8 +1,12 @@
--- The CREATE texts, one after another.
+-- The CREATE texts, one after another, and that nothing stands against them.
 use Rattle.std.proofs.Common.{◌≡◌, codes, refl}
 use Rattle.sqlite.specs.Listing.{understood}
 use Rattle.sqlite_tied.specs.Compute.{everything}
+use Rattle.std.specs.Float.Ieee
+use Rattle.sqlite_value.specs.Order.{value_cmp}
+use Rattle.sqlite_trees.specs.Sound.{fits_kind, is_free_name, begins, same_name}
 use Rattle.bh_rows.proofs.CreateLemmas.{Makes}
+use Rattle.bh_rows.proofs.CreateErrors.{IsFree}
 use Rattle.bh_tables.specs.Schema.{Octets, no_schema, host_schema, host_table, tenants_table, keys_table, buckets_table, versions_table}
 use Rattle.bh_tables.specs.Made.{with_host, with_tenants, with_keys, with_buckets, with_versions}
 
@@ -13,12 +17,20 @@ pub makes_host : Makes no_schema host_text host_table
 unfolding understood everything
 makes_host = record { means = record { is = refl; plain = (refl, refl); unlisted = refl; whole = refl; given = refl }; text = refl; defined = refl; uncounted = refl }
 
+pub free_host : IsFree no_schema host_text host_table
+unfolding everything fits_kind is_free_name begins same_name value_cmp Ieee.lt Ieee.is_nan
+free_host = record { text = refl; name = refl; own = refl; free = refl; keys_free = refl; few = refl; narrow = refl; keys_narrow = refl; formed = refl; fit = refl }
+
 abbrev tenants_text : Octets
 tenants_text = codes "CREATE TABLE tenants (tenant TEXT NOT NULL PRIMARY KEY, quota INTEGER NOT NULL CHECK (quota >= 0), next_version INTEGER NOT NULL CHECK (next_version >= 0), next_upload INTEGER NOT NULL CHECK (next_upload >= 0), next_entry INTEGER NOT NULL CHECK (next_entry >= 0)) STRICT"
 
 pub makes_tenants : Makes with_host tenants_text tenants_table
 unfolding understood everything
 makes_tenants = record { means = record { is = refl; plain = (refl, refl); unlisted = refl; whole = refl; given = refl }; text = refl; defined = refl; uncounted = refl }
+
+pub free_tenants : IsFree with_host tenants_text tenants_table
+unfolding everything fits_kind is_free_name begins same_name value_cmp Ieee.lt Ieee.is_nan
+free_tenants = record { text = refl; name = refl; own = refl; free = refl; keys_free = refl; few = refl; narrow = refl; keys_narrow = refl; formed = refl; fit = refl }
 
 abbrev keys_text : Octets
 keys_text = codes "CREATE TABLE keys (tenant TEXT NOT NULL REFERENCES tenants ON DELETE RESTRICT, name TEXT NOT NULL, secret TEXT NOT NULL, PRIMARY KEY (tenant, name)) STRICT"
@@ -27,6 +39,10 @@ pub makes_keys : Makes with_tenants keys_text keys_table
 unfolding understood everything
 makes_keys = record { means = record { is = refl; plain = (refl, refl); unlisted = refl; whole = refl; given = refl }; text = refl; defined = refl; uncounted = refl }
 
+pub free_keys : IsFree with_tenants keys_text keys_table
+unfolding everything fits_kind is_free_name begins same_name value_cmp Ieee.lt Ieee.is_nan
+free_keys = record { text = refl; name = refl; own = refl; free = refl; keys_free = refl; few = refl; narrow = refl; keys_narrow = refl; formed = refl; fit = refl }
+
 abbrev buckets_text : Octets
 buckets_text = codes "CREATE TABLE buckets (tenant TEXT NOT NULL REFERENCES tenants ON DELETE RESTRICT, bucket TEXT NOT NULL, created INTEGER NOT NULL CHECK (created >= 0), state INTEGER NOT NULL CHECK (state >= 0) CHECK (state <= 2), days INTEGER CHECK (days >= 0), PRIMARY KEY (tenant, bucket)) STRICT"
 
@@ -34,12 +50,20 @@ pub makes_buckets : Makes with_keys buckets_text buckets_table
 unfolding understood everything
 makes_buckets = record { means = record { is = refl; plain = (refl, refl); unlisted = refl; whole = refl; given = refl }; text = refl; defined = refl; uncounted = refl }
 
+pub free_buckets : IsFree with_keys buckets_text buckets_table
+unfolding everything fits_kind is_free_name begins same_name value_cmp Ieee.lt Ieee.is_nan
+free_buckets = record { text = refl; name = refl; own = refl; free = refl; keys_free = refl; few = refl; narrow = refl; keys_narrow = refl; formed = refl; fit = refl }
+
 abbrev versions_text : Octets
 versions_text = codes "CREATE TABLE versions (tenant TEXT NOT NULL, seq INTEGER NOT NULL CHECK (seq >= 0), bucket TEXT NOT NULL, okey BLOB NOT NULL, id INTEGER NOT NULL CHECK (id >= 0), marker INTEGER NOT NULL CHECK (marker >= 0), stamp INTEGER NOT NULL CHECK (stamp >= 0), size INTEGER NOT NULL CHECK (size >= 0), sum TEXT NOT NULL, bytes BLOB NOT NULL, PRIMARY KEY (tenant, seq), UNIQUE (tenant, bucket, okey, id), FOREIGN KEY (tenant, bucket) REFERENCES buckets ON DELETE RESTRICT, CHECK (marker = 0 OR (size = 0 AND sum = ''))) STRICT"
 
 pub makes_versions : Makes with_buckets versions_text versions_table
 unfolding understood everything
 makes_versions = record { means = record { is = refl; plain = (refl, refl); unlisted = refl; whole = refl; given = refl }; text = refl; defined = refl; uncounted = refl }
+
+pub free_versions : IsFree with_buckets versions_text versions_table
+unfolding everything fits_kind is_free_name begins same_name value_cmp Ieee.lt Ieee.is_nan
+free_versions = record { text = refl; name = refl; own = refl; free = refl; keys_free = refl; few = refl; narrow = refl; keys_narrow = refl; formed = refl; fit = refl }
 
 -- these are all
 pub all_made : with_versions ≡ host_schema

@@ -78,7 +78,7 @@ module _ (old new : State) (n : ℕ) (ready : IsReady old) where
 abbrev pub insert_host_text : Octets
 insert_host_text = codes "INSERT INTO host (version, latest, min_part, max_body) VALUES (0, 0, ?1, ?2)"
 
-abbrev insert_host_terms : List Term
+abbrev pub insert_host_terms : List Term
 insert_host_terms = lit Null ∷ lit Null ∷ lit (Int (pos 0)) ∷ lit (Int (pos 0)) ∷ col 0 0 ∷ col 0 1 ∷ []
 
 pub insert_host_means : Means host_schema insert_host_text (Insert 0 (Values insert_host_terms 6)) 2

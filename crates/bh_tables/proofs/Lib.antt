@@ -13,6 +13,7 @@ pub mod BucketLemmas
 pub mod VersionLemmas
 pub mod Checked
 pub mod Apart
+pub mod HostRefusals
 pub mod TenantRefusals
 pub mod KeyRefusals
 pub mod BucketRefusals

@@ -50,7 +50,10 @@ pub fn set_latest<S: Alter>(connection: &mut Connection<S>, stamp: u64) -> Resul
     ensures within { Within (state S.Store connection.old) (state S.Store connection.new) }
     ensures opens { OnOk result (IsIntact (state S.Store connection.new) → IsOpen (state S.Store connection.old) → IsOpen (state S.Store connection.new)) }
     ensures holds { OnOk result (IsClean (state S.Store connection.new) → Holds (record (tables_in (standing (state S.Store connection.old)).now) { host = map (with_stamp stamp) (tables_in (standing (state S.Store connection.old)).now).host }) (standing (state S.Store connection.new))) }
+    ensures trouble { IfErr result (λ e. IsIntact (state S.Store connection.new) → (standing (state S.Store connection.old)).limit ≡ None → is_trouble e ≡ true) }
 {
+    // Asked for what it ensures: the rows obey the schema.
+    let _schema = connection.schema();
     connection.execute("UPDATE host SET latest = ?1", &[number(stamp)])
 }
 
@@ -66,7 +69,11 @@ pub fn insert_host<S: Alter>(
     ensures within { Within (state S.Store connection.old) (state S.Store connection.new) }
     ensures opens { OnOk result (IsIntact (state S.Store connection.new) → IsOpen (state S.Store connection.old) → IsOpen (state S.Store connection.new)) }
     ensures holds { OnOk result (IsClean (state S.Store connection.new) → Holds (record (tables_in (standing (state S.Store connection.old)).now) { host = (tables_in (standing (state S.Store connection.old)).now).host ++ record { version = 0; latest = 0; min_part = min_part; max_body = max_body } ∷ [] }) (standing (state S.Store connection.new))) }
+    ensures trouble { IfErr result (λ e. IsIntact (state S.Store connection.new) → (standing (state S.Store connection.old)).limit ≡ None
+        → (IsClean (state S.Store connection.old) → (tables_in (standing (state S.Store connection.old)).now).host ≡ []) → is_trouble e ≡ true) }
 {
+    // Asked for what it ensures: the rows obey the schema.
+    let _schema = connection.schema();
     connection.execute(
         "INSERT INTO host (version, latest, min_part, max_body) VALUES (0, 0, ?1, ?2)",
         &[number(min_part), number(max_body)],

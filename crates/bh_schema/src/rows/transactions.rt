@@ -1,6 +1,7 @@
-ghost use Rattle.std.specs.Prelude.{◌≡◌, ◌⊎◌, true, OnOk, OnErr};
+ghost use Rattle.std.specs.Prelude.{◌≡◌, ◌⊎◌, true, false, IfErr, OnOk, OnErr};
 ghost use Rattle.sqlite.specs.Tree.{Trees};
 ghost use Rattle.sqlite.specs.Held.{state};
+ghost use Rattle.bh_rows.specs.Means.{is_trouble};
 ghost use Rattle.bh_schema.specs.Layer.{standing, IsIntact, IsOpen, IsClean, Leaves, begun, committed, taken_back, Follows, LeavesNothingNew, Within, Unwinds};
 
 use sqlite::{Alter, Connection, Error};
@@ -11,6 +12,7 @@ pub fn begin<S: Alter>(connection: &mut Connection<S>) -> Result<usize, Error>
     ensures begins { OnOk result (IsIntact (state S.Store connection.new) → standing (state S.Store connection.new) ≡ begun (standing (state S.Store connection.old))) }
     ensures within { Within (state S.Store connection.old) (state S.Store connection.new) }
     ensures survives { LeavesNothingNew (state S.Store connection.old) (state S.Store connection.new) }
+    ensures trouble { IfErr result (λ e. IsIntact (state S.Store connection.new) → (IsClean (state S.Store connection.old) → (standing (state S.Store connection.old)).inside ≡ false) → is_trouble e ≡ true) }
 {
     // Asked for what it ensures: outside a transaction, what is standing was committed.
     let _outside = connection.is_autocommit();
@@ -25,6 +27,7 @@ pub fn commit<S: Alter>(connection: &mut Connection<S>) -> Result<usize, Error>
     ensures unwinds { OnErr result (IsClean (state S.Store connection.new) → Unwinds (standing (state S.Store connection.old)) (standing (state S.Store connection.new))) }
     ensures survives { IsIntact (state S.Store connection.new) → (standing (state S.Store connection.old)).inside ≡ true
         → (db : Trees) → Leaves (state S.Store connection.new) db → Leaves (state S.Store connection.old) db ⊎ (db ≡ (standing (state S.Store connection.old)).now.trees) }
+    ensures trouble { IfErr result (λ e. IsIntact (state S.Store connection.new) → (IsClean (state S.Store connection.old) → (standing (state S.Store connection.old)).inside ≡ true) → is_trouble e ≡ true) }
 {
     connection.execute("COMMIT", &[])
 }

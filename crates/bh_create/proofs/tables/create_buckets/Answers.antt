@@ -1,7 +1,13 @@
 use Rattle.sqlite.specs.Held.{state}
-use Rattle.bh_tables.proofs.Creates.{makes_buckets}
-use Rattle.bh_create.proofs.Building.{makes}
+use Rattle.bh_tables.proofs.Creates.{makes_buckets, free_buckets}
+use Rattle.bh_create.proofs.Building.{makes, fails}
 use Rattle.bh_create.proofs.tables.create_buckets.Goals as goal
 
 pub returns : goal.returns
-returns g c = makes _ _ _ makes_buckets (state g.S.Store c.args.connection.now) (state g.S.Store c.execute.new.self) c.requires c.execute.result c.execute.ensures.runs c.execute.ensures.survives
+returns g c =
+    let old = state g.S.Store c.args.connection.now in
+    let new = state g.S.Store c.execute.new.self in
+    record {
+      makes = makes _ _ _ makes_buckets old new c.requires c.execute.result c.execute.ensures.runs c.execute.ensures.survives;
+      trouble = fails _ _ _ makes_buckets old new c.requires free_buckets c.execute.result c.execute.ensures.runs c.execute.ensures.survives;
+    }

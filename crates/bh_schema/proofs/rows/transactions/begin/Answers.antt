@@ -2,7 +2,7 @@ use Rattle.std.proofs.Common.{refl, inl}
 use Rattle.sqlite.specs.Held.{state}
 use Rattle.bh_tables.proofs.Transactions.{begin_means}
 use Rattle.sqlite.specs.Command.TheVariants.{Begin}
-use Rattle.bh_schema.proofs.TurnLemmas.{begin_opens, begin_begins, begin_within, turn_leaves, settled_by}
+use Rattle.bh_schema.proofs.TurnLemmas.{begin_opens, begin_begins, begin_fails, begin_within, turn_leaves, settled_by}
 use Rattle.bh_schema.proofs.rows.transactions.begin.Goals as goal
 
 pub returns-clause-opens : goal.returns-clause-opens
@@ -25,3 +25,8 @@ pub returns-clause-survives : goal.returns-clause-survives
 returns-clause-survives g c =
     let old = state g.S.Store c.args.connection.now in
     turn_leaves _ old (state g.S.Store c.execute.new.self) c.execute.result c.execute.ensures.runs c.execute.ensures.survives Begin (begin_means old.now.schema) (inl refl)
+
+pub returns-clause-trouble : goal.returns-clause-trouble
+returns-clause-trouble g c =
+    let old = state g.S.Store c.args.connection.now in
+    begin_fails _ old (state g.S.Store c.execute.new.self) c.execute.result c.execute.ensures.runs c.execute.ensures.survives (begin_means old.now.schema)

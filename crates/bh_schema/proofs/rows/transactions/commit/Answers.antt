@@ -1,6 +1,6 @@
 use Rattle.sqlite.specs.Held.{state}
 use Rattle.bh_tables.proofs.Transactions.{commit_means}
-use Rattle.bh_schema.proofs.TurnLemmas.{commit_opens, commit_commits, commit_leaves, turn_follows, turn_fails}
+use Rattle.bh_schema.proofs.TurnLemmas.{commit_opens, commit_commits, commit_fails, commit_leaves, turn_follows, turn_fails}
 use Rattle.bh_schema.proofs.rows.transactions.commit.Goals as goal
 
 pub returns-clause-opens : goal.returns-clause-opens
@@ -21,3 +21,8 @@ returns-clause-unwinds g c = turn_fails _ (state g.S.Store c.args.connection.now
 
 pub returns-clause-survives : goal.returns-clause-survives
 returns-clause-survives g c = commit_leaves _ (state g.S.Store c.args.connection.now) (state g.S.Store c.execute.new.self) c.execute.result c.execute.ensures.runs c.execute.ensures.survives
+
+pub returns-clause-trouble : goal.returns-clause-trouble
+returns-clause-trouble g c =
+    let old = state g.S.Store c.args.connection.now in
+    commit_fails _ old (state g.S.Store c.execute.new.self) c.execute.result c.execute.ensures.runs c.execute.ensures.survives (commit_means old.now.schema)
