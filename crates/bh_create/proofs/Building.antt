@@ -21,6 +21,7 @@ use Rattle.bh_rows.proofs.CreateLemmas.{Makes as Creates, grows, create_changes}
 use Rattle.bh_rows.proofs.CreateErrors.{IsFree, create_trouble}
 use Rattle.bh_schema.specs.Layer.{Standing, standing, IsIntact, IsOpen, IsClean, Leaves, IsInside, Holds, Follows, begun, committed}
 use Rattle.bh_schema.specs.Storage.{seen_in, left_in}
+use Rattle.bh_schema.proofs.Storing.{follows_then}
 use Rattle.bh_schema.proofs.TurnLemmas.{follows}
 use Rattle.bh_create.specs.Creation.{IsEmpty, IsNewHost, IsMaking, Keeps, Makes}
 
@@ -66,9 +67,6 @@ module _ (before : Schema) (sql : List ℕ) (table : Table) (creates : Creates b
       go (Err e) h = h
 
 -- ---- several calls
-
-pub follows_then : (a b c : State) → Follows a b → Follows b c → Follows a c
-follows_then a b c one two = record { clean = λ h. one.clean (two.clean h); intact = λ h. one.intact (two.intact h); limit = two.limit ∙ one.limit }
 
 pub keeps_then : (a b c : State) → Keeps a b → Keeps b c → Keeps a c
 keeps_then a b c one two = record { follows = follows_then a b c one.follows two.follows; kept = λ clean. two.kept clean ∙ one.kept (two.follows.clean clean) }
@@ -116,11 +114,3 @@ stands old new min_part max_body good it is settled =
       vacant = made.2;
       left = λ x its. its.2 ∙ ap (λ (t : Trees). tables_shown (record { schema = host_schema; trees = t })) (settled its.0 its.1 ∙ ap (λ (y : Standing). y.kept.trees) is) ∙ host ∙ shows;
     }
-
-pub on_ok : {X E : Type 0} (r : Result X E) {P Q : Type 0} → (P → Q) → OnOk r P → OnOk r Q
-on_ok (Ok x) f h = f h
-on_ok (Err e) f h = tt
-
-pub on_err : {X E : Type 0} (r : Result X E) {P Q : E → Type 0} → ((e : E) → P e → Q e) → IfErr r P → IfErr r Q
-on_err (Ok x) f h = tt
-on_err (Err e) f h = f e h

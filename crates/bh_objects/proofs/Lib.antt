@@ -1,7 +1,6 @@
 pub mod Working
 pub mod Found
 pub mod Creating
-pub mod NumbersText
 pub mod Putting
 pub mod Getting
 pub mod Storing

@@ -5,6 +5,5 @@ pub mod buckets;
 pub mod gets;
 pub mod objects;
 pub mod reads;
-pub mod rows;
 pub mod storage;
 pub mod writes;

@@ -1,4 +1,4 @@
-ghost use Rattle.std.specs.Prelude.{◌≡◌, ◌≤◌, ◌<◌, ◌^◌, length, OnOk, None};
+ghost use Rattle.std.specs.Prelude.{◌≡◌, ◌≤◌, None};
 ghost use Rattle.sqlite.specs.Held.{state};
 ghost use Rattle.bh_model.specs.Entries.{new_id};
 ghost use Rattle.bh_model.specs.Operations as machine;
@@ -12,7 +12,7 @@ use crate::writes::{NewObject, write_object};
 use bh_docs::checksum::checksum_of;
 use bh_model::counting::after_entry;
 use bh_storage::answer::StoredVersion;
-use bh_storage::error::{StepError, Trouble};
+use bh_storage::error::StepError;
 use bh_types::id::VersionId;
 use bh_types::plain::BucketState;
 use sqlite::{Alter, Connection};
@@ -26,17 +26,6 @@ fn told_id(mode: BucketState, version: u64) -> Option<VersionId>
         BucketState::Unversioned => None,
         BucketState::Enabled => Some(VersionId::Numbered(version)),
         BucketState::Suspended => Some(VersionId::Null),
-    }
-}
-
-/// No allocation has 2^62 bytes, so memory is wanting for an object of that size.
-fn check_size(bytes: &[u8]) -> Result<(), Trouble>
-    ensures { OnOk result (length bytes.now < 2 ^ 63) }
-{
-    if bytes.len() < 1 << 62 {
-        Ok(())
-    } else {
-        Err(Trouble::Memory)
     }
 }
 
@@ -55,7 +44,6 @@ pub fn put_object<S: Alter>(
     let mode = bucket_state(connection, object.tenant, object.bucket)?;
     let before = next_counters(connection, object.tenant)?;
     let after = after_entry(mode, before)?;
-    check_size(object.bytes)?;
     let checksum = checksum_of(alloc, object.bytes)?;
     write_object(connection, object, mode, before, after, checksum.as_str())?;
     Ok(StoredVersion {

@@ -1,4 +1,4 @@
-ghost use Rattle.std.specs.Prelude.{◌≡◌, ◌<◌, ◌^◌, ◌++◌, ◌∷◌, [], length, OnOk};
+ghost use Rattle.std.specs.Prelude.{◌≡◌, ◌<◌, ◌^◌, ◌++◌, ◌∷◌, [], OnOk};
 ghost use Rattle.sqlite.specs.Held.{state};
 ghost use Rattle.sqlite_keyed.specs.Lists.{update_where, delete_where};
 ghost use Rattle.bh_types.specs.Checksums.{checksum_text};
@@ -8,7 +8,6 @@ ghost use Rattle.bh_view.specs.Put.{counters_row, rows_left};
 ghost use Rattle.bh_schema.specs.Layer.{standing, IsClean, IsInside, Holds};
 ghost use Rattle.bh_objects.specs.Working.{tables_at, Within, IsKeyText, with_put};
 
-use crate::rows::set_numbers;
 use bh_schema::rows;
 use bh_schema::rows::versions::NewVersion;
 use bh_schema::trouble::trouble_of;
@@ -43,7 +42,7 @@ fn set_counters<S: Alter>(
     ensures holds { OnOk result (IsClean (state S.Store connection.new) → Holds (record (tables_at (state S.Store connection.old)) { tenants = update_where (is_tenant tenant.now) (counters_row mode counters) (tables_at (state S.Store connection.old)).tenants }) (standing (state S.Store connection.new))) }
 {
     match mode {
-        BucketState::Enabled => match set_numbers(
+        BucketState::Enabled => match rows::tenants::set_numbers(
             connection,
             tenant.as_str(),
             counters.version,
@@ -131,7 +130,6 @@ fn add_row<S: Alter>(
     checksum: &str,
 ) -> Result<(), Trouble>
     requires inside { IsClean (state S.Store connection.old) → IsInside (standing (state S.Store connection.old)) }
-    requires size { length object.now.bytes.now < 2 ^ 63 }
     requires checksum { checksum.now ≡ checksum_text object.now.bytes.now }
     ensures within { Within (state S.Store connection.old) (state S.Store connection.new) }
     ensures holds { OnOk result (IsClean (state S.Store connection.new) → Holds (record (tables_at (state S.Store connection.old)) { versions = (tables_at (state S.Store connection.old)).versions ++ put.object_row object.now.tenant.now object.now.bucket.now object.now.key.now counters.entry (put.row_number mode counters.version) object.now.at object.now.bytes.now ∷ [] }) (standing (state S.Store connection.new))) }
@@ -164,7 +162,6 @@ pub fn write_object<S: Alter>(
     checksum: &str,
 ) -> Result<(), Trouble>
     requires inside { IsClean (state S.Store connection.old) → IsInside (standing (state S.Store connection.old)) }
-    requires size { length object.now.bytes.now < 2 ^ 63 }
     requires checksum { checksum.now ≡ checksum_text object.now.bytes.now }
     ensures within { Within (state S.Store connection.old) (state S.Store connection.new) }
     ensures holds { OnOk result (IsClean (state S.Store connection.new) → Holds (with_put mode before after object.now.tenant.now object.now.bucket.now object.now.key.now object.now.at object.now.bytes.now (tables_at (state S.Store connection.old))) (standing (state S.Store connection.new))) }

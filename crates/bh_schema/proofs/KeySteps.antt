@@ -3,6 +3,7 @@ use Rattle.std.proofs.Common.{◌≡◌, Bool, true, false, ◌&&◌, [], ◌∷
 use Rattle.std.specs.FinMap.{get, insert, remove}
 use Rattle.std.proofs.lemmas.Bool.{and_parts}
 use Rattle.sqlite.specs.State.{State}
+use Rattle.sqlite_keyed.proofs.SliceLemmas.{is_some-map}
 use Rattle.sqlite_keyed.specs.Lists.{delete_where}
 use Rattle.bh_types.specs.Names.{is_tenant_name, is_key_name, is_secret}
 use Rattle.bh_types.specs.declared.refusal.Refusal.TheVariants.{NoSuchTenant, KeyExists, NoSuchKeyName}
@@ -21,7 +22,7 @@ use Rattle.bh_schema.specs.Known.{key_known}
 use Rattle.bh_schema.specs.declared.rows.known.Known.{Known}
 use Rattle.bh_schema.specs.declared.rows.known.Known.TheVariants.{NoTenant, NoKey, Key}
 use Rattle.bh_schema.proofs.Storing.{shows_in, holds_seen}
-use Rattle.bh_schema.proofs.TenantSteps.{none_of, some_of, some_mapped, view_found, required}
+use Rattle.bh_schema.proofs.TenantSteps.{none_of, some_of, view_found, required}
 
 -- ---- what the tables say, of the state
 
@@ -34,7 +35,7 @@ known_of n None = NoTenant
 known_of n (Some s) = cond (is_some (get s.keys n)) Key NoKey
 
 key_seen_in : (tables : Tables) (t n : Octets) (s : Machine) → view tables t ≡ Some s → is_some (get s.keys n) ≡ is_some (find (is_key t n) tables.keys)
-key_seen_in tables t n s is = ap is_some (key_of_state tables t s is n) ∙ some_mapped _ _ ∙ ap is_some (first_find (is_key t n) tables.keys)
+key_seen_in tables t n s is = ap is_some (key_of_state tables t s is n) ∙ is_some-map _ _ ∙ ap is_some (first_find (is_key t n) tables.keys)
 
 known_seen_in : (tables : Tables) (t n : Octets) → key_known tables t n ≡ known_of n (view tables t)
 known_seen_in tables t n = go (view tables t) refl

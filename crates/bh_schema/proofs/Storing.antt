@@ -1,5 +1,5 @@
 -- From the words of a connection to those of a host's storage.
-use Rattle.std.proofs.Common.{◌≡◌, inl, inr, true, IsTrue, Ok, Result, OnOk, IfOk, sym, ap, ◌∙◌, subst}
+use Rattle.std.proofs.Common.{◌≡◌, inl, inr, true, IsTrue, Ok, Result, OnOk, sym, ap, ◌∙◌, subst}
 use Rattle.sqlite.specs.Tree.{Trees}
 use Rattle.sqlite.specs.Effect.{Database}
 use Rattle.sqlite.specs.Held.{Held, state}
@@ -14,9 +14,6 @@ use Rattle.bh_schema.specs.Layer.{standing, IsIntact, IsOpen, IsClean, Leaves, I
 use Rattle.bh_schema.specs.Storage.{shown, seen_in, left_in, Keeps}
 
 -- ---- what an answer tells
-
-pub if_ok : {X E : Type 0} {r : Result X E} {x : X} (P : X → Type 0) → r ≡ Ok x → IfOk r P → P x
-if_ok P is h = subst (λ o. IfOk o P) is h
 
 pub on_ok : {X E : Type 0} {r : Result X E} {x : X} (P : Type 0) → r ≡ Ok x → OnOk r P → P
 on_ok P is h = subst (λ o. OnOk o P) is h

@@ -1,6 +1,7 @@
 -- What is seen of a tenant, and the step that adds one.
 use Rattle.std.proofs.Common.{◌≡◌, ◌≤◌, ℕ, nat_le, ◌^◌, Bool, true, false, [], ◌∷◌, ◌++◌, find, Option, Some, None, option_map, is_some, IsTrue, Result, Ok, Err, refl, sym, ap, ◌∙◌, subst}
 use Rattle.sqlite.specs.State.{State}
+use Rattle.sqlite_keyed.proofs.SliceLemmas.{is_some-map}
 use Rattle.bh_types.specs.Names.{is_tenant_name}
 use Rattle.bh_types.specs.declared.refusal.Refusal.{Refusal}
 use Rattle.bh_types.specs.declared.refusal.Refusal.TheVariants.{TenantExists}
@@ -19,10 +20,6 @@ use Rattle.bh_schema.proofs.Storing.{shows_in, holds_seen}
 
 -- ---- options
 
-pub some_mapped : {X Y : Type 0} (f : X → Y) (o : Option X) → is_some (option_map f o) ≡ is_some o
-some_mapped f None = refl
-some_mapped f (Some x) = refl
-
 pub none_of : {X : Type 0} (o : Option X) → is_some o ≡ false → o ≡ None
 none_of None h = refl
 none_of (Some x) h = absurd (cc)
@@ -34,19 +31,16 @@ some_of (Some x) h = (x, refl)
 -- ---- a tenant that is found
 
 pub view_found : (tables : Tables) (t : Octets) → is_some (view tables t) ≡ is_some (find (is_tenant t) tables.tenants)
-view_found tables t = ap is_some (tenant_found tables t) ∙ some_mapped _ _ ∙ ap is_some (first_find (is_tenant t) tables.tenants)
+view_found tables t = ap is_some (tenant_found tables t) ∙ is_some-map _ _ ∙ ap is_some (first_find (is_tenant t) tables.tenants)
 
 pub tenant_seen : {X : Type 0} (s : State) (t : Octets) (read : TenantRow → X) (found : Option X) → IsWorking (seen_in s) → found ≡ option_map read (find (is_tenant t) (tables_in (standing s).now).tenants)
     → is_some (view (seen_in s).now t) ≡ is_some found
-tenant_seen s t read found working is = view_found (seen_in s).now t ∙ ap (λ (x : Tables). is_some (find (is_tenant t) x.tenants)) (shows_in s working) ∙ sym (ap is_some is ∙ some_mapped read _)
+tenant_seen s t read found working is = view_found (seen_in s).now t ∙ ap (λ (x : Tables). is_some (find (is_tenant t) x.tenants)) (shows_in s working) ∙ sym (ap is_some is ∙ is_some-map read _)
 
 -- ---- the step
 
 pub required : {E : Type 0} (b : Bool) (e : E) → b ≡ true → Rattle.bh_types.specs.Outcomes.require b e ≡ Ok tt
 required b e h = ap (λ x. Rattle.bh_types.specs.Outcomes.require x e) h
-
-pub refused : {E : Type 0} (b : Bool) (e : E) → b ≡ false → Rattle.bh_types.specs.Outcomes.require b e ≡ Err e
-refused b e h = ap (λ x. Rattle.bh_types.specs.Outcomes.require x e) h
 
 pub adds_tenant : (t : Octets) (quota : ℕ) (s : Option Machine) → IsTrue (is_tenant_name t) → nat_le quota (2 ^ 60) ≡ true → s ≡ None → add_tenant t quota s ≡ Ok (Done, Some (new_tenant quota))
 adds_tenant t quota s name few none = rw (required (is_tenant_name t) _ name, required (nat_le quota (2 ^ 60)) _ few, none) refl

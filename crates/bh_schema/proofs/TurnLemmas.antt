@@ -5,12 +5,12 @@ use Rattle.sqlite.specs.Tree.{Trees}
 use Rattle.sqlite.specs.Effect.{Database}
 use Rattle.sqlite.specs.Command.{Command}
 use Rattle.sqlite.specs.Command.TheVariants.{Begin, Commit, Rollback}
-use Rattle.sqlite.specs.State.{State, HasCleanDisk, IsUnchanged, IsRolledBack, Survives, Executes, CommitsBy, Shows, mode_of, MayCommit}
-use Rattle.sqlite.specs.Does.{Does, Tally}
+use Rattle.sqlite.specs.State.{State, HasCleanDisk, IsUnchanged, IsRolledBack, Survives, Executes, CommitsBy, Shows}
 use Rattle.sqlite.specs.declared.error.Error.{Error}
 use Rattle.sqlite.proofs.Callers.{runs_as}
 use Rattle.bh_rows.specs.Means.{Means, is_trouble, IsUndone}
-use Rattle.bh_rows.proofs.CallLemmas.{clean_before, compiled_command, compiled_plain, executes_undone}
+use Rattle.bh_rows.proofs.CallLemmas.{clean_before, executes_undone}
+use Rattle.bh_rows.proofs.CrashLemmas.{turn_leaves as commits_nothing}
 use Rattle.bh_rows.proofs.TransactionLemmas.{turn_undone, turn_up, begin_trouble, commit_trouble, rollback_fails, commits_now}
 use Rattle.bh_schema.specs.Layer.{Standing, standing, IsIntact, IsOpen, IsClean, Leaves, begun, committed, taken_back, Follows, LeavesNothingNew, IsSettled, Within, Unwinds}
 
@@ -51,27 +51,9 @@ module _ (sql : List ℕ) (old new : State) (result : Result ℕ Error) (runs : 
   turn_follows = follows old new s (turn_up sql old new old.now.schema always result runs s)
 
   -- a text that is no commit leaves nothing new
-  writes_none : (command : Command) → (command ≡ Begin) ⊎ (command ≡ Rollback) → (text : List ℕ) (tally : Tally) (after : Database) → ¬ Does old.step_limit (mode_of old) [] old.now text None command (Ok (tally, after))
-  writes_none command (inl begin) text tally after h = let e = rw begin at h in absurd (cc)
-  writes_none command (inr back) text tally after h = let e = rw back at h in absurd (cc)
-
-  leaves_none : (command : Command) → Means old.now.schema sql command 0 → (command ≡ Begin) ⊎ (command ≡ Rollback) → (db : Trees) → ¬ CommitsBy sql [] old db
-  unfolding CommitsBy
-  leaves_none command means which db h =
-      let is = compiled_command sql [] old new old.now.schema refl command 0 means h.0 h.1 in
-      let bare = compiled_plain sql [] old new old.now.schema refl command 0 means h.0 h.1 in
-      let it : MayCommit old None command _ [] db = rw bare.1 at (rw bare.0 at (rw is at h.2)) in
-      elim it [
-        | inr wrote ↦ writes_none command which _ wrote.1 wrote.2 wrote.3
-        | inl ends ↦ elim which [
-          | inl begin ↦ elim ends.0 [ inl commit ↦ let e = sym commit ∙ begin in absurd (cc) | inr release ↦ let e = sym release.2 ∙ begin in absurd (cc) ]
-          | inr back ↦ elim ends.0 [ inl commit ↦ let e = sym commit ∙ back in absurd (cc) | inr release ↦ let e = sym release.2 ∙ back in absurd (cc) ]
-        ]
-      ]
-
   pub turn_leaves : (command : Command) → Means old.now.schema sql command 0 → (command ≡ Begin) ⊎ (command ≡ Rollback) → LeavesNothingNew old new
   unfolding IsIntact Leaves
-  turn_leaves command means which clean db h = elim (s.crash clean db h) [ inl was ↦ was | inr wrote ↦ absurd (leaves_none command means which db wrote) ]
+  turn_leaves command means which clean db h = elim ((commits_nothing sql old new command means which s).crash clean db h) [ inl was ↦ was | inr never ↦ absurd never ]
 
   pub turn_fails : OnErr result (IsClean new → Unwinds (standing old) (standing new))
   unfolding IsIntact IsOpen

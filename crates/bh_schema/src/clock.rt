@@ -22,6 +22,7 @@ impl<S: Alter + Drop, D: Digester + Drop> Host<S, D> {
         ensures opens { OnOk result (IsIntact (state S.Store self.new.connection) → IsOpen (state S.Store self.old.connection) × IsOpen (state S.Store self.new.connection)) }
         ensures same { OnOk result (IsIntact (state S.Store self.new.connection) → standing (state S.Store self.new.connection) ≡ standing (state S.Store self.old.connection)) }
         ensures latest { IfOk result (λ m. IsClean (state S.Store self.new.connection) → m ≡ latest_of (seen_in (state S.Store self.old.connection)).now) }
+        ensures settings { self.new ≡ record self.old { connection = self.new.connection } }
     {
         let found = told(find_latest(&mut self.connection))?;
         match Moment::from_reading(found.unwrap_or(0)) {
@@ -40,6 +41,8 @@ impl<S: Alter + Drop, D: Digester + Drop> Host<S, D> {
         ensures stamps { IfOk result (λ m. IsClean (state S.Store self.new.connection) → Stamps reading m (seen_in (state S.Store self.old.connection)).now (seen_in (state S.Store self.new.connection)).now) }
         ensures unwritten { IfOk result (λ m. IsClean (state S.Store self.new.connection) → m ≡ latest_of (seen_in (state S.Store self.old.connection)).now
             → standing (state S.Store self.new.connection) ≡ standing (state S.Store self.old.connection)) }
+        ensures settings { self.new ≡ record self.old { connection = self.new.connection } }
+        ensures steps { (standing (state S.Store self.new.connection)).limit ≡ (standing (state S.Store self.old.connection)).limit }
     {
         let latest = self.latest()?;
         if reading <= latest.seconds() {
@@ -60,6 +63,8 @@ impl<S: Alter + Drop, D: Digester + Drop> Host<S, D> {
         ensures clocks { IsClean (state S.Store self.new.connection) → Clocks reading (seen_in (state S.Store self.old.connection)).now (seen_in (state S.Store self.new.connection)).now result }
         ensures unwritten { IfOk result (λ m. IsClean (state S.Store self.new.connection) → m ≡ latest_of (seen_in (state S.Store self.old.connection)).now
             → standing (state S.Store self.new.connection) ≡ standing (state S.Store self.old.connection)) }
+        ensures settings { self.new ≡ record self.old { connection = self.new.connection } }
+        ensures steps { (standing (state S.Store self.new.connection)).limit ≡ (standing (state S.Store self.old.connection)).limit }
     {
         if reading > LAST_READING {
             return Err(StepError::Refused(Refusal::ClockOutOfRange));

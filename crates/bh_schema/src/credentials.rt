@@ -3,7 +3,7 @@ ghost use Rattle.sqlite.specs.Held.{state};
 ghost use Rattle.bh_model.specs.Credentials.{authenticate};
 ghost use Rattle.bh_view.specs.View.{view};
 ghost use Rattle.bh_storage.specs.Calls.{IsWorking, Unless, Decides};
-ghost use Rattle.bh_schema.specs.Layer.{IsClean};
+ghost use Rattle.bh_schema.specs.Layer.{standing, IsClean};
 ghost use Rattle.bh_schema.specs.Storage.{seen_in, Keeps};
 
 use crate::host::{Digester, Host};
@@ -30,6 +30,8 @@ impl<S: Alter + Drop, D: Digester + Drop> Host<S, D> {
         ensures within { Keeps S.Store self.old.connection self.new.connection }
         ensures decides { IsClean (state S.Store self.new.connection)
             → Decides (λ _. tt) (authenticate id.now secret.now (view (seen_in (state S.Store self.old.connection)).now tenant.now)) (seen_in (state S.Store self.old.connection)).now (seen_in (state S.Store self.new.connection)).now result }
+        ensures settings { self.new ≡ record self.old { connection = self.new.connection } }
+        ensures steps { (standing (state S.Store self.new.connection)).limit ≡ (standing (state S.Store self.old.connection)).limit }
     {
         let Some(name) = key_name_of(alloc, id)? else {
             return Err(StepError::Refused(Refusal::InvalidAccessKeyId));

@@ -2,7 +2,7 @@ ghost use Rattle.std.specs.Prelude.{◌≡◌};
 ghost use Rattle.sqlite.specs.Held.{state};
 ghost use Rattle.bh_model.specs.Operations.{Done, add_key, remove_key};
 ghost use Rattle.bh_storage.specs.Calls.{IsWorking, Unless, Carries};
-ghost use Rattle.bh_schema.specs.Layer.{IsClean};
+ghost use Rattle.bh_schema.specs.Layer.{standing, IsClean};
 ghost use Rattle.bh_schema.specs.Storage.{seen_in, Keeps};
 
 use crate::host::{Digester, Host};
@@ -30,6 +30,8 @@ impl<S: Alter + Drop, D: Digester + Drop> Host<S, D> {
         ensures within { Keeps S.Store self.old.connection self.new.connection }
         ensures carries { IsClean (state S.Store self.new.connection)
             → Carries (λ _. Done) tenant.now (add_key tenant.now name.now secret.now) (seen_in (state S.Store self.old.connection)).now (seen_in (state S.Store self.new.connection)).now result }
+        ensures settings { self.new ≡ record self.old { connection = self.new.connection } }
+        ensures steps { (standing (state S.Store self.new.connection)).limit ≡ (standing (state S.Store self.old.connection)).limit }
     {
         if !are_words(alloc, tenant, name, secret)? {
             return Err(StepError::Refused(Refusal::InvalidName));
@@ -50,6 +52,8 @@ impl<S: Alter + Drop, D: Digester + Drop> Host<S, D> {
         ensures within { Keeps S.Store self.old.connection self.new.connection }
         ensures carries { IsClean (state S.Store self.new.connection)
             → Carries (λ _. Done) tenant.now (remove_key tenant.now name.now) (seen_in (state S.Store self.old.connection)).now (seen_in (state S.Store self.new.connection)).now result }
+        ensures settings { self.new ≡ record self.old { connection = self.new.connection } }
+        ensures steps { (standing (state S.Store self.new.connection)).limit ≡ (standing (state S.Store self.old.connection)).limit }
     {
         if !are_names(alloc, tenant, name)? {
             return Err(StepError::Refused(Refusal::InvalidName));

@@ -2,7 +2,7 @@ ghost use Rattle.std.specs.Prelude.{◌≡◌, ◌⊎◌, false, OnOk, OnErr};
 ghost use Rattle.sqlite.specs.Held.{state};
 ghost use Rattle.bh_tables.specs.Typed.{Tables};
 ghost use Rattle.bh_storage.specs.Calls.{IsAtRest, IsWorking, IsSettled};
-ghost use Rattle.bh_schema.specs.Layer.{IsIntact, IsOpen, IsClean};
+ghost use Rattle.bh_schema.specs.Layer.{standing, IsIntact, IsOpen, IsClean};
 ghost use Rattle.bh_schema.specs.Storage.{seen_in, left_in, Keeps};
 
 use crate::host::{Digester, Host};
@@ -19,6 +19,8 @@ impl<S: Alter + Drop, D: Digester + Drop> Host<S, D> {
         ensures same { OnOk result (IsClean (state S.Store self.new.connection) → (seen_in (state S.Store self.new.connection)).now ≡ (seen_in (state S.Store self.old.connection)).now) }
         ensures working { OnOk result (IsClean (state S.Store self.new.connection) → IsWorking (seen_in (state S.Store self.new.connection))) }
         ensures opens { OnOk result (IsIntact (state S.Store self.new.connection) → IsOpen (state S.Store self.old.connection) × IsOpen (state S.Store self.new.connection)) }
+        ensures settings { self.new ≡ record self.old { connection = self.new.connection } }
+        ensures steps { (standing (state S.Store self.new.connection)).limit ≡ (standing (state S.Store self.old.connection)).limit }
     {
         told(transactions::begin(&mut self.connection))?;
         Ok(())
@@ -33,6 +35,8 @@ impl<S: Alter + Drop, D: Digester + Drop> Host<S, D> {
         ensures done { OnOk result (IsClean (state S.Store self.new.connection) → ((seen_in (state S.Store self.new.connection)).now ≡ (seen_in (state S.Store self.old.connection)).now)
             × ((seen_in (state S.Store self.new.connection)).kept ≡ (seen_in (state S.Store self.old.connection)).now) × ((seen_in (state S.Store self.new.connection)).inside ≡ false)) }
         ensures kept { OnErr result (IsClean (state S.Store self.new.connection) → ((seen_in (state S.Store self.new.connection)).kept ≡ (seen_in (state S.Store self.old.connection)).kept) × IsSettled (seen_in (state S.Store self.new.connection))) }
+        ensures settings { self.new ≡ record self.old { connection = self.new.connection } }
+        ensures steps { (standing (state S.Store self.new.connection)).limit ≡ (standing (state S.Store self.old.connection)).limit }
     {
         told(transactions::commit(&mut self.connection))?;
         Ok(())
@@ -44,6 +48,8 @@ impl<S: Alter + Drop, D: Digester + Drop> Host<S, D> {
         ensures clean { IsClean (state S.Store self.new.connection) → IsClean (state S.Store self.old.connection) }
         ensures back { IsClean (state S.Store self.new.connection) → ((seen_in (state S.Store self.new.connection)).now ≡ (seen_in (state S.Store self.old.connection)).kept)
             × ((seen_in (state S.Store self.new.connection)).kept ≡ (seen_in (state S.Store self.old.connection)).kept) × ((seen_in (state S.Store self.new.connection)).inside ≡ false) }
+        ensures settings { self.new ≡ record self.old { connection = self.new.connection } }
+        ensures steps { (standing (state S.Store self.new.connection)).limit ≡ (standing (state S.Store self.old.connection)).limit }
     {
         transactions::take_back(&mut self.connection);
     }

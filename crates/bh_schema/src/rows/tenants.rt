@@ -110,3 +110,26 @@ pub fn set_next_entry<S: Alter>(
         &[tenant.to_sql(), number(next)],
     )
 }
+
+/// Sets the numbers that the tenant's next numbered version and its next entry take.
+pub fn set_numbers<S: Alter>(
+    connection: &mut Connection<S>,
+    tenant: &str,
+    version: u64,
+    entry: u64,
+) -> Result<usize, Error>
+    requires inside { IsClean (state S.Store connection.old) → IsInside (standing (state S.Store connection.old)) }
+    requires version { version < 2 ^ 63 }
+    requires entry { entry < 2 ^ 63 }
+    ensures within { Within (state S.Store connection.old) (state S.Store connection.new) }
+    ensures opens { OnOk result (IsIntact (state S.Store connection.new) → IsOpen (state S.Store connection.old) → IsOpen (state S.Store connection.new)) }
+    ensures holds { OnOk result (IsClean (state S.Store connection.new) → Holds (record (tables_in (standing (state S.Store connection.old)).now) { tenants = update_where (is_tenant tenant.now) (λ t. record t { next_version = version; next_entry = entry }) (tables_in (standing (state S.Store connection.old)).now).tenants }) (standing (state S.Store connection.new))) }
+    ensures trouble { IfErr result (λ e. IsIntact (state S.Store connection.new) → (standing (state S.Store connection.old)).limit ≡ None → is_trouble e ≡ true) }
+{
+    // Asked for what it ensures: the rows obey the schema.
+    let _schema = connection.schema();
+    connection.execute(
+        "UPDATE tenants SET next_version = ?2, next_entry = ?3 WHERE tenant = ?1",
+        &[tenant.to_sql(), number(version), number(entry)],
+    )
+}

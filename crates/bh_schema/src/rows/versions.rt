@@ -113,7 +113,6 @@ pub fn insert_version<S: Alter>(
     requires seq { version.now.seq < 2 ^ 63 }
     requires id { version.now.id < 2 ^ 63 }
     requires stamp { version.now.stamp < 2 ^ 63 }
-    requires size { length version.now.bytes.now < 2 ^ 63 }
     ensures within { Within (state S.Store connection.old) (state S.Store connection.new) }
     ensures opens { OnOk result (IsIntact (state S.Store connection.new) → IsOpen (state S.Store connection.old) → IsOpen (state S.Store connection.new)) }
     ensures holds { OnOk result (IsClean (state S.Store connection.new) → Holds (record (tables_in (standing (state S.Store connection.old)).now) { versions = (tables_in (standing (state S.Store connection.old)).now).versions ++ record { tenant = version.now.tenant.now; seq = version.now.seq; bucket = version.now.bucket.now; okey = version.now.okey.now; id = version.now.id; marker = 0; stamp = version.now.stamp; size = length version.now.bytes.now; checksum = version.now.checksum.now; bytes = version.now.bytes.now } ∷ [] }) (standing (state S.Store connection.new))) }

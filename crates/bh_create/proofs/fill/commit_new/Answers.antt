@@ -1,8 +1,9 @@
 use Rattle.std.proofs.Common.{subst}
+use Rattle.std.proofs.lemmas.Result.{on_ok_weaker, IfErr-weaker}
 use Rattle.sqlite.specs.Held.{state}
 use Rattle.bh_schema.proofs.Storing.{left_kept}
 use Rattle.bh_create.specs.Creation.{IsNewHost}
-use Rattle.bh_create.proofs.Building.{begun_making, stands, on_ok, on_err}
+use Rattle.bh_create.proofs.Building.{begun_making, stands}
 use Rattle.bh_create.proofs.fill.commit_new.Goals as goal
 
 pub fill-requires-clause-making : goal.fill-requires-clause-making
@@ -10,10 +11,10 @@ fill-requires-clause-making g c clean =
     begun_making (state g.S.Store c.args.connection.now) (state g.S.Store c.begin.new.connection) (c.requires (c.begin.ensures.within.follows.clean clean)) (c.in_ok-begin.ensures.begins clean.intact)
 
 pub returns-clause-made : goal.returns-clause-made
-returns-clause-made g c = on_ok c.commit.result (λ commits clean.
+returns-clause-made g c = on_ok_weaker c.commit.result (λ commits clean.
     let new = state g.S.Store c.commit.new.connection in
     subst (λ limits. IsNewHost limits new) c.limits.view_is (stands (state g.S.Store c.fill.new.connection) new c.limits.inside.min_part c.limits.inside.max_body c.limits.invariant
     (c.in_ok-fill.ensures.holds (c.commit.ensures.follows.clean clean)) (commits clean.intact) (left_kept g.S.Store g.met.S.Store.settled g.met.S.Store.stays c.commit.new.connection clean))) c.commit.ensures.commits
 
 pub returns-clause-trouble : goal.returns-clause-trouble
-returns-clause-trouble g c = on_err c.commit.result (λ e trouble intact unlimited outside. trouble intact (λ clean. (c.in_ok-fill.ensures.holds clean).within.inside)) c.commit.ensures.trouble
+returns-clause-trouble g c = IfErr-weaker c.commit.result _ _ (λ e trouble intact unlimited outside. trouble intact (λ clean. (c.in_ok-fill.ensures.holds clean).within.inside)) c.commit.ensures.trouble

@@ -1,5 +1,6 @@
-use Rattle.std.proofs.Common.{rules, ◌≡◌, ◌&&◌, true, Some, None, [], ◌∷◌, ◌++◌, sym, ◌∙◌}
+use Rattle.std.proofs.Common.{rules, ◌≡◌, ◌&&◌, true, Some, None, [], ◌∷◌, ◌++◌, sym, ◌∙◌, refl}
 use Rattle.std.specs.FinMap.{get, insert}
+use Rattle.std.proofs.lemmas.Result.{IfOk-at_ok}
 use Rattle.sqlite.specs.Held.{state}
 use Rattle.bh_types.specs.Names.{is_tenant_name, is_key_name, is_secret}
 use Rattle.bh_model.specs.State.{State as Machine}
@@ -8,7 +9,7 @@ use Rattle.bh_view.specs.View.{view}
 use Rattle.bh_view.specs.Becomes.{Becomes}
 use Rattle.bh_schema.specs.Layer.{IsClean}
 use Rattle.bh_schema.specs.Storage.{seen_in}
-use Rattle.bh_schema.proofs.Storing.{if_ok, on_ok, inside_of, holds_seen, within_then, keeps, asked_works, asked_inside, asked_same}
+use Rattle.bh_schema.proofs.Storing.{on_ok, inside_of, holds_seen, within_then, keeps, asked_works, asked_inside, asked_same}
 use Rattle.bh_schema.proofs.TenantSteps.{gives_of, works_of, holds_after}
 use Rattle.bh_schema.proofs.KeySteps.{known_seen, no_tenant, no_key, a_key, adds_key, adds_to_nobody, adds_again, key_becomes}
 use Rattle.bh_schema.proofs.host.Host.key_add.Goals as goal
@@ -31,8 +32,10 @@ returns-in-NoTenant g c =
     record {
       working = asked_works old new c.requires w same;
       within = keeps g.S.Store g.met.S.Store.settled g.met.S.Store.stays c.args.self.now.connection c.find_key.new.connection w;
+      settings = refl;
+      steps = w.follows.limit;
       carries = λ clean.
-          let it = no_tenant n _ (sym c.in-NoTenant.is ∙ known_seen old t n _ (c.requires (w.follows.clean clean)) (if_ok _ c.in_ok-told.ensures.ok c.find_key.ensures.known clean)) in
+          let it = no_tenant n _ (sym c.in-NoTenant.is ∙ known_seen old t n _ (c.requires (w.follows.clean clean)) (IfOk-at_ok _ c.in_ok-told.ensures.ok c.find_key.ensures.known clean)) in
           (adds_to_nobody t n c.args.secret.now _ words it, asked_same old new c.requires w same clean);
     }
 
@@ -48,8 +51,10 @@ returns-in-Key g c =
     record {
       working = asked_works old new c.requires w same;
       within = keeps g.S.Store g.met.S.Store.settled g.met.S.Store.stays c.args.self.now.connection c.find_key.new.connection w;
+      settings = refl;
+      steps = w.follows.limit;
       carries = λ clean.
-          let it = a_key n _ (sym c.in-Key.is ∙ known_seen old t n _ (c.requires (w.follows.clean clean)) (if_ok _ c.in_ok-told.ensures.ok c.find_key.ensures.known clean)) in
+          let it = a_key n _ (sym c.in-Key.is ∙ known_seen old t n _ (c.requires (w.follows.clean clean)) (IfOk-at_ok _ c.in_ok-told.ensures.ok c.find_key.ensures.known clean)) in
           (adds_again t n c.args.secret.now _ words it.0 it.1 it.2, asked_same old new c.requires w same clean);
     }
 
@@ -79,7 +84,7 @@ returns g c =
     let before = λ (clean : IsClean new). c.insert_key.ensures.within.follows.clean clean in
     let works = λ (clean : IsClean new). c.requires (w.follows.clean (before clean)) in
     let known : IsClean new → (s : Machine) × (view (seen_in old).now t ≡ Some s) × (get s.keys n ≡ None) = λ clean.
-    no_key n _ (sym c.in-NoKey.is ∙ known_seen old t n _ (works clean) (if_ok _ c.in_ok-told.ensures.ok c.find_key.ensures.known (before clean))) in
+    no_key n _ (sym c.in-NoKey.is ∙ known_seen old t n _ (works clean) (IfOk-at_ok _ c.in_ok-told.ensures.ok c.find_key.ensures.known (before clean))) in
     let becomes : (clean : IsClean new) → Becomes t (Some (record (known clean).0 { keys = insert (known clean).0.keys n c.args.secret.now })) (seen_in old).now (seen_in new).now = λ clean.
     let it = known clean in
     key_becomes old new t n c.args.secret.now it.0 (works clean) it.1 it.2 words (holds_after old mid new (λ x. record x { keys = x.keys ++ record { tenant = t; name = n; secret = c.args.secret.now } ∷ [] }) (same (before clean).intact) (holds clean)) in
@@ -87,5 +92,7 @@ returns g c =
       working = λ clean. works_of t _ old new (holds_seen _ new (holds clean)).1 (becomes clean);
       within = keeps g.S.Store g.met.S.Store.settled g.met.S.Store.stays c.args.self.now.connection c.insert_key.new.connection
           (within_then old mid new (λ intact up. (on_ok _ c.in_ok-told.ensures.ok c.find_key.ensures.opens intact).1) w c.insert_key.ensures.within);
+      settings = refl;
+      steps = c.insert_key.ensures.within.follows.limit ∙ w.follows.limit;
       carries = λ clean. let it = known clean in gives_of t (add_key t n c.args.secret.now) Done _ (seen_in old).now (seen_in new).now (adds_key t n c.args.secret.now _ words it.0 it.1 it.2) (becomes clean);
     }

@@ -1,5 +1,6 @@
-use Rattle.std.proofs.Common.{rules, ◌≡◌, ◌&&◌, true, Some, is_some, sym, ◌∙◌}
+use Rattle.std.proofs.Common.{rules, ◌≡◌, ◌&&◌, true, Some, is_some, sym, ◌∙◌, refl}
 use Rattle.std.specs.FinMap.{get, remove}
+use Rattle.std.proofs.lemmas.Result.{IfOk-at_ok}
 use Rattle.sqlite.specs.Held.{state}
 use Rattle.sqlite_keyed.specs.Lists.{delete_where}
 use Rattle.bh_types.specs.Names.{is_tenant_name, is_key_name}
@@ -10,7 +11,7 @@ use Rattle.bh_view.specs.View.{view}
 use Rattle.bh_view.specs.Becomes.{Becomes}
 use Rattle.bh_schema.specs.Layer.{IsClean}
 use Rattle.bh_schema.specs.Storage.{seen_in}
-use Rattle.bh_schema.proofs.Storing.{if_ok, on_ok, inside_of, holds_seen, within_then, keeps, asked_works, asked_inside, asked_same}
+use Rattle.bh_schema.proofs.Storing.{on_ok, inside_of, holds_seen, within_then, keeps, asked_works, asked_inside, asked_same}
 use Rattle.bh_schema.proofs.TenantSteps.{gives_of, works_of, holds_after}
 use Rattle.bh_schema.proofs.KeySteps.{known_seen, no_tenant, no_key, a_key, removes_key, removes_from_nobody, removes_none, key_goes}
 use Rattle.bh_schema.proofs.host.Host.key_remove.Goals as goal
@@ -33,8 +34,10 @@ returns-in-NoTenant g c =
     record {
       working = asked_works old new c.requires w same;
       within = keeps g.S.Store g.met.S.Store.settled g.met.S.Store.stays c.args.self.now.connection c.find_key.new.connection w;
+      settings = refl;
+      steps = w.follows.limit;
       carries = λ clean.
-          let it = no_tenant n _ (sym c.in-NoTenant.is ∙ known_seen old t n _ (c.requires (w.follows.clean clean)) (if_ok _ c.in_ok-told.ensures.ok c.find_key.ensures.known clean)) in
+          let it = no_tenant n _ (sym c.in-NoTenant.is ∙ known_seen old t n _ (c.requires (w.follows.clean clean)) (IfOk-at_ok _ c.in_ok-told.ensures.ok c.find_key.ensures.known clean)) in
           (removes_from_nobody t n _ words it, asked_same old new c.requires w same clean);
     }
 
@@ -50,8 +53,10 @@ returns-in-NoKey g c =
     record {
       working = asked_works old new c.requires w same;
       within = keeps g.S.Store g.met.S.Store.settled g.met.S.Store.stays c.args.self.now.connection c.find_key.new.connection w;
+      settings = refl;
+      steps = w.follows.limit;
       carries = λ clean.
-          let it = no_key n _ (sym c.in-NoKey.is ∙ known_seen old t n _ (c.requires (w.follows.clean clean)) (if_ok _ c.in_ok-told.ensures.ok c.find_key.ensures.known clean)) in
+          let it = no_key n _ (sym c.in-NoKey.is ∙ known_seen old t n _ (c.requires (w.follows.clean clean)) (IfOk-at_ok _ c.in_ok-told.ensures.ok c.find_key.ensures.known clean)) in
           (removes_none t n _ words it.0 it.1 it.2, asked_same old new c.requires w same clean);
     }
 
@@ -81,7 +86,7 @@ returns g c =
     let before = λ (clean : IsClean new). c.delete_key.ensures.within.follows.clean clean in
     let works = λ (clean : IsClean new). c.requires (w.follows.clean (before clean)) in
     let known : IsClean new → (s : Machine) × (view (seen_in old).now t ≡ Some s) × (is_some (get s.keys n) ≡ true) = λ clean.
-    a_key n _ (sym c.in-Key.is ∙ known_seen old t n _ (works clean) (if_ok _ c.in_ok-told.ensures.ok c.find_key.ensures.known (before clean))) in
+    a_key n _ (sym c.in-Key.is ∙ known_seen old t n _ (works clean) (IfOk-at_ok _ c.in_ok-told.ensures.ok c.find_key.ensures.known (before clean))) in
     let becomes : (clean : IsClean new) → Becomes t (Some (record (known clean).0 { keys = remove (known clean).0.keys n })) (seen_in old).now (seen_in new).now = λ clean.
     let it = known clean in
     key_goes old new t n it.0 (works clean) it.1 (holds_after old mid new (λ x. record x { keys = delete_where (is_key t n) x.keys }) (same (before clean).intact) (holds clean)) in
@@ -89,5 +94,7 @@ returns g c =
       working = λ clean. works_of t _ old new (holds_seen _ new (holds clean)).1 (becomes clean);
       within = keeps g.S.Store g.met.S.Store.settled g.met.S.Store.stays c.args.self.now.connection c.delete_key.new.connection
           (within_then old mid new (λ intact up. (on_ok _ c.in_ok-told.ensures.ok c.find_key.ensures.opens intact).1) w c.delete_key.ensures.within);
+      settings = refl;
+      steps = c.delete_key.ensures.within.follows.limit ∙ w.follows.limit;
       carries = λ clean. let it = known clean in gives_of t (remove_key t n) Done _ (seen_in old).now (seen_in new).now (removes_key t n _ words it.0 it.1 it.2) (becomes clean);
     }

@@ -1,4 +1,4 @@
-use Rattle.std.proofs.Common.{rules, arith, ◌≡◌, ◌≤◌, ◌<◌, sym, subst, map}
+use Rattle.std.proofs.Common.{rules, arith, ◌≡◌, ◌≤◌, ◌<◌, sym, subst, map, ◌∙◌}
 use Rattle.sqlite.specs.Held.{state}
 use Rattle.bh_view.specs.View.{with_latest}
 use Rattle.bh_view.specs.Becomes.{IsStamped}
@@ -25,6 +25,8 @@ returns-then-reading-seconds g c =
       within = keeps g.S.Store g.met.S.Store.settled g.met.S.Store.stays c.args.self.now.connection c.latest.new.self.connection h.within;
       stamps = λ clean. stamp_kept old new c.args.reading c.in_ok-latest.latest (c.requires.working (h.within.follows.clean clean)) (seen_same old new (h.same clean.intact)) (h.latest clean) low;
       unwritten = λ clean is. h.same clean.intact;
+      settings = h.settings;
+      steps = h.within.follows.limit;
     }
 
 pub set_latest-requires-clause-inside : goal.set_latest-requires-clause-inside
@@ -59,4 +61,6 @@ returns-in-Some g c =
       stamps = λ clean. subst (λ m. Stamps c.args.reading m (seen_in old).now (seen_in new).now) (sym same_read)
           (stamps_of (seen_in old).now (seen_in new).now c.args.reading c.in_ok-latest.latest (h.latest (c.set_latest.ensures.within.follows.clean clean)) high (written clean).1 (written clean).0);
       unwritten = λ clean is. absurd (omega (arith, high, h.latest (c.set_latest.ensures.within.follows.clean clean), is, same_read));
+      settings = search rules;
+      steps = c.set_latest.ensures.within.follows.limit ∙ h.within.follows.limit;
     }
