@@ -7,7 +7,6 @@ Four tenants put and get objects in turn. Each list is a script of 1,000 or of 5
 1 KiB or of 64 KiB, as many of them puts as fit a script's 2^26 bytes, and at most half.
 """
 import hashlib
-import json
 import os
 import resource
 import subprocess
@@ -15,17 +14,15 @@ import sys
 import tempfile
 import time
 
+import events
+from events import line
+
 TENANTS = ["green", "blue", "red", "white"]
 GREATEST_SCRIPT = 1 << 26
 
 
 def request(method, tenant, path, body=None):
-    length = "" if body is None else f"content-length: {len(body)}\r\n"
-    return f"{method} {path} HTTP/1.1\r\nhost: h\r\nx-access-key: {tenant}$k1\r\nx-secret-key: {tenant}secret\r\n{length}\r\n{body or ''}"
-
-
-def line(members):
-    return json.dumps(members) + "\n"
+    return events.request(method, f"{tenant}$k1", tenant + "secret", path, body)
 
 
 def script(requests, size):

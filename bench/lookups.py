@@ -1,0 +1,102 @@
+#!/usr/bin/env python3
+"""Times lookups by key in a host on a file, at 1,000 rows and at 100,000.
+
+    bench/lookups.py [PROGRAM]        PROGRAM: crates/timed_script/out/timed_script
+
+Two lookups, each by 10,000 requests that write nothing: `authenticate`, which ends at a wrong secret, among that many
+tenants with an access key each; `get`, of an object of one byte, among that many objects of one bucket. Exit 1 where
+the greater table takes more than 3 times as long.
+"""
+import os
+import re
+import subprocess
+import sys
+import tempfile
+
+from events import line, request
+
+FEW, MANY = 1000, 100000
+LOOKUPS = 10000
+GREATEST_RATIO = 3
+# A prime that divides neither number of rows, so that the lookups go through all rows and not in their order.
+STEP = 7919
+# A file there is in memory: on a disk each of the events that fill the tables would wait for it.
+FOLDER = "/dev/shm" if os.path.isdir("/dev/shm") else None
+
+
+def tenant_with_key(tenant):
+    return [
+        line({"at": 0, "op": "tenant-add", "tenant": tenant, "quota": 1 << 40}),
+        line({"at": 0, "op": "key-add", "tenant": tenant, "name": "k1", "secret": tenant + "secret"}),
+    ]
+
+
+def http(method, tenant, secret, path, body=None):
+    return line({"at": 0, "http": request(method, f"{tenant}$k1", secret, path, body)})
+
+
+def looked_up(rows):
+    return [n * STEP % rows for n in range(LOOKUPS)]
+
+
+def byte_of(row):
+    return chr(ord("a") + row % 26)
+
+
+def authenticate(rows):
+    """A script, and a test of its answers."""
+    out = []
+    for row in range(rows):
+        out += tenant_with_key(f"t{row}")
+    out += [http("GET", f"t{row}", "anothersecret", "/plans/x") for row in looked_up(rows)]
+
+    def is_right(answered):
+        counts = [len(re.findall(it, answered, re.M)) for it in (rb"^tenant t\d+$", rb"^key t\d+\$k1$", rb'"AccessDenied"')]
+        return counts == [rows, rows, LOOKUPS]
+
+    return out, is_right
+
+
+def get(rows):
+    """The same."""
+    out = tenant_with_key("green") + [http("PUT", "green", "greensecret", "/plans", "")]
+    out += [http("PUT", "green", "greensecret", f"/plans/k{row}", byte_of(row)) for row in range(rows)]
+    out += [http("GET", "green", "greensecret", f"/plans/k{row}") for row in looked_up(rows)]
+
+    def is_right(answered):
+        stored = len(re.findall(rb"^x-amz-checksum-sha256: .*\r\nconnection: close\r\n\r\n$", answered, re.M))
+        bodies = re.findall(rb"^connection: close\r\n\r\n(.)$", answered, re.M)
+        return stored == rows and bodies == [byte_of(row).encode() for row in looked_up(rows)]
+
+    return out, is_right
+
+
+def run(program, script, is_right):
+    """The microseconds of all events that fill the tables, and of all lookups."""
+    with tempfile.TemporaryDirectory(dir=FOLDER) as folder:
+        words = [program, os.path.join(folder, "host"), str(LOOKUPS)]
+        done = subprocess.run(words, input="".join(script).encode(), stdout=subprocess.PIPE)
+    times = [(int(count), int(time)) for count, time in re.findall(rb"^(\d+) events: (\d+) microseconds$", done.stdout, re.M)]
+    if done.returncode != 0 or [count for count, _ in times] != [len(script) - LOOKUPS, LOOKUPS] or not is_right(done.stdout):
+        sys.exit(f"an event was answered otherwise than it should be: status {done.returncode}, {done.stdout[-300:]}")
+    return [time for _, time in times]
+
+
+def main():
+    program = sys.argv[1] if len(sys.argv) > 1 else "crates/timed_script/out/timed_script"
+    if not os.path.exists(program):
+        sys.exit(f"{program} isn't there: 'rt run' in crates/timed_script makes it")
+    print(f"{'lookup':>12} {'rows':>7} {'filled in, s':>12} {'lookups':>8} {'microseconds a lookup':>21} {'ratio':>6}")
+    is_flat = True
+    for lookup in (authenticate, get):
+        least = None
+        for rows in (FEW, MANY):
+            filling, looking = run(program, *lookup(rows))
+            each = looking / LOOKUPS
+            least = least or each
+            print(f"{lookup.__name__:>12} {rows:>7} {filling / 1e6:>12.1f} {LOOKUPS:>8} {each:>21.1f} {each / least:>6.2f}", flush=True)
+        is_flat = is_flat and each <= GREATEST_RATIO * least
+    sys.exit(0 if is_flat else f"a lookup at {MANY} rows takes more than {GREATEST_RATIO} times as long as at {FEW}")
+
+
+main()

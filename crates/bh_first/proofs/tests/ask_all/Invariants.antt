@@ -1,0 +1,8 @@
+use Rattle.sqlite.specs.Held.{state}
+use Rattle.bh_storage.specs.Calls.{IsAtRest}
+use Rattle.bh_schema.specs.Layer.{IsClean}
+use Rattle.bh_schema.specs.Storage.{seen_in}
+use Rattle.bh_first.proofs.tests.ask_all.Given as goal
+
+abbrev pub invariant-loop-call : goal.invariant-loop-call
+invariant-loop-call g l = IsClean (state g.S.Store l.host.connection) → IsAtRest (seen_in (state g.S.Store l.host.connection))

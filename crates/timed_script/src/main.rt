@@ -1,0 +1,131 @@
+//! Applies a script to a new host in a file: what each event is answered, and how long its last events took.
+#![tactic(auto)]
+
+ghost use Rattle.bh_storage.specs.Calls.{IsAtRest};
+
+use bh_create::create::create;
+use bh_event::event::Event;
+use bh_host::apply::Done;
+use bh_host::run::run;
+use bh_objects::storage::HostStorage;
+use bh_script::digester::Sha256Digester;
+use bh_script::input::{read_all, read_script};
+use bh_storage::storage::Storage;
+use bh_types::limits::{Limits, Tuning};
+use sqlite::{Alter, Connection};
+use std::alloc::{AllocError, Global};
+use std::io::Write;
+use std::process::ExitCode;
+use std::rt::Runtime;
+use std::time::{Clock, Instant};
+use std::{env, io};
+
+/// What events were answered, and the time that they took together.
+#[derive(Drop)]
+struct Timed {
+    dones: Vec<Done>,
+    microseconds: u128,
+}
+
+/// The events before those that are timed alone, and those.
+#[derive(Drop)]
+struct Served {
+    first: Timed,
+    last: Timed,
+}
+
+fn apply_timed<H: Storage>(
+    rt: &(impl Clock + AllocGlobal),
+    limits: &Limits,
+    host: &mut H,
+    events: &[Event],
+) -> io::Result<Timed>
+    requires { H.IsClean host.old → IsAtRest (H.seen host.old) }
+    ensures { H.IsClean host.new → IsAtRest (H.seen host.new) }
+{
+    let start = Instant::now(rt)?;
+    let dones = run(rt.alloc(), limits, host, events)?;
+    let microseconds = start.elapsed(rt)?.as_micros();
+    Ok(Timed {
+        dones,
+        microseconds,
+    })
+}
+
+/// Applies events to a new host in an empty database, or answers none where no host was made.
+fn serve<S: Alter + Drop>(
+    rt: &(impl Clock + AllocGlobal),
+    connection: Connection<S>,
+    first: &[Event],
+    last: &[Event],
+) -> io::Result<Option<Served>> {
+    let limits = Limits::default();
+    let Ok(host) = create(connection, Sha256Digester, limits, Tuning::default()) else {
+        return Ok(None);
+    };
+    let mut storage = HostStorage { host };
+    let first = apply_timed(rt, &limits, &mut storage, first)?;
+    let last = apply_timed(rt, &limits, &mut storage, last)?;
+    Ok(Some(Served { first, last }))
+}
+
+/// The replies, a line's end after each.
+fn replies(alloc: Global, dones: &[Done]) -> Result<Vec<u8>, AllocError> {
+    let mut text = Vec::new(alloc);
+    for done in dones {
+        text.extend_from_slice(done.reply.bytes())?;
+        text.extend_from_slice(b"\n")?;
+    }
+    Ok(text)
+}
+
+fn tell(rt: &(impl Print + AllocGlobal), served: &Served) -> io::Result<()> {
+    for part in [&served.first, &served.last] {
+        let text = replies(rt.alloc(), part.dones.as_slice())?;
+        io::writer(rt).write_all(text.as_slice())?;
+    }
+    for part in [&served.first, &served.last] {
+        println!(rt;
+            "{} events: {} microseconds",
+            part.dones.len(),
+            part.microseconds
+        )?;
+    }
+    Ok(())
+}
+
+/// The file and the number of events that are timed alone, if the words after the program's name are these.
+fn words_of(rt: &(impl Runtime + AllocGlobal)) -> io::Result<Option<(String, usize)>> {
+    let mut words = env::args(rt)?.skip(1);
+    let (Some(path), Some(count), None) = (words.next(), words.next(), words.next()) else {
+        return Ok(None);
+    };
+    match count.as_str().parse::<usize>() {
+        Ok(count) => Ok(Some((path, count))),
+        Err(_) => Ok(None),
+    }
+}
+
+fn main(rt: HostRuntime) -> io::Result<ExitCode> {
+    let alloc = rt.alloc();
+    let Some((path, count)) = words_of(&rt)? else {
+        println!(rt; "usage: timed_script FILE COUNT < SCRIPT")?;
+        return Ok(ExitCode::from(2));
+    };
+    let Some(bytes) = read_all(alloc, &mut rt.reader())? else {
+        return Ok(ExitCode::from(1));
+    };
+    let script = read_script(alloc, bytes.as_slice())?;
+    let events = script.events.as_slice();
+    let (first, last) = events.split_at(events.len().saturating_sub(count));
+    let Ok(connection) = Connection::open(&rt, path.as_str()) else {
+        return Ok(ExitCode::from(1));
+    };
+    match serve(&rt, connection, first, last)? {
+        Some(served) => {
+            tell(&rt, &served)?;
+            Ok(ExitCode::from(0))
+        }
+        None => Ok(ExitCode::from(1)),
+    }
+}
