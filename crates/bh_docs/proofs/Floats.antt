@@ -5,7 +5,7 @@ use Rattle.serde_json.specs.Data.{Data, Members, string}
 use Rattle.serde_json.specs.View.{items_of}
 use Rattle.serde_json.specs.Written.{has_float, items_have_float, members_have_float}
 use Rattle.bh_types.specs.Ids.{upload_text, version_text}
-use Rattle.bh_docs.specs.Documents.{member_if, whole}
+use Rattle.bh_docs.specs.Documents.{member_if, natural}
 use Rattle.bh_docs.specs.Pages.{prefix_data, object_data, version_data, version_members, upload_data, part_data, objects_data, versions_data, uploads_data, parts_data}
 use Rattle.bh_docs.specs.Tokens.{token_text}
 use Rattle.bh_docs.specs.declared.objects.ObjectsPage.{ObjectsPage}
@@ -43,7 +43,7 @@ has_float-objects_data p =
 pub has_float-parts_data : (p : PartsPage) → has_float (parts_data p) ≡ false
 has_float-parts_data p =
     rw (
-      members_have_float-member_if whole (λ a. refl) (codes "NextPartNumberMarker") p.next,
+      members_have_float-member_if natural (λ a. refl) (codes "NextPartNumberMarker") p.next,
       items_have_float-map part_data (λ a. refl) p.parts.items,
     ) refl
 

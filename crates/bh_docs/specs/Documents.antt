@@ -13,10 +13,11 @@ use Rattle.bh_docs.specs.declared.reply.Usage.{Usage}
 
 -- ---- words
 
-abbrev pub whole : ℕ → Data
-whole n = number (unsigned n)
+-- a number from 0 on
+abbrev pub natural : ℕ → Data
+natural n = number (unsigned n)
 
--- seconds since 1970
+-- a moment, which is seconds since 1970, as its text
 abbrev pub moment : ℕ → Data
 moment m = string (moment_text m)
 
@@ -32,7 +33,7 @@ member_if name (Some d) rest = member name d rest
 -- an object with one more member, in the order of names, if there is data for it
 abbrev pub with_member : List ℕ → Option Data → Data → Data
 with_member name (Some d) (object members) = object (put name d members)
-with_member name other whole = whole
+with_member name other document = document
 
 -- ---- documents
 
@@ -59,15 +60,15 @@ buckets_text buckets = compact_text (buckets_data buckets)
 
 abbrev pub usage_data : Usage → Data
 usage_data u =
-    object (member (codes "Buckets") (whole u.buckets)
-    (member (codes "Bytes") (whole u.bytes)
-    (member (codes "Markers") (whole u.markers)
-    (member (codes "Objects") (whole u.objects)
-    (member (codes "PartBytes") (whole u.part_bytes)
-    (member (codes "Quota") (whole u.quota)
-    (member (codes "Uploads") (whole u.uploads)
-    (member (codes "VersionBytes") (whole u.version_bytes)
-    (member (codes "Versions") (whole u.versions) no_members)))))))))
+    object (member (codes "Buckets") (natural u.buckets)
+    (member (codes "Bytes") (natural u.bytes)
+    (member (codes "Markers") (natural u.markers)
+    (member (codes "Objects") (natural u.objects)
+    (member (codes "PartBytes") (natural u.part_bytes)
+    (member (codes "Quota") (natural u.quota)
+    (member (codes "Uploads") (natural u.uploads)
+    (member (codes "VersionBytes") (natural u.version_bytes)
+    (member (codes "Versions") (natural u.versions) no_members)))))))))
 
 abbrev pub usage_text : Usage → List ℕ
 usage_text u = compact_text (usage_data u)
@@ -86,7 +87,7 @@ abbrev pub lifecycle_data : ℕ → Data
 lifecycle_data days =
     object (member (codes "Rules") (array (item
     (object (member (codes "AbortIncompleteMultipartUpload")
-    (object (member (codes "DaysAfterInitiation") (whole days) no_members))
+    (object (member (codes "DaysAfterInitiation") (natural days) no_members))
     (member (codes "Status") (string (codes "Enabled")) no_members)))
     no_items)) no_members)
 

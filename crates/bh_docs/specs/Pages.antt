@@ -5,7 +5,7 @@ use Rattle.std.specs.declared.alloc.Global.{Global}
 use Rattle.serde_json.specs.Data.{Data, boolean, string, object, Members, member, no_members}
 use Rattle.serde_json.specs.Written.{compact_text}
 use Rattle.bh_types.specs.Ids.{version_text, upload_text}
-use Rattle.bh_docs.specs.Documents.{whole, moment, array_of, member_if}
+use Rattle.bh_docs.specs.Documents.{natural, moment, array_of, member_if}
 use Rattle.bh_docs.specs.Tokens.{token_text}
 use Rattle.bh_docs.specs.declared.objects.ObjectEntry.{ObjectEntry}
 use Rattle.bh_docs.specs.declared.objects.ObjectsPage.{ObjectsPage}
@@ -31,7 +31,7 @@ object_data o =
     object (member (codes "ChecksumSHA256") (string (string_bytes o.checksum))
     (member (codes "Key") (string (string_bytes o.key))
     (member (codes "LastModified") (moment o.modified)
-    (member (codes "Size") (whole o.size) no_members))))
+    (member (codes "Size") (natural o.size) no_members))))
 
 -- KeyCount counts both lists
 abbrev pub objects_with : ObjectsPage → Option Data → Data
@@ -39,8 +39,8 @@ objects_with p token =
     object (member (codes "CommonPrefixes") (array_of prefix_data p.prefixes.items)
     (member (codes "Contents") (array_of object_data p.objects.items)
     (member (codes "IsTruncated") (boolean (is_some p.next))
-    (member (codes "KeyCount") (whole (length p.prefixes.items + length p.objects.items))
-    (member (codes "MaxKeys") (whole p.max)
+    (member (codes "KeyCount") (natural (length p.prefixes.items + length p.objects.items))
+    (member (codes "MaxKeys") (natural p.max)
     (member (codes "Name") (string (string_bytes p.bucket))
     (member_if (codes "NextContinuationToken") token
     (member (codes "Prefix") (string (string_bytes p.prefix)) no_members))))))))
@@ -72,7 +72,7 @@ version_members v None = member (codes "DeleteMarker") (boolean true) (version_e
 version_members v (Some o) =
     member (codes "ChecksumSHA256") (string (string_bytes o.checksum))
     (member (codes "DeleteMarker") (boolean false)
-    (version_end v (member (codes "Size") (whole o.size) (version_id v))))
+    (version_end v (member (codes "Size") (natural o.size) (version_id v))))
 
 abbrev pub version_data : VersionEntry → Data
 version_data v = object (version_members v v.object)
@@ -81,7 +81,7 @@ abbrev pub versions_with : VersionsPage → Option Data → Option Data → Data
 versions_with p name id =
     object (member (codes "CommonPrefixes") (array_of prefix_data p.prefixes.items)
     (member (codes "IsTruncated") (boolean (is_some p.next))
-    (member (codes "MaxKeys") (whole p.max)
+    (member (codes "MaxKeys") (natural p.max)
     (member (codes "Name") (string (string_bytes p.bucket))
     (member_if (codes "NextKeyMarker") name
     (member_if (codes "NextVersionIdMarker") id
@@ -113,7 +113,7 @@ uploads_with p name id =
     object (member (codes "Bucket") (string (string_bytes p.bucket))
     (member (codes "CommonPrefixes") (array_of prefix_data p.prefixes.items)
     (member (codes "IsTruncated") (boolean (is_some p.next))
-    (member (codes "MaxUploads") (whole p.max)
+    (member (codes "MaxUploads") (natural p.max)
     (member_if (codes "NextKeyMarker") name
     (member_if (codes "NextUploadIdMarker") id
     (member (codes "Prefix") (string (string_bytes p.prefix))
@@ -137,21 +137,21 @@ abbrev pub part_data : PartEntry → Data
 part_data p =
     object (member (codes "ChecksumSHA256") (string (string_bytes p.checksum))
     (member (codes "LastModified") (moment p.modified)
-    (member (codes "PartNumber") (whole p.number)
-    (member (codes "Size") (whole p.size) no_members))))
+    (member (codes "PartNumber") (natural p.number)
+    (member (codes "Size") (natural p.size) no_members))))
 
 abbrev pub parts_with : PartsPage → Option Data → Data
 parts_with p number =
     object (member (codes "Bucket") (string (string_bytes p.bucket))
     (member (codes "IsTruncated") (boolean (is_some p.next))
     (member (codes "Key") (string (string_bytes p.key))
-    (member (codes "MaxParts") (whole p.max)
+    (member (codes "MaxParts") (natural p.max)
     (member_if (codes "NextPartNumberMarker") number
     (member (codes "Parts") (array_of part_data p.parts.items)
     (member (codes "UploadId") (string (upload_text p.upload)) no_members)))))))
 
 abbrev pub parts_data : PartsPage → Data
-parts_data p = parts_with p (option_map whole p.next)
+parts_data p = parts_with p (option_map natural p.next)
 
 abbrev pub parts_text : PartsPage → List ℕ
 parts_text p = compact_text (parts_data p)

@@ -1,5 +1,6 @@
 -- The shapes of request documents, over JSON data as serde_json reads it.
 use Rattle.std.specs.Prelude.{ℕ, ℤ, Bool, ◌==◌, ◌&&◌, nat_le, List, [], ◌∷◌, codes, Option, Some, None, option_map, if◌then◌else◌}
+use Rattle.std.specs.Option.{option_or}
 use Rattle.std.specs.Str.{bytes_eq, is_utf8}
 use Rattle.serde_json.specs.Data.{Data, Items, no_items, item, Members}
 use Rattle.serde_json.specs.Events.{items_len, members_len}
@@ -13,11 +14,6 @@ infixl 10 ◌>>=◌
 abbrev pub ◌>>=◌ : {A B : Type 0} → Option A → (A → Option B) → Option B
 None >>= f = None
 (Some a) >>= f = f a
-
--- the first, or else the second
-abbrev pub either : {A : Type 0} → Option A → Option A → Option A
-either None second = second
-either (Some a) second = Some a
 
 -- the data of a body that is JSON in UTF-8
 abbrev pub data_of : List ℕ → Option Data
@@ -113,7 +109,7 @@ checked_part d = do
   Some (n, Some text)
 
 abbrev pub part_shape : Data → Option Part
-part_shape d = either (plain_part d) (checked_part d)
+part_shape d = option_or (plain_part d) (checked_part d)
 
 abbrev pub parts_shape : Items → Option (List Part)
 parts_shape no_items = Some []

@@ -60,7 +60,8 @@ fn digest_of_all(digests: &[[u8; 32]]) -> [u8; 32]
 /// that memory ran out.
 pub fn read_checksum(alloc: Global, text: &str) -> Result<Option<[u8; 32]>, AllocError>
     ensures value { IfOk result (λ r. IfSome r (λ digest. text.now ≡ digest_text digest)) }
-    ensures found { (digest : List ℕ) → length digest ≡ 32 → IsBytes digest → text.now ≡ digest_text digest → IfOk result (λ r. r ≡ Some digest) }
+    ensures found { (digest : List ℕ) → length digest ≡ 32 → IsBytes digest → text.now ≡ digest_text digest
+        → IfOk result (λ r. r ≡ Some digest) }
 {
     match STANDARD.decode(alloc, text.as_bytes()) {
         Ok(bytes) => Ok(array_of(bytes.as_slice())),

@@ -42,7 +42,8 @@ fn values_of<E: Entry>(alloc: Global, entries: &[E]) -> Result<Vec<Value>, Alloc
 pub fn print(alloc: Global, document: &Value) -> Result<String, AllocError>
     requires { has_float (view document.now) ≡ false }
     ensures text { IfOk result (λ text. string_bytes text ≡ compact_text (view document.now)) }
-    ensures reads_back { IfOk result (λ text. depth (view document.now) ≤ max_depth → data_of (string_bytes text) ≡ Some (view document.now)) }
+    ensures reads_back { IfOk result (λ text. depth (view document.now) ≤ max_depth
+        → data_of (string_bytes text) ≡ Some (view document.now)) }
 {
     document.to_string(alloc)
 }
@@ -54,7 +55,8 @@ pub fn with_member(
     name: &str,
     value: Option<Value>,
 ) -> Result<Value, AllocError>
-    ensures { IfOk result (λ whole. view whole ≡ spec.with_member name.now (option_map (λ v. view v) value) (view document)) }
+    ensures { IfOk result (λ whole. view whole
+        ≡ spec.with_member name.now (option_map (λ v. view v) value) (view document)) }
 {
     let Some(value) = value else {
         return Ok(document);
@@ -71,7 +73,8 @@ fn with_entry(
     name: &str,
     value: Value,
 ) -> Result<Map<String, Value>, AllocError>
-    ensures { IfOk result (λ whole. members_view whole.entries ≡ put name.now (view value) (members_view members.entries)) }
+    ensures { IfOk result (λ whole. members_view whole.entries
+        ≡ put name.now (view value) (members_view members.entries)) }
 {
     let name = String::from_str(alloc, name)?;
     drop(members.insert(name, value)?);

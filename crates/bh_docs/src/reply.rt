@@ -1,11 +1,12 @@
 //! The documents of replies, but for the pages of listings. Each is compact JSON (RFC 8259) with
 //! its members in byte order. An error says that memory ran out.
 
-ghost use Rattle.std.specs.Prelude.{◌≡◌, ◌≢◌, ◌≤◌, IfOk};
+ghost use Rattle.std.specs.Prelude.{◌≡◌, ◌≢◌, ◌≤◌, IfOk, Some};
 ghost use Rattle.std.specs.String.{string_bytes};
 ghost use Rattle.serde_json.specs.View.{view};
 ghost use Rattle.bh_docs.specs.Documents as spec;
 ghost use Rattle.bh_docs.specs.Requests.{versioning_of, lifecycle_of};
+ghost use Rattle.bh_docs.specs.Shapes.{data_of};
 
 use crate::document::{Entry, array_value, print};
 use bh_types::id::UploadId;
@@ -83,7 +84,9 @@ pub struct Usage {
 
 /// The answer to a tenant who asks for the usage: each count and size under its own name.
 pub fn usage_document(alloc: Global, usage: &Usage) -> Result<String, AllocError>
-    ensures { IfOk result (λ text. string_bytes text ≡ spec.usage_text usage.now) }
+    ensures text { IfOk result (λ text. string_bytes text ≡ spec.usage_text usage.now) }
+    ensures reads_back { IfOk result (λ text.
+        data_of (string_bytes text) ≡ Some (spec.usage_data usage.now)) }
 {
     let document = usage_value(alloc, usage)?;
     print(alloc, &document)
@@ -108,7 +111,8 @@ fn usage_value(alloc: Global, usage: &Usage) -> Result<Value, AllocError>
 /// The answer to GetBucketVersioning: `{}`, `{"Status":"Enabled"}` or `{"Status":"Suspended"}`.
 pub fn versioning_document(alloc: Global, state: BucketState) -> Result<String, AllocError>
     ensures text { IfOk result (λ text. string_bytes text ≡ spec.versioning_text state) }
-    ensures reads_back { state ≢ BucketState.Unversioned → IfOk result (λ text. versioning_of (string_bytes text) ≡ Ok state) }
+    ensures reads_back { state ≢ BucketState.Unversioned
+        → IfOk result (λ text. versioning_of (string_bytes text) ≡ Ok state) }
 {
     let document = versioning_value(alloc, state)?;
     print(alloc, &document)
@@ -127,7 +131,8 @@ fn versioning_value(alloc: Global, state: BucketState) -> Result<Value, AllocErr
 /// The answer to GetBucketLifecycleConfiguration: the document that sets the rule of so many days.
 pub fn lifecycle_document(alloc: Global, days: u16) -> Result<String, AllocError>
     ensures text { IfOk result (λ text. string_bytes text ≡ spec.lifecycle_text days) }
-    ensures reads_back { 1 ≤ days → days ≤ 3650 → IfOk result (λ text. lifecycle_of (string_bytes text) ≡ Ok days) }
+    ensures reads_back { 1 ≤ days → days ≤ 3650
+        → IfOk result (λ text. lifecycle_of (string_bytes text) ≡ Ok days) }
 {
     let document = lifecycle_value(alloc, days)?;
     print(alloc, &document)
@@ -151,7 +156,9 @@ pub fn begun_document(
     key: &str,
     upload: UploadId,
 ) -> Result<String, AllocError>
-    ensures { IfOk result (λ text. string_bytes text ≡ spec.begun_text bucket.now key.now upload) }
+    ensures text { IfOk result (λ text. string_bytes text ≡ spec.begun_text bucket.now key.now upload) }
+    ensures reads_back { IfOk result (λ text.
+        data_of (string_bytes text) ≡ Some (spec.begun_data bucket.now key.now upload)) }
 {
     let document = begun_value(alloc, bucket, key, upload)?;
     print(alloc, &document)
@@ -176,7 +183,9 @@ pub fn completed_document(
     checksum: &str,
     key: &str,
 ) -> Result<String, AllocError>
-    ensures { IfOk result (λ text. string_bytes text ≡ spec.completed_text bucket.now checksum.now key.now) }
+    ensures text { IfOk result (λ text. string_bytes text ≡ spec.completed_text bucket.now checksum.now key.now) }
+    ensures reads_back { IfOk result (λ text.
+        data_of (string_bytes text) ≡ Some (spec.completed_data bucket.now checksum.now key.now)) }
 {
     let document = completed_value(alloc, bucket, checksum, key)?;
     print(alloc, &document)
@@ -199,7 +208,9 @@ pub fn copied_document(
     checksum: &str,
     modified: Moment,
 ) -> Result<String, AllocError>
-    ensures { IfOk result (λ text. string_bytes text ≡ spec.copied_text checksum.now modified) }
+    ensures text { IfOk result (λ text. string_bytes text ≡ spec.copied_text checksum.now modified) }
+    ensures reads_back { IfOk result (λ text.
+        data_of (string_bytes text) ≡ Some (spec.copied_data checksum.now modified)) }
 {
     let document = copied_value(alloc, checksum, modified)?;
     print(alloc, &document)

@@ -9,6 +9,7 @@ use bh_types::plain::BucketState;
 use serde_json::{Map, Value};
 use std::alloc::{AllocError, Global};
 
+/// The number of members, in terms of the data that the definitions see.
 fn member_count(members: &Map<String, Value>) -> usize
     ensures { result ≡ members_len (members_view members.now.entries) }
 {
@@ -37,7 +38,8 @@ fn only_member<'a>(name: &str, document: &'a Value) -> Option<&'a Value>
 
 /// The values of an object's only two members, if they have these names.
 fn two_members<'a>(first: &str, second: &str, document: &'a Value) -> Option<(&'a Value, &'a Value)>
-    ensures { option_map (λ p. (view p.0.now, view p.1.now)) result ≡ spec.two_members first.now second.now (view document.now) }
+    ensures { option_map (λ p. (view p.0.now, view p.1.now)) result
+        ≡ spec.two_members first.now second.now (view document.now) }
 {
     members_of(2, document)?;
     let a = document.get(first)?;
@@ -175,6 +177,7 @@ fn has_part_count(items: &[Value]) -> bool
     1 <= count && count <= 10_000
 }
 
+/// The number of items, in terms of the data that the definitions see.
 fn item_count(items: &[Value]) -> usize
     ensures { result ≡ items_len (items_view items.now) }
 {

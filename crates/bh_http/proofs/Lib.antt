@@ -1,4 +1,3 @@
 pub mod Ascii
 pub mod Digits
-pub mod Names
 pub mod Readings

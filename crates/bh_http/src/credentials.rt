@@ -5,7 +5,6 @@ ghost use Rattle.bh_http.specs.Views.{view};
 
 use crate::fields::{Given, field_named};
 use crate::request::Request;
-use crate::text::text_of;
 use bh_types::names::TenantName;
 use bh_types::refusal::Refusal;
 use std::alloc::{AllocError, Global};
@@ -65,8 +64,8 @@ fn dollar_at(id: &[u8]) -> Option<usize>
 fn tenant_named(alloc: Global, name: &[u8]) -> Result<Option<TenantName>, AllocError>
     ensures { IfOk result (λ tenant. tenant ≡ keys.tenant_named name.now) }
 {
-    match text_of(name) {
-        Some(text) => TenantName::read(alloc, text),
-        None => Ok(None),
+    match str::from_utf8(name) {
+        Ok(text) => TenantName::read(alloc, text),
+        Err(_) => Ok(None),
     }
 }

@@ -13,7 +13,6 @@ pub mod request;
 pub mod response;
 #[cfg(test)]
 mod tests;
-mod text;
 pub mod values;
 
 pub use http::{Method, StatusCode};

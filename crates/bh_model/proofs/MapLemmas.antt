@@ -2,15 +2,10 @@
 use Rattle.std.proofs.Common.{◌≡◌, Bool, true, false, true≢false, cond, ◌||◌, List, [], ◌∷◌, map, Option, Some, None, is_some, option_map, option_and_then, refl, sym, ap, ◌∙◌, Ordering, Less, Equal, Greater, is_eq, is_lt, T, ◌&&◌, filter, subst}
 use Rattle.std.specs.List.{filter_map, cons_option, list_any}
 use Rattle.std.specs.Ordering.{eq_by_cmp}
-use Rattle.std.specs.Cmp.{IsTotalOrder}
+use Rattle.std.specs.Cmp.{IsTotalOrder, Equal-is}
 use Rattle.std.specs.FinMap.{FinMap, IsAntisymmetric, entries, from_entries, is_sorted, find, get, get-from_entries, contains_key-keys, same_map}
 use Rattle.std.specs.FinMap.Entries.{below_all}
 use Rattle.bh_model.specs.FinMaps.{adjusted}
-
-tied : (o : Ordering) → is_eq o ≡ true → o ≡ Equal
-tied Less h = absurd (true≢false (sym h))
-tied Equal h = refl
-tied Greater h = absurd (true≢false (sym h))
 
 no_value : {X : Type 0} (o : Option X) → is_some o ≡ false → o ≡ None
 no_value None h = refl
@@ -20,7 +15,7 @@ any_key : {K X : Type 0} (R : K → K → Ordering) (q : K) (es : List (K × X))
 any_key R q [] = refl
 any_key R q (e ∷ es) = ap (λ b. eq_by_cmp R q e.0 || b) (any_key R q es)
 
-none_anyway : {X : Type 0} (b : Bool) (o : Option X) → o ≡ None → cond b o None ≡ None
+pub none_anyway : {X : Type 0} (b : Bool) (o : Option X) → o ≡ None → cond b o None ≡ None
 none_anyway true o e = e
 none_anyway false o e = refl
 
@@ -41,7 +36,7 @@ module _ {K : Type 0} {R : K → K → Ordering} (total : IsTotalOrder R) (same 
     found [] = refl
     found (t ∷ ts) =
         elim (eq_by_cmp R q (key t)) as (λ b. eq_by_cmp R q (key t) ≡ b → find R q (cons_option (option_map (λ x. (key t, x)) (value (key t))) (pairs ts)) ≡ cond (b || list_any (λ t. eq_by_cmp R q (key t)) ts) (value q) None) [
-          | true ↦ λ e. ap (λ o. find R q (cons_option (option_map (λ x. (key t, x)) o) (pairs ts))) (ap value (sym (same q (key t) (tied _ e)))) ∙ here t ts e (found ts) (value q) refl
+          | true ↦ λ e. ap (λ o. find R q (cons_option (option_map (λ x. (key t, x)) o) (pairs ts))) (ap value (sym (same q (key t) ((Equal-is _).0 e)))) ∙ here t ts e (found ts) (value q) refl
           | false ↦ λ e. there t ts e (value (key t)) ∙ found ts
         ] refl
 
@@ -61,15 +56,15 @@ module _ {K : Type 0} {R : K → K → Ordering} (total : IsTotalOrder R) (same 
       step None = refl
       step (Some x) = is_h x
 
-both : (a b : Bool) → T a → T b → T (a && b)
+pub both : (a b : Bool) → T a → T b → T (a && b)
 both true b h k = k
 both false b h k = h
 
-left : (a b : Bool) → T (a && b) → T a
+pub left : (a b : Bool) → T (a && b) → T a
 left true b h = tt
 left false b h = absurd h
 
-right : (a b : Bool) → T (a && b) → T b
+pub right : (a b : Bool) → T (a && b) → T b
 right true b h = h
 right false b h = absurd h
 
@@ -79,7 +74,7 @@ not_tied Equal h = absurd h
 not_tied Greater h = absurd h
 
 module _ {K X : Type 0} (R : K → K → Ordering) where
-  find_below : (q : K) (es : List (K × X)) → T (below_all R q es) → find R q es ≡ None
+  pub find_below : (q : K) (es : List (K × X)) → T (below_all R q es) → find R q es ≡ None
   find_below q [] h = refl
   find_below q (e ∷ es) h = ap (λ b. cond b (Some e.1) (find R q es)) (not_tied _ (left _ _ h)) ∙ find_below q es (right _ _ h)
 
@@ -95,7 +90,7 @@ module _ {K X : Type 0} (R : K → K → Ordering) where
         elim (eq_by_cmp R q e.0) as (λ b. eq_by_cmp R q e.0 ≡ b → find R q (cond (p e.1) (e ∷ filter (λ e. p e.1) es) (filter (λ e. p e.1) es)) ≡ option_and_then passed (cond b (Some e.1) (find R q es))) [
           | true ↦ λ t. elim (p e.1) as (λ b. find R q (cond b (e ∷ filter (λ e. p e.1) es) (filter (λ e. p e.1) es)) ≡ cond b (Some e.1) None) [
             | true ↦ ap (λ b. cond b (Some e.1) (find R q (filter (λ e. p e.1) es))) t
-            | false ↦ rest ∙ ap (option_and_then passed) (find_below q es (subst (λ k. T (below_all R k es)) (sym (same q e.0 (tied _ t))) (left _ _ up)))
+            | false ↦ rest ∙ ap (option_and_then passed) (find_below q es (subst (λ k. T (below_all R k es)) (sym (same q e.0 ((Equal-is _).0 t))) (left _ _ up)))
           ]
           | false ↦ λ t. elim (p e.1) as (λ b. find R q (cond b (e ∷ filter (λ e. p e.1) es) (filter (λ e. p e.1) es)) ≡ option_and_then passed (find R q es)) [
             | true ↦ ap (λ b. cond b (Some e.1) (find R q (filter (λ e. p e.1) es))) t ∙ rest

@@ -41,10 +41,7 @@ fn bucket_name(alloc: Global, text: &str) -> Result<BucketName, RequestError>
 fn object_key(alloc: Global, text: &str) -> Result<ObjectKey, RequestError>
     ensures { Gives (λ x. x) result (spec.object_key text.now) }
 {
-    match ObjectKey::read(alloc, text)? {
-        Some(key) => Ok(key),
-        None => Err(RequestError::Refused(Refusal::KeyTooLong)),
-    }
+    ObjectKey::read(alloc, text)?.ok_or(RequestError::Refused(Refusal::KeyTooLong))
 }
 
 /// The caller's bucket that a text names, told from the text alone: AccessDenied where it names another tenant,

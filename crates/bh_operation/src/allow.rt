@@ -20,8 +20,5 @@ fn allow_at(kind: Kind) -> Allow
 pub fn allow_of(alloc: Global, target: &[u8]) -> Result<Option<Allow>, AllocError>
     ensures { IfOk result (λ allow. allow ≡ spec.allow_of target.now) }
 {
-    match kind_of(alloc, path_of(target))? {
-        Some(kind) => Ok(Some(allow_at(kind))),
-        None => Ok(None),
-    }
+    Ok(kind_of(alloc, path_of(target))?.map(allow_at))
 }

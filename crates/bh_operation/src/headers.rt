@@ -18,10 +18,7 @@ use std::alloc::{AllocError, Global};
 pub fn stands(given: Given) -> bool
     ensures { result ≡ spec.stands (given_view given.entry) }
 {
-    match given {
-        Given::Missing => false,
-        Given::Once(_) | Given::Repeated => true,
-    }
+    !matches!(given, Given::Missing)
 }
 
 fn has_lock_field(fields: &[Field]) -> bool

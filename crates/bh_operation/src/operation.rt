@@ -8,7 +8,7 @@ use crate::address::{ObjectName, bucket_named, object_named};
 use crate::headers::{checksum_in, copy_source, range_in, stands, supported};
 use crate::number::{part_number, upload_of, wanted};
 use crate::page::{
-    Page, PartPage, UploadMarker, VersionMarker, key_page, part_page, second_version, token_of,
+    Page, PartPage, UploadMarker, VersionMarker, page_in, part_page, second_version, token_of,
     upload_marker, upload_page, version_marker,
 };
 use crate::query::{Parameter, Selector, parameters_in, selected, value_of};
@@ -126,6 +126,15 @@ pub enum Operation {
     },
 }
 
+/// What an operation reads of a request, and who asks.
+#[derive(Drop)]
+struct Asked<'a> {
+    alloc: Global,
+    caller: &'a TenantName,
+    parameters: &'a [Parameter],
+    fields: &'a [Field],
+}
+
 fn version_in(parameters: &[Parameter]) -> Wanted
     ensures { result ≡ spec.version_in parameters.now }
 {
@@ -135,10 +144,7 @@ fn version_in(parameters: &[Parameter]) -> Wanted
 fn upload_in(parameters: &[Parameter]) -> Option<UploadId>
     ensures { result ≡ spec.upload_in parameters.now }
 {
-    match value_of("uploadId", parameters) {
-        Some(id) => upload_of(id),
-        None => None,
-    }
+    value_of("uploadId", parameters).and_then(upload_of)
 }
 
 /// The operation of a method and a selector on the host itself.
@@ -153,19 +159,14 @@ fn host_operation(method: Method, selector: Option<Selector>) -> Result<Operatio
     }
 }
 
-#[tactic(auto, unfolding(crate::specs::Operations::list_objects))]
-fn list_objects(
-    alloc: Global,
-    caller: &TenantName,
-    text: &str,
-    parameters: &[Parameter],
-) -> Result<Operation, RequestError>
-    ensures { Gives (λ x. x) result (spec.list_objects caller.now text.now parameters.now) }
+#[tactic(auto, unfolding(crate::specs::Operations::list_objects, crate::specs::Pages::key_page))]
+fn list_objects(asked: &Asked, text: &str) -> Result<Operation, RequestError>
+    ensures { Gives (λ x. x) result (spec.list_objects asked.now.caller.now text.now asked.now.parameters.now) }
 {
-    second_version(parameters)?;
-    let page = key_page(alloc, parameters)?;
-    let token = token_of(alloc, parameters)?;
-    let bucket = bucket_named(alloc, caller, text)?;
+    second_version(asked.parameters)?;
+    let page = page_in(asked.alloc, "max-keys", asked.parameters)?;
+    let token = token_of(asked.alloc, asked.parameters)?;
+    let bucket = bucket_named(asked.alloc, asked.caller, text)?;
     Ok(Operation::ListObjectsV2 {
         bucket,
         page,
@@ -173,18 +174,13 @@ fn list_objects(
     })
 }
 
-#[tactic(auto, unfolding(crate::specs::Operations::list_versions))]
-fn list_versions(
-    alloc: Global,
-    caller: &TenantName,
-    text: &str,
-    parameters: &[Parameter],
-) -> Result<Operation, RequestError>
-    ensures { Gives (λ x. x) result (spec.list_versions caller.now text.now parameters.now) }
+#[tactic(auto, unfolding(crate::specs::Operations::list_versions, crate::specs::Pages::key_page))]
+fn list_versions(asked: &Asked, text: &str) -> Result<Operation, RequestError>
+    ensures { Gives (λ x. x) result (spec.list_versions asked.now.caller.now text.now asked.now.parameters.now) }
 {
-    let page = key_page(alloc, parameters)?;
-    let after = version_marker(alloc, parameters)?;
-    let bucket = bucket_named(alloc, caller, text)?;
+    let page = page_in(asked.alloc, "max-keys", asked.parameters)?;
+    let after = version_marker(asked.alloc, asked.parameters)?;
+    let bucket = bucket_named(asked.alloc, asked.caller, text)?;
     Ok(Operation::ListObjectVersions {
         bucket,
         page,
@@ -193,17 +189,12 @@ fn list_versions(
 }
 
 #[tactic(auto, unfolding(crate::specs::Operations::list_uploads))]
-fn list_uploads(
-    alloc: Global,
-    caller: &TenantName,
-    text: &str,
-    parameters: &[Parameter],
-) -> Result<Operation, RequestError>
-    ensures { Gives (λ x. x) result (spec.list_uploads caller.now text.now parameters.now) }
+fn list_uploads(asked: &Asked, text: &str) -> Result<Operation, RequestError>
+    ensures { Gives (λ x. x) result (spec.list_uploads asked.now.caller.now text.now asked.now.parameters.now) }
 {
-    let page = upload_page(alloc, parameters)?;
-    let after = upload_marker(alloc, parameters)?;
-    let bucket = bucket_named(alloc, caller, text)?;
+    let page = upload_page(asked.alloc, asked.parameters)?;
+    let after = upload_marker(asked.alloc, asked.parameters)?;
+    let bucket = bucket_named(asked.alloc, asked.caller, text)?;
     Ok(Operation::ListMultipartUploads {
         bucket,
         page,
@@ -214,23 +205,21 @@ fn list_uploads(
 /// The operation on the bucket that a text names: first the parameters that it reads are looked at, and then the text.
 #[tactic(auto, unfolding(crate::specs::Operations::bucket_operation))]
 fn bucket_operation(
-    alloc: Global,
-    caller: &TenantName,
+    asked: &Asked,
     text: &str,
-    parameters: &[Parameter],
     action: BucketAction,
 ) -> Result<Operation, RequestError>
     ensures { Gives (λ x. x) result
-        (spec.bucket_operation caller.now text.now parameters.now action) }
+        (spec.bucket_operation asked.now.caller.now text.now asked.now.parameters.now action) }
 {
-    let named = || bucket_named(alloc, caller, text);
+    let named = || bucket_named(asked.alloc, asked.caller, text);
     match action {
         BucketAction::Create => Ok(Operation::CreateBucket(named()?)),
         BucketAction::Head => Ok(Operation::HeadBucket(named()?)),
         BucketAction::Delete => Ok(Operation::DeleteBucket(named()?)),
-        BucketAction::ListObjects => list_objects(alloc, caller, text, parameters),
-        BucketAction::ListVersions => list_versions(alloc, caller, text, parameters),
-        BucketAction::ListUploads => list_uploads(alloc, caller, text, parameters),
+        BucketAction::ListObjects => list_objects(asked, text),
+        BucketAction::ListVersions => list_versions(asked, text),
+        BucketAction::ListUploads => list_uploads(asked, text),
         BucketAction::GetVersioning => Ok(Operation::GetBucketVersioning(named()?)),
         BucketAction::PutVersioning => Ok(Operation::PutBucketVersioning(named()?)),
         BucketAction::GetLifecycle => Ok(Operation::GetLifecycle(named()?)),
@@ -240,37 +229,26 @@ fn bucket_operation(
 }
 
 #[tactic(auto, unfolding(crate::specs::Operations::put_object))]
-fn put_object(
-    alloc: Global,
-    caller: &TenantName,
-    text: &str,
-    key: &str,
-    fields: &[Field],
-) -> Result<Operation, RequestError>
+fn put_object(asked: &Asked, text: &str, key: &str) -> Result<Operation, RequestError>
     ensures { Gives (λ x. x) result
-        (spec.put_object caller.now text.now key.now (pairs_of fields.now)) }
+        (spec.put_object asked.now.caller.now text.now key.now (pairs_of asked.now.fields.now)) }
 {
-    let checksum = checksum_in(alloc, fields)?;
-    let object = object_named(alloc, caller, text, key)?;
+    let checksum = checksum_in(asked.alloc, asked.fields)?;
+    let object = object_named(asked.alloc, asked.caller, text, key)?;
     Ok(Operation::PutObject { object, checksum })
 }
 
 /// A copy: the names of its source are looked at last. Its checksum is only counted.
 #[tactic(auto, unfolding(crate::specs::Operations::copy_object))]
-fn copy_object(
-    alloc: Global,
-    caller: &TenantName,
-    text: &str,
-    key: &str,
-    fields: &[Field],
-) -> Result<Operation, RequestError>
+fn copy_object(asked: &Asked, text: &str, key: &str) -> Result<Operation, RequestError>
     ensures { Gives (λ x. x) result
-        (spec.copy_object caller.now text.now key.now (pairs_of fields.now)) }
+        (spec.copy_object asked.now.caller.now text.now key.now (pairs_of asked.now.fields.now)) }
 {
-    let source = source_in(alloc, copy_source(fields))?;
-    checksum_in(alloc, fields)?;
-    let object = object_named(alloc, caller, text, key)?;
-    let from = object_named(alloc, caller, source.bucket.as_str(), source.key.as_str())?;
+    let named = |bucket: &str, key: &str| object_named(asked.alloc, asked.caller, bucket, key);
+    let source = source_in(asked.alloc, copy_source(asked.fields))?;
+    checksum_in(asked.alloc, asked.fields)?;
+    let object = named(text, key)?;
+    let from = named(source.bucket.as_str(), source.key.as_str())?;
     Ok(Operation::CopyObject {
         object,
         source: CopySource {
@@ -281,43 +259,30 @@ fn copy_object(
 }
 
 #[tactic(auto, unfolding(crate::specs::Operations::upload_part))]
-fn upload_part(
-    alloc: Global,
-    caller: &TenantName,
-    text: &str,
-    key: &str,
-    parameters: &[Parameter],
-    fields: &[Field],
-) -> Result<Operation, RequestError>
-    ensures { Gives (λ x. x) result
-        (spec.upload_part caller.now text.now key.now parameters.now (pairs_of fields.now)) }
+fn upload_part(asked: &Asked, text: &str, key: &str) -> Result<Operation, RequestError>
+    ensures { Gives (λ x. x) result (spec.upload_part
+        asked.now.caller.now text.now key.now asked.now.parameters.now (pairs_of asked.now.fields.now)) }
 {
-    let number = part_number(value_of("partNumber", parameters))?;
-    let checksum = checksum_in(alloc, fields)?;
-    let object = object_named(alloc, caller, text, key)?;
+    let number = part_number(value_of("partNumber", asked.parameters))?;
+    let checksum = checksum_in(asked.alloc, asked.fields)?;
+    let object = object_named(asked.alloc, asked.caller, text, key)?;
     Ok(Operation::UploadPart {
         object,
-        upload: upload_in(parameters),
+        upload: upload_in(asked.parameters),
         number,
         checksum,
     })
 }
 
 #[tactic(auto, unfolding(crate::specs::Operations::list_parts))]
-fn list_parts(
-    alloc: Global,
-    caller: &TenantName,
-    text: &str,
-    key: &str,
-    parameters: &[Parameter],
-) -> Result<Operation, RequestError>
-    ensures { Gives (λ x. x) result (spec.list_parts caller.now text.now key.now parameters.now) }
+fn list_parts(asked: &Asked, text: &str, key: &str) -> Result<Operation, RequestError>
+    ensures { Gives (λ x. x) result (spec.list_parts asked.now.caller.now text.now key.now asked.now.parameters.now) }
 {
-    let page = part_page(parameters)?;
-    let object = object_named(alloc, caller, text, key)?;
+    let page = part_page(asked.parameters)?;
+    let object = object_named(asked.alloc, asked.caller, text, key)?;
     Ok(Operation::ListParts {
         object,
-        upload: upload_in(parameters),
+        upload: upload_in(asked.parameters),
         page,
     })
 }
@@ -326,27 +291,24 @@ fn list_parts(
 /// at, and then the texts.
 #[tactic(auto, unfolding(crate::specs::Operations::object_operation))]
 fn object_operation(
-    alloc: Global,
-    caller: &TenantName,
+    asked: &Asked,
     text: &str,
     key: &str,
-    parameters: &[Parameter],
-    fields: &[Field],
     action: ObjectAction,
 ) -> Result<Operation, RequestError>
-    ensures { Gives (λ x. x) result
-        (spec.object_operation caller.now text.now key.now parameters.now (pairs_of fields.now) action) }
+    ensures { Gives (λ x. x) result (spec.object_operation
+        asked.now.caller.now text.now key.now asked.now.parameters.now (pairs_of asked.now.fields.now) action) }
 {
-    let named = || object_named(alloc, caller, text, key);
-    let version = version_in(parameters);
-    let upload = upload_in(parameters);
+    let named = || object_named(asked.alloc, asked.caller, text, key);
+    let version = version_in(asked.parameters);
+    let upload = upload_in(asked.parameters);
     match action {
-        ObjectAction::Put => put_object(alloc, caller, text, key, fields),
-        ObjectAction::Copy => copy_object(alloc, caller, text, key, fields),
+        ObjectAction::Put => put_object(asked, text, key),
+        ObjectAction::Copy => copy_object(asked, text, key),
         ObjectAction::Get => Ok(Operation::GetObject {
             object: named()?,
             version,
-            range: range_in(alloc, fields)?,
+            range: range_in(asked.alloc, asked.fields)?,
         }),
         ObjectAction::Head => Ok(Operation::HeadObject {
             object: named()?,
@@ -357,8 +319,8 @@ fn object_operation(
             version,
         }),
         ObjectAction::CreateUpload => Ok(Operation::CreateMultipartUpload(named()?)),
-        ObjectAction::UploadPart => upload_part(alloc, caller, text, key, parameters, fields),
-        ObjectAction::ListParts => list_parts(alloc, caller, text, key, parameters),
+        ObjectAction::UploadPart => upload_part(asked, text, key),
+        ObjectAction::ListParts => list_parts(asked, text, key),
         ObjectAction::CompleteUpload => Ok(Operation::CompleteMultipartUpload {
             object: named()?,
             upload,
@@ -373,35 +335,25 @@ fn object_operation(
 /// The operation of a method and a selector on a target.
 #[tactic(auto, unfolding(crate::specs::Operations::operation_at))]
 fn operation_at(
-    alloc: Global,
-    caller: &TenantName,
+    asked: &Asked,
     method: Method,
-    parameters: &[Parameter],
-    fields: &[Field],
     target: &Target,
     selector: Option<Selector>,
 ) -> Result<Operation, RequestError>
-    ensures { Gives (λ x. x) result
-        (spec.operation_at caller.now method parameters.now (pairs_of fields.now) target.now selector) }
+    ensures { Gives (λ x. x) result (spec.operation_at
+        asked.now.caller.now method asked.now.parameters.now (pairs_of asked.now.fields.now) target.now selector) }
 {
     match target {
         Target::Host => Ok(host_operation(method, selector)?),
         Target::Bucket(text) => {
             let action = bucket_action(method, selector)?;
-            bucket_operation(alloc, caller, text.as_str(), parameters, action)
+            bucket_operation(asked, text.as_str(), action)
         }
         Target::Object(text, key) => {
-            let numbered = value_of("partNumber", parameters).is_some();
-            let action = object_action(method, selector, numbered, stands(copy_source(fields)))?;
-            object_operation(
-                alloc,
-                caller,
-                text.as_str(),
-                key.as_str(),
-                parameters,
-                fields,
-                action,
-            )
+            let numbered = value_of("partNumber", asked.parameters).is_some();
+            let copied = stands(copy_source(asked.fields));
+            let action = object_action(method, selector, numbered, copied)?;
+            object_operation(asked, text.as_str(), key.as_str(), action)
         }
     }
 }
@@ -429,13 +381,12 @@ pub fn operation_of(
     let parameters = parameters_in(alloc, query)?;
     supported(parameters.as_slice(), fields)?;
     let selector = selected(parameters.as_slice())?;
-    operation_at(
+    let asked = Asked {
         alloc,
         caller,
-        method_of(request.method.as_str()),
-        parameters.as_slice(),
+        parameters: parameters.as_slice(),
         fields,
-        &target,
-        selector,
-    )
+    };
+    let method = method_of(request.method.as_str());
+    operation_at(&asked, method, &target, selector)
 }

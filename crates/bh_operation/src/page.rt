@@ -1,7 +1,5 @@
 ghost use Rattle.std.specs.Prelude.{◌≡◌, IfOk};
-ghost use Rattle.std.specs.Option.{option_copied};
 ghost use Rattle.bh_types.specs.Outcomes.{Gives};
-ghost use Rattle.bh_operation.specs.Numbers as number;
 ghost use Rattle.bh_operation.specs.Pages as spec;
 
 use crate::number::{page_size, part_marker, token_in, upload_of, wanted};
@@ -57,9 +55,14 @@ fn text_or_empty(alloc: Global, name: &str, parameters: &[Parameter]) -> Result<
     Text::copy_of(alloc, value_of(name, parameters).unwrap_or(""))
 }
 
-/// The page that the parameters ask for, its size given by the one of this name.
+/// The page that the parameters ask for, its size given by the one of this name: InvalidArgument where that is not 1
+/// to 10 digits. A size above 1,000 is taken as that, and so is none.
 #[tactic(auto, unfolding(crate::specs::Pages::page_in))]
-fn page_in(alloc: Global, size_name: &str, parameters: &[Parameter]) -> Result<Page, RequestError>
+pub(crate) fn page_in(
+    alloc: Global,
+    size_name: &str,
+    parameters: &[Parameter],
+) -> Result<Page, RequestError>
     ensures { Gives (λ x. x) result (spec.page_in size_name.now parameters.now) }
 {
     let size = page_size(value_of(size_name, parameters))?;
@@ -72,16 +75,7 @@ fn page_in(alloc: Global, size_name: &str, parameters: &[Parameter]) -> Result<P
     })
 }
 
-/// The page of keys, or of versions, that the parameters ask for: InvalidArgument where its size is not 1 to 10
-/// digits. A size above 1,000 is taken as that, and so is none.
-#[tactic(auto, unfolding(crate::specs::Pages::key_page))]
-pub(crate) fn key_page(alloc: Global, parameters: &[Parameter]) -> Result<Page, RequestError>
-    ensures { Gives (λ x. x) result (spec.key_page parameters.now) }
-{
-    page_in(alloc, "max-keys", parameters)
-}
-
-/// The page of uploads that the parameters ask for, as [`key_page`].
+/// The page of uploads that the parameters ask for, as [`page_in`].
 #[tactic(auto, unfolding(crate::specs::Pages::upload_page))]
 pub(crate) fn upload_page(alloc: Global, parameters: &[Parameter]) -> Result<Page, RequestError>
     ensures { Gives (λ x. x) result (spec.upload_page parameters.now) }
@@ -100,24 +94,14 @@ pub(crate) fn part_page(parameters: &[Parameter]) -> Result<PartPage, Refusal>
     Ok(PartPage { size, after })
 }
 
-fn is_second(text: Option<&str>) -> bool
-    ensures { result ≡ spec.is_second (option_copied text.entry) }
-{
-    match text {
-        Some(text) => text == "2",
-        None => false,
-    }
-}
-
 /// InvalidArgument unless `list-type` is `2`, as S3's ListObjectsV2 has it.
 #[tactic(auto, unfolding(crate::specs::Pages::second_version))]
 pub(crate) fn second_version(parameters: &[Parameter]) -> Result<(), Refusal>
     ensures { result ≡ spec.second_version parameters.now }
 {
-    if is_second(value_of("list-type", parameters)) {
-        Ok(())
-    } else {
-        Err(Refusal::InvalidArgument)
+    match value_of("list-type", parameters) {
+        Some("2") => Ok(()),
+        _ => Err(Refusal::InvalidArgument),
     }
 }
 
@@ -130,10 +114,9 @@ pub(crate) fn token_of(
 ) -> Result<Option<Bytes>, RequestError>
     ensures { Gives (λ x. x) result (spec.token_of parameters.now) }
 {
-    match value_of("continuation-token", parameters) {
-        Some(text) => Ok(Some(token_in(alloc, text)?)),
-        None => Ok(None),
-    }
+    value_of("continuation-token", parameters)
+        .map(|text| token_in(alloc, text))
+        .transpose()
 }
 
 /// Where a page of versions begins: InvalidArgument where an id is given without a key.
@@ -156,15 +139,6 @@ pub(crate) fn version_marker(
     }
 }
 
-fn marked_upload(id: &str) -> Result<UploadId, Refusal>
-    ensures { result ≡ number.or_invalid_argument (number.upload_of id.now) }
-{
-    match upload_of(id) {
-        Some(upload) => Ok(upload),
-        None => Err(Refusal::InvalidArgument),
-    }
-}
-
 /// Where a page of uploads begins: InvalidArgument where an id is given with a key and is none. With no key it is
 /// not looked at.
 #[tactic(auto, unfolding(crate::specs::Pages::upload_marker))]
@@ -179,7 +153,7 @@ pub(crate) fn upload_marker(
     };
     let upload = match value_of("upload-id-marker", parameters) {
         None => None,
-        Some(id) => Some(marked_upload(id)?),
+        Some(id) => Some(upload_of(id).ok_or(Refusal::InvalidArgument)?),
     };
     Ok(Some(UploadMarker {
         key: Text::copy_of(alloc, key)?,

@@ -154,10 +154,7 @@ fn find_selector(parameters: &[Parameter]) -> Option<&Parameter>
 fn first_selector(parameters: &[Parameter]) -> Option<Selector>
     ensures { result ≡ spec.first_selector parameters.now }
 {
-    match find_selector(parameters) {
-        Some(parameter) => selector_of(parameter.name.as_str()),
-        None => None,
-    }
+    find_selector(parameters).and_then(|p| selector_of(p.name.as_str()))
 }
 
 /// The selector among the parameters, if there is one: InvalidArgument where there are two.
@@ -172,16 +169,10 @@ pub fn selected(parameters: &[Parameter]) -> Result<Option<Selector>, Refusal>
 }
 
 #[tactic(auto, unfolding(crate::specs::Queries::is_argument))]
-fn is_argument(name: &str) -> bool
-    ensures { result ≡ spec.is_argument name.now }
-{
-    is_among(&ARGUMENTS, name)
-}
-
 fn is_known(name: &str) -> bool
     ensures { result ≡ spec.is_known name.now }
 {
-    is_unsupported(name) || is_selector(name) || is_argument(name)
+    is_unsupported(name) || is_selector(name) || is_among(&ARGUMENTS, name)
 }
 
 fn count_named(name: &str, parameters: &[Parameter]) -> usize

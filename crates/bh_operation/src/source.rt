@@ -63,10 +63,7 @@ fn source_part(alloc: Global, part: &[u8]) -> Result<Text, RequestError>
     if part.is_empty() {
         return Err(RequestError::Refused(Refusal::InvalidArgument));
     }
-    match decode(alloc, part)? {
-        Some(text) => Ok(text),
-        None => Err(RequestError::Refused(Refusal::InvalidArgument)),
-    }
+    decode(alloc, part)?.ok_or(RequestError::Refused(Refusal::InvalidArgument))
 }
 
 /// What a copy source names. It is split first and decoded then, so that an escaped slash is no separator.

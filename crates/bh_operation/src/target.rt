@@ -148,10 +148,7 @@ pub fn kind_of(alloc: Global, path: &[u8]) -> Result<Option<Kind>, AllocError>
     let Ok(router) = routes(alloc) else {
         return Err(AllocError);
     };
-    match router.at(text) {
-        Ok(found) => Ok(Some(*found.value)),
-        Err(_) => Ok(None),
-    }
+    Ok(router.at(text).ok().map(|found| *found.value))
 }
 
 /// The kind of a path: InvalidUri where no route fits it.
@@ -159,10 +156,7 @@ pub fn kind_of(alloc: Global, path: &[u8]) -> Result<Option<Kind>, AllocError>
 pub fn routed(alloc: Global, path: &[u8]) -> Result<Kind, RequestError>
     ensures { Gives (λ x. x) result (spec.routed path.now) }
 {
-    match kind_of(alloc, path)? {
-        Some(kind) => Ok(kind),
-        None => Err(RequestError::Refused(Refusal::InvalidUri)),
-    }
+    kind_of(alloc, path)?.ok_or(RequestError::Refused(Refusal::InvalidUri))
 }
 
 /// A name in a path, decoded: InvalidUri where it is at fault.
@@ -170,10 +164,7 @@ pub fn routed(alloc: Global, path: &[u8]) -> Result<Kind, RequestError>
 fn name_at(alloc: Global, part: &[u8]) -> Result<Text, RequestError>
     ensures { Gives (λ x. x) result (spec.name_at part.now) }
 {
-    match decode(alloc, part)? {
-        Some(text) => Ok(text),
-        None => Err(RequestError::Refused(Refusal::InvalidUri)),
-    }
+    decode(alloc, part)?.ok_or(RequestError::Refused(Refusal::InvalidUri))
 }
 
 fn after_first(bytes: &[u8]) -> &[u8]

@@ -2,6 +2,7 @@
 use Rattle.std.proofs.Common.{arith, ◌≡◌, ◌≢◌, inl, inr, ℕ, ℤ, List, [], ◌∷◌, ◌++◌, map, cond, not, ◌&&◌, ◌||◌, Bool, true, false, true≢false, Option, None, Some, refl, sym, ap, subst, ◌∙◌, int_eq}
 use Rattle.std.specs.List.{list_any, list_all}
 use Rattle.std.specs.Ordering.{is_eq}
+use Rattle.std.proofs.Math.Bool.{and-false}
 use Rattle.std.proofs.lemmas.Int.{ints}
 use Rattle.std.proofs.lemmas.Bool.{and_parts, cases_eq, eq-eqb, ne_eqb}
 use Rattle.sqlite.specs.declared.types.Value.TheVariants.{Null, Int}
@@ -62,10 +63,6 @@ narrower p q (x ∷ xs) h = go (p x) (list_any p xs) h (narrower p q xs) refl
 int_eq_self : (n : ℤ) → int_eq n n ≡ true
 int_eq_self n = grind (arith, ints)
 
-never : (a : Bool) → (a && false) ≡ false
-never true = refl
-never false = refl
-
 -- the tree that is replaced
 pub at_changed : (db : Trees) (tree : ℕ) (l : List Row) → with_tree db tree l tree ≡ l
 at_changed db tree l = ap (λ b. cond b l (db tree)) (eq-eqb tree tree refl)
@@ -106,7 +103,7 @@ module _ {T : Type 0} (form : Form T) (schema : Schema) (table : Table) (source 
   -- no row with the same key
   pub unclashed : (o : Order) (places : List ℕ) → list_any (λ other. agree o places other places new) was ≡ false → clashes o places (was ++ new ∷ []) new ≡ false
   unclashed o places none =
-      any_append _ was new (narrower _ _ was none) (ap (λ b. agree o places new places new && b) (at_ints false Ne (next_rowid was) (next_rowid was) ∙ ap not (int_eq_self (next_rowid was))) ∙ never _)
+      any_append _ was new (narrower _ _ was none) (ap (λ b. agree o places new places new && b) (at_ints false Ne (next_rowid was) (next_rowid was) ∙ ap not (int_eq_self (next_rowid was))) ∙ and-false _)
 
   module _ (typed : passes Datatype schema db (plainly table) new ≡ true) (present : passes NotNull schema db (plainly table) new ≡ true) (checked : passes Check schema db (plainly table) new ≡ true)
       (referred : is_referred schema Enforced edit ≡ true) (unique : (next : Trees) → next table.tree ≡ was ++ new ∷ [] → are_unique schema.indexes next (plainly table) (new ∷ []) ≡ true) (keeps : Keeps Unique schema db) where

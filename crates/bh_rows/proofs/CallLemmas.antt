@@ -21,6 +21,7 @@ use Rattle.sqlite_trees.specs.declared.error.StoreError.TheVariants as store
 use Rattle.sqlite_resolve.specs.declared.compiled.Compiled.{Compiled}
 use Rattle.sqlite.proofs.Callers.{IsPlain, command_of, runs_as, statement_of}
 use Rattle.sqlite.proofs.InsideLemmas.{fails_whole}
+use Rattle.sqlite.proofs.StateLemmas.{survives_weaker}
 use Rattle.bh_rows.specs.Means.{Means, tail_of, parameters_of, is_trouble, is_write, IsUndone, IsOutside, StaysInside, Changes}
 
 -- each error of the store is trouble
@@ -39,17 +40,6 @@ failed_is_trouble old new too_big e h = ap is_trouble h.1 ∙ troubled h.0
 -- a disk that is clean afterwards was clean before
 pub clean_before : (old new : State) (P : Trees → Type 0) → Survives old new P → HasCleanDisk new → HasCleanDisk old
 clean_before old new P s clean = let rises = s.clean in omega arith
-
--- a crash that may find fewer may find more
-pub survives_less : (old new : State) (P Q : Trees → Type 0) → (HasCleanDisk new → (db : Trees) → P db → Q db) → Survives old new P → Survives old new Q
-survives_less old new P Q less s = record {
-  clean = s.clean;
-  shield = s.shield;
-  counts = s.counts;
-  limit = s.limit;
-  closes = s.closes;
-  crash = λ clean db left. elim (s.crash clean db left) [ inl was ↦ inl was | inr wrote ↦ inr (less clean db wrote) ];
-}
 
 -- ---- with no word on the schema
 
@@ -90,7 +80,7 @@ module _ (sql : List ℕ) (params : Row) (old new : State) where
   -- a query commits nothing inside a transaction
   pub shows_outside : Survives old new (CommitsShowing sql params old) → Survives old new (λ _. IsOutside old)
   unfolding CommitsShowing
-  shows_outside = survives_less old new _ _ (λ clean db wrote. inl wrote.3.0)
+  shows_outside = survives_weaker old new _ _ (λ clean db wrote. inl wrote.3.0)
 
 quiet_write : (k : Command) (r : Option Returning) → is_write k ≡ true → r ≡ None → (is_query k || (is_pragma k || is_some r)) ≡ false
 quiet_write (Insert at from) r h none = rw none
@@ -240,7 +230,7 @@ write_changes sql params old new schema command parameters means writes ready re
   inside = λ clean up. go result (ready (clean_before old new _ s clean) up) (runs clean);
   undone = λ clean. fails result (runs clean);
   up = λ clean up. executes_up sql params old new result (runs clean) up;
-  survives = survives_less old new _ _ (λ clean db wrote. elim (cases_Bool old.is_open) [
+  survives = survives_weaker old new _ _ (λ clean db wrote. elim (cases_Bool old.is_open) [
     | inl up ↦ inl (commits_outside sql params old new schema (ready (clean_before old new _ s clean) up) command parameters means writes db wrote)
     | inr down ↦ inr down
   ]) s;

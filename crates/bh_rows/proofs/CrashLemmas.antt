@@ -13,9 +13,9 @@ use Rattle.sqlite_schema.specs.declared.command.Returning.{Returning}
 use Rattle.sqlite.specs.Listing.{understood}
 use Rattle.sqlite.specs.State.{State, HasCleanDisk, IsUnchanged, Survives, CommitsBy, CommitsShowing, Shows, mode_of, text_of}
 use Rattle.sqlite.proofs.Callers.{IsPlain, never_commits}
-use Rattle.sqlite.proofs.StateLemmas.{survives_then}
+use Rattle.sqlite.proofs.StateLemmas.{survives_then, survives_weaker}
 use Rattle.bh_rows.specs.Means.{Means, IsOutside, StaysInside, LeavesCommit}
-use Rattle.bh_rows.proofs.CallLemmas.{clean_before, compiled_command, compiled_plain, survives_less}
+use Rattle.bh_rows.proofs.CallLemmas.{clean_before, compiled_command, compiled_plain}
 
 -- ---- BEGIN and ROLLBACK
 
@@ -32,7 +32,7 @@ turns_nothing old text params r k out none which h = go which
 -- they commit nothing, also outside a transaction
 pub turn_leaves : (sql : List ℕ) (old new : State) (command : Command) → Means old.now.schema sql command 0 → (command ≡ Begin) ⊎ (command ≡ Rollback) → Survives old new (CommitsBy sql [] old) → Survives old new (λ _. ⊥)
 unfolding CommitsBy
-turn_leaves sql old new command means which = survives_less old new (CommitsBy sql [] old) (λ _. ⊥) (λ clean db h.
+turn_leaves sql old new command means which = survives_weaker old new (CommitsBy sql [] old) (λ _. ⊥) (λ clean db h.
     let is = compiled_command sql [] old new old.now.schema refl command 0 means h.0 h.1 in
     let bare = compiled_plain sql [] old new old.now.schema refl command 0 means h.0 h.1 in
     elim h.2 [
@@ -48,7 +48,7 @@ turn_leaves sql old new command means which = survives_less old new (CommitsBy s
 -- it commits nothing, also outside a transaction
 pub asks_leaves : (sql : List ℕ) (params : Row) (old new : State) (schema : Schema) (command : Command) (parameters : ℕ) → Means schema sql command parameters
     → (HasCleanDisk old → IsTrue old.is_open → old.now.schema ≡ schema) → Survives old new (CommitsShowing sql params old) → Survives old new (λ _. old.is_open ≡ false)
-asks_leaves sql params old new schema command parameters means ready s = survives_less old new (CommitsShowing sql params old) (λ _. old.is_open ≡ false) (λ clean db wrote. elim (cases_Bool old.is_open) [
+asks_leaves sql params old new schema command parameters means ready s = survives_weaker old new (CommitsShowing sql params old) (λ _. old.is_open ≡ false) (λ clean db wrote. elim (cases_Bool old.is_open) [
   | inl up ↦ absurd (never_commits sql params old db (subst (λ c. IsPlain (understood c sql)) (sym (ready (clean_before old new _ s clean) up)) means.plain) wrote)
   | inr down ↦ down
 ]) s
@@ -71,7 +71,7 @@ survives_two a b c stays one two = survives_then a b c (λ _. IsOutside a) (λ _
 
 -- inside a transaction nothing adds to what a crash may find
 pub inside_leaves : (old new : State) → IsTrue old.in_transaction → IsTrue old.is_open → Survives old new (λ _. IsOutside old) → Survives old new (λ _. ⊥)
-inside_leaves old new inside up = survives_less old new (λ _. IsOutside old) (λ _. ⊥) (λ clean db out. elim out [ inl outside ↦ true≢false (sym inside ∙ outside) | inr down ↦ true≢false (sym up ∙ down) ])
+inside_leaves old new inside up = survives_weaker old new (λ _. IsOutside old) (λ _. ⊥) (λ clean db out. elim out [ inl outside ↦ true≢false (sym inside ∙ outside) | inr down ↦ true≢false (sym up ∙ down) ])
 
 -- ---- while the connection is open
 

@@ -1,5 +1,6 @@
 -- The rows that an edit takes out are those that the statement found, and the rows that it puts back are at free numbers.
-use Rattle.std.proofs.Common.{◌≡◌, inl, inr, ℤ, List, [], ◌∷◌, map, filter, not, Bool, true, false, Ordering, Less, Equal, Greater, refl, sym, ap, subst, ◌∙◌, is_eq}
+use Rattle.std.proofs.Common.{◌≡◌, inl, inr, ℤ, List, [], ◌∷◌, map, filter, not, Bool, true, false, refl, sym, ap, subst, ◌∙◌, is_eq}
+use Rattle.std.specs.Cmp.{Equal-is}
 use Rattle.std.specs.List.Sorted.{IsPermutation}
 use Rattle.std.proofs.lemmas.Bool.{and_from, not-true, both_ways, false_from_ne_true}
 use Rattle.std.proofs.lemmas.Cmp.{tied_itself, tied_back}
@@ -26,12 +27,7 @@ abbrev Apart : Row → Row → Type 0
 Apart a b = is_eq (value_cmp (rowid a) (rowid b)) ≡ false
 
 apart_back : (a b : Row) → Apart a b → Apart b a
-apart_back a b h = false_from_ne_true _ (λ tie. both_ways _ h (ap is_eq (tied_back value_cmp_total (rowid b) (rowid a) (equal_is _ tie))))
-  where
-    equal_is : (o : Ordering) → is_eq o ≡ true → o ≡ Equal
-    equal_is Less h = absurd (cc)
-    equal_is Equal h = refl
-    equal_is Greater h = absurd (cc)
+apart_back a b h = false_from_ne_true _ (λ tie. both_ways _ h (ap is_eq (tied_back value_cmp_total (rowid b) (rowid a) ((Equal-is _).0 tie))))
 
 -- that each two are apart does not turn on the order
 abbrev Still : List Row → List Row → Type 0
@@ -93,13 +89,8 @@ module _ {T : Type 0} (form : Form T) (rows : List Row) (held : AreRows form row
     -- a row that stays and a row that was found are at two numbers
     stays_apart : (x d : Entry T) → Has es x → hit x ≡ false → Has es d → hit d ≡ true → Apart (put form x) (put form (changed d))
     stays_apart x d there misses also hits = false_from_ne_true _ (λ tie.
-        let same : put form x ≡ put form d = tied_same rows (put form x) (put form d) held.rises (entry_there x there) (entry_there d also) (equal_is _ tie) in
+        let same : put form x ≡ put form d = tied_same rows (put form x) (put form d) held.rises (entry_there x there) (entry_there d also) ((Equal-is _).0 tie) in
         both_ways _ misses (ap m (sym (form.back (Int x.0) x.1) ∙ ap form.decode same ∙ form.back (Int d.0) d.1) ∙ hits))
-      where
-        equal_is : (o : Ordering) → is_eq o ≡ true → o ≡ Equal
-        equal_is Less h = absurd (cc)
-        equal_is Equal h = refl
-        equal_is Greater h = absurd (cc)
 
     -- what an UPDATE puts back is at free numbers
     pub update_fresh : (ids : List ℤ) (news : List Row) → IsPermutation (map id_of (filter hit es)) ids → IsPermutation (map (λ e. put form (changed e)) (filter hit es)) news → are_fresh (without_all rows ids) news ≡ true

@@ -10,8 +10,9 @@ use Rattle.sqlite.specs.Effect.{is_query}
 use Rattle.sqlite_schema.specs.declared.command.Returning.{Returning}
 use Rattle.sqlite.specs.declared.error.Error.{Error}
 use Rattle.sqlite.proofs.Callers.{runs_as}
+use Rattle.sqlite.proofs.StateLemmas.{survives_weaker}
 use Rattle.bh_rows.specs.Means.{Means, is_trouble, IsUndone, IsOutside, StaysInside}
-use Rattle.bh_rows.proofs.CallLemmas.{clean_before, compiled_command, compiled_plain, is_known, not_run, failed_is_trouble, write_open, executes_undone, executes_up, survives_less}
+use Rattle.bh_rows.proofs.CallLemmas.{clean_before, compiled_command, compiled_plain, is_known, not_run, failed_is_trouble, write_open, executes_undone, executes_up}
 
 -- the command is one of the three
 abbrev is_turn : Command → Bool
@@ -68,12 +69,12 @@ module _ (sql : List ℕ) (old new : State) (schema : Schema) (ready : HasCleanD
   -- inside a transaction, a crash finds what it could find before, or what the commit made
   pub commits_now : Survives old new (λ db. (db ≡ old.now.trees) ⊎ (old.in_transaction ≡ false))
   unfolding CommitsBy
-  commits_now = survives_less old new _ _ (λ clean db h. elim h.2 [ inl ends ↦ inl ends.1 | inr outside ↦ inr outside.0 ]) s
+  commits_now = survives_weaker old new _ _ (λ clean db h. elim h.2 [ inl ends ↦ inl ends.1 | inr outside ↦ inr outside.0 ]) s
 
   -- a text that is no commit leaves nothing new
   pub commits_none : (command : Command) → Means schema sql command 0 → (command ≡ Begin) ⊎ (command ≡ Rollback) → Survives old new (λ _. IsOutside old)
   unfolding CommitsBy
-  commits_none command means which = survives_less old new _ _ (λ clean db h. elim h.2 [
+  commits_none command means which = survives_weaker old new _ _ (λ clean db h. elim h.2 [
     | inr outside ↦ inl outside.0
     | inl ends ↦ elim (cases_Bool old.is_open) [
       | inr down ↦ inr down

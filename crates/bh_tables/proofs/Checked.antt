@@ -1,6 +1,7 @@
 -- What the CHECKs say of typed rows.
 use Rattle.std.proofs.Common.{arith, ◌≡◌, ◌≤◌, ℕ, pos, ◌∷◌, [], List, ◌&&◌, not, true, false, Bool, Option, Some, None, refl, ap, ap₂, ◌∙◌, int_le}
 use Rattle.std.proofs.lemmas.Int.{ints}
+use Rattle.std.specs.Cmp.Derive.{both_true}
 use Rattle.std.proofs.lemmas.Bool.{and_parts}
 use Rattle.sqlite.specs.Collation.TheVariants.{Binary}
 use Rattle.sqlite.specs.declared.types.Value.TheVariants.{Int}
@@ -32,23 +33,20 @@ maybe_natural o = twice _ (at_nullable number true Ge (λ a b. int_le (pos b) (p
     go None = refl
     go (Some n) = grind (arith, ints)
 
-both : {x y : Bool} → x ≡ true → y ≡ true → (x && y) ≡ true
-both p q = ap₂ ◌&&◌ p q
-
 pub tenant_checked : (id : Rattle.std.proofs.Common.ℤ) (t : TenantRow) → passes_checks tenants_table (Int id ∷ tenant_columns t) ≡ true
-tenant_checked id t = both (natural t.quota) (both (natural t.next_version) (both (natural t.next_upload) (both (natural t.next_entry) refl)))
+tenant_checked id t = both_true (natural t.quota) (both_true (natural t.next_version) (both_true (natural t.next_upload) (both_true (natural t.next_entry) refl)))
 
 pub bucket_checked : (id : Rattle.std.proofs.Common.ℤ) (b : BucketRow) → b.state ≤ 2 → passes_checks buckets_table (Int id ∷ bucket_columns b) ≡ true
-bucket_checked id b low = both (natural b.created) (both (natural b.state) (both (at_most b.state 2 low) (both (maybe_natural b.days) refl)))
+bucket_checked id b low = both_true (natural b.created) (both_true (natural b.state) (both_true (at_most b.state 2 low) (both_true (maybe_natural b.days) refl)))
 
 pub version_checked : (id : Rattle.std.proofs.Common.ℤ) (v : VersionRow) → is_marked_right v ≡ true → passes_checks versions_table (Int id ∷ version_columns v) ≡ true
-version_checked id v right = both (natural v.seq) (both (natural v.id) (both (natural v.marker) (both (natural v.stamp) (both (natural v.size) (both (twice _ (
+version_checked id v right = both_true (natural v.seq) (both_true (natural v.id) (both_true (natural v.marker) (both_true (natural v.stamp) (both_true (natural v.size) (both_true (twice _ (
     at_or true _ _ (at_ints true Eq (pos v.marker) (pos 0)) (at_and true _ _ (at_ints true Eq (pos v.size) (pos 0)) (at_texts true Eq v.checksum [])) ∙ right)) refl)))))
 
 -- the row number of the host is 1
 pub host_checked : (h : HostRow) → passes_checks host_table (number 1 ∷ host_columns h) ≡ true
-host_checked h = both (twice _ (at_ints true Eq (pos 1) (pos 1))) (both (natural h.version) (both (natural h.latest) (both (natural h.min_part) (both (natural h.max_body) refl))))
+host_checked h = both_true (twice _ (at_ints true Eq (pos 1) (pos 1))) (both_true (natural h.version) (both_true (natural h.latest) (both_true (natural h.min_part) (both_true (natural h.max_body) refl))))
 
 -- and stays so under another last stamp
 pub host_checked_still : (id : Rattle.std.proofs.Common.ℤ) (h : HostRow) (n : ℕ) → passes_checks host_table (Int id ∷ host_columns h) ≡ true → passes_checks host_table (Int id ∷ host_columns (record h { latest = n })) ≡ true
-host_checked_still id h n was = both (and_parts _ _ was).0 (both (natural h.version) (both (natural n) (both (natural h.min_part) (both (natural h.max_body) refl))))
+host_checked_still id h n was = both_true (and_parts _ _ was).0 (both_true (natural h.version) (both_true (natural n) (both_true (natural h.min_part) (both_true (natural h.max_body) refl))))

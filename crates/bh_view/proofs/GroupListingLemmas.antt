@@ -1,5 +1,5 @@
 -- The lists of a map of groups, one after another, are the rows by key and then by the groups' order.
-use Rattle.std.proofs.Common.{◌≡◌, Bool, true, false, true≢false, cond, ◌&&◌, T, List, [], ◌∷◌, ◌++◌, map, flat_map, Some, None, unwrap_or, refl, sym, ap, ap₂, ◌∙◌, subst, append-nil, Ordering, Less, Equal, Greater, is_gt, is_lt}
+use Rattle.std.proofs.Common.{◌≡◌, Bool, true, false, true≢false, cond, T, List, [], ◌∷◌, ◌++◌, map, flat_map, Some, None, unwrap_or, refl, sym, ap, ap₂, ◌∙◌, subst, append-nil, Ordering, Less, Equal, Greater, is_gt, is_lt}
 use Rattle.std.specs.List.{AllByRecursion}
 use Rattle.std.specs.Ordering.{ordering_then, ordering_reverse}
 use Rattle.std.specs.Cmp.{IsTotalOrder, on_total, then_total}
@@ -14,8 +14,8 @@ use Rattle.bh_model.specs.FinMaps.{non_empty}
 use Rattle.bh_view.specs.Grouped.{IsKey, first, matching, grouped}
 use Rattle.bh_view.proofs.FilterLemmas.{first_passes, none_some, same_Some}
 use Rattle.bh_view.proofs.SortLemmas.{AtMost, up-sort_by, sort_by-filter}
-use Rattle.bh_view.proofs.GroupedLemmas.{get-grouped, key_agrees, is_itself}
-use Rattle.bh_view.proofs.TotalLemmas.{find_below}
+use Rattle.bh_view.proofs.GroupedLemmas.{get-grouped, key_agrees, is_itself, unwrapped}
+use Rattle.bh_model.proofs.MapLemmas.{left, right, find_below}
 
 first_holds : {A : Type 0} (P : A → Type 0) (l : List A) (z : A) → AllByRecursion P l → first l ≡ Some z → P z
 first_holds P [] z all h = absurd (none_some h)
@@ -60,10 +60,6 @@ module _ {K A : Type 0} {R : K → K → Ordering} {is : K → K → Bool} (k : 
       ] refl) in
       λ i. heads.0 i ∷ tails i
 
-join : (a b : Bool) → T (a && b) → T a × T b
-join true b h = (tt, h)
-join false b h = absurd h
-
 not_above : (o : Ordering) → T (is_lt o) → is_gt o ≡ false
 not_above Less h = refl
 not_above Equal h = absurd h
@@ -86,20 +82,20 @@ module _ {K X : Type 0} {R : K → K → Ordering} {is : K → K → Bool} (k : 
 
   all_later : (q : K) (es : List (K × List X)) → T (below_all R q es) → AllByRecursion (λ (p : K × X). is_gt (R q p.0) ≡ false) (flat es)
   all_later q [] h = tt
-  all_later q (e ∷ es) h = all-append (λ (p : K × X). is_gt (R q p.0) ≡ false) _ _ (all_own _ e.0 e.1 (λ x. not_above _ (join _ _ h).0)) (all_later q es (join _ _ h).1)
+  all_later q (e ∷ es) h = all-append (λ (p : K × X). is_gt (R q p.0) ≡ false) _ _ (all_own _ e.0 e.1 (λ x. not_above _ (left _ _ h))) (all_later q es (right _ _ h))
 
   up-flat : (es : List (K × List X)) → T (is_sorted R es) → IsAscending (AtMost by_first) (flat es)
   up-flat [] h = tt
-  up-flat (e ∷ es) h = ascending-append (AtMost by_first) _ _ (up_own e.0 e.1) (up-flat es (join _ _ h).1) (all_own _ e.0 e.1 (λ x. all_later e.0 es (join _ _ h).0))
+  up-flat (e ∷ es) h = ascending-append (AtMost by_first) _ _ (up_own e.0 e.1) (up-flat es (right _ _ h)) (all_own _ e.0 e.1 (λ x. all_later e.0 es (left _ _ h)))
 
   at_flat : (q : K) (es : List (K × List X)) → T (is_sorted R es) → matching is (λ (p : K × X). p.0) q (flat es) ≡ map (λ x. (q, x)) (unwrap_or (find R q es) [])
   at_flat q [] h = refl
   at_flat q (e ∷ es) h =
       filter-append (λ (p : K × X). is p.0 q) (map (λ x. (e.0, x)) e.1) (flat es)
       ∙ elim (is e.0 q) as (λ b. is e.0 q ≡ b → matching is (λ (p : K × X). p.0) q (map (λ x. (e.0, x)) e.1) ++ matching is (λ (p : K × X). p.0) q (flat es) ≡ map (λ x. (q, x)) (unwrap_or (cond b (Some e.1) (find R q es)) [])) [
-        | true ↦ λ t. ap₂ ◌++◌ (filter_all _ _ (all_own _ e.0 e.1 (λ x. t))) (at_flat q es (join _ _ h).1 ∙ ap (λ o. map {B = K × X} (λ (x : X). (q, x)) (unwrap_or o [])) (subst (λ z. find R z es ≡ None) ((k.decides e.0 q).0 t) (find_below k e.0 es (join _ _ h).0)))
+        | true ↦ λ t. ap₂ ◌++◌ (filter_all _ _ (all_own _ e.0 e.1 (λ x. t))) (at_flat q es (right _ _ h) ∙ ap (λ o. map {B = K × X} (λ (x : X). (q, x)) (unwrap_or o [])) (subst (λ z. find R z es ≡ None) ((k.decides e.0 q).0 t) (find_below R e.0 es (left _ _ h))))
             ∙ append-nil _ ∙ ap (λ (z : K). map (λ (x : X). (z, x)) e.1) ((k.decides e.0 q).0 t)
-        | false ↦ λ t. ap₂ ◌++◌ (filter_none _ _ (all_own _ e.0 e.1 (λ x. t))) (at_flat q es (join _ _ h).1)
+        | false ↦ λ t. ap₂ ◌++◌ (filter_none _ _ (all_own _ e.0 e.1 (λ x. t))) (at_flat q es (right _ _ h))
       ] refl
       ∙ ap (λ b. map (λ x. (q, x)) (unwrap_or (cond b (Some e.1) (find R q es)) [])) (sym (key_agrees k q e.0))
 
@@ -132,10 +128,6 @@ module _ {K X : Type 0} {R : K → K → Ordering} {is : K → K → Bool} (k : 
       | true ↦ λ e. ((k.decides (key r) q).0 e, of_key q rs)
       | false ↦ λ e. of_key q rs
     ] refl
-
-    unwrapped : {B : Type 0} (l : List B) → unwrap_or (non_empty l) [] ≡ l
-    unwrapped [] = refl
-    unwrapped (x ∷ xs) = refl
 
     pairs_agree : (q : K) (l : List A) → AllByRecursion (λ r. key r ≡ q) l → map {B = K × X} (λ x. (q, x)) (map f l) ≡ map {B = K × X} (λ r. (key r, f r)) l
     pairs_agree q [] all = refl

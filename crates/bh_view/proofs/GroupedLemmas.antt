@@ -1,23 +1,24 @@
 -- What a map that is made of rows answers, and what one key's change makes of it.
-use Rattle.std.proofs.Common.{◌≡◌, ◌≢◌, Bool, true, false, true≢false, cond, ◌||◌, List, [], ◌∷◌, ◌++◌, Option, Some, None, option_map, refl, sym, ap, ◌∙◌, subst, Ordering, Less, Equal, Greater, is_eq, is_some}
+use Rattle.std.proofs.Common.{◌≡◌, ◌≢◌, Bool, true, false, true≢false, cond, ◌||◌, List, [], ◌∷◌, ◌++◌, Option, Some, None, option_map, refl, sym, ap, ◌∙◌, subst, Ordering, is_eq, is_some, unwrap_or}
 use Rattle.std.specs.List.{filter_map, cons_option, list_any}
 use Rattle.sqlite_keyed.proofs.ListLemmas.{filter_none, none_from_any}
+use Rattle.std.specs.Cmp.{Equal-is}
 use Rattle.std.specs.Ordering.{eq_by_cmp}
 use Rattle.std.proofs.lemmas.Cmp.{tied_itself}
 use Rattle.std.specs.FinMap.{FinMap, get, empty, get-empty, get-from_entries, get-insert, get-remove, same_map, insert, remove, find}
 use Rattle.sqlite_keyed.specs.Lists.{update_where, delete_where}
-use Rattle.bh_model.specs.FinMaps.{set_at}
+use Rattle.bh_model.specs.FinMaps.{non_empty, set_at}
+use Rattle.bh_model.proofs.MapLemmas.{none_anyway}
 use Rattle.bh_view.specs.Grouped.{first, IsKey, matching, grouped, keyed}
 use Rattle.bh_view.proofs.FilterLemmas.{push_here, push_other, delete_other, delete_all, update_other, first_updated}
 
-pub tied : (o : Ordering) → is_eq o ≡ true → o ≡ Equal
-tied Less h = absurd (true≢false (sym h))
-tied Equal h = refl
-tied Greater h = absurd (true≢false (sym h))
+pub unwrapped : {X : Type 0} (l : List X) → unwrap_or (non_empty l) [] ≡ l
+unwrapped [] = refl
+unwrapped (x ∷ xs) = refl
 
 module _ {K : Type 0} {R : K → K → Ordering} {is : K → K → Bool} (k : IsKey R is) where
   pub key_same : (x y : K) → eq_by_cmp R x y ≡ true → x ≡ y
-  key_same x y h = k.same x y (tied _ h)
+  key_same x y h = k.same x y ((Equal-is _).0 h)
 
   pub key_itself : (x : K) → eq_by_cmp R x x ≡ true
   key_itself x = ap is_eq (tied_itself k.total x)
@@ -50,12 +51,8 @@ module _ {K : Type 0} {R : K → K → Ordering} {is : K → K → Bool} (k : Is
           | false ↦ λ e. there e (value (key r)) ∙ found value q rs
         ] refl
       where
-        none : (b : Bool) (o : Option X) → o ≡ None → cond b o None ≡ None
-        none true o e = e
-        none false o e = refl
-
         here : is (key r) q ≡ true → find R q (pairs value rs) ≡ cond (list_any (λ r. is (key r) q) rs) (value q) None → (o : Option X) → value q ≡ o → find R q (cons_option (option_map (λ x. (key r, x)) o) (pairs value rs)) ≡ o
-        here e rest None is_none = rest ∙ none _ _ is_none
+        here e rest None is_none = rest ∙ none_anyway _ _ is_none
         here e rest (Some v) is_some = ap (λ b. cond b (Some v) (find R q (pairs value rs))) (key_agrees q (key r) ∙ e)
 
         there : is (key r) q ≡ false → (o : Option X) → find R q (cons_option (option_map (λ x. (key r, x)) o) (pairs value rs)) ≡ find R q (pairs value rs)

@@ -6,13 +6,10 @@ use Rattle.std.specs.FinMap.{entries, entries_sorted, get-entries, find, is_sort
 use Rattle.std.specs.FinMap.Entries.{below_all, same_entries}
 use Rattle.sqlite_trees.specs.Tree.{IsAscending}
 use Rattle.sqlite_keyed.specs.Lists.{sort_by}
+use Rattle.bh_model.proofs.MapLemmas.{both}
 use Rattle.bh_view.specs.Grouped.{IsKey, first, matching, keyed, HasUnique}
 use Rattle.bh_view.proofs.SortLemmas.{AtMost, sorted_single, up-sort_by, sort_by-filter}
 use Rattle.bh_view.proofs.GroupedLemmas.{get-keyed, key_agrees, is_itself}
-
-join : (a b : Bool) → T a → T b → T (a && b)
-join true b p q = q
-join false b p q = p
 
 module _ {K X A : Type 0} {R : K → K → Ordering} {is : K → K → Bool} (k : IsKey R is) (key : A → K) (value : K → A → X) where
   abbrev pub by_key : A → A → Ordering
@@ -40,7 +37,7 @@ module _ {K X A : Type 0} {R : K → K → Ordering} {is : K → K → Bool} (k 
   below y (z ∷ zs) all none =
       elim (is (key z) (key y)) as (λ b. is (key z) (key y) ≡ b → cond b (z ∷ matching is key (key y) zs) (matching is key (key y) zs) ≡ [] → T (is_lt (R (key y) (key z)) && below_all R (key y) (map shown_pair zs))) [
         | true ↦ λ e h. absurd (no_cons h)
-        | false ↦ λ e h. join _ _ (less (key y) (key z) (R (key y) (key z)) refl all.0 e) (below y zs all.1 h)
+        | false ↦ λ e h. both _ _ (less (key y) (key z) (R (key y) (key z)) refl all.0 e) (below y zs all.1 h)
       ] refl none
     where
       no_cons : {x : A} {l : List A} → x ∷ l ≡ [] → ⊥
@@ -57,7 +54,7 @@ module _ {K X A : Type 0} {R : K → K → Ordering} {is : K → K → Bool} (k 
   strict [] up one = tt
   strict (y ∷ ys) up one =
       let none : matching is key (key y) ys ≡ [] = no_more y _ (subst (λ b. length (cond b (y ∷ matching is key (key y) ys) (matching is key (key y) ys)) ≤ 1) (is_itself k (key y)) (one (key y))) in
-      join _ _ (below y ys up.0 none) (strict ys up.1 (λ q. tail y ys q (one q)))
+      both _ _ (below y ys up.0 none) (strict ys up.1 (λ q. tail y ys q (one q)))
 
   pub entries-keyed : (rows : List A) → HasUnique is key rows → entries (keyed R is key value rows) ≡ map shown_pair (sort_by by_key rows)
   entries-keyed rows one =

@@ -13,12 +13,11 @@ use Rattle.sqlite_keyed.proofs.SortLemmas.{IsPermutation-sort_by}
 use Rattle.bh_model.specs.FinMaps.{non_empty, set_at, total}
 use Rattle.bh_model.specs.State.{Octets, Entry, entry_size}
 use Rattle.bh_tables.specs.Typed.{VersionRow}
-use Rattle.bh_view.specs.Grouped.{matching}
-use Rattle.bh_view.specs.View.{entry_of, newer, entries_of, objects_of}
+use Rattle.bh_view.specs.View.{at_key, entry_of, newer, entries_of, objects_of}
 use Rattle.bh_view.proofs.Keys.{octets}
 use Rattle.bh_view.proofs.FilterLemmas.{push_here, push_other, delete_other, delete_mine}
 use Rattle.bh_view.proofs.SortLemmas.{sort_by_push, sort_by-filter}
-use Rattle.bh_view.proofs.GroupedLemmas.{get-grouped, grouped_changed, is_itself, is_other}
+use Rattle.bh_view.proofs.GroupedLemmas.{get-grouped, grouped_changed, is_itself, is_other, unwrapped}
 use Rattle.bh_view.proofs.TotalLemmas.{total_is}
 use Rattle.sqlite_typed.specs.Tests.{bytes_eq}
 
@@ -28,13 +27,6 @@ entries_at m k = unwrap_or (get m k) []
 
 pub newer_total : IsTotalOrder newer
 newer_total = on_total (λ (r : VersionRow). pos r.seq) (back_total int_cmp_total)
-
-abbrev at_key : Octets → List VersionRow → List VersionRow
-at_key = matching bytes_eq (λ r. r.okey)
-
-pub unwrapped : {X : Type 0} (l : List X) → unwrap_or (non_empty l) [] ≡ l
-unwrapped [] = refl
-unwrapped (x ∷ xs) = refl
 
 pub get-objects_of : (rows : List VersionRow) (q : Octets) → get (objects_of rows) q ≡ non_empty (entries_of (at_key q rows))
 get-objects_of = get-grouped octets (λ r. r.okey) (λ _ rows. non_empty (entries_of rows)) (λ _. refl)

@@ -29,8 +29,7 @@ use Rattle.bh_view.specs.Put.{object_row, row_number, counters_row, rows_left}
 use Rattle.bh_view.proofs.Keys.{octets, numbers}
 use Rattle.bh_view.proofs.FilterLemmas.{delete_all}
 use Rattle.bh_view.proofs.FactLemmas.{all_first}
-use Rattle.bh_view.proofs.GroupedLemmas.{get_here, set_at_again, is_other}
-use Rattle.bh_view.proofs.ObjectLemmas.{unwrapped}
+use Rattle.bh_view.proofs.GroupedLemmas.{get_here, set_at_again, is_other, unwrapped}
 use Rattle.bh_view.proofs.OwnLemmas.{mine_deleted}
 use Rattle.bh_view.proofs.ViewLemmas.{own_row, own_rows, becomes_then}
 use Rattle.bh_view.proofs.TenantChanges.{next_entry_set, numbers_set}

@@ -1,29 +1,16 @@
 -- A sum over the values of a map, against a sum over rows.
-use Rattle.std.proofs.Common.{◌≡◌, ℕ, ◌+◌, ◌≤◌, length, zero-add, option_map, Bool, true, false, true≢false, cond, not, ◌&&◌, T, List, [], ◌∷◌, filter, sum_by, Some, None, refl, sym, ap, ap₂, subst, ◌∙◌, arith, Ordering, Less, Equal, Greater, is_lt, is_eq}
+use Rattle.std.proofs.Common.{◌≡◌, ℕ, ◌+◌, ◌≤◌, length, zero-add, option_map, Bool, true, false, true≢false, cond, not, T, List, [], ◌∷◌, filter, sum_by, Some, refl, sym, ap, ap₂, subst, ◌∙◌, arith, Ordering}
 use Rattle.std.specs.Option.{option_map_or}
 use Rattle.std.specs.List.{AllByRecursion}
 use Rattle.std.proofs.lemmas.List.Sums.{sum_by-cons}
 use Rattle.std.proofs.lemmas.List.Filters.{sum_by-filter_both}
 use Rattle.std.specs.FinMap.{FinMap, entries, entries_sorted, get, get-entries, find, is_sorted}
-use Rattle.std.specs.FinMap.Entries.{below_all}
 use Rattle.sqlite_keyed.specs.Lists.{delete_where}
 use Rattle.bh_model.specs.FinMaps.{total}
+use Rattle.bh_model.proofs.MapLemmas.{left, right, find_below}
 use Rattle.bh_view.specs.Grouped.{IsKey, first, matching, keyed, HasUnique}
 use Rattle.bh_view.proofs.FilterLemmas.{first_passes, delete_all, delete_other}
 use Rattle.bh_view.proofs.GroupedLemmas.{get-keyed, key_agrees, key_itself, is_other}
-
-left : (a b : Bool) → T (a && b) → T a
-left true b h = tt
-left false b h = absurd h
-
-right : (a b : Bool) → T (a && b) → T b
-right true b h = h
-right false b h = absurd h
-
-not_tied : (o : Ordering) → T (is_lt o) → is_eq o ≡ false
-not_tied Less h = refl
-not_tied Equal h = absurd h
-not_tied Greater h = absurd h
 
 pub sum_filter-cons : {A : Type 0} (p : A → Bool) (w : A → ℕ) (x : A) (xs : List A) → sum_by w (filter p (x ∷ xs)) ≡ cond (p x) (w x) 0 + sum_by w (filter p xs)
 sum_filter-cons p w x xs = elim (p x) as (λ b. sum_by w (cond b (x ∷ filter p xs) (filter p xs)) ≡ cond b (w x) 0 + sum_by w (filter p xs)) [ true ↦ sum_by-cons w x (filter p xs) | false ↦ omega arith ]
@@ -37,10 +24,6 @@ unfolding total
 total_add f g m = sum_by_add (λ e. f e.1) (λ e. g e.1) (entries m)
 
 module _ {K : Type 0} {R : K → K → Ordering} {is : K → K → Bool} (k : IsKey R is) where
-  pub find_below : {X : Type 0} (q : K) (es : List (K × X)) → T (below_all R q es) → find R q es ≡ None
-  find_below q [] h = refl
-  find_below q (e ∷ es) h = ap (λ b. cond b (Some e.1) (find R q es)) (not_tied _ (left _ _ h)) ∙ find_below q es (right _ _ h)
-
   module _ {X A : Type 0} (f : X → ℕ) (key : A → K) (w : A → ℕ) where
     nothing : (rows : List A) → ((q : K) → 0 ≡ sum_by w (matching is key q rows)) → 0 ≡ sum_by w rows
     nothing [] h = refl
@@ -56,7 +39,7 @@ module _ {K : Type 0} {R : K → K → Ordering} {is : K → K → Bool} (k : Is
         let rest : sum_by (λ e. f e.1) es ≡ sum_by w (delete_where (λ r. is (key r) e.0) rows) = sums es (right _ _ up) _ (λ q.
         elim (is e.0 q) as (λ b. is e.0 q ≡ b → option_map_or f (find R q es) 0 ≡ sum_by w (matching is key q (delete_where (λ r. is (key r) e.0) rows))) [
           | true ↦ λ t. subst (λ z. option_map_or f (find R z es) 0 ≡ sum_by w (matching is key z (delete_where (λ r. is (key r) e.0) rows))) ((k.decides e.0 q).0 t)
-              (ap (λ o. option_map_or f o 0) (find_below e.0 es (left _ _ up)) ∙ sym (ap (sum_by w) (delete_all (λ r. is (key r) e.0) rows)))
+              (ap (λ o. option_map_or f o 0) (find_below R e.0 es (left _ _ up)) ∙ sym (ap (sum_by w) (delete_all (λ r. is (key r) e.0) rows)))
           | false ↦ λ t. ap (λ b. option_map_or f (cond b (Some e.1) (find R q es)) 0) (sym (key_agrees k q e.0 ∙ t)) ∙ h q
               ∙ sym (ap (sum_by w) (delete_other _ _ rows (λ x here. is_other k (key x) e.0 (λ there. true≢false (sym ((k.decides e.0 q).1 (sym there ∙ (k.decides (key x) q).0 here)) ∙ t)))))
         ] refl) in

@@ -1,4 +1,5 @@
-use Rattle.bh_http.proofs.Digits.{IsUtf8-digits, too_large}
+use Rattle.bh_http.proofs.Ascii.{IsUtf8-digits}
+use Rattle.bh_http.proofs.Digits.{too_large}
 use Rattle.bh_http.proofs.framing.number_of.Goals as goal
 
 pub returns-in_default-clause-none : goal.returns-in_default-clause-none
