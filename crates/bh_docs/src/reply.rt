@@ -1,12 +1,11 @@
 //! The documents of replies, but for the pages of listings. Each is compact JSON (RFC 8259) with
 //! its members in byte order. An error says that memory ran out.
 
-ghost use Rattle.std.specs.Prelude.{◌≡◌, ◌≢◌, ◌≤◌, IfOk, Some};
+ghost use Rattle.std.specs.Prelude.{◌≡◌, ◌≢◌, ◌≤◌, IfOk};
 ghost use Rattle.std.specs.String.{string_bytes};
 ghost use Rattle.serde_json.specs.View.{view};
 ghost use Rattle.bh_docs.specs.Documents as spec;
 ghost use Rattle.bh_docs.specs.Requests.{versioning_of, lifecycle_of};
-ghost use Rattle.bh_docs.specs.Shapes.{data_of};
 
 use crate::document::{Entry, array_value, print};
 use bh_types::id::UploadId;
@@ -84,9 +83,7 @@ pub struct Usage {
 
 /// The answer to a tenant who asks for the usage: each count and size under its own name.
 pub fn usage_document(alloc: Global, usage: &Usage) -> Result<String, AllocError>
-    ensures text { IfOk result (λ text. string_bytes text ≡ spec.usage_text usage.now) }
-    ensures reads_back { IfOk result (λ text.
-        data_of (string_bytes text) ≡ Some (spec.usage_data usage.now)) }
+    ensures { IfOk result (λ text. string_bytes text ≡ spec.usage_text usage.now) }
 {
     let document = usage_value(alloc, usage)?;
     print(alloc, &document)
@@ -156,9 +153,7 @@ pub fn begun_document(
     key: &str,
     upload: UploadId,
 ) -> Result<String, AllocError>
-    ensures text { IfOk result (λ text. string_bytes text ≡ spec.begun_text bucket.now key.now upload) }
-    ensures reads_back { IfOk result (λ text.
-        data_of (string_bytes text) ≡ Some (spec.begun_data bucket.now key.now upload)) }
+    ensures { IfOk result (λ text. string_bytes text ≡ spec.begun_text bucket.now key.now upload) }
 {
     let document = begun_value(alloc, bucket, key, upload)?;
     print(alloc, &document)
@@ -183,9 +178,7 @@ pub fn completed_document(
     checksum: &str,
     key: &str,
 ) -> Result<String, AllocError>
-    ensures text { IfOk result (λ text. string_bytes text ≡ spec.completed_text bucket.now checksum.now key.now) }
-    ensures reads_back { IfOk result (λ text.
-        data_of (string_bytes text) ≡ Some (spec.completed_data bucket.now checksum.now key.now)) }
+    ensures { IfOk result (λ text. string_bytes text ≡ spec.completed_text bucket.now checksum.now key.now) }
 {
     let document = completed_value(alloc, bucket, checksum, key)?;
     print(alloc, &document)
@@ -208,9 +201,7 @@ pub fn copied_document(
     checksum: &str,
     modified: Moment,
 ) -> Result<String, AllocError>
-    ensures text { IfOk result (λ text. string_bytes text ≡ spec.copied_text checksum.now modified) }
-    ensures reads_back { IfOk result (λ text.
-        data_of (string_bytes text) ≡ Some (spec.copied_data checksum.now modified)) }
+    ensures { IfOk result (λ text. string_bytes text ≡ spec.copied_text checksum.now modified) }
 {
     let document = copied_value(alloc, checksum, modified)?;
     print(alloc, &document)
