@@ -1,22 +1,20 @@
 -- No request's operation is refused with one of the refusals whose texts are fixed.
-use Rattle.std.proofs.Common.{◌≡◌, ℕ, Bool, true, false, List, Option, Some, None, Ok, Err, Result, refl, inl, inr, IfErr, cond}
-use Rattle.std.specs.Prelude.{codes, take, drop, length, nat_le, nat_lt, [], ◌&&◌, ◌||◌, ◌==◌, is_none, position}
+use Rattle.std.proofs.Common.{ℕ, Bool, true, false, List, Option, Some, None, Ok, Err, Result, refl, cond}
+use Rattle.std.specs.Prelude.{codes, take, drop, length, nat_le, nat_lt, ◌&&◌, ◌||◌, ◌==◌, is_none, position}
 use Rattle.std.specs.List.{list_any, before_first, after_first}
 use Rattle.std.specs.Str.{bytes_eq}
 use Rattle.std.specs.Str.Parse.{digits_value}
-use Rattle.std.proofs.lemmas.Bool.{cases_Bool}
 use Rattle.bh_types.specs.Names.{is_bucket_name, is_object_key}
-use Rattle.bh_types.specs.Outcomes.{◌>>=◌}
 use Rattle.bh_types.specs.declared.plain.Wanted.TheVariants.{Current}
 use Rattle.bh_types.specs.declared.refusal.Refusal.{Refusal}
-use Rattle.bh_types.specs.declared.refusal.Refusal.TheVariants.{AccessDenied, InvalidUri, InvalidBucketName, KeyTooLong, InvalidArgument, NotImplemented, MethodNotAllowed}
+use Rattle.bh_types.specs.declared.refusal.Refusal.TheVariants.{AccessDenied, InvalidBucketName, KeyTooLong, InvalidArgument, NotImplemented}
 use Rattle.bh_http.specs.Fields.{Standing, Missing, Once, Repeated, field_named}
 use Rattle.bh_http.specs.Reading.{is_number}
 use Rattle.bh_http.specs.Views.{Taken}
 use Rattle.bh_operation.specs.Actions.{method_of, bucket_action, object_action}
 use Rattle.bh_operation.specs.Addresses.{is_colon, own_part, bucket_name, object_key, bucket_named, object_named}
 use Rattle.bh_operation.specs.Headers.{has_lock_field, supported, at_most_once, checksum_in, copy_source, stands}
-use Rattle.bh_operation.specs.Numbers.{or_invalid_argument, short_number, page_size, part_marker, part_number, ok_of, token_in, upload_of}
+use Rattle.bh_operation.specs.Numbers.{or_invalid_argument, short_number, page_size, part_marker, part_number, token_in, upload_of}
 use Rattle.bh_operation.specs.Operations.{Octets, Fields, at_name, host_operation, list_objects, list_versions, list_uploads, bucket_operation, put_object, copy_object, upload_part, list_parts, object_operation, operation_at, operation}
 use Rattle.bh_operation.specs.Pages.{page_in, key_page, upload_page, part_page, is_second, second_version, token_from, token_of, version_marker_from, version_marker, upload_marker_from, upload_marker}
 use Rattle.bh_operation.specs.Queries.{value_of, is_given, is_unsupported, is_repeated, parameters_of, given_once, parameters_in, count_selectors, selected}

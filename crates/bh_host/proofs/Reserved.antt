@@ -1,5 +1,5 @@
 -- No step refuses with one of the refusals whose texts are fixed.
-use Rattle.std.proofs.Common.{◌≡◌, ℕ, Bool, true, false, List, Option, Some, None, Ok, Err, Result, refl, sym, subst, IfErr, inl, inr}
+use Rattle.std.proofs.Common.{◌≡◌, ℕ, false, List, Option, Ok, Err, Result, refl, sym, subst, IfErr, inl, inr}
 use Rattle.std.specs.Prelude.{ok_or, bytes_eq, codes, nat_le, length, [], ◌∷◌, ◌&&◌, ◌==◌, ◌^◌, not, is_none, is_some}
 use Rattle.std.specs.FinMap.{get}
 use Rattle.bh_types.specs.Names.{is_tenant_name, is_key_name, is_secret}
