@@ -369,7 +369,7 @@ fn tries_secrets(rt: HostRuntime) -> Result<(), Fail> {
 fn stamp_turn<S: Alter + Drop, D: Digester + Drop>(
     host: &mut Host<S, D>,
     reading: u64,
-) -> Result<(u64, u64), StepError>
+) -> Result<u64, StepError>
     requires { IsClean (state S.Store host.old.connection) → IsAtRest (seen_in (state S.Store host.old.connection)) }
     ensures rest { OnOk result (IsClean (state S.Store host.new.connection) → IsAtRest (seen_in (state S.Store host.new.connection))) }
     ensures clean { IsClean (state S.Store host.new.connection) → IsClean (state S.Store host.old.connection) }
@@ -377,21 +377,20 @@ fn stamp_turn<S: Alter + Drop, D: Digester + Drop>(
 {
     host.begin()?;
     let stamp = host.stamp(reading)?;
-    let latest = host.latest()?;
     host.commit()?;
-    Ok((stamp.seconds(), latest.seconds()))
+    Ok(stamp.seconds())
 }
 
-/// A reading's stamp and the last stamp after it, in a transaction of their own.
+/// A reading's stamp, in a transaction of its own.
 fn stamp<S: Alter + Drop, D: Digester + Drop>(
     host: &mut Host<S, D>,
     reading: u64,
-) -> Result<(u64, u64), StepError>
+) -> Result<u64, StepError>
     requires { IsClean (state S.Store host.old.connection) → IsAtRest (seen_in (state S.Store host.old.connection)) }
     ensures { IsClean (state S.Store host.new.connection) → IsAtRest (seen_in (state S.Store host.new.connection)) }
 {
     match stamp_turn(host, reading) {
-        Ok(stamps) => Ok(stamps),
+        Ok(stamp) => Ok(stamp),
         Err(error) => {
             host.take_back();
             Err(error)
@@ -409,7 +408,7 @@ fn stamp_all<S: Alter + Drop, D: Digester + Drop>(
     for (reading, want) in rows {
         let got = stamp(host, *reading);
         let want = match want {
-            Ok(stamp) => Ok((*stamp, *stamp)),
+            Ok(stamp) => Ok(*stamp),
             Err(refusal) => Err(StepError::Refused(*refusal)),
         };
         assert_eq!(rt; got, want, "at {reading}");
