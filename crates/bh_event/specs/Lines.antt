@@ -1,5 +1,5 @@
 -- The event that a line of a script tells: one JSON object, its members in any order, none missing and none besides.
-use Rattle.std.specs.Prelude.{ℕ, ◌==◌, Bool, false, unwrap_or, List, codes, Option, Some, None, option_map, option_and_then, if◌then◌else◌}
+use Rattle.std.specs.Prelude.{ℕ, ◌==◌, Bool, false, unwrap_or, List, codes, Option, None, option_map, option_and_then, if◌then◌else◌}
 use Rattle.std.specs.Option.{option_or}
 use Rattle.std.specs.Result.{result_ok}
 use Rattle.std.specs.Str.{bytes_eq, is_utf8}

@@ -1,9 +1,7 @@
 ghost use Rattle.std.specs.Prelude.{◌≡◌, OnOk, OnErr};
-ghost use Rattle.sqlite.specs.Held.{state};
 ghost use Rattle.bh_model.specs.Operations.{Done};
 ghost use Rattle.bh_storage.specs.Calls.{IsAtRest, IsWorking, Carries};
-ghost use Rattle.bh_schema.specs.Layer.{IsClean};
-ghost use Rattle.bh_schema.specs.Storage.{seen_in, left_in, Keeps};
+ghost use Rattle.bh_schema.specs.Storage.{IsClean, seen, left, Keeps};
 ghost use Rattle.bh_tables.specs.Typed.{Tables};
 ghost use Rattle.bh_first.specs.Steps.{first_key, Tells};
 
@@ -33,11 +31,11 @@ fn add_and_try<S: Alter + Drop, D: Digester + Drop>(
     alloc: Global,
     key: &FirstKey<'_>,
 ) -> Result<(), StepError>
-    requires { IsClean (state S.Store host.old.connection) → IsWorking (seen_in (state S.Store host.old.connection)) }
-    ensures working { OnOk result (IsClean (state S.Store host.new.connection) → IsWorking (seen_in (state S.Store host.new.connection))) }
-    ensures within { Keeps S.Store host.old.connection host.new.connection }
-    ensures tells { IsClean (state S.Store host.new.connection)
-        → Tells key.now.tenant.now (first_key key.now) (seen_in (state S.Store host.old.connection)).now (seen_in (state S.Store host.new.connection)).now result }
+    requires { IsClean S.Store host.old → IsWorking (seen S.Store host.old) }
+    ensures working { OnOk result (IsClean S.Store host.new → IsWorking (seen S.Store host.new)) }
+    ensures within { Keeps S.Store host.old host.new }
+    ensures tells { IsClean S.Store host.new
+        → Tells key.now.tenant.now (first_key key.now) (seen S.Store host.old).now (seen S.Store host.new).now result }
 {
     let tenant = key.tenant.as_str();
     host.tenant_add(alloc, tenant, key.quota)?;
@@ -51,13 +49,13 @@ fn turn<S: Alter + Drop, D: Digester + Drop>(
     alloc: Global,
     key: &FirstKey<'_>,
 ) -> Result<(), StepError>
-    requires { IsClean (state S.Store host.old.connection) → IsAtRest (seen_in (state S.Store host.old.connection)) }
-    ensures rest { OnOk result (IsClean (state S.Store host.new.connection) → IsAtRest (seen_in (state S.Store host.new.connection))) }
-    ensures left { OnOk result (IsClean (state S.Store host.new.connection) → (x : Tables) → left_in (state S.Store host.new.connection) x → x ≡ (seen_in (state S.Store host.new.connection)).now) }
-    ensures clean { IsClean (state S.Store host.new.connection) → IsClean (state S.Store host.old.connection) }
-    ensures kept { OnErr result (IsClean (state S.Store host.new.connection) → (seen_in (state S.Store host.new.connection)).kept ≡ (seen_in (state S.Store host.old.connection)).now) }
-    ensures tells { IsClean (state S.Store host.new.connection)
-        → Tells key.now.tenant.now (first_key key.now) (seen_in (state S.Store host.old.connection)).now (seen_in (state S.Store host.new.connection)).now result }
+    requires { IsClean S.Store host.old → IsAtRest (seen S.Store host.old) }
+    ensures rest { OnOk result (IsClean S.Store host.new → IsAtRest (seen S.Store host.new)) }
+    ensures left { OnOk result (IsClean S.Store host.new → (x : Tables) → left S.Store host.new x → x ≡ (seen S.Store host.new).now) }
+    ensures clean { IsClean S.Store host.new → IsClean S.Store host.old }
+    ensures kept { OnErr result (IsClean S.Store host.new → (seen S.Store host.new).kept ≡ (seen S.Store host.old).now) }
+    ensures tells { IsClean S.Store host.new
+        → Tells key.now.tenant.now (first_key key.now) (seen S.Store host.old).now (seen S.Store host.new).now result }
 {
     host.begin()?;
     add_and_try(host, alloc, key)?;
@@ -72,12 +70,12 @@ pub fn add_first_key<S: Alter + Drop, D: Digester + Drop>(
     alloc: Global,
     key: &FirstKey<'_>,
 ) -> Result<(), StepError>
-    requires { IsClean (state S.Store host.old.connection) → IsAtRest (seen_in (state S.Store host.old.connection)) }
-    ensures rest { IsClean (state S.Store host.new.connection) → IsAtRest (seen_in (state S.Store host.new.connection)) }
-    ensures left { OnOk result (IsClean (state S.Store host.new.connection) → (x : Tables) → left_in (state S.Store host.new.connection) x → x ≡ (seen_in (state S.Store host.new.connection)).now) }
-    ensures back { OnErr result (IsClean (state S.Store host.new.connection) → (seen_in (state S.Store host.new.connection)).now ≡ (seen_in (state S.Store host.old.connection)).now) }
-    ensures carries { IsClean (state S.Store host.new.connection)
-        → Carries (λ _. Done) key.now.tenant.now (first_key key.now) (seen_in (state S.Store host.old.connection)).now (seen_in (state S.Store host.new.connection)).now result }
+    requires { IsClean S.Store host.old → IsAtRest (seen S.Store host.old) }
+    ensures rest { IsClean S.Store host.new → IsAtRest (seen S.Store host.new) }
+    ensures left { OnOk result (IsClean S.Store host.new → (x : Tables) → left S.Store host.new x → x ≡ (seen S.Store host.new).now) }
+    ensures back { OnErr result (IsClean S.Store host.new → (seen S.Store host.new).now ≡ (seen S.Store host.old).now) }
+    ensures carries { IsClean S.Store host.new
+        → Carries (λ _. Done) key.now.tenant.now (first_key key.now) (seen S.Store host.old).now (seen S.Store host.new).now result }
 {
     match turn(host, alloc, key) {
         Ok(()) => Ok(()),

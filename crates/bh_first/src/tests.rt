@@ -1,8 +1,6 @@
 ghost use Rattle.std.specs.Prelude.{◌≡◌, OnOk, OnErr};
-ghost use Rattle.sqlite.specs.Held.{state};
 ghost use Rattle.bh_storage.specs.Calls.{IsAtRest, IsWorking};
-ghost use Rattle.bh_schema.specs.Layer.{IsClean};
-ghost use Rattle.bh_schema.specs.Storage.{seen_in, Keeps};
+ghost use Rattle.bh_schema.specs.Storage.{IsClean, seen, Keeps};
 
 use crate::first::{FirstKey, add_first_key};
 use bh_create::create::create;
@@ -62,9 +60,9 @@ fn make<S: Alter + Drop, D: Digester + Drop>(
     alloc: Global,
     call: Call<'_>,
 ) -> Result<(), StepError>
-    requires { IsClean (state S.Store host.old.connection) → IsWorking (seen_in (state S.Store host.old.connection)) }
-    ensures working { OnOk result (IsClean (state S.Store host.new.connection) → IsWorking (seen_in (state S.Store host.new.connection))) }
-    ensures within { Keeps S.Store host.old.connection host.new.connection }
+    requires { IsClean S.Store host.old → IsWorking (seen S.Store host.old) }
+    ensures working { OnOk result (IsClean S.Store host.new → IsWorking (seen S.Store host.new)) }
+    ensures within { Keeps S.Store host.old host.new }
 {
     match call {
         Call::AddTenant(tenant, quota) => host.tenant_add(alloc, tenant, quota),
@@ -82,10 +80,10 @@ fn turn<S: Alter + Drop, D: Digester + Drop>(
     alloc: Global,
     call: Call<'_>,
 ) -> Result<(), StepError>
-    requires { IsClean (state S.Store host.old.connection) → IsAtRest (seen_in (state S.Store host.old.connection)) }
-    ensures rest { OnOk result (IsClean (state S.Store host.new.connection) → IsAtRest (seen_in (state S.Store host.new.connection))) }
-    ensures clean { IsClean (state S.Store host.new.connection) → IsClean (state S.Store host.old.connection) }
-    ensures kept { OnErr result (IsClean (state S.Store host.new.connection) → (seen_in (state S.Store host.new.connection)).kept ≡ (seen_in (state S.Store host.old.connection)).now) }
+    requires { IsClean S.Store host.old → IsAtRest (seen S.Store host.old) }
+    ensures rest { OnOk result (IsClean S.Store host.new → IsAtRest (seen S.Store host.new)) }
+    ensures clean { IsClean S.Store host.new → IsClean S.Store host.old }
+    ensures kept { OnErr result (IsClean S.Store host.new → (seen S.Store host.new).kept ≡ (seen S.Store host.old).now) }
 {
     host.begin()?;
     make(host, alloc, call)?;
@@ -99,8 +97,8 @@ fn ask<S: Alter + Drop, D: Digester + Drop>(
     alloc: Global,
     call: Call<'_>,
 ) -> Result<Option<Refusal>, Fail>
-    requires { IsClean (state S.Store host.old.connection) → IsAtRest (seen_in (state S.Store host.old.connection)) }
-    ensures { IsClean (state S.Store host.new.connection) → IsAtRest (seen_in (state S.Store host.new.connection)) }
+    requires { IsClean S.Store host.old → IsAtRest (seen S.Store host.old) }
+    ensures { IsClean S.Store host.new → IsAtRest (seen S.Store host.new) }
 {
     match turn(host, alloc, call) {
         Ok(()) => Ok(None),
@@ -120,7 +118,7 @@ fn ask_all<S: Alter + Drop, D: Digester + Drop>(
     host: &mut Host<S, D>,
     rows: &[Row],
 ) -> Result<(), Fail>
-    requires { IsClean (state S.Store host.old.connection) → IsAtRest (seen_in (state S.Store host.old.connection)) }
+    requires { IsClean S.Store host.old → IsAtRest (seen S.Store host.old) }
 {
     for (call, want) in rows {
         let got = ask(host, alloc, *call)?;
@@ -370,10 +368,10 @@ fn stamp_turn<S: Alter + Drop, D: Digester + Drop>(
     host: &mut Host<S, D>,
     reading: u64,
 ) -> Result<u64, StepError>
-    requires { IsClean (state S.Store host.old.connection) → IsAtRest (seen_in (state S.Store host.old.connection)) }
-    ensures rest { OnOk result (IsClean (state S.Store host.new.connection) → IsAtRest (seen_in (state S.Store host.new.connection))) }
-    ensures clean { IsClean (state S.Store host.new.connection) → IsClean (state S.Store host.old.connection) }
-    ensures kept { OnErr result (IsClean (state S.Store host.new.connection) → (seen_in (state S.Store host.new.connection)).kept ≡ (seen_in (state S.Store host.old.connection)).now) }
+    requires { IsClean S.Store host.old → IsAtRest (seen S.Store host.old) }
+    ensures rest { OnOk result (IsClean S.Store host.new → IsAtRest (seen S.Store host.new)) }
+    ensures clean { IsClean S.Store host.new → IsClean S.Store host.old }
+    ensures kept { OnErr result (IsClean S.Store host.new → (seen S.Store host.new).kept ≡ (seen S.Store host.old).now) }
 {
     host.begin()?;
     let stamp = host.stamp(reading)?;
@@ -386,8 +384,8 @@ fn stamp<S: Alter + Drop, D: Digester + Drop>(
     host: &mut Host<S, D>,
     reading: u64,
 ) -> Result<u64, StepError>
-    requires { IsClean (state S.Store host.old.connection) → IsAtRest (seen_in (state S.Store host.old.connection)) }
-    ensures { IsClean (state S.Store host.new.connection) → IsAtRest (seen_in (state S.Store host.new.connection)) }
+    requires { IsClean S.Store host.old → IsAtRest (seen S.Store host.old) }
+    ensures { IsClean S.Store host.new → IsAtRest (seen S.Store host.new) }
 {
     match stamp_turn(host, reading) {
         Ok(stamp) => Ok(stamp),
@@ -403,7 +401,7 @@ fn stamp_all<S: Alter + Drop, D: Digester + Drop>(
     host: &mut Host<S, D>,
     rows: &[(u64, Result<u64, Refusal>)],
 ) -> Result<(), Fail>
-    requires { IsClean (state S.Store host.old.connection) → IsAtRest (seen_in (state S.Store host.old.connection)) }
+    requires { IsClean S.Store host.old → IsAtRest (seen S.Store host.old) }
 {
     for (reading, want) in rows {
         let got = stamp(host, *reading);
@@ -443,7 +441,7 @@ fn try_all<S: Alter + Drop, D: Digester + Drop>(
     host: &mut Host<S, D>,
     rows: &[(&[u8], &[u8], Result<(), StepError>)],
 ) -> Result<(), Fail>
-    requires { IsClean (state S.Store host.old.connection) → IsAtRest (seen_in (state S.Store host.old.connection)) }
+    requires { IsClean S.Store host.old → IsAtRest (seen S.Store host.old) }
 {
     let tenant = TenantName::read(alloc, "green")?.ok_or("no name")?;
     for (tried_id, tried_secret, want) in rows {

@@ -19,15 +19,13 @@ pub struct HostStorage<S: Alter + Drop, D: Digester + Drop> {
 }
 
 impl<S: Alter + Drop, D: Digester + Drop> Storage for HostStorage<S, D> {
-    ghost use Rattle.sqlite.specs.Held.{state};
-    ghost use Rattle.bh_schema.specs.Layer as layer;
-    ghost use Rattle.bh_schema.specs.Storage.{seen_in, left_in};
+    ghost use Rattle.bh_schema.specs.Storage as storage;
 
-    ghost seen = { λ h. seen_in (state S.Store h.host.connection) };
+    ghost seen = { λ h. storage.seen S.Store h.host };
 
-    ghost IsClean = { λ h. layer.IsClean (state S.Store h.host.connection) };
+    ghost IsClean = { λ h. storage.IsClean S.Store h.host };
 
-    ghost left = { λ h. left_in (state S.Store h.host.connection) };
+    ghost left = { λ h. storage.left S.Store h.host };
 
     fn begin(&mut self) -> Result<(), Trouble> {
         self.host.begin()

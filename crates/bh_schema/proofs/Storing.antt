@@ -11,6 +11,7 @@ use Rattle.bh_tables.proofs.HostTests.{host_shows, shown_host}
 use Rattle.bh_view.specs.Sound.{IsSound}
 use Rattle.bh_storage.specs.Calls.{Seen, IsWorking}
 use Rattle.bh_schema.specs.Layer.{standing, IsIntact, IsOpen, IsClean, Leaves, IsInside, Holds, Follows, Within}
+use Rattle.bh_schema.specs.declared.host.Host.{Host}
 use Rattle.bh_schema.specs.Storage.{shown, seen_in, left_in, Keeps}
 
 -- ---- what an answer tells
@@ -67,10 +68,10 @@ module _ {S : Type 0} (g : Ghosts S) (settles : (s : S) (db : Trees) → IsTrue 
   pub left_before : (old new : Held S) → IsClean (state g old) → IsClean (state g new) → (standing (state g new)).kept ≡ (standing (state g old)).kept → (db : Trees) → Leaves (state g new) db → Leaves (state g old) db
   left_before old new was clean kept db left = subst (Leaves (state g old)) (sym (left_kept new clean db left ∙ ap (λ (d : Database). d.trees) kept)) (kept_left old was)
 
-  pub keeps : (old new : Held S) → Within (state g old) (state g new) → Keeps g old new
+  pub keeps : {D : Type 0} (old new : Host S D) → Within (state g old.connection) (state g new.connection) → Keeps g old new
   unfolding seen_in left_in
   keeps old new w = record {
-    survives = λ clean x it. (it.0, left_before old new (w.follows.clean clean) clean (w.kept clean) it.0 it.1, it.2);
+    survives = λ clean x it. (it.0, left_before old.connection new.connection (w.follows.clean clean) clean (w.kept clean) it.0 it.1, it.2);
     clean = w.follows.clean;
     kept = λ clean. ap tables_shown (w.kept clean);
     settled = λ clean. elim (w.settled clean) [ inl inside ↦ inl inside | inr same ↦ inr (ap tables_shown same) ];

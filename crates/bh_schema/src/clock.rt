@@ -3,8 +3,8 @@ ghost use Rattle.sqlite.specs.Held.{state};
 ghost use Rattle.bh_model.specs.Runs.{last_reading, stamp_of};
 ghost use Rattle.bh_view.specs.View.{latest_of};
 ghost use Rattle.bh_storage.specs.Calls.{IsWorking, Unless, Stamps};
-ghost use Rattle.bh_schema.specs.Layer.{standing, IsIntact, IsOpen, IsClean, Within};
-ghost use Rattle.bh_schema.specs.Storage.{seen_in, Keeps, Clocks};
+ghost use Rattle.bh_schema.specs.Layer.{standing, Within};
+ghost use Rattle.bh_schema.specs.Storage.{IsClean, IsIntact, IsOpen, seen, Keeps, KeepsSettings, Clocks};
 
 use crate::host::{Digester, Host};
 use crate::rows::host::{find_latest, set_latest};
@@ -17,11 +17,11 @@ use sqlite::Alter;
 impl<S: Alter + Drop, D: Digester + Drop> Host<S, D> {
     /// The last stamp.
     pub fn latest(&mut self) -> Result<Moment, Trouble>
-        requires { IsClean (state S.Store self.old.connection) → IsWorking (seen_in (state S.Store self.old.connection)) }
+        requires { IsClean S.Store self.old → IsWorking (seen S.Store self.old) }
         ensures within { Within (state S.Store self.old.connection) (state S.Store self.new.connection) }
-        ensures opens { OnOk result (IsIntact (state S.Store self.new.connection) → IsOpen (state S.Store self.old.connection) × IsOpen (state S.Store self.new.connection)) }
-        ensures same { OnOk result (IsIntact (state S.Store self.new.connection) → standing (state S.Store self.new.connection) ≡ standing (state S.Store self.old.connection)) }
-        ensures latest { IfOk result (λ m. IsClean (state S.Store self.new.connection) → m ≡ latest_of (seen_in (state S.Store self.old.connection)).now) }
+        ensures opens { OnOk result (IsIntact S.Store self.new → IsOpen S.Store self.old × IsOpen S.Store self.new) }
+        ensures same { OnOk result (IsIntact S.Store self.new → standing (state S.Store self.new.connection) ≡ standing (state S.Store self.old.connection)) }
+        ensures latest { IfOk result (λ m. IsClean S.Store self.new → m ≡ latest_of (seen S.Store self.old).now) }
         ensures settings { self.new ≡ record self.old { connection = self.new.connection } }
     {
         let found = told(find_latest(&mut self.connection))?;
@@ -35,14 +35,13 @@ impl<S: Alter + Drop, D: Digester + Drop> Host<S, D> {
     /// already: the greater of the two.
     pub fn stamp_reading(&mut self, reading: u64) -> Result<Moment, Trouble>
         requires in_range { reading ≤ last_reading }
-        requires working { IsClean (state S.Store self.old.connection) → IsWorking (seen_in (state S.Store self.old.connection)) }
-        ensures working { OnOk result (IsClean (state S.Store self.new.connection) → IsWorking (seen_in (state S.Store self.new.connection))) }
-        ensures within { Keeps S.Store self.old.connection self.new.connection }
-        ensures stamps { IfOk result (λ m. IsClean (state S.Store self.new.connection) → Stamps reading m (seen_in (state S.Store self.old.connection)).now (seen_in (state S.Store self.new.connection)).now) }
-        ensures unwritten { IfOk result (λ m. IsClean (state S.Store self.new.connection) → m ≡ latest_of (seen_in (state S.Store self.old.connection)).now
+        requires working { IsClean S.Store self.old → IsWorking (seen S.Store self.old) }
+        ensures working { OnOk result (IsClean S.Store self.new → IsWorking (seen S.Store self.new)) }
+        ensures within { Keeps S.Store self.old self.new }
+        ensures stamps { IfOk result (λ m. IsClean S.Store self.new → Stamps reading m (seen S.Store self.old).now (seen S.Store self.new).now) }
+        ensures unwritten { IfOk result (λ m. IsClean S.Store self.new → m ≡ latest_of (seen S.Store self.old).now
             → standing (state S.Store self.new.connection) ≡ standing (state S.Store self.old.connection)) }
-        ensures settings { self.new ≡ record self.old { connection = self.new.connection } }
-        ensures steps { (standing (state S.Store self.new.connection)).limit ≡ (standing (state S.Store self.old.connection)).limit }
+        ensures settings { KeepsSettings S.Store self.old self.new }
     {
         let latest = self.latest()?;
         if reading <= latest.seconds() {
@@ -57,14 +56,13 @@ impl<S: Alter + Drop, D: Digester + Drop> Host<S, D> {
 
     /// The same of any reading: ClockOutOfRange past [`LAST_READING`], which takes no memory and no call.
     pub fn stamp(&mut self, reading: u64) -> Result<Moment, StepError>
-        requires { IsClean (state S.Store self.old.connection) → IsWorking (seen_in (state S.Store self.old.connection)) }
-        ensures working { Unless result (IsClean (state S.Store self.new.connection) → IsWorking (seen_in (state S.Store self.new.connection))) }
-        ensures within { Keeps S.Store self.old.connection self.new.connection }
-        ensures clocks { IsClean (state S.Store self.new.connection) → Clocks reading (seen_in (state S.Store self.old.connection)).now (seen_in (state S.Store self.new.connection)).now result }
-        ensures unwritten { IfOk result (λ m. IsClean (state S.Store self.new.connection) → m ≡ latest_of (seen_in (state S.Store self.old.connection)).now
+        requires { IsClean S.Store self.old → IsWorking (seen S.Store self.old) }
+        ensures working { Unless result (IsClean S.Store self.new → IsWorking (seen S.Store self.new)) }
+        ensures within { Keeps S.Store self.old self.new }
+        ensures clocks { IsClean S.Store self.new → Clocks reading (seen S.Store self.old).now (seen S.Store self.new).now result }
+        ensures unwritten { IfOk result (λ m. IsClean S.Store self.new → m ≡ latest_of (seen S.Store self.old).now
             → standing (state S.Store self.new.connection) ≡ standing (state S.Store self.old.connection)) }
-        ensures settings { self.new ≡ record self.old { connection = self.new.connection } }
-        ensures steps { (standing (state S.Store self.new.connection)).limit ≡ (standing (state S.Store self.old.connection)).limit }
+        ensures settings { KeepsSettings S.Store self.old self.new }
     {
         if reading > LAST_READING {
             return Err(StepError::Refused(Refusal::ClockOutOfRange));

@@ -1,10 +1,7 @@
-ghost use Rattle.std.specs.Prelude.{◌≡◌};
-ghost use Rattle.sqlite.specs.Held.{state};
 ghost use Rattle.bh_model.specs.Credentials.{authenticate};
 ghost use Rattle.bh_view.specs.View.{view};
 ghost use Rattle.bh_storage.specs.Calls.{IsWorking, Unless, Decides};
-ghost use Rattle.bh_schema.specs.Layer.{standing, IsClean};
-ghost use Rattle.bh_schema.specs.Storage.{seen_in, Keeps};
+ghost use Rattle.bh_schema.specs.Storage.{IsClean, seen, Keeps, KeepsSettings};
 
 use crate::host::{Digester, Host};
 use crate::rows::keys::find_secret;
@@ -25,13 +22,12 @@ impl<S: Alter + Drop, D: Digester + Drop> Host<S, D> {
         id: &[u8],
         secret: &[u8],
     ) -> Result<(), StepError>
-        requires { IsClean (state S.Store self.old.connection) → IsWorking (seen_in (state S.Store self.old.connection)) }
-        ensures working { Unless result (IsClean (state S.Store self.new.connection) → IsWorking (seen_in (state S.Store self.new.connection))) }
-        ensures within { Keeps S.Store self.old.connection self.new.connection }
-        ensures decides { IsClean (state S.Store self.new.connection)
-            → Decides (λ _. tt) (authenticate id.now secret.now (view (seen_in (state S.Store self.old.connection)).now tenant.now)) (seen_in (state S.Store self.old.connection)).now (seen_in (state S.Store self.new.connection)).now result }
-        ensures settings { self.new ≡ record self.old { connection = self.new.connection } }
-        ensures steps { (standing (state S.Store self.new.connection)).limit ≡ (standing (state S.Store self.old.connection)).limit }
+        requires { IsClean S.Store self.old → IsWorking (seen S.Store self.old) }
+        ensures working { Unless result (IsClean S.Store self.new → IsWorking (seen S.Store self.new)) }
+        ensures within { Keeps S.Store self.old self.new }
+        ensures decides { IsClean S.Store self.new
+            → Decides (λ _. tt) (authenticate id.now secret.now (view (seen S.Store self.old).now tenant.now)) (seen S.Store self.old).now (seen S.Store self.new).now result }
+        ensures settings { KeepsSettings S.Store self.old self.new }
     {
         let Some(name) = key_name_of(alloc, id)? else {
             return Err(StepError::Refused(Refusal::InvalidAccessKeyId));

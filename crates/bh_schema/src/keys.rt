@@ -1,9 +1,6 @@
-ghost use Rattle.std.specs.Prelude.{◌≡◌};
-ghost use Rattle.sqlite.specs.Held.{state};
 ghost use Rattle.bh_model.specs.Operations.{Done, add_key, remove_key};
 ghost use Rattle.bh_storage.specs.Calls.{IsWorking, Unless, Carries};
-ghost use Rattle.bh_schema.specs.Layer.{standing, IsClean};
-ghost use Rattle.bh_schema.specs.Storage.{seen_in, Keeps};
+ghost use Rattle.bh_schema.specs.Storage.{IsClean, seen, Keeps, KeepsSettings};
 
 use crate::host::{Digester, Host};
 use crate::rows::keys::{delete_key, insert_key};
@@ -25,13 +22,12 @@ impl<S: Alter + Drop, D: Digester + Drop> Host<S, D> {
         name: &str,
         secret: &str,
     ) -> Result<(), StepError>
-        requires { IsClean (state S.Store self.old.connection) → IsWorking (seen_in (state S.Store self.old.connection)) }
-        ensures working { Unless result (IsClean (state S.Store self.new.connection) → IsWorking (seen_in (state S.Store self.new.connection))) }
-        ensures within { Keeps S.Store self.old.connection self.new.connection }
-        ensures carries { IsClean (state S.Store self.new.connection)
-            → Carries (λ _. Done) tenant.now (add_key tenant.now name.now secret.now) (seen_in (state S.Store self.old.connection)).now (seen_in (state S.Store self.new.connection)).now result }
-        ensures settings { self.new ≡ record self.old { connection = self.new.connection } }
-        ensures steps { (standing (state S.Store self.new.connection)).limit ≡ (standing (state S.Store self.old.connection)).limit }
+        requires { IsClean S.Store self.old → IsWorking (seen S.Store self.old) }
+        ensures working { Unless result (IsClean S.Store self.new → IsWorking (seen S.Store self.new)) }
+        ensures within { Keeps S.Store self.old self.new }
+        ensures carries { IsClean S.Store self.new
+            → Carries (λ _. Done) tenant.now (add_key tenant.now name.now secret.now) (seen S.Store self.old).now (seen S.Store self.new).now result }
+        ensures settings { KeepsSettings S.Store self.old self.new }
     {
         if !are_words(alloc, tenant, name, secret)? {
             return Err(StepError::Refused(Refusal::InvalidName));
@@ -47,13 +43,12 @@ impl<S: Alter + Drop, D: Digester + Drop> Host<S, D> {
 
     /// Takes an access key of a tenant away: InvalidName for either name, NoSuchTenant, NoSuchKeyName.
     pub fn key_remove(&mut self, alloc: Global, tenant: &str, name: &str) -> Result<(), StepError>
-        requires { IsClean (state S.Store self.old.connection) → IsWorking (seen_in (state S.Store self.old.connection)) }
-        ensures working { Unless result (IsClean (state S.Store self.new.connection) → IsWorking (seen_in (state S.Store self.new.connection))) }
-        ensures within { Keeps S.Store self.old.connection self.new.connection }
-        ensures carries { IsClean (state S.Store self.new.connection)
-            → Carries (λ _. Done) tenant.now (remove_key tenant.now name.now) (seen_in (state S.Store self.old.connection)).now (seen_in (state S.Store self.new.connection)).now result }
-        ensures settings { self.new ≡ record self.old { connection = self.new.connection } }
-        ensures steps { (standing (state S.Store self.new.connection)).limit ≡ (standing (state S.Store self.old.connection)).limit }
+        requires { IsClean S.Store self.old → IsWorking (seen S.Store self.old) }
+        ensures working { Unless result (IsClean S.Store self.new → IsWorking (seen S.Store self.new)) }
+        ensures within { Keeps S.Store self.old self.new }
+        ensures carries { IsClean S.Store self.new
+            → Carries (λ _. Done) tenant.now (remove_key tenant.now name.now) (seen S.Store self.old).now (seen S.Store self.new).now result }
+        ensures settings { KeepsSettings S.Store self.old self.new }
     {
         if !are_names(alloc, tenant, name)? {
             return Err(StepError::Refused(Refusal::InvalidName));

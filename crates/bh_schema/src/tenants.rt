@@ -1,9 +1,6 @@
-ghost use Rattle.std.specs.Prelude.{◌≡◌};
-ghost use Rattle.sqlite.specs.Held.{state};
 ghost use Rattle.bh_model.specs.Operations.{Done, add_tenant};
 ghost use Rattle.bh_storage.specs.Calls.{IsWorking, Unless, Carries};
-ghost use Rattle.bh_schema.specs.Layer.{standing, IsClean};
-ghost use Rattle.bh_schema.specs.Storage.{seen_in, Keeps};
+ghost use Rattle.bh_schema.specs.Storage.{IsClean, seen, Keeps, KeepsSettings};
 
 use crate::host::{Digester, Host};
 use crate::rows::tenants::{find_tenant, insert_tenant};
@@ -18,13 +15,12 @@ use std::alloc::Global;
 impl<S: Alter + Drop, D: Digester + Drop> Host<S, D> {
     /// Adds a tenant with a quota in bytes: InvalidName, InvalidQuota, TenantExists.
     pub fn tenant_add(&mut self, alloc: Global, tenant: &str, quota: u64) -> Result<(), StepError>
-        requires { IsClean (state S.Store self.old.connection) → IsWorking (seen_in (state S.Store self.old.connection)) }
-        ensures working { Unless result (IsClean (state S.Store self.new.connection) → IsWorking (seen_in (state S.Store self.new.connection))) }
-        ensures within { Keeps S.Store self.old.connection self.new.connection }
-        ensures carries { IsClean (state S.Store self.new.connection)
-            → Carries (λ _. Done) tenant.now (add_tenant tenant.now quota) (seen_in (state S.Store self.old.connection)).now (seen_in (state S.Store self.new.connection)).now result }
-        ensures settings { self.new ≡ record self.old { connection = self.new.connection } }
-        ensures steps { (standing (state S.Store self.new.connection)).limit ≡ (standing (state S.Store self.old.connection)).limit }
+        requires { IsClean S.Store self.old → IsWorking (seen S.Store self.old) }
+        ensures working { Unless result (IsClean S.Store self.new → IsWorking (seen S.Store self.new)) }
+        ensures within { Keeps S.Store self.old self.new }
+        ensures carries { IsClean S.Store self.new
+            → Carries (λ _. Done) tenant.now (add_tenant tenant.now quota) (seen S.Store self.old).now (seen S.Store self.new).now result }
+        ensures settings { KeepsSettings S.Store self.old self.new }
     {
         if TenantName::read(alloc, tenant)?.is_none() {
             return Err(StepError::Refused(Refusal::InvalidName));

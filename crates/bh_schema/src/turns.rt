@@ -1,9 +1,7 @@
 ghost use Rattle.std.specs.Prelude.{◌≡◌, ◌⊎◌, false, OnOk, OnErr};
-ghost use Rattle.sqlite.specs.Held.{state};
 ghost use Rattle.bh_tables.specs.Typed.{Tables};
 ghost use Rattle.bh_storage.specs.Calls.{IsAtRest, IsWorking, IsSettled};
-ghost use Rattle.bh_schema.specs.Layer.{standing, IsIntact, IsOpen, IsClean};
-ghost use Rattle.bh_schema.specs.Storage.{seen_in, left_in, Keeps};
+ghost use Rattle.bh_schema.specs.Storage.{IsClean, IsIntact, IsOpen, seen, left, Keeps, KeepsSettings};
 
 use crate::host::{Digester, Host};
 use crate::rows::transactions;
@@ -14,13 +12,12 @@ use sqlite::Alter;
 impl<S: Alter + Drop, D: Digester + Drop> Host<S, D> {
     /// Opens a transaction. A connection that a fault has shut refuses it.
     pub fn begin(&mut self) -> Result<(), Trouble>
-        requires { IsClean (state S.Store self.old.connection) → IsAtRest (seen_in (state S.Store self.old.connection)) }
-        ensures within { Keeps S.Store self.old.connection self.new.connection }
-        ensures same { OnOk result (IsClean (state S.Store self.new.connection) → (seen_in (state S.Store self.new.connection)).now ≡ (seen_in (state S.Store self.old.connection)).now) }
-        ensures working { OnOk result (IsClean (state S.Store self.new.connection) → IsWorking (seen_in (state S.Store self.new.connection))) }
-        ensures opens { OnOk result (IsIntact (state S.Store self.new.connection) → IsOpen (state S.Store self.old.connection) × IsOpen (state S.Store self.new.connection)) }
-        ensures settings { self.new ≡ record self.old { connection = self.new.connection } }
-        ensures steps { (standing (state S.Store self.new.connection)).limit ≡ (standing (state S.Store self.old.connection)).limit }
+        requires { IsClean S.Store self.old → IsAtRest (seen S.Store self.old) }
+        ensures within { Keeps S.Store self.old self.new }
+        ensures same { OnOk result (IsClean S.Store self.new → (seen S.Store self.new).now ≡ (seen S.Store self.old).now) }
+        ensures working { OnOk result (IsClean S.Store self.new → IsWorking (seen S.Store self.new)) }
+        ensures opens { OnOk result (IsIntact S.Store self.new → IsOpen S.Store self.old × IsOpen S.Store self.new) }
+        ensures settings { KeepsSettings S.Store self.old self.new }
     {
         told(transactions::begin(&mut self.connection))?;
         Ok(())
@@ -28,15 +25,14 @@ impl<S: Alter + Drop, D: Digester + Drop> Host<S, D> {
 
     /// Commits the transaction. A crash then finds what was committed.
     pub fn commit(&mut self) -> Result<(), Trouble>
-        requires { IsClean (state S.Store self.old.connection) → IsWorking (seen_in (state S.Store self.old.connection)) }
-        ensures survives { OnOk result (IsClean (state S.Store self.new.connection) → (x : Tables) → left_in (state S.Store self.new.connection) x → x ≡ (seen_in (state S.Store self.old.connection)).now) }
-        ensures crash { OnErr result (IsClean (state S.Store self.new.connection) → (x : Tables) → left_in (state S.Store self.new.connection) x → left_in (state S.Store self.old.connection) x ⊎ (x ≡ (seen_in (state S.Store self.old.connection)).now)) }
-        ensures clean { IsClean (state S.Store self.new.connection) → IsClean (state S.Store self.old.connection) }
-        ensures done { OnOk result (IsClean (state S.Store self.new.connection) → ((seen_in (state S.Store self.new.connection)).now ≡ (seen_in (state S.Store self.old.connection)).now)
-            × ((seen_in (state S.Store self.new.connection)).kept ≡ (seen_in (state S.Store self.old.connection)).now) × ((seen_in (state S.Store self.new.connection)).inside ≡ false)) }
-        ensures kept { OnErr result (IsClean (state S.Store self.new.connection) → ((seen_in (state S.Store self.new.connection)).kept ≡ (seen_in (state S.Store self.old.connection)).kept) × IsSettled (seen_in (state S.Store self.new.connection))) }
-        ensures settings { self.new ≡ record self.old { connection = self.new.connection } }
-        ensures steps { (standing (state S.Store self.new.connection)).limit ≡ (standing (state S.Store self.old.connection)).limit }
+        requires { IsClean S.Store self.old → IsWorking (seen S.Store self.old) }
+        ensures survives { OnOk result (IsClean S.Store self.new → (x : Tables) → left S.Store self.new x → x ≡ (seen S.Store self.old).now) }
+        ensures crash { OnErr result (IsClean S.Store self.new → (x : Tables) → left S.Store self.new x → left S.Store self.old x ⊎ (x ≡ (seen S.Store self.old).now)) }
+        ensures clean { IsClean S.Store self.new → IsClean S.Store self.old }
+        ensures done { OnOk result (IsClean S.Store self.new → ((seen S.Store self.new).now ≡ (seen S.Store self.old).now)
+            × ((seen S.Store self.new).kept ≡ (seen S.Store self.old).now) × ((seen S.Store self.new).inside ≡ false)) }
+        ensures kept { OnErr result (IsClean S.Store self.new → ((seen S.Store self.new).kept ≡ (seen S.Store self.old).kept) × IsSettled (seen S.Store self.new)) }
+        ensures settings { KeepsSettings S.Store self.old self.new }
     {
         told(transactions::commit(&mut self.connection))?;
         Ok(())
@@ -44,12 +40,11 @@ impl<S: Alter + Drop, D: Digester + Drop> Host<S, D> {
 
     /// Ends the transaction, if one is open: what was committed stands.
     pub fn take_back(&mut self)
-        ensures survives { IsClean (state S.Store self.new.connection) → (x : Tables) → left_in (state S.Store self.new.connection) x → left_in (state S.Store self.old.connection) x }
-        ensures clean { IsClean (state S.Store self.new.connection) → IsClean (state S.Store self.old.connection) }
-        ensures back { IsClean (state S.Store self.new.connection) → ((seen_in (state S.Store self.new.connection)).now ≡ (seen_in (state S.Store self.old.connection)).kept)
-            × ((seen_in (state S.Store self.new.connection)).kept ≡ (seen_in (state S.Store self.old.connection)).kept) × ((seen_in (state S.Store self.new.connection)).inside ≡ false) }
-        ensures settings { self.new ≡ record self.old { connection = self.new.connection } }
-        ensures steps { (standing (state S.Store self.new.connection)).limit ≡ (standing (state S.Store self.old.connection)).limit }
+        ensures survives { IsClean S.Store self.new → (x : Tables) → left S.Store self.new x → left S.Store self.old x }
+        ensures clean { IsClean S.Store self.new → IsClean S.Store self.old }
+        ensures back { IsClean S.Store self.new → ((seen S.Store self.new).now ≡ (seen S.Store self.old).kept)
+            × ((seen S.Store self.new).kept ≡ (seen S.Store self.old).kept) × ((seen S.Store self.new).inside ≡ false) }
+        ensures settings { KeepsSettings S.Store self.old self.new }
     {
         transactions::take_back(&mut self.connection);
     }

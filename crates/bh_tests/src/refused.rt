@@ -1,4 +1,5 @@
 //! What refused requests answer, and that they leave all rows but the last stamp.
+use crate::events::tenant_add;
 use bh_create::create::create;
 use bh_event::event::{Command, Event};
 use bh_host::run::run;
@@ -16,16 +17,6 @@ const TABLES: [&str; 4] = [
     "SELECT * FROM buckets",
     "SELECT * FROM versions",
 ];
-
-fn tenant_add(alloc: Global, name: &str) -> Result<Event, AllocError> {
-    Ok(Event::Operator {
-        reading: 1,
-        command: Command::TenantAdd {
-            tenant: String::from_str(alloc, name)?,
-            quota: 1000,
-        },
-    })
-}
 
 fn key_add(alloc: Global, tenant: &str) -> Result<Event, AllocError> {
     Ok(Event::Operator {
@@ -59,9 +50,9 @@ fn request(
 /// The tenants green and blue, each with a key; blue has the bucket plans with one object if it is to have one.
 fn beginning(alloc: Global, blue_has_plans: bool) -> Result<Vec<Event>, AllocError> {
     let mut events = Vec::new(alloc);
-    events.push(tenant_add(alloc, "green")?)?;
+    events.push(tenant_add(alloc, 1, "green")?)?;
     events.push(key_add(alloc, "green")?)?;
-    events.push(tenant_add(alloc, "blue")?)?;
+    events.push(tenant_add(alloc, 1, "blue")?)?;
     events.push(key_add(alloc, "blue")?)?;
     if blue_has_plans {
         events.push(request(alloc, 2, "blue", "PUT /plans", 0, "")?)?;

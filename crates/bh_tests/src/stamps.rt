@@ -1,22 +1,12 @@
+//! The stamps of events, whatever the clock reads.
+use crate::events::tenant_add;
 use bh_create::create::create;
-use bh_event::event::{Command, Event};
 use bh_host::run::run;
 use bh_objects::storage::HostStorage;
 use bh_script::digester::Sha256Digester;
 use bh_types::limits::{Limits, Tuning};
 use sqlite::Connection;
-use std::alloc::{AllocError, Global};
 use std::test::Fail;
-
-fn tenant_add(alloc: Global, reading: u64, name: &str) -> Result<Event, AllocError> {
-    Ok(Event::Operator {
-        reading,
-        command: Command::TenantAdd {
-            tenant: String::from_str(alloc, name)?,
-            quota: 1,
-        },
-    })
-}
 
 #[test]
 fn stamps_never_go_back(rt: HostRuntime) -> Result<(), Fail> {

@@ -13,7 +13,6 @@ use bh_script::input::{read_all, read_script};
 use bh_storage::storage::Storage;
 use bh_types::limits::{Limits, Tuning};
 use sqlite::{Alter, Connection};
-use std::alloc::{AllocError, Global};
 use std::io::Write;
 use std::process::ExitCode;
 use std::rt::Runtime;
@@ -69,29 +68,25 @@ fn serve<S: Alter + Drop>(
     Ok(Some(Served { first, last }))
 }
 
-/// The replies, a line's end after each.
-fn replies(alloc: Global, dones: &[Done]) -> Result<Vec<u8>, AllocError> {
-    let mut text = Vec::new(alloc);
+/// Writes the replies, a line's end after each.
+fn write_replies(rt: &(impl Print + AllocGlobal), dones: &[Done]) -> io::Result<()> {
+    let mut text = Vec::new(rt.alloc());
     for done in dones {
         text.extend_from_slice(done.reply.bytes())?;
         text.extend_from_slice(b"\n")?;
     }
-    Ok(text)
+    io::writer(rt).write_all(text.as_slice())
+}
+
+fn write_time(rt: &(impl Print + AllocGlobal), timed: &Timed) -> io::Result<()> {
+    println!(rt; "{} events: {} microseconds", timed.dones.len(), timed.microseconds)
 }
 
 fn tell(rt: &(impl Print + AllocGlobal), served: &Served) -> io::Result<()> {
-    for part in [&served.first, &served.last] {
-        let text = replies(rt.alloc(), part.dones.as_slice())?;
-        io::writer(rt).write_all(text.as_slice())?;
-    }
-    for part in [&served.first, &served.last] {
-        println!(rt;
-            "{} events: {} microseconds",
-            part.dones.len(),
-            part.microseconds
-        )?;
-    }
-    Ok(())
+    write_replies(rt, served.first.dones.as_slice())?;
+    write_replies(rt, served.last.dones.as_slice())?;
+    write_time(rt, &served.first)?;
+    write_time(rt, &served.last)
 }
 
 /// The file and the number of events that are timed alone, if the words after the program's name are these.

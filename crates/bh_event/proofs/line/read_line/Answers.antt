@@ -1,4 +1,4 @@
-use Rattle.std.proofs.Common.{ap, sym, ◌∙◌, option_map, option_and_then}
+use Rattle.std.proofs.Common.{ap, sym, ◌∙◌, option_and_then}
 use Rattle.std.proofs.lemmas.Result.{IfOk-weaker}
 use Rattle.serde_json.specs.Read.{read}
 use Rattle.bh_event.specs.Lines.{arrival_in}

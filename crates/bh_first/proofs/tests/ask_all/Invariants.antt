@@ -1,8 +1,6 @@
-use Rattle.sqlite.specs.Held.{state}
 use Rattle.bh_storage.specs.Calls.{IsAtRest}
-use Rattle.bh_schema.specs.Layer.{IsClean}
-use Rattle.bh_schema.specs.Storage.{seen_in}
+use Rattle.bh_schema.specs.Storage.{IsClean, seen}
 use Rattle.bh_first.proofs.tests.ask_all.Given as goal
 
 abbrev pub invariant-loop-call : goal.invariant-loop-call
-invariant-loop-call g l = IsClean (state g.S.Store l.host.connection) → IsAtRest (seen_in (state g.S.Store l.host.connection))
+invariant-loop-call g l = IsClean g.S.Store l.host → IsAtRest (seen g.S.Store l.host)

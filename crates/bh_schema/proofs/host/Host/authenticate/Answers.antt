@@ -14,7 +14,7 @@ pub find_secret-requires : goal.find_secret-requires
 find_secret-requires g c = record { inside = λ clean. inside_of (state g.S.Store c.args.self.now.connection) (c.requires clean) }
 
 pub returns-in_err-found-clause-within : goal.returns-in_err-found-clause-within
-returns-in_err-found-clause-within g c = keeps g.S.Store g.met.S.Store.settled g.met.S.Store.stays c.args.self.now.connection c.find_secret.new.connection c.find_secret.ensures.within
+returns-in_err-found-clause-within g c = keeps g.S.Store g.met.S.Store.settled g.met.S.Store.stays _ _ c.find_secret.ensures.within
 
 pub returns-in_default-found : goal.returns-in_default-found
 returns-in_default-found g c =
@@ -28,9 +28,8 @@ returns-in_default-found g c =
     let none : c.in_ok-found.found ≡ None = search rules in
     record {
       working = asked_works old new c.requires w same;
-      within = keeps g.S.Store g.met.S.Store.settled g.met.S.Store.stays c.args.self.now.connection c.find_secret.new.connection w;
-      settings = refl;
-      steps = w.follows.limit;
+      within = keeps g.S.Store g.met.S.Store.settled g.met.S.Store.stays _ _ w;
+      settings = (refl, w.follows.limit);
       decides = λ clean. (unknown_key c.args.id.now c.args.secret.now c.in-Some.name _ named (seen clean ∙ ap (option_map string_bytes) none), asked_same old new c.requires w same clean);
     }
 
@@ -47,9 +46,8 @@ returns-then-eq g c =
     let equal : bytes_eq c.args.secret.now (string_bytes c.in-Some-found.known) ≡ true = search rules in
     record {
       working = asked_works old new c.requires w same;
-      within = keeps g.S.Store g.met.S.Store.settled g.met.S.Store.stays c.args.self.now.connection c.find_secret.new.connection w;
-      settings = refl;
-      steps = w.follows.limit;
+      within = keeps g.S.Store g.met.S.Store.settled g.met.S.Store.stays _ _ w;
+      settings = (refl, w.follows.limit);
       decides = λ clean. (right_secret c.args.id.now c.args.secret.now c.in-Some.name _ named (string_bytes c.in-Some-found.known) (seen clean ∙ ap (option_map string_bytes) found) equal, asked_same old new c.requires w same clean);
     }
 
@@ -66,8 +64,7 @@ returns g c =
     let other : bytes_eq c.args.secret.now (string_bytes c.in-Some-found.known) ≡ false = search rules in
     record {
       working = asked_works old new c.requires w same;
-      within = keeps g.S.Store g.met.S.Store.settled g.met.S.Store.stays c.args.self.now.connection c.find_secret.new.connection w;
-      settings = refl;
-      steps = w.follows.limit;
+      within = keeps g.S.Store g.met.S.Store.settled g.met.S.Store.stays _ _ w;
+      settings = (refl, w.follows.limit);
       decides = λ clean. (wrong_secret c.args.id.now c.args.secret.now c.in-Some.name _ named (string_bytes c.in-Some-found.known) (seen clean ∙ ap (option_map string_bytes) found) other, asked_same old new c.requires w same clean);
     }

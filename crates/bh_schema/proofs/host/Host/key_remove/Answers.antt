@@ -20,7 +20,7 @@ pub find_key-requires : goal.find_key-requires
 find_key-requires g c = record { inside = λ clean. inside_of (state g.S.Store c.args.self.now.connection) (c.requires clean) }
 
 pub returns-in_err-told-clause-within : goal.returns-in_err-told-clause-within
-returns-in_err-told-clause-within g c = keeps g.S.Store g.met.S.Store.settled g.met.S.Store.stays c.args.self.now.connection c.find_key.new.connection c.find_key.ensures.within
+returns-in_err-told-clause-within g c = keeps g.S.Store g.met.S.Store.settled g.met.S.Store.stays _ _ c.find_key.ensures.within
 
 pub returns-in-NoTenant : goal.returns-in-NoTenant
 returns-in-NoTenant g c =
@@ -33,9 +33,8 @@ returns-in-NoTenant g c =
     let words : (is_tenant_name t && is_key_name n) ≡ true = search rules in
     record {
       working = asked_works old new c.requires w same;
-      within = keeps g.S.Store g.met.S.Store.settled g.met.S.Store.stays c.args.self.now.connection c.find_key.new.connection w;
-      settings = refl;
-      steps = w.follows.limit;
+      within = keeps g.S.Store g.met.S.Store.settled g.met.S.Store.stays _ _ w;
+      settings = (refl, w.follows.limit);
       carries = λ clean.
           let it = no_tenant n _ (sym c.in-NoTenant.is ∙ known_seen old t n _ (c.requires (w.follows.clean clean)) (IfOk-at_ok _ c.in_ok-told.ensures.ok c.find_key.ensures.known clean)) in
           (removes_from_nobody t n _ words it, asked_same old new c.requires w same clean);
@@ -52,9 +51,8 @@ returns-in-NoKey g c =
     let words : (is_tenant_name t && is_key_name n) ≡ true = search rules in
     record {
       working = asked_works old new c.requires w same;
-      within = keeps g.S.Store g.met.S.Store.settled g.met.S.Store.stays c.args.self.now.connection c.find_key.new.connection w;
-      settings = refl;
-      steps = w.follows.limit;
+      within = keeps g.S.Store g.met.S.Store.settled g.met.S.Store.stays _ _ w;
+      settings = (refl, w.follows.limit);
       carries = λ clean.
           let it = no_key n _ (sym c.in-NoKey.is ∙ known_seen old t n _ (c.requires (w.follows.clean clean)) (IfOk-at_ok _ c.in_ok-told.ensures.ok c.find_key.ensures.known clean)) in
           (removes_none t n _ words it.0 it.1 it.2, asked_same old new c.requires w same clean);
@@ -69,7 +67,7 @@ returns-in_err-told-2-clause-within g c =
     let old = state g.S.Store c.args.self.now.connection in
     let mid = state g.S.Store c.find_key.new.connection in
     let new = state g.S.Store c.delete_key.new.connection in
-    keeps g.S.Store g.met.S.Store.settled g.met.S.Store.stays c.args.self.now.connection c.delete_key.new.connection
+    keeps g.S.Store g.met.S.Store.settled g.met.S.Store.stays _ _
     (within_then old mid new (λ intact up. (on_ok _ c.in_ok-told.ensures.ok c.find_key.ensures.opens intact).1) c.find_key.ensures.within c.delete_key.ensures.within)
 
 pub returns : goal.returns
@@ -92,9 +90,8 @@ returns g c =
     key_goes old new t n it.0 (works clean) it.1 (holds_after old mid new (λ x. record x { keys = delete_where (is_key t n) x.keys }) (same (before clean).intact) (holds clean)) in
     record {
       working = λ clean. works_of t _ old new (holds_seen _ new (holds clean)).1 (becomes clean);
-      within = keeps g.S.Store g.met.S.Store.settled g.met.S.Store.stays c.args.self.now.connection c.delete_key.new.connection
+      within = keeps g.S.Store g.met.S.Store.settled g.met.S.Store.stays _ _
           (within_then old mid new (λ intact up. (on_ok _ c.in_ok-told.ensures.ok c.find_key.ensures.opens intact).1) w c.delete_key.ensures.within);
-      settings = refl;
-      steps = c.delete_key.ensures.within.follows.limit ∙ w.follows.limit;
+      settings = (refl, c.delete_key.ensures.within.follows.limit ∙ w.follows.limit);
       carries = λ clean. let it = known clean in gives_of t (remove_key t n) Done _ (seen_in old).now (seen_in new).now (removes_key t n _ words it.0 it.1 it.2) (becomes clean);
     }

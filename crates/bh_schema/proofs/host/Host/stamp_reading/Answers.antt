@@ -12,7 +12,7 @@ use Rattle.bh_schema.proofs.Stamping.{stamp_kept, stamp_written, stamps_of}
 use Rattle.bh_schema.proofs.host.Host.stamp_reading.Goals as goal
 
 pub returns-in_err-latest-clause-within : goal.returns-in_err-latest-clause-within
-returns-in_err-latest-clause-within g c = keeps g.S.Store g.met.S.Store.settled g.met.S.Store.stays c.args.self.now.connection c.latest.new.self.connection c.latest.ensures.within
+returns-in_err-latest-clause-within g c = keeps g.S.Store g.met.S.Store.settled g.met.S.Store.stays _ _ c.latest.ensures.within
 
 pub returns-then-reading-seconds : goal.returns-then-reading-seconds
 returns-then-reading-seconds g c =
@@ -22,11 +22,10 @@ returns-then-reading-seconds g c =
     let low : c.args.reading ≤ c.in_ok-latest.latest = search rules in
     record {
       working = λ clean. subst IsWorking (sym (seen_same old new (h.same clean.intact))) (c.requires.working (h.within.follows.clean clean));
-      within = keeps g.S.Store g.met.S.Store.settled g.met.S.Store.stays c.args.self.now.connection c.latest.new.self.connection h.within;
+      within = keeps g.S.Store g.met.S.Store.settled g.met.S.Store.stays _ _ h.within;
       stamps = λ clean. stamp_kept old new c.args.reading c.in_ok-latest.latest (c.requires.working (h.within.follows.clean clean)) (seen_same old new (h.same clean.intact)) (h.latest clean) low;
       unwritten = λ clean is. h.same clean.intact;
-      settings = h.settings;
-      steps = h.within.follows.limit;
+      settings = (h.settings, h.within.follows.limit);
     }
 
 pub set_latest-requires-clause-inside : goal.set_latest-requires-clause-inside
@@ -39,7 +38,7 @@ returns-in_err-told-clause-within g c =
     let old = state g.S.Store c.args.self.now.connection in
     let mid = state g.S.Store c.latest.new.self.connection in
     let new = state g.S.Store c.set_latest.new.connection in
-    keeps g.S.Store g.met.S.Store.settled g.met.S.Store.stays c.args.self.now.connection c.set_latest.new.connection
+    keeps g.S.Store g.met.S.Store.settled g.met.S.Store.stays _ _
     (within_then old mid new (λ intact up. (c.in_ok-latest.ensures.opens intact).1) c.in_ok-latest.ensures.within c.set_latest.ensures.within)
 
 pub returns-in-Some : goal.returns-in-Some
@@ -56,11 +55,10 @@ returns-in-Some g c =
     (holds_after old mid new (λ x. record x { host = map (with_stamp c.args.reading) x.host }) (h.same clean_mid.intact) (on_ok _ c.in_ok-told.ensures.ok c.set_latest.ensures.holds clean)) in
     record {
       working = λ clean. record { inside = (holds_seen _ new (on_ok _ c.in_ok-told.ensures.ok c.set_latest.ensures.holds clean)).1; sound = (written clean).0.sound };
-      within = keeps g.S.Store g.met.S.Store.settled g.met.S.Store.stays c.args.self.now.connection c.set_latest.new.connection
+      within = keeps g.S.Store g.met.S.Store.settled g.met.S.Store.stays _ _
           (within_then old mid new (λ intact up. (h.opens intact).1) h.within c.set_latest.ensures.within);
       stamps = λ clean. subst (λ m. Stamps c.args.reading m (seen_in old).now (seen_in new).now) (sym same_read)
           (stamps_of (seen_in old).now (seen_in new).now c.args.reading c.in_ok-latest.latest (h.latest (c.set_latest.ensures.within.follows.clean clean)) high (written clean).1 (written clean).0);
       unwritten = λ clean is. absurd (omega (arith, high, h.latest (c.set_latest.ensures.within.follows.clean clean), is, same_read));
-      settings = search rules;
-      steps = c.set_latest.ensures.within.follows.limit ∙ h.within.follows.limit;
+      settings = (search rules, c.set_latest.ensures.within.follows.limit ∙ h.within.follows.limit);
     }

@@ -19,10 +19,10 @@ pub find_tenant-requires : goal.find_tenant-requires
 find_tenant-requires g c = record { inside = λ clean. inside_of (state g.S.Store c.args.self.now.connection) (c.requires clean) }
 
 pub returns-in_err-found-clause-within : goal.returns-in_err-found-clause-within
-returns-in_err-found-clause-within g c = keeps g.S.Store g.met.S.Store.settled g.met.S.Store.stays c.args.self.now.connection c.find_tenant.new.connection c.find_tenant.ensures.within
+returns-in_err-found-clause-within g c = keeps g.S.Store g.met.S.Store.settled g.met.S.Store.stays _ _ c.find_tenant.ensures.within
 
 pub returns-then-is_some-clause-within : goal.returns-then-is_some-clause-within
-returns-then-is_some-clause-within g c = keeps g.S.Store g.met.S.Store.settled g.met.S.Store.stays c.args.self.now.connection c.find_tenant.new.connection c.find_tenant.ensures.within
+returns-then-is_some-clause-within g c = keeps g.S.Store g.met.S.Store.settled g.met.S.Store.stays _ _ c.find_tenant.ensures.within
 
 pub returns-then-is_some-clause-working : goal.returns-then-is_some-clause-working
 returns-then-is_some-clause-working g c clean =
@@ -55,7 +55,7 @@ returns-in_err-told-clause-within g c =
     let old = state g.S.Store c.args.self.now.connection in
     let mid = state g.S.Store c.find_tenant.new.connection in
     let new = state g.S.Store c.insert_tenant.new.connection in
-    keeps g.S.Store g.met.S.Store.settled g.met.S.Store.stays c.args.self.now.connection c.insert_tenant.new.connection
+    keeps g.S.Store g.met.S.Store.settled g.met.S.Store.stays _ _
     (within_then old mid new (λ intact up. (on_ok _ c.in_ok-found.ensures.ok c.find_tenant.ensures.opens intact).1) c.find_tenant.ensures.within c.insert_tenant.ensures.within)
 
 pub returns : goal.returns
@@ -76,9 +76,8 @@ returns g c =
     (holds_after old mid new (λ x. record x { tenants = x.tenants ++ record { tenant = t; quota = c.args.quota; next_version = 1; next_upload = 1; next_entry = 1 } ∷ [] }) (on_ok _ c.in_ok-found.ensures.ok c.find_tenant.ensures.same clean_mid.intact) (on_ok _ c.in_ok-told.ensures.ok c.insert_tenant.ensures.holds clean)) in
     record {
       working = λ clean. works_of t _ old new (holds_seen _ new (on_ok _ c.in_ok-told.ensures.ok c.insert_tenant.ensures.holds clean)).1 (becomes clean);
-      within = keeps g.S.Store g.met.S.Store.settled g.met.S.Store.stays c.args.self.now.connection c.insert_tenant.new.connection
+      within = keeps g.S.Store g.met.S.Store.settled g.met.S.Store.stays _ _
           (within_then old mid new (λ intact up. (on_ok _ c.in_ok-found.ensures.ok c.find_tenant.ensures.opens intact).1) c.find_tenant.ensures.within c.insert_tenant.ensures.within);
-      settings = refl;
-      steps = c.insert_tenant.ensures.within.follows.limit ∙ c.find_tenant.ensures.within.follows.limit;
+      settings = (refl, c.insert_tenant.ensures.within.follows.limit ∙ c.find_tenant.ensures.within.follows.limit);
       carries = λ clean. gives_of t (add_tenant t c.args.quota) Done _ (seen_in old).now (seen_in new).now (adds_tenant t c.args.quota _ name few (none clean)) (becomes clean);
     }
