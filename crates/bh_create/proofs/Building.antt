@@ -19,7 +19,7 @@ use Rattle.sqlite.specs.declared.error.Error.{Error}
 use Rattle.bh_rows.specs.Means.{IsBlank, is_trouble, IsUndone, StaysInside, Changes, Grows}
 use Rattle.bh_rows.proofs.CreateLemmas.{Makes as Creates, grows, create_changes}
 use Rattle.bh_rows.proofs.CreateErrors.{IsFree, create_trouble}
-use Rattle.bh_schema.specs.Layer.{Standing, standing, IsIntact, IsOpen, IsClean, Leaves, IsInside, Holds, Follows, begun, committed}
+use Rattle.bh_schema.specs.Layer.{Standing, standing, IsIntact, IsOpen, IsClean, Leaves, IsInside, Holds, begun, committed}
 use Rattle.bh_schema.specs.Storage.{seen_in, left_in}
 use Rattle.bh_schema.proofs.Storing.{follows_then}
 use Rattle.bh_schema.proofs.TurnLemmas.{follows}

@@ -52,7 +52,7 @@ Keeps g = Within (IsClean g) (seen g) (left g)
 -- a call leaves the digester, the limits, the tuning, and the limit on the steps of a text
 abbrev pub KeepsSettings : {S D : Type 0} → Ghosts S → Host S D → Host S D → Type 0
 KeepsSettings g old new = (new ≡ record old { connection = new.connection })
-  × ((standing (state g new.connection)).limit ≡ (standing (state g old.connection)).limit)
+    × ((standing (state g new.connection)).limit ≡ (standing (state g old.connection)).limit)
 
 -- a reading of the clock has its stamp, or is past the last one that a host takes
 abbrev pub Clocks : ℕ → Tables → Tables → Result ℕ StepError → Type 0

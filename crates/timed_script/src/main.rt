@@ -79,7 +79,11 @@ fn write_replies(rt: &(impl Print + AllocGlobal), dones: &[Done]) -> io::Result<
 }
 
 fn write_time(rt: &(impl Print + AllocGlobal), timed: &Timed) -> io::Result<()> {
-    println!(rt; "{} events: {} microseconds", timed.dones.len(), timed.microseconds)
+    println!(rt;
+        "{} events: {} microseconds",
+        timed.dones.len(),
+        timed.microseconds
+    )
 }
 
 fn tell(rt: &(impl Print + AllocGlobal), served: &Served) -> io::Result<()> {
