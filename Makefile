@@ -23,3 +23,9 @@ lookups:
 
 memory:
 	@tools/memory
+
+# wrong-bodies: tries the wrong bodies that the gate leaves out (wrong-bodies/README.md); of one crate by CRATE=bh_docs.
+.PHONY: wrong-bodies
+
+wrong-bodies:
+	@tools/wrong-bodies $(CRATE)
