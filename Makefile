@@ -1,7 +1,9 @@
-# demo: the main job on its stored run. build: the proved program. test: all of the gate. lint: the layout of all sources.
+# demo: the main job on its stored run. build: the proved program. test: all examples and tests, without proof, in minutes.
+# gate: every proof, wrong body, example and test, from nothing. times: the gate, and then what each crate cost, in seconds
+# of a processor ('tools/gate-times COMMAND..' tells it of any run). lint: the layout of all sources.
 # bench: the program's speed and memory; lookups: the time of lookups by key at 1,000 and 100,000 rows on a file (both
 # bench/README.md). memory: the stored run with each allocation refused in turn.
-.PHONY: demo build test lint bench lookups memory
+.PHONY: demo build test gate times lint bench lookups memory
 
 demo:
 	@tools/demo
@@ -10,7 +12,13 @@ build:
 	@tools/build
 
 test:
+	@tools/test
+
+gate:
 	@rt ci
+
+times:
+	@tools/gate-times rt ci
 
 lint:
 	@tools/lint-layout

@@ -1,4 +1,4 @@
-"""Lines of scripts: events as bucketd and timed_script read them."""
+"""Lines of scripts: events as bucketd and examples read them."""
 import json
 
 

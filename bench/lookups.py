@@ -1,7 +1,7 @@
 #!/usr/bin/env python3
 """Times lookups by key in a host on a file, at 1,000 rows and at 100,000.
 
-    bench/lookups.py [PROGRAM]        PROGRAM: crates/timed_script/out/timed_script
+    bench/lookups.py [PROGRAM]        PROGRAM: crates/examples/out/examples
 
 Two lookups, each by 10,000 requests that write nothing: `authenticate`, which ends at a wrong secret, among that many
 tenants with an access key each; `get`, of an object of one byte, among that many objects of one bucket. Exit 1 where
@@ -74,7 +74,7 @@ def get(rows):
 def run(program, script, is_right):
     """The microseconds of all events that fill the tables, and of all lookups."""
     with tempfile.TemporaryDirectory(dir=FOLDER) as folder:
-        words = [program, os.path.join(folder, "host"), str(LOOKUPS)]
+        words = [program, "timed", os.path.join(folder, "host"), str(LOOKUPS)]
         done = subprocess.run(words, input="".join(script).encode(), stdout=subprocess.PIPE)
     times = [(int(count), int(time)) for count, time in re.findall(rb"^(\d+) events: (\d+) microseconds$", done.stdout, re.M)]
     if done.returncode != 0 or [count for count, _ in times] != [len(script) - LOOKUPS, LOOKUPS] or not is_right(done.stdout):
@@ -83,9 +83,9 @@ def run(program, script, is_right):
 
 
 def main():
-    program = sys.argv[1] if len(sys.argv) > 1 else "crates/timed_script/out/timed_script"
+    program = sys.argv[1] if len(sys.argv) > 1 else "crates/examples/out/examples"
     if not os.path.exists(program):
-        sys.exit(f"{program} isn't there: 'rt run' in crates/timed_script makes it")
+        sys.exit(f"{program} isn't there: 'rt run' in crates/examples makes it")
     print(f"{'lookup':>12} {'rows':>7} {'filled in, s':>12} {'lookups':>8} {'microseconds a lookup':>21} {'ratio':>6}")
     is_flat = True
     for lookup in (authenticate, get):

@@ -4,5 +4,3 @@
 pub mod create;
 mod fill;
 mod tables;
-#[cfg(test)]
-mod tests;

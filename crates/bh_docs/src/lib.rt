@@ -28,6 +28,3 @@ pub use reply::{
 pub use token::{read_token, token_text};
 pub use uploads::{UploadEntry, UploadsNext, UploadsPage, uploads_document};
 pub use versions::{StoredObject, VersionEntry, VersionsNext, VersionsPage, versions_document};
-
-#[cfg(test)]
-mod tests;

@@ -3,5 +3,3 @@
 
 pub mod event;
 pub mod line;
-#[cfg(test)]
-mod tests;

@@ -11,8 +11,6 @@ mod head;
 pub mod read;
 pub mod request;
 pub mod response;
-#[cfg(test)]
-mod tests;
 pub mod values;
 
 pub use http::{Method, StatusCode};

@@ -5,6 +5,4 @@ pub mod counting;
 pub mod entries;
 pub mod laws;
 pub mod parts;
-#[cfg(test)]
-mod tests;
 pub mod uploads;

@@ -12,8 +12,6 @@ pub mod page;
 mod query;
 mod source;
 mod target;
-#[cfg(test)]
-mod tests;
 pub mod text;
 
 pub use target::path_of;

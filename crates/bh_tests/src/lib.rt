@@ -1,8 +1,12 @@
-//! Tests that cross crates.
+//! Tests that cross crates, of what the stored examples cannot say.
 #![tactic(auto)]
 
 #[cfg(test)]
+mod created;
+#[cfg(test)]
 mod events;
+#[cfg(test)]
+mod keys;
 #[cfg(test)]
 mod refused;
 #[cfg(test)]

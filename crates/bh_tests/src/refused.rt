@@ -87,10 +87,10 @@ fn rows_of<S: Alter>(
 #[derive(Drop)]
 struct Outcome {
     /// The reply to the last event.
-    last_reply: Vec<u8>,
+    last_reply: String,
     /// The rows of tenants, keys, buckets and versions.
     tables: Vec<Vec<String>>,
-    last_stamp: Vec<String>,
+    last_stamp: String,
 }
 
 fn all_tables<S: Alter>(
@@ -113,12 +113,15 @@ fn outcome_of(alloc: Global, events: &[Event]) -> Result<Outcome, Fail> {
     let mut storage = HostStorage { host };
     let dones = run(alloc, &limits, &mut storage, events)?;
     let last = dones.as_slice().last().ok_or("no event")?;
-    let last_reply = Vec::from_slice(alloc, last.reply.bytes())?;
+    let last_reply = String::from_utf8_lossy(alloc, last.reply.bytes())?;
     let mut connection = storage.host.into_connection();
     Ok(Outcome {
         last_reply,
         tables: all_tables(alloc, &mut connection)?,
-        last_stamp: rows_of(alloc, &mut connection, "SELECT latest FROM host")?,
+        last_stamp: row_text(
+            alloc,
+            &connection.query_row("SELECT latest FROM host", &[])?,
+        )?,
     })
 }
 
@@ -133,10 +136,14 @@ fn denies_a_foreign_bucket(
     let after = outcome_of(alloc, events.as_slice())?;
     let denied =
         "HTTP/1.1 403 Forbidden\r\ncontent-type: application/json\r\ncontent-length: 48\r\nx-refusal: 5 AccessDenied\r\nconnection: close\r\n\r\n{\"Code\":\"AccessDenied\",\"Resource\":\"/blue:plans\"}";
-    assert_eq!(rt; after.last_reply.as_slice(), denied.as_bytes());
-    assert_eq!(rt; before.tables, after.tables);
-    assert_eq!(rt; after.last_stamp.len(), 1);
-    assert_eq!(rt; after.last_stamp[0].as_str(), "Int(9);");
+    assert_eq!(rt;
+        (
+            after.last_reply.as_str(),
+            &after.tables,
+            after.last_stamp.as_str()
+        ),
+        (denied, &before.tables, "Int(9);")
+    );
     Ok(())
 }
 
@@ -155,8 +162,10 @@ fn refuses_a_short_body(rt: &impl Abort, alloc: Global, target: &str) -> Result<
     let after = outcome_of(alloc, events.as_slice())?;
     let incomplete =
         "HTTP/1.1 400 Bad Request\r\ncontent-length: 0\r\nx-refusal: 27 IncompleteBody\r\nconnection: close\r\n\r\n";
-    assert_eq!(rt; after.last_reply.as_slice(), incomplete.as_bytes());
-    assert_eq!(rt; before.tables, after.tables);
+    assert_eq!(rt;
+        (after.last_reply.as_str(), &after.tables),
+        (incomplete, &before.tables)
+    );
     Ok(())
 }
 

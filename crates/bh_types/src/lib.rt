@@ -11,5 +11,3 @@ pub mod moment;
 pub mod names;
 pub mod plain;
 pub mod refusal;
-#[cfg(test)]
-mod tests;

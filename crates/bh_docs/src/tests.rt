@@ -1,4 +1,0 @@
-mod checksums;
-mod pages;
-mod replies;
-mod requests;

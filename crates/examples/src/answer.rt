@@ -1,0 +1,54 @@
+//! What a call gives for an input, as a row of a table shows it.
+
+use bh_types::error::RequestError;
+use bh_types::refusal::Refusal;
+use std::alloc::{AllocError, Global};
+
+/// Why a row has no answer.
+#[derive(Clone, Copy, Debug, PartialEq, Eq)]
+pub enum Fault {
+    /// Memory was wanting.
+    Memory,
+    /// There is no such call, or its input is not of its form.
+    Form,
+}
+
+impl From<AllocError> for Fault {
+    fn from(_error: AllocError) -> Fault {
+        Fault::Memory
+    }
+}
+
+/// A call's text.
+pub type Answer = Result<String, Fault>;
+
+pub fn text(alloc: Global, shown: &str) -> Answer {
+    Ok(String::from_str(alloc, shown)?)
+}
+
+/// The text, or `none`.
+pub fn text_or_none(alloc: Global, shown: Option<&str>) -> Answer {
+    text(alloc, shown.unwrap_or("none"))
+}
+
+pub fn yes_or_no(alloc: Global, holds: bool) -> Answer {
+    text(alloc, if holds { "yes" } else { "no" })
+}
+
+/// Bytes that are to be text.
+pub fn bytes(alloc: Global, shown: &[u8]) -> Answer {
+    Ok(String::from_utf8_lossy(alloc, shown)?)
+}
+
+/// The number of a refusal.
+pub fn refusal(alloc: Global, refusal: Refusal) -> Answer {
+    Ok(refusal.number().to_string(alloc)?)
+}
+
+/// The number of a refusal; wanting memory is no answer.
+pub fn refused(alloc: Global, error: RequestError) -> Answer {
+    match error {
+        RequestError::Refused(why) => refusal(alloc, why),
+        RequestError::OutOfMemory => Err(Fault::Memory),
+    }
+}

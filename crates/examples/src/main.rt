@@ -1,0 +1,97 @@
+//! Runs stored examples and compares what they give with what is expected.
+#![tactic(auto)]
+
+mod answer;
+mod checksums;
+mod documents;
+mod entries;
+mod escapes;
+mod names;
+mod operations;
+mod pages;
+mod parts;
+mod plain;
+mod requests;
+mod responses;
+mod retried;
+mod scripts;
+mod shown;
+mod table;
+mod timed;
+mod words;
+
+use std::process::ExitCode;
+use std::rt::Runtime;
+use std::{env, io};
+
+const USAGE: &str = "usage: examples WORD..
+
+  tables NAME..     compares each row of tables/NAME.txt: a call, its input and what it is to give
+  scripts NAME..    compares the answers to the events of scripts/NAME.in with scripts/NAME.out
+  retried           answers the script of standard input, asking an event that found no memory once more
+  help              prints this
+  timed FILE COUNT  alone: applies the script of standard input to a new host in FILE, and times its last COUNT events
+
+Tables and scripts lie below the folder in which it runs.
+";
+
+/// What the names among the words are names of.
+#[derive(Clone, Copy)]
+enum Kind {
+    Table,
+    Script,
+}
+
+fn check(rt: &(impl Runtime + AllocGlobal), kind: Kind, name: &str) -> io::Result<bool> {
+    match kind {
+        Kind::Table => table::check_table(rt, name),
+        Kind::Script => scripts::check_script(rt, name),
+    }
+}
+
+/// Does what the words say, one after another, and tells whether all was as expected.
+fn run(rt: &(impl Runtime + AllocGlobal), words: &[String]) -> io::Result<bool> {
+    let mut kind = Kind::Table;
+    let mut is_well = true;
+    for word in words {
+        match word.as_str() {
+            "tables" => kind = Kind::Table,
+            "scripts" => kind = Kind::Script,
+            "help" => print!(rt; "{USAGE}")?,
+            "retried" => is_well = retried::retry(rt)? && is_well,
+            name => is_well = check(rt, kind, name)? && is_well,
+        }
+    }
+    Ok(is_well)
+}
+
+/// The file and the number of events that are timed alone, if the words are these.
+fn timed_words(words: &[String]) -> Option<(&str, usize)> {
+    match words {
+        [first, path, count] if first.as_str() == "timed" => {
+            Some((path.as_str(), count.as_str().parse::<usize>().ok()?))
+        }
+        _ => None,
+    }
+}
+
+fn words_of(rt: &(impl Runtime + AllocGlobal)) -> io::Result<Vec<String>> {
+    let mut words = Vec::new(rt.alloc());
+    for word in env::args(rt)?.skip(1) {
+        words.push(word)?;
+    }
+    Ok(words)
+}
+
+fn main(rt: HostRuntime) -> io::Result<ExitCode> {
+    let words = words_of(&rt)?;
+    if words.is_empty() {
+        print!(rt; "{USAGE}")?;
+        return Ok(ExitCode::from(2));
+    }
+    let is_well = match timed_words(words.as_slice()) {
+        Some((path, count)) => timed::time(&rt, path, count)?,
+        None => run(&rt, words.as_slice())?,
+    };
+    Ok(ExitCode::from(u8::from(!is_well)))
+}

@@ -1,0 +1,67 @@
+//! What requests ask for.
+
+use crate::answer::{Answer, Fault, refused, text_or_none};
+use crate::entries;
+use crate::shown::operation_text;
+use bh_http::read::read_request;
+use bh_http::request::Request;
+use bh_operation::allow::allow_of;
+use bh_operation::operation::operation_of;
+use bh_types::error::RequestError;
+use bh_types::limits::Limits;
+use bh_types::names::TenantName;
+use std::alloc::Global;
+
+pub fn answer(alloc: Global, call: &str, input: &str) -> Answer {
+    match call {
+        "asks" => asks(alloc, input),
+        "allow" => allow(alloc, input),
+        _ => entries::answer(alloc, call, input),
+    }
+}
+
+/// The methods of a target.
+fn allow(alloc: Global, input: &str) -> Answer {
+    let allow = allow_of(alloc, input.as_bytes())?;
+    text_or_none(alloc, allow.map(|allow| allow.as_str()))
+}
+
+/// The request of a method, a target and header fields, written one after another with ` | ` between them.
+fn request_of(alloc: Global, text: &str) -> Result<Request, RequestError> {
+    let (line, fields) = text.split_once(" | ").unwrap_or((text, "a: b"));
+    let mut head = format!(in alloc; "{line} HTTP/1.1\nhost: h\ncontent-length: 0\n")?;
+    for field in fields.split(" | ") {
+        head.push_str(field)?;
+        head.push_str("\n")?;
+    }
+    head.push_str("\n")?;
+    read_request(alloc, head.as_bytes(), &Limits::default())
+}
+
+/// What a request of the tenant green asks for, or the number of its refusal.
+fn asks(alloc: Global, input: &str) -> Answer {
+    match request_of(alloc, input) {
+        Ok(request) => asked(alloc, &request),
+        Err(error) => refused(alloc, error),
+    }
+}
+
+/// The same, of the request GET /plans/x with these bytes as its target: no such target comes out of the bytes of a
+/// request.
+pub fn asks_of_target(alloc: Global, target: &[u8]) -> Answer {
+    match request_of(alloc, "GET /plans/x") {
+        Ok(mut request) => {
+            request.target = Vec::from_slice(alloc, target)?;
+            asked(alloc, &request)
+        }
+        Err(error) => refused(alloc, error),
+    }
+}
+
+fn asked(alloc: Global, request: &Request) -> Answer {
+    let green = TenantName::read(alloc, "green")?.ok_or(Fault::Form)?;
+    match operation_of(alloc, request, &green) {
+        Ok(operation) => Ok(operation_text(alloc, &operation)?),
+        Err(error) => refused(alloc, error),
+    }
+}

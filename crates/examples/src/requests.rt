@@ -1,0 +1,136 @@
+//! Requests as they are read from bytes, and lines of scripts.
+
+use crate::answer::{Answer, Fault, bytes, refused, text};
+use crate::operations::asks_of_target;
+use bh_event::event::{Command, Event};
+use bh_event::line::read_line;
+use bh_http::credentials::{credentials_of, owner_of};
+use bh_http::encode::response_bytes;
+use bh_http::read::read_request;
+use bh_http::request::Request;
+use bh_http::response::Response;
+use bh_types::error::RequestError;
+use bh_types::limits::Limits;
+use bh_types::refusal::Refusal;
+use http::StatusCode;
+use std::alloc::{AllocError, Global};
+
+/// The calls that take bytes; no answer is one of a call that takes text.
+pub fn answer(alloc: Global, call: &str, input: &[u8]) -> Answer {
+    match call {
+        "request" => request(alloc, input),
+        "request-refusal" => request_refusal(alloc, input),
+        "credentials" => credentials(alloc, input),
+        "beginnings" => beginnings(alloc, input),
+        "answer" => answered(alloc, input),
+        "line" => line(alloc, input),
+        "asks-of-target" => asks_of_target(alloc, input),
+        _ => Err(Fault::Form),
+    }
+}
+
+fn read(alloc: Global, input: &[u8]) -> Result<Request, RequestError> {
+    read_request(alloc, input, &Limits::default())
+}
+
+/// A request's refusal, if it is refused.
+fn refusal_of(alloc: Global, input: &[u8]) -> Result<Option<Refusal>, AllocError> {
+    match read(alloc, input) {
+        Ok(_) => Ok(None),
+        Err(RequestError::Refused(refusal)) => Ok(Some(refusal)),
+        Err(RequestError::OutOfMemory) => Err(AllocError),
+    }
+}
+
+/// The method, the target, the number of header fields and the body.
+fn request(alloc: Global, input: &[u8]) -> Answer {
+    match read(alloc, input) {
+        Ok(request) => request_text(alloc, &request),
+        Err(error) => refused(alloc, error),
+    }
+}
+
+fn request_text(alloc: Global, request: &Request) -> Answer {
+    let method = request.method.as_str();
+    let target = String::from_utf8_lossy(alloc, request.target.as_slice())?;
+    let body = String::from_utf8_lossy(alloc, request.body.as_slice())?;
+    let fields = request.fields.len();
+    Ok(format!(in alloc; "{method} {target}, {fields} fields, {body}")?)
+}
+
+fn request_refusal(alloc: Global, input: &[u8]) -> Answer {
+    match read(alloc, input) {
+        Ok(_) => text(alloc, "none"),
+        Err(error) => refused(alloc, error),
+    }
+}
+
+/// The tenant whose request it is, the access key's id and the secret.
+fn credentials(alloc: Global, input: &[u8]) -> Answer {
+    match read(alloc, input) {
+        Ok(request) => credentials_text(alloc, &request),
+        Err(error) => refused(alloc, error),
+    }
+}
+
+fn credentials_text(alloc: Global, request: &Request) -> Answer {
+    let Some(owner) = owner_of(alloc, request)? else {
+        return text(alloc, "nobody");
+    };
+    let Ok(found) = credentials_of(request) else {
+        return text(alloc, "no credentials");
+    };
+    let id = String::from_utf8_lossy(alloc, found.id)?;
+    let secret = String::from_utf8_lossy(alloc, found.secret)?;
+    let owner = owner.as_str();
+    Ok(format!(in alloc; "{owner} {id} {secret}")?)
+}
+
+/// The refusals of the first 0, 1, 2, .. bytes of a request, one after another.
+fn beginnings(alloc: Global, input: &[u8]) -> Answer {
+    let mut shown = String::new(alloc);
+    for end in 0..input.len() {
+        match refusal_of(alloc, &input[..end])? {
+            Some(refusal) => shown.push_str(refusal.code())?,
+            None => shown.push_str("none")?,
+        }
+        shown.push_str(" ")?;
+    }
+    Ok(shown)
+}
+
+/// A request is answered with 200, or with its refusal.
+fn answered(alloc: Global, input: &[u8]) -> Answer {
+    let response = match refusal_of(alloc, input)? {
+        Some(refusal) => Response::bare_refusal(alloc, refusal),
+        None => Response::empty(alloc, StatusCode::OK),
+    };
+    bytes(alloc, response_bytes(alloc, &response)?.as_slice())
+}
+
+/// The event that a line of a script tells.
+fn line(alloc: Global, input: &[u8]) -> Answer {
+    match read_line(alloc, input)? {
+        Some(Event::Http { reading, bytes }) => http_text(alloc, reading, bytes.as_slice()),
+        Some(Event::Operator { reading, command }) => command_text(alloc, reading, &command),
+        None => text(alloc, "none"),
+    }
+}
+
+fn http_text(alloc: Global, reading: u64, bytes: &[u8]) -> Answer {
+    let request = String::from_utf8_lossy(alloc, bytes)?;
+    Ok(format!(in alloc; "at {reading}: {request}")?)
+}
+
+fn command_text(alloc: Global, reading: u64, command: &Command) -> Answer {
+    let (what, tenant, name, secret) = match command {
+        Command::TenantAdd { tenant, .. } => ("tenant-add", tenant.as_str(), "", ""),
+        Command::KeyAdd {
+            tenant,
+            name,
+            secret,
+        } => ("key-add", tenant.as_str(), name.as_str(), secret.as_str()),
+        Command::KeyRemove { tenant, name } => ("key-remove", tenant.as_str(), name.as_str(), ""),
+    };
+    Ok(format!(in alloc; "at {reading}: {what} {tenant} {name} {secret}")?)
+}

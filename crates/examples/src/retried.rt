@@ -1,0 +1,70 @@
+//! Applies a script's events one at a time, and an event that found no memory once more.
+//!
+//! Run with any one allocation refused, it prints what it prints with ample memory, or ends with status 1 where
+//! the refused one lies outside an event: so an event that was answered ServiceUnavailable or Unavailable had
+//! changed nothing, and the same event then has its ample answer.
+
+ghost use Rattle.bh_storage.specs.Calls.{IsAtRest};
+
+use bh_create::create::create;
+use bh_event::event::Event;
+use bh_host::apply::{Done, apply};
+use bh_objects::storage::HostStorage;
+use bh_script::digester::Sha256Digester;
+use bh_script::input::{read_all, read_script};
+use bh_storage::storage::Storage;
+use bh_types::limits::{Limits, Tuning};
+use sqlite::Connection;
+use std::alloc::Global;
+use std::io;
+use std::io::Write;
+
+/// The answer to an event, asked once more where it has no stamp.
+fn answer<H: Storage>(alloc: Global, limits: &Limits, host: &mut H, event: &Event) -> Done
+    requires { H.IsClean host.old → IsAtRest (H.seen host.old) }
+    ensures { H.IsClean host.new → IsAtRest (H.seen host.new) }
+{
+    let done = apply(alloc, limits, host, event);
+    match done.stamp {
+        Some(_) => done,
+        None => apply(alloc, limits, host, event),
+    }
+}
+
+/// What the events are answered, a line's end after each.
+fn answers<H: Storage>(
+    alloc: Global,
+    limits: &Limits,
+    host: &mut H,
+    events: &[Event],
+) -> io::Result<Vec<u8>>
+    requires { H.IsClean host.old → IsAtRest (H.seen host.old) }
+{
+    let mut text = Vec::new(alloc);
+    for event in events {
+        let done = answer(alloc, limits, host, event);
+        text.extend_from_slice(done.reply.bytes())?;
+        text.extend_from_slice(b"\n")?;
+    }
+    Ok(text)
+}
+
+/// Answers the script of standard input on standard output, unless it is too long or no host can be made.
+pub fn retry(rt: &(impl Input + Print + AllocGlobal)) -> io::Result<bool> {
+    let alloc = rt.alloc();
+    let Some(bytes) = read_all(alloc, &mut rt.reader())? else {
+        return Ok(false);
+    };
+    let script = read_script(alloc, bytes.as_slice())?;
+    let connection = Connection::open_in_memory(alloc)?;
+    let limits = Limits::default();
+    match create(connection, Sha256Digester, limits, Tuning::default()) {
+        Ok(host) => {
+            let mut storage = HostStorage { host };
+            let text = answers(alloc, &limits, &mut storage, script.events.as_slice())?;
+            io::writer(rt).write_all(text.as_slice())?;
+            Ok(true)
+        }
+        Err(_) => Ok(false),
+    }
+}

@@ -1,0 +1,92 @@
+//! Tables of examples: a line is a call, its input, ` => ` and what it is to give, the two with escapes. An empty line
+//! and one that begins with `#` are no rows.
+
+use crate::answer::{Answer, Fault};
+use crate::documents::read_answer;
+use crate::escapes::unescaped;
+use crate::{names, requests};
+use std::alloc::Global;
+use std::rt::Files;
+use std::{fs, io};
+
+#[derive(Clone, Copy)]
+struct Row<'a> {
+    call: &'a str,
+    input: &'a str,
+    expected: &'a str,
+}
+
+fn row_of(line: &str) -> Row<'_> {
+    let (asked, expected) = match line.split_once(" => ") {
+        Some(parts) => parts,
+        None => (line.strip_suffix(" =>").unwrap_or(line), ""),
+    };
+    let (call, input) = asked.split_once(' ').unwrap_or((asked, ""));
+    Row {
+        call,
+        input,
+        expected,
+    }
+}
+
+fn text_answer(alloc: Global, call: &str, input: &[u8]) -> Answer {
+    match str::from_utf8(input) {
+        Ok(text) => names::answer(alloc, call, text),
+        Err(_) => Err(Fault::Form),
+    }
+}
+
+/// What a row's call gives: the calls that take bytes first, then those that take text.
+fn found(alloc: Global, row: Row<'_>) -> Answer {
+    let input = unescaped(alloc, row.input)?;
+    match requests::answer(alloc, row.call, input.as_slice()) {
+        Err(Fault::Form) => {}
+        answer => return answer,
+    }
+    match read_answer(alloc, row.call, input.as_slice()) {
+        Err(Fault::Form) => text_answer(alloc, row.call, input.as_slice()),
+        answer => answer,
+    }
+}
+
+fn is_expected(alloc: Global, row: Row<'_>, found: &str) -> Result<bool, Fault> {
+    let expected = unescaped(alloc, row.expected)?;
+    Ok(expected.as_slice() == found.as_bytes())
+}
+
+/// Whether a row's call gives what is expected. Where not, the row is printed with what it gives.
+fn check_row(rt: &(impl Print + AllocGlobal), row: Row<'_>) -> io::Result<bool> {
+    let alloc = rt.alloc();
+    let found = found(alloc, row);
+    let is_well = match &found {
+        Ok(text) => is_expected(alloc, row, text.as_str()) == Ok(true),
+        Err(_) => false,
+    };
+    if !is_well {
+        println!(rt; "{} {}\n  expected: {}\n  found:    {found:?}", row.call, row.input, row.expected)?;
+    }
+    Ok(is_well)
+}
+
+/// Checks each row of a table, and prints how many there are.
+pub fn check_table(rt: &(impl Files + Print + AllocGlobal), name: &str) -> io::Result<bool> {
+    let alloc = rt.alloc();
+    let table = fs::read_to_string(rt, format!(in alloc; "tables/{name}.txt")?)?;
+    let mut rows = 0u64;
+    let mut others = 0u64;
+    for line in table.lines() {
+        if line.is_empty() || line.starts_with('#') {
+            continue;
+        }
+        rows = rows.saturating_add(1);
+        if !check_row(rt, row_of(line))? {
+            others = others.saturating_add(1);
+        }
+    }
+    if others == 0 {
+        println!(rt; "{name}: {rows} rows as expected")?;
+    } else {
+        println!(rt; "{name}: {others} of {rows} rows otherwise")?;
+    }
+    Ok(others == 0)
+}

@@ -1,0 +1,116 @@
+//! Applies a script to a new host in a file: what each event is answered, and how long its last events took.
+
+ghost use Rattle.bh_storage.specs.Calls.{IsAtRest};
+
+use bh_create::create::create;
+use bh_event::event::Event;
+use bh_host::apply::Done;
+use bh_host::run::run;
+use bh_objects::storage::HostStorage;
+use bh_script::digester::Sha256Digester;
+use bh_script::input::{read_all, read_script};
+use bh_storage::storage::Storage;
+use bh_types::limits::{Limits, Tuning};
+use sqlite::{Alter, Connection};
+use std::time::{Clock, Instant};
+use std::io;
+use std::io::Write;
+
+/// What events were answered, and the time that they took together.
+#[derive(Drop)]
+struct Timed {
+    dones: Vec<Done>,
+    microseconds: u128,
+}
+
+/// The events before those that are timed alone, and those.
+#[derive(Drop)]
+struct Served {
+    first: Timed,
+    last: Timed,
+}
+
+fn apply_timed<H: Storage>(
+    rt: &(impl Clock + AllocGlobal),
+    limits: &Limits,
+    host: &mut H,
+    events: &[Event],
+) -> io::Result<Timed>
+    requires { H.IsClean host.old → IsAtRest (H.seen host.old) }
+    ensures { H.IsClean host.new → IsAtRest (H.seen host.new) }
+{
+    let start = Instant::now(rt)?;
+    let dones = run(rt.alloc(), limits, host, events)?;
+    let microseconds = start.elapsed(rt)?.as_micros();
+    Ok(Timed {
+        dones,
+        microseconds,
+    })
+}
+
+/// Applies events to a new host in an empty database, or answers none where no host was made.
+fn serve<S: Alter + Drop>(
+    rt: &(impl Clock + AllocGlobal),
+    connection: Connection<S>,
+    first: &[Event],
+    last: &[Event],
+) -> io::Result<Option<Served>> {
+    let limits = Limits::default();
+    let Ok(host) = create(connection, Sha256Digester, limits, Tuning::default()) else {
+        return Ok(None);
+    };
+    let mut storage = HostStorage { host };
+    let first = apply_timed(rt, &limits, &mut storage, first)?;
+    let last = apply_timed(rt, &limits, &mut storage, last)?;
+    Ok(Some(Served { first, last }))
+}
+
+/// Writes the replies, a line's end after each.
+fn write_replies(rt: &(impl Print + AllocGlobal), dones: &[Done]) -> io::Result<()> {
+    let mut text = Vec::new(rt.alloc());
+    for done in dones {
+        text.extend_from_slice(done.reply.bytes())?;
+        text.extend_from_slice(b"\n")?;
+    }
+    io::writer(rt).write_all(text.as_slice())
+}
+
+fn write_time(rt: &(impl Print + AllocGlobal), timed: &Timed) -> io::Result<()> {
+    println!(rt;
+        "{} events: {} microseconds",
+        timed.dones.len(),
+        timed.microseconds
+    )
+}
+
+fn tell(rt: &(impl Print + AllocGlobal), served: &Served) -> io::Result<()> {
+    write_replies(rt, served.first.dones.as_slice())?;
+    write_replies(rt, served.last.dones.as_slice())?;
+    write_time(rt, &served.first)?;
+    write_time(rt, &served.last)
+}
+
+/// Applies the script of standard input, whose last events are timed alone, to a new host in a file.
+pub fn time(
+    rt: &HostRuntime,
+    path: &str,
+    count: usize,
+) -> io::Result<bool> {
+    let alloc = rt.alloc();
+    let Some(bytes) = read_all(alloc, &mut rt.reader())? else {
+        return Ok(false);
+    };
+    let script = read_script(alloc, bytes.as_slice())?;
+    let events = script.events.as_slice();
+    let (first, last) = events.split_at(events.len().saturating_sub(count));
+    let Ok(connection) = Connection::open(rt, path) else {
+        return Ok(false);
+    };
+    match serve(rt, connection, first, last)? {
+        Some(served) => {
+            tell(rt, &served)?;
+            Ok(true)
+        }
+        None => Ok(false),
+    }
+}
