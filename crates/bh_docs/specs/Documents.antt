@@ -79,6 +79,10 @@ versioning_data Unversioned = object no_members
 versioning_data Enabled = object (member (codes "Status") (string (codes "Enabled")) no_members)
 versioning_data Suspended = object (member (codes "Status") (string (codes "Suspended")) no_members)
 
+-- {"Status":status}
+abbrev pub status_data : List ℕ → Data
+status_data status = object (member (codes "Status") (string status) no_members)
+
 abbrev pub versioning_text : BucketState → List ℕ
 versioning_text state = compact_text (versioning_data state)
 
