@@ -7,7 +7,7 @@ ghost use Rattle.serde_json.specs.View.{view};
 ghost use Rattle.bh_docs.specs.Documents as spec;
 ghost use Rattle.bh_docs.specs.Requests.{versioning_of, lifecycle_of};
 
-use crate::document::{Entry, Shown, object_of, print, with_entries};
+use crate::document::{Entry, Shown, object_of, print, with_entries, with_member};
 use bh_types::id::UploadId;
 use bh_types::moment::Moment;
 use bh_types::plain::BucketState;
@@ -158,12 +158,25 @@ pub fn lifecycle_document(alloc: Global, days: u16) -> Result<String, AllocError
 fn lifecycle_value(alloc: Global, days: u16) -> Result<Value, AllocError>
     ensures { IfOk result (λ value. view value ≡ spec.lifecycle_data days) }
 {
-    json!(in alloc; {
-        "Rules": [{
-            "AbortIncompleteMultipartUpload": {"DaysAfterInitiation": days},
-            "Status": "Enabled",
-        }],
-    })
+    let rule = rule_value(alloc, days)?;
+    json!(in alloc; {"Rules": [rule]})
+}
+
+fn rule_value(alloc: Global, days: u16) -> Result<Value, AllocError>
+    ensures { IfOk result (λ value. view value ≡ spec.rule_data days) }
+{
+    let rule = status_value(alloc, "Enabled")?;
+    let days = days_value(alloc, days)?;
+    with_member(alloc, rule, "AbortIncompleteMultipartUpload", Some(days))
+}
+
+fn days_value(alloc: Global, days: u16) -> Result<Value, AllocError>
+    ensures { IfOk result (λ value. view value ≡ spec.days_data days) }
+{
+    object_of(
+        alloc,
+        &[("DaysAfterInitiation", Shown::Count(u64::from(days)))],
+    )
 }
 
 /// The answer to CreateMultipartUpload: `{"Bucket":bucket,"Key":key,"UploadId":upload}`.
