@@ -79,8 +79,22 @@ versioning_data Unversioned = object no_members
 versioning_data Enabled = object (member (codes "Status") (string (codes "Enabled")) no_members)
 versioning_data Suspended = object (member (codes "Status") (string (codes "Suspended")) no_members)
 
+-- {"Status":status}
+abbrev pub status_data : List ℕ → Data
+status_data status = object (member (codes "Status") (string status) no_members)
+
 abbrev pub versioning_text : BucketState → List ℕ
 versioning_text state = compact_text (versioning_data state)
+
+-- {"DaysAfterInitiation":days}
+abbrev pub days_data : ℕ → Data
+days_data days = object (member (codes "DaysAfterInitiation") (natural days) no_members)
+
+-- {"AbortIncompleteMultipartUpload":{"DaysAfterInitiation":days},"Status":"Enabled"}
+abbrev pub rule_data : ℕ → Data
+rule_data days =
+    object (member (codes "AbortIncompleteMultipartUpload") (days_data days)
+    (member (codes "Status") (string (codes "Enabled")) no_members))
 
 -- {"Rules":[{"AbortIncompleteMultipartUpload":{"DaysAfterInitiation":days},"Status":"Enabled"}]}
 abbrev pub lifecycle_data : ℕ → Data

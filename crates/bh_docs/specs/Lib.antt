@@ -1,4 +1,5 @@
 pub mod Documents
+pub mod Members
 pub mod Pages
 pub mod Requests
 pub mod Shapes

@@ -45,6 +45,15 @@ objects_with p token =
     (member_if (codes "NextContinuationToken") token
     (member (codes "Prefix") (string (string_bytes p.prefix)) no_members))))))))
 
+-- a page with neither lists nor token
+abbrev pub objects_plain : ObjectsPage → Data
+objects_plain p =
+    object (member (codes "IsTruncated") (boolean (is_some p.next))
+    (member (codes "KeyCount") (natural (length p.prefixes.items + length p.objects.items))
+    (member (codes "MaxKeys") (natural p.max)
+    (member (codes "Name") (string (string_bytes p.bucket))
+    (member (codes "Prefix") (string (string_bytes p.prefix)) no_members)))))
+
 -- the token is that of the last name shown
 abbrev pub token_data : Option (String Global) → Option Data
 token_data next = option_map (λ name. string (token_text (string_bytes name))) next
@@ -88,6 +97,14 @@ versions_with p name id =
     (member (codes "Prefix") (string (string_bytes p.prefix))
     (member (codes "Versions") (array_of version_data p.versions.items) no_members))))))))
 
+-- a page with neither lists nor markers
+abbrev pub versions_plain : VersionsPage → Data
+versions_plain p =
+    object (member (codes "IsTruncated") (boolean (is_some p.next))
+    (member (codes "MaxKeys") (natural p.max)
+    (member (codes "Name") (string (string_bytes p.bucket))
+    (member (codes "Prefix") (string (string_bytes p.prefix)) no_members))))
+
 abbrev pub version_name_data : Option VersionsNext → Option Data
 version_name_data next = option_map (λ n. string (string_bytes n.name)) next
 
@@ -119,6 +136,14 @@ uploads_with p name id =
     (member (codes "Prefix") (string (string_bytes p.prefix))
     (member (codes "Uploads") (array_of upload_data p.uploads.items) no_members))))))))
 
+-- a page with neither lists nor markers
+abbrev pub uploads_plain : UploadsPage → Data
+uploads_plain p =
+    object (member (codes "Bucket") (string (string_bytes p.bucket))
+    (member (codes "IsTruncated") (boolean (is_some p.next))
+    (member (codes "MaxUploads") (natural p.max)
+    (member (codes "Prefix") (string (string_bytes p.prefix)) no_members))))
+
 abbrev pub upload_name_data : Option UploadsNext → Option Data
 upload_name_data next = option_map (λ n. string (string_bytes n.name)) next
 
@@ -149,6 +174,15 @@ parts_with p number =
     (member_if (codes "NextPartNumberMarker") number
     (member (codes "Parts") (array_of part_data p.parts.items)
     (member (codes "UploadId") (string (upload_text p.upload)) no_members)))))))
+
+-- a page with neither list nor marker
+abbrev pub parts_plain : PartsPage → Data
+parts_plain p =
+    object (member (codes "Bucket") (string (string_bytes p.bucket))
+    (member (codes "IsTruncated") (boolean (is_some p.next))
+    (member (codes "Key") (string (string_bytes p.key))
+    (member (codes "MaxParts") (natural p.max)
+    (member (codes "UploadId") (string (upload_text p.upload)) no_members)))))
 
 abbrev pub parts_data : PartsPage → Data
 parts_data p = parts_with p (option_map natural p.next)

@@ -1,14 +1,18 @@
 //! What the documents are built of.
 
-ghost use Rattle.std.specs.Prelude.{◌≡◌, ◌≤◌, false, map, option_map, IfOk};
+ghost use Rattle.std.specs.Prelude.{◌≡◌, ◌≤◌, false, map, option_map, Some, IfOk};
 ghost use Rattle.std.specs.String.{string_bytes};
 ghost use Rattle.serde_json.specs.Data.{Data, put, depth};
 ghost use Rattle.serde_json.specs.Read.{max_depth};
 ghost use Rattle.serde_json.specs.View.{view, members_view};
 ghost use Rattle.serde_json.specs.Written.{compact_text, has_float};
 ghost use Rattle.bh_docs.specs.Documents as spec;
+ghost use Rattle.bh_docs.specs.Members.{shown_data, object_of as object_of_members};
 ghost use Rattle.bh_docs.specs.Shapes.{data_of};
 
+use crate::token::token_text;
+use bh_types::id::{UploadId, VersionId};
+use bh_types::moment::{Moment, moment_text};
 use serde_json::{Map, Value};
 use std::alloc::{AllocError, Global};
 
@@ -19,13 +23,6 @@ pub trait Entry {
 
     fn value(&self, alloc: Global) -> Result<Value, AllocError>
         ensures { IfOk result (λ value. view value ≡ shown self.now) };
-}
-
-/// The entries as an array.
-pub fn array_value<E: Entry>(alloc: Global, entries: &[E]) -> Result<Value, AllocError>
-    ensures { IfOk result (λ value. view value ≡ spec.array_of E.shown entries.now) }
-{
-    Ok(Value::Array(values_of(alloc, entries)?))
 }
 
 fn values_of<E: Entry>(alloc: Global, entries: &[E]) -> Result<Vec<Value>, AllocError>
@@ -46,6 +43,75 @@ pub fn print(alloc: Global, document: &Value) -> Result<String, AllocError>
         → data_of (string_bytes text) ≡ Some (view document.now)) }
 {
     document.to_string(alloc)
+}
+
+/// What a member shows.
+#[derive(Clone, Copy)]
+pub enum Shown<'a> {
+    /// Nothing: the member is left out.
+    Nothing,
+    Text(&'a str),
+    Count(u64),
+    Flag(bool),
+    At(Moment),
+    Version(VersionId),
+    Upload(UploadId),
+    /// The continuation token of a name.
+    Token(&'a str),
+}
+
+fn shown_value(alloc: Global, shown: &Shown<'_>) -> Result<Option<Value>, AllocError>
+    ensures { IfOk result (λ value. option_map (λ v. view v) value ≡ shown_data shown.now) }
+{
+    match shown {
+        Shown::Nothing => Ok(None),
+        Shown::Text(text) => Ok(Some(Value::try_from_str(alloc, text)?)),
+        Shown::Count(count) => Ok(Some(Value::from(*count))),
+        Shown::Flag(flag) => Ok(Some(Value::from(*flag))),
+        Shown::At(moment) => Ok(Some(Value::from(moment_text(alloc, *moment)?))),
+        Shown::Version(id) => Ok(Some(Value::from(id.print(alloc)?))),
+        Shown::Upload(id) => Ok(Some(Value::from(id.print(alloc)?))),
+        Shown::Token(name) => Ok(Some(Value::from(token_text(alloc, name.as_bytes())?))),
+    }
+}
+
+/// An object with these members, each with its name.
+pub fn object_of(alloc: Global, members: &[(&str, Shown<'_>)]) -> Result<Value, AllocError>
+    ensures { IfOk result (λ value. view value ≡ object_of_members members.now) }
+{
+    let mut document = Value::Object(Map::new(alloc));
+    for member in members {
+        document = with_shown(alloc, document, member.0, &member.1)?;
+    }
+    Ok(document)
+}
+
+/// An object with one more member, if there is something to show.
+pub fn with_shown(
+    alloc: Global,
+    document: Value,
+    name: &str,
+    shown: &Shown<'_>,
+) -> Result<Value, AllocError>
+    ensures { IfOk result (λ whole. view whole
+        ≡ spec.with_member name.now (shown_data shown.now) (view document)) }
+{
+    let value = shown_value(alloc, shown)?;
+    with_member(alloc, document, name, value)
+}
+
+/// An object with one more member, the entries as an array.
+pub fn with_entries<E: Entry>(
+    alloc: Global,
+    document: Value,
+    name: &str,
+    entries: &[E],
+) -> Result<Value, AllocError>
+    ensures { IfOk result (λ whole. view whole
+        ≡ spec.with_member name.now (Some (spec.array_of E.shown entries.now)) (view document)) }
+{
+    let entries = Value::Array(values_of(alloc, entries)?);
+    with_member(alloc, document, name, Some(entries))
 }
 
 /// An object with one more member, if there is a value for it.

@@ -3,13 +3,13 @@
 ghost use Rattle.std.specs.Prelude.{◌≡◌, None, option_map, IfOk};
 ghost use Rattle.std.specs.String.{string_bytes};
 ghost use Rattle.serde_json.specs.View.{view};
+ghost use Rattle.bh_docs.specs.Members.{shown_data};
 ghost use Rattle.bh_docs.specs.Pages as spec;
 
-use crate::document::{Entry, array_value, print, with_member};
+use crate::document::{Entry, Shown, object_of, print, with_entries, with_shown};
 use crate::prefix::CommonPrefix;
-use crate::token::token_text;
-use bh_types::moment::{Moment, moment_text};
-use serde_json::{Value, json};
+use bh_types::moment::Moment;
+use serde_json::Value;
 use std::alloc::{AllocError, Global};
 
 /// An object, as ListObjectsV2 shows it.
@@ -28,13 +28,15 @@ impl Entry for ObjectEntry {
     ghost shown = { object_data };
 
     fn value(&self, alloc: Global) -> Result<Value, AllocError> {
-        let modified = moment_text(alloc, self.modified)?;
-        json!(in alloc; {
-            "ChecksumSHA256": &self.checksum,
-            "Key": &self.key,
-            "LastModified": modified,
-            "Size": self.size,
-        })
+        object_of(
+            alloc,
+            &[
+                ("ChecksumSHA256", Shown::Text(self.checksum.as_str())),
+                ("Key", Shown::Text(self.key.as_str())),
+                ("LastModified", Shown::At(self.modified)),
+                ("Size", Shown::Count(self.size)),
+            ],
+        )
     }
 }
 
@@ -64,32 +66,43 @@ fn objects_value(alloc: Global, page: &ObjectsPage) -> Result<Value, AllocError>
     ensures { IfOk result (λ value. view value ≡ spec.objects_data page.now) }
 {
     let document = objects_without_token(alloc, page)?;
-    let token = token_value(alloc, &page.next)?;
-    with_member(alloc, document, "NextContinuationToken", token)
+    with_shown(
+        alloc,
+        document,
+        "NextContinuationToken",
+        &next_token(&page.next),
+    )
 }
 
 fn objects_without_token(alloc: Global, page: &ObjectsPage) -> Result<Value, AllocError>
     ensures { IfOk result (λ value. view value ≡ spec.objects_with page.now None) }
 {
-    let prefixes = array_value(alloc, page.prefixes.as_slice())?;
-    let objects = array_value(alloc, page.objects.as_slice())?;
-    let count = page.prefixes.len() + page.objects.len();
-    json!(in alloc; {
-        "CommonPrefixes": prefixes,
-        "Contents": objects,
-        "IsTruncated": page.next.is_some(),
-        "KeyCount": count,
-        "MaxKeys": page.max,
-        "Name": &page.bucket,
-        "Prefix": &page.prefix,
-    })
+    let document = objects_without_lists(alloc, page)?;
+    let document = with_entries(alloc, document, "CommonPrefixes", page.prefixes.as_slice())?;
+    with_entries(alloc, document, "Contents", page.objects.as_slice())
 }
 
-fn token_value(alloc: Global, next: &Option<String>) -> Result<Option<Value>, AllocError>
-    ensures { IfOk result (λ value. option_map (λ v. view v) value ≡ spec.token_data next.now) }
+fn objects_without_lists(alloc: Global, page: &ObjectsPage) -> Result<Value, AllocError>
+    ensures { IfOk result (λ value. view value ≡ spec.objects_plain page.now) }
+{
+    let count = page.prefixes.len() + page.objects.len();
+    object_of(
+        alloc,
+        &[
+            ("IsTruncated", Shown::Flag(page.next.is_some())),
+            ("KeyCount", Shown::Count(count as u64)),
+            ("MaxKeys", Shown::Count(u64::from(page.max))),
+            ("Name", Shown::Text(page.bucket.as_str())),
+            ("Prefix", Shown::Text(page.prefix.as_str())),
+        ],
+    )
+}
+
+fn next_token(next: &Option<String>) -> Shown<'_>
+    ensures { shown_data result ≡ spec.token_data next.now }
 {
     match next {
-        Some(name) => Ok(Some(Value::from(token_text(alloc, name.as_bytes())?))),
-        None => Ok(None),
+        Some(name) => Shown::Token(name.as_str()),
+        None => Shown::Nothing,
     }
 }

@@ -1,14 +1,16 @@
 //! Pages of ListParts.
 
-ghost use Rattle.std.specs.Prelude.{◌≡◌, None, IfOk};
+ghost use Rattle.std.specs.Prelude.{◌≡◌, None, option_map, IfOk};
 ghost use Rattle.std.specs.String.{string_bytes};
 ghost use Rattle.serde_json.specs.View.{view};
+ghost use Rattle.bh_docs.specs.Documents.{natural};
+ghost use Rattle.bh_docs.specs.Members.{shown_data};
 ghost use Rattle.bh_docs.specs.Pages as spec;
 
-use crate::document::{Entry, array_value, print, with_member};
+use crate::document::{Entry, Shown, object_of, print, with_entries, with_shown};
 use bh_types::id::UploadId;
-use bh_types::moment::{Moment, moment_text};
-use serde_json::{Value, json};
+use bh_types::moment::Moment;
+use serde_json::Value;
 use std::alloc::{AllocError, Global};
 
 /// A part, as ListParts shows it.
@@ -27,13 +29,15 @@ impl Entry for PartEntry {
     ghost shown = { part_data };
 
     fn value(&self, alloc: Global) -> Result<Value, AllocError> {
-        let modified = moment_text(alloc, self.modified)?;
-        json!(in alloc; {
-            "ChecksumSHA256": &self.checksum,
-            "LastModified": modified,
-            "PartNumber": self.number,
-            "Size": self.size,
-        })
+        object_of(
+            alloc,
+            &[
+                ("ChecksumSHA256", Shown::Text(self.checksum.as_str())),
+                ("LastModified", Shown::At(self.modified)),
+                ("PartNumber", Shown::Count(u64::from(self.number))),
+                ("Size", Shown::Count(self.size)),
+            ],
+        )
     }
 }
 
@@ -63,21 +67,41 @@ fn parts_value(alloc: Global, page: &PartsPage) -> Result<Value, AllocError>
     ensures { IfOk result (λ value. view value ≡ spec.parts_data page.now) }
 {
     let document = parts_without_next(alloc, page)?;
-    let number = page.next.map(Value::from);
-    with_member(alloc, document, "NextPartNumberMarker", number)
+    with_shown(
+        alloc,
+        document,
+        "NextPartNumberMarker",
+        &next_number(page.next),
+    )
 }
 
 fn parts_without_next(alloc: Global, page: &PartsPage) -> Result<Value, AllocError>
     ensures { IfOk result (λ value. view value ≡ spec.parts_with page.now None) }
 {
-    let parts = array_value(alloc, page.parts.as_slice())?;
-    let upload = page.upload.print(alloc)?;
-    json!(in alloc; {
-        "Bucket": &page.bucket,
-        "IsTruncated": page.next.is_some(),
-        "Key": &page.key,
-        "MaxParts": page.max,
-        "Parts": parts,
-        "UploadId": upload,
-    })
+    let document = parts_without_list(alloc, page)?;
+    with_entries(alloc, document, "Parts", page.parts.as_slice())
+}
+
+fn parts_without_list(alloc: Global, page: &PartsPage) -> Result<Value, AllocError>
+    ensures { IfOk result (λ value. view value ≡ spec.parts_plain page.now) }
+{
+    object_of(
+        alloc,
+        &[
+            ("Bucket", Shown::Text(page.bucket.as_str())),
+            ("IsTruncated", Shown::Flag(page.next.is_some())),
+            ("Key", Shown::Text(page.key.as_str())),
+            ("MaxParts", Shown::Count(u64::from(page.max))),
+            ("UploadId", Shown::Upload(page.upload)),
+        ],
+    )
+}
+
+fn next_number(next: Option<u32>) -> Shown<'static>
+    ensures { shown_data result ≡ option_map natural next }
+{
+    match next {
+        Some(number) => Shown::Count(u64::from(number)),
+        None => Shown::Nothing,
+    }
 }

@@ -1,7 +1,7 @@
 //! Common prefixes of keys.
 
-use crate::document::Entry;
-use serde_json::{Value, json};
+use crate::document::{Entry, Shown, object_of};
+use serde_json::Value;
 use std::alloc::{AllocError, Global};
 
 /// The keys of a listing that begin alike up to the delimiter, rolled up into one name.
@@ -16,6 +16,6 @@ impl Entry for CommonPrefix {
     ghost shown = { prefix_data };
 
     fn value(&self, alloc: Global) -> Result<Value, AllocError> {
-        json!(in alloc; {"Prefix": &self.prefix})
+        object_of(alloc, &[("Prefix", Shown::Text(self.prefix.as_str()))])
     }
 }

@@ -7,9 +7,9 @@ ghost use Rattle.serde_json.specs.View.{view};
 ghost use Rattle.bh_docs.specs.Documents as spec;
 ghost use Rattle.bh_docs.specs.Requests.{versioning_of, lifecycle_of};
 
-use crate::document::{Entry, array_value, print};
+use crate::document::{Entry, Shown, object_of, print, with_entries, with_member};
 use bh_types::id::UploadId;
-use bh_types::moment::{Moment, moment_text};
+use bh_types::moment::Moment;
 use bh_types::plain::BucketState;
 use serde_json::{Value, json};
 use std::alloc::{AllocError, Global};
@@ -22,10 +22,16 @@ pub fn error_document(alloc: Global, code: &str, resource: &str) -> Result<Strin
     print(alloc, &document)
 }
 
-fn error_value(alloc: Global, code: &str, resource: &str) -> Result<Value, AllocError>
+fn error_value<'a>(alloc: Global, code: &'a str, resource: &'a str) -> Result<Value, AllocError>
     ensures { IfOk result (λ value. view value ≡ spec.error_data code.now resource.now) }
 {
-    json!(in alloc; {"Code": code, "Resource": resource})
+    object_of(
+        alloc,
+        &[
+            ("Code", Shown::Text(code)),
+            ("Resource", Shown::Text(resource)),
+        ],
+    )
 }
 
 /// A bucket, as ListBuckets shows it.
@@ -43,8 +49,13 @@ impl Entry for BucketEntry {
     ghost shown = { bucket_data };
 
     fn value(&self, alloc: Global) -> Result<Value, AllocError> {
-        let created = moment_text(alloc, self.created)?;
-        json!(in alloc; {"CreationDate": created, "Name": &self.name})
+        object_of(
+            alloc,
+            &[
+                ("CreationDate", Shown::At(self.created)),
+                ("Name", Shown::Text(self.name.as_str())),
+            ],
+        )
     }
 }
 
@@ -59,8 +70,8 @@ pub fn buckets_document(alloc: Global, buckets: &[BucketEntry]) -> Result<String
 fn buckets_value(alloc: Global, buckets: &[BucketEntry]) -> Result<Value, AllocError>
     ensures { IfOk result (λ value. view value ≡ spec.buckets_data buckets.now) }
 {
-    let entries = array_value(alloc, buckets)?;
-    json!(in alloc; {"Buckets": entries})
+    let document = object_of(alloc, &[])?;
+    with_entries(alloc, document, "Buckets", buckets)
 }
 
 /// What a tenant stores. Sizes are in bytes.
@@ -92,17 +103,20 @@ pub fn usage_document(alloc: Global, usage: &Usage) -> Result<String, AllocError
 fn usage_value(alloc: Global, usage: &Usage) -> Result<Value, AllocError>
     ensures { IfOk result (λ value. view value ≡ spec.usage_data usage.now) }
 {
-    json!(in alloc; {
-        "Buckets": usage.buckets,
-        "Bytes": usage.bytes,
-        "Markers": usage.markers,
-        "Objects": usage.objects,
-        "PartBytes": usage.part_bytes,
-        "Quota": usage.quota,
-        "Uploads": usage.uploads,
-        "VersionBytes": usage.version_bytes,
-        "Versions": usage.versions,
-    })
+    object_of(
+        alloc,
+        &[
+            ("Buckets", Shown::Count(usage.buckets)),
+            ("Bytes", Shown::Count(usage.bytes)),
+            ("Markers", Shown::Count(usage.markers)),
+            ("Objects", Shown::Count(usage.objects)),
+            ("PartBytes", Shown::Count(usage.part_bytes)),
+            ("Quota", Shown::Count(usage.quota)),
+            ("Uploads", Shown::Count(usage.uploads)),
+            ("VersionBytes", Shown::Count(usage.version_bytes)),
+            ("Versions", Shown::Count(usage.versions)),
+        ],
+    )
 }
 
 /// The answer to GetBucketVersioning: `{}`, `{"Status":"Enabled"}` or `{"Status":"Suspended"}`.
@@ -119,10 +133,16 @@ fn versioning_value(alloc: Global, state: BucketState) -> Result<Value, AllocErr
     ensures { IfOk result (λ value. view value ≡ spec.versioning_data state) }
 {
     match state {
-        BucketState::Unversioned => json!(in alloc; {}),
-        BucketState::Enabled => json!(in alloc; {"Status": "Enabled"}),
-        BucketState::Suspended => json!(in alloc; {"Status": "Suspended"}),
+        BucketState::Unversioned => object_of(alloc, &[]),
+        BucketState::Enabled => status_value(alloc, "Enabled"),
+        BucketState::Suspended => status_value(alloc, "Suspended"),
     }
+}
+
+fn status_value(alloc: Global, status: &str) -> Result<Value, AllocError>
+    ensures { IfOk result (λ value. view value ≡ spec.status_data status.now) }
+{
+    object_of(alloc, &[("Status", Shown::Text(status))])
 }
 
 /// The answer to GetBucketLifecycleConfiguration: the document that sets the rule of so many days.
@@ -138,12 +158,25 @@ pub fn lifecycle_document(alloc: Global, days: u16) -> Result<String, AllocError
 fn lifecycle_value(alloc: Global, days: u16) -> Result<Value, AllocError>
     ensures { IfOk result (λ value. view value ≡ spec.lifecycle_data days) }
 {
-    json!(in alloc; {
-        "Rules": [{
-            "AbortIncompleteMultipartUpload": {"DaysAfterInitiation": days},
-            "Status": "Enabled",
-        }],
-    })
+    let rule = rule_value(alloc, days)?;
+    json!(in alloc; {"Rules": [rule]})
+}
+
+fn rule_value(alloc: Global, days: u16) -> Result<Value, AllocError>
+    ensures { IfOk result (λ value. view value ≡ spec.rule_data days) }
+{
+    let rule = status_value(alloc, "Enabled")?;
+    let days = days_value(alloc, days)?;
+    with_member(alloc, rule, "AbortIncompleteMultipartUpload", Some(days))
+}
+
+fn days_value(alloc: Global, days: u16) -> Result<Value, AllocError>
+    ensures { IfOk result (λ value. view value ≡ spec.days_data days) }
+{
+    object_of(
+        alloc,
+        &[("DaysAfterInitiation", Shown::Count(u64::from(days)))],
+    )
 }
 
 /// The answer to CreateMultipartUpload: `{"Bucket":bucket,"Key":key,"UploadId":upload}`.
@@ -159,16 +192,22 @@ pub fn begun_document(
     print(alloc, &document)
 }
 
-fn begun_value(
+fn begun_value<'a>(
     alloc: Global,
-    bucket: &str,
-    key: &str,
+    bucket: &'a str,
+    key: &'a str,
     upload: UploadId,
 ) -> Result<Value, AllocError>
     ensures { IfOk result (λ value. view value ≡ spec.begun_data bucket.now key.now upload) }
 {
-    let upload = upload.print(alloc)?;
-    json!(in alloc; {"Bucket": bucket, "Key": key, "UploadId": upload})
+    object_of(
+        alloc,
+        &[
+            ("Bucket", Shown::Text(bucket)),
+            ("Key", Shown::Text(key)),
+            ("UploadId", Shown::Upload(upload)),
+        ],
+    )
 }
 
 /// The answer to CompleteMultipartUpload: `{"Bucket":bucket,"ChecksumSHA256":checksum,"Key":key}`.
@@ -184,15 +223,22 @@ pub fn completed_document(
     print(alloc, &document)
 }
 
-fn completed_value(
+fn completed_value<'a>(
     alloc: Global,
-    bucket: &str,
-    checksum: &str,
-    key: &str,
+    bucket: &'a str,
+    checksum: &'a str,
+    key: &'a str,
 ) -> Result<Value, AllocError>
     ensures { IfOk result (λ value. view value ≡ spec.completed_data bucket.now checksum.now key.now) }
 {
-    json!(in alloc; {"Bucket": bucket, "ChecksumSHA256": checksum, "Key": key})
+    object_of(
+        alloc,
+        &[
+            ("Bucket", Shown::Text(bucket)),
+            ("ChecksumSHA256", Shown::Text(checksum)),
+            ("Key", Shown::Text(key)),
+        ],
+    )
 }
 
 /// The answer to CopyObject: `{"ChecksumSHA256":checksum,"LastModified":modified}`.
@@ -210,6 +256,11 @@ pub fn copied_document(
 fn copied_value(alloc: Global, checksum: &str, modified: Moment) -> Result<Value, AllocError>
     ensures { IfOk result (λ value. view value ≡ spec.copied_data checksum.now modified) }
 {
-    let modified = moment_text(alloc, modified)?;
-    json!(in alloc; {"ChecksumSHA256": checksum, "LastModified": modified})
+    object_of(
+        alloc,
+        &[
+            ("ChecksumSHA256", Shown::Text(checksum)),
+            ("LastModified", Shown::At(modified)),
+        ],
+    )
 }

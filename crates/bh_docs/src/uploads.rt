@@ -3,13 +3,14 @@
 ghost use Rattle.std.specs.Prelude.{◌≡◌, None, option_map, IfOk};
 ghost use Rattle.std.specs.String.{string_bytes};
 ghost use Rattle.serde_json.specs.View.{view};
+ghost use Rattle.bh_docs.specs.Members.{shown_data};
 ghost use Rattle.bh_docs.specs.Pages as spec;
 
-use crate::document::{Entry, array_value, print, with_member};
+use crate::document::{Entry, Shown, object_of, print, with_entries, with_shown};
 use crate::prefix::CommonPrefix;
 use bh_types::id::UploadId;
-use bh_types::moment::{Moment, moment_text};
-use serde_json::{Value, json};
+use bh_types::moment::Moment;
+use serde_json::Value;
 use std::alloc::{AllocError, Global};
 
 /// An upload, as ListMultipartUploads shows it.
@@ -27,9 +28,14 @@ impl Entry for UploadEntry {
     ghost shown = { upload_data };
 
     fn value(&self, alloc: Global) -> Result<Value, AllocError> {
-        let initiated = moment_text(alloc, self.initiated)?;
-        let id = self.id.print(alloc)?;
-        json!(in alloc; {"Initiated": initiated, "Key": &self.key, "UploadId": id})
+        object_of(
+            alloc,
+            &[
+                ("Initiated", Shown::At(self.initiated)),
+                ("Key", Shown::Text(self.key.as_str())),
+                ("UploadId", Shown::Upload(self.id)),
+            ],
+        )
     }
 }
 
@@ -68,41 +74,46 @@ fn uploads_value(alloc: Global, page: &UploadsPage) -> Result<Value, AllocError>
     ensures { IfOk result (λ value. view value ≡ spec.uploads_data page.now) }
 {
     let document = uploads_without_next(alloc, page)?;
-    let name = name_value(alloc, &page.next)?;
-    let id = id_value(alloc, &page.next)?;
-    let document = with_member(alloc, document, "NextKeyMarker", name)?;
-    with_member(alloc, document, "NextUploadIdMarker", id)
+    let document = with_shown(alloc, document, "NextKeyMarker", &next_name(&page.next))?;
+    with_shown(alloc, document, "NextUploadIdMarker", &next_id(&page.next))
 }
 
 fn uploads_without_next(alloc: Global, page: &UploadsPage) -> Result<Value, AllocError>
     ensures { IfOk result (λ value. view value ≡ spec.uploads_with page.now None None) }
 {
-    let prefixes = array_value(alloc, page.prefixes.as_slice())?;
-    let uploads = array_value(alloc, page.uploads.as_slice())?;
-    json!(in alloc; {
-        "Bucket": &page.bucket,
-        "CommonPrefixes": prefixes,
-        "IsTruncated": page.next.is_some(),
-        "MaxUploads": page.max,
-        "Prefix": &page.prefix,
-        "Uploads": uploads,
-    })
+    let document = uploads_without_lists(alloc, page)?;
+    let document = with_entries(alloc, document, "CommonPrefixes", page.prefixes.as_slice())?;
+    with_entries(alloc, document, "Uploads", page.uploads.as_slice())
 }
 
-fn name_value(alloc: Global, next: &Option<UploadsNext>) -> Result<Option<Value>, AllocError>
-    ensures { IfOk result (λ value. option_map (λ v. view v) value ≡ spec.upload_name_data next.now) }
+fn uploads_without_lists(alloc: Global, page: &UploadsPage) -> Result<Value, AllocError>
+    ensures { IfOk result (λ value. view value ≡ spec.uploads_plain page.now) }
+{
+    object_of(
+        alloc,
+        &[
+            ("Bucket", Shown::Text(page.bucket.as_str())),
+            ("IsTruncated", Shown::Flag(page.next.is_some())),
+            ("MaxUploads", Shown::Count(u64::from(page.max))),
+            ("Prefix", Shown::Text(page.prefix.as_str())),
+        ],
+    )
+}
+
+fn next_name(next: &Option<UploadsNext>) -> Shown<'_>
+    ensures { shown_data result ≡ spec.upload_name_data next.now }
 {
     match next {
-        Some(next) => Ok(Some(Value::try_from_str(alloc, next.name.as_str())?)),
-        None => Ok(None),
+        Some(next) => Shown::Text(next.name.as_str()),
+        None => Shown::Nothing,
     }
 }
 
-fn id_value(alloc: Global, next: &Option<UploadsNext>) -> Result<Option<Value>, AllocError>
-    ensures { IfOk result (λ value. option_map (λ v. view v) value ≡ spec.upload_id_data next.now) }
+fn next_id(next: &Option<UploadsNext>) -> Shown<'_>
+    ensures { shown_data result ≡ spec.upload_id_data next.now }
 {
     match next {
-        Some(UploadsNext { id: Some(id), .. }) => Ok(Some(Value::from(id.print(alloc)?))),
-        _ => Ok(None),
+        Some(UploadsNext { id: Some(id), .. }) => Shown::Upload(*id),
+        _ => Shown::Nothing,
     }
 }

@@ -1,15 +1,17 @@
 //! Pages of ListObjectVersions.
 
-ghost use Rattle.std.specs.Prelude.{◌≡◌, None, option_map, IfOk};
+ghost use Rattle.std.specs.Prelude.{◌≡◌, Some, None, option_map, IfOk};
 ghost use Rattle.std.specs.String.{string_bytes};
+ghost use Rattle.serde_json.specs.Data.{object};
 ghost use Rattle.serde_json.specs.View.{view};
+ghost use Rattle.bh_docs.specs.Members.{shown_data};
 ghost use Rattle.bh_docs.specs.Pages as spec;
 
-use crate::document::{Entry, array_value, print, with_member};
+use crate::document::{Entry, Shown, object_of, print, with_entries, with_shown};
 use crate::prefix::CommonPrefix;
 use bh_types::id::VersionId;
-use bh_types::moment::{Moment, moment_text};
-use serde_json::{Value, json};
+use bh_types::moment::Moment;
+use serde_json::Value;
 use std::alloc::{AllocError, Global};
 
 /// What a version stores, as ListObjectVersions shows it.
@@ -38,27 +40,47 @@ impl Entry for VersionEntry {
     ghost shown = { version_data };
 
     fn value(&self, alloc: Global) -> Result<Value, AllocError> {
-        let modified = moment_text(alloc, self.modified)?;
-        let id = self.id.print(alloc)?;
         match &self.object {
-            Some(object) => json!(in alloc; {
-                "ChecksumSHA256": &object.checksum,
-                "DeleteMarker": false,
-                "IsLatest": self.latest,
-                "Key": &self.key,
-                "LastModified": modified,
-                "Size": object.size,
-                "VersionId": id,
-            }),
-            None => json!(in alloc; {
-                "DeleteMarker": true,
-                "IsLatest": self.latest,
-                "Key": &self.key,
-                "LastModified": modified,
-                "VersionId": id,
-            }),
+            Some(object) => version_value(alloc, self, object),
+            None => marker_value(alloc, self),
         }
     }
+}
+
+fn version_value<'a>(
+    alloc: Global,
+    version: &'a VersionEntry,
+    stored: &'a StoredObject,
+) -> Result<Value, AllocError>
+    ensures { IfOk result (λ value. view value ≡ object (spec.version_members version.now (Some stored.now))) }
+{
+    object_of(
+        alloc,
+        &[
+            ("ChecksumSHA256", Shown::Text(stored.checksum.as_str())),
+            ("DeleteMarker", Shown::Flag(false)),
+            ("IsLatest", Shown::Flag(version.latest)),
+            ("Key", Shown::Text(version.key.as_str())),
+            ("LastModified", Shown::At(version.modified)),
+            ("Size", Shown::Count(stored.size)),
+            ("VersionId", Shown::Version(version.id)),
+        ],
+    )
+}
+
+fn marker_value(alloc: Global, marker: &VersionEntry) -> Result<Value, AllocError>
+    ensures { IfOk result (λ value. view value ≡ object (spec.version_members marker.now None)) }
+{
+    object_of(
+        alloc,
+        &[
+            ("DeleteMarker", Shown::Flag(true)),
+            ("IsLatest", Shown::Flag(marker.latest)),
+            ("Key", Shown::Text(marker.key.as_str())),
+            ("LastModified", Shown::At(marker.modified)),
+            ("VersionId", Shown::Version(marker.id)),
+        ],
+    )
 }
 
 /// Where the page after a truncated one begins.
@@ -96,41 +118,46 @@ fn versions_value(alloc: Global, page: &VersionsPage) -> Result<Value, AllocErro
     ensures { IfOk result (λ value. view value ≡ spec.versions_data page.now) }
 {
     let document = versions_without_next(alloc, page)?;
-    let name = name_value(alloc, &page.next)?;
-    let id = id_value(alloc, &page.next)?;
-    let document = with_member(alloc, document, "NextKeyMarker", name)?;
-    with_member(alloc, document, "NextVersionIdMarker", id)
+    let document = with_shown(alloc, document, "NextKeyMarker", &next_name(&page.next))?;
+    with_shown(alloc, document, "NextVersionIdMarker", &next_id(&page.next))
 }
 
 fn versions_without_next(alloc: Global, page: &VersionsPage) -> Result<Value, AllocError>
     ensures { IfOk result (λ value. view value ≡ spec.versions_with page.now None None) }
 {
-    let prefixes = array_value(alloc, page.prefixes.as_slice())?;
-    let versions = array_value(alloc, page.versions.as_slice())?;
-    json!(in alloc; {
-        "CommonPrefixes": prefixes,
-        "IsTruncated": page.next.is_some(),
-        "MaxKeys": page.max,
-        "Name": &page.bucket,
-        "Prefix": &page.prefix,
-        "Versions": versions,
-    })
+    let document = versions_without_lists(alloc, page)?;
+    let document = with_entries(alloc, document, "CommonPrefixes", page.prefixes.as_slice())?;
+    with_entries(alloc, document, "Versions", page.versions.as_slice())
 }
 
-fn name_value(alloc: Global, next: &Option<VersionsNext>) -> Result<Option<Value>, AllocError>
-    ensures { IfOk result (λ value. option_map (λ v. view v) value ≡ spec.version_name_data next.now) }
+fn versions_without_lists(alloc: Global, page: &VersionsPage) -> Result<Value, AllocError>
+    ensures { IfOk result (λ value. view value ≡ spec.versions_plain page.now) }
+{
+    object_of(
+        alloc,
+        &[
+            ("IsTruncated", Shown::Flag(page.next.is_some())),
+            ("MaxKeys", Shown::Count(u64::from(page.max))),
+            ("Name", Shown::Text(page.bucket.as_str())),
+            ("Prefix", Shown::Text(page.prefix.as_str())),
+        ],
+    )
+}
+
+fn next_name(next: &Option<VersionsNext>) -> Shown<'_>
+    ensures { shown_data result ≡ spec.version_name_data next.now }
 {
     match next {
-        Some(next) => Ok(Some(Value::try_from_str(alloc, next.name.as_str())?)),
-        None => Ok(None),
+        Some(next) => Shown::Text(next.name.as_str()),
+        None => Shown::Nothing,
     }
 }
 
-fn id_value(alloc: Global, next: &Option<VersionsNext>) -> Result<Option<Value>, AllocError>
-    ensures { IfOk result (λ value. option_map (λ v. view v) value ≡ spec.version_id_data next.now) }
+fn next_id(next: &Option<VersionsNext>) -> Shown<'_>
+    ensures { shown_data result ≡ spec.version_id_data next.now }
 {
     match next {
-        Some(VersionsNext { id: Some(id), .. }) => Ok(Some(Value::from(id.print(alloc)?))),
-        _ => Ok(None),
+        Some(VersionsNext { id: Some(id), .. }) => Shown::Version(*id),
+        _ => Shown::Nothing,
     }
 }

@@ -20,11 +20,13 @@ use Rattle.bh_operation.specs.declared.action.BucketAction.{BucketAction}
 use Rattle.bh_operation.specs.declared.action.BucketAction.TheVariants as bucket
 use Rattle.bh_operation.specs.declared.action.ObjectAction.{ObjectAction}
 use Rattle.bh_operation.specs.declared.action.ObjectAction.TheVariants as object
+use Rattle.bh_operation.specs.declared.address.ObjectName.{ObjectName}
 use Rattle.bh_operation.specs.declared.operation.Operation.{Operation}
 use Rattle.bh_operation.specs.declared.operation.Operation.TheVariants as op
 use Rattle.bh_operation.specs.declared.query.Parameter.{Parameter}
 use Rattle.bh_operation.specs.declared.query.Selector.{Selector}
 use Rattle.bh_operation.specs.declared.query.Selector.TheVariants as by
+use Rattle.bh_operation.specs.declared.source.Source.{Source}
 use Rattle.bh_operation.specs.declared.target.Target.{Target}
 use Rattle.bh_operation.specs.declared.target.Target.TheVariants as target
 
@@ -77,6 +79,18 @@ abbrev pub at_name : {A : Type 0} → (A → Operation) → Result A Refusal →
 at_name make (Ok name) = Ok (make name)
 at_name make (Err refusal) = Err refusal
 
+-- what an action that reads nothing but a bucket's name makes of it
+abbrev pub on_bucket : Octets → BucketAction → Option Operation
+on_bucket name bucket.Create = Some (op.CreateBucket name)
+on_bucket name bucket.Head = Some (op.HeadBucket name)
+on_bucket name bucket.Delete = Some (op.DeleteBucket name)
+on_bucket name bucket.GetVersioning = Some (op.GetBucketVersioning name)
+on_bucket name bucket.PutVersioning = Some (op.PutBucketVersioning name)
+on_bucket name bucket.GetLifecycle = Some (op.GetLifecycle name)
+on_bucket name bucket.PutLifecycle = Some (op.PutLifecycle name)
+on_bucket name bucket.DeleteLifecycle = Some (op.DeleteLifecycle name)
+on_bucket name action = None
+
 unfoldable pub bucket_operation : Octets → Octets → List Parameter → BucketAction → Result Operation Refusal
 bucket_operation caller text parameters bucket.Create = at_name op.CreateBucket (bucket_named caller text)
 bucket_operation caller text parameters bucket.Head = at_name op.HeadBucket (bucket_named caller text)
@@ -105,6 +119,13 @@ copy_object caller text key fields = do
   from ← object_named caller source.bucket source.key
   Ok (op.CopyObject name (record { object = from; version = source.version }))
 
+-- the names of a copy and of its source
+abbrev pub copy_from : Octets → Octets → Octets → Source → Result Operation Refusal
+copy_from caller text key source = do
+  name ← object_named caller text key
+  from ← object_named caller source.bucket source.key
+  Ok (op.CopyObject name (record { object = from; version = source.version }))
+
 unfoldable pub upload_part : Octets → Octets → Octets → List Parameter → Fields → Result Operation Refusal
 upload_part caller text key parameters fields = do
   number ← part_number (value_of (codes "partNumber") parameters)
@@ -117,6 +138,15 @@ list_parts caller text key parameters = do
   page ← part_page parameters
   name ← object_named caller text key
   Ok (op.ListParts name (upload_in parameters) page)
+
+-- what an action that reads an object's name and no more than an id makes of it
+abbrev pub on_object : ObjectName → List Parameter → ObjectAction → Option Operation
+on_object name parameters object.Head = Some (op.HeadObject name (version_in parameters))
+on_object name parameters object.Delete = Some (op.DeleteObject name (version_in parameters))
+on_object name parameters object.CreateUpload = Some (op.CreateMultipartUpload name)
+on_object name parameters object.CompleteUpload = Some (op.CompleteMultipartUpload name (upload_in parameters))
+on_object name parameters object.AbortUpload = Some (op.AbortMultipartUpload name (upload_in parameters))
+on_object name parameters action = None
 
 unfoldable pub object_operation : Octets → Octets → Octets → List Parameter → Fields → ObjectAction → Result Operation Refusal
 object_operation caller text key parameters fields object.Put = put_object caller text key fields
@@ -145,6 +175,13 @@ operation_at caller m parameters fields (target.Bucket text) selector = do
 operation_at caller m parameters fields (target.Object text key) selector = do
   action ← object_action m selector (is_given (codes "partNumber") parameters) (stands (copy_source fields))
   object_operation caller text key parameters fields action
+
+-- third to seventh step
+abbrev pub supported_operation : Octets → Octets → List Parameter → Fields → Target → Result Operation Refusal
+supported_operation caller method parameters fields target = do
+  _ ← supported parameters fields
+  selector ← selected parameters
+  operation_at caller (method_of method) parameters fields target selector
 
 -- the operation that a request of a caller asks for, or the first refusal
 unfoldable pub operation : Octets → Taken → Result Operation Refusal

@@ -1,4 +1,4 @@
-ghost use Rattle.std.specs.Prelude.{◌≡◌};
+ghost use Rattle.std.specs.Prelude.{◌≡◌, true, is_some, Some};
 ghost use Rattle.bh_types.specs.Outcomes.{Gives};
 ghost use Rattle.bh_http.specs.Views.{pairs_of, view};
 ghost use Rattle.bh_operation.specs.Operations as spec;
@@ -12,7 +12,7 @@ use crate::page::{
     upload_marker, upload_page, version_marker,
 };
 use crate::query::{Parameter, Selector, parameters_in, selected, value_of};
-use crate::source::source_in;
+use crate::source::{Source, source_in};
 use crate::target::{Target, routed, split_target, target_at};
 use crate::text::Bytes;
 use bh_http::request::{Field, Request};
@@ -212,19 +212,33 @@ fn bucket_operation(
     ensures { Gives (λ x. x) result
         (spec.bucket_operation asked.now.caller.now text.now asked.now.parameters.now action) }
 {
-    let named = || bucket_named(asked.alloc, asked.caller, text);
     match action {
-        BucketAction::Create => Ok(Operation::CreateBucket(named()?)),
-        BucketAction::Head => Ok(Operation::HeadBucket(named()?)),
-        BucketAction::Delete => Ok(Operation::DeleteBucket(named()?)),
         BucketAction::ListObjects => list_objects(asked, text),
         BucketAction::ListVersions => list_versions(asked, text),
         BucketAction::ListUploads => list_uploads(asked, text),
-        BucketAction::GetVersioning => Ok(Operation::GetBucketVersioning(named()?)),
-        BucketAction::PutVersioning => Ok(Operation::PutBucketVersioning(named()?)),
-        BucketAction::GetLifecycle => Ok(Operation::GetLifecycle(named()?)),
-        BucketAction::PutLifecycle => Ok(Operation::PutLifecycle(named()?)),
-        BucketAction::DeleteLifecycle => Ok(Operation::DeleteLifecycle(named()?)),
+        _ => {
+            let bucket = bucket_named(asked.alloc, asked.caller, text)?;
+            Ok(on_bucket(bucket, action))
+        }
+    }
+}
+
+/// The operation on a bucket of an action that reads nothing but its name.
+fn on_bucket(bucket: BucketName, action: BucketAction) -> Operation
+    requires { is_some (spec.on_bucket bucket action) ≡ true }
+    ensures { Some result ≡ spec.on_bucket bucket action }
+{
+    match action {
+        BucketAction::Create => Operation::CreateBucket(bucket),
+        BucketAction::Head => Operation::HeadBucket(bucket),
+        BucketAction::Delete => Operation::DeleteBucket(bucket),
+        BucketAction::GetVersioning => Operation::GetBucketVersioning(bucket),
+        BucketAction::PutVersioning => Operation::PutBucketVersioning(bucket),
+        BucketAction::GetLifecycle => Operation::GetLifecycle(bucket),
+        BucketAction::PutLifecycle => Operation::PutLifecycle(bucket),
+        BucketAction::DeleteLifecycle => Operation::DeleteLifecycle(bucket),
+        BucketAction::ListObjects | BucketAction::ListVersions | BucketAction::ListUploads =>
+            unreachable!(),
     }
 }
 
@@ -244,17 +258,42 @@ fn copy_object(asked: &Asked, text: &str, key: &str) -> Result<Operation, Reques
     ensures { Gives (λ x. x) result
         (spec.copy_object asked.now.caller.now text.now key.now (pairs_of asked.now.fields.now)) }
 {
-    let named = |bucket: &str, key: &str| object_named(asked.alloc, asked.caller, bucket, key);
     let source = source_in(asked.alloc, copy_source(asked.fields))?;
     checksum_in(asked.alloc, asked.fields)?;
-    let object = named(text, key)?;
-    let from = named(source.bucket.as_str(), source.key.as_str())?;
+    copy_from(asked, text, key, &source)
+}
+
+fn copy_from(
+    asked: &Asked,
+    text: &str,
+    key: &str,
+    source: &Source,
+) -> Result<Operation, RequestError>
+    ensures { Gives (λ x. x) result (spec.copy_from asked.now.caller.now text.now key.now source.now) }
+{
+    let object = object_named(asked.alloc, asked.caller, text, key)?;
+    let (bucket, key) = (source.bucket.as_str(), source.key.as_str());
+    let from = object_named(asked.alloc, asked.caller, bucket, key)?;
     Ok(Operation::CopyObject {
         object,
         source: CopySource {
             object: from,
             version: source.version,
         },
+    })
+}
+
+#[tactic(auto, unfolding(crate::specs::Operations::object_operation))]
+fn get_object(asked: &Asked, text: &str, key: &str) -> Result<Operation, RequestError>
+    ensures { Gives (λ x. x) result (spec.object_operation asked.now.caller.now text.now key.now
+        asked.now.parameters.now (pairs_of asked.now.fields.now) ObjectAction.Get) }
+{
+    let object = object_named(asked.alloc, asked.caller, text, key)?;
+    let range = range_in(asked.alloc, asked.fields)?;
+    Ok(Operation::GetObject {
+        object,
+        version: version_in(asked.parameters),
+        range,
     })
 }
 
@@ -299,36 +338,33 @@ fn object_operation(
     ensures { Gives (λ x. x) result (spec.object_operation
         asked.now.caller.now text.now key.now asked.now.parameters.now (pairs_of asked.now.fields.now) action) }
 {
-    let named = || object_named(asked.alloc, asked.caller, text, key);
-    let version = version_in(asked.parameters);
-    let upload = upload_in(asked.parameters);
     match action {
         ObjectAction::Put => put_object(asked, text, key),
         ObjectAction::Copy => copy_object(asked, text, key),
-        ObjectAction::Get => Ok(Operation::GetObject {
-            object: named()?,
-            version,
-            range: range_in(asked.alloc, asked.fields)?,
-        }),
-        ObjectAction::Head => Ok(Operation::HeadObject {
-            object: named()?,
-            version,
-        }),
-        ObjectAction::Delete => Ok(Operation::DeleteObject {
-            object: named()?,
-            version,
-        }),
-        ObjectAction::CreateUpload => Ok(Operation::CreateMultipartUpload(named()?)),
+        ObjectAction::Get => get_object(asked, text, key),
         ObjectAction::UploadPart => upload_part(asked, text, key),
         ObjectAction::ListParts => list_parts(asked, text, key),
-        ObjectAction::CompleteUpload => Ok(Operation::CompleteMultipartUpload {
-            object: named()?,
-            upload,
-        }),
-        ObjectAction::AbortUpload => Ok(Operation::AbortMultipartUpload {
-            object: named()?,
-            upload,
-        }),
+        _ => {
+            let object = object_named(asked.alloc, asked.caller, text, key)?;
+            Ok(on_object(object, asked.parameters, action))
+        }
+    }
+}
+
+/// The operation on an object of an action that reads its name and no more than an id.
+fn on_object(object: ObjectName, parameters: &[Parameter], action: ObjectAction) -> Operation
+    requires { is_some (spec.on_object object parameters.now action) ≡ true }
+    ensures { Some result ≡ spec.on_object object parameters.now action }
+{
+    let version = version_in(parameters);
+    let upload = upload_in(parameters);
+    match action {
+        ObjectAction::Head => Operation::HeadObject { object, version },
+        ObjectAction::Delete => Operation::DeleteObject { object, version },
+        ObjectAction::CreateUpload => Operation::CreateMultipartUpload(object),
+        ObjectAction::CompleteUpload => Operation::CompleteMultipartUpload { object, upload },
+        ObjectAction::AbortUpload => Operation::AbortMultipartUpload { object, upload },
+        _ => unreachable!(),
     }
 }
 
@@ -358,6 +394,20 @@ fn operation_at(
     }
 }
 
+/// The operation on a target, if the host does what the parameters and header fields ask for.
+fn supported_operation(
+    asked: &Asked,
+    method: &str,
+    target: &Target,
+) -> Result<Operation, RequestError>
+    ensures { Gives (λ x. x) result (spec.supported_operation
+        asked.now.caller.now method.now asked.now.parameters.now (pairs_of asked.now.fields.now) target.now) }
+{
+    supported(asked.parameters, asked.fields)?;
+    let selector = selected(asked.parameters)?;
+    operation_at(asked, method_of(method), target, selector)
+}
+
 /// The operation that a request of a caller asks for, or its first refusal, in this order:
 ///
 /// - InvalidUri for a path that has no route or does not decode,
@@ -375,18 +425,14 @@ pub fn operation_of(
     ensures { Gives (λ x. x) result (spec.operation caller.now (view request.now)) }
 {
     let (path, query) = split_target(request.target.as_slice());
-    let fields = request.fields.as_slice();
     let kind = routed(alloc, path)?;
     let target = target_at(alloc, kind, path)?;
     let parameters = parameters_in(alloc, query)?;
-    supported(parameters.as_slice(), fields)?;
-    let selector = selected(parameters.as_slice())?;
     let asked = Asked {
         alloc,
         caller,
         parameters: parameters.as_slice(),
-        fields,
+        fields: request.fields.as_slice(),
     };
-    let method = method_of(request.method.as_str());
-    operation_at(&asked, method, &target, selector)
+    supported_operation(&asked, request.method.as_str(), &target)
 }
