@@ -1,6 +1,6 @@
 //! Pages of ListObjectsV2.
 
-ghost use Rattle.std.specs.Prelude.{◌≡◌, None, option_map, IfOk};
+ghost use Rattle.std.specs.Prelude.{◌≡◌, ◌+◌, None, length, IfOk};
 ghost use Rattle.std.specs.String.{string_bytes};
 ghost use Rattle.serde_json.specs.View.{view};
 ghost use Rattle.bh_docs.specs.Members.{shown_data};
@@ -85,17 +85,22 @@ fn objects_without_token(alloc: Global, page: &ObjectsPage) -> Result<Value, All
 fn objects_without_lists(alloc: Global, page: &ObjectsPage) -> Result<Value, AllocError>
     ensures { IfOk result (λ value. view value ≡ spec.objects_plain page.now) }
 {
-    let count = page.prefixes.len() + page.objects.len();
     object_of(
         alloc,
         &[
             ("IsTruncated", Shown::Flag(page.next.is_some())),
-            ("KeyCount", Shown::Count(count as u64)),
+            ("KeyCount", Shown::Count(entry_count(page))),
             ("MaxKeys", Shown::Count(u64::from(page.max))),
             ("Name", Shown::Text(page.bucket.as_str())),
             ("Prefix", Shown::Text(page.prefix.as_str())),
         ],
     )
+}
+
+fn entry_count(page: &ObjectsPage) -> u64
+    ensures { result ≡ length page.now.prefixes.items + length page.now.objects.items }
+{
+    (page.prefixes.len() + page.objects.len()) as u64
 }
 
 fn next_token(next: &Option<String>) -> Shown<'_>

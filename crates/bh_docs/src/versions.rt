@@ -1,6 +1,6 @@
 //! Pages of ListObjectVersions.
 
-ghost use Rattle.std.specs.Prelude.{◌≡◌, Some, None, option_map, IfOk};
+ghost use Rattle.std.specs.Prelude.{◌≡◌, Some, None, IfOk};
 ghost use Rattle.std.specs.String.{string_bytes};
 ghost use Rattle.serde_json.specs.Data.{object};
 ghost use Rattle.serde_json.specs.View.{view};

@@ -4,7 +4,7 @@ ghost use Rattle.bh_http.specs.Fields.{given_view};
 ghost use Rattle.bh_operation.specs.Sources as spec;
 
 use crate::number::wanted;
-use crate::target::{decode, path_of, question_at, split_at_slash, text_of};
+use crate::target::{decode, path_of, place_of, split_at_slash, text_of};
 use crate::text::Text;
 use bh_http::fields::Given;
 use bh_types::error::RequestError;
@@ -50,7 +50,7 @@ fn version_after(query: &[u8]) -> Result<Wanted, Refusal>
 fn source_version(value: &[u8]) -> Result<Wanted, Refusal>
     ensures { result ≡ spec.source_version value.now }
 {
-    match question_at(value) {
+    match place_of(b'?', value) {
         Some(at) if at < value.len() => version_after(&value[at + 1..]),
         _ => Ok(Wanted::Current),
     }

@@ -1,4 +1,4 @@
-ghost use Rattle.std.specs.Prelude.{◌≡◌, ◌<◌, length, drop, position, IfOk, IfSome};
+ghost use Rattle.std.specs.Prelude.{◌≡◌, ◌==◌, ◌<◌, length, drop, position, IfOk, IfSome};
 ghost use Rattle.std.specs.List.{before_first, after_first};
 ghost use Rattle.std.specs.Option.{option_copied};
 ghost use Rattle.bh_types.specs.Outcomes.{Gives};
@@ -38,7 +38,7 @@ pub fn split_target(target: &[u8]) -> (&[u8], &[u8])
     ensures path { result.0.now ≡ spec.path_of target.now }
     ensures query { result.1.now ≡ spec.query_of target.now }
 {
-    match question_at(target) {
+    match place_of(b'?', target) {
         Some(at) if at < target.len() => (&target[..at], &target[at + 1..]),
         _ => (target, &[]),
     }
@@ -51,19 +51,12 @@ pub fn path_of(target: &[u8]) -> &[u8]
     split_target(target).0
 }
 
-/// Where the first `?` stands.
-pub fn question_at(bytes: &[u8]) -> Option<usize>
-    ensures place { result ≡ position spec.is_question bytes.now }
+/// Where a byte first stands.
+pub fn place_of(byte: u8, bytes: &[u8]) -> Option<usize>
+    ensures place { result ≡ position (λ b. b == byte) bytes.now }
     ensures within { IfSome result (λ at. at < length bytes.now) }
 {
-    bytes.iter().position(|b| *b == b'?')
-}
-
-fn slash_at(bytes: &[u8]) -> Option<usize>
-    ensures place { result ≡ position spec.is_slash bytes.now }
-    ensures within { IfSome result (λ at. at < length bytes.now) }
-{
-    bytes.iter().position(|b| *b == b'/')
+    bytes.iter().position(|b| *b == byte)
 }
 
 /// What stands before the first slash, and what stands after it.
@@ -71,7 +64,7 @@ pub fn split_at_slash(bytes: &[u8]) -> (&[u8], &[u8])
     ensures before { result.0.now ≡ before_first spec.is_slash bytes.now }
     ensures after { result.1.now ≡ after_first spec.is_slash bytes.now }
 {
-    match slash_at(bytes) {
+    match place_of(b'/', bytes) {
         Some(at) if at < bytes.len() => (&bytes[..at], &bytes[at + 1..]),
         _ => (bytes, &[]),
     }
