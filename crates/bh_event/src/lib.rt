@@ -2,6 +2,7 @@
 #![tactic(auto)]
 
 pub mod event;
+pub mod flaw;
 pub mod line;
 #[cfg(test)]
 mod tests;
