@@ -32,7 +32,7 @@ fn asks_for_script(rt: &impl Runtime) -> io::Result<bool> {
 }
 
 /// Answers the script of standard input on standard output.
-fn run_script(rt: &(impl Input + Print + AllocGlobal)) -> io::Result<ExitCode> {
+fn run_script(rt: &(impl Input + Print + Eprint + AllocGlobal)) -> io::Result<ExitCode> {
     let alloc = rt.alloc();
     let answered = match read_all(alloc, &mut rt.reader()) {
         Ok(Some(bytes)) => answer_script(alloc, bytes.as_slice()),
@@ -48,7 +48,7 @@ fn run_script(rt: &(impl Input + Print + AllocGlobal)) -> io::Result<ExitCode> {
 }
 
 /// Ends with status 1 where a line told no event, and says why on standard error.
-fn end(rt: &impl Print, bad_line: Option<BadLine>) -> io::Result<ExitCode> {
+fn end(rt: &impl Eprint, bad_line: Option<BadLine>) -> io::Result<ExitCode> {
     let Some(BadLine { number, flaw }) = bad_line else {
         return Ok(ExitCode::from(0));
     };
