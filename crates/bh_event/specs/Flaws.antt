@@ -1,5 +1,5 @@
 -- Why a line of a script tells no event: the first flaw that it has, in the order of these definitions.
-use Rattle.std.specs.Prelude.{ℕ, List, codes, Bool, not, ◌&&◌, Option, Some, None, is_some, if◌then◌else◌}
+use Rattle.std.specs.Prelude.{ℕ, List, codes, not, ◌&&◌, Option, Some, None, is_some, if◌then◌else◌}
 use Rattle.std.specs.Str.{bytes_eq, is_utf8}
 use Rattle.serde_json.specs.Data.{Data}
 use Rattle.serde_json.specs.Find.{as_object}
