@@ -1,12 +1,15 @@
-# demo: the main job on its stored run. build: the proved program. test: all examples and tests, without proof, in minutes.
-# gate: every proof, wrong body, example and test, from nothing. times: the gate, and then what each crate cost, in seconds
-# of a processor ('tools/gate-times COMMAND..' tells it of any run). lint: the layout of all sources.
-# bench: the program's speed and memory; lookups: the time of lookups by key at 1,000 and 100,000 rows on a file (both
-# bench/README.md). memory: the stored run with each allocation refused in turn.
-.PHONY: demo build test gate times lint bench lookups memory
+# demo: the main job on its stored run. try FILE=..: a script of your own. build: the proved program.
+# test: all examples and tests, without proof, in minutes. gate: every proof, wrong body, example and test, from nothing.
+# times: the gate, and then what each crate cost, in seconds of a processor ('tools/gate-times COMMAND..' tells it of any
+# run). lint: the layout of all sources. bench: the program's speed and memory; lookups: the time of lookups by key at
+# 1,000 and 100,000 rows on a file (both bench/README.md). memory: the stored run with each allocation refused in turn.
+.PHONY: demo try build test gate times lint bench lookups memory
 
 demo:
-	@tools/demo
+	@tools/bucketd <crates/bucketd/stdin
+
+try:
+	@tools/bucketd <"$(or $(FILE),$(error make try FILE=your.script))"
 
 build:
 	@tools/build

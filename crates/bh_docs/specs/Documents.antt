@@ -38,10 +38,12 @@ with_member name other document = document
 -- ---- documents
 
 -- {"Code":code,"Resource":resource}
+-- Amazon S3 API Reference, "Error responses", as JSON
 abbrev pub error_data : List ℕ → List ℕ → Data
 error_data code resource =
     object (member (codes "Code") (string code) (member (codes "Resource") (string resource) no_members))
 
+-- RFC 8259
 abbrev pub error_text : List ℕ → List ℕ → List ℕ
 error_text code resource = compact_text (error_data code resource)
 
@@ -52,12 +54,14 @@ bucket_data b =
     (member (codes "Name") (string (string_bytes b.name)) no_members))
 
 -- {"Buckets":[..]}
+-- Amazon S3 API Reference, ListBuckets, as JSON
 abbrev pub buckets_data : List BucketEntry → Data
 buckets_data buckets = object (member (codes "Buckets") (array_of bucket_data buckets) no_members)
 
 abbrev pub buckets_text : List BucketEntry → List ℕ
 buckets_text buckets = compact_text (buckets_data buckets)
 
+-- S3 has no such document
 abbrev pub usage_data : Usage → Data
 usage_data u =
     object (member (codes "Buckets") (natural u.buckets)
@@ -74,6 +78,7 @@ abbrev pub usage_text : Usage → List ℕ
 usage_text u = compact_text (usage_data u)
 
 -- {}, {"Status":"Enabled"} or {"Status":"Suspended"}
+-- Amazon S3 API Reference, GetBucketVersioning, as JSON
 abbrev pub versioning_data : BucketState → Data
 versioning_data Unversioned = object no_members
 versioning_data Enabled = object (member (codes "Status") (string (codes "Enabled")) no_members)
@@ -97,6 +102,7 @@ rule_data days =
     (member (codes "Status") (string (codes "Enabled")) no_members))
 
 -- {"Rules":[{"AbortIncompleteMultipartUpload":{"DaysAfterInitiation":days},"Status":"Enabled"}]}
+-- Amazon S3 API Reference, GetBucketLifecycleConfiguration, as JSON
 abbrev pub lifecycle_data : ℕ → Data
 lifecycle_data days =
     object (member (codes "Rules") (array (item
@@ -109,6 +115,7 @@ abbrev pub lifecycle_text : ℕ → List ℕ
 lifecycle_text days = compact_text (lifecycle_data days)
 
 -- {"Bucket":bucket,"Key":key,"UploadId":upload}
+-- Amazon S3 API Reference, CreateMultipartUpload, as JSON
 abbrev pub begun_data : List ℕ → List ℕ → UploadId → Data
 begun_data bucket key upload =
     object (member (codes "Bucket") (string bucket)
@@ -119,6 +126,7 @@ abbrev pub begun_text : List ℕ → List ℕ → UploadId → List ℕ
 begun_text bucket key upload = compact_text (begun_data bucket key upload)
 
 -- {"Bucket":bucket,"ChecksumSHA256":checksum,"Key":key}
+-- Amazon S3 API Reference, CompleteMultipartUpload, as JSON
 abbrev pub completed_data : List ℕ → List ℕ → List ℕ → Data
 completed_data bucket checksum key =
     object (member (codes "Bucket") (string bucket)
@@ -129,6 +137,7 @@ abbrev pub completed_text : List ℕ → List ℕ → List ℕ → List ℕ
 completed_text bucket checksum key = compact_text (completed_data bucket checksum key)
 
 -- {"ChecksumSHA256":checksum,"LastModified":modified}
+-- Amazon S3 API Reference, CopyObject, as JSON
 abbrev pub copied_data : List ℕ → ℕ → Data
 copied_data checksum modified =
     object (member (codes "ChecksumSHA256") (string checksum)

@@ -34,6 +34,7 @@ object_data o =
     (member (codes "Size") (natural o.size) no_members))))
 
 -- KeyCount counts both lists
+-- Amazon S3 API Reference, ListObjectsV2, as JSON
 abbrev pub objects_with : ObjectsPage → Option Data → Data
 objects_with p token =
     object (member (codes "CommonPrefixes") (array_of prefix_data p.prefixes.items)
@@ -86,6 +87,7 @@ version_members v (Some o) =
 abbrev pub version_data : VersionEntry → Data
 version_data v = object (version_members v v.object)
 
+-- Amazon S3 API Reference, ListObjectVersions, as JSON
 abbrev pub versions_with : VersionsPage → Option Data → Option Data → Data
 versions_with p name id =
     object (member (codes "CommonPrefixes") (array_of prefix_data p.prefixes.items)
@@ -125,6 +127,7 @@ upload_data u =
     (member (codes "Key") (string (string_bytes u.key))
     (member (codes "UploadId") (string (upload_text u.id)) no_members)))
 
+-- Amazon S3 API Reference, ListMultipartUploads, as JSON
 abbrev pub uploads_with : UploadsPage → Option Data → Option Data → Data
 uploads_with p name id =
     object (member (codes "Bucket") (string (string_bytes p.bucket))
@@ -165,6 +168,7 @@ part_data p =
     (member (codes "PartNumber") (natural p.number)
     (member (codes "Size") (natural p.size) no_members))))
 
+-- Amazon S3 API Reference, ListParts, as JSON
 abbrev pub parts_with : PartsPage → Option Data → Data
 parts_with p number =
     object (member (codes "Bucket") (string (string_bytes p.bucket))

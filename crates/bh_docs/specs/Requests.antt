@@ -23,12 +23,14 @@ abbrev pub document_of : List ℕ → Result Data Refusal
 document_of body = or_malformed (data_of body)
 
 -- the state that a bucket's versioning is to have
+-- Amazon S3 API Reference, PutBucketVersioning
 abbrev pub versioning_of : List ℕ → Result BucketState Refusal
 versioning_of body = do
   document ← document_of body
   or_malformed (versioning_shape document)
 
 -- the days after which a bucket's uploads are aborted
+-- Amazon S3 API Reference, PutBucketLifecycleConfiguration
 abbrev pub lifecycle_of : List ℕ → Result ℕ Refusal
 lifecycle_of body = do
   document ← document_of body
@@ -49,6 +51,7 @@ in_ranges (part ∷ rest) = do
   Ok (first ∷ others)
 
 -- the parts that complete an upload
+-- Amazon S3 API Reference, CompleteMultipartUpload
 abbrev pub complete_of : List ℕ → Result (List (ℕ × Option (List ℕ))) Refusal
 complete_of body = do
   document ← document_of body

@@ -16,6 +16,7 @@ None >>= f = None
 (Some a) >>= f = f a
 
 -- the data of a body that is JSON in UTF-8
+-- RFC 8259, section 8.1: UTF-8
 abbrev pub data_of : List ℕ → Option Data
 data_of body = if is_utf8 body then read body else None
 
@@ -57,6 +58,7 @@ state_named text =
     else if bytes_eq text (codes "Suspended") then Some Suspended
     else None
 
+-- Amazon S3 API Reference, PutBucketVersioning, as JSON
 abbrev pub versioning_shape : Data → Option BucketState
 versioning_shape d = do
   status ← only_member (codes "Status") d
@@ -77,6 +79,7 @@ rule_shape d = do
   days ← whole number
   if_enabled members.1 days
 
+-- Amazon S3 API Reference, PutBucketLifecycleConfiguration, as JSON
 abbrev pub lifecycle_shape : Data → Option ℤ
 lifecycle_shape d = do
   rules ← only_member (codes "Rules") d
@@ -128,5 +131,6 @@ listed_parts d = do
   items ← as_array parts
   if has_part_count items then Some items else None
 
+-- Amazon S3 API Reference, CompleteMultipartUpload, as JSON
 abbrev pub complete_shape : Data → Option (List Part)
 complete_shape d = listed_parts d >>= parts_shape

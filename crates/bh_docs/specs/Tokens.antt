@@ -6,6 +6,7 @@ use Rattle.bh_types.specs.declared.refusal.Refusal.{Refusal}
 use Rattle.bh_types.specs.declared.refusal.Refusal.TheVariants.{InvalidArgument}
 
 -- two lower case digits for each byte
+-- RFC 4648, section 8, in lower case
 abbrev pub token_text : List ℕ → List ℕ
 token_text bytes = encode_lower bytes
 

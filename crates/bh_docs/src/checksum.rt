@@ -12,14 +12,14 @@ use base64::engine::general_purpose::STANDARD;
 use sha2::{Digest, Sha256};
 use std::alloc::{AllocError, Global};
 
-/// The SHA-256 digest of some bytes.
+/// The SHA-256 digest of some bytes (FIPS 180-4, section 6.2).
 pub fn digest_of(bytes: &[u8]) -> [u8; 32]
     ensures { result ≡ sha256 bytes.now }
 {
     Sha256::digest(bytes)
 }
 
-/// The checksum text of a digest: its base64, 44 characters. An error says that memory ran out.
+/// The checksum text of a digest: its base64 (RFC 4648, section 4), 44 characters. An error says that memory ran out.
 pub fn checksum_of_digest(alloc: Global, digest: &[u8; 32]) -> Result<String, AllocError>
     ensures { IfOk result (λ text. string_bytes text ≡ digest_text digest.now) }
 {

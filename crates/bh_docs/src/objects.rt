@@ -53,7 +53,7 @@ pub struct ObjectsPage {
     pub next: Option<String>,
 }
 
-/// The answer to ListObjectsV2: compact JSON with its members in byte order. An error says that
+/// The answer to ListObjectsV2 (Amazon S3 API Reference): compact JSON with its members in byte order. An error says that
 /// memory ran out.
 pub fn objects_document(alloc: Global, page: &ObjectsPage) -> Result<String, AllocError>
     ensures { IfOk result (λ text. string_bytes text ≡ spec.objects_text page.now) }

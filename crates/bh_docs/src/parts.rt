@@ -54,7 +54,7 @@ pub struct PartsPage {
     pub next: Option<u32>,
 }
 
-/// The answer to ListParts: compact JSON with its members in byte order. An error says that
+/// The answer to ListParts (Amazon S3 API Reference): compact JSON with its members in byte order. An error says that
 /// memory ran out.
 pub fn parts_document(alloc: Global, page: &PartsPage) -> Result<String, AllocError>
     ensures { IfOk result (λ text. string_bytes text ≡ spec.parts_text page.now) }

@@ -16,6 +16,7 @@ use std::alloc::{AllocError, Global};
 
 /// The state that a bucket's versioning is to have, by `{"Status":"Enabled"}` or
 /// `{"Status":"Suspended"}`. Any other body is refused with `MalformedJson`.
+/// (Amazon S3 API Reference, PutBucketVersioning, as JSON.)
 pub fn read_versioning(alloc: Global, body: &[u8]) -> Result<BucketState, RequestError>
     ensures { Gives (λ state. state) result (spec.versioning_of body.now) }
 {
@@ -26,7 +27,7 @@ pub fn read_versioning(alloc: Global, body: &[u8]) -> Result<BucketState, Reques
 /// The days after which a bucket's uploads are aborted, by
 /// `{"Rules":[{"AbortIncompleteMultipartUpload":{"DaysAfterInitiation":n},"Status":"Enabled"}]}`
 /// with n from 1 to 3,650. A body of another shape is refused with `MalformedJson`, another whole
-/// number n with `InvalidArgument`.
+/// number n with `InvalidArgument`. (Amazon S3 API Reference, PutBucketLifecycleConfiguration, as JSON.)
 pub fn read_lifecycle(alloc: Global, body: &[u8]) -> Result<u16, RequestError>
     ensures { Gives (λ days. days) result (spec.lifecycle_of body.now) }
 {
@@ -40,6 +41,7 @@ pub fn read_lifecycle(alloc: Global, body: &[u8]) -> Result<u16, RequestError>
 /// `{"Parts":[{"ChecksumSHA256":text,"PartNumber":n},..]}` with 1 to 10,000 parts and n from 1 to
 /// 10,000, where a part's checksum may be missing and may be any text. A body of another shape is
 /// refused with `MalformedJson`, and else one with another whole number n with `InvalidArgument`.
+/// (Amazon S3 API Reference, CompleteMultipartUpload, as JSON.)
 pub fn read_complete(alloc: Global, body: &[u8]) -> Result<Vec<Named>, RequestError>
     ensures { Gives (λ parts. map spec.named_view parts.items) result (spec.complete_of body.now) }
 {

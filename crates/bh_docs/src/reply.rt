@@ -14,7 +14,8 @@ use bh_types::plain::BucketState;
 use serde_json::{Value, json};
 use std::alloc::{AllocError, Global};
 
-/// `{"Code":code,"Resource":resource}`: an S3 error code, and the path of the request's target.
+/// `{"Code":code,"Resource":resource}`: an error code of the Amazon S3 API Reference ("Error
+/// responses"), and the path of the request's target.
 pub fn error_document(alloc: Global, code: &str, resource: &str) -> Result<String, AllocError>
     ensures { IfOk result (λ text. string_bytes text ≡ spec.error_text code.now resource.now) }
 {
@@ -92,7 +93,8 @@ pub struct Usage {
     pub versions: u64,
 }
 
-/// The answer to a tenant who asks for the usage: each count and size under its own name.
+/// The answer to a tenant who asks for the usage, which S3 has not: each count and size under its own
+/// name.
 pub fn usage_document(alloc: Global, usage: &Usage) -> Result<String, AllocError>
     ensures { IfOk result (λ text. string_bytes text ≡ spec.usage_text usage.now) }
 {

@@ -10,8 +10,8 @@ use bh_types::refusal::Refusal;
 use hex::FromHexError;
 use std::alloc::{AllocError, Global};
 
-/// The token of a name's bytes: two lower case hexadecimal digits for each. An error says that
-/// memory ran out.
+/// The token of a name's bytes: two lower case hexadecimal digits for each (RFC 4648, section 8).
+/// An error says that memory ran out.
 pub fn token_text(alloc: Global, bytes: &[u8]) -> Result<String, AllocError>
     ensures text { IfOk result (λ text. string_bytes text ≡ spec.token_text bytes.now) }
     ensures reads_back { IfOk result (λ text. spec.token_of (string_bytes text) ≡ Ok bytes.now) }

@@ -61,7 +61,7 @@ pub struct UploadsPage {
     pub next: Option<UploadsNext>,
 }
 
-/// The answer to ListMultipartUploads: compact JSON with its members in byte order. An error says
+/// The answer to ListMultipartUploads (Amazon S3 API Reference): compact JSON with its members in byte order. An error says
 /// that memory ran out.
 pub fn uploads_document(alloc: Global, page: &UploadsPage) -> Result<String, AllocError>
     ensures { IfOk result (λ text. string_bytes text ≡ spec.uploads_text page.now) }

@@ -105,7 +105,7 @@ pub struct VersionsPage {
     pub next: Option<VersionsNext>,
 }
 
-/// The answer to ListObjectVersions: compact JSON with its members in byte order. An error says that
+/// The answer to ListObjectVersions (Amazon S3 API Reference): compact JSON with its members in byte order. An error says that
 /// memory ran out.
 pub fn versions_document(alloc: Global, page: &VersionsPage) -> Result<String, AllocError>
     ensures { IfOk result (λ text. string_bytes text ≡ spec.versions_text page.now) }

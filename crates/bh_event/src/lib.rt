@@ -2,4 +2,5 @@
 #![tactic(auto)]
 
 pub mod event;
+pub mod flaw;
 pub mod line;

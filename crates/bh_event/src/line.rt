@@ -127,7 +127,7 @@ fn key_remove_in(alloc: Global, document: &Value) -> Result<Option<Command>, All
     Ok(Some(Command::KeyRemove { tenant, name }))
 }
 
-fn has_members(document: &Value, count: usize) -> bool
+pub(crate) fn has_members(document: &Value, count: usize) -> bool
     ensures { result ≡ spec.has_members count (view document.now) }
 {
     match document.as_object() {
@@ -136,13 +136,13 @@ fn has_members(document: &Value, count: usize) -> bool
     }
 }
 
-fn text_at<'a>(document: &'a Value, key: &str) -> Option<&'a str>
+pub(crate) fn text_at<'a>(document: &'a Value, key: &str) -> Option<&'a str>
     ensures { option_copied result ≡ spec.text_at key.now (view document.now) }
 {
     document.get(key)?.as_str()
 }
 
-fn number_at(document: &Value, key: &str) -> Option<u64>
+pub(crate) fn number_at(document: &Value, key: &str) -> Option<u64>
     ensures { result ≡ spec.number_at key.now (view document.now) }
 {
     document.get(key)?.as_u64()

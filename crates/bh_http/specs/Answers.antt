@@ -25,6 +25,7 @@ response_view r = record {
 }
 
 -- a status alone, as 204 has it
+-- RFC 9110, section 15.3.5
 abbrev pub bare : ℕ → Sent
 bare status = record {
   status = status;

@@ -5,10 +5,12 @@ use Rattle.bh_http.specs.declared.fields.Given.{Given}
 use Rattle.bh_http.specs.declared.fields.Given.TheVariants as code
 
 -- the field has this name; case doesn't count
+-- RFC 9110, section 5.1
 abbrev pub is_named : List ℕ → List ℕ × List ℕ → Bool
 is_named name field = str_eq_ignore_ascii_case field.0 name
 
 -- the values of the fields of a name, in their order
+-- RFC 9110, section 5.3
 abbrev pub values_of : List ℕ → List (List ℕ × List ℕ) → List (List ℕ)
 values_of name fields = map (λ f. f.1) (filter (is_named name) fields)
 

@@ -48,10 +48,12 @@ is_once Repeated = false
 abbrev pub is_number : List ℕ → Bool
 is_number text = nat_lt 0 (length text) && list_all is_ascii_digit text
 
+-- RFC 9110, section 15.5.12: 411 where a length is wanted
 abbrev pub needs_length : List ℕ → Bool
 needs_length method = bytes_eq method (codes "PUT") || bytes_eq method (codes "POST")
 
 -- the length that a value of Content-Length announces
+-- RFC 9110, section 8.6
 abbrev pub length_in : ℕ → List ℕ → Result ℕ Refusal
 length_in max_body value =
     if not (is_number value) then Err BadRequest
@@ -65,6 +67,7 @@ announced max_body method (Once value) = length_in max_body value
 announced max_body method Repeated = Err BadRequest
 
 -- the length of the body that follows a head, or the first refusal
+-- RFC 9112, sections 3.2 (Host) and 6
 abbrev pub framing : HostLimits → Parts → Result ℕ Refusal
 framing limits head =
     if head.minor == 1 && not (is_once (field_named (codes "host") head.fields)) then Err BadRequest
@@ -73,6 +76,7 @@ framing limits head =
     else announced limits.max_body head.method (field_named (codes "content-length") head.fields)
 
 -- the request of a head and of the bytes after it, of which the body is the first so many
+-- RFC 9112, section 8: fewer bytes than announced
 abbrev pub taken : Parts → List ℕ → Result ℕ Refusal → Result Taken Refusal
 taken head rest (Err refusal) = Err refusal
 taken head rest (Ok size) =

@@ -27,10 +27,12 @@ pub record Sent : Type 0 where
   pub refusal : Option Refusal
   pub body : List ℕ
 
+-- RFC 9112, section 2.1
 abbrev pub crlf : List ℕ
 crlf = 13 ∷ 10 ∷ []
 
 -- name: value CR LF, if there is a value
+-- RFC 9112, section 5
 abbrev pub field_line : List ℕ × Option (List ℕ) → List ℕ
 field_line (name, None) = []
 field_line (name, Some value) = name ++ codes ": " ++ value ++ crlf
@@ -44,6 +46,7 @@ abbrev pub refusal_text : Refusal → List ℕ
 refusal_text refusal = decimal (number_of refusal) ++ codes " " ++ code_of refusal
 
 -- the fields in their order, each with its value or none
+-- RFC 9110, sections 8.3, 8.6, 14.4, 14.3 and 10.2.1
 abbrev pub content_fields : Sent → List (List ℕ × Option (List ℕ))
 content_fields r =
     (codes "content-type", option_map content_type_text r.content_type)
@@ -53,6 +56,7 @@ content_fields r =
     ∷ (codes "allow", option_map allow_text r.allow)
     ∷ []
 
+-- Amazon S3 API Reference, GetObject, and x-amz-abort-date of CreateMultipartUpload
 abbrev pub object_fields : Sent → List (List ℕ × Option (List ℕ))
 object_fields r =
     (codes "x-amz-checksum-sha256", r.checksum)
@@ -61,6 +65,7 @@ object_fields r =
     ∷ (codes "x-amz-abort-date", option_map moment_text r.abort_date)
     ∷ []
 
+-- x-refusal is this host's; RFC 9112, section 9.6: close
 abbrev pub last_fields : Sent → List (List ℕ × Option (List ℕ))
 last_fields r =
     (codes "x-refusal", option_map refusal_text r.refusal)
@@ -74,8 +79,10 @@ abbrev pub fields_text : Sent → List ℕ
 fields_text r =
     lines_text (content_fields r) ++ lines_text (object_fields r) ++ lines_text (last_fields r)
 
+-- RFC 9112, section 4
 abbrev pub status_line : ℕ → List ℕ
 status_line status = codes "HTTP/1.1 " ++ (status_text status ++ crlf)
 
+-- RFC 9112, section 2.1
 abbrev pub response_text : Sent → List ℕ
 response_text r = status_line r.status ++ fields_text r ++ crlf ++ r.body

@@ -12,6 +12,7 @@ abbrev pub pairs_of : List Field → List (List ℕ × List ℕ)
 pairs_of fields = map pair_of fields
 
 -- the head of a request: its method, its target, 0 or 1 for HTTP/1.0 or HTTP/1.1, and its fields
+-- RFC 9112, sections 3 and 5
 pub record Parts : Type 0 where
   pub method : List ℕ
   pub target : List ℕ

@@ -19,6 +19,7 @@ abbrev pub secret_of : Octets → Option State → Option Octets
 secret_of name s = option_and_then (λ t. get t.keys name) s
 
 -- of the state of the key's owner
+-- S3 has the codes (Amazon S3 API Reference, "Error responses"); the rule is this host's
 abbrev pub authenticate : Octets → Octets → Option State → Result (Unit {0}) Refusal
 authenticate id secret s = do
   name ← ok_or (key_name_of id) InvalidAccessKeyId

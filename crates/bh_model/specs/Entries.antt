@@ -48,16 +48,19 @@ kept Enabled entries = entries
 kept Suspended entries = without Null entries
 
 -- the entries with a new one in front
+-- Amazon S3 User Guide, "Adding objects to versioning-enabled buckets" and "to versioning-suspended buckets"
 abbrev pub added : BucketState → ℕ → ℕ → Content → List Entry → List Entry
 added mode next moment content entries = record { id = new_id mode next; moment = moment; content = content } ∷ kept mode entries
 
 -- a delete without id: where versions are or were numbered, a delete marker is put in front
+-- Amazon S3 User Guide, "Deleting object versions from a versioning-enabled bucket" and "from versioning-suspended buckets"
 abbrev pub deleted_current : BucketState → ℕ → ℕ → List Entry → List Entry
 deleted_current Unversioned next moment entries = without_null_version entries
 deleted_current Enabled next moment entries = added Enabled next moment Marker entries
 deleted_current Suspended next moment entries = added Suspended next moment Marker entries
 
 -- a delete with an id takes that entry out, and an id that no entry has changes nothing
+-- Amazon S3 API Reference, DeleteObject: versionId
 abbrev pub deleted : BucketState → Wanted → ℕ → ℕ → List Entry → List Entry
 deleted mode Current next moment entries = deleted_current mode next moment entries
 deleted mode (Named id) next moment entries = without id entries
@@ -88,6 +91,7 @@ found_named None = not_found NoSuchVersion
 found_named (Some e) = opened MethodNotAllowed e e.content
 
 -- the version that is wanted
+-- Amazon S3 API Reference, GetObject: versionId; Amazon S3 User Guide, "Working with delete markers"
 abbrev pub lookup : Wanted → List Entry → Result Version LookupFault
 lookup Current entries = found_current entries
 lookup (Named id) entries = found_named (find (has_id id) entries)

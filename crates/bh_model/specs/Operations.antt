@@ -29,6 +29,7 @@ pub data Answer : Type 0 where
 abbrev pub Outcome : Type 0
 Outcome = Answer × Option State
 
+-- Amazon S3 API Reference, PutObject: x-amz-version-id
 abbrev pub id_told : BucketState → VersionId → Option VersionId
 id_told Unversioned id = None
 id_told Enabled id = Some id
@@ -76,6 +77,7 @@ remove_key tenant name s = do
   _ ← require (is_some (get t.keys name)) NoSuchKeyName
   Ok (Done, Some (record t { keys = remove t.keys name }))
 
+-- Amazon S3 API Reference, CreateBucket
 abbrev pub create_bucket : ℕ → Octets → Option State → Result Outcome Refusal
 create_bucket moment name s = do
   t ← added_tenant s
@@ -90,6 +92,7 @@ abbrev pub stored : Octets → ℕ → Bucket → Answer
 stored bytes next b = Stored (id_told b.mode (new_id b.mode next)) (checksum_text bytes)
 
 -- `given` is the checksum that the request says the bytes have, if it says one
+-- Amazon S3 API Reference, PutObject
 abbrev pub put_object : ℕ → Octets → Octets → Octets → Option Octets → Option State → Result Outcome Refusal
 put_object moment name key bytes given s = do
   f ← tenant_bucket name s
@@ -103,6 +106,7 @@ shown b v = Object (id_told b.mode v.id) v.bytes v.checksum
 abbrev pub unmarked : Refusal → LookupFault
 unmarked refusal = record { refusal = refusal; marker = false }
 
+-- Amazon S3 API Reference, GetObject
 abbrev pub get_object : Octets → Octets → Wanted → Option State → Result Outcome LookupFault
 get_object name key wanted s = do
   f ← result_map_both (λ f. f) unmarked (tenant_bucket name s)

@@ -49,6 +49,7 @@ abbrev pub joined : List Part → Content
 joined ps = Body (flat_map (λ p. p.bytes) ps) (joined_text (map (λ p. sha256 p.bytes) ps))
 
 -- the object that an upload's parts make where these are named, or why they make none
+-- Amazon S3 API Reference, CompleteMultipartUpload; the order of the refusals is this host's
 abbrev pub completed : ℕ → FinMap nat_cmp Part → List Naming → Result Content Refusal
 completed least parts names = do
   _ ← require (ascends (map (λ n. n.number) names)) InvalidPartOrder

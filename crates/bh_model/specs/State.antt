@@ -24,6 +24,7 @@ pub data Content : Type 0 where
   Body : (bytes checksum : Octets) → Content
 
 -- a version or a delete marker of one key; moments are seconds since 1970
+-- Amazon S3 User Guide, "Working with delete markers"
 pub record Entry : Type 0 where
   pub id : VersionId
   pub moment : ℕ
@@ -34,6 +35,7 @@ pub record Part : Type 0 where
   pub moment : ℕ
 
 -- a multipart upload that is neither completed nor aborted; its parts by number
+-- Amazon S3 API Reference, CreateMultipartUpload, UploadPart
 pub record Upload : Type 0 where
   pub key : Octets
   pub begun : ℕ
@@ -41,6 +43,7 @@ pub record Upload : Type 0 where
 
 -- `days` is the bucket's rule for uploads that are left unfinished, if it has one. The entries of a key are
 -- newest first, and a key that has none is not in `objects`. Uploads stand by number
+-- Amazon S3 API Reference, CreateBucket, PutBucketVersioning, PutBucketLifecycleConfiguration
 pub record Bucket : Type 0 where
   pub created : ℕ
   pub mode : BucketState
@@ -90,6 +93,7 @@ used s = total bucket_used s.buckets
 
 -- whether an upload is stale now: under a rule of d days, one that began on day n since 1970 is so from the
 -- first second of day n + d + 1 on
+-- Amazon S3 API Reference, AbortIncompleteMultipartUpload
 abbrev pub is_stale : Option ℕ → ℕ → ℕ → Bool
 is_stale None begun now = false
 is_stale (Some days) begun now = nat_le (abort_moment begun days) now

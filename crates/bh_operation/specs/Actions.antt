@@ -12,6 +12,7 @@ use Rattle.bh_operation.specs.declared.action.BucketAction.TheVariants as bucket
 use Rattle.bh_operation.specs.declared.action.ObjectAction.{ObjectAction}
 use Rattle.bh_operation.specs.declared.action.ObjectAction.TheVariants as object
 
+-- RFC 9110, section 9.1
 abbrev pub method_of : List ℕ → Method
 method_of name =
     if bytes_eq name (codes "GET") then method.Get
@@ -22,6 +23,7 @@ method_of name =
     else method.Other
 
 -- fifth step, for a bucket; a GET with no selector is the first version of ListObjects, which the host does not do
+-- Amazon S3 API Reference, each operation's page has its method and selector
 unfoldable pub bucket_action : Method → Option Selector → Result BucketAction Refusal
 bucket_action method.Put None = Ok bucket.Create
 bucket_action method.Head None = Ok bucket.Head
@@ -38,6 +40,7 @@ bucket_action method.Delete (Some by.Lifecycle) = Ok bucket.DeleteLifecycle
 bucket_action m s = Err MethodNotAllowed
 
 -- for an object, with or without a part number and a copy source; a part from a copy source is not done
+-- Amazon S3 API Reference, each operation's page has its method and selector
 unfoldable pub object_action : Method → Option Selector → Bool → Bool → Result ObjectAction Refusal
 object_action m None true copied = Err InvalidArgument
 object_action method.Put None false false = Ok object.Put

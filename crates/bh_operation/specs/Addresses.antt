@@ -13,6 +13,7 @@ abbrev pub is_colon : ℕ → Bool
 is_colon b = b == 58
 
 -- the name in `tenant:bucket`, whose tenant must be the caller; a text with no colon is a name alone
+-- Ceph Object Gateway, "Multitenancy": `tenant:bucket`
 unfoldable pub own_part : List ℕ → List ℕ → Result (List ℕ) Refusal
 own_part caller text =
     if is_none (position is_colon text) then Ok text

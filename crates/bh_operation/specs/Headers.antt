@@ -14,6 +14,7 @@ stands (Once value) = true
 stands Repeated = true
 
 -- a field of object locks, which the host does not do
+-- Amazon S3 API Reference, PutObject and CreateBucket: the fields of object locks
 abbrev pub has_lock_field : List (List ℕ × List ℕ) → Bool
 has_lock_field fields =
     stands (field_named (codes "x-amz-bucket-object-lock-enabled") fields)
@@ -33,9 +34,11 @@ at_most_once (Once value) = Ok (Some value)
 at_most_once Repeated = Err InvalidArgument
 
 -- the checksum that a body must have
+-- Amazon S3 API Reference, PutObject: x-amz-checksum-sha256
 unfoldable pub checksum_in : List (List ℕ × List ℕ) → Result (Option (List ℕ)) Refusal
 checksum_in fields = at_most_once (field_named (codes "x-amz-checksum-sha256") fields)
 
+-- Amazon S3 API Reference, CopyObject: x-amz-copy-source
 abbrev pub copy_source : List (List ℕ × List ℕ) → Standing
 copy_source fields = field_named (codes "x-amz-copy-source") fields
 
@@ -45,5 +48,6 @@ once_or_none Missing = None
 once_or_none (Once value) = Some value
 once_or_none Repeated = None
 
+-- RFC 9110, section 14.2
 abbrev pub range_in : List (List ℕ × List ℕ) → Option (List ℕ)
 range_in fields = once_or_none (field_named (codes "range") fields)

@@ -25,6 +25,7 @@ short_number text =
     if is_number text && nat_le (length text) 10 then Ok (digits_value 10 text) else Err InvalidArgument
 
 -- the number of entries of a page: 1,000 where none is given, and at most that
+-- Amazon S3 API Reference, ListObjectsV2: max-keys, and its like of the other listings
 unfoldable pub page_size : Option (List ℕ) → Result ℕ Refusal
 page_size None = Ok 1000
 page_size (Some text) = do
@@ -32,11 +33,13 @@ page_size (Some text) = do
   Ok (min n 1000)
 
 -- the part after which a page of parts begins
+-- Amazon S3 API Reference, ListParts: part-number-marker
 unfoldable pub part_marker : Option (List ℕ) → Result ℕ Refusal
 part_marker None = Ok 0
 part_marker (Some text) = short_number text
 
 -- digits, 1 to 10,000
+-- Amazon S3 API Reference, UploadPart: 1 to 10,000
 unfoldable pub part_number : Option (List ℕ) → Result ℕ Refusal
 part_number None = Err InvalidArgument
 part_number (Some text) =
@@ -71,6 +74,7 @@ named_version None = Unknown
 named_version (Some Null) = Named Null
 named_version (Some (Numbered n)) = if nat_le 1 n && nat_lt n (2 ^ 63) then Named (Numbered n) else Unknown
 
+-- Amazon S3 API Reference, GetObject: versionId
 unfoldable pub wanted : Option (List ℕ) → Wanted
 wanted None = Current
 wanted (Some text) = named_version (version_of text)

@@ -46,12 +46,14 @@ abbrev pub upload_in : List Parameter → Option UploadId
 upload_in parameters = option_and_then upload_of (value_of (codes "uploadId") parameters)
 
 -- fifth step, for the host itself
+-- Amazon S3 API Reference, ListBuckets; usage is this host's
 unfoldable pub host_operation : Method → Option Selector → Result Operation Refusal
 host_operation method.Get None = Ok op.ListBuckets
 host_operation method.Get (Some by.Usage) = Ok op.Usage
 host_operation m selector = Err MethodNotAllowed
 
 -- sixth and seventh step: first the parameters and fields that an operation reads, and then the names
+-- Amazon S3 API Reference, ListObjectsV2
 unfoldable pub list_objects : Octets → Octets → List Parameter → Result Operation Refusal
 list_objects caller text parameters = do
   _ ← second_version parameters
@@ -60,6 +62,7 @@ list_objects caller text parameters = do
   name ← bucket_named caller text
   Ok (op.ListObjectsV2 name page token)
 
+-- Amazon S3 API Reference, ListObjectVersions
 unfoldable pub list_versions : Octets → Octets → List Parameter → Result Operation Refusal
 list_versions caller text parameters = do
   page ← key_page parameters
@@ -67,6 +70,7 @@ list_versions caller text parameters = do
   name ← bucket_named caller text
   Ok (op.ListObjectVersions name page after)
 
+-- Amazon S3 API Reference, ListMultipartUploads
 unfoldable pub list_uploads : Octets → Octets → List Parameter → Result Operation Refusal
 list_uploads caller text parameters = do
   page ← upload_page parameters
@@ -104,6 +108,7 @@ bucket_operation caller text parameters bucket.GetLifecycle = at_name op.GetLife
 bucket_operation caller text parameters bucket.PutLifecycle = at_name op.PutLifecycle (bucket_named caller text)
 bucket_operation caller text parameters bucket.DeleteLifecycle = at_name op.DeleteLifecycle (bucket_named caller text)
 
+-- Amazon S3 API Reference, PutObject
 unfoldable pub put_object : Octets → Octets → Octets → Fields → Result Operation Refusal
 put_object caller text key fields = do
   checksum ← checksum_in fields
@@ -111,6 +116,7 @@ put_object caller text key fields = do
   Ok (op.PutObject name checksum)
 
 -- a checksum of a copy is only counted; the names of the source come last
+-- Amazon S3 API Reference, CopyObject
 unfoldable pub copy_object : Octets → Octets → Octets → Fields → Result Operation Refusal
 copy_object caller text key fields = do
   source ← source_in (copy_source fields)
@@ -126,6 +132,7 @@ copy_from caller text key source = do
   from ← object_named caller source.bucket source.key
   Ok (op.CopyObject name (record { object = from; version = source.version }))
 
+-- Amazon S3 API Reference, UploadPart
 unfoldable pub upload_part : Octets → Octets → Octets → List Parameter → Fields → Result Operation Refusal
 upload_part caller text key parameters fields = do
   number ← part_number (value_of (codes "partNumber") parameters)
@@ -133,6 +140,7 @@ upload_part caller text key parameters fields = do
   name ← object_named caller text key
   Ok (op.UploadPart name (upload_in parameters) number checksum)
 
+-- Amazon S3 API Reference, ListParts
 unfoldable pub list_parts : Octets → Octets → Octets → List Parameter → Result Operation Refusal
 list_parts caller text key parameters = do
   page ← part_page parameters

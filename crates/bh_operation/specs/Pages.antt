@@ -27,12 +27,15 @@ page_in size_name parameters = do
   })
 
 -- a page of keys, or of versions of them
+-- Amazon S3 API Reference, ListObjectsV2 and ListObjectVersions
 unfoldable pub key_page : List Parameter → Result Page Refusal
 key_page parameters = page_in (codes "max-keys") parameters
 
+-- Amazon S3 API Reference, ListMultipartUploads
 unfoldable pub upload_page : List Parameter → Result Page Refusal
 upload_page parameters = page_in (codes "max-uploads") parameters
 
+-- Amazon S3 API Reference, ListParts
 unfoldable pub part_page : List Parameter → Result PartPage Refusal
 part_page parameters = do
   size ← page_size (value_of (codes "max-parts") parameters)
@@ -44,6 +47,7 @@ abbrev pub is_second : Option (List ℕ) → Bool
 is_second None = false
 is_second (Some text) = bytes_eq text (codes "2")
 
+-- Amazon S3 API Reference, ListObjectsV2: list-type
 unfoldable pub second_version : List Parameter → Result (Unit {0}) Refusal
 second_version parameters = if is_second (value_of (codes "list-type") parameters) then Ok tt else Err InvalidArgument
 
@@ -54,6 +58,7 @@ token_from (Some text) = do
   token ← token_in text
   Ok (Some token)
 
+-- Amazon S3 API Reference, ListObjectsV2: continuation-token
 unfoldable pub token_of : List Parameter → Result (Option (List ℕ)) Refusal
 token_of parameters = token_from (value_of (codes "continuation-token") parameters)
 
@@ -63,6 +68,7 @@ version_marker_from (Some key) id = Ok (Some (record { key = key; version = want
 version_marker_from None None = Ok None
 version_marker_from None (Some id) = Err InvalidArgument
 
+-- Amazon S3 API Reference, ListObjectVersions: key-marker and version-id-marker
 unfoldable pub version_marker : List Parameter → Result (Option VersionMarker) Refusal
 version_marker parameters =
     version_marker_from (value_of (codes "key-marker") parameters) (value_of (codes "version-id-marker") parameters)
@@ -75,6 +81,7 @@ upload_marker_from (Some key) (Some id) = do
   upload ← or_invalid_argument (upload_of id)
   Ok (Some (record { key = key; upload = Some upload }))
 
+-- Amazon S3 API Reference, ListMultipartUploads: key-marker and upload-id-marker
 unfoldable pub upload_marker : List Parameter → Result (Option UploadMarker) Refusal
 upload_marker parameters =
     upload_marker_from (value_of (codes "key-marker") parameters) (value_of (codes "upload-id-marker") parameters)

@@ -18,6 +18,7 @@ abbrev pub decoded_pair : List ℕ × List ℕ → Parameter
 decoded_pair p = record { name = text_of p.0; value = text_of p.1 }
 
 -- the names and values of a query, as a form is read
+-- URL Standard, section 5.1: application/x-www-form-urlencoded parsing
 abbrev pub parameters_of : List ℕ → List Parameter
 parameters_of query = map decoded_pair (raw_pairs query)
 

@@ -39,6 +39,7 @@ source_part part = if length part == 0 then Err InvalidArgument else or_invalid_
 abbrev pub source_path : List ℕ → List ℕ
 source_path value = without_slash (before_first is_question value)
 
+-- Amazon S3 API Reference, CopyObject: x-amz-copy-source
 unfoldable pub source_of : List ℕ → Result Source Refusal
 source_of value = do
   version ← source_version value

@@ -25,9 +25,11 @@ is_slash b = b == 47
 abbrev pub is_percent : ℕ → Bool
 is_percent b = b == 37
 
+-- RFC 3986, section 3.3
 abbrev pub path_of : List ℕ → List ℕ
 path_of target = before_first is_question target
 
+-- RFC 3986, section 3.4
 abbrev pub query_of : List ℕ → List ℕ
 query_of target = after_first is_question target
 
@@ -37,6 +39,7 @@ begins_with_digits (high ∷ []) = false
 begins_with_digits (high ∷ low ∷ rest) = is_ascii_hexdigit high && is_ascii_hexdigit low
 
 -- each percent sign is followed by two hexadecimal digits
+-- RFC 3986, section 2.1
 abbrev pub has_whole_escapes : List ℕ → Bool
 has_whole_escapes [] = true
 has_whole_escapes (b ∷ rest) = (not (is_percent b) || begins_with_digits rest) && has_whole_escapes rest
@@ -46,6 +49,7 @@ abbrev pub text_of : List ℕ → Option (List ℕ)
 text_of bytes = if is_utf8 bytes then Some bytes else None
 
 -- the text that percent-encoded bytes stand for, if they do
+-- RFC 3986, section 2.1
 abbrev pub decoded : List ℕ → Option (List ℕ)
 decoded bytes = if has_whole_escapes bytes then text_of (percent_decode bytes) else None
 
@@ -61,6 +65,7 @@ kind_in [] = Some kind.Host
 kind_in (b ∷ rest) = kind_with (before_first is_slash (b ∷ rest)) (after_first is_slash (b ∷ rest))
 
 -- what kind of target a path is: `/`, `/bucket`, `/bucket/` or `/bucket/key`
+-- Amazon S3 User Guide, "Path-style requests"
 abbrev pub kind_at : List ℕ → Option Kind
 kind_at [] = None
 kind_at (b ∷ rest) = if is_slash b then kind_in rest else None

@@ -46,14 +46,15 @@ pub fn supported(parameters: &[Parameter], fields: &[Field]) -> Result<(), Refus
     Ok(())
 }
 
-/// The field that names a copy source.
+/// The field that names a copy source (Amazon S3 API Reference, CopyObject: `x-amz-copy-source`).
 pub fn copy_source(fields: &[Field]) -> Given<'_>
     ensures { given_view result ≡ spec.copy_source (pairs_of fields.now) }
 {
     field_named(fields, b"x-amz-copy-source")
 }
 
-/// The checksum that a body must have, if one is given: InvalidArgument where two are.
+/// The checksum that a body must have (Amazon S3 API Reference, PutObject: `x-amz-checksum-sha256`), if one is given:
+/// InvalidArgument where two are.
 #[tactic(auto, unfolding(crate::specs::Headers::checksum_in))]
 pub fn checksum_in(alloc: Global, fields: &[Field]) -> Result<Option<Bytes>, RequestError>
     ensures { Gives (λ x. x) result (spec.checksum_in (pairs_of fields.now)) }

@@ -83,7 +83,7 @@ pub fn part_marker(text: Option<&str>) -> Result<u64, Refusal>
     }
 }
 
-/// The number of a part, 1 to 10,000: InvalidArgument for another text or none.
+/// The number of a part (Amazon S3 API Reference, UploadPart), 1 to 10,000: InvalidArgument for another text or none.
 #[tactic(auto, unfolding(crate::specs::Numbers::part_number))]
 pub fn part_number(text: Option<&str>) -> Result<u32, Refusal>
     ensures { result ≡ spec.part_number (option_copied text.entry) }

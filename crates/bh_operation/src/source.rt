@@ -84,7 +84,7 @@ fn source_of(alloc: Global, value: &[u8]) -> Result<Source, RequestError>
 
 /// What the copy source of a request names: InvalidArgument where it stands twice, or is of another form than
 /// `bucket/key` or `/bucket/key`, percent-encoded, and then perhaps `?versionId=` and an id (`x-amz-copy-source`
-/// of S3's CopyObject).
+/// of CopyObject in the Amazon S3 API Reference).
 #[tactic(auto, unfolding(crate::specs::Sources::source_in))]
 pub fn source_in(alloc: Global, field: Given) -> Result<Source, RequestError>
     ensures { Gives (λ x. x) result (spec.source_in (given_view field.entry)) }

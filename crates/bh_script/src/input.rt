@@ -1,4 +1,5 @@
 use bh_event::event::Event;
+use bh_event::flaw::{Flaw, flaw_of};
 use bh_event::line::read_line;
 use std::alloc::{AllocError, Global};
 use std::io;
@@ -7,11 +8,18 @@ use std::io::Read;
 /// The most bytes that a script may have.
 const GREATEST_SCRIPT: usize = 1 << 26;
 
-/// A script: the events before the first line that tells none, and that line's number, from 1.
+/// A line that tells no event: its number, from 1, and why it tells none.
+#[derive(Clone, Copy)]
+pub struct BadLine {
+    pub number: usize,
+    pub flaw: Flaw,
+}
+
+/// A script: the events before the first line that tells none, and that line.
 #[derive(Drop)]
 pub struct Script {
     pub events: Vec<Event>,
-    pub bad_line: Option<usize>,
+    pub bad_line: Option<BadLine>,
 }
 
 /// All bytes of a reader, or none where they are more than a script may have.
@@ -41,10 +49,10 @@ pub fn read_script(alloc: Global, bytes: &[u8]) -> Result<Script, AllocError> {
         match read_line(alloc, line)? {
             Some(event) => events.push(event)?,
             None => {
-                return Ok(Script {
-                    events,
-                    bad_line: Some(index.saturating_add(1)),
-                });
+                let number = index.saturating_add(1);
+                let flaw = flaw_of(alloc, line)?;
+                let bad_line = Some(BadLine { number, flaw });
+                return Ok(Script { events, bad_line });
             }
         }
     }

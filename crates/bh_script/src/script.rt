@@ -1,5 +1,5 @@
 use crate::digester::Sha256Digester;
-use crate::input::{Script, read_script};
+use crate::input::{BadLine, Script, read_script};
 use bh_create::create::create;
 use bh_host::apply::Done;
 use bh_host::run::run;
@@ -33,8 +33,8 @@ impl From<AllocError> for Fault {
 pub struct Answered {
     /// Each event's reply and a line's end, and then, for a line that tells no event, `bad line` and its number.
     pub text: Vec<u8>,
-    /// The number of the first line that tells no event, from 1, if there is one.
-    pub bad_line: Option<usize>,
+    /// The first line that tells no event, if there is one.
+    pub bad_line: Option<BadLine>,
 }
 
 /// Applies the events of a script, up to the first line that tells none, to a new host in memory.
@@ -47,8 +47,8 @@ pub fn answer_script(alloc: Global, bytes: &[u8]) -> Result<Answered, Fault> {
         text.extend_from_slice(b"\n")?;
     }
     let bad_line = script.bad_line;
-    if let Some(number) = bad_line {
-        let line = format!(in alloc; "bad line {number}\n")?;
+    if let Some(bad) = bad_line {
+        let line = format!(in alloc; "bad line {}\n", bad.number)?;
         text.extend_from_slice(line.as_bytes())?;
     }
     Ok(Answered { text, bad_line })

@@ -7,9 +7,11 @@ use Rattle.bh_types.specs.declared.id.VersionId.TheVariants.{Null, Numbered}
 use Rattle.bh_types.specs.declared.id.UploadId.{UploadId}
 
 -- 16 lower hexadecimal digits
+-- RFC 4648, section 8, in lower case
 abbrev pub number_text : ℕ → List ℕ
 number_text n = encode_lower (to_be_bytes w64 n)
 
+-- Amazon S3 User Guide, "How S3 Versioning works": the version id null
 abbrev pub version_text : VersionId → List ℕ
 version_text Null = codes "null"
 version_text (Numbered n) = number_text n

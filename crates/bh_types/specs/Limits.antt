@@ -10,6 +10,7 @@ abbrev pub AreLimits : ℕ → ℕ → Type 0
 AreLimits min_part max_body = (min_part ≤ 2 ^ 30) × (1 ≤ max_body) × (max_body ≤ 2 ^ 30)
 
 -- 5 MiB and 16 MiB
+-- Amazon S3 User Guide, "Amazon S3 multipart upload limits": 5 MiB is the least part
 abbrev pub default_limits : HostLimits
 default_limits = record { min_part = 5_242_880; max_body = 16_777_216 }
 

@@ -7,10 +7,12 @@ pub record Day : Type 0 where
   pub day : ℕ
 
 -- every fourth year, of the full hundreds only every fourth hundred
+-- RFC 3339, appendix C
 abbrev pub is_leap_year : ℕ → Bool
 is_leap_year year = year % 4 == 0 && (not (year % 100 == 0) || year % 400 == 0)
 
 -- thirty days have April, June, September and November
+-- RFC 3339, section 5.7
 abbrev pub days_in_month : ℕ → ℕ → ℕ
 days_in_month year month =
     if month == 2 then (if is_leap_year year then 29 else 28)
@@ -44,10 +46,12 @@ abbrev pub clock_text : ℕ → List ℕ
 clock_text s = two_digits (s / 3600) ++ 58 ∷ two_digits (s / 60 % 60) ++ 58 ∷ two_digits (s % 60)
 
 -- YYYY-MM-DDTHH:MM:SSZ of seconds since 1970, each day having 86,400; 84 is 'T', 90 is 'Z'
+-- RFC 3339, section 5.6
 abbrev pub moment_text : ℕ → List ℕ
 moment_text m = day_text (day_at (m / 86400)) ++ (84 ∷ (clock_text (m % 86400) ++ 90 ∷ []))
 
 -- when an upload begun then is stale under a rule of so many days: at the midnight that ends the day
 -- which is so many days later
+-- Amazon S3 API Reference, AbortIncompleteMultipartUpload, and x-amz-abort-date of CreateMultipartUpload
 abbrev pub abort_moment : ℕ → ℕ → ℕ
 abort_moment begun days = 86400 * (begun / 86400 + days + 1)

@@ -22,6 +22,7 @@ abbrev pub is_key_name : List ℕ → Bool
 is_key_name text = is_name text
 
 -- visible ASCII: '!' to '~'
+-- RFC 5234, appendix B.1: VCHAR
 abbrev pub is_secret_byte : ℕ → Bool
 is_secret_byte b = nat_le 33 b && nat_le b 126
 
@@ -56,6 +57,7 @@ is_four_groups text =
     unwrap_or (option_map is_group (option_and_then after_group (option_and_then after_group (after_group text)))) false
 
 -- 3 to 63 of a to z, 0 to 9, dot, hyphen; first and last a letter or digit; no two dots together; not four groups
+-- Amazon S3 User Guide, "General purpose bucket naming rules", without the forbidden prefixes and suffixes
 abbrev pub is_bucket_name : List ℕ → Bool
 is_bucket_name text =
     has_length 3 63 text && list_all is_bucket_byte text
@@ -63,5 +65,6 @@ is_bucket_name text =
     && not (has_dots_together text) && not (is_four_groups text)
 
 -- 1 to 1,024 bytes; that they are UTF-8 is known of each `&str`
+-- Amazon S3 User Guide, "Naming Amazon S3 objects"
 abbrev pub is_object_key : List ℕ → Bool
 is_object_key text = has_length 1 1024 text

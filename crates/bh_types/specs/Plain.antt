@@ -4,6 +4,7 @@ use Rattle.bh_types.specs.declared.plain.BucketState.{BucketState}
 use Rattle.bh_types.specs.declared.plain.BucketState.TheVariants.{Unversioned, Enabled, Suspended}
 
 -- the number by which a table's column keeps a bucket's state
+-- Amazon S3 API Reference, GetBucketVersioning has these three states; the numbers are this host's
 abbrev pub state_number : BucketState → ℕ
 state_number Unversioned = 0
 state_number Enabled = 1

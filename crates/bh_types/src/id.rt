@@ -7,7 +7,8 @@ ghost use Rattle.bh_types.specs.declared.id.UploadId.{UploadId as Upload};
 use hex::FromHex;
 use std::alloc::{AllocError, Global};
 
-/// A version's id: `null`, or the tenant's version counter in 16 lower hexadecimal digits.
+/// A version's id: `null` (Amazon S3 User Guide, "How S3 Versioning works"), or the tenant's version counter in 16
+/// lower hexadecimal digits (RFC 4648, section 8).
 #[derive(Clone, Copy, Debug, PartialEq, Eq)]
 pub enum VersionId {
     /// The version that a bucket without versioning keeps.
@@ -16,7 +17,7 @@ pub enum VersionId {
     Numbered(u64),
 }
 
-/// An upload's id: the tenant's upload counter in 16 lower hexadecimal digits.
+/// An upload's id: the tenant's upload counter in 16 lower hexadecimal digits (RFC 4648, section 8).
 #[derive(Clone, Copy, Debug, PartialEq, Eq, PartialOrd, Ord)]
 pub struct UploadId {
     /// The number that the digits are.

@@ -6,7 +6,7 @@ use std::marker::Model;
 
 /// The greatest `min_part`, in bytes.
 pub const GREATEST_MIN_PART: u64 = 1 << 30;
-/// The `min_part` that S3 has: 5 MiB.
+/// The `min_part` that S3 has: 5 MiB (Amazon S3 User Guide, "Amazon S3 multipart upload limits").
 pub const DEFAULT_MIN_PART: u64 = 5_242_880;
 /// The greatest `max_body`, in bytes.
 pub const GREATEST_MAX_BODY: u64 = 1 << 30;

@@ -68,7 +68,7 @@ impl Moment {
     }
 }
 
-/// The moment as `YYYY-MM-DDTHH:MM:SSZ`, in UTC, as RFC 3339 writes it. An error says that memory
+/// The moment as `YYYY-MM-DDTHH:MM:SSZ`, in UTC, as RFC 3339 (section 5.6) writes it. An error says that memory
 /// ran out.
 pub fn moment_text(alloc: Global, moment: Moment) -> Result<String, AllocError>
     ensures { IfOk result (λ text. string_bytes text ≡ spec.moment_text moment) }

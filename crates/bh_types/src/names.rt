@@ -6,7 +6,7 @@ use crate::bytes::{are_name_bytes, has_length};
 use std::alloc::{AllocError, Global};
 use std::marker::Model;
 
-/// A tenant's name: 1 to 32 of a to z, 0 to 9.
+/// A tenant's name: 1 to 32 of a to z, 0 to 9. Tenants are those of the Ceph Object Gateway ("Multitenancy").
 #[derive(Clone, Debug, Drop)]
 pub struct TenantName {
     name: String,
@@ -88,7 +88,7 @@ impl KeyName {
     }
 }
 
-/// An access key's secret: 8 to 64 visible ASCII characters, `!` to `~`. It has no `Debug`, so that
+/// An access key's secret: 8 to 64 visible ASCII characters, `!` to `~` (RFC 5234, appendix B.1). It has no `Debug`, so that
 /// none is printed by mistake.
 #[derive(Clone, Drop)]
 pub struct Secret {

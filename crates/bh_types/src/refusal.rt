@@ -135,7 +135,7 @@ impl Refusal {
         }
     }
 
-    /// The status code of RFC 9110 with which a request is so refused. An operator's command is
+    /// The status code of RFC 9110 (section 15) with which a request is so refused. An operator's command is
     /// answered without HTTP: those refusals have the status that fits their meaning.
     pub fn status(self) -> u16
         ensures { result ≡ status_of self }

@@ -1,7 +1,7 @@
 //! bucketd: a host of S3 buckets for many tenants.
 #![tactic(auto)]
 
-use bh_script::input::read_all;
+use bh_script::input::{BadLine, read_all};
 use bh_script::script::answer_script;
 use std::io::Write;
 use std::process::ExitCode;
@@ -11,7 +11,7 @@ use std::{env, io};
 const USAGE: &str = "usage: bucketd script
 
 Reads events from standard input, one JSON object a line, applies them to a new host in memory, and
-writes what each is answered.
+writes what each is answered. It ends at the first line that tells no event, and says why on standard error.
 
   {\"at\":n,\"http\":text}         a request, at the clock's reading n in seconds since 1970
   {\"at\":n,\"hex\":digits}        the same, its bytes in hexadecimal
@@ -32,7 +32,7 @@ fn asks_for_script(rt: &impl Runtime) -> io::Result<bool> {
 }
 
 /// Answers the script of standard input on standard output.
-fn run_script(rt: &(impl Input + Print + AllocGlobal)) -> io::Result<ExitCode> {
+fn run_script(rt: &(impl Input + Print + Eprint + AllocGlobal)) -> io::Result<ExitCode> {
     let alloc = rt.alloc();
     let answered = match read_all(alloc, &mut rt.reader()) {
         Ok(Some(bytes)) => answer_script(alloc, bytes.as_slice()),
@@ -41,10 +41,19 @@ fn run_script(rt: &(impl Input + Print + AllocGlobal)) -> io::Result<ExitCode> {
     match answered {
         Ok(answered) => {
             io::writer(rt).write_all(answered.text.as_slice())?;
-            Ok(ExitCode::from(u8::from(answered.bad_line.is_some())))
+            end(rt, answered.bad_line)
         }
         Err(_) => fault(rt),
     }
+}
+
+/// Ends with status 1 where a line told no event, and says why on standard error.
+fn end(rt: &impl Eprint, bad_line: Option<BadLine>) -> io::Result<ExitCode> {
+    let Some(BadLine { number, flaw }) = bad_line else {
+        return Ok(ExitCode::from(0));
+    };
+    eprintln!(rt; "line {number}: {}", flaw.text())?;
+    Ok(ExitCode::from(1))
 }
 
 fn fault(rt: &impl Print) -> io::Result<ExitCode> {

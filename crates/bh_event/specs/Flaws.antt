@@ -1,0 +1,41 @@
+-- Why a line of a script tells no event: the first flaw that it has, in the order of these definitions.
+use Rattle.std.specs.Prelude.{ℕ, List, codes, not, ◌&&◌, Option, Some, None, is_some, if◌then◌else◌}
+use Rattle.std.specs.Str.{bytes_eq, is_utf8}
+use Rattle.serde_json.specs.Data.{Data}
+use Rattle.serde_json.specs.Find.{as_object}
+use Rattle.serde_json.specs.Read.{read}
+use Rattle.bh_event.specs.Lines.{text_at, number_at, has_members}
+use Rattle.bh_event.specs.declared.flaw.Flaw.{Flaw}
+use Rattle.bh_event.specs.declared.flaw.Flaw.TheVariants.{NotUtf8, NotJson, NotAnObject, NoReading, NoContent, OtherMembers, OddDigits, UnknownCommand, WrongMembers}
+
+-- two members, of which one is `at` and the other is no request: so its digits are not
+abbrev pub flaw_of_request : Data → Flaw
+flaw_of_request d =
+    if not (is_some (text_at (codes "http") d)) && not (is_some (text_at (codes "hex") d)) then NoContent
+    else if has_members 2 d then OddDigits
+    else OtherMembers
+
+-- of a known command the name is right, so its other members are not
+abbrev pub flaw_of_command : List ℕ → Flaw
+flaw_of_command op =
+    if bytes_eq op (codes "tenant-add") then WrongMembers
+    else if bytes_eq op (codes "key-add") then WrongMembers
+    else if bytes_eq op (codes "key-remove") then WrongMembers
+    else UnknownCommand
+
+abbrev pub flaw_of_content : Data → Option (List ℕ) → Flaw
+flaw_of_content d None = flaw_of_request d
+flaw_of_content d (Some op) = flaw_of_command op
+
+abbrev pub flaw_in : Data → Flaw
+flaw_in d =
+    if not (is_some (as_object d)) then NotAnObject
+    else if not (is_some (number_at (codes "at") d)) then NoReading
+    else flaw_of_content d (text_at (codes "op") d)
+
+abbrev pub flaw_of_value : Option Data → Flaw
+flaw_of_value None = NotJson
+flaw_of_value (Some d) = flaw_in d
+
+abbrev pub flaw_of : List ℕ → Flaw
+flaw_of line = if is_utf8 line then flaw_of_value (read line) else NotUtf8

@@ -1,0 +1,84 @@
+ghost use Rattle.std.specs.Prelude.{◌≡◌, IfOk};
+ghost use Rattle.serde_json.specs.View.{view};
+ghost use Rattle.bh_event.specs.Flaws as spec;
+
+use crate::line::{has_members, number_at, text_at};
+use serde_json::Value;
+use std::alloc::{AllocError, Global};
+
+/// Why a line of a script tells no event.
+#[derive(Clone, Copy)]
+pub enum Flaw {
+    NotUtf8,
+    NotJson,
+    NotAnObject,
+    NoReading,
+    NoContent,
+    OtherMembers,
+    OddDigits,
+    UnknownCommand,
+    WrongMembers,
+}
+
+impl Flaw {
+    /// The reason in words, for whoever wrote the line.
+    pub fn text(self) -> &'static str {
+        match self {
+            Flaw::NotUtf8 => "its bytes are not UTF-8",
+            Flaw::NotJson => "it is not JSON",
+            Flaw::NotAnObject => "it is no JSON object",
+            Flaw::NoReading => "`at` is missing, or no whole number from 0 to 18446744073709551615",
+            Flaw::NoContent => "it has no text `http`, `hex` or `op`",
+            Flaw::OtherMembers => "it has other members beside `at` and the request",
+            Flaw::OddDigits => "`hex` is not an even number of hexadecimal digits",
+            Flaw::UnknownCommand => "`op` is none of tenant-add, key-add, key-remove",
+            Flaw::WrongMembers => {
+                "its command's members are missing, of another type, or more than those that it takes"
+            }
+        }
+    }
+}
+
+/// Why a line tells no event: the first flaw that it has. It is asked of a line that `read_line` read as none.
+pub fn flaw_of(alloc: Global, line: &[u8]) -> Result<Flaw, AllocError>
+    ensures { IfOk result (λ flaw. flaw ≡ spec.flaw_of line.now) }
+{
+    let Ok(text) = str::from_utf8(line) else {
+        return Ok(Flaw::NotUtf8);
+    };
+    match Value::from_str(alloc, text) {
+        Ok(document) => Ok(flaw_in(&document)),
+        Err(error) if error.is_memory() => Err(AllocError),
+        Err(_) => Ok(Flaw::NotJson),
+    }
+}
+
+fn flaw_in(document: &Value) -> Flaw
+    ensures { result ≡ spec.flaw_in (view document.now) }
+{
+    if document.as_object().is_none() {
+        return Flaw::NotAnObject;
+    }
+    if number_at(document, "at").is_none() {
+        return Flaw::NoReading;
+    }
+    match text_at(document, "op") {
+        Some("tenant-add" | "key-add" | "key-remove") => Flaw::WrongMembers,
+        Some(_) => Flaw::UnknownCommand,
+        None => flaw_of_request(document),
+    }
+}
+
+fn flaw_of_request(document: &Value) -> Flaw
+    ensures { result ≡ spec.flaw_of_request (view document.now) }
+{
+    let has_http = text_at(document, "http").is_some();
+    let has_hex = text_at(document, "hex").is_some();
+    if !has_http && !has_hex {
+        Flaw::NoContent
+    } else if has_members(document, 2) {
+        Flaw::OddDigits
+    } else {
+        Flaw::OtherMembers
+    }
+}
