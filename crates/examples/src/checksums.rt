@@ -2,7 +2,7 @@
 
 use crate::answer::{Answer, bytes, refused, text};
 use crate::documents;
-use crate::words::words;
+use crate::words::two;
 use bh_docs::{
     checksum_of, checksum_of_digest, digest_of, joined_checksum, read_checksum, read_token,
     token_text,
@@ -28,7 +28,7 @@ fn of_digest(alloc: Global, input: &str) -> Answer {
 
 /// Of two parts.
 fn joined(alloc: Global, input: &str) -> Answer {
-    let [first, second] = words::<2>(input)?;
+    let (first, second) = two(input, ' ')?;
     let digests = [digest_of(first.as_bytes()), digest_of(second.as_bytes())];
     Ok(joined_checksum(alloc, digests.as_slice())?)
 }

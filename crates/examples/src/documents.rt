@@ -2,7 +2,7 @@
 
 use crate::answer::{Answer, Fault, refused, text};
 use crate::pages;
-use crate::words::{items, moment, number, numbers, small, state_of, state_text, words};
+use crate::words::{items, moment, number, numbers, small, state_of, state_text, three, two};
 use bh_docs::{
     BucketEntry, Usage, begun_document, buckets_document, completed_document, copied_document,
     error_document, lifecycle_document, read_complete, read_lifecycle, read_versioning,
@@ -45,26 +45,26 @@ pub fn read_answer(alloc: Global, call: &str, input: &[u8]) -> Answer {
 
 /// A code and a resource, `-` for none.
 fn error(alloc: Global, input: &str) -> Answer {
-    let [code, resource] = words::<2>(input)?;
+    let (code, resource) = two(input, ' ')?;
     let resource = items(resource).unwrap_or("");
     Ok(error_document(alloc, code, resource)?)
 }
 
 /// A bucket, a checksum and a key.
 fn completed(alloc: Global, input: &str) -> Answer {
-    let [bucket, checksum, key] = words::<3>(input)?;
+    let (bucket, checksum, key) = three(input, ' ')?;
     Ok(completed_document(alloc, bucket, checksum, key)?)
 }
 
 /// A checksum and a moment.
 fn copied(alloc: Global, input: &str) -> Answer {
-    let [checksum, modified] = words::<2>(input)?;
+    let (checksum, modified) = two(input, ' ')?;
     Ok(copied_document(alloc, checksum, moment(modified)?)?)
 }
 
 /// A bucket, a key and an upload's number.
 fn begun(alloc: Global, input: &str) -> Answer {
-    let [bucket, key, upload] = words::<3>(input)?;
+    let (bucket, key, upload) = three(input, ' ')?;
     let number = number(upload)?;
     Ok(begun_document(alloc, bucket, key, UploadId { number })?)
 }
@@ -81,7 +81,9 @@ fn bucket_of(alloc: Global, text: &str) -> Result<BucketEntry, Fault> {
 fn buckets_of(alloc: Global, list: &str) -> Result<Vec<BucketEntry>, Fault> {
     let mut buckets = Vec::new(alloc);
     for text in list.split(',') {
-        buckets.push(bucket_of(alloc, text)?).map_err(AllocError::from)?;
+        buckets
+            .push(bucket_of(alloc, text)?)
+            .map_err(AllocError::from)?;
     }
     Ok(buckets)
 }
@@ -96,8 +98,17 @@ fn buckets(alloc: Global, input: &str) -> Answer {
 
 /// Nine numbers, in the order of the document's members.
 fn usage(alloc: Global, input: &str) -> Answer {
-    let [buckets, bytes, markers, objects, part_bytes, quota, uploads, version_bytes, versions] =
-        numbers::<9>(input)?;
+    let [
+        buckets,
+        bytes,
+        markers,
+        objects,
+        part_bytes,
+        quota,
+        uploads,
+        version_bytes,
+        versions,
+    ] = numbers::<9>(input)?;
     let usage = Usage {
         buckets,
         bytes,
@@ -169,7 +180,11 @@ fn name_text(alloc: Global, name: &Named) -> Result<String, AllocError> {
 fn many_parts(alloc: Global, input: &str) -> Answer {
     let (last, more) = input.split_once(' ').unwrap_or((input, ""));
     let body = many_parts_body(alloc, small(last)?, more)?;
-    match read_complete(alloc, body.as_bytes()) {
+    counted_parts(alloc, body.as_bytes())
+}
+
+fn counted_parts(alloc: Global, body: &[u8]) -> Answer {
+    match read_complete(alloc, body) {
         Ok(names) => count_text(alloc, names.as_slice()),
         Err(error) => refused(alloc, error),
     }
@@ -178,13 +193,18 @@ fn many_parts(alloc: Global, input: &str) -> Answer {
 fn many_parts_body(alloc: Global, last: u32, more: &str) -> Result<String, AllocError> {
     let mut body = String::from_str(alloc, "{\"Parts\":[{\"PartNumber\":1}")?;
     for number in 2..=last {
-        body.push_str(",{\"PartNumber\":")?;
-        body.push_str(number.to_string(alloc)?.as_str())?;
-        body.push_str("}")?;
+        push_part(alloc, &mut body, number)?;
     }
     body.push_str(more)?;
     body.push_str("]}")?;
     Ok(body)
+}
+
+fn push_part(alloc: Global, body: &mut String, number: u32) -> Result<(), AllocError> {
+    let digits = number.to_string(alloc)?;
+    body.push_str(",{\"PartNumber\":")?;
+    body.push_str(digits.as_str())?;
+    body.push_str("}")
 }
 
 fn count_text(alloc: Global, names: &[Named]) -> Answer {

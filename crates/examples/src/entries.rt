@@ -2,7 +2,7 @@
 
 use crate::answer::{Answer, Fault};
 use crate::parts;
-use crate::words::{number, state_of, wanted_of, words};
+use crate::words::{four, number, state_of, wanted_of};
 use bh_model::entries::{Content, Entry, add, delete, lookup};
 use bh_types::plain::{BucketState, Wanted};
 use std::alloc::{AllocError, Global};
@@ -48,7 +48,7 @@ fn step_of(text: &str) -> Result<Step<'_>, Fault> {
 }
 
 fn add_of(text: &str) -> Result<Step<'_>, Fault> {
-    let [state, next, moment, bytes] = words::<4>(text)?;
+    let (state, next, moment, bytes) = four(text, ' ')?;
     Ok(Step::Add {
         state: state_of(state)?,
         next: number(next)?,
@@ -58,7 +58,7 @@ fn add_of(text: &str) -> Result<Step<'_>, Fault> {
 }
 
 fn delete_of(text: &str) -> Result<Step<'_>, Fault> {
-    let [state, wanted, next, moment] = words::<4>(text)?;
+    let (state, wanted, next, moment) = four(text, ' ')?;
     Ok(Step::Delete {
         state: state_of(state)?,
         wanted: wanted_of(wanted),

@@ -6,7 +6,7 @@ use crate::shown::operation_text;
 use bh_http::read::read_request;
 use bh_http::request::Request;
 use bh_operation::allow::allow_of;
-use bh_operation::operation::operation_of;
+use bh_operation::operation::{Operation, operation_of};
 use bh_types::error::RequestError;
 use bh_types::limits::Limits;
 use bh_types::names::TenantName;
@@ -60,8 +60,16 @@ pub fn asks_of_target(alloc: Global, target: &[u8]) -> Answer {
 
 fn asked(alloc: Global, request: &Request) -> Answer {
     let green = TenantName::read(alloc, "green")?.ok_or(Fault::Form)?;
-    match operation_of(alloc, request, &green) {
-        Ok(operation) => Ok(operation_text(alloc, &operation)?),
+    outcome_text(alloc, operation_of(alloc, request, &green))
+}
+
+fn outcome_text(alloc: Global, outcome: Result<Operation, RequestError>) -> Answer {
+    match outcome {
+        Ok(operation) => shown(alloc, &operation),
         Err(error) => refused(alloc, error),
     }
+}
+
+fn shown(alloc: Global, operation: &Operation) -> Answer {
+    Ok(operation_text(alloc, operation)?)
 }

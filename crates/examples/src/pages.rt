@@ -1,13 +1,14 @@
 //! Pages of listings. What a page shows was all made at the beginning of 1970.
 
 use crate::answer::{Answer, Fault};
-use crate::words::{items, moment, number, small, text_of, words};
+use crate::words::{four, items, number, six, small, text_of, three, two};
 use bh_docs::{
     CommonPrefix, ObjectEntry, ObjectsPage, PartEntry, PartsPage, StoredObject, UploadEntry,
     UploadsNext, UploadsPage, VersionEntry, VersionsNext, VersionsPage, objects_document,
     parts_document, uploads_document, versions_document,
 };
 use bh_types::id::{UploadId, VersionId};
+use bh_types::moment::Moment;
 use std::alloc::{AllocError, Global};
 
 pub fn answer(alloc: Global, call: &str, input: &str) -> Answer {
@@ -56,12 +57,11 @@ impl Item for CommonPrefix {
 /// `KEY:SIZE:CHECKSUM`
 impl Item for ObjectEntry {
     fn read(alloc: Global, text: &str) -> Result<ObjectEntry, Fault> {
-        let (key, rest) = text.split_once(':').ok_or(Fault::Form)?;
-        let (size, checksum) = rest.split_once(':').ok_or(Fault::Form)?;
+        let (key, size, checksum) = three(text, ':')?;
         Ok(ObjectEntry {
             checksum: String::from_str(alloc, checksum)?,
             key: String::from_str(alloc, key)?,
-            modified: moment("0")?,
+            modified: beginning()?,
             size: number(size)?,
         })
     }
@@ -70,20 +70,20 @@ impl Item for ObjectEntry {
 /// `NUMBER:SIZE:CHECKSUM`
 impl Item for PartEntry {
     fn read(alloc: Global, text: &str) -> Result<PartEntry, Fault> {
-        let (part, rest) = text.split_once(':').ok_or(Fault::Form)?;
-        let (size, checksum) = rest.split_once(':').ok_or(Fault::Form)?;
+        let (part, size, checksum) = three(text, ':')?;
         Ok(PartEntry {
             checksum: String::from_str(alloc, checksum)?,
-            modified: moment("0")?,
+            modified: beginning()?,
             number: small(part)?,
             size: number(size)?,
         })
     }
 }
 
+/// `SIZE;CHECKSUM`
 impl Item for StoredObject {
     fn read(alloc: Global, text: &str) -> Result<StoredObject, Fault> {
-        let (size, checksum) = text.split_once(':').ok_or(Fault::Form)?;
+        let (size, checksum) = two(text, ';')?;
         Ok(StoredObject {
             checksum: String::from_str(alloc, checksum)?,
             size: number(size)?,
@@ -91,17 +91,14 @@ impl Item for StoredObject {
     }
 }
 
-/// `KEY:NUMBER:latest:SIZE:CHECKSUM`, `older` in place of `latest`, and a marker with `-` in place of size and
-/// checksum.
+/// `KEY:NUMBER:AGE:OBJECT`, where AGE is `latest` or `older`, and a delete marker has `-` for its object.
 impl Item for VersionEntry {
     fn read(alloc: Global, text: &str) -> Result<VersionEntry, Fault> {
-        let (key, rest) = text.split_once(':').ok_or(Fault::Form)?;
-        let (id, rest) = rest.split_once(':').ok_or(Fault::Form)?;
-        let (age, object) = rest.split_once(':').ok_or(Fault::Form)?;
+        let (key, id, age, object) = four(text, ':')?;
         Ok(VersionEntry {
             key: String::from_str(alloc, key)?,
             id: VersionId::Numbered(number(id)?),
-            modified: moment("0")?,
+            modified: beginning()?,
             latest: age == "latest",
             object: optional(alloc, object)?,
         })
@@ -111,13 +108,20 @@ impl Item for VersionEntry {
 /// `KEY:NUMBER`
 impl Item for UploadEntry {
     fn read(alloc: Global, text: &str) -> Result<UploadEntry, Fault> {
-        let (key, upload) = text.split_once(':').ok_or(Fault::Form)?;
+        let (key, upload) = two(text, ':')?;
         Ok(UploadEntry {
-            initiated: moment("0")?,
+            initiated: beginning()?,
             key: String::from_str(alloc, key)?,
-            id: UploadId { number: number(upload)? },
+            id: UploadId {
+                number: number(upload)?,
+            },
         })
     }
+}
+
+/// The beginning of 1970.
+fn beginning() -> Result<Moment, Fault> {
+    Moment::new(0).ok_or(Fault::Form)
 }
 
 /// A name, and the id of a page's last entry, which a rolled-up name has not.
@@ -156,13 +160,30 @@ impl Item for String {
     }
 }
 
-/// A bucket, a prefix, the greatest number of entries, the prefixes, the objects and the last name.
-fn objects(alloc: Global, input: &str) -> Answer {
-    let [bucket, prefix, max, prefixes, objects, next] = words::<6>(input)?;
-    let page = ObjectsPage {
+/// What a page of a bucket begins with: the bucket, the prefix, and how many entries it may have.
+#[derive(Drop)]
+struct PageHead {
+    bucket: String,
+    prefix: String,
+    max: u32,
+}
+
+fn head_of(alloc: Global, bucket: &str, prefix: &str, max: &str) -> Result<PageHead, Fault> {
+    Ok(PageHead {
         bucket: String::from_str(alloc, bucket)?,
         prefix: text_of(alloc, prefix)?,
         max: small(max)?,
+    })
+}
+
+/// A bucket, a prefix, the greatest number of entries, the prefixes, the objects and the last name.
+fn objects(alloc: Global, input: &str) -> Answer {
+    let (bucket, prefix, max, prefixes, objects, next) = six(input, ' ')?;
+    let head = head_of(alloc, bucket, prefix, max)?;
+    let page = ObjectsPage {
+        bucket: head.bucket,
+        prefix: head.prefix,
+        max: head.max,
         prefixes: list(alloc, prefixes)?,
         objects: list(alloc, objects)?,
         next: optional(alloc, next)?,
@@ -172,11 +193,12 @@ fn objects(alloc: Global, input: &str) -> Answer {
 
 /// The same of versions.
 fn versions(alloc: Global, input: &str) -> Answer {
-    let [bucket, prefix, max, prefixes, versions, next] = words::<6>(input)?;
+    let (bucket, prefix, max, prefixes, versions, next) = six(input, ' ')?;
+    let head = head_of(alloc, bucket, prefix, max)?;
     let page = VersionsPage {
-        bucket: String::from_str(alloc, bucket)?,
-        prefix: text_of(alloc, prefix)?,
-        max: small(max)?,
+        bucket: head.bucket,
+        prefix: head.prefix,
+        max: head.max,
         prefixes: list(alloc, prefixes)?,
         versions: list(alloc, versions)?,
         next: optional(alloc, next)?,
@@ -186,11 +208,12 @@ fn versions(alloc: Global, input: &str) -> Answer {
 
 /// The same of uploads.
 fn uploads(alloc: Global, input: &str) -> Answer {
-    let [bucket, prefix, max, prefixes, uploads, next] = words::<6>(input)?;
+    let (bucket, prefix, max, prefixes, uploads, next) = six(input, ' ')?;
+    let head = head_of(alloc, bucket, prefix, max)?;
     let page = UploadsPage {
-        bucket: String::from_str(alloc, bucket)?,
-        prefix: text_of(alloc, prefix)?,
-        max: small(max)?,
+        bucket: head.bucket,
+        prefix: head.prefix,
+        max: head.max,
         prefixes: list(alloc, prefixes)?,
         uploads: list(alloc, uploads)?,
         next: optional(alloc, next)?,
@@ -200,14 +223,24 @@ fn uploads(alloc: Global, input: &str) -> Answer {
 
 /// A bucket, a key, an upload's number, the greatest number of parts, the parts and the last one's number.
 fn parts(alloc: Global, input: &str) -> Answer {
-    let [bucket, key, upload, max, parts, next] = words::<6>(input)?;
+    let (bucket, key, upload, max, parts, next) = six(input, ' ')?;
+    let head = head_of(alloc, bucket, key, max)?;
     let page = PartsPage {
-        bucket: String::from_str(alloc, bucket)?,
-        key: String::from_str(alloc, key)?,
-        upload: UploadId { number: number(upload)? },
-        max: small(max)?,
+        bucket: head.bucket,
+        key: head.prefix,
+        upload: UploadId {
+            number: number(upload)?,
+        },
+        max: head.max,
         parts: list(alloc, parts)?,
-        next: match items(next) { Some(last) => Some(small(last)?), None => None },
+        next: last_part(next)?,
     };
     Ok(parts_document(alloc, &page)?)
+}
+
+fn last_part(word: &str) -> Result<Option<u32>, Fault> {
+    match items(word) {
+        Some(last) => Ok(Some(small(last)?)),
+        None => Ok(None),
+    }
 }

@@ -2,14 +2,13 @@
 
 use crate::answer::{Answer, Fault, refused, yes_or_no};
 use crate::checksums;
-use crate::words::{number, small, state_of, words};
+use crate::words::{four, number, small, state_of, three};
 use bh_model::counting::after_entry;
 use bh_model::entries::Content;
 use bh_model::parts::{Part, complete};
 use bh_model::uploads::{Upload, is_stale, purged};
 use bh_types::plain::{Counters, Named};
-use std::alloc::Global;
-use std::alloc::AllocError;
+use std::alloc::{AllocError, Global};
 
 pub fn answer(alloc: Global, call: &str, input: &str) -> Answer {
     match call {
@@ -63,7 +62,7 @@ fn names_of(alloc: Global, list: &str) -> Result<Vec<Named>, Fault> {
 
 /// The least size of a part, the parts that were put, and those that are named: the object's bytes and checksum.
 fn completed(alloc: Global, input: &str) -> Answer {
-    let [least, parts, names] = words::<3>(input)?;
+    let (least, parts, names) = three(input, ' ')?;
     let least = number(least)?;
     let parts = parts_of(alloc, parts)?;
     let names = names_of(alloc, names)?;
@@ -85,8 +84,12 @@ fn content_text(alloc: Global, content: &Content) -> Answer {
 
 /// A rule of so many days, or `none`, when an upload began, and the moment now.
 fn rule_of(input: &str) -> Result<(Option<u32>, u64, u64), Fault> {
-    let [days, begun, now] = words::<3>(input)?;
-    let days = if days == "none" { None } else { Some(small(days)?) };
+    let (days, begun, now) = three(input, ' ')?;
+    let days = if days == "none" {
+        None
+    } else {
+        Some(small(days)?)
+    };
     Ok((days, number(begun)?, number(now)?))
 }
 
@@ -99,20 +102,24 @@ fn stale(alloc: Global, input: &str) -> Answer {
 fn uploads_left(alloc: Global, input: &str) -> Answer {
     let (days, begun, now) = rule_of(input)?;
     let mut uploads = Vec::new(alloc);
-    uploads.push(Upload {
-        number: 1,
-        key: Vec::new(alloc),
-        begun,
-        parts: Vec::new(alloc),
-    }).map_err(AllocError::from)?;
+    uploads
+        .push(Upload {
+            number: 1,
+            key: Vec::new(alloc),
+            begun,
+            parts: Vec::new(alloc),
+        })
+        .map_err(AllocError::from)?;
     Ok(purged(uploads, days, now).len().to_string(alloc)?)
 }
 
 /// A bucket's state and the counters before a new entry: those after it.
 fn counted(alloc: Global, input: &str) -> Answer {
-    let [state, version, upload, entry] = words::<4>(input)?;
+    let (state, version, upload, entry) = four(input, ' ')?;
     let state = state_of(state)?;
-    let counters = Counters::new(number(version)?, number(upload)?, number(entry)?).ok_or(Fault::Form)?;
+    let counters = Counters::new(number(version)?, number(upload)?, number(entry)?).ok_or(
+        Fault::Form,
+    )?;
     match after_entry(state, counters) {
         Ok(after) => counters_text(alloc, after),
         Err(refusal) => crate::answer::refusal(alloc, refusal),

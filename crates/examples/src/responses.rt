@@ -3,7 +3,7 @@
 use crate::answer::{Answer, Fault, bytes};
 use crate::operations;
 use crate::plain::refusal_of;
-use crate::words::{moment, number, words};
+use crate::words::{moment, number, six, two};
 use bh_http::encode::response_bytes;
 use bh_http::fixed::{clock_out_of_range, service_unavailable};
 use bh_http::response::Response;
@@ -24,7 +24,7 @@ pub fn answer(alloc: Global, call: &str, input: &str) -> Answer {
 
 /// An object with a checksum and a body.
 fn stored(alloc: Global, input: &str) -> Answer {
-    let [checksum, body] = words::<2>(input)?;
+    let (checksum, body) = two(input, ' ')?;
     let mut response = Response::bare(alloc, StatusCode::OK);
     response.content_type = Some(ContentType::OctetStream);
     response.content_length = Some(body.len() as u64);
@@ -37,18 +37,28 @@ fn stored(alloc: Global, input: &str) -> Answer {
 /// The refusal of this code with a document, and with every other field of a bucket's response: the size of an
 /// unsatisfied range, the checksum, the version and the moment of the abort.
 fn every_field(alloc: Global, input: &str) -> Answer {
-    let [code, document, size, checksum, version, abort] = words::<6>(input)?;
-    let refusal = refusal_of(code)?;
-    let document = Vec::from_slice(alloc, document.as_bytes())?;
-    let mut response = Response::refused(alloc, refusal, document);
+    let (code, document, size, checksum, version, abort) = six(input, ' ')?;
+    let mut response = refused_with(alloc, code, document)?;
     response.checksum = Some(String::from_str(alloc, checksum)?);
-    response.abort_date = Some(moment(abort)?);
-    set_plain_fields(&mut response, number(size)?, version);
+    set_numbers(&mut response, size, abort)?;
+    set_marks(&mut response, version);
     bytes(alloc, response_bytes(alloc, &response)?.as_slice())
 }
 
-fn set_plain_fields(response: &mut Response, size: u64, version: &str) {
+fn refused_with(alloc: Global, code: &str, document: &str) -> Result<Response, Fault> {
+    let refusal = refusal_of(code)?;
+    let document = Vec::from_slice(alloc, document.as_bytes())?;
+    Ok(Response::refused(alloc, refusal, document))
+}
+
+fn set_numbers(response: &mut Response, size: &str, abort: &str) -> Result<(), Fault> {
+    let size = number(size)?;
     response.content_range = Some(ContentRange::Unsatisfied { size });
+    response.abort_date = Some(moment(abort)?);
+    Ok(())
+}
+
+fn set_marks(response: &mut Response, version: &str) {
     response.accepts_ranges = true;
     response.allow = Some(Allow::Bucket);
     response.version_id = VersionId::read(version);

@@ -39,24 +39,51 @@ const fn one<'a>(name: &'static str, word: Word<'a>) -> Words<'a> {
 pub fn operation_text(alloc: Global, operation: &Operation) -> Result<String, AllocError> {
     let (name, words) = object_words(operation);
     let mut text = String::from_str(alloc, name)?;
-    for word in words {
-        push(alloc, &mut text, word)?;
+    for word in words.iter() {
+        push(alloc, &mut text, *word)?;
     }
     Ok(text)
 }
 
 fn object_words(operation: &Operation) -> Words<'_> {
     match operation {
-        Operation::PutObject { object, checksum } => two("PutObject", Word::Object(object), Word::Field(checksum)),
+        Operation::PutObject { object, checksum } => two(
+            "PutObject",
+            Word::Object(object),
+            Word::Field(checksum),
+        ),
         Operation::CopyObject { object, source } => {
             let (from, version) = (Word::From(&source.object), Word::Version(source.version));
-            ("CopyObject", [Word::Object(object), from, version, Word::Nothing])
+            (
+                "CopyObject",
+                [Word::Object(object), from, version, Word::Nothing],
+            )
         }
-        Operation::GetObject { object, version, range } => {
-            ("GetObject", [Word::Object(object), Word::Version(*version), Word::Field(range), Word::Nothing])
+        Operation::GetObject {
+            object,
+            version,
+            range,
+        } => {
+            (
+                "GetObject",
+                [
+                    Word::Object(object),
+                    Word::Version(*version),
+                    Word::Field(range),
+                    Word::Nothing,
+                ],
+            )
         }
-        Operation::HeadObject { object, version } => two("HeadObject", Word::Object(object), Word::Version(*version)),
-        Operation::DeleteObject { object, version } => two("DeleteObject", Word::Object(object), Word::Version(*version)),
+        Operation::HeadObject { object, version } => two(
+            "HeadObject",
+            Word::Object(object),
+            Word::Version(*version),
+        ),
+        Operation::DeleteObject { object, version } => two(
+            "DeleteObject",
+            Word::Object(object),
+            Word::Version(*version),
+        ),
         _ => upload_words(operation),
     }
 }
@@ -67,20 +94,46 @@ const fn two<'a>(name: &'static str, first: Word<'a>, second: Word<'a>) -> Words
 
 fn upload_words(operation: &Operation) -> Words<'_> {
     match operation {
-        Operation::CreateMultipartUpload(object) => one("CreateMultipartUpload", Word::Object(object)),
-        Operation::UploadPart { object, upload, number, checksum } => {
+        Operation::CreateMultipartUpload(object) => one(
+            "CreateMultipartUpload",
+            Word::Object(object),
+        ),
+        Operation::UploadPart {
+            object,
+            upload,
+            number,
+            checksum,
+        } => {
             let (upload, number) = (Word::Upload(*upload), Word::Number(*number as u64));
-            ("UploadPart", [Word::Object(object), upload, number, Word::Field(checksum)])
+            (
+                "UploadPart",
+                [Word::Object(object), upload, number, Word::Field(checksum)],
+            )
         }
-        Operation::ListParts { object, upload, page } => {
+        Operation::ListParts {
+            object,
+            upload,
+            page,
+        } => {
             let (size, after) = (Word::Number(page.size), Word::Number(page.after));
-            ("ListParts", [Word::Object(object), Word::Upload(*upload), size, after])
+            (
+                "ListParts",
+                [Word::Object(object), Word::Upload(*upload), size, after],
+            )
         }
         Operation::CompleteMultipartUpload { object, upload } => {
-            two("CompleteMultipartUpload", Word::Object(object), Word::Upload(*upload))
+            two(
+                "CompleteMultipartUpload",
+                Word::Object(object),
+                Word::Upload(*upload),
+            )
         }
         Operation::AbortMultipartUpload { object, upload } => {
-            two("AbortMultipartUpload", Word::Object(object), Word::Upload(*upload))
+            two(
+                "AbortMultipartUpload",
+                Word::Object(object),
+                Word::Upload(*upload),
+            )
         }
         _ => listing_words(operation),
     }
@@ -88,14 +141,50 @@ fn upload_words(operation: &Operation) -> Words<'_> {
 
 fn listing_words(operation: &Operation) -> Words<'_> {
     match operation {
-        Operation::ListObjectsV2 { bucket, page, token } => {
-            ("ListObjectsV2", [Word::Bucket(bucket), Word::Page(page), Word::Token(token), Word::Nothing])
+        Operation::ListObjectsV2 {
+            bucket,
+            page,
+            token,
+        } => {
+            (
+                "ListObjectsV2",
+                [
+                    Word::Bucket(bucket),
+                    Word::Page(page),
+                    Word::Token(token),
+                    Word::Nothing,
+                ],
+            )
         }
-        Operation::ListObjectVersions { bucket, page, after } => {
-            ("ListObjectVersions", [Word::Bucket(bucket), Word::Page(page), Word::AfterVersion(after), Word::Nothing])
+        Operation::ListObjectVersions {
+            bucket,
+            page,
+            after,
+        } => {
+            (
+                "ListObjectVersions",
+                [
+                    Word::Bucket(bucket),
+                    Word::Page(page),
+                    Word::AfterVersion(after),
+                    Word::Nothing,
+                ],
+            )
         }
-        Operation::ListMultipartUploads { bucket, page, after } => {
-            ("ListMultipartUploads", [Word::Bucket(bucket), Word::Page(page), Word::AfterUpload(after), Word::Nothing])
+        Operation::ListMultipartUploads {
+            bucket,
+            page,
+            after,
+        } => {
+            (
+                "ListMultipartUploads",
+                [
+                    Word::Bucket(bucket),
+                    Word::Page(page),
+                    Word::AfterUpload(after),
+                    Word::Nothing,
+                ],
+            )
         }
         Operation::ListBuckets => one("ListBuckets", Word::Nothing),
         Operation::Usage => one("Usage", Word::Nothing),

@@ -63,7 +63,10 @@ fn check_row(rt: &(impl Print + AllocGlobal), row: Row<'_>) -> io::Result<bool> 
         Err(_) => false,
     };
     if !is_well {
-        println!(rt; "{} {}\n  expected: {}\n  found:    {found:?}", row.call, row.input, row.expected)?;
+        println!(rt;
+            "{} {}\n  expected: {}\n  found:    {found:?}",
+            row.call, row.input, row.expected
+        )?;
     }
     Ok(is_well)
 }

@@ -12,9 +12,9 @@ use bh_script::input::{read_all, read_script};
 use bh_storage::storage::Storage;
 use bh_types::limits::{Limits, Tuning};
 use sqlite::{Alter, Connection};
-use std::time::{Clock, Instant};
 use std::io;
 use std::io::Write;
+use std::time::{Clock, Instant};
 
 /// What events were answered, and the time that they took together.
 #[derive(Drop)]
@@ -91,11 +91,7 @@ fn tell(rt: &(impl Print + AllocGlobal), served: &Served) -> io::Result<()> {
 }
 
 /// Applies the script of standard input, whose last events are timed alone, to a new host in a file.
-pub fn time(
-    rt: &HostRuntime,
-    path: &str,
-    count: usize,
-) -> io::Result<bool> {
+pub fn time(rt: &HostRuntime, path: &str, count: usize) -> io::Result<bool> {
     let alloc = rt.alloc();
     let Some(bytes) = read_all(alloc, &mut rt.reader())? else {
         return Ok(false);

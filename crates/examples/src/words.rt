@@ -6,17 +6,30 @@ use bh_types::moment::Moment;
 use bh_types::plain::{BucketState, Wanted};
 use std::alloc::{AllocError, Global};
 
-/// The words of a text, which are to be just so many.
-pub fn words<const N: usize>(text: &str) -> Result<[&str; N], Fault> {
-    let mut found = [""; N];
-    let mut rest = text.split(' ');
-    for word in found.iter_mut() {
-        *word = rest.next().ok_or(Fault::Form)?;
-    }
-    match rest.next() {
-        None => Ok(found),
-        Some(_) => Err(Fault::Form),
-    }
+/// The two pieces of a text before and after the first of these characters.
+pub fn two(text: &str, between: char) -> Result<(&str, &str), Fault> {
+    text.split_once(between).ok_or(Fault::Form)
+}
+
+/// The three pieces of a text around the first two of these characters.
+pub fn three(text: &str, between: char) -> Result<(&str, &str, &str), Fault> {
+    let (first, rest) = two(text, between)?;
+    let (second, third) = two(rest, between)?;
+    Ok((first, second, third))
+}
+
+/// The same of four pieces.
+pub fn four(text: &str, between: char) -> Result<(&str, &str, &str, &str), Fault> {
+    let (first, rest) = two(text, between)?;
+    let (second, third, fourth) = three(rest, between)?;
+    Ok((first, second, third, fourth))
+}
+
+/// The same of six pieces.
+pub fn six(text: &str, between: char) -> Result<(&str, &str, &str, &str, &str, &str), Fault> {
+    let (first, second, rest) = three(text, between)?;
+    let (third, fourth, fifth, sixth) = four(rest, between)?;
+    Ok((first, second, third, fourth, fifth, sixth))
 }
 
 pub fn number(text: &str) -> Result<u64, Fault> {
