@@ -1,4 +1,4 @@
-ghost use Rattle.std.specs.Prelude.{◌≡◌, IfOk};
+ghost use Rattle.std.specs.Prelude.{◌≡◌, IfOk, find};
 ghost use Rattle.std.specs.List.{list_any};
 ghost use Rattle.std.specs.Option.{option_copied};
 ghost use Rattle.std.specs.Str.{bytes_eq};
@@ -145,13 +145,16 @@ fn count_selectors(parameters: &[Parameter]) -> usize
         .count()
 }
 
+fn find_selector(parameters: &[Parameter]) -> Option<&Parameter>
+    ensures { option_copied result ≡ find (λ p. spec.is_selector p.name) parameters.now }
+{
+    parameters.iter().find(|p| is_selector(p.name.as_str()))
+}
+
 fn first_selector(parameters: &[Parameter]) -> Option<Selector>
     ensures { result ≡ spec.first_selector parameters.now }
 {
-    parameters
-        .iter()
-        .find(|p| is_selector(p.name.as_str()))
-        .and_then(|p| selector_of(p.name.as_str()))
+    find_selector(parameters).and_then(|p| selector_of(p.name.as_str()))
 }
 
 /// The selector among the parameters, if there is one: InvalidArgument where there are two.

@@ -1,4 +1,4 @@
-use Rattle.std.proofs.Common.{◌≡◌, ℕ, List, Some, Ok}
+use Rattle.std.proofs.Common.{◌≡◌, List, Some, Ok}
 use Rattle.bh_operation.specs.Addresses.{object_named}
 use Rattle.bh_operation.specs.Operations.{Fields, Octets, object_operation, on_object}
 use Rattle.bh_operation.specs.declared.action.ObjectAction.{ObjectAction}
