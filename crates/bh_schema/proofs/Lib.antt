@@ -8,3 +8,4 @@ pub mod Stamping
 pub mod KeySteps
 pub mod NameTexts
 pub mod CredentialSteps
+pub mod KnownSteps
