@@ -1,9 +1,10 @@
-# demo: the main job on its stored run. try FILE=..: a script of your own. build: the proved program.
-# test: all examples and tests, without proof, in minutes. gate: every proof, wrong body, example and test, from nothing.
-# times: the gate, and then what each crate cost, in seconds of a processor ('tools/gate-times COMMAND..' tells it of any
-# run). lint: the layout of all sources. bench: the program's speed and memory; lookups: the time of lookups by key at
-# 1,000 and 100,000 rows on a file (both bench/README.md). memory: the stored run with each allocation refused in turn.
-.PHONY: demo try build test gate times lint bench lookups memory
+# demo: the main job on its stored run. try FILE=..: a script of your own. build: the proved program. test: all examples and
+# tests, without proof, in minutes. gate: every proof, wrong body, example and test, from nothing. times: the gate, and then
+# what each crate cost, in seconds of a processor ('tools/gate-times COMMAND..' tells it of any run). wrong-bodies: tries the
+# wrong bodies that the gate leaves out (wrong-bodies/README.md); of one crate by CRATE=bh_docs. lint: the layout of all sources.
+# bench: the program's speed and memory; lookups: the time of lookups by key at 1,000 and 100,000 rows on a file (both
+# bench/README.md). memory: the stored run with each allocation refused in turn.
+.PHONY: demo try build test gate times wrong-bodies lint bench lookups memory
 
 demo:
 	@tools/bucketd <crates/bucketd/stdin
@@ -23,6 +24,9 @@ gate:
 times:
 	@tools/gate-times rt ci
 
+wrong-bodies:
+	@tools/wrong-bodies $(CRATE)
+
 lint:
 	@tools/lint-layout
 
@@ -34,9 +38,3 @@ lookups:
 
 memory:
 	@tools/memory
-
-# wrong-bodies: tries the wrong bodies that the gate leaves out (wrong-bodies/README.md); of one crate by CRATE=bh_docs.
-.PHONY: wrong-bodies
-
-wrong-bodies:
-	@tools/wrong-bodies $(CRATE)
