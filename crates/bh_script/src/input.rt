@@ -1,3 +1,7 @@
+ghost use Rattle.std.specs.Prelude.{◌≡◌, map, IfOk};
+ghost use Rattle.bh_event.specs.Events.{arrival};
+ghost use Rattle.bh_script.specs.Lines.{events_of, bad_line_of};
+
 use bh_event::event::Event;
 use bh_event::flaw::{Flaw, flaw_of};
 use bh_event::line::read_line;
@@ -40,7 +44,10 @@ pub fn read_all<R: Read>(alloc: Global, reader: &mut R) -> io::Result<Option<Vec
 }
 
 /// The script whose lines these bytes are; an empty line is skipped.
-pub fn read_script(alloc: Global, bytes: &[u8]) -> Result<Script, AllocError> {
+pub fn read_script(alloc: Global, bytes: &[u8]) -> Result<Script, AllocError>
+    ensures events { IfOk result (λ script. map arrival script.events.items ≡ events_of bytes.now) }
+    ensures bad_line { IfOk result (λ script. script.bad_line ≡ bad_line_of bytes.now) }
+{
     let mut events = Vec::new(alloc);
     for (index, line) in bytes.split(|b| *b == b'\n').enumerate() {
         if line.is_empty() {

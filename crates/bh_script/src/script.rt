@@ -1,11 +1,22 @@
+ghost use Rattle.std.specs.Prelude.{◌≡◌, ◌++◌, map, IfOk, OnOk};
+ghost use Rattle.sqlite.specs.Held.{state};
+ghost use Rattle.sqlite.specs.Steps.{over_memory};
+ghost use Rattle.bh_event.specs.Events.{arrival};
+ghost use Rattle.bh_host.specs.Answers.{told};
+ghost use Rattle.bh_create.specs.Creation.{IsNewHost};
+ghost use Rattle.bh_types.specs.Limits.{default_limits};
+ghost use Rattle.bh_script.specs.Lines.{bad_line_of};
+ghost use Rattle.bh_script.specs.Answers.{AnewRan, AnswersScript, replies_text, bad_line_text, answer_text};
+
 use crate::digester::Sha256Digester;
-use crate::input::{BadLine, Script, read_script};
+use crate::input::{BadLine, read_script};
 use bh_create::create::create;
+use bh_event::event::Event;
 use bh_host::apply::Done;
 use bh_host::run::run;
 use bh_objects::storage::HostStorage;
 use bh_types::limits::{Limits, Tuning};
-use sqlite::Connection;
+use sqlite::{Connection, MemStore};
 use std::alloc::{AllocError, Global};
 
 /// What ends a script outside of an event.
@@ -37,31 +48,67 @@ pub struct Answered {
     pub bad_line: Option<BadLine>,
 }
 
-/// Applies the events of a script, up to the first line that tells none, to a new host in memory.
-pub fn answer_script(alloc: Global, bytes: &[u8]) -> Result<Answered, Fault> {
+/// Applies the events of a script, up to the first line that tells none, to a new host in memory, and tells what
+/// they were answered.
+pub fn answer_script(alloc: Global, bytes: &[u8]) -> Result<Answered, Fault>
+    ensures text { IfOk result (λ answered. AnswersScript bytes.now answered.text.items) }
+    ensures bad_line { IfOk result (λ answered. answered.bad_line ≡ bad_line_of bytes.now) }
+{
     let script = read_script(alloc, bytes)?;
-    let dones = serve(alloc, &script)?;
-    let mut text = Vec::new(alloc);
-    for done in &dones {
-        text.extend_from_slice(done.reply.bytes())?;
-        text.extend_from_slice(b"\n")?;
-    }
+    let dones = serve(alloc, script.events.as_slice())?;
     let bad_line = script.bad_line;
-    if let Some(bad) = bad_line {
-        let line = format!(in alloc; "bad line {}\n", bad.number)?;
-        text.extend_from_slice(line.as_bytes())?;
-    }
+    let text = answer_text(alloc, dones.as_slice(), bad_line)?;
     Ok(Answered { text, bad_line })
 }
 
-fn serve(alloc: Global, script: &Script) -> Result<Vec<Done>, Fault> {
+/// A new host in memory.
+fn new_host(alloc: Global) -> Result<HostStorage<MemStore, Sha256Digester>, Fault>
+    ensures { IfOk result (λ storage. IsNewHost default_limits (state over_memory storage.host.connection)) }
+{
     let connection = Connection::open_in_memory(alloc)?;
-    let limits = Limits::default();
-    match create(connection, Sha256Digester, limits, Tuning::default()) {
-        Ok(host) => {
-            let mut storage = HostStorage { host };
-            Ok(run(alloc, &limits, &mut storage, script.events.as_slice())?)
-        }
+    match create(connection, Sha256Digester, Limits::default(), Tuning::default()) {
+        Ok(host) => Ok(HostStorage { host }),
         Err(_) => Err(Fault::Store),
     }
+}
+
+/// What a new host answers events.
+fn serve(alloc: Global, events: &[Event]) -> Result<Vec<Done>, Fault>
+    ensures { IfOk result (λ dones. AnewRan (map arrival events.now) (map told dones.items)) }
+{
+    let mut storage = new_host(alloc)?;
+    Ok(run(alloc, &Limits::default(), &mut storage, events)?)
+}
+
+/// The text that tells what was done, and the bad line.
+fn answer_text(
+    alloc: Global,
+    dones: &[Done],
+    bad_line: Option<BadLine>,
+) -> Result<Vec<u8>, AllocError>
+    ensures { IfOk result (λ text. text.items ≡ answer_text (map told dones.now) bad_line) }
+{
+    let mut text = replies_text(alloc, dones)?;
+    if let Some(bad) = bad_line {
+        write_bad_line(alloc, &mut text, bad)?;
+    }
+    Ok(text)
+}
+
+fn replies_text(alloc: Global, dones: &[Done]) -> Result<Vec<u8>, AllocError>
+    ensures { IfOk result (λ text. text.items ≡ replies_text (map told dones.now)) }
+{
+    let mut text = Vec::new(alloc);
+    for done in dones {
+        text.extend_from_slice(done.reply.bytes())?;
+        text.push(b'\n')?;
+    }
+    Ok(text)
+}
+
+fn write_bad_line(alloc: Global, text: &mut Vec<u8>, bad: BadLine) -> Result<(), AllocError>
+    ensures { OnOk result (text.new.items ≡ text.old.items ++ bad_line_text (Some bad)) }
+{
+    let line = format!(in alloc; "bad line {}\n", bad.number)?;
+    text.extend_from_slice(line.as_bytes())
 }
