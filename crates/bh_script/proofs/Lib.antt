@@ -1,2 +1,3 @@
 mod Telling
 mod Memory
+mod Replies

@@ -1,0 +1,30 @@
+-- What a run on a new host answered, and its text.
+use Rattle.std.proofs.Common.{◌≡◌, ℕ, ◌+◌, ◌<◌, List, [], ◌∷◌, ◌++◌, length, get_or, take, map, sym, ap, ◌∙◌, subst}
+use Rattle.std.specs.List.{flat_map}
+use Rattle.std.proofs.lemmas.List.{append_assoc, flat_map_more, map_more}
+use Rattle.bh_types.specs.Limits.{HostLimits, default_limits}
+use Rattle.bh_event.specs.Events.{Arrival}
+use Rattle.bh_tables.specs.Typed.{Tables}
+use Rattle.bh_host.specs.Answers.{told}
+use Rattle.bh_host.specs.Replies.{reply_bytes}
+use Rattle.bh_host.specs.Runs.{Told, Ran}
+use Rattle.bh_host.specs.declared.apply.Done.{Done}
+use Rattle.bh_script.specs.Answers.{first_tables, AnewRan, reply_line, replies_text}
+
+-- what `run` says of a host whose limits and tables are a new host's
+pub ran_anew : (limits : HostLimits) (events : List Arrival) (dones : List Told) (old new : Tables) → limits ≡ default_limits → old ≡ first_tables
+    → Ran limits events dones old new → AnewRan events dones
+ran_anew limits events dones old new is same ran =
+    (new, subst (λ t. Ran default_limits events dones t new) same (subst (λ l. Ran l events dones old new) is ran))
+
+-- one more reply and its line feed
+pub reply_added : (text : List ℕ) (dones : List Done) (count : ℕ) (done : Done) → count < length dones → done ≡ get_or dones count done
+    → text ≡ replies_text (map told (take count dones))
+    → (text ++ reply_bytes done.reply) ++ 10 ∷ [] ≡ replies_text (map told (take (count + 1) dones))
+reply_added text dones count done within is so_far =
+    let before = map told (take count dones) in
+    append_assoc text (reply_bytes done.reply) (10 ∷ [])
+    ∙ ap (λ t. t ++ reply_line (told done)) so_far
+    ∙ flat_map_more reply_line [] before (told done)
+    ∙ ap (λ d. replies_text (before ++ told d ∷ [])) is
+    ∙ ap replies_text (sym (map_more told dones count done within))
