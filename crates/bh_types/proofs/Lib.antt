@@ -1,3 +1,4 @@
+pub mod Ascii
 pub mod Days
 pub mod IdLemmas
 pub mod RefusalLemmas

@@ -8,3 +8,4 @@ pub mod Names
 pub mod Outcomes
 pub mod Plain
 pub mod Refusals
+pub mod Rejections
