@@ -85,6 +85,13 @@ pub record HasRun (limits : HostLimits) (events : List Arrival) (dones : List To
   pub shown : Shows limits (latest_of new) events dones turns (latest_of old)
   pub alone : IsAlone turns old new
 
+-- the same of a storage: an open one shows the tables at the end
+pub record HasRunOn {H : Type 0} (IsOpen : H → Type 0) (seen : H → Seen) (events : List Arrival) (dones : List Told) (old new : H) : Type 0 where
+  pub end : Tables
+  pub turns : List Turn
+  pub has_run : HasRun (limits_in (seen old).now) events dones turns (seen old).now end
+  pub now : IsOpen new → (seen new).now ≡ end
+
 -- every tenant is alone in what was run
 abbrev pub EachIsAlone : Type 0
 EachIsAlone = (events : List Arrival) (dones : List Told) (old new : Tables)

@@ -6,11 +6,11 @@ use Rattle.bh_types.specs.declared.error.RequestError.{RequestError}
 use Rattle.bh_types.specs.declared.error.RequestError.TheVariants as request
 use Rattle.bh_types.specs.declared.refusal.Refusal.{Refusal}
 use Rattle.bh_types.specs.declared.rejection.Rejection.{Rejection}
-use Rattle.bh_event.specs.Events.{Content, Arrival}
+use Rattle.bh_event.specs.Events.{Order, Content, Arrival}
 use Rattle.bh_http.specs.Reading.{Reads}
 use Rattle.bh_http.specs.Views.{Taken}
-use Rattle.bh_machine.specs.Machine.{Act, Asked, Acted, owner_of, step}
-use Rattle.bh_model.specs.Operations.{Answer}
+use Rattle.bh_machine.specs.Machine.{Act, Asked, Commanded, Acted, owner_of, step}
+use Rattle.bh_model.specs.Operations.{Answer, Done}
 use Rattle.bh_model.specs.Runs.{last_reading, stamp_of}
 use Rattle.bh_model.specs.State.{Octets}
 use Rattle.bh_storage.specs.Calls.{Seen, OthersSame}
@@ -56,6 +56,12 @@ abbrev pub Tells : {X : Type 0} → (X → Answer) → Act → Result X (StepErr
 Tells shown act (Ok answer) bytes = bytes ≡ text act (Ok (shown answer))
 Tells shown act (Err (Refused r)) bytes = bytes ≡ text act (Err r)
 Tells shown act (Err (Failed trouble)) bytes = ⊥
+
+-- the line that tells what came of an order
+abbrev pub TellsOrder : {X : Type 0} → Order → Result X (StepError Refusal) → List ℕ → Type 0
+TellsOrder order (Ok x) bytes = bytes ≡ text (Commanded order) (Ok Done)
+TellsOrder order (Err (Refused r)) bytes = bytes ≡ text (Commanded order) (Err (plain r))
+TellsOrder order (Err (Failed trouble)) bytes = ⊥
 
 -- the bytes that tell why others are no request
 abbrev pub TellsUnread : RequestError → List ℕ → Type 0

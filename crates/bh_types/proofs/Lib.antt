@@ -2,3 +2,4 @@ pub mod Ascii
 pub mod Days
 pub mod IdLemmas
 pub mod RefusalLemmas
+pub mod Refusing
