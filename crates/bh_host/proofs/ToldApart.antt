@@ -1,7 +1,7 @@
 -- The reply to an event with a stamp is no fixed text.
 use Rattle.std.proofs.Common.{◌≡◌, ◌≢◌, ℕ, Bool, true, false, Option, Some, None, [], Ok, Err, Result, IfErr, refl, sym, ◌∙◌, ap, rules}
 use Rattle.std.specs.Fmt.{digits}
-use Rattle.bh_event.specs.Events.{Order, AddTenant, AddKey, RemoveKey, Content, Requested, Ordered}
+use Rattle.bh_event.specs.Events.{Order, AddTenant, AddKey, RemoveKey, Content, Requested, Ordered, Arrival}
 use Rattle.bh_http.specs.Responses.{response_text}
 use Rattle.bh_http.specs.Views.{Taken}
 use Rattle.bh_machine.specs.Machine.{Act, Asked, Commanded, owner_of, step}
@@ -9,13 +9,14 @@ use Rattle.bh_machine.specs.Refused.{is_step_refusal}
 use Rattle.bh_machine.proofs.Refused.{step_only}
 use Rattle.bh_model.specs.Operations.{Answer}
 use Rattle.bh_model.specs.State.{Octets, State}
+use Rattle.bh_storage.specs.Calls.{Seen}
 use Rattle.bh_tables.specs.Typed.{Tables}
 use Rattle.bh_types.specs.Limits.{HostLimits}
 use Rattle.bh_types.specs.declared.refusal.Refusal.{Refusal}
 use Rattle.bh_types.specs.declared.rejection.Rejection.{Rejection}
-use Rattle.bh_view.specs.View.{view}
+use Rattle.bh_view.specs.View.{view, limits_in, with_latest}
 use Rattle.bh_host.specs.Replies.{text, response_to, document_for, range_told, allow_told, marker_told, refusal_to, body_for, caller_of, clock_text, wanting_text}
-use Rattle.bh_host.specs.Turns.{TurnedFor, Turns}
+use Rattle.bh_host.specs.Turns.{TurnedFor, Turns, AppliedTo, IsToldApart}
 use Rattle.bh_host.specs.declared.reply.Caller.TheVariants.{Request, Operator}
 use Rattle.bh_host.proofs.Apart.{is_fixed_response, is_fixed_line, answer_apart, refused_apart, line_apart}
 
@@ -82,3 +83,9 @@ told_apart limits (Ordered order) m stamped new reply (act, is, turned) =
     let free = step_only limits (Ordered order) m act found.0 is in
     let no : is_fixed_line reply ≡ false = ap is_fixed_line (found.1 ∙ ap (λ a. text a (step m act found.0).0) is) ∙ ordered_apart order (step m act found.0).0 free in
     (differs is_fixed_line reply (clock_text Operator) no clock_line, differs is_fixed_line reply (wanting_text Operator) no wanting_line)
+
+-- the same of a storage
+pub apart_on : {H : Type 0} (IsOpen : H → Type 0) (seen : H → Seen) (event : Arrival) (m : ℕ) (old new : H) (reply : Octets) → AppliedTo IsOpen seen event old new (Some m) reply
+    → IsToldApart event (Some m) reply
+apart_on IsOpen seen event m old new reply (opened, still, (stamp, latest, turns)) =
+    told_apart (limits_in (seen old).now) event.content m (with_latest m (seen old).now) (seen new).now reply turns

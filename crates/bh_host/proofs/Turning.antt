@@ -48,39 +48,12 @@ within_then IsIntact IsOpen seen left a b c first opens next = record {
 pub limits_stay : (old new : Seen) → IsWorking old → IsWorking new → new.limits ≡ old.limits → limits_in new.now ≡ limits_in old.now
 limits_stay old new before after same = after.limits ∙ same ∙ sym before.limits
 
--- what is told is no trouble
-pub on_told : {X Y : Type 0} (r : Result (Vec ℕ Global) Y) (shown : X → Answer) (act : Act) (outcome : Result X (StepError Rejection)) {P : Type 0}
-    → IfOk r (λ bytes. Tells shown act outcome bytes.items) → Unless outcome P → OnOk r P
-on_told (Ok bytes) shown act (Ok x) told p = p
-on_told (Ok bytes) shown act (Err (Refused e)) told p = p
-on_told (Ok bytes) shown act (Err (Failed trouble)) told p = absurd told
-on_told (Err e) shown act outcome told p = tt
-
-pub on_ordered : {X Y : Type 0} (r : Result (Vec ℕ Global) Y) (order : Order) (outcome : Result X (StepError Refusal)) {P : Type 0}
-    → IfOk r (λ bytes. TellsOrder order outcome bytes.items) → Unless outcome P → OnOk r P
-on_ordered (Ok bytes) order (Ok x) told p = p
-on_ordered (Ok bytes) order (Err (Refused e)) told p = p
-on_ordered (Ok bytes) order (Err (Failed trouble)) told p = absurd told
-on_ordered (Err e) order outcome told p = tt
-
-pub on_err : {X E : Type 0} (r : Result X E) {P : Type 0} → P → OnErr r P
-on_err (Ok x) p = tt
-on_err (Err e) p = p
-
--- what follows where a call was not in trouble, of what is said then
-pub if_told : {X Y : Type 0} (r : Result (Vec ℕ Global) Y) (shown : X → Answer) (act : Act) (outcome : Result X (StepError Rejection)) {P : Type 0} {Q : List ℕ → Type 0}
-    → IfOk r (λ bytes. Tells shown act outcome bytes.items) → Unless outcome P → ((bytes : List ℕ) → P → Tells shown act outcome bytes → Q bytes) → IfOk r (λ bytes. Q bytes.items)
-if_told (Ok bytes) shown act (Ok x) told p go = go bytes.items p told
-if_told (Ok bytes) shown act (Err (Refused e)) told p go = go bytes.items p told
-if_told (Ok bytes) shown act (Err (Failed trouble)) told p go = absurd told
-if_told (Err e) shown act outcome told p go = tt
-
-pub if_ordered : {X Y : Type 0} (r : Result (Vec ℕ Global) Y) (order : Order) (outcome : Result X (StepError Refusal)) {P : Type 0} {Q : List ℕ → Type 0}
+pub if_ordered : {X Y : Type 0} (r : Result (Vec ℕ Global) Y) (order : Order) (outcome : Result X (StepError Refusal)) (P : Type 0) (Q : List ℕ → Type 0)
     → IfOk r (λ bytes. TellsOrder order outcome bytes.items) → Unless outcome P → ((bytes : List ℕ) → P → TellsOrder order outcome bytes → Q bytes) → IfOk r (λ bytes. Q bytes.items)
-if_ordered (Ok bytes) order (Ok x) told p go = go bytes.items p told
-if_ordered (Ok bytes) order (Err (Refused e)) told p go = go bytes.items p told
-if_ordered (Ok bytes) order (Err (Failed trouble)) told p go = absurd told
-if_ordered (Err e) order outcome told p go = tt
+if_ordered (Ok bytes) order (Ok x) P Q told p go = go bytes.items p told
+if_ordered (Ok bytes) order (Err (Refused e)) P Q told p go = go bytes.items p told
+if_ordered (Ok bytes) order (Err (Failed trouble)) P Q told p go = absurd told
+if_ordered (Err e) order outcome P Q told p go = tt
 
 -- ---- an act of a tenant: its stale uploads go, and then comes the change
 

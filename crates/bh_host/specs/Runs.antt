@@ -42,7 +42,7 @@ pub record RanOn {H : Type 0} (IsOpen : H → Type 0) (seen : H → Seen) (left 
   pub end : Tables
   pub ran : Ran events dones (seen old).now end
   pub now : IsOpen new → (seen new).now ≡ end
-  pub left : (x : Tables) → left new x → MayRemain events dones (left old) end x
+  pub crash : (x : Tables) → left new x → MayRemain events dones (left old) end x
 
 -- ---- whose events they were, and what each tenant is told
 
