@@ -323,8 +323,11 @@ module _ (old new : State) (ready : HasCleanDisk old → IsTrue old.is_open → 
         → list_any (is_book b.shelf b.title) (books_in old) ≡ false → list_any (is_shelf b.shelf) (shelves_in old) ≡ true → IfErr result (λ e. is_trouble e ≡ true)
     book_refused b runs unlimited free there =
         let id = next_rowid (old.now.trees 2) in
-        text.insert_only_trouble book_form library library_is 1 books books_are old new books_ready insert_book_text (book_form.encode b) b (insert_book b) live result runs s clean unlimited (λ was up. book_suits id b)
-        (λ was up. (any_typed book_form _ (is_book b.shelf b.title) (λ i a. same_book i id a b) (old.now.trees 2) (ready was up).books ∙ free, tt)) (λ was up. has_shelf old.now.trees id b (ready was up).shelves there)
+        text.insert_only_trouble book_form library library_is 1 books books_are old new books_ready insert_book_text (book_form.encode b) b (insert_book b) live result runs s clean unlimited (λ was up. record {
+          suits = book_suits id b;
+          free = (any_typed book_form _ (is_book b.shelf b.title) (λ i a. same_book i id a b) (old.now.trees 2) (ready was up).books ∙ free, tt);
+          parents = has_shelf old.now.trees id b (ready was up).shelves there;
+        })
 
     room_set : (name : List ℕ) (room : ℕ) → (HasCleanDisk new → Executes set_room_text (Words name ∷ number room ∷ []) old new result) → IsTrue old.is_open
         → OnOk result (Leaves shelf_form library 0 old new (update_where (is_shelf name) (λ s. record s { room = room }) (shelves_in old)))
@@ -334,7 +337,7 @@ module _ (old new : State) (ready : HasCleanDisk old → IsTrue old.is_open → 
     room_refused : (name : List ℕ) (room : ℕ) → (HasCleanDisk new → Executes set_room_text (Words name ∷ number room ∷ []) old new result) → old.step_limit ≡ None → IfErr result (λ e. is_trouble e ≡ true)
     unfolding everything
     room_refused name room runs = text.update_only_trouble shelf_form library library_is 0 shelves shelves_are old new shelves_ready set_room_text (Words name ∷ number room ∷ []) (is_shelf name) (λ s. record s { room = room }) (set_room name room)
-        live (λ id s hits was. shelf_suits id (record s { room = room })) (λ id s hits. refl) result runs s clean
+        live (record { suits = λ id s hits was. shelf_suits id (record s { room = room }); unwatched = λ id s hits. refl }) result runs s clean
 
     book_removed : (shelf title : List ℕ) → (HasCleanDisk new → Executes remove_book_text (Words shelf ∷ Words title ∷ []) old new result) → IsTrue old.is_open → OnOk result (Leaves book_form library 2 old new (delete_where (is_book shelf title) (books_in old)))
     book_removed shelf title runs = text.delete_removes book_form library library_is 1 books books_are old new books_ready remove_book_text (Words shelf ∷ Words title ∷ []) (is_book shelf title) (remove_book shelf title) result runs s clean

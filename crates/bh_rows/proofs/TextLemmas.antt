@@ -4,7 +4,7 @@ use Rattle.std.specs.declared.cmp.Ordering.{Ordering}
 use Rattle.std.specs.List.{list_any, list_all}
 use Rattle.std.proofs.lemmas.Bool.{cases_Bool}
 use Rattle.sqlite.specs.declared.types.Value.TheVariants.{Null, Int}
-use Rattle.sqlite.specs.Order.{Row, column}
+use Rattle.sqlite.specs.Order.{Row}
 use Rattle.sqlite.specs.Term.{Term, col}
 use Rattle.sqlite.specs.Tree.{Trees, IsAscending}
 use Rattle.sqlite.specs.Table.{Table}
@@ -23,10 +23,10 @@ use Rattle.sqlite_rules.specs.Keys.{are_unique}
 use Rattle.sqlite_rules.specs.Lists.{Has}
 use Rattle.sqlite_rules.proofs.ListLemmas.{all_has, test_from, has_got, has_kept}
 use Rattle.bh_rows.specs.Form.{Form, AreRows, Entry, put, entries, typed}
-use Rattle.bh_rows.specs.Keys.{Suits, AreUnused, watched}
+use Rattle.bh_rows.specs.Keys.{AreUnused}
 use Rattle.bh_rows.specs.Means.{is_trouble, Asks, Changes}
 use Rattle.bh_rows.specs.Scan.{scan, by_rowid}
-use Rattle.bh_rows.specs.Texts.{IsOrderly, IsTableOf, IsReadyAt, Leaves, AreFree, InsertText, UpdateText, DeleteText, SelectText, SortedText, CountText, SumText}
+use Rattle.bh_rows.specs.Texts.{IsOrderly, IsTableOf, IsReadyAt, Leaves, AreFree, MayAdd, MayChange, InsertText, UpdateText, DeleteText, SelectText, SortedText, CountText, SumText}
 use Rattle.bh_rows.proofs.AllowedLemmas.{apart_by, unclashed, allowed, refers_still}
 use Rattle.bh_rows.proofs.CallLemmas.{write_changes, write_open, write_refused, clean_before}
 use Rattle.bh_rows.proofs.DeleteErrors.{delete_trouble}
@@ -72,28 +72,26 @@ module _ {T : Type 0} (form : Form T) (schema : Schema) (orderly : IsOrderly sch
     -- with no limit on the steps, a row that no key and no CHECK forbids, and whose parents are there, is refused in trouble alone
     pub insert_only_trouble : IsLive old
         → (result : Result ℕ Error) → (HasCleanDisk new → Executes sql params old new result) → {P : Trees → Type 0} → Survives old new P → HasCleanDisk new → old.step_limit ≡ None
-        → (HasCleanDisk old → IsTrue old.is_open → Suits table new_row) → (HasCleanDisk old → IsTrue old.is_open → AreFree form schema table (old.now.trees table.tree) new_row)
-        → (HasCleanDisk old → IsTrue old.is_open → list_all (has_parent schema.tables old.now.trees new_row) table.references ≡ true)
-        → IfErr result (λ e. is_trouble e ≡ true)
-    insert_only_trouble live (Ok n) runs s clean unlimited suits free parents = tt
-    insert_only_trouble live (Err e) runs s clean unlimited suits free parents = elim (write_open sql params old new e (runs clean)) [
+        → (HasCleanDisk old → IsTrue old.is_open → MayAdd form schema table old.now.trees x) → IfErr result (λ e. is_trouble e ≡ true)
+    insert_only_trouble live (Ok n) runs s clean unlimited may = tt
+    insert_only_trouble live (Err e) runs s clean unlimited may = elim (write_open sql params old new e (runs clean)) [
       | inr bad ↦ bad
       | inl up ↦
           let was_clean = clean_before old new _ s clean in
           let was = ready was_clean up in
+          let fits = may was_clean up in
           let sound = subst (λ c. IsDatabase (record { schema = c; trees = old.now.trees })) was.0 (live up).0 in
           let source = Null ∷ form.encode x in
           let apart = apart_by schema.tables orderly.apart in
           let listed : Has schema.tables (plainly table) = has_got schema.tables place (plainly table) plain_table in
-          let unique = all_unique apart listed was.1 (free was_clean up) in
+          let unique = all_unique apart listed was.1 fits.free in
           let referred = referred_any schema (plainly table) (subst (λ t. references_fit schema t true true ≡ true) (sym is.plain) is.fit) true false in
-          let fits = suits was_clean up in
           elim (write_refused sql params old new schema was.0 _ (length params) it.means refl refl e (runs clean)) [
             | inl bad ↦ bad
             | inr refused ↦ elim (insert_refused schema table place it.terms it.width plain_table params source it.gives it.accepts old unlimited refused.0 e refused.1) [
-              | inl why ↦ ap is_trouble why.2 ∙ allowed form schema table source old.now.trees was.1 x refl (is.kept x) apart listed fits.typed fits.present fits.checked referred unique (sound.obeys.rules Unique) why.0 why.1
-              | inr orphan ↦ absurd (orphan.2 (refers_still form schema table source old.now.trees was.1 x refl (is.kept x) apart listed fits.typed fits.present fits.checked referred unique (sound.obeys.rules Unique)
-                  orphan.0 orphan.1 (parents was_clean up) (sound.obeys.rules ForeignKey) (due (mode_of old))))
+              | inl why ↦ ap is_trouble why.2 ∙ allowed form schema table source old.now.trees was.1 x refl (is.kept x) apart listed fits.suits.typed fits.suits.present fits.suits.checked referred unique (sound.obeys.rules Unique) why.0 why.1
+              | inr orphan ↦ absurd (orphan.2 (refers_still form schema table source old.now.trees was.1 x refl (is.kept x) apart listed fits.suits.typed fits.suits.present fits.suits.checked referred unique (sound.obeys.rules Unique)
+                  orphan.0 orphan.1 fits.parents (sound.obeys.rules ForeignKey) (due (mode_of old))))
             ]
           ]
     ]
@@ -139,10 +137,9 @@ module _ {T : Type 0} (form : Form T) (schema : Schema) (orderly : IsOrderly sch
         }
 
     -- where it changes no column that a key watches
-    pub update_only_trouble : IsLive old → ((id : ℤ) (y : T) → m y ≡ true → Suits table (put form (id, y)) → Suits table (put form (id, f y)))
-        → ((id : ℤ) (y : T) → m y ≡ true → map (column (put form (id, f y))) (watched schema table) ≡ map (column (put form (id, y))) (watched schema table))
+    pub update_only_trouble : IsLive old → MayChange form schema table m f
         → (result : Result ℕ Error) → (HasCleanDisk new → Executes sql params old new result) → {P : Trees → Type 0} → Survives old new P → HasCleanDisk new → old.step_limit ≡ None → IfErr result (λ e. is_trouble e ≡ true)
-    update_only_trouble live suits unwatched = update_still_trouble form sql schema table place it.test it.show (length params) it.means is.is_table is.low params refl it.accepts m it.tests f is.kept it.shows suits unwatched
+    update_only_trouble live may = update_still_trouble form sql schema table place it.test it.show (length params) it.means is.is_table is.low params refl it.accepts m it.tests f is.kept it.shows may.suits may.unwatched
         orderly.apart is.fit orderly.ignores old new ready live
 
   -- ---- DELETE

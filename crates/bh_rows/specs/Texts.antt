@@ -1,10 +1,10 @@
 -- The texts of a program, by kind: a record of what the reading of the text gives, and what a write leaves of its table.
-use Rattle.std.specs.Prelude.{◌≡◌, ◌≢◌, ℕ, ◌/◌, ◌^◌, nat_le, ℤ, pos, Bool, true, false, List, [], ◌∷◌, length, filter, Some, slice_get, IsTrue}
+use Rattle.std.specs.Prelude.{◌≡◌, ◌≢◌, ℕ, ◌/◌, ◌^◌, nat_le, ℤ, pos, Bool, true, false, List, [], ◌∷◌, length, map, filter, Some, slice_get, IsTrue}
 use Rattle.std.specs.declared.cmp.Ordering.{Ordering}
 use Rattle.std.specs.List.{AllByRecursion, list_any, list_all}
 use Rattle.std.specs.Ordering.{int_cmp, ordering_then}
 use Rattle.sqlite.specs.declared.types.Value.TheVariants.{Null, Int}
-use Rattle.sqlite.specs.Order.{Row}
+use Rattle.sqlite.specs.Order.{Row, column}
 use Rattle.sqlite.specs.Term.{Term, col, eval, eval_all, holds}
 use Rattle.sqlite.specs.Tree.{Trees}
 use Rattle.sqlite.specs.Table.{Table}
@@ -13,15 +13,16 @@ use Rattle.sqlite.specs.Cast.{cast_all}
 use Rattle.sqlite.specs.Query.{output, output_cmp}
 use Rattle.sqlite.specs.Source.TheVariants.{Values}
 use Rattle.sqlite.specs.Command.TheVariants.{Select, Insert, Update, Delete}
+use Rattle.sqlite.specs.Edit.{next_rowid}
 use Rattle.sqlite.specs.Effect.{value_rows}
 use Rattle.sqlite.specs.Rows.{stamped}
 use Rattle.sqlite.specs.State.{State, HasCleanDisk}
 use Rattle.sqlite_typing.specs.Types.{accepts_program, accepts_terms}
 use Rattle.sqlite_value.specs.declared.keys.Key.{Key}
 use Rattle.sqlite_schema.specs.declared.schema.Index.{Index}
-use Rattle.sqlite_schema.specs.Rules.{agree, guards}
+use Rattle.sqlite_schema.specs.Rules.{agree, guards, has_parent}
 use Rattle.bh_rows.specs.Form.{Form, AreRows, Entry, put, typed}
-use Rattle.bh_rows.specs.Keys.{are_apart, are_fit, is_passive_schema, ignores_updates}
+use Rattle.bh_rows.specs.Keys.{Suits, watched, are_apart, are_fit, is_passive_schema, ignores_updates}
 use Rattle.bh_rows.specs.Means.{Means}
 use Rattle.bh_rows.specs.Scan.{scan, no_limit, by_rowid, counting, summing}
 
@@ -59,6 +60,17 @@ module _ {T : Type 0} (form : Form T) (schema : Schema) where
   -- no row has the new row's key under a unique index
   abbrev pub AreFree : Table → List Row → Row → Type 0
   AreFree table rows new = AllByRecursion (λ (i : Index). list_any (λ other. agree i.order i.columns other i.columns new) rows ≡ false) (filter (λ i. guards i table) schema.indexes)
+
+  -- nothing stands against the row as the next one: no column and no CHECK, no key, no want of a parent
+  pub record MayAdd (table : Table) (db : Trees) (x : T) : Type 0 where
+    pub suits : Suits table (put form (next_rowid (db table.tree), x))
+    pub free : AreFree table (db table.tree) (put form (next_rowid (db table.tree), x))
+    pub parents : list_all (has_parent schema.tables db (put form (next_rowid (db table.tree), x))) table.references ≡ true
+
+  -- a row that passes the test suits the table after the change too, which sets no column that a key watches
+  pub record MayChange (table : Table) (m : T → Bool) (f : T → T) : Type 0 where
+    pub suits : (id : ℤ) (y : T) → m y ≡ true → Suits table (put form (id, y)) → Suits table (put form (id, f y))
+    pub unwatched : (id : ℤ) (y : T) → m y ≡ true → map (column (put form (id, f y))) (watched schema table) ≡ map (column (put form (id, y))) (watched schema table)
 
   -- ---- writes
 

@@ -1,14 +1,23 @@
 -- A call inside a transaction, in the words of the layer.
-use Rattle.std.proofs.Common.{◌≡◌, inl, inr, List, true, IsTrue, None, Ok, Err, Result, OnOk, OnErr, IfOk, IfErr, refl, sym, ap, ◌∙◌, true≢false, subst}
+use Rattle.std.proofs.Common.{◌≡◌, inl, inr, ℕ, List, [], ◌∷◌, ◌++◌, map, filter, Bool, true, IsTrue, None, Ok, Err, Result, OnOk, OnErr, IfOk, IfErr, refl, sym, ap, ◌∙◌, true≢false, subst}
 use Rattle.sqlite.specs.Order.{Row}
-use Rattle.sqlite.specs.State.{State, HasCleanDisk, IsUnchanged, Survives}
+use Rattle.sqlite.specs.Tree.{Trees}
+use Rattle.sqlite.specs.State.{State, HasCleanDisk, IsLive, IsUnchanged, Survives, Executes, CommitsBy, CommitsShowing, Shown, FailsToQuery}
 use Rattle.sqlite.specs.declared.error.Error.{Error}
+use Rattle.sqlite_keyed.specs.Lists.{update_where, delete_where}
+use Rattle.bh_rows.specs.Keys.{AreUnused}
 use Rattle.bh_rows.specs.Means.{is_trouble, IsUndone, IsOutside, Asks, StaysInside, Changes}
+use Rattle.bh_rows.specs.Scan.{no_limit}
+use Rattle.bh_rows.specs.Texts.{MayAdd, MayChange, InsertText, UpdateText, DeleteText, SelectText}
+use Rattle.bh_tables.specs.Schema.{host_schema}
 use Rattle.bh_tables.specs.Typed.{IsHost, IsReady, Tables, tables_in, tables}
+use Rattle.bh_tables.proofs.Places.{Place}
+use Rattle.bh_tables.proofs.Statements.{Writes, Shows}
+use Rattle.bh_tables.proofs.Statements as statement
 use Rattle.bh_schema.specs.Layer.{Standing, standing, IsIntact, IsOpen, IsClean, Leaves, IsInside, Holds, Follows, LeavesNothingNew, IsSettled, Within, Unwinds}
 use Rattle.bh_schema.proofs.TurnLemmas.{follows, unwinds}
 
-pub ready : (old : State) → (IsClean old → IsInside (standing old)) → IsReady old
+ready : (old : State) → (IsClean old → IsInside (standing old)) → IsReady old
 unfolding standing IsIntact IsOpen
 ready old inside clean up = (inside (record { intact = clean; is_open = up })).host
 
@@ -151,6 +160,12 @@ if_clean new (Err e) P h = tt
 
 -- ---- all that is said of a question, and of a write
 
+-- an error that is of this kind on an intact disk, where no limit stops a text
+if_error : {X : Type 0} (old new : State) (result : Result X Error) (P : Error → Type 0) → (HasCleanDisk new → old.step_limit ≡ None → IfErr result P) → IfErr result (λ e. IsIntact new → (standing old).limit ≡ None → P e)
+unfolding IsIntact standing
+if_error old new (Ok x) P h = tt
+if_error old new (Err e) P h = h
+
 pub record Question {X : Type 0} (old new : State) (rows_in : X → List Row) (shown : Tables → List Row) (result : Result X Error) : Type 0 where
   pub within : Within old new
   pub opens : OnOk result (IsIntact new → IsOpen old × IsOpen new)
@@ -158,37 +173,52 @@ pub record Question {X : Type 0} (old new : State) (rows_in : X → List Row) (s
   pub rows : IfOk result (λ x. IsClean new → rows_in x ≡ shown (tables_in (standing old).now))
   pub trouble : IfErr result (λ e. IsIntact new → (standing old).limit ≡ None → is_trouble e ≡ true)
 
-pub question : {X : Type 0} (old new : State) (rows_in : X → List Row) (shown : Tables → List Row) (result : Result X Error) → (IsClean old → IsInside (standing old)) → Asks old new result
-    → (HasCleanDisk new → IfOk result (λ x. rows_in x ≡ shown (tables old))) → Question old new rows_in shown result
+question : {X : Type 0} (old new : State) (rows_in : X → List Row) (shown : Tables → List Row) (result : Result X Error) → (IsClean old → IsInside (standing old)) → Shows old new rows_in shown result → Question old new rows_in shown result
 unfolding standing
-question old new rows_in shown result inside asks rows = record {
-  within = asks_within old new (λ c. (inside c).inside) result asks;
-  opens = asks_opens old new (λ c. (inside c).inside) result asks;
-  same = asks_same old new (λ c. (inside c).inside) result asks;
-  rows = if_clean new result (λ x. rows_in x ≡ shown (tables old)) rows;
-  trouble = asks_trouble old new (λ c. (inside c).inside) result asks;
+question old new rows_in shown result inside it = record {
+  within = asks_within old new (λ c. (inside c).inside) result it.asks;
+  opens = asks_opens old new (λ c. (inside c).inside) result it.asks;
+  same = asks_same old new (λ c. (inside c).inside) result it.asks;
+  rows = if_clean new result (λ x. rows_in x ≡ shown (tables old)) it.rows;
+  trouble = asks_trouble old new (λ c. (inside c).inside) result it.asks;
 }
 
-pub record Write {X : Type 0} (old new : State) (change : Tables → Tables) (result : Result X Error) : Type 0 where
+pub record Write (old new : State) (change : Tables → Tables) (allowed : Error → Type 0) (result : Result ℕ Error) : Type 0 where
   pub within : Within old new
   pub opens : OnOk result (IsIntact new → IsOpen old → IsOpen new)
   pub holds : OnOk result (IsClean new → Holds (change (tables_in (standing old).now)) (standing new))
+  pub trouble : IfErr result (λ e. IsIntact new → (standing old).limit ≡ None → allowed e)
 
-pub write : {X : Type 0} (old new : State) (change : Tables → Tables) (result : Result X Error) → (IsClean old → IsInside (standing old)) → Changes old new result
-    → (HasCleanDisk new → IsTrue old.is_open → OnOk result (IsHost new.now × (tables_in new.now ≡ change (tables old)))) → Write old new change result
+write : (old new : State) (change : Tables → Tables) (allowed : Error → Type 0) (result : Result ℕ Error) → (IsClean old → IsInside (standing old)) → Writes old new change allowed result → Write old new change allowed result
 unfolding standing
-write old new change result inside changes holds = record {
-  within = changes_within old new (λ c. (inside c).inside) result changes;
-  opens = changes_opens old new (λ c. (inside c).inside) result changes;
-  holds = changes_holds old new (λ c. (inside c).inside) result changes (change (tables old)) holds;
+write old new change allowed result inside it = record {
+  within = changes_within old new (λ c. (inside c).inside) result it.changes;
+  opens = changes_opens old new (λ c. (inside c).inside) result it.changes;
+  holds = changes_holds old new (λ c. (inside c).inside) result it.changes (change (tables old)) it.leaves;
+  trouble = if_error old new result allowed it.errors;
 }
 
-pub error_always : {X : Type 0} (old new : State) (result : Result X Error) → (HasCleanDisk new → old.step_limit ≡ None → IfErr result (λ e. is_trouble e ≡ true)) → IfErr result (λ e. IsIntact new → (standing old).limit ≡ None → is_trouble e ≡ true)
-unfolding IsIntact standing
-error_always old new (Ok x) h = tt
-error_always old new (Err e) h = h
+-- ---- the kinds of texts, over any of the tables
 
-pub error_if : {X A : Type 0} (old new : State) (result : Result X Error) → (HasCleanDisk new → old.step_limit ≡ None → A → IfErr result (λ e. is_trouble e ≡ true)) → IfErr result (λ e. IsIntact new → (standing old).limit ≡ None → A → is_trouble e ≡ true)
-unfolding IsIntact standing
-error_if old new (Ok x) h = tt
-error_if old new (Err e) h = h
+module _ {T : Type 0} (p : Place T) (old new : State) (inside : IsClean old → IsInside (standing old)) where
+  pub selected : {X : Type 0} (rows_in : X → List Row) (result : Result X Error) {sql : List ℕ} {params : Row} {m : T → Bool} {view : T → Row} → SelectText p.form host_schema p.table.tree sql params m view no_limit
+      → (HasCleanDisk new → IfOk result (λ x. Shown sql params old new (rows_in x))) → (HasCleanDisk new → IfErr result (FailsToQuery sql params old new)) → Survives old new (CommitsShowing sql params old)
+      → Question old new rows_in (λ t. map view (filter m (p.rows t))) result
+  selected rows_in result it ok err survives = question old new rows_in _ result inside (statement.selected p old new (ready old inside) rows_in result _ _ _ _ it ok err survives)
+
+  module _ (result : Result ℕ Error) (live : IsLive old) where
+    pub inserted : {sql : List ℕ} {params : Row} {x : T} {A : Type 0} → InsertText p.form host_schema p.number p.table sql params x → (IsClean old → A → MayAdd p.form host_schema p.table (standing old).now.trees x)
+        → (HasCleanDisk new → Executes sql params old new result) → Survives old new (CommitsBy sql params old)
+        → Write old new (λ t. p.set t (p.rows t ++ x ∷ [])) (λ e. A → is_trouble e ≡ true) result
+    unfolding IsIntact IsOpen standing
+    inserted it may runs survives = write old new _ _ result inside (statement.inserted p old new (ready old inside) result _ _ runs survives live _ it (λ clean up. may (record { intact = clean; is_open = up })))
+
+    pub updated : {sql : List ℕ} {params : Row} {m : T → Bool} {f : T → T} → UpdateText p.form host_schema p.number p.table sql params m f → MayChange p.form host_schema p.table m f
+        → (HasCleanDisk new → Executes sql params old new result) → Survives old new (CommitsBy sql params old)
+        → Write old new (λ t. p.set t (update_where m f (p.rows t))) (λ e. is_trouble e ≡ true) result
+    updated it may runs survives = write old new _ _ result inside (statement.updated p old new (ready old inside) result _ _ runs survives live _ _ it may)
+
+    pub deleted : {sql : List ℕ} {params : Row} {m : T → Bool} → DeleteText p.form host_schema p.number p.table sql params m → ((db : Trees) (rows : List Row) → AreUnused host_schema db p.table.tree rows)
+        → (HasCleanDisk new → Executes sql params old new result) → Survives old new (CommitsBy sql params old)
+        → Write old new (λ t. p.set t (delete_where m (p.rows t))) (λ e. is_trouble e ≡ true) result
+    deleted it unused runs survives = write old new _ _ result inside (statement.deleted p old new (ready old inside) result _ _ runs survives live _ it (unused old.now.trees))

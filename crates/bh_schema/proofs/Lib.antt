@@ -2,7 +2,6 @@ pub mod TurnLemmas
 pub mod Calls
 pub mod Finds
 pub mod Storing
-pub mod NumbersText
 pub mod TenantSteps
 pub mod Committing
 pub mod Stamping

@@ -4,3 +4,4 @@ pub mod Storage
 pub mod Troubles
 pub mod Views
 pub mod Known
+pub mod Connections

@@ -19,8 +19,6 @@ pub mod VersionChanges
 pub mod PutLemmas
 pub mod FindLemmas
 pub mod RowLemmas
-pub mod StepLemmas
-pub mod StepChanges
 pub mod PurgeLemmas
 pub mod UsedLemmas
 pub mod JoinLemmas

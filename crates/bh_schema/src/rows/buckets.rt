@@ -1,9 +1,8 @@
 ghost use Rattle.std.specs.Prelude.{◌≡◌, ◌++◌, ◌∷◌, [], ◌<◌, ◌^◌, true, None, map, filter, find, option_map, IfOk, IfErr, OnOk};
-ghost use Rattle.sqlite.specs.Held.{state};
-ghost use Rattle.bh_tables.specs.Typed.{BucketRow as Stored, tables_in};
+ghost use Rattle.bh_tables.specs.Typed.{BucketRow as Stored};
 ghost use Rattle.bh_tables.specs.Shown.{is_bucket, shown_bucket};
 ghost use Rattle.bh_rows.specs.Means.{is_trouble};
-ghost use Rattle.bh_schema.specs.Layer.{standing, IsIntact, IsOpen, IsClean, IsInside, Holds, Within};
+ghost use Rattle.bh_schema.specs.Connections.{IsClean, tables, InTransaction, StaysWithin, WasOpen, StaysOpen, ChangesNothing, Becomes, IsTrouble, IsTroubleIf};
 ghost use Rattle.bh_schema.specs.Rows.{bucket_numbers, IsNewBucket};
 
 use crate::rows::number::number;
@@ -37,12 +36,13 @@ fn bucket_rows<S: Alter>(
     tenant: &str,
     bucket: &str,
 ) -> Result<Vec<Row>, Error>
-    requires inside { IsClean (state S.Store connection.old) → IsInside (standing (state S.Store connection.old)) }
-    ensures within { Within (state S.Store connection.old) (state S.Store connection.new) }
-    ensures opens { OnOk result (IsIntact (state S.Store connection.new) → IsOpen (state S.Store connection.old) × IsOpen (state S.Store connection.new)) }
-    ensures same { OnOk result (IsIntact (state S.Store connection.new) → standing (state S.Store connection.new) ≡ standing (state S.Store connection.old)) }
-    ensures rows { IfOk result (λ rows. IsClean (state S.Store connection.new) → rows.items ≡ map shown_bucket (filter (is_bucket tenant.now bucket.now) (tables_in (standing (state S.Store connection.old)).now).buckets)) }
-    ensures trouble { IfErr result (λ e. IsIntact (state S.Store connection.new) → (standing (state S.Store connection.old)).limit ≡ None → is_trouble e ≡ true) }
+    requires inside { InTransaction S.Store connection.old }
+    ensures within { StaysWithin S.Store connection.old connection.new }
+    ensures opens { OnOk result (WasOpen S.Store connection.old connection.new) }
+    ensures same { OnOk result (ChangesNothing S.Store connection.old connection.new) }
+    ensures rows { IfOk result (λ rows. IsClean S.Store connection.new
+        → rows.items ≡ map shown_bucket (filter (is_bucket tenant.now bucket.now) (tables S.Store connection.old).buckets)) }
+    ensures trouble { IfErr result (IsTrouble S.Store connection.old connection.new) }
 {
     connection.query_all(
         "SELECT created, state, days FROM buckets WHERE tenant = ?1 AND bucket = ?2 ORDER BY rowid",
@@ -56,12 +56,13 @@ pub fn find_bucket<S: Alter>(
     tenant: &str,
     bucket: &str,
 ) -> Result<Option<BucketNumbers>, Error>
-    requires inside { IsClean (state S.Store connection.old) → IsInside (standing (state S.Store connection.old)) }
-    ensures within { Within (state S.Store connection.old) (state S.Store connection.new) }
-    ensures opens { OnOk result (IsIntact (state S.Store connection.new) → IsOpen (state S.Store connection.old) × IsOpen (state S.Store connection.new)) }
-    ensures same { OnOk result (IsIntact (state S.Store connection.new) → standing (state S.Store connection.new) ≡ standing (state S.Store connection.old)) }
-    ensures found { IfOk result (λ found. IsClean (state S.Store connection.new) → found ≡ option_map bucket_numbers (find (is_bucket tenant.now bucket.now) (tables_in (standing (state S.Store connection.old)).now).buckets)) }
-    ensures trouble { IfErr result (λ e. IsIntact (state S.Store connection.new) → (standing (state S.Store connection.old)).limit ≡ None → is_trouble e ≡ true) }
+    requires inside { InTransaction S.Store connection.old }
+    ensures within { StaysWithin S.Store connection.old connection.new }
+    ensures opens { OnOk result (WasOpen S.Store connection.old connection.new) }
+    ensures same { OnOk result (ChangesNothing S.Store connection.old connection.new) }
+    ensures found { IfOk result (λ found. IsClean S.Store connection.new
+        → found ≡ option_map bucket_numbers (find (is_bucket tenant.now bucket.now) (tables S.Store connection.old).buckets)) }
+    ensures trouble { IfErr result (IsTrouble S.Store connection.old connection.new) }
 {
     let rows = bucket_rows(connection, tenant, bucket)?;
     match rows.first() {
@@ -77,12 +78,15 @@ pub fn insert_bucket<S: Alter>(
     bucket: &str,
     created: u64,
 ) -> Result<usize, Error>
-    requires inside { IsClean (state S.Store connection.old) → IsInside (standing (state S.Store connection.old)) }
+    requires inside { InTransaction S.Store connection.old }
     requires small { created < 2 ^ 63 }
-    ensures within { Within (state S.Store connection.old) (state S.Store connection.new) }
-    ensures opens { OnOk result (IsIntact (state S.Store connection.new) → IsOpen (state S.Store connection.old) → IsOpen (state S.Store connection.new)) }
-    ensures holds { OnOk result (IsClean (state S.Store connection.new) → Holds (record (tables_in (standing (state S.Store connection.old)).now) { buckets = (tables_in (standing (state S.Store connection.old)).now).buckets ++ record { tenant = tenant.now; bucket = bucket.now; created = created; state = 0; days = None } ∷ [] }) (standing (state S.Store connection.new))) }
-    ensures trouble { IfErr result (λ e. IsIntact (state S.Store connection.new) → (standing (state S.Store connection.old)).limit ≡ None → IsNewBucket (tables_in (standing (state S.Store connection.old)).now) tenant.now bucket.now → is_trouble e ≡ true) }
+    ensures within { StaysWithin S.Store connection.old connection.new }
+    ensures opens { OnOk result (StaysOpen S.Store connection.old connection.new) }
+    ensures holds { OnOk result (Becomes S.Store connection.old connection.new
+        (λ rows. record rows { buckets = rows.buckets
+            ++ record { tenant = tenant.now; bucket = bucket.now; created = created; state = 0; days = None } ∷ [] })) }
+    ensures trouble { IfErr result (IsTroubleIf S.Store connection.old connection.new
+        (IsNewBucket (tables S.Store connection.old) tenant.now bucket.now)) }
 {
     // Asked for what it ensures: the rows obey the schema.
     let _schema = connection.schema();

@@ -1,9 +1,8 @@
 ghost use Rattle.std.specs.Prelude.{◌≡◌, ◌++◌, ◌∷◌, [], ◌<◌, ◌^◌, true, None, map, filter, find, option_map, IfOk, IfErr, OnOk};
-ghost use Rattle.sqlite.specs.Held.{state};
-ghost use Rattle.bh_tables.specs.Typed.{HostRow as Stored, tables_in};
+ghost use Rattle.bh_tables.specs.Typed.{HostRow as Stored};
 ghost use Rattle.bh_tables.specs.Shown.{shown_latest};
 ghost use Rattle.bh_rows.specs.Means.{is_trouble};
-ghost use Rattle.bh_schema.specs.Layer.{standing, IsIntact, IsOpen, IsClean, IsInside, Holds, Within};
+ghost use Rattle.bh_schema.specs.Connections.{IsClean, tables, InTransaction, StaysWithin, WasOpen, StaysOpen, ChangesNothing, Becomes, IsTrouble, IsTroubleIf};
 ghost use Rattle.bh_schema.specs.Rows.{latest_in, with_stamp};
 
 use crate::rows::number::number;
@@ -17,24 +16,26 @@ fn read_latest(row: &Row) -> Result<u64, Error>
 }
 
 fn latest_rows<S: Alter>(connection: &mut Connection<S>) -> Result<Vec<Row>, Error>
-    requires inside { IsClean (state S.Store connection.old) → IsInside (standing (state S.Store connection.old)) }
-    ensures within { Within (state S.Store connection.old) (state S.Store connection.new) }
-    ensures opens { OnOk result (IsIntact (state S.Store connection.new) → IsOpen (state S.Store connection.old) × IsOpen (state S.Store connection.new)) }
-    ensures same { OnOk result (IsIntact (state S.Store connection.new) → standing (state S.Store connection.new) ≡ standing (state S.Store connection.old)) }
-    ensures rows { IfOk result (λ rows. IsClean (state S.Store connection.new) → rows.items ≡ map shown_latest (filter (λ _. true) (tables_in (standing (state S.Store connection.old)).now).host)) }
-    ensures trouble { IfErr result (λ e. IsIntact (state S.Store connection.new) → (standing (state S.Store connection.old)).limit ≡ None → is_trouble e ≡ true) }
+    requires inside { InTransaction S.Store connection.old }
+    ensures within { StaysWithin S.Store connection.old connection.new }
+    ensures opens { OnOk result (WasOpen S.Store connection.old connection.new) }
+    ensures same { OnOk result (ChangesNothing S.Store connection.old connection.new) }
+    ensures rows { IfOk result (λ rows. IsClean S.Store connection.new
+        → rows.items ≡ map shown_latest (filter (λ _. true) (tables S.Store connection.old).host)) }
+    ensures trouble { IfErr result (IsTrouble S.Store connection.old connection.new) }
 {
     connection.query_all("SELECT latest FROM host ORDER BY rowid", &[])
 }
 
 /// The last stamp, in seconds since 1970, if the host has its row.
 pub fn find_latest<S: Alter>(connection: &mut Connection<S>) -> Result<Option<u64>, Error>
-    requires inside { IsClean (state S.Store connection.old) → IsInside (standing (state S.Store connection.old)) }
-    ensures within { Within (state S.Store connection.old) (state S.Store connection.new) }
-    ensures opens { OnOk result (IsIntact (state S.Store connection.new) → IsOpen (state S.Store connection.old) × IsOpen (state S.Store connection.new)) }
-    ensures same { OnOk result (IsIntact (state S.Store connection.new) → standing (state S.Store connection.new) ≡ standing (state S.Store connection.old)) }
-    ensures found { IfOk result (λ found. IsClean (state S.Store connection.new) → found ≡ option_map latest_in (find (λ _. true) (tables_in (standing (state S.Store connection.old)).now).host)) }
-    ensures trouble { IfErr result (λ e. IsIntact (state S.Store connection.new) → (standing (state S.Store connection.old)).limit ≡ None → is_trouble e ≡ true) }
+    requires inside { InTransaction S.Store connection.old }
+    ensures within { StaysWithin S.Store connection.old connection.new }
+    ensures opens { OnOk result (WasOpen S.Store connection.old connection.new) }
+    ensures same { OnOk result (ChangesNothing S.Store connection.old connection.new) }
+    ensures found { IfOk result (λ found. IsClean S.Store connection.new
+        → found ≡ option_map latest_in (find (λ _. true) (tables S.Store connection.old).host)) }
+    ensures trouble { IfErr result (IsTrouble S.Store connection.old connection.new) }
 {
     let rows = latest_rows(connection)?;
     match rows.first() {
@@ -45,12 +46,13 @@ pub fn find_latest<S: Alter>(connection: &mut Connection<S>) -> Result<Option<u6
 
 /// Sets the last stamp.
 pub fn set_latest<S: Alter>(connection: &mut Connection<S>, stamp: u64) -> Result<usize, Error>
-    requires inside { IsClean (state S.Store connection.old) → IsInside (standing (state S.Store connection.old)) }
+    requires inside { InTransaction S.Store connection.old }
     requires small { stamp < 2 ^ 63 }
-    ensures within { Within (state S.Store connection.old) (state S.Store connection.new) }
-    ensures opens { OnOk result (IsIntact (state S.Store connection.new) → IsOpen (state S.Store connection.old) → IsOpen (state S.Store connection.new)) }
-    ensures holds { OnOk result (IsClean (state S.Store connection.new) → Holds (record (tables_in (standing (state S.Store connection.old)).now) { host = map (with_stamp stamp) (tables_in (standing (state S.Store connection.old)).now).host }) (standing (state S.Store connection.new))) }
-    ensures trouble { IfErr result (λ e. IsIntact (state S.Store connection.new) → (standing (state S.Store connection.old)).limit ≡ None → is_trouble e ≡ true) }
+    ensures within { StaysWithin S.Store connection.old connection.new }
+    ensures opens { OnOk result (StaysOpen S.Store connection.old connection.new) }
+    ensures holds { OnOk result (Becomes S.Store connection.old connection.new
+        (λ rows. record rows { host = map (with_stamp stamp) rows.host })) }
+    ensures trouble { IfErr result (IsTrouble S.Store connection.old connection.new) }
 {
     // Asked for what it ensures: the rows obey the schema.
     let _schema = connection.schema();
@@ -63,14 +65,15 @@ pub fn insert_host<S: Alter>(
     min_part: u64,
     max_body: u64,
 ) -> Result<usize, Error>
-    requires inside { IsClean (state S.Store connection.old) → IsInside (standing (state S.Store connection.old)) }
+    requires inside { InTransaction S.Store connection.old }
     requires min_part { min_part < 2 ^ 63 }
     requires max_body { max_body < 2 ^ 63 }
-    ensures within { Within (state S.Store connection.old) (state S.Store connection.new) }
-    ensures opens { OnOk result (IsIntact (state S.Store connection.new) → IsOpen (state S.Store connection.old) → IsOpen (state S.Store connection.new)) }
-    ensures holds { OnOk result (IsClean (state S.Store connection.new) → Holds (record (tables_in (standing (state S.Store connection.old)).now) { host = (tables_in (standing (state S.Store connection.old)).now).host ++ record { version = 0; latest = 0; min_part = min_part; max_body = max_body } ∷ [] }) (standing (state S.Store connection.new))) }
-    ensures trouble { IfErr result (λ e. IsIntact (state S.Store connection.new) → (standing (state S.Store connection.old)).limit ≡ None
-        → (IsClean (state S.Store connection.old) → (tables_in (standing (state S.Store connection.old)).now).host ≡ []) → is_trouble e ≡ true) }
+    ensures within { StaysWithin S.Store connection.old connection.new }
+    ensures opens { OnOk result (StaysOpen S.Store connection.old connection.new) }
+    ensures holds { OnOk result (Becomes S.Store connection.old connection.new
+        (λ rows. record rows { host = rows.host ++ record { version = 0; latest = 0; min_part = min_part; max_body = max_body } ∷ [] })) }
+    ensures trouble { IfErr result (IsTroubleIf S.Store connection.old connection.new
+        (IsClean S.Store connection.old → (tables S.Store connection.old).host ≡ [])) }
 {
     // Asked for what it ensures: the rows obey the schema.
     let _schema = connection.schema();

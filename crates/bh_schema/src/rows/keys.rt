@@ -1,12 +1,11 @@
 ghost use Rattle.std.specs.Prelude.{◌≡◌, ◌++◌, ◌∷◌, [], true, None, Some, map, filter, find, option_map, IfOk, IfErr, OnOk};
-ghost use Rattle.sqlite.specs.Held.{state};
 ghost use Rattle.std.specs.String.{string_bytes};
 ghost use Rattle.std.specs.Str.{IsUtf8};
 ghost use Rattle.sqlite_keyed.specs.Lists.{delete_where};
-ghost use Rattle.bh_tables.specs.Typed.{KeyRow as Stored, tables_in};
+ghost use Rattle.bh_tables.specs.Typed.{KeyRow as Stored};
 ghost use Rattle.bh_tables.specs.Shown.{is_key, shown_secret};
 ghost use Rattle.bh_rows.specs.Means.{is_trouble};
-ghost use Rattle.bh_schema.specs.Layer.{standing, IsIntact, IsOpen, IsClean, IsInside, Holds, Within};
+ghost use Rattle.bh_schema.specs.Connections.{IsClean, tables, InTransaction, StaysWithin, WasOpen, StaysOpen, ChangesNothing, Becomes, IsTrouble, IsTroubleIf};
 ghost use Rattle.bh_schema.specs.Rows.{secret_in, IsNewKey};
 
 use sqlite::types::ToSql;
@@ -24,12 +23,13 @@ fn secret_rows<S: Alter>(
     tenant: &str,
     name: &str,
 ) -> Result<Vec<Row>, Error>
-    requires inside { IsClean (state S.Store connection.old) → IsInside (standing (state S.Store connection.old)) }
-    ensures within { Within (state S.Store connection.old) (state S.Store connection.new) }
-    ensures opens { OnOk result (IsIntact (state S.Store connection.new) → IsOpen (state S.Store connection.old) × IsOpen (state S.Store connection.new)) }
-    ensures same { OnOk result (IsIntact (state S.Store connection.new) → standing (state S.Store connection.new) ≡ standing (state S.Store connection.old)) }
-    ensures rows { IfOk result (λ rows. IsClean (state S.Store connection.new) → rows.items ≡ map shown_secret (filter (is_key tenant.now name.now) (tables_in (standing (state S.Store connection.old)).now).keys)) }
-    ensures trouble { IfErr result (λ e. IsIntact (state S.Store connection.new) → (standing (state S.Store connection.old)).limit ≡ None → is_trouble e ≡ true) }
+    requires inside { InTransaction S.Store connection.old }
+    ensures within { StaysWithin S.Store connection.old connection.new }
+    ensures opens { OnOk result (WasOpen S.Store connection.old connection.new) }
+    ensures same { OnOk result (ChangesNothing S.Store connection.old connection.new) }
+    ensures rows { IfOk result (λ rows. IsClean S.Store connection.new
+        → rows.items ≡ map shown_secret (filter (is_key tenant.now name.now) (tables S.Store connection.old).keys)) }
+    ensures trouble { IfErr result (IsTrouble S.Store connection.old connection.new) }
 {
     connection.query_all(
         "SELECT secret FROM keys WHERE tenant = ?1 AND name = ?2 ORDER BY rowid",
@@ -43,12 +43,14 @@ pub fn find_secret<S: Alter>(
     tenant: &str,
     name: &str,
 ) -> Result<Option<String>, Error>
-    requires inside { IsClean (state S.Store connection.old) → IsInside (standing (state S.Store connection.old)) }
-    ensures within { Within (state S.Store connection.old) (state S.Store connection.new) }
-    ensures opens { OnOk result (IsIntact (state S.Store connection.new) → IsOpen (state S.Store connection.old) × IsOpen (state S.Store connection.new)) }
-    ensures same { OnOk result (IsIntact (state S.Store connection.new) → standing (state S.Store connection.new) ≡ standing (state S.Store connection.old)) }
-    ensures found { IfOk result (λ found. IsClean (state S.Store connection.new) → option_map string_bytes found ≡ option_map secret_in (find (is_key tenant.now name.now) (tables_in (standing (state S.Store connection.old)).now).keys)) }
-    ensures trouble { IfErr result (λ e. IsIntact (state S.Store connection.new) → (standing (state S.Store connection.old)).limit ≡ None → ((k : Stored) → find (is_key tenant.now name.now) (tables_in (standing (state S.Store connection.old)).now).keys ≡ Some k → IsUtf8 k.secret) → is_trouble e ≡ true) }
+    requires inside { InTransaction S.Store connection.old }
+    ensures within { StaysWithin S.Store connection.old connection.new }
+    ensures opens { OnOk result (WasOpen S.Store connection.old connection.new) }
+    ensures same { OnOk result (ChangesNothing S.Store connection.old connection.new) }
+    ensures found { IfOk result (λ found. IsClean S.Store connection.new
+        → option_map string_bytes found ≡ option_map secret_in (find (is_key tenant.now name.now) (tables S.Store connection.old).keys)) }
+    ensures trouble { IfErr result (IsTroubleIf S.Store connection.old connection.new
+        ((k : Stored) → find (is_key tenant.now name.now) (tables S.Store connection.old).keys ≡ Some k → IsUtf8 k.secret)) }
 {
     let rows = secret_rows(connection, tenant, name)?;
     match rows.first() {
@@ -64,11 +66,13 @@ pub fn insert_key<S: Alter>(
     name: &str,
     secret: &str,
 ) -> Result<usize, Error>
-    requires inside { IsClean (state S.Store connection.old) → IsInside (standing (state S.Store connection.old)) }
-    ensures within { Within (state S.Store connection.old) (state S.Store connection.new) }
-    ensures opens { OnOk result (IsIntact (state S.Store connection.new) → IsOpen (state S.Store connection.old) → IsOpen (state S.Store connection.new)) }
-    ensures holds { OnOk result (IsClean (state S.Store connection.new) → Holds (record (tables_in (standing (state S.Store connection.old)).now) { keys = (tables_in (standing (state S.Store connection.old)).now).keys ++ record { tenant = tenant.now; name = name.now; secret = secret.now } ∷ [] }) (standing (state S.Store connection.new))) }
-    ensures trouble { IfErr result (λ e. IsIntact (state S.Store connection.new) → (standing (state S.Store connection.old)).limit ≡ None → IsNewKey (tables_in (standing (state S.Store connection.old)).now) tenant.now name.now → is_trouble e ≡ true) }
+    requires inside { InTransaction S.Store connection.old }
+    ensures within { StaysWithin S.Store connection.old connection.new }
+    ensures opens { OnOk result (StaysOpen S.Store connection.old connection.new) }
+    ensures holds { OnOk result (Becomes S.Store connection.old connection.new
+        (λ rows. record rows { keys = rows.keys ++ record { tenant = tenant.now; name = name.now; secret = secret.now } ∷ [] })) }
+    ensures trouble { IfErr result (IsTroubleIf S.Store connection.old connection.new
+        (IsNewKey (tables S.Store connection.old) tenant.now name.now)) }
 {
     // Asked for what it ensures: the rows obey the schema.
     let _schema = connection.schema();
@@ -84,11 +88,12 @@ pub fn delete_key<S: Alter>(
     tenant: &str,
     name: &str,
 ) -> Result<usize, Error>
-    requires inside { IsClean (state S.Store connection.old) → IsInside (standing (state S.Store connection.old)) }
-    ensures within { Within (state S.Store connection.old) (state S.Store connection.new) }
-    ensures opens { OnOk result (IsIntact (state S.Store connection.new) → IsOpen (state S.Store connection.old) → IsOpen (state S.Store connection.new)) }
-    ensures holds { OnOk result (IsClean (state S.Store connection.new) → Holds (record (tables_in (standing (state S.Store connection.old)).now) { keys = delete_where (is_key tenant.now name.now) (tables_in (standing (state S.Store connection.old)).now).keys }) (standing (state S.Store connection.new))) }
-    ensures trouble { IfErr result (λ e. IsIntact (state S.Store connection.new) → (standing (state S.Store connection.old)).limit ≡ None → is_trouble e ≡ true) }
+    requires inside { InTransaction S.Store connection.old }
+    ensures within { StaysWithin S.Store connection.old connection.new }
+    ensures opens { OnOk result (StaysOpen S.Store connection.old connection.new) }
+    ensures holds { OnOk result (Becomes S.Store connection.old connection.new
+        (λ rows. record rows { keys = delete_where (is_key tenant.now name.now) rows.keys })) }
+    ensures trouble { IfErr result (IsTrouble S.Store connection.old connection.new) }
 {
     // Asked for what it ensures: the rows obey the schema.
     let _schema = connection.schema();

@@ -1,10 +1,8 @@
-ghost use Rattle.std.specs.Prelude.{◌≡◌, None, true, IfOk, IfErr, OnOk, Some, find};
+ghost use Rattle.std.specs.Prelude.{◌≡◌, IfOk, IfErr, OnOk, Some, find};
 ghost use Rattle.std.specs.Str.{IsUtf8};
-ghost use Rattle.sqlite.specs.Held.{state};
-ghost use Rattle.bh_tables.specs.Typed.{KeyRow as Stored, tables_in};
+ghost use Rattle.bh_tables.specs.Typed.{KeyRow as Stored};
 ghost use Rattle.bh_tables.specs.Shown.{is_key};
-ghost use Rattle.bh_rows.specs.Means.{is_trouble};
-ghost use Rattle.bh_schema.specs.Layer.{standing, IsIntact, IsOpen, IsClean, IsInside, Within};
+ghost use Rattle.bh_schema.specs.Connections.{IsClean, tables, InTransaction, StaysWithin, WasOpen, ChangesNothing, IsTroubleIf};
 ghost use Rattle.bh_schema.specs.Known.{key_known};
 
 use crate::rows::keys::find_secret;
@@ -28,13 +26,14 @@ pub fn find_key<S: Alter>(
     tenant: &str,
     name: &str,
 ) -> Result<Known, Error>
-    requires inside { IsClean (state S.Store connection.old) → IsInside (standing (state S.Store connection.old)) }
-    ensures within { Within (state S.Store connection.old) (state S.Store connection.new) }
-    ensures opens { OnOk result (IsIntact (state S.Store connection.new) → IsOpen (state S.Store connection.old) × IsOpen (state S.Store connection.new)) }
-    ensures same { OnOk result (IsIntact (state S.Store connection.new) → standing (state S.Store connection.new) ≡ standing (state S.Store connection.old)) }
-    ensures known { IfOk result (λ known. IsClean (state S.Store connection.new) → known ≡ key_known (tables_in (standing (state S.Store connection.old)).now) tenant.now name.now) }
-    ensures trouble { IfErr result (λ e. IsIntact (state S.Store connection.new) → (standing (state S.Store connection.old)).limit ≡ None
-        → ((k : Stored) → find (is_key tenant.now name.now) (tables_in (standing (state S.Store connection.old)).now).keys ≡ Some k → IsUtf8 k.secret) → is_trouble e ≡ true) }
+    requires inside { InTransaction S.Store connection.old }
+    ensures within { StaysWithin S.Store connection.old connection.new }
+    ensures opens { OnOk result (WasOpen S.Store connection.old connection.new) }
+    ensures same { OnOk result (ChangesNothing S.Store connection.old connection.new) }
+    ensures known { IfOk result (λ known. IsClean S.Store connection.new
+        → known ≡ key_known (tables S.Store connection.old) tenant.now name.now) }
+    ensures trouble { IfErr result (IsTroubleIf S.Store connection.old connection.new
+        ((k : Stored) → find (is_key tenant.now name.now) (tables S.Store connection.old).keys ≡ Some k → IsUtf8 k.secret)) }
 {
     if find_tenant(connection, tenant)?.is_none() {
         return Ok(Known::NoTenant);

@@ -1,10 +1,9 @@
 ghost use Rattle.std.specs.Prelude.{◌≡◌, ◌++◌, ◌∷◌, [], ◌<◌, ◌^◌, true, None, map, filter, find, option_map, IfOk, IfErr, OnOk};
-ghost use Rattle.sqlite.specs.Held.{state};
 ghost use Rattle.sqlite_keyed.specs.Lists.{update_where};
-ghost use Rattle.bh_tables.specs.Typed.{TenantRow as Stored, tables_in};
+ghost use Rattle.bh_tables.specs.Typed.{TenantRow as Stored};
 ghost use Rattle.bh_tables.specs.Shown.{is_tenant, shown_tenant};
 ghost use Rattle.bh_rows.specs.Means.{is_trouble};
-ghost use Rattle.bh_schema.specs.Layer.{standing, IsIntact, IsOpen, IsClean, IsInside, Holds, Within};
+ghost use Rattle.bh_schema.specs.Connections.{IsClean, tables, InTransaction, StaysWithin, WasOpen, StaysOpen, ChangesNothing, Becomes, IsTrouble, IsTroubleIf};
 ghost use Rattle.bh_schema.specs.Rows.{tenant_numbers, IsNewTenant};
 
 use crate::rows::number::number;
@@ -37,12 +36,13 @@ fn read_numbers(row: &Row) -> Result<TenantNumbers, Error>
 }
 
 fn tenant_rows<S: Alter>(connection: &mut Connection<S>, name: &str) -> Result<Vec<Row>, Error>
-    requires inside { IsClean (state S.Store connection.old) → IsInside (standing (state S.Store connection.old)) }
-    ensures within { Within (state S.Store connection.old) (state S.Store connection.new) }
-    ensures opens { OnOk result (IsIntact (state S.Store connection.new) → IsOpen (state S.Store connection.old) × IsOpen (state S.Store connection.new)) }
-    ensures same { OnOk result (IsIntact (state S.Store connection.new) → standing (state S.Store connection.new) ≡ standing (state S.Store connection.old)) }
-    ensures rows { IfOk result (λ rows. IsClean (state S.Store connection.new) → rows.items ≡ map shown_tenant (filter (is_tenant name.now) (tables_in (standing (state S.Store connection.old)).now).tenants)) }
-    ensures trouble { IfErr result (λ e. IsIntact (state S.Store connection.new) → (standing (state S.Store connection.old)).limit ≡ None → is_trouble e ≡ true) }
+    requires inside { InTransaction S.Store connection.old }
+    ensures within { StaysWithin S.Store connection.old connection.new }
+    ensures opens { OnOk result (WasOpen S.Store connection.old connection.new) }
+    ensures same { OnOk result (ChangesNothing S.Store connection.old connection.new) }
+    ensures rows { IfOk result (λ rows. IsClean S.Store connection.new
+        → rows.items ≡ map shown_tenant (filter (is_tenant name.now) (tables S.Store connection.old).tenants)) }
+    ensures trouble { IfErr result (IsTrouble S.Store connection.old connection.new) }
 {
     connection.query_all(
         "SELECT quota, next_version, next_upload, next_entry FROM tenants WHERE tenant = ?1 ORDER BY rowid",
@@ -55,12 +55,13 @@ pub fn find_tenant<S: Alter>(
     connection: &mut Connection<S>,
     name: &str,
 ) -> Result<Option<TenantNumbers>, Error>
-    requires inside { IsClean (state S.Store connection.old) → IsInside (standing (state S.Store connection.old)) }
-    ensures within { Within (state S.Store connection.old) (state S.Store connection.new) }
-    ensures opens { OnOk result (IsIntact (state S.Store connection.new) → IsOpen (state S.Store connection.old) × IsOpen (state S.Store connection.new)) }
-    ensures same { OnOk result (IsIntact (state S.Store connection.new) → standing (state S.Store connection.new) ≡ standing (state S.Store connection.old)) }
-    ensures found { IfOk result (λ found. IsClean (state S.Store connection.new) → found ≡ option_map tenant_numbers (find (is_tenant name.now) (tables_in (standing (state S.Store connection.old)).now).tenants)) }
-    ensures trouble { IfErr result (λ e. IsIntact (state S.Store connection.new) → (standing (state S.Store connection.old)).limit ≡ None → is_trouble e ≡ true) }
+    requires inside { InTransaction S.Store connection.old }
+    ensures within { StaysWithin S.Store connection.old connection.new }
+    ensures opens { OnOk result (WasOpen S.Store connection.old connection.new) }
+    ensures same { OnOk result (ChangesNothing S.Store connection.old connection.new) }
+    ensures found { IfOk result (λ found. IsClean S.Store connection.new
+        → found ≡ option_map tenant_numbers (find (is_tenant name.now) (tables S.Store connection.old).tenants)) }
+    ensures trouble { IfErr result (IsTrouble S.Store connection.old connection.new) }
 {
     let rows = tenant_rows(connection, name)?;
     match rows.first() {
@@ -75,12 +76,15 @@ pub fn insert_tenant<S: Alter>(
     name: &str,
     quota: u64,
 ) -> Result<usize, Error>
-    requires inside { IsClean (state S.Store connection.old) → IsInside (standing (state S.Store connection.old)) }
+    requires inside { InTransaction S.Store connection.old }
     requires small { quota < 2 ^ 63 }
-    ensures within { Within (state S.Store connection.old) (state S.Store connection.new) }
-    ensures opens { OnOk result (IsIntact (state S.Store connection.new) → IsOpen (state S.Store connection.old) → IsOpen (state S.Store connection.new)) }
-    ensures holds { OnOk result (IsClean (state S.Store connection.new) → Holds (record (tables_in (standing (state S.Store connection.old)).now) { tenants = (tables_in (standing (state S.Store connection.old)).now).tenants ++ record { tenant = name.now; quota = quota; next_version = 1; next_upload = 1; next_entry = 1 } ∷ [] }) (standing (state S.Store connection.new))) }
-    ensures trouble { IfErr result (λ e. IsIntact (state S.Store connection.new) → (standing (state S.Store connection.old)).limit ≡ None → IsNewTenant (tables_in (standing (state S.Store connection.old)).now) name.now → is_trouble e ≡ true) }
+    ensures within { StaysWithin S.Store connection.old connection.new }
+    ensures opens { OnOk result (StaysOpen S.Store connection.old connection.new) }
+    ensures holds { OnOk result (Becomes S.Store connection.old connection.new
+        (λ rows. record rows { tenants = rows.tenants
+            ++ record { tenant = name.now; quota = quota; next_version = 1; next_upload = 1; next_entry = 1 } ∷ [] })) }
+    ensures trouble { IfErr result (IsTroubleIf S.Store connection.old connection.new
+        (IsNewTenant (tables S.Store connection.old) name.now)) }
 {
     // Asked for what it ensures: the rows obey the schema.
     let _schema = connection.schema();
@@ -96,12 +100,13 @@ pub fn set_next_entry<S: Alter>(
     tenant: &str,
     next: u64,
 ) -> Result<usize, Error>
-    requires inside { IsClean (state S.Store connection.old) → IsInside (standing (state S.Store connection.old)) }
+    requires inside { InTransaction S.Store connection.old }
     requires small { next < 2 ^ 63 }
-    ensures within { Within (state S.Store connection.old) (state S.Store connection.new) }
-    ensures opens { OnOk result (IsIntact (state S.Store connection.new) → IsOpen (state S.Store connection.old) → IsOpen (state S.Store connection.new)) }
-    ensures holds { OnOk result (IsClean (state S.Store connection.new) → Holds (record (tables_in (standing (state S.Store connection.old)).now) { tenants = update_where (is_tenant tenant.now) (λ t. record t { next_entry = next }) (tables_in (standing (state S.Store connection.old)).now).tenants }) (standing (state S.Store connection.new))) }
-    ensures trouble { IfErr result (λ e. IsIntact (state S.Store connection.new) → (standing (state S.Store connection.old)).limit ≡ None → is_trouble e ≡ true) }
+    ensures within { StaysWithin S.Store connection.old connection.new }
+    ensures opens { OnOk result (StaysOpen S.Store connection.old connection.new) }
+    ensures holds { OnOk result (Becomes S.Store connection.old connection.new
+        (λ rows. record rows { tenants = update_where (is_tenant tenant.now) (λ t. record t { next_entry = next }) rows.tenants })) }
+    ensures trouble { IfErr result (IsTrouble S.Store connection.old connection.new) }
 {
     // Asked for what it ensures: the rows obey the schema.
     let _schema = connection.schema();
@@ -118,13 +123,15 @@ pub fn set_numbers<S: Alter>(
     version: u64,
     entry: u64,
 ) -> Result<usize, Error>
-    requires inside { IsClean (state S.Store connection.old) → IsInside (standing (state S.Store connection.old)) }
+    requires inside { InTransaction S.Store connection.old }
     requires version { version < 2 ^ 63 }
     requires entry { entry < 2 ^ 63 }
-    ensures within { Within (state S.Store connection.old) (state S.Store connection.new) }
-    ensures opens { OnOk result (IsIntact (state S.Store connection.new) → IsOpen (state S.Store connection.old) → IsOpen (state S.Store connection.new)) }
-    ensures holds { OnOk result (IsClean (state S.Store connection.new) → Holds (record (tables_in (standing (state S.Store connection.old)).now) { tenants = update_where (is_tenant tenant.now) (λ t. record t { next_version = version; next_entry = entry }) (tables_in (standing (state S.Store connection.old)).now).tenants }) (standing (state S.Store connection.new))) }
-    ensures trouble { IfErr result (λ e. IsIntact (state S.Store connection.new) → (standing (state S.Store connection.old)).limit ≡ None → is_trouble e ≡ true) }
+    ensures within { StaysWithin S.Store connection.old connection.new }
+    ensures opens { OnOk result (StaysOpen S.Store connection.old connection.new) }
+    ensures holds { OnOk result (Becomes S.Store connection.old connection.new
+        (λ rows. record rows { tenants =
+            update_where (is_tenant tenant.now) (λ t. record t { next_version = version; next_entry = entry }) rows.tenants })) }
+    ensures trouble { IfErr result (IsTrouble S.Store connection.old connection.new) }
 {
     // Asked for what it ensures: the rows obey the schema.
     let _schema = connection.schema();

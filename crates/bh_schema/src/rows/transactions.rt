@@ -2,17 +2,19 @@ ghost use Rattle.std.specs.Prelude.{◌≡◌, ◌⊎◌, true, false, IfErr, On
 ghost use Rattle.sqlite.specs.Tree.{Trees};
 ghost use Rattle.sqlite.specs.Held.{state};
 ghost use Rattle.bh_rows.specs.Means.{is_trouble};
-ghost use Rattle.bh_schema.specs.Layer.{standing, IsIntact, IsOpen, IsClean, Leaves, begun, committed, taken_back, Follows, LeavesNothingNew, Within, Unwinds};
+ghost use Rattle.bh_schema.specs.Connections.{IsIntact, IsClean, stands, StaysWithin, WasOpen};
+ghost use Rattle.bh_schema.specs.Layer.{Leaves, begun, committed, taken_back, Follows, LeavesNothingNew, Unwinds};
 
 use sqlite::{Alter, Connection, Error};
 
 /// Begins a transaction.
 pub fn begin<S: Alter>(connection: &mut Connection<S>) -> Result<usize, Error>
-    ensures opens { OnOk result (IsIntact (state S.Store connection.new) → IsOpen (state S.Store connection.old) × IsOpen (state S.Store connection.new)) }
-    ensures begins { OnOk result (IsIntact (state S.Store connection.new) → standing (state S.Store connection.new) ≡ begun (standing (state S.Store connection.old))) }
-    ensures within { Within (state S.Store connection.old) (state S.Store connection.new) }
+    ensures opens { OnOk result (WasOpen S.Store connection.old connection.new) }
+    ensures begins { OnOk result (IsIntact S.Store connection.new → stands S.Store connection.new ≡ begun (stands S.Store connection.old)) }
+    ensures within { StaysWithin S.Store connection.old connection.new }
     ensures survives { LeavesNothingNew (state S.Store connection.old) (state S.Store connection.new) }
-    ensures trouble { IfErr result (λ e. IsIntact (state S.Store connection.new) → (IsClean (state S.Store connection.old) → (standing (state S.Store connection.old)).inside ≡ false) → is_trouble e ≡ true) }
+    ensures trouble { IfErr result (λ e. IsIntact S.Store connection.new
+        → (IsClean S.Store connection.old → (stands S.Store connection.old).inside ≡ false) → is_trouble e ≡ true) }
 {
     // Asked for what it ensures: outside a transaction, what is standing was committed.
     let _outside = connection.is_autocommit();
@@ -21,20 +23,24 @@ pub fn begin<S: Alter>(connection: &mut Connection<S>) -> Result<usize, Error>
 
 /// Commits the transaction. An error leaves it open, or takes it back.
 pub fn commit<S: Alter>(connection: &mut Connection<S>) -> Result<usize, Error>
-    ensures opens { OnOk result (IsIntact (state S.Store connection.new) → IsOpen (state S.Store connection.old) × IsOpen (state S.Store connection.new)) }
-    ensures commits { OnOk result (IsIntact (state S.Store connection.new) → standing (state S.Store connection.new) ≡ committed (standing (state S.Store connection.old))) }
+    ensures opens { OnOk result (WasOpen S.Store connection.old connection.new) }
+    ensures commits { OnOk result (IsIntact S.Store connection.new
+        → stands S.Store connection.new ≡ committed (stands S.Store connection.old)) }
     ensures follows { Follows (state S.Store connection.old) (state S.Store connection.new) }
-    ensures unwinds { OnErr result (IsClean (state S.Store connection.new) → Unwinds (standing (state S.Store connection.old)) (standing (state S.Store connection.new))) }
-    ensures survives { IsIntact (state S.Store connection.new) → (standing (state S.Store connection.old)).inside ≡ true
-        → (db : Trees) → Leaves (state S.Store connection.new) db → Leaves (state S.Store connection.old) db ⊎ (db ≡ (standing (state S.Store connection.old)).now.trees) }
-    ensures trouble { IfErr result (λ e. IsIntact (state S.Store connection.new) → (IsClean (state S.Store connection.old) → (standing (state S.Store connection.old)).inside ≡ true) → is_trouble e ≡ true) }
+    ensures unwinds { OnErr result (IsClean S.Store connection.new
+        → Unwinds (stands S.Store connection.old) (stands S.Store connection.new)) }
+    ensures survives { IsIntact S.Store connection.new → (stands S.Store connection.old).inside ≡ true
+        → (db : Trees) → Leaves (state S.Store connection.new) db
+        → Leaves (state S.Store connection.old) db ⊎ (db ≡ (stands S.Store connection.old).now.trees) }
+    ensures trouble { IfErr result (λ e. IsIntact S.Store connection.new
+        → (IsClean S.Store connection.old → (stands S.Store connection.old).inside ≡ true) → is_trouble e ≡ true) }
 {
     connection.execute("COMMIT", &[])
 }
 
 /// Ends the transaction, if one is open: what was committed before it stands.
 pub fn take_back<S: Alter>(connection: &mut Connection<S>)
-    ensures back { IsClean (state S.Store connection.new) → standing (state S.Store connection.new) ≡ taken_back (standing (state S.Store connection.old)) }
+    ensures back { IsClean S.Store connection.new → stands S.Store connection.new ≡ taken_back (stands S.Store connection.old) }
     ensures follows { Follows (state S.Store connection.old) (state S.Store connection.new) }
     ensures survives { LeavesNothingNew (state S.Store connection.old) (state S.Store connection.new) }
 {

@@ -1,11 +1,10 @@
 ghost use Rattle.std.specs.Prelude.{◌≡◌, ◌++◌, ◌∷◌, [], ◌<◌, ◌^◌, true, None, Some, length, map, filter, find, option_map, IfOk, IfErr, OnOk};
-ghost use Rattle.sqlite.specs.Held.{state};
 ghost use Rattle.std.specs.Str.{IsUtf8};
 ghost use Rattle.sqlite_keyed.specs.Lists.{delete_where};
-ghost use Rattle.bh_tables.specs.Typed.{VersionRow as Stored, tables_in};
+ghost use Rattle.bh_tables.specs.Typed.{VersionRow as Stored};
 ghost use Rattle.bh_tables.specs.Shown.{is_version, shown_version};
 ghost use Rattle.bh_rows.specs.Means.{is_trouble};
-ghost use Rattle.bh_schema.specs.Layer.{standing, IsIntact, IsOpen, IsClean, IsInside, Holds, Within};
+ghost use Rattle.bh_schema.specs.Connections.{IsClean, tables, InTransaction, StaysWithin, WasOpen, StaysOpen, ChangesNothing, Becomes, IsTrouble, IsTroubleIf};
 ghost use Rattle.bh_schema.specs.Rows.{found_version, IsNewVersion};
 ghost use Rattle.bh_schema.specs.Views.{version_seen};
 
@@ -67,13 +66,14 @@ fn version_rows<S: Alter>(
     okey: &[u8],
     id: u64,
 ) -> Result<Vec<Row>, Error>
-    requires inside { IsClean (state S.Store connection.old) → IsInside (standing (state S.Store connection.old)) }
+    requires inside { InTransaction S.Store connection.old }
     requires small { id < 2 ^ 63 }
-    ensures within { Within (state S.Store connection.old) (state S.Store connection.new) }
-    ensures opens { OnOk result (IsIntact (state S.Store connection.new) → IsOpen (state S.Store connection.old) × IsOpen (state S.Store connection.new)) }
-    ensures same { OnOk result (IsIntact (state S.Store connection.new) → standing (state S.Store connection.new) ≡ standing (state S.Store connection.old)) }
-    ensures rows { IfOk result (λ rows. IsClean (state S.Store connection.new) → rows.items ≡ map shown_version (filter (is_version tenant.now bucket.now okey.now id) (tables_in (standing (state S.Store connection.old)).now).versions)) }
-    ensures trouble { IfErr result (λ e. IsIntact (state S.Store connection.new) → (standing (state S.Store connection.old)).limit ≡ None → is_trouble e ≡ true) }
+    ensures within { StaysWithin S.Store connection.old connection.new }
+    ensures opens { OnOk result (WasOpen S.Store connection.old connection.new) }
+    ensures same { OnOk result (ChangesNothing S.Store connection.old connection.new) }
+    ensures rows { IfOk result (λ rows. IsClean S.Store connection.new
+        → rows.items ≡ map shown_version (filter (is_version tenant.now bucket.now okey.now id) (tables S.Store connection.old).versions)) }
+    ensures trouble { IfErr result (IsTrouble S.Store connection.old connection.new) }
 {
     connection.query_all(
         "SELECT seq, marker, stamp, size, sum, bytes FROM versions WHERE tenant = ?1 AND bucket = ?2 AND okey = ?3 AND id = ?4 ORDER BY rowid",
@@ -89,13 +89,17 @@ pub fn find_version<S: Alter>(
     okey: &[u8],
     id: u64,
 ) -> Result<Option<StoredVersion>, Error>
-    requires inside { IsClean (state S.Store connection.old) → IsInside (standing (state S.Store connection.old)) }
+    requires inside { InTransaction S.Store connection.old }
     requires small { id < 2 ^ 63 }
-    ensures within { Within (state S.Store connection.old) (state S.Store connection.new) }
-    ensures opens { OnOk result (IsIntact (state S.Store connection.new) → IsOpen (state S.Store connection.old) × IsOpen (state S.Store connection.new)) }
-    ensures same { OnOk result (IsIntact (state S.Store connection.new) → standing (state S.Store connection.new) ≡ standing (state S.Store connection.old)) }
-    ensures found { IfOk result (λ found. IsClean (state S.Store connection.new) → option_map version_seen found ≡ option_map found_version (find (is_version tenant.now bucket.now okey.now id) (tables_in (standing (state S.Store connection.old)).now).versions)) }
-    ensures trouble { IfErr result (λ e. IsIntact (state S.Store connection.new) → (standing (state S.Store connection.old)).limit ≡ None → ((v : Stored) → find (is_version tenant.now bucket.now okey.now id) (tables_in (standing (state S.Store connection.old)).now).versions ≡ Some v → IsUtf8 v.checksum) → is_trouble e ≡ true) }
+    ensures within { StaysWithin S.Store connection.old connection.new }
+    ensures opens { OnOk result (WasOpen S.Store connection.old connection.new) }
+    ensures same { OnOk result (ChangesNothing S.Store connection.old connection.new) }
+    ensures found { IfOk result (λ found. IsClean S.Store connection.new
+        → option_map version_seen found ≡ option_map found_version
+            (find (is_version tenant.now bucket.now okey.now id) (tables S.Store connection.old).versions)) }
+    ensures trouble { IfErr result (IsTroubleIf S.Store connection.old connection.new
+        ((v : Stored) → find (is_version tenant.now bucket.now okey.now id) (tables S.Store connection.old).versions ≡ Some v
+            → IsUtf8 v.checksum)) }
 {
     let rows = version_rows(connection, tenant, bucket, okey, id)?;
     match rows.first() {
@@ -109,14 +113,20 @@ pub fn insert_version<S: Alter>(
     connection: &mut Connection<S>,
     version: &NewVersion<'_>,
 ) -> Result<usize, Error>
-    requires inside { IsClean (state S.Store connection.old) → IsInside (standing (state S.Store connection.old)) }
+    requires inside { InTransaction S.Store connection.old }
     requires seq { version.now.seq < 2 ^ 63 }
     requires id { version.now.id < 2 ^ 63 }
     requires stamp { version.now.stamp < 2 ^ 63 }
-    ensures within { Within (state S.Store connection.old) (state S.Store connection.new) }
-    ensures opens { OnOk result (IsIntact (state S.Store connection.new) → IsOpen (state S.Store connection.old) → IsOpen (state S.Store connection.new)) }
-    ensures holds { OnOk result (IsClean (state S.Store connection.new) → Holds (record (tables_in (standing (state S.Store connection.old)).now) { versions = (tables_in (standing (state S.Store connection.old)).now).versions ++ record { tenant = version.now.tenant.now; seq = version.now.seq; bucket = version.now.bucket.now; okey = version.now.okey.now; id = version.now.id; marker = 0; stamp = version.now.stamp; size = length version.now.bytes.now; checksum = version.now.checksum.now; bytes = version.now.bytes.now } ∷ [] }) (standing (state S.Store connection.new))) }
-    ensures trouble { IfErr result (λ e. IsIntact (state S.Store connection.new) → (standing (state S.Store connection.old)).limit ≡ None → IsNewVersion (tables_in (standing (state S.Store connection.old)).now) version.now.tenant.now version.now.bucket.now version.now.okey.now version.now.seq version.now.id → is_trouble e ≡ true) }
+    ensures within { StaysWithin S.Store connection.old connection.new }
+    ensures opens { OnOk result (StaysOpen S.Store connection.old connection.new) }
+    ensures holds { OnOk result (Becomes S.Store connection.old connection.new
+        (λ rows. record rows { versions = rows.versions ++ record {
+            tenant = version.now.tenant.now; seq = version.now.seq; bucket = version.now.bucket.now; okey = version.now.okey.now;
+            id = version.now.id; marker = 0; stamp = version.now.stamp; size = length version.now.bytes.now;
+            checksum = version.now.checksum.now; bytes = version.now.bytes.now } ∷ [] })) }
+    ensures trouble { IfErr result (IsTroubleIf S.Store connection.old connection.new
+        (IsNewVersion (tables S.Store connection.old) version.now.tenant.now version.now.bucket.now version.now.okey.now
+            version.now.seq version.now.id)) }
 {
     // Asked for what it ensures: the rows obey the schema.
     let _schema = connection.schema();
@@ -144,12 +154,13 @@ pub fn delete_version<S: Alter>(
     okey: &[u8],
     id: u64,
 ) -> Result<usize, Error>
-    requires inside { IsClean (state S.Store connection.old) → IsInside (standing (state S.Store connection.old)) }
+    requires inside { InTransaction S.Store connection.old }
     requires small { id < 2 ^ 63 }
-    ensures within { Within (state S.Store connection.old) (state S.Store connection.new) }
-    ensures opens { OnOk result (IsIntact (state S.Store connection.new) → IsOpen (state S.Store connection.old) → IsOpen (state S.Store connection.new)) }
-    ensures holds { OnOk result (IsClean (state S.Store connection.new) → Holds (record (tables_in (standing (state S.Store connection.old)).now) { versions = delete_where (is_version tenant.now bucket.now okey.now id) (tables_in (standing (state S.Store connection.old)).now).versions }) (standing (state S.Store connection.new))) }
-    ensures trouble { IfErr result (λ e. IsIntact (state S.Store connection.new) → (standing (state S.Store connection.old)).limit ≡ None → is_trouble e ≡ true) }
+    ensures within { StaysWithin S.Store connection.old connection.new }
+    ensures opens { OnOk result (StaysOpen S.Store connection.old connection.new) }
+    ensures holds { OnOk result (Becomes S.Store connection.old connection.new
+        (λ rows. record rows { versions = delete_where (is_version tenant.now bucket.now okey.now id) rows.versions })) }
+    ensures trouble { IfErr result (IsTrouble S.Store connection.old connection.new) }
 {
     // Asked for what it ensures: the rows obey the schema.
     let _schema = connection.schema();

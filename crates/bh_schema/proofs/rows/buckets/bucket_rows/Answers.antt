@@ -1,16 +1,11 @@
-use Rattle.std.proofs.Common.{map, filter}
 use Rattle.sqlite.specs.Held.{state}
-use Rattle.bh_tables.specs.Shown.{is_bucket, shown_bucket}
-use Rattle.bh_tables.proofs.BucketLemmas.{find_bucket_rows, find_bucket_asks}
-use Rattle.bh_schema.proofs.Calls.{ready, question}
+use Rattle.bh_tables.proofs.Places.{buckets}
+use Rattle.bh_tables.proofs.BucketTexts.{bucket_shown}
+use Rattle.bh_schema.proofs.Calls.{selected}
 use Rattle.bh_schema.proofs.rows.buckets.bucket_rows.Goals as goal
 
 pub returns : goal.returns
 returns g c =
     let h = rw (c.to_sql.ensures, c.to_sql-2.ensures) at c.query_all.ensures in
-    let old = state g.S.Store c.args.connection.now in
-    let new = state g.S.Store c.query_all.new.self in
-    let q = question old new (λ v. v.items) (λ t. map shown_bucket (filter (is_bucket c.args.tenant.now c.args.bucket.now) t.buckets)) c.query_all.result c.requires.inside
-    (find_bucket_asks old new c.args.tenant.now c.args.bucket.now (ready old c.requires.inside) (λ v. v.items) c.query_all.result h.ok h.err h.survives)
-    (find_bucket_rows old new c.args.tenant.now c.args.bucket.now (ready old c.requires.inside) (λ v. v.items) c.query_all.result h.ok h.survives) in
+    let q = selected buckets (state g.S.Store c.args.connection.now) (state g.S.Store c.query_all.new.self) c.requires.inside (λ v. v.items) c.query_all.result (bucket_shown c.args.tenant.now c.args.bucket.now) h.ok h.err h.survives in
     record { within = q.within; opens = q.opens; same = q.same; rows = q.rows; trouble = q.trouble }

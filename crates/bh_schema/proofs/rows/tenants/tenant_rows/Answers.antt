@@ -1,16 +1,11 @@
-use Rattle.std.proofs.Common.{map, filter}
 use Rattle.sqlite.specs.Held.{state}
-use Rattle.bh_tables.specs.Shown.{is_tenant, shown_tenant}
-use Rattle.bh_tables.proofs.TenantLemmas.{find_tenant_rows, find_tenant_asks}
-use Rattle.bh_schema.proofs.Calls.{ready, question}
+use Rattle.bh_tables.proofs.Places.{tenants}
+use Rattle.bh_tables.proofs.TenantTexts.{tenant_shown}
+use Rattle.bh_schema.proofs.Calls.{selected}
 use Rattle.bh_schema.proofs.rows.tenants.tenant_rows.Goals as goal
 
 pub returns : goal.returns
 returns g c =
     let h = rw c.to_sql.ensures at c.query_all.ensures in
-    let old = state g.S.Store c.args.connection.now in
-    let new = state g.S.Store c.query_all.new.self in
-    let q = question old new (λ v. v.items) (λ t. map shown_tenant (filter (is_tenant c.args.name.now) t.tenants)) c.query_all.result c.requires.inside
-    (find_tenant_asks old new c.args.name.now (ready old c.requires.inside) (λ v. v.items) c.query_all.result h.ok h.err h.survives)
-    (find_tenant_rows old new c.args.name.now (ready old c.requires.inside) (λ v. v.items) c.query_all.result h.ok h.survives) in
+    let q = selected tenants (state g.S.Store c.args.connection.now) (state g.S.Store c.query_all.new.self) c.requires.inside (λ v. v.items) c.query_all.result (tenant_shown c.args.name.now) h.ok h.err h.survives in
     record { within = q.within; opens = q.opens; same = q.same; rows = q.rows; trouble = q.trouble }

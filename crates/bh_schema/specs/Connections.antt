@@ -1,0 +1,59 @@
+-- A connection in the words of the layer, by its store's ghosts: what holds of it, and what a call on it leaves.
+use Rattle.std.specs.Prelude.{◌≡◌, true, None}
+use Rattle.sqlite.specs.Held.{Held, state}
+use Rattle.sqlite.specs.declared.error.Error.{Error}
+use Rattle.sqlite_trees.specs.declared.store.Store.{Ghosts}
+use Rattle.bh_rows.specs.Means.{is_trouble}
+use Rattle.bh_tables.specs.Typed.{Tables, tables_in}
+use Rattle.bh_schema.specs.Layer.{Standing, standing, IsInside, Holds, Within}
+use Rattle.bh_schema.specs.Layer as layer
+
+module _ {S : Type 0} (g : Ghosts S) where
+  -- its store has returned what was written to it
+  abbrev pub IsIntact : Held S → Type 0
+  IsIntact c = layer.IsIntact (state g c)
+
+  -- no fault has shut it
+  abbrev pub IsOpen : Held S → Type 0
+  IsOpen c = layer.IsOpen (state g c)
+
+  -- both
+  abbrev pub IsClean : Held S → Type 0
+  IsClean c = layer.IsClean (state g c)
+
+  -- where it stands, and the tables that it shows if they are a host's
+  abbrev pub stands : Held S → Standing
+  stands c = standing (state g c)
+
+  abbrev pub tables : Held S → Tables
+  tables c = tables_in (stands c).now
+
+  -- while it is clean, a transaction is open on a host's database
+  abbrev pub InTransaction : Held S → Type 0
+  InTransaction c = IsClean c → IsInside (stands c)
+
+  module _ (old new : Held S) where
+    -- a call inside a transaction commits nothing
+    abbrev pub StaysWithin : Type 0
+    StaysWithin = Within (state g old) (state g new)
+
+    -- an answer tells that the connection was open, and is
+    abbrev pub WasOpen : Type 0
+    WasOpen = IsIntact new → IsOpen old × IsOpen new
+
+    abbrev pub StaysOpen : Type 0
+    StaysOpen = IsIntact new → IsOpen old → IsOpen new
+
+    abbrev pub ChangesNothing : Type 0
+    ChangesNothing = IsIntact new → stands new ≡ stands old
+
+    -- a transaction is open, whose tables are these of those before
+    abbrev pub Becomes : (Tables → Tables) → Type 0
+    Becomes change = IsClean new → Holds (change (tables old)) (stands new)
+
+    -- where no limit on steps stops a text, its error is trouble, or is so under a premise
+    abbrev pub IsTrouble : Error → Type 0
+    IsTrouble e = IsIntact new → (stands old).limit ≡ None → is_trouble e ≡ true
+
+    abbrev pub IsTroubleIf : Type 0 → Error → Type 0
+    IsTroubleIf premise e = IsIntact new → (stands old).limit ≡ None → premise → is_trouble e ≡ true

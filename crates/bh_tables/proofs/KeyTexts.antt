@@ -1,0 +1,77 @@
+-- The texts over access keys.
+use Rattle.std.proofs.Common.{◌≡◌, ℤ, codes, List, [], ◌∷◌, ◌&&◌, true, false, refl, ap, ◌∙◌}
+use Rattle.std.specs.List.{list_any}
+use Rattle.sqlite.specs.declared.types.Value.TheVariants.{Null, Text}
+use Rattle.sqlite.specs.Edit.{next_rowid}
+use Rattle.sqlite.specs.Effect.{Database}
+use Rattle.sqlite.specs.Listing.{understood}
+use Rattle.sqlite.specs.Order.{Row}
+use Rattle.sqlite.specs.Term.{lit, col}
+use Rattle.sqlite.specs.Tree.{Trees}
+use Rattle.sqlite_sql.specs.declared.ops.CompareOp.TheVariants.{Eq}
+use Rattle.sqlite_value.specs.Keys.{plain, first_key}
+use Rattle.sqlite_schema.specs.Rules.{agree}
+use Rattle.sqlite_tied.specs.Compute.{everything}
+use Rattle.sqlite_typed.proofs.TestLemmas.{at_texts, last_term, then_term}
+use Rattle.bh_rows.specs.Form.{put}
+use Rattle.bh_rows.specs.Keys.{AreUnused}
+use Rattle.bh_rows.specs.Scan.{no_limit}
+use Rattle.bh_rows.specs.Texts.{MayAdd, InsertText, DeleteText, SelectText}
+use Rattle.bh_rows.proofs.FormLemmas.{any_typed}
+use Rattle.bh_tables.specs.Schema.{Octets, host_schema, keys_table, at}
+use Rattle.bh_tables.specs.Typed.{KeyRow, key_form, tenant_form, IsHost, tables_in}
+use Rattle.bh_tables.specs.Shown.{is_key, is_tenant, shown_secret}
+use Rattle.bh_tables.proofs.Terms.{is}
+
+-- ---- a key of a tenant, whose name no other key of the tenant has, may be added
+
+key_agrees : (i j : ℤ) (a b : KeyRow) → agree plain (1 ∷ 2 ∷ []) (put key_form (i, a)) (1 ∷ 2 ∷ []) (put key_form (j, b)) ≡ is_key b.tenant b.name a
+unfolding first_key
+key_agrees i j a b = then_term (at_texts false Eq a.tenant b.tenant) (last_term (at_texts false Eq a.name b.name))
+
+pub new_key : (db : Database) → IsHost db → (k : KeyRow) → list_any (is_key k.tenant k.name) (tables_in db).keys ≡ false → list_any (is_tenant k.tenant) (tables_in db).tenants ≡ true → MayAdd key_form host_schema (at 3 keys_table) db.trees k
+unfolding everything
+new_key db host k free owned = record {
+  suits = record { typed = refl; present = refl; checked = refl };
+  free = (any_typed key_form _ (is_key k.tenant k.name) (λ id a. key_agrees id (next_rowid (db.trees 3)) a k) (db.trees 3) host.held.keys ∙ free, tt);
+  parents = ap (λ b. b && true) (any_typed tenant_form _ (is_tenant k.tenant) (λ id t. last_term (at_texts false Eq t.tenant k.tenant)) (db.trees 1) host.held.tenants ∙ owned);
+}
+
+pub keys_unused : (db : Trees) (rows : List Row) → AreUnused host_schema db 3 rows
+unfolding everything
+keys_unused db rows = tt
+
+-- ---- the texts
+
+pub secret_shown : (tenant name : Octets) → SelectText key_form host_schema 3 (codes "SELECT secret FROM keys WHERE tenant = ?1 AND name = ?2 ORDER BY rowid") (Text tenant ∷ Text name ∷ []) (is_key tenant name) shown_secret no_limit
+unfolding understood everything
+secret_shown tenant name = record {
+  test = is 1 0 ∷ is 2 1 ∷ [];
+  show = col 1 3 ∷ [];
+  names = codes "secret" ∷ [];
+  means = record { is = refl; plain = (refl, refl); unlisted = refl; whole = refl; given = refl };
+  low = refl;
+  accepts = refl;
+  tests = λ id k. then_term (at_texts false Eq k.tenant tenant) (last_term (at_texts false Eq k.name name));
+  shows = λ id k. refl;
+}
+
+pub key_inserted : (tenant name secret : Octets) → InsertText key_form host_schema 2 (at 3 keys_table) (codes "INSERT INTO keys (tenant, name, secret) VALUES (?1, ?2, ?3)") (Text tenant ∷ Text name ∷ Text secret ∷ [])
+    (record { tenant = tenant; name = name; secret = secret })
+unfolding understood everything
+key_inserted tenant name secret = record {
+  terms = lit Null ∷ col 0 0 ∷ col 0 1 ∷ col 0 2 ∷ [];
+  width = 4;
+  means = record { is = refl; plain = (refl, refl); unlisted = refl; whole = refl; given = refl };
+  gives = refl;
+  accepts = refl;
+}
+
+pub key_deleted : (tenant name : Octets) → DeleteText key_form host_schema 2 (at 3 keys_table) (codes "DELETE FROM keys WHERE tenant = ?1 AND name = ?2") (Text tenant ∷ Text name ∷ []) (is_key tenant name)
+unfolding understood everything
+key_deleted tenant name = record {
+  test = is 1 0 ∷ is 2 1 ∷ [];
+  means = record { is = refl; plain = (refl, refl); unlisted = refl; whole = refl; given = refl };
+  accepts = refl;
+  tests = λ id k. then_term (at_texts false Eq k.tenant tenant) (last_term (at_texts false Eq k.name name));
+}

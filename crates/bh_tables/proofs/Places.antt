@@ -1,0 +1,149 @@
+-- Each of a host's tables among the others: its typed rows, and what a database is that has others of them.
+use Rattle.std.proofs.Common.{◌≡◌, ℕ, List, refl, sym, ap, subst, ◌∙◌}
+use Rattle.sqlite.specs.Order.{Row}
+use Rattle.sqlite.specs.Tree.{Trees}
+use Rattle.sqlite.specs.Table.{Table}
+use Rattle.sqlite.specs.Effect.{Database}
+use Rattle.sqlite.specs.State.{State}
+use Rattle.sqlite_tied.specs.Compute.{everything}
+use Rattle.sqlite_trees.specs.Tree.{with_tree}
+use Rattle.bh_rows.specs.Form.{Form, AreRows, typed}
+use Rattle.bh_rows.specs.Texts.{IsOrderly, IsTableOf, Leaves}
+use Rattle.bh_tables.specs.Schema.{host_schema, host_table, tenants_table, keys_table, buckets_table, versions_table, at}
+use Rattle.bh_tables.specs.Typed.{HostRow, TenantRow, KeyRow, BucketRow, VersionRow, host_form, tenant_form, key_form, bucket_form, version_form, Tables, tables, tables_in, tables_of, Raw, raw, AreHeld, IsHost}
+use Rattle.bh_tables.proofs.Kept.{host_kept, tenant_kept, key_kept, bucket_kept, version_kept}
+use Rattle.bh_tables.proofs.RawLemmas.{raw_changed}
+
+pub orderly : IsOrderly host_schema
+unfolding everything
+orderly = record { apart = refl; passive = refl; ignores = refl }
+
+-- ---- a table's place
+
+pub record Place (T : Type 0) : Type 0 where
+  pub form : Form T
+  -- among the tables of the schema
+  pub number : ℕ
+  pub table : Table
+  pub is : IsTableOf form host_schema number table
+  -- its typed rows, and the tables with others of them
+  pub rows : Tables → List T
+  pub set : Tables → List T → Tables
+  pub rows_are : (db : Database) → typed form (db.trees table.tree) ≡ rows (tables_in db)
+  pub held : (db : Database) → IsHost db → AreRows form (db.trees table.tree)
+  -- the same of the rows as they are stored
+  pub put : Raw → List Row → Raw
+  pub put_is : (db : Trees) (l : List Row) → raw (with_tree db table.tree l) ≡ put (raw db) l
+  pub put_reads : (r : Raw) (l : List Row) → tables_of (put r l) ≡ set (tables_of r) (typed form l)
+  pub put_held : (r : Raw) (l : List Row) → AreHeld r → AreRows form l → AreHeld (put r l)
+
+-- a write to one table leaves a host's database, with the other tables as they were
+pub turned : {T : Type 0} (p : Place T) (old new : State) (after : List T) → IsHost old.now → Leaves p.form host_schema p.table.tree old new after → IsHost new.now × (tables new ≡ p.set (tables old) after)
+turned p old new after host l =
+    let now_is : raw new.now.trees ≡ p.put (raw old.now.trees) (l.next p.table.tree) = ap (λ (d : Database). raw d.trees) l.now ∙ raw_changed p.table.tree old.now.trees l.next l.others ∙ p.put_is old.now.trees (l.next p.table.tree) in
+    (
+      record { schema = ap (λ (d : Database). d.schema) l.now; held = subst AreHeld (sym now_is) (p.put_held (raw old.now.trees) (l.next p.table.tree) host.held l.held) },
+      ap tables_of now_is ∙ p.put_reads (raw old.now.trees) (l.next p.table.tree) ∙ ap (p.set (tables old)) l.rows,
+    )
+
+-- ---- the tables
+
+pub host_is : IsTableOf host_form host_schema 0 (at 0 host_table)
+unfolding everything
+host_is = record { is_table = refl; plain = refl; low = refl; kept = host_kept; fit = refl }
+
+abbrev pub host : Place HostRow
+host = record {
+  form = host_form;
+  number = 0;
+  table = at 0 host_table;
+  is = host_is;
+  rows = λ t. t.host;
+  set = λ t l. record t { host = l };
+  rows_are = λ db. refl;
+  held = λ db is. is.held.host;
+  put = λ r l. record r { host = l };
+  put_is = λ db l. refl;
+  put_reads = λ r l. refl;
+  put_held = λ r l h it. record { host = it; tenants = h.tenants; keys = h.keys; buckets = h.buckets; versions = h.versions };
+}
+
+pub tenants_is : IsTableOf tenant_form host_schema 1 (at 1 tenants_table)
+unfolding everything
+tenants_is = record { is_table = refl; plain = refl; low = refl; kept = tenant_kept; fit = refl }
+
+abbrev pub tenants : Place TenantRow
+tenants = record {
+  form = tenant_form;
+  number = 1;
+  table = at 1 tenants_table;
+  is = tenants_is;
+  rows = λ t. t.tenants;
+  set = λ t l. record t { tenants = l };
+  rows_are = λ db. refl;
+  held = λ db is. is.held.tenants;
+  put = λ r l. record r { tenants = l };
+  put_is = λ db l. refl;
+  put_reads = λ r l. refl;
+  put_held = λ r l h it. record { host = h.host; tenants = it; keys = h.keys; buckets = h.buckets; versions = h.versions };
+}
+
+pub keys_is : IsTableOf key_form host_schema 2 (at 3 keys_table)
+unfolding everything
+keys_is = record { is_table = refl; plain = refl; low = refl; kept = key_kept; fit = refl }
+
+abbrev pub keys : Place KeyRow
+keys = record {
+  form = key_form;
+  number = 2;
+  table = at 3 keys_table;
+  is = keys_is;
+  rows = λ t. t.keys;
+  set = λ t l. record t { keys = l };
+  rows_are = λ db. refl;
+  held = λ db is. is.held.keys;
+  put = λ r l. record r { keys = l };
+  put_is = λ db l. refl;
+  put_reads = λ r l. refl;
+  put_held = λ r l h it. record { host = h.host; tenants = h.tenants; keys = it; buckets = h.buckets; versions = h.versions };
+}
+
+pub buckets_is : IsTableOf bucket_form host_schema 3 (at 5 buckets_table)
+unfolding everything
+buckets_is = record { is_table = refl; plain = refl; low = refl; kept = bucket_kept; fit = refl }
+
+abbrev pub buckets : Place BucketRow
+buckets = record {
+  form = bucket_form;
+  number = 3;
+  table = at 5 buckets_table;
+  is = buckets_is;
+  rows = λ t. t.buckets;
+  set = λ t l. record t { buckets = l };
+  rows_are = λ db. refl;
+  held = λ db is. is.held.buckets;
+  put = λ r l. record r { buckets = l };
+  put_is = λ db l. refl;
+  put_reads = λ r l. refl;
+  put_held = λ r l h it. record { host = h.host; tenants = h.tenants; keys = h.keys; buckets = it; versions = h.versions };
+}
+
+pub versions_is : IsTableOf version_form host_schema 4 (at 7 versions_table)
+unfolding everything
+versions_is = record { is_table = refl; plain = refl; low = refl; kept = version_kept; fit = refl }
+
+abbrev pub versions : Place VersionRow
+versions = record {
+  form = version_form;
+  number = 4;
+  table = at 7 versions_table;
+  is = versions_is;
+  rows = λ t. t.versions;
+  set = λ t l. record t { versions = l };
+  rows_are = λ db. refl;
+  held = λ db is. is.held.versions;
+  put = λ r l. record r { versions = l };
+  put_is = λ db l. refl;
+  put_reads = λ r l. refl;
+  put_held = λ r l h it. record { host = h.host; tenants = h.tenants; keys = h.keys; buckets = h.buckets; versions = it };
+}

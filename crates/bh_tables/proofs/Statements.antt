@@ -1,0 +1,88 @@
+-- What a text over one table does to all of a host's tables: the lemmas on texts, once for every table.
+use Rattle.std.proofs.Common.{◌≡◌, ℕ, List, [], ◌∷◌, ◌++◌, map, filter, Bool, true, None, Ok, Err, Result, OnOk, IfOk, IfErr, IsTrue, sym, ap, subst, ◌∙◌}
+use Rattle.sqlite.specs.Order.{Row}
+use Rattle.sqlite.specs.Edit.{next_rowid}
+use Rattle.sqlite.specs.Tree.{Trees}
+use Rattle.sqlite.specs.State.{State, HasCleanDisk, IsLive, Survives, Executes, CommitsBy, CommitsShowing, Shown, FailsToQuery}
+use Rattle.sqlite.specs.declared.error.Error.{Error}
+use Rattle.sqlite_keyed.specs.Lists.{update_where, delete_where}
+use Rattle.bh_rows.specs.Form.{typed}
+use Rattle.bh_rows.specs.Keys.{AreUnused}
+use Rattle.bh_rows.specs.Means.{is_trouble, Asks, Changes}
+use Rattle.bh_rows.specs.Scan.{no_limit}
+use Rattle.bh_rows.specs.Texts.{IsReadyAt, Leaves, MayAdd, MayChange, InsertText, UpdateText, DeleteText, SelectText}
+use Rattle.bh_rows.proofs.CallLemmas.{clean_before}
+use Rattle.bh_rows.proofs.TextLemmas as text
+use Rattle.bh_tables.specs.Schema.{host_schema}
+use Rattle.bh_tables.specs.Typed.{IsHost, IsReady, Tables, tables}
+use Rattle.bh_tables.proofs.Places.{Place, orderly, turned}
+
+-- how a write may end, which tables it leaves, and which errors it gives
+pub record Writes (old new : State) (change : Tables → Tables) (allowed : Error → Type 0) (result : Result ℕ Error) : Type 0 where
+  pub changes : Changes old new result
+  pub leaves : HasCleanDisk new → IsTrue old.is_open → OnOk result (IsHost new.now × (tables new ≡ change (tables old)))
+  pub errors : HasCleanDisk new → old.step_limit ≡ None → IfErr result allowed
+
+-- how a question may end, and which rows it shows
+pub record Shows {X : Type 0} (old new : State) (rows_in : X → List Row) (shown : Tables → List Row) (result : Result X Error) : Type 0 where
+  pub asks : Asks old new result
+  pub rows : HasCleanDisk new → IfOk result (λ x. rows_in x ≡ shown (tables old))
+
+-- an answer's rows, and an error under a premise
+module _ {X : Type 0} (result : Result X Error) where
+  only_if : {A : Type 0} → (A → IfErr result (λ e. is_trouble e ≡ true)) → IfErr result (λ e. A → is_trouble e ≡ true)
+  only_if = go result
+    where
+      go : {A : Type 0} (r : Result X Error) → (A → IfErr r (λ e. is_trouble e ≡ true)) → IfErr r (λ e. A → is_trouble e ≡ true)
+      go (Ok x) h = tt
+      go (Err e) h = h
+
+module _ {T : Type 0} (p : Place T) (old new : State) (ready : IsReady old) where
+  ready_at : IsReadyAt p.form host_schema p.table.tree old
+  ready_at clean up = let h = ready clean up in (h.schema, p.held old.now h)
+
+  abbrev stored : List T
+  stored = typed p.form (old.now.trees p.table.tree)
+
+  -- the table's rows become these of the rows that it had
+  left : (after : List T → List T) (result : Result ℕ Error) {P : Trees → Type 0} → Survives old new P → (HasCleanDisk new → IsTrue old.is_open → OnOk result (Leaves p.form host_schema p.table.tree old new (after stored)))
+      → HasCleanDisk new → IsTrue old.is_open → OnOk result (IsHost new.now × (tables new ≡ p.set (tables old) (after (p.rows (tables old)))))
+  left after (Err e) survives h clean up = tt
+  left after (Ok n) survives h clean up = turned p old new _ (ready (clean_before old new _ survives clean) up) (subst (λ l. Leaves p.form host_schema p.table.tree old new (after l)) (p.rows_are old.now) (h clean up))
+
+  module _ (result : Result ℕ Error) (sql : List ℕ) (params : Row) (runs : HasCleanDisk new → Executes sql params old new result) (survives : Survives old new (CommitsBy sql params old)) (live : IsLive old) where
+    -- one row more, where it may be the next
+    pub inserted : (x : T) {A : Type 0} → InsertText p.form host_schema p.number p.table sql params x → (HasCleanDisk old → IsTrue old.is_open → A → MayAdd p.form host_schema p.table old.now.trees x)
+        → Writes old new (λ t. p.set t (p.rows t ++ x ∷ [])) (λ e. A → is_trouble e ≡ true) result
+    inserted x it may = record {
+      changes = text.insert_changes p.form host_schema orderly p.number p.table p.is old new ready_at sql params x it result runs survives;
+      leaves = left (λ l. l ++ x ∷ []) result survives (text.insert_adds p.form host_schema orderly p.number p.table p.is old new ready_at sql params x it result runs survives);
+      errors = λ clean unlimited. only_if result (λ a. text.insert_only_trouble p.form host_schema orderly p.number p.table p.is old new ready_at sql params x it live result runs survives clean unlimited (λ was up. may was up a));
+    }
+
+    -- the rows that pass, changed
+    pub updated : (m : T → Bool) (f : T → T) → UpdateText p.form host_schema p.number p.table sql params m f → MayChange p.form host_schema p.table m f
+        → Writes old new (λ t. p.set t (update_where m f (p.rows t))) (λ e. is_trouble e ≡ true) result
+    updated m f it may = record {
+      changes = text.update_changes p.form host_schema orderly p.number p.table p.is old new ready_at sql params m f it result runs survives;
+      leaves = left (update_where m f) result survives (text.update_sets p.form host_schema orderly p.number p.table p.is old new ready_at sql params m f it result runs survives);
+      errors = text.update_only_trouble p.form host_schema orderly p.number p.table p.is old new ready_at sql params m f it live may result runs survives;
+    }
+
+    -- the rows that pass, gone, of a table to which no other refers
+    pub deleted : (m : T → Bool) → DeleteText p.form host_schema p.number p.table sql params m → ((rows : List Row) → AreUnused host_schema old.now.trees p.table.tree rows)
+        → Writes old new (λ t. p.set t (delete_where m (p.rows t))) (λ e. is_trouble e ≡ true) result
+    deleted m it unused = record {
+      changes = text.delete_changes p.form host_schema orderly p.number p.table p.is old new ready_at sql params m it result runs survives;
+      leaves = left (delete_where m) result survives (text.delete_removes p.form host_schema orderly p.number p.table p.is old new ready_at sql params m it result runs survives);
+      errors = λ clean unlimited. text.delete_only_trouble p.form host_schema orderly p.number p.table p.is old new ready_at sql params m it live result runs survives clean unlimited (λ was up. unused _);
+    }
+
+  -- the rows that pass, as shown
+  pub selected : {X : Type 0} (rows_in : X → List Row) (result : Result X Error) (sql : List ℕ) (params : Row) (m : T → Bool) (view : T → Row) → SelectText p.form host_schema p.table.tree sql params m view no_limit
+      → (HasCleanDisk new → IfOk result (λ x. Shown sql params old new (rows_in x))) → (HasCleanDisk new → IfErr result (FailsToQuery sql params old new)) → Survives old new (CommitsShowing sql params old)
+      → Shows old new rows_in (λ t. map view (filter m (p.rows t))) result
+  selected rows_in result sql params m view it ok err survives = record {
+    asks = text.select_asks p.form host_schema p.table.tree old new ready_at sql params m view no_limit it rows_in result ok err survives;
+    rows = λ clean. subst (λ l. IfOk result (λ x. rows_in x ≡ map view (filter m l))) (p.rows_are old.now) (text.select_rows p.form host_schema p.table.tree old new ready_at sql params m view no_limit it rows_in result ok survives clean);
+  }

@@ -1,0 +1,91 @@
+-- The texts over versions.
+use Rattle.std.proofs.Common.{◌≡◌, ℕ, ℤ, pos, codes, List, [], ◌∷◌, ◌&&◌, true, false, refl, ap, ◌∙◌}
+use Rattle.std.specs.List.{list_any}
+use Rattle.sqlite.specs.declared.types.Value.TheVariants.{Null, Int, Text, Blob}
+use Rattle.sqlite.specs.Edit.{next_rowid}
+use Rattle.sqlite.specs.Effect.{Database}
+use Rattle.sqlite.specs.Listing.{understood}
+use Rattle.sqlite.specs.Order.{Row}
+use Rattle.sqlite.specs.Term.{lit, col}
+use Rattle.sqlite.specs.Tree.{Trees}
+use Rattle.sqlite_sql.specs.declared.ops.CompareOp.TheVariants.{Eq}
+use Rattle.sqlite_value.specs.Keys.{plain, first_key}
+use Rattle.sqlite_schema.specs.Rules.{agree}
+use Rattle.sqlite_tied.specs.Compute.{everything}
+use Rattle.sqlite_typed.proofs.TestLemmas.{at_texts, at_blobs, at_ints, last_term, then_term}
+use Rattle.bh_rows.specs.Form.{put}
+use Rattle.bh_rows.specs.Keys.{AreUnused}
+use Rattle.bh_rows.specs.Scan.{no_limit}
+use Rattle.bh_rows.specs.Texts.{MayAdd, InsertText, DeleteText, SelectText}
+use Rattle.bh_rows.proofs.FormLemmas.{any_typed}
+use Rattle.bh_tables.specs.Schema.{Octets, host_schema, versions_table, at}
+use Rattle.bh_tables.specs.Typed.{VersionRow, version_form, bucket_form, number, IsHost, tables_in}
+use Rattle.bh_tables.specs.Shown.{is_version, is_entry, is_bucket, is_marked_right, shown_version}
+use Rattle.bh_tables.proofs.Checked.{version_checked}
+use Rattle.bh_tables.proofs.Terms.{is}
+
+-- ---- a version in a bucket, whose entry number and whose id no other has, may be added
+
+entry_agrees : (i j : ℤ) (a b : VersionRow) → agree plain (1 ∷ 2 ∷ []) (put version_form (i, a)) (1 ∷ 2 ∷ []) (put version_form (j, b)) ≡ is_entry b.tenant b.seq a
+unfolding first_key
+entry_agrees i j a b = then_term (at_texts false Eq a.tenant b.tenant) (last_term (at_ints false Eq (pos a.seq) (pos b.seq)))
+
+version_agrees : (i j : ℤ) (a b : VersionRow) → agree plain (1 ∷ 3 ∷ 4 ∷ 5 ∷ []) (put version_form (i, a)) (1 ∷ 3 ∷ 4 ∷ 5 ∷ []) (put version_form (j, b)) ≡ is_version b.tenant b.bucket b.okey b.id a
+unfolding first_key
+version_agrees i j a b = then_term (at_texts false Eq a.tenant b.tenant) (then_term (at_texts false Eq a.bucket b.bucket) (then_term (at_blobs false Eq a.okey b.okey) (last_term (at_ints false Eq (pos a.id) (pos b.id)))))
+
+pub new_version : (db : Database) → IsHost db → (v : VersionRow) → is_marked_right v ≡ true → list_any (is_entry v.tenant v.seq) (tables_in db).versions ≡ false → list_any (is_version v.tenant v.bucket v.okey v.id) (tables_in db).versions ≡ false
+    → list_any (is_bucket v.tenant v.bucket) (tables_in db).buckets ≡ true → MayAdd version_form host_schema (at 7 versions_table) db.trees v
+unfolding everything
+new_version db host v right unnumbered free owned = record {
+  suits = record { typed = refl; present = refl; checked = version_checked (next_rowid (db.trees 7)) v right };
+  free = (
+    any_typed version_form _ (is_entry v.tenant v.seq) (λ id a. entry_agrees id (next_rowid (db.trees 7)) a v) (db.trees 7) host.held.versions ∙ unnumbered,
+    (any_typed version_form _ (is_version v.tenant v.bucket v.okey v.id) (λ id a. version_agrees id (next_rowid (db.trees 7)) a v) (db.trees 7) host.held.versions ∙ free, tt),
+  );
+  parents = ap (λ c. c && true) (any_typed bucket_form _ (is_bucket v.tenant v.bucket) (λ id b. then_term (at_texts false Eq b.tenant v.tenant) (last_term (at_texts false Eq b.bucket v.bucket))) (db.trees 5) host.held.buckets ∙ owned);
+}
+
+pub versions_unused : (db : Trees) (rows : List Row) → AreUnused host_schema db 7 rows
+unfolding everything
+versions_unused db rows = tt
+
+-- ---- the texts
+
+pub version_shown : (tenant bucket okey : Octets) (version : ℕ)
+    → SelectText version_form host_schema 7 (codes "SELECT seq, marker, stamp, size, sum, bytes FROM versions WHERE tenant = ?1 AND bucket = ?2 AND okey = ?3 AND id = ?4 ORDER BY rowid") (Text tenant ∷ Text bucket ∷ Blob okey ∷ number version ∷ [])
+    (is_version tenant bucket okey version) shown_version no_limit
+unfolding understood everything
+version_shown tenant bucket okey version = record {
+  test = is 1 0 ∷ is 3 1 ∷ is 4 2 ∷ is 5 3 ∷ [];
+  show = col 1 2 ∷ col 1 6 ∷ col 1 7 ∷ col 1 8 ∷ col 1 9 ∷ col 1 10 ∷ [];
+  names = codes "seq" ∷ codes "marker" ∷ codes "stamp" ∷ codes "size" ∷ codes "sum" ∷ codes "bytes" ∷ [];
+  means = record { is = refl; plain = (refl, refl); unlisted = refl; whole = refl; given = refl };
+  low = refl;
+  accepts = refl;
+  tests = λ id v. then_term (at_texts false Eq v.tenant tenant) (then_term (at_texts false Eq v.bucket bucket) (then_term (at_blobs false Eq v.okey okey) (last_term (at_ints false Eq (pos v.id) (pos version)))));
+  shows = λ id v. refl;
+}
+
+pub version_inserted : (tenant bucket okey checksum bytes : Octets) (seq id stamp size : ℕ)
+    → InsertText version_form host_schema 4 (at 7 versions_table) (codes "INSERT INTO versions (tenant, seq, bucket, okey, id, marker, stamp, size, sum, bytes) VALUES (?1, ?2, ?3, ?4, ?5, 0, ?6, ?7, ?8, ?9)")
+    (Text tenant ∷ number seq ∷ Text bucket ∷ Blob okey ∷ number id ∷ number stamp ∷ number size ∷ Text checksum ∷ Blob bytes ∷ [])
+    (record { tenant = tenant; seq = seq; bucket = bucket; okey = okey; id = id; marker = 0; stamp = stamp; size = size; checksum = checksum; bytes = bytes })
+unfolding understood everything
+version_inserted tenant bucket okey checksum bytes seq id stamp size = record {
+  terms = lit Null ∷ col 0 0 ∷ col 0 1 ∷ col 0 2 ∷ col 0 3 ∷ col 0 4 ∷ lit (Int (pos 0)) ∷ col 0 5 ∷ col 0 6 ∷ col 0 7 ∷ col 0 8 ∷ [];
+  width = 11;
+  means = record { is = refl; plain = (refl, refl); unlisted = refl; whole = refl; given = refl };
+  gives = refl;
+  accepts = refl;
+}
+
+pub version_deleted : (tenant bucket okey : Octets) (version : ℕ)
+    → DeleteText version_form host_schema 4 (at 7 versions_table) (codes "DELETE FROM versions WHERE tenant = ?1 AND bucket = ?2 AND okey = ?3 AND id = ?4") (Text tenant ∷ Text bucket ∷ Blob okey ∷ number version ∷ []) (is_version tenant bucket okey version)
+unfolding understood everything
+version_deleted tenant bucket okey version = record {
+  test = is 1 0 ∷ is 3 1 ∷ is 4 2 ∷ is 5 3 ∷ [];
+  means = record { is = refl; plain = (refl, refl); unlisted = refl; whole = refl; given = refl };
+  accepts = refl;
+  tests = λ id v. then_term (at_texts false Eq v.tenant tenant) (then_term (at_texts false Eq v.bucket bucket) (then_term (at_blobs false Eq v.okey okey) (last_term (at_ints false Eq (pos v.id) (pos version)))));
+}
