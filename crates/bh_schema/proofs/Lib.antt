@@ -6,5 +6,4 @@ pub mod TenantSteps
 pub mod Committing
 pub mod Stamping
 pub mod KeySteps
-pub mod NameTexts
 pub mod CredentialSteps

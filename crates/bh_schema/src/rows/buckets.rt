@@ -83,8 +83,10 @@ pub fn insert_bucket<S: Alter>(
     ensures within { StaysWithin S.Store connection.old connection.new }
     ensures opens { OnOk result (StaysOpen S.Store connection.old connection.new) }
     ensures holds { OnOk result (Becomes S.Store connection.old connection.new
-        (λ rows. record rows { buckets = rows.buckets
-            ++ record { tenant = tenant.now; bucket = bucket.now; created = created; state = 0; days = None } ∷ [] })) }
+        (λ rows. record rows {
+          buckets = rows.buckets
+              ++ record { tenant = tenant.now; bucket = bucket.now; created = created; state = 0; days = None } ∷ [];
+        })) }
     ensures trouble { IfErr result (IsTroubleIf S.Store connection.old connection.new
         (IsNewBucket (tables S.Store connection.old) tenant.now bucket.now)) }
 {

@@ -81,8 +81,10 @@ pub fn insert_tenant<S: Alter>(
     ensures within { StaysWithin S.Store connection.old connection.new }
     ensures opens { OnOk result (StaysOpen S.Store connection.old connection.new) }
     ensures holds { OnOk result (Becomes S.Store connection.old connection.new
-        (λ rows. record rows { tenants = rows.tenants
-            ++ record { tenant = name.now; quota = quota; next_version = 1; next_upload = 1; next_entry = 1 } ∷ [] })) }
+        (λ rows. record rows {
+          tenants = rows.tenants
+              ++ record { tenant = name.now; quota = quota; next_version = 1; next_upload = 1; next_entry = 1 } ∷ [];
+        })) }
     ensures trouble { IfErr result (IsTroubleIf S.Store connection.old connection.new
         (IsNewTenant (tables S.Store connection.old) name.now)) }
 {
@@ -129,8 +131,10 @@ pub fn set_numbers<S: Alter>(
     ensures within { StaysWithin S.Store connection.old connection.new }
     ensures opens { OnOk result (StaysOpen S.Store connection.old connection.new) }
     ensures holds { OnOk result (Becomes S.Store connection.old connection.new
-        (λ rows. record rows { tenants =
-            update_where (is_tenant tenant.now) (λ t. record t { next_version = version; next_entry = entry }) rows.tenants })) }
+        (λ rows. record rows {
+          tenants =
+              update_where (is_tenant tenant.now) (λ t. record t { next_version = version; next_entry = entry }) rows.tenants;
+        })) }
     ensures trouble { IfErr result (IsTrouble S.Store connection.old connection.new) }
 {
     // Asked for what it ensures: the rows obey the schema.

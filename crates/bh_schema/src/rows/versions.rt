@@ -96,10 +96,10 @@ pub fn find_version<S: Alter>(
     ensures same { OnOk result (ChangesNothing S.Store connection.old connection.new) }
     ensures found { IfOk result (λ found. IsClean S.Store connection.new
         → option_map version_seen found ≡ option_map found_version
-            (find (is_version tenant.now bucket.now okey.now id) (tables S.Store connection.old).versions)) }
+        (find (is_version tenant.now bucket.now okey.now id) (tables S.Store connection.old).versions)) }
     ensures trouble { IfErr result (IsTroubleIf S.Store connection.old connection.new
         ((v : Stored) → find (is_version tenant.now bucket.now okey.now id) (tables S.Store connection.old).versions ≡ Some v
-            → IsUtf8 v.checksum)) }
+        → IsUtf8 v.checksum)) }
 {
     let rows = version_rows(connection, tenant, bucket, okey, id)?;
     match rows.first() {
@@ -120,13 +120,23 @@ pub fn insert_version<S: Alter>(
     ensures within { StaysWithin S.Store connection.old connection.new }
     ensures opens { OnOk result (StaysOpen S.Store connection.old connection.new) }
     ensures holds { OnOk result (Becomes S.Store connection.old connection.new
-        (λ rows. record rows { versions = rows.versions ++ record {
-            tenant = version.now.tenant.now; seq = version.now.seq; bucket = version.now.bucket.now; okey = version.now.okey.now;
-            id = version.now.id; marker = 0; stamp = version.now.stamp; size = length version.now.bytes.now;
-            checksum = version.now.checksum.now; bytes = version.now.bytes.now } ∷ [] })) }
+        (λ rows. record rows {
+          versions = rows.versions ++ record {
+            tenant = version.now.tenant.now;
+            seq = version.now.seq;
+            bucket = version.now.bucket.now;
+            okey = version.now.okey.now;
+            id = version.now.id;
+            marker = 0;
+            stamp = version.now.stamp;
+            size = length version.now.bytes.now;
+            checksum = version.now.checksum.now;
+            bytes = version.now.bytes.now;
+          } ∷ [];
+        })) }
     ensures trouble { IfErr result (IsTroubleIf S.Store connection.old connection.new
         (IsNewVersion (tables S.Store connection.old) version.now.tenant.now version.now.bucket.now version.now.okey.now
-            version.now.seq version.now.id)) }
+        version.now.seq version.now.id)) }
 {
     // Asked for what it ensures: the rows obey the schema.
     let _schema = connection.schema();
