@@ -27,7 +27,7 @@ on_err (Err e) Q P h p = p
 
 -- ---- states
 
-module _ {l : HostLimits} (old new : State) where
+module _ (l : HostLimits) (old new : State) where
   pub begun_works : IsAtRest (seen_in l old) → standing new ≡ begun (standing old) → IsWorking (seen_in l new)
   unfolding seen_in
   begun_works rest is = subst (λ x. IsWorking (shown l x)) (sym is) (record { inside = refl; sound = rest.sound; limits = rest.limits })
@@ -56,21 +56,21 @@ trees_show : (db : Database) → IsHost db → tables_shown (record { schema = h
 trees_show db host = ap (λ (s : Schema). tables_shown (record { schema = s; trees = db.trees })) (sym host.schema)
 
 -- what the trees show that a crash leaves
-left_shows : {l : HostLimits} (s : State) → IsWorking (seen_in l s) → (db : Trees) → db ≡ (standing s).now.trees → tables_shown (record { schema = host_schema; trees = db }) ≡ (seen_in l s).now
+left_shows : (l : HostLimits) (s : State) → IsWorking (seen_in l s) → (db : Trees) → db ≡ (standing s).now.trees → tables_shown (record { schema = host_schema; trees = db }) ≡ (seen_in l s).now
 unfolding seen_in
-left_shows s working db is =
+left_shows l s working db is =
     ap (λ (t : Trees). tables_shown (record { schema = host_schema; trees = t })) is ∙ trees_show (standing s).now (sound_host (standing s).now working.sound)
 
-pub commit_stands : {S : Type 0} (g : Ghosts S) (settles : (s : S) (db : Trees) → IsTrue (g.view s).is_open → g.recovers s db → db ≡ (g.view s).committed) {l : HostLimits}
+pub commit_stands : {S : Type 0} (g : Ghosts S) (settles : (s : S) (db : Trees) → IsTrue (g.view s).is_open → g.recovers s db → db ≡ (g.view s).committed) (l : HostLimits)
     (old new : Held S) → IsOpen (state g new) → IsWorking (seen_in l (state g old)) → standing (state g new) ≡ committed (standing (state g old)) → (x : Tables) → left_in (state g new) x → x ≡ (seen_in l (state g old)).now
 unfolding left_in
-commit_stands g settles old new up working is x it =
-    it.2 ∙ left_shows (state g old) working it.0 (left_kept g settles new up it.0 it.1 ∙ ap (λ (y : Standing). y.kept.trees) is)
+commit_stands g settles l old new up working is x it =
+    it.2 ∙ left_shows _ (state g old) working it.0 (left_kept g settles new up it.0 it.1 ∙ ap (λ (y : Standing). y.kept.trees) is)
 
-pub commit_crashes : {l : HostLimits} (old new : State) → IsWorking (seen_in l old) → ((db : Trees) → Leaves new db → Leaves old db ⊎ (db ≡ (standing old).now.trees))
+pub commit_crashes : (l : HostLimits) (old new : State) → IsWorking (seen_in l old) → ((db : Trees) → Leaves new db → Leaves old db ⊎ (db ≡ (standing old).now.trees))
     → (x : Tables) → left_in new x → left_in old x ⊎ (x ≡ (seen_in l old).now)
 unfolding left_in
-commit_crashes old new working leaves x it = elim (leaves it.0 it.1) [
+commit_crashes l old new working leaves x it = elim (leaves it.0 it.1) [
   | inl was ↦ inl (it.0, was, it.2)
-  | inr is ↦ inr (it.2 ∙ left_shows old working it.0 is)
+  | inr is ↦ inr (it.2 ∙ left_shows _ old working it.0 is)
 ]

@@ -16,9 +16,9 @@ use Rattle.bh_schema.specs.Rows.{secret_in}
 use Rattle.bh_schema.specs.Storage.{seen_in}
 use Rattle.bh_schema.proofs.Storing.{shows_in}
 
-pub secret_seen : {l : HostLimits} (s : State) (t n : Octets) (read : Option Octets) → IsWorking (seen_in l s) → read ≡ option_map secret_in (find (is_key t n) (tables_in (standing s).now).keys) → secret_of n (view (seen_in l s).now t) ≡ read
-secret_seen {l} s t n read working is =
-    secret_found (seen_in l s).now t working.sound n ∙ ap (option_map secret_in) (first_find (is_key t n) (seen_in l s).now.keys) ∙ ap (λ (x : Tables). option_map secret_in (find (is_key t n) x.keys)) (shows_in s working) ∙ sym is
+pub secret_seen : (l : HostLimits) (s : State) (t n : Octets) (read : Option Octets) → IsWorking (seen_in l s) → read ≡ option_map secret_in (find (is_key t n) (tables_in (standing s).now).keys) → secret_of n (view (seen_in l s).now t) ≡ read
+secret_seen l s t n read working is =
+    secret_found (seen_in l s).now t working.sound n ∙ ap (option_map secret_in) (first_find (is_key t n) (seen_in l s).now.keys) ∙ ap (λ (x : Tables). option_map secret_in (find (is_key t n) x.keys)) (shows_in _ s working) ∙ sym is
 
 pub unnamed_key : (key : AccessKeyId) (secret : Octets) (o : Option Machine) → key.name ≡ None → authenticate key secret o ≡ Err InvalidAccessKeyId
 unnamed_key key secret o none = rw none refl

@@ -16,10 +16,10 @@ use Rattle.bh_schema.specs.Storage.{seen_in}
 use Rattle.bh_schema.proofs.Storing.{shows_in, holds_seen}
 
 -- what is read is the last stamp
-pub latest_read : {l : HostLimits} (s : State) (found : Option ℕ) (m : ℕ) → IsWorking (seen_in l s) → found ≡ option_map latest_in (find (λ _. true) (tables_in (standing s).now).host) → m ≡ unwrap_or found 0 → m ≡ latest_of (seen_in l s).now
-latest_read {l} s found m working is read =
+pub latest_read : (l : HostLimits) (s : State) (found : Option ℕ) (m : ℕ) → IsWorking (seen_in l s) → found ≡ option_map latest_in (find (λ _. true) (tables_in (standing s).now).host) → m ≡ unwrap_or found 0 → m ≡ latest_of (seen_in l s).now
+latest_read l s found m working is read =
     let row = working.sound.host.row in
-    let host : (tables_in (standing s).now).host ≡ row ∷ [] = ap (λ (t : Tables). t.host) (sym (shows_in s working)) ∙ working.sound.host.alone in
+    let host : (tables_in (standing s).now).host ≡ row ∷ [] = ap (λ (t : Tables). t.host) (sym (shows_in _ s working)) ∙ working.sound.host.alone in
     read ∙ ap (λ o. unwrap_or o 0) (is ∙ ap (λ l. option_map latest_in (find (λ _. true) l)) host) ∙ sym (latest_is (seen_in l s).now row working.sound.host.alone)
 
 -- of a reading in its range
@@ -27,8 +27,8 @@ stamp_is : (reading last m : ℕ) → reading ≤ last_reading → m ≡ max rea
 stamp_is reading last m top is = ap (λ b. cond b (Ok (max reading last)) (Err ClockOutOfRange)) (le-leb _ _ top) ∙ ap (λ x. Ok x) (sym is)
 
 -- a reading that is not past the last stamp
-pub stamp_kept : {l : HostLimits} (old new : State) (reading m : ℕ) → IsWorking (seen_in l old) → seen_in l new ≡ seen_in l old → m ≡ latest_of (seen_in l old).now → reading ≤ m → reading ≤ last_reading → Stamps reading m (seen_in l old).now (seen_in l new).now
-stamp_kept {l} old new reading m working same is low top =
+pub stamp_kept : (l : HostLimits) (old new : State) (reading m : ℕ) → IsWorking (seen_in l old) → seen_in l new ≡ seen_in l old → m ≡ latest_of (seen_in l old).now → reading ≤ m → reading ≤ last_reading → Stamps reading m (seen_in l old).now (seen_in l new).now
+stamp_kept l old new reading m working same is low top =
     let tables = (seen_in l old).now in
     let now : (seen_in l new).now ≡ tables = ap (λ (x : Rattle.bh_storage.specs.Calls.Seen). x.now) same in
     subst (λ t. Stamps reading m tables t) (sym now) (record {
@@ -39,10 +39,10 @@ stamp_kept {l} old new reading m working same is low top =
     })
 
 -- a reading past it
-pub stamp_written : {l : HostLimits} (old new : State) (reading m : ℕ) → IsWorking (seen_in l old) → m ≡ latest_of (seen_in l old).now → m < reading → reading ≤ last_reading
+pub stamp_written : (l : HostLimits) (old new : State) (reading m : ℕ) → IsWorking (seen_in l old) → m ≡ latest_of (seen_in l old).now → m < reading → reading ≤ last_reading
     → Holds (record (tables_in (standing old).now) { host = map (with_stamp reading) (tables_in (standing old).now).host }) (standing new) → IsStamped reading (seen_in l old).now (seen_in l new).now × ((seen_in l new).now ≡ with_latest reading (seen_in l old).now)
-stamp_written {l} old new reading m working is high top h =
-    let now : (seen_in l new).now ≡ with_latest reading (seen_in l old).now = (holds_seen _ new h).0 ∙ ap (with_latest reading) (sym (shows_in old working)) in
+stamp_written l old new reading m working is high top h =
+    let now : (seen_in l new).now ≡ with_latest reading (seen_in l old).now = (holds_seen _ _ new h).0 ∙ ap (with_latest reading) (sym (shows_in _ old working)) in
     (stamped (seen_in l old).now (seen_in l new).now reading working.sound (omega (arith, is)) top now, now)
 
 pub stamps_of : (old new : Tables) (reading m : ℕ) → m ≡ latest_of old → m < reading → reading ≤ last_reading → new ≡ with_latest reading old → IsStamped reading old new → Stamps reading reading old new

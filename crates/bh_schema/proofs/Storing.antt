@@ -36,26 +36,26 @@ parts clean = (clean.intact, clean.is_open)
 pub sound_host : (db : Database) → IsSound (tables_shown db) → IsHost db
 sound_host db sound = shown_host db sound.host.row sound.host.alone
 
-pub inside_of : {l : HostLimits} (s : State) → IsWorking (seen_in l s) → IsInside (standing s)
+pub inside_of : (l : HostLimits) (s : State) → IsWorking (seen_in l s) → IsInside (standing s)
 unfolding seen_in
-inside_of s working = record { inside = working.inside; host = sound_host (standing s).now working.sound }
+inside_of l s working = record { inside = working.inside; host = sound_host (standing s).now working.sound }
 
 pub limits_seen : (l : HostLimits) (s : State) → (seen_in l s).limits ≡ l
 unfolding seen_in
 limits_seen l s = refl
 
-pub seen_same : {l : HostLimits} (old new : State) → standing new ≡ standing old → seen_in l new ≡ seen_in l old
+pub seen_same : (l : HostLimits) (old new : State) → standing new ≡ standing old → seen_in l new ≡ seen_in l old
 unfolding seen_in
-seen_same {l} old new same = ap (shown l) same
+seen_same l old new same = ap (shown l) same
 
 -- a sound host's tables are those of its database
-pub shows_in : {l : HostLimits} (s : State) → IsWorking (seen_in l s) → (seen_in l s).now ≡ tables_in (standing s).now
+pub shows_in : (l : HostLimits) (s : State) → IsWorking (seen_in l s) → (seen_in l s).now ≡ tables_in (standing s).now
 unfolding seen_in
-shows_in s working = host_shows (standing s).now (sound_host (standing s).now working.sound)
+shows_in l s working = host_shows (standing s).now (sound_host (standing s).now working.sound)
 
-pub holds_seen : {l : HostLimits} (tables : Tables) (s : State) → Holds tables (standing s) → ((seen_in l s).now ≡ tables) × ((seen_in l s).inside ≡ true)
+pub holds_seen : (l : HostLimits) (tables : Tables) (s : State) → Holds tables (standing s) → ((seen_in l s).now ≡ tables) × ((seen_in l s).inside ≡ true)
 unfolding seen_in
-holds_seen tables s h = (host_shows (standing s).now h.within.host ∙ h.is, h.within.inside)
+holds_seen l tables s h = (host_shows (standing s).now h.within.host ∙ h.is, h.within.inside)
 
 -- ---- several calls
 
@@ -104,18 +104,18 @@ keeps g old new same w =
 
 -- ---- after a question that changed nothing
 
-module _ {l : HostLimits} (old new : State) (working : AreBoth old → IsWorking (seen_in l old)) (w : Within old new) (same : IsIntact new → standing new ≡ standing old) where
+module _ (l : HostLimits) (old new : State) (working : AreBoth old → IsWorking (seen_in l old)) (w : Within old new) (same : IsIntact new → standing new ≡ standing old) where
   pub asked_before : AreBoth new → AreBoth old
   asked_before clean = parts (w.follows.clean (both clean))
 
   pub asked_works : AreBoth new → IsWorking (seen_in l new)
-  asked_works clean = subst IsWorking (sym (seen_same old new (same clean.0))) (working (asked_before clean))
+  asked_works clean = subst IsWorking (sym (seen_same _ old new (same clean.0))) (working (asked_before clean))
 
   pub asked_inside : IsClean new → IsInside (standing new)
-  asked_inside clean = inside_of new (asked_works (parts clean))
+  asked_inside clean = inside_of _ new (asked_works (parts clean))
 
   pub asked_same : AreBoth new → (seen_in l new).now ≡ (seen_in l old).now
-  asked_same clean = ap (λ (x : Seen). x.now) (seen_same old new (same clean.0))
+  asked_same clean = ap (λ (x : Seen). x.now) (seen_same _ old new (same clean.0))
 
 -- ---- after such a question and a write
 

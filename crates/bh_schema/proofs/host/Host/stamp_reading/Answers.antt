@@ -22,15 +22,15 @@ returns-then-reading-seconds g c =
     rw h.settings (record {
       within = keeps g.S.Store c.args.self.now _ refl h.within;
       opens = λ up intact. (h.opens intact).1;
-      working = asked_works old new c.requires.working h.within h.same;
-      stamps = λ clean. stamp_kept old new c.args.reading c.in_ok-latest.latest (c.requires.working (asked_before old new c.requires.working h.within h.same clean)) (seen_same old new (h.same clean.0)) (h.latest clean) low c.requires.in_range;
+      working = asked_works _ old new c.requires.working h.within h.same;
+      stamps = λ clean. stamp_kept _ old new c.args.reading c.in_ok-latest.latest (c.requires.working (asked_before _ old new c.requires.working h.within h.same clean)) (seen_same _ old new (h.same clean.0)) (h.latest clean) low c.requires.in_range;
       unwritten = λ clean is. h.same clean.0;
       settings = (refl, h.within.follows.limit);
     })
 
 pub set_latest-requires-clause-inside : goal.set_latest-requires-clause-inside
 set_latest-requires-clause-inside g c =
-    asked_inside (state g.S.Store c.args.self.now.connection) (state g.S.Store c.latest.new.self.connection) c.requires.working c.in_ok-latest.ensures.within c.in_ok-latest.ensures.same
+    asked_inside _ (state g.S.Store c.args.self.now.connection) (state g.S.Store c.latest.new.self.connection) c.requires.working c.in_ok-latest.ensures.within c.in_ok-latest.ensures.same
 
 pub returns-in_err-told-clause-within : goal.returns-in_err-told-clause-within
 returns-in_err-told-clause-within g c =
@@ -51,12 +51,12 @@ returns-in-Some g c =
     let works = λ (clean : AreBoth new). c.requires.working (wrote_first old mid new h.within h.opens w clean) in
     let holds = λ (clean : AreBoth new). on_ok _ c.in_ok-told.ensures.ok c.set_latest.ensures.holds (both clean) in
     let written : AreBoth new → IsStamped c.args.reading (seen_in l old).now (seen_in l new).now × ((seen_in l new).now ≡ with_latest c.args.reading (seen_in l old).now) = λ clean.
-    stamp_written old new c.args.reading c.in_ok-latest.latest (works clean) (h.latest (before clean)) high c.requires.in_range
+    stamp_written _ old new c.args.reading c.in_ok-latest.latest (works clean) (h.latest (before clean)) high c.requires.in_range
     (holds_after old mid new (λ x. record x { host = map (with_stamp c.args.reading) x.host }) (h.same (before clean).0) (holds clean)) in
     rw h.settings (record {
       within = keeps g.S.Store c.args.self.now _ refl (wrote_within old mid new h.within h.opens w);
       opens = wrote_opens old mid new h.within h.opens w (on_ok _ c.in_ok-told.ensures.ok c.set_latest.ensures.opens);
-      working = λ clean. record { inside = (holds_seen _ new (holds clean)).1; sound = (written clean).0.sound; limits = (written clean).0.limits ∙ (works clean).limits ∙ same_limits l new old };
+      working = λ clean. record { inside = (holds_seen _ _ new (holds clean)).1; sound = (written clean).0.sound; limits = (written clean).0.limits ∙ (works clean).limits ∙ same_limits l new old };
       stamps = λ clean. subst (λ m. Stamps c.args.reading m (seen_in l old).now (seen_in l new).now) (sym same_read)
           (stamps_of (seen_in l old).now (seen_in l new).now c.args.reading c.in_ok-latest.latest (h.latest (before clean)) high c.requires.in_range (written clean).1 (written clean).0);
       unwritten = λ clean is. absurd (omega (arith, high, h.latest (before clean), is, same_read));

@@ -10,7 +10,7 @@ pub returns-clause-survives : goal.returns-clause-survives
 returns-clause-survives g c intact = left_less (state g.S.Store c.args.self.now.connection) (state g.S.Store c.take_back.new.connection) (c.take_back.ensures.survives intact)
 
 pub returns-clause-back : goal.returns-clause-back
-returns-clause-back g c clean = back_shows (state g.S.Store c.args.self.now.connection) (state g.S.Store c.take_back.new.connection) (c.take_back.ensures.back (both clean))
+returns-clause-back g c clean = back_shows _ (state g.S.Store c.args.self.now.connection) (state g.S.Store c.take_back.new.connection) (c.take_back.ensures.back (both clean))
 
 pub returns-clause-limits : goal.returns-clause-limits
 returns-clause-limits g c = same_limits c.args.self.now.limits (state g.S.Store c.args.self.now.connection) (state g.S.Store c.take_back.new.connection)

@@ -14,7 +14,7 @@ use Rattle.bh_schema.proofs.TenantSteps.{none_of, tenant_seen, adds_tenant, tena
 use Rattle.bh_schema.proofs.host.Host.tenant_add.Goals as goal
 
 pub find_tenant-requires : goal.find_tenant-requires
-find_tenant-requires g c = record { inside = λ clean. inside_of (state g.S.Store c.args.self.now.connection) (c.requires (parts clean)) }
+find_tenant-requires g c = record { inside = λ clean. inside_of _ (state g.S.Store c.args.self.now.connection) (c.requires (parts clean)) }
 
 pub returns-in_err-found-clause-within : goal.returns-in_err-found-clause-within
 returns-in_err-found-clause-within g c = keeps g.S.Store c.args.self.now _ refl c.find_tenant.ensures.within
@@ -32,17 +32,17 @@ returns-then-is_some g c =
     record {
       within = keeps g.S.Store c.args.self.now _ refl w;
       opens = λ up intact. (on_ok _ c.in_ok-found.ensures.ok c.find_tenant.ensures.opens intact).1;
-      working = asked_works old new c.requires w same;
+      working = asked_works _ old new c.requires w same;
       settings = (refl, w.follows.limit);
       carries = λ clean.
           let read = IfOk-at_ok _ c.in_ok-found.ensures.ok c.find_tenant.ensures.found (both clean) in
-          let working = c.requires (asked_before old new c.requires w same clean) in
-          (tenant_exists t c.args.quota _ name few (tenant_seen old t tenant_numbers c.in_ok-found.found working read ∙ there), asked_same old new c.requires w same clean);
+          let working = c.requires (asked_before _ old new c.requires w same clean) in
+          (tenant_exists t c.args.quota _ name few (tenant_seen _ old t tenant_numbers c.in_ok-found.found working read ∙ there), asked_same _ old new c.requires w same clean);
     }
 
 pub insert_tenant-requires-clause-inside : goal.insert_tenant-requires-clause-inside
 insert_tenant-requires-clause-inside g c =
-    asked_inside (state g.S.Store c.args.self.now.connection) (state g.S.Store c.find_tenant.new.connection) c.requires c.find_tenant.ensures.within (on_ok _ c.in_ok-found.ensures.ok c.find_tenant.ensures.same)
+    asked_inside _ (state g.S.Store c.args.self.now.connection) (state g.S.Store c.find_tenant.new.connection) c.requires c.find_tenant.ensures.within (on_ok _ c.in_ok-found.ensures.ok c.find_tenant.ensures.same)
 
 pub returns-in_err-told-clause-within : goal.returns-in_err-told-clause-within
 returns-in_err-told-clause-within g c =
@@ -67,15 +67,15 @@ returns g c =
     let works = λ (clean : AreBoth new). c.requires (wrote_first old mid new asked opens wrote clean) in
     let holds = λ (clean : AreBoth new). on_ok _ c.in_ok-told.ensures.ok c.insert_tenant.ensures.holds (both clean) in
     let none : AreBoth new → view (seen_in l old).now t ≡ None = λ clean.
-    none_of _ (tenant_seen old t tenant_numbers c.in_ok-found.found (works clean) (IfOk-at_ok _ c.in_ok-found.ensures.ok c.find_tenant.ensures.found (both (before clean))) ∙ away) in
+    none_of _ (tenant_seen _ old t tenant_numbers c.in_ok-found.found (works clean) (IfOk-at_ok _ c.in_ok-found.ensures.ok c.find_tenant.ensures.found (both (before clean))) ∙ away) in
     let becomes : AreBoth new → Becomes t (Some (new_tenant c.args.quota)) (seen_in l old).now (seen_in l new).now = λ clean.
-    tenant_becomes old new t c.args.quota (works clean) (none clean) name (leb-true _ _ few)
+    tenant_becomes _ old new t c.args.quota (works clean) (none clean) name (leb-true _ _ few)
     (holds_after old mid new (λ x. record x { tenants = x.tenants ++ record { tenant = t; quota = c.args.quota; next_version = 1; next_upload = 1; next_entry = 1 } ∷ [] })
     (on_ok _ c.in_ok-found.ensures.ok c.find_tenant.ensures.same (before clean).0) (holds clean)) in
     record {
       within = keeps g.S.Store c.args.self.now _ refl (wrote_within old mid new asked opens wrote);
       opens = wrote_opens old mid new asked opens wrote (on_ok _ c.in_ok-told.ensures.ok c.insert_tenant.ensures.opens);
-      working = λ clean. works_of t _ old new (works clean) (holds_seen _ new (holds clean)).1 (becomes clean);
+      working = λ clean. works_of _ t _ old new (works clean) (holds_seen _ _ new (holds clean)).1 (becomes clean);
       settings = (refl, wrote.follows.limit ∙ asked.follows.limit);
       carries = λ clean. gives_of t (add_tenant t c.args.quota) Done _ (seen_in l old).now (seen_in l new).now (adds_tenant t c.args.quota _ name few (none clean)) (becomes clean);
     }
