@@ -1,13 +1,16 @@
-use crate::writes::NewObject;
-use crate::{buckets, gets, objects};
+use crate::operations;
+use bh_event::event::Command;
+use bh_operation::operation::Operation;
 use bh_schema::host::{Digester, Host};
-use bh_storage::answer::{FoundVersion, StoredVersion};
+use bh_storage::answer::Answer;
 use bh_storage::error::{StepError, Trouble};
 use bh_storage::storage::Storage;
-use bh_types::bucket::BucketName;
-use bh_types::key::ObjectKey;
+use bh_types::access_key::AccessKeyId;
+use bh_types::limits::Limits;
 use bh_types::moment::Moment;
 use bh_types::names::TenantName;
+use bh_types::refusal::Refusal;
+use bh_types::rejection::Rejection;
 use sqlite::Alter;
 use std::alloc::Global;
 
@@ -23,9 +26,15 @@ impl<S: Alter + Drop, D: Digester + Drop> Storage for HostStorage<S, D> {
 
     ghost seen = { λ h. storage.seen S.Store h.host };
 
-    ghost IsClean = { λ h. storage.IsClean S.Store h.host };
+    ghost IsIntact = { λ h. storage.IsIntact S.Store h.host };
+
+    ghost IsOpen = { λ h. storage.IsOpen S.Store h.host };
 
     ghost left = { λ h. storage.left S.Store h.host };
+
+    fn limits(&self) -> Limits {
+        self.host.limits
+    }
 
     fn begin(&mut self) -> Result<(), Trouble> {
         self.host.begin()
@@ -50,68 +59,46 @@ impl<S: Alter + Drop, D: Digester + Drop> Storage for HostStorage<S, D> {
 
     fn authenticate(
         &mut self,
-        alloc: Global,
-        tenant: &TenantName,
-        id: &[u8],
+        _alloc: Global,
+        key: &AccessKeyId,
         secret: &[u8],
-    ) -> Result<(), StepError> {
-        self.host.authenticate(alloc, tenant, id, secret)
+    ) -> Result<(), StepError<Refusal>> {
+        self.host.authenticate(key, secret)
     }
 
-    fn tenant_add(&mut self, alloc: Global, tenant: &str, quota: u64) -> Result<(), StepError> {
-        self.host.tenant_add(alloc, tenant, quota)
-    }
-
-    fn key_add(
-        &mut self,
-        alloc: Global,
-        tenant: &str,
-        name: &str,
-        secret: &str,
-    ) -> Result<(), StepError> {
-        self.host.key_add(alloc, tenant, name, secret)
-    }
-
-    fn key_remove(&mut self, alloc: Global, tenant: &str, name: &str) -> Result<(), StepError> {
-        self.host.key_remove(alloc, tenant, name)
-    }
-
-    fn create_bucket(
-        &mut self,
-        _alloc: Global,
-        tenant: &TenantName,
-        at: Moment,
-        bucket: &BucketName,
-    ) -> Result<(), StepError> {
-        buckets::create_bucket(&mut self.host.connection, tenant, at, bucket)
-    }
-
-    fn put_object(
+    fn operate(
         &mut self,
         alloc: Global,
         tenant: &TenantName,
         at: Moment,
-        bucket: &BucketName,
-        key: &ObjectKey,
-        bytes: &[u8],
-    ) -> Result<StoredVersion, StepError> {
-        let object = NewObject {
+        operation: &Operation,
+        body: &[u8],
+    ) -> Result<Answer, StepError<Rejection>> {
+        operations::operate(
+            &mut self.host.connection,
+            alloc,
             tenant,
-            bucket,
-            key,
             at,
-            bytes,
-        };
-        objects::put_object(&mut self.host.connection, alloc, &object)
+            operation,
+            body,
+        )
     }
 
-    fn get_object(
-        &mut self,
-        _alloc: Global,
-        tenant: &TenantName,
-        bucket: &BucketName,
-        key: &ObjectKey,
-    ) -> Result<FoundVersion, StepError> {
-        gets::get_object(&mut self.host.connection, tenant, bucket, key)
+    fn command(&mut self, alloc: Global, command: &Command) -> Result<(), StepError<Refusal>> {
+        match command {
+            Command::TenantAdd { tenant, quota } => {
+                self.host.tenant_add(alloc, tenant.as_str(), *quota)
+            }
+            Command::KeyAdd {
+                tenant,
+                name,
+                secret,
+            } => self
+                .host
+                .key_add(alloc, tenant.as_str(), name.as_str(), secret.as_str()),
+            Command::KeyRemove { tenant, name } => {
+                self.host.key_remove(alloc, tenant.as_str(), name.as_str())
+            }
+        }
     }
 }
