@@ -50,6 +50,12 @@ module _ (l : HostLimits) (old new : State) where
   carried shown t step (Err (Refused r)) was clean working h = rw (shows_in l old was, (shown_now l new (working (both clean)).is).0) h
   carried shown t step (Err (Failed trouble)) was clean working h = tt
 
+-- an answer means that the connection is open
+pub opened : {X E : Type 0} (I A B : Type 0) (result : Result X (StepError E)) → calls.Unless result (I → A → B) → calls.Unless result (A → I → B)
+opened I A B (Ok x) h = λ up intact. h intact up
+opened I A B (Err (Refused r)) h = λ up intact. h intact up
+opened I A B (Err (Failed trouble)) h = tt
+
 -- ---- a host's call
 
 -- as its storage's

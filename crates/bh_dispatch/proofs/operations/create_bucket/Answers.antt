@@ -12,7 +12,7 @@ returns-in-Ok-clause-carries g c clean =
 
 pub returns-in-Err-clause-carries : goal.returns-in-Err-clause-carries
 returns-in-Err-clause-carries g c clean =
-    rw c.from.ensures (carries_rejected c.args.tenant.now (create_bucket c.args.at c.args.bucket.now) (tables_at (state g.S.Store c.args.connection.now)) (tables_at (state g.S.Store c.create_bucket.new.connection)) (λ _. Done) answer_view c.in-Err.error (c.in-Err.ensures.carries clean))
+    rw c.from.ensures (carries_rejected c.args.tenant.now (create_bucket c.args.at c.args.bucket.now) (tables_at (state g.S.Store c.args.connection.now)) (tables_at (state g.S.Store c.create_bucket.new.connection)) (λ (u : Unit {0}). Done) answer_view c.in-Err.error (c.in-Err.ensures.carries clean))
 
 pub returns-in-Err-clause-opens : goal.returns-in-Err-clause-opens
 returns-in-Err-clause-opens g c = rw c.from.ensures (unless_rejected c.in-Err.error _ c.in-Err.ensures.opens)

@@ -2,8 +2,9 @@ use Rattle.std.proofs.Common.{refl}
 use Rattle.sqlite.specs.Held.{state}
 use Rattle.bh_machine.specs.Machine.{operated}
 use Rattle.bh_storage.specs.Answers.{answer_view}
+use Rattle.bh_schema.specs.Layer.{IsIntact, IsOpen}
 use Rattle.bh_schema.proofs.Storing.{both, parts, keeps}
-use Rattle.bh_dispatch.proofs.Storing.{seen_working, early_seen, still_working, carried, stored}
+use Rattle.bh_dispatch.proofs.Storing.{seen_working, early_seen, still_working, carried, stored, opened}
 use Rattle.bh_dispatch.proofs.storage.HostStorageStorage.operate.Goals as goal
 
 pub operate-requires-clause-working : goal.operate-requires-clause-working
@@ -21,6 +22,7 @@ returns g c =
     let h = c.operate.ensures in
     record {
       within = stored g.S.Store c.args.self.now _ (keeps g.S.Store c.args.self.now.host _ refl h.within);
+      opens = opened (IsIntact new) (IsOpen old) (IsOpen new) c.operate.result h.opens;
       working = still_working l old new c.operate.result (λ clean. c.requires.working (parts (h.within.follows.clean (both clean)))) h.working;
       carries = λ clean. carried l old new answer_view c.args.tenant.now (operated c.args.at c.args.body.now c.args.operation.now) c.operate.result
           (c.requires.working (parts (h.within.follows.clean (both clean)))) clean h.working (h.carries (both clean));
