@@ -1,9 +1,9 @@
 use crate::digester::Sha256Digester;
 use crate::input::{BadLine, Script, read_script};
 use bh_create::create::create;
+use bh_dispatch::storage::HostStorage;
 use bh_host::apply::Done;
 use bh_host::run::run;
-use bh_objects::storage::HostStorage;
 use bh_types::limits::{Limits, Tuning};
 use sqlite::Connection;
 use std::alloc::{AllocError, Global};
@@ -56,11 +56,15 @@ pub fn answer_script(alloc: Global, bytes: &[u8]) -> Result<Answered, Fault> {
 
 fn serve(alloc: Global, script: &Script) -> Result<Vec<Done>, Fault> {
     let connection = Connection::open_in_memory(alloc)?;
-    let limits = Limits::default();
-    match create(connection, Sha256Digester, limits, Tuning::default()) {
+    match create(
+        connection,
+        Sha256Digester,
+        Limits::default(),
+        Tuning::default(),
+    ) {
         Ok(host) => {
             let mut storage = HostStorage { host };
-            Ok(run(alloc, &limits, &mut storage, script.events.as_slice())?)
+            Ok(run(alloc, &mut storage, script.events.as_slice())?)
         }
         Err(_) => Err(Fault::Store),
     }

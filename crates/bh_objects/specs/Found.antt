@@ -1,10 +1,8 @@
--- What a connection shows inside a transaction on sound tables, and what a call there leaves.
+-- What is read of a tenant's rows, and what a put makes of the tables.
 use Rattle.std.specs.Prelude.{◌≡◌, ℕ, ◌++◌, [], ◌∷◌, Option, option_map, option_and_then, is_none, ok_or, Result, IsTrue}
 use Rattle.std.specs.Str.{IsUtf8}
 use Rattle.std.specs.Result.{result_map_both}
 use Rattle.std.specs.FinMap.{get}
-use Rattle.sqlite.specs.Tree.{Trees}
-use Rattle.sqlite.specs.State.{State as Shown}
 use Rattle.sqlite_keyed.specs.Lists.{update_where}
 use Rattle.bh_types.specs.declared.plain.BucketState.{BucketState}
 use Rattle.bh_types.specs.declared.refusal.Refusal.{Refusal}
@@ -15,29 +13,9 @@ use Rattle.bh_model.specs.State.{Octets, State}
 use Rattle.bh_types.specs.Outcomes.{require}
 use Rattle.bh_model.specs.Counting.{counts}
 use Rattle.bh_model.specs.Operations.{tenant_bucket, added_tenant}
-use Rattle.bh_tables.specs.Typed.{Tables, tables_in}
+use Rattle.bh_tables.specs.Typed.{Tables}
 use Rattle.bh_tables.specs.Shown.{is_tenant}
 use Rattle.bh_view.specs.Put.{object_row, row_number, counters_row, rows_left}
-use Rattle.bh_view.specs.Sound.{IsSound}
-use Rattle.bh_schema.specs.Layer.{standing, IsClean, IsInside, IsSettled, Leaves}
-
--- the tables as they stand
-abbrev pub tables_at : Shown → Tables
-tables_at s = tables_in (standing s).now
-
--- a transaction is open on a host's sound tables
-pub record IsWorking (s : Shown) : Type 0 where
-  pub inside : IsInside (standing s)
-  pub sound : IsSound (tables_at s)
-
--- a call inside a transaction commits nothing, whether it succeeds or not
-pub record Within (old new : Shown) : Type 0 where
-  -- what a crash may leave from then on, it might have left before
-  pub survives : IsClean new → (db : Trees) → Leaves new db → Leaves old db
-  pub clean : IsClean new → IsClean old
-  pub kept : IsClean new → (standing new).kept ≡ (standing old).kept
-  -- the transaction is open still, or was taken back
-  pub settled : IsClean new → IsSettled (standing new)
 
 -- the state of a tenant's bucket
 abbrev pub mode_in : Octets → Option State → Result BucketState Refusal
