@@ -1,7 +1,7 @@
 -- The calls that make a host, one after another.
 use Rattle.std.proofs.Common.{◌≡◌, inl, inr, ℕ, List, [], ◌∷◌, ◌++◌, IsTrue, true, Ok, Err, Result, OnOk, OnErr, IfErr, sym, ap, ◌∙◌, subst}
 use Rattle.sqlite.specs.Tree.{Trees}
-use Rattle.bh_types.specs.Limits.{AreLimits}
+use Rattle.bh_types.specs.Limits.{HostLimits, AreLimits}
 use Rattle.bh_tables.specs.Schema.{no_schema, host_schema}
 use Rattle.bh_tables.specs.Made.{with_versions}
 use Rattle.bh_tables.specs.Typed.{Tables, no_rows, tables_in}
@@ -101,14 +101,15 @@ pub stands : (old new : State) (min_part max_body : ℕ) → AreLimits min_part 
     → ((db : Trees) → Leaves new db → db ≡ (standing new).kept.trees) → IsNewHost (record { min_part = min_part; max_body = max_body }) new
 unfolding seen_in left_in
 stands old new min_part max_body good it is settled =
+    let limits : HostLimits = record { min_part = min_part; max_body = max_body } in
     let trees = (standing old).now.trees in
     let host = ap (λ (s : Schema). tables_shown (record { schema = s; trees = trees })) (sym it.within.host.schema) in
     let shows = host_shows (standing old).now it.within.host ∙ it.is in
-    let now : (seen_in new).now ≡ new_host min_part max_body = ap (λ (x : Standing). tables_shown x.now) is ∙ shows in
-    let kept : (seen_in new).kept ≡ new_host min_part max_body = ap (λ (x : Standing). tables_shown x.kept) is ∙ shows in
-    let made = host_created (seen_in new).now min_part max_body good now in
+    let now : (seen_in limits new).now ≡ new_host min_part max_body = ap (λ (x : Standing). tables_shown x.now) is ∙ shows in
+    let kept : (seen_in limits new).kept ≡ new_host min_part max_body = ap (λ (x : Standing). tables_shown x.kept) is ∙ shows in
+    let made = host_created (seen_in limits new).now min_part max_body good now in
     record {
-      rest = record { outside = ap (λ (x : Standing). x.inside) is; committed = kept ∙ sym now; sound = made.0 };
+      rest = record { outside = ap (λ (x : Standing). x.inside) is; committed = kept ∙ sym now; sound = made.0; limits = made.3 };
       tables = now;
       latest = made.1;
       vacant = made.2;

@@ -19,10 +19,10 @@ IsEmpty s = s.now.schema ≡ no_schema
 
 -- a host with these limits was committed. It has no tenant, and has read no clock
 pub record IsNewHost (limits : HostLimits) (s : State) : Type 0 where
-  pub rest : IsAtRest (seen_in s)
-  pub tables : (seen_in s).now ≡ new_host limits.min_part limits.max_body
-  pub latest : latest_of (seen_in s).now ≡ 0
-  pub vacant : (tenant : Octets) → view (seen_in s).now tenant ≡ None
+  pub rest : IsAtRest (seen_in limits s)
+  pub tables : (seen_in limits s).now ≡ new_host limits.min_part limits.max_body
+  pub latest : latest_of (seen_in limits s).now ≡ 0
+  pub vacant : (tenant : Octets) → view (seen_in limits s).now tenant ≡ None
   -- a crash leaves it
   pub left : (x : Tables) → left_in s x → x ≡ new_host limits.min_part limits.max_body
 

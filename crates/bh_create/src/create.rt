@@ -47,13 +47,18 @@ pub fn create<S: Alter + Drop, D: Digester + Drop>(
     ensures given { IfOk result (λ host. (host.limits ≡ limits) × (host.tuning ≡ tuning) × (host.digester ≡ digester)) }
     ensures empty { IfOk result (λ host. IsEmpty (state S.Store connection)) }
     ensures follows { IfOk result (λ host. Follows (state S.Store connection) (state S.Store host.connection)) }
-    ensures made { IfOk result (λ host. IsClean (state S.Store host.connection) → IsNewHost limits (state S.Store host.connection)) }
+    ensures made { IfOk result (λ host. IsClean (state S.Store host.connection)
+        → IsNewHost limits (state S.Store host.connection)) }
     ensures back { IfErr result (λ e. e.digester ≡ digester) }
-    ensures refused { IfErr result (λ e. e.refusal ≡ refusal.NotAHostFile → (e.connection ≡ connection) × ¬ IsEmpty (state S.Store connection)) }
-    ensures failed { IfErr result (λ e. e.refusal ≢ refusal.NotAHostFile → (e.refusal ≡ refusal.Unavailable) × IsEmpty (state S.Store connection) × Follows (state S.Store connection) (state S.Store e.connection)
-        × (IsClean (state S.Store e.connection) → standing (state S.Store e.connection) ≡ taken_back (standing (state S.Store connection)))) }
+    ensures refused { IfErr result (λ e. e.refusal ≡ refusal.NotAHostFile
+        → (e.connection ≡ connection) × ¬ IsEmpty (state S.Store connection)) }
+    ensures failed { IfErr result (λ e. e.refusal ≢ refusal.NotAHostFile → (e.refusal ≡ refusal.Unavailable)
+        × IsEmpty (state S.Store connection) × Follows (state S.Store connection) (state S.Store e.connection)
+        × (IsClean (state S.Store e.connection)
+        → standing (state S.Store e.connection) ≡ taken_back (standing (state S.Store connection)))) }
     ensures cause { IfErr result (λ e. (e.refusal ≡ refusal.Unavailable) ↔ IsSome e.cause) }
-    ensures trouble { IfErr result (λ e. IfSome e.cause (λ cause. IsIntact (state S.Store e.connection) → (standing (state S.Store connection)).limit ≡ None
+    ensures trouble { IfErr result (λ e. IfSome e.cause (λ cause. IsIntact (state S.Store e.connection)
+        → (standing (state S.Store connection)).limit ≡ None
         → (IsClean (state S.Store connection) → (standing (state S.Store connection)).inside ≡ false) → is_trouble cause ≡ true)) }
 {
     if !is_empty(connection.schema()) {

@@ -21,8 +21,10 @@ fn fill<S: Alter>(
     requires limits { AreLimits min_part max_body }
     requires making { IsClean (state S.Store connection.old) → IsMaking no_schema (state S.Store connection.old) }
     ensures keeps { Keeps (state S.Store connection.old) (state S.Store connection.new) }
-    ensures holds { OnOk result (IsClean (state S.Store connection.new) → Holds (new_host min_part max_body) (standing (state S.Store connection.new))) }
-    ensures trouble { IfErr result (λ e. IsIntact (state S.Store connection.new) → (standing (state S.Store connection.old)).limit ≡ None → is_trouble e ≡ true) }
+    ensures holds { OnOk result (IsClean (state S.Store connection.new)
+        → Holds (new_host min_part max_body) (standing (state S.Store connection.new))) }
+    ensures trouble { IfErr result (λ e. IsIntact (state S.Store connection.new)
+        → (standing (state S.Store connection.old)).limit ≡ None → is_trouble e ≡ true) }
 {
     create_tables(connection)?;
     insert_host(connection, min_part, max_body)
@@ -32,8 +34,10 @@ fn commit_new<S: Alter>(connection: &mut Connection<S>, limits: Limits) -> Resul
     requires { IsClean (state S.Store connection.old) → IsEmpty (state S.Store connection.old) }
     ensures follows { Follows (state S.Store connection.old) (state S.Store connection.new) }
     ensures made { OnOk result (IsClean (state S.Store connection.new) → IsNewHost limits (state S.Store connection.new)) }
-    ensures kept { OnErr result (IsClean (state S.Store connection.new) → (standing (state S.Store connection.new)).kept ≡ (standing (state S.Store connection.old)).kept) }
-    ensures trouble { IfErr result (λ e. IsIntact (state S.Store connection.new) → (standing (state S.Store connection.old)).limit ≡ None
+    ensures kept { OnErr result (IsClean (state S.Store connection.new)
+        → (standing (state S.Store connection.new)).kept ≡ (standing (state S.Store connection.old)).kept) }
+    ensures trouble { IfErr result (λ e. IsIntact (state S.Store connection.new)
+        → (standing (state S.Store connection.old)).limit ≡ None
         → (IsClean (state S.Store connection.old) → (standing (state S.Store connection.old)).inside ≡ false) → is_trouble e ≡ true) }
 {
     begin(connection)?;
@@ -46,8 +50,10 @@ pub fn make<S: Alter>(connection: &mut Connection<S>, limits: Limits) -> Result<
     requires { IsClean (state S.Store connection.old) → IsEmpty (state S.Store connection.old) }
     ensures follows { Follows (state S.Store connection.old) (state S.Store connection.new) }
     ensures made { OnOk result (IsClean (state S.Store connection.new) → IsNewHost limits (state S.Store connection.new)) }
-    ensures back { OnErr result (IsClean (state S.Store connection.new) → standing (state S.Store connection.new) ≡ taken_back (standing (state S.Store connection.old))) }
-    ensures trouble { IfErr result (λ e. IsIntact (state S.Store connection.new) → (standing (state S.Store connection.old)).limit ≡ None
+    ensures back { OnErr result (IsClean (state S.Store connection.new)
+        → standing (state S.Store connection.new) ≡ taken_back (standing (state S.Store connection.old))) }
+    ensures trouble { IfErr result (λ e. IsIntact (state S.Store connection.new)
+        → (standing (state S.Store connection.old)).limit ≡ None
         → (IsClean (state S.Store connection.old) → (standing (state S.Store connection.old)).inside ≡ false) → is_trouble e ≡ true) }
 {
     match commit_new(connection, limits) {

@@ -14,3 +14,8 @@ joined before n (Err refusal) = refl
 pub in_ranges-more : (before : List (ℕ × Option (List ℕ))) (p : Part) (rest : List Part) (n : ℕ × Option (List ℕ)) → in_range p ≡ Ok n
     → (in_ranges (p ∷ rest) >>= (λ others. Ok (before ++ others))) ≡ (in_ranges rest >>= (λ others. Ok ((before ++ n ∷ []) ++ others)))
 in_ranges-more before p rest n e = rw e (joined before n (in_ranges rest))
+
+-- a part out of its range refuses all
+pub in_ranges-refused : (before : List (ℕ × Option (List ℕ))) (p : Part) (rest : List Part) (refusal : Refusal) → in_range p ≡ Err refusal
+    → (in_ranges (p ∷ rest) >>= (λ others. Ok (before ++ others))) ≡ Err refusal
+in_ranges-refused before p rest refusal e = rw e refl

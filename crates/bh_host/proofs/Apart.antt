@@ -4,6 +4,8 @@ use Rattle.std.specs.Prelude.{◌&&◌, ◌||◌, ◌==◌}
 use Rattle.std.specs.Fmt.{digits}
 use Rattle.bh_http.specs.Answers.{refused}
 use Rattle.bh_http.specs.declared.values.Allow.{Allow}
+use Rattle.bh_http.specs.declared.values.ContentRange.{ContentRange}
+use Rattle.bh_machine.specs.Refused.{is_step_refusal}
 use Rattle.bh_http.specs.Responses.{response_text, refusal_text}
 use Rattle.bh_model.specs.Operations.{Answer, Done, Stored, Object}
 use Rattle.bh_model.specs.State.{Octets}
@@ -11,8 +13,8 @@ use Rattle.bh_types.specs.declared.refusal.Refusal.{Refusal}
 use Rattle.bh_types.specs.declared.refusal.Refusal.TheVariants.{BadRequest, NotImplemented, MissingContentLength, EntityTooLarge, AccessDenied, InvalidAccessKeyId, InvalidUri, InvalidBucketName, KeyTooLong, InvalidArgument, MalformedJson, NoSuchBucket, NoSuchKey, NoSuchVersion, NoSuchUpload, MethodNotAllowed, BucketAlreadyOwnedByYou, BucketNotEmpty, InvalidBucketState, NoSuchLifecycleConfiguration, InvalidPart, InvalidPartOrder, EntityTooSmall, QuotaExceeded, InvalidRange, BadDigest, IncompleteBody, InvalidRequest, CounterExhausted, ClockOutOfRange, ServiceUnavailable, TenantExists, NoSuchTenant, KeyExists, NoSuchKeyName, InvalidName, InvalidQuota, NotAHostFile, Unavailable}
 use Rattle.bh_host.specs.Replies.{response_to}
 
-true_is_false : true ≡ false → ⊥
-true_is_false e = cc e
+false_is_true : false ≡ true → ⊥
+false_is_true e = cc e
 
 -- ---- the bytes that tell a fixed reply from others
 
@@ -25,63 +27,56 @@ is_fixed_response bytes =
 abbrev pub is_fixed_line : Octets → Bool
 is_fixed_line bytes = (get_or bytes 0 0 == 51 && get_or bytes 1 0 == 48) || (get_or bytes 0 0 == 52 && get_or bytes 1 0 == 56)
 
--- the refusals whose texts are fixed
-abbrev pub is_reserved : Refusal → Bool
-is_reserved ClockOutOfRange = true
-is_reserved ServiceUnavailable = true
-is_reserved Unavailable = true
-is_reserved refusal = false
-
 pub answer_apart : (answer : Answer) (body : Octets) → is_fixed_response (response_text (record (response_to answer) { body = body })) ≡ false
 unfolding digits
 answer_apart Done body = refl
 answer_apart (Stored id checksum) body = refl
 answer_apart (Object id bytes checksum) body = refl
 
-pub refused_apart : (refusal : Refusal) (document : Octets) (allow : Option Allow) (body : Octets) → is_reserved refusal ≡ false
-    → is_fixed_response (response_text (record (refused refusal document) { allow = allow; body = body })) ≡ false
+pub refused_apart : (refusal : Refusal) (document : Octets) (range : Option ContentRange) (allow : Option Allow) (marker : Bool) (body : Octets) → is_step_refusal refusal ≡ true
+    → is_fixed_response (response_text (record (refused refusal document) { content_range = range; allow = allow; delete_marker = marker; body = body })) ≡ false
 unfolding digits
-refused_apart BadRequest document allow body h = refl
-refused_apart NotImplemented document allow body h = refl
-refused_apart MissingContentLength document allow body h = refl
-refused_apart EntityTooLarge document allow body h = refl
-refused_apart AccessDenied document allow body h = refl
-refused_apart InvalidAccessKeyId document allow body h = refl
-refused_apart InvalidUri document allow body h = refl
-refused_apart InvalidBucketName document allow body h = refl
-refused_apart KeyTooLong document allow body h = refl
-refused_apart InvalidArgument document allow body h = refl
-refused_apart MalformedJson document allow body h = refl
-refused_apart NoSuchBucket document allow body h = refl
-refused_apart NoSuchKey document allow body h = refl
-refused_apart NoSuchVersion document allow body h = refl
-refused_apart NoSuchUpload document allow body h = refl
-refused_apart MethodNotAllowed document allow body h = refl
-refused_apart BucketAlreadyOwnedByYou document allow body h = refl
-refused_apart BucketNotEmpty document allow body h = refl
-refused_apart InvalidBucketState document allow body h = refl
-refused_apart NoSuchLifecycleConfiguration document allow body h = refl
-refused_apart InvalidPart document allow body h = refl
-refused_apart InvalidPartOrder document allow body h = refl
-refused_apart EntityTooSmall document allow body h = refl
-refused_apart QuotaExceeded document allow body h = refl
-refused_apart InvalidRange document allow body h = refl
-refused_apart BadDigest document allow body h = refl
-refused_apart IncompleteBody document allow body h = refl
-refused_apart InvalidRequest document allow body h = refl
-refused_apart CounterExhausted document allow body h = refl
-refused_apart TenantExists document allow body h = refl
-refused_apart NoSuchTenant document allow body h = refl
-refused_apart KeyExists document allow body h = refl
-refused_apart NoSuchKeyName document allow body h = refl
-refused_apart InvalidName document allow body h = refl
-refused_apart InvalidQuota document allow body h = refl
-refused_apart NotAHostFile document allow body h = refl
-refused_apart ClockOutOfRange document allow body h = absurd (true_is_false h)
-refused_apart ServiceUnavailable document allow body h = absurd (true_is_false h)
-refused_apart Unavailable document allow body h = absurd (true_is_false h)
+refused_apart BadRequest document range allow marker body h = refl
+refused_apart NotImplemented document range allow marker body h = refl
+refused_apart MissingContentLength document range allow marker body h = refl
+refused_apart EntityTooLarge document range allow marker body h = refl
+refused_apart AccessDenied document range allow marker body h = refl
+refused_apart InvalidAccessKeyId document range allow marker body h = refl
+refused_apart InvalidUri document range allow marker body h = refl
+refused_apart InvalidBucketName document range allow marker body h = refl
+refused_apart KeyTooLong document range allow marker body h = refl
+refused_apart InvalidArgument document range allow marker body h = refl
+refused_apart MalformedJson document range allow marker body h = refl
+refused_apart NoSuchBucket document range allow marker body h = refl
+refused_apart NoSuchKey document range allow marker body h = refl
+refused_apart NoSuchVersion document range allow marker body h = refl
+refused_apart NoSuchUpload document range allow marker body h = refl
+refused_apart MethodNotAllowed document range allow marker body h = refl
+refused_apart BucketAlreadyOwnedByYou document range allow marker body h = refl
+refused_apart BucketNotEmpty document range allow marker body h = refl
+refused_apart InvalidBucketState document range allow marker body h = refl
+refused_apart NoSuchLifecycleConfiguration document range allow marker body h = refl
+refused_apart InvalidPart document range allow marker body h = refl
+refused_apart InvalidPartOrder document range allow marker body h = refl
+refused_apart EntityTooSmall document range allow marker body h = refl
+refused_apart QuotaExceeded document range allow marker body h = refl
+refused_apart InvalidRange document range allow marker body h = refl
+refused_apart BadDigest document range allow marker body h = refl
+refused_apart IncompleteBody document range allow marker body h = refl
+refused_apart InvalidRequest document range allow marker body h = refl
+refused_apart CounterExhausted document range allow marker body h = refl
+refused_apart TenantExists document range allow marker body h = refl
+refused_apart NoSuchTenant document range allow marker body h = refl
+refused_apart KeyExists document range allow marker body h = refl
+refused_apart NoSuchKeyName document range allow marker body h = refl
+refused_apart InvalidName document range allow marker body h = refl
+refused_apart InvalidQuota document range allow marker body h = refl
+refused_apart NotAHostFile document range allow marker body h = refl
+refused_apart ClockOutOfRange document range allow marker body h = absurd (false_is_true h)
+refused_apart ServiceUnavailable document range allow marker body h = absurd (false_is_true h)
+refused_apart Unavailable document range allow marker body h = absurd (false_is_true h)
 
-pub line_apart : (refusal : Refusal) → is_reserved refusal ≡ false → is_fixed_line (refusal_text refusal) ≡ false
+pub line_apart : (refusal : Refusal) → is_step_refusal refusal ≡ true → is_fixed_line (refusal_text refusal) ≡ false
 unfolding digits
 line_apart BadRequest h = refl
 line_apart NotImplemented h = refl
@@ -119,6 +114,6 @@ line_apart NoSuchKeyName h = refl
 line_apart InvalidName h = refl
 line_apart InvalidQuota h = refl
 line_apart NotAHostFile h = refl
-line_apart ClockOutOfRange h = absurd (true_is_false h)
-line_apart ServiceUnavailable h = absurd (true_is_false h)
-line_apart Unavailable h = absurd (true_is_false h)
+line_apart ClockOutOfRange h = absurd (false_is_true h)
+line_apart ServiceUnavailable h = absurd (false_is_true h)
+line_apart Unavailable h = absurd (false_is_true h)

@@ -1,7 +1,4 @@
 mod Apart
-mod Free
-mod OperationRefusals
-mod Reserved
 mod ToldApart
 mod Turning
 mod Running

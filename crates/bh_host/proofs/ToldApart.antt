@@ -1,39 +1,47 @@
 -- The reply to an event with a stamp is no fixed text.
-use Rattle.std.proofs.Common.{◌≡◌, ◌≢◌, ℕ, Bool, true, false, Option, Some, None, [], Ok, Err, Result, refl, sym, ◌∙◌, ap, rules}
+use Rattle.std.proofs.Common.{◌≡◌, ◌≢◌, ℕ, Bool, true, false, Option, Some, None, [], Ok, Err, Result, IfErr, refl, sym, ◌∙◌, ap, rules}
 use Rattle.std.specs.Fmt.{digits}
-use Rattle.bh_event.specs.Events.{Order, AddTenant, AddKey, RemoveKey, Content, Requested, Ordered}
+use Rattle.bh_event.specs.Events.{Order, AddTenant, AddKey, RemoveKey, Content, Requested, Ordered, Arrival}
+use Rattle.bh_http.specs.Responses.{response_text}
 use Rattle.bh_http.specs.Views.{Taken}
+use Rattle.bh_machine.specs.Machine.{Act, Asked, Commanded, owner_of, step}
+use Rattle.bh_machine.specs.Refused.{is_step_refusal}
+use Rattle.bh_machine.proofs.Refused.{step_only}
 use Rattle.bh_model.specs.Operations.{Answer}
 use Rattle.bh_model.specs.State.{Octets, State}
+use Rattle.bh_storage.specs.Calls.{Seen}
 use Rattle.bh_tables.specs.Typed.{Tables}
 use Rattle.bh_types.specs.Limits.{HostLimits}
 use Rattle.bh_types.specs.declared.refusal.Refusal.{Refusal}
-use Rattle.bh_view.specs.View.{view}
-use Rattle.bh_host.specs.Machine.{Act, Asked, Told, owner_of, step}
-use Rattle.bh_host.specs.Replies.{text, response_to, document_for, allow_for, refusal_to, body_for, caller_of, clock_text, wanting_text}
-use Rattle.bh_host.specs.Turns.{Turned, Turns}
+use Rattle.bh_types.specs.declared.rejection.Rejection.{Rejection}
+use Rattle.bh_view.specs.View.{view, limits_in, with_latest}
+use Rattle.bh_host.specs.Replies.{text, response_to, document_for, range_told, allow_told, marker_told, refusal_to, body_for, caller_of, clock_text, wanting_text}
+use Rattle.bh_host.specs.Turns.{TurnedFor, Turns, AppliedTo, IsToldApart}
 use Rattle.bh_host.specs.declared.reply.Caller.TheVariants.{Request, Operator}
 use Rattle.bh_host.proofs.Apart.{is_fixed_response, is_fixed_line, answer_apart, refused_apart, line_apart}
-use Rattle.bh_host.proofs.Free.{Free}
-use Rattle.bh_host.proofs.Reserved.{step_free}
 
-answered_apart : (answer : Result Taken Refusal) (o : Result Answer Refusal) → Free o → is_fixed_response (text (Asked answer) o) ≡ false
+abbrev Free : {X : Type 0} → Result X Rejection → Type 0
+Free r = IfErr r (λ (rejection : Rejection). is_step_refusal rejection.refusal ≡ true)
+
+rejection_apart : (target body : Octets) (e : Rejection) → is_step_refusal e.refusal ≡ true → is_fixed_response (response_text (record (refusal_to target e) { body = body })) ≡ false
+rejection_apart target body e free =
+    refused_apart e.refusal (document_for target e.refusal) (range_told e.detail) (allow_told target e.refusal e.detail) (marker_told e.detail) body free
+
+answered_apart : (answer : Result Taken Refusal) (o : Result Answer Rejection) → Free o → is_fixed_response (text (Asked answer) o) ≡ false
 unfolding text
 answered_apart (Ok request) (Ok a) free = answer_apart a (body_for request.method (response_to a).body)
-answered_apart (Ok request) (Err refusal) free =
-    let sent = refusal_to request.target refusal in
-    refused_apart refusal (document_for request.target refusal) (allow_for request.target refusal) (body_for request.method sent.body) free
+answered_apart (Ok request) (Err e) free = rejection_apart request.target (body_for request.method (refusal_to request.target e).body) e free
 answered_apart (Err unread) (Ok a) free = answer_apart a (response_to a).body
-answered_apart (Err unread) (Err refusal) free = refused_apart refusal (document_for [] refusal) (allow_for [] refusal) (refusal_to [] refusal).body free
+answered_apart (Err unread) (Err e) free = rejection_apart [] (refusal_to [] e).body e free
 
-ordered_apart : (order : Order) (o : Result Answer Refusal) → Free o → is_fixed_line (text (Told order) o) ≡ false
+ordered_apart : (order : Order) (o : Result Answer Rejection) → Free o → is_fixed_line (text (Commanded order) o) ≡ false
 unfolding text
 ordered_apart (AddTenant tenant quota) (Ok a) free = refl
 ordered_apart (AddKey tenant name secret) (Ok a) free = refl
 ordered_apart (RemoveKey tenant name) (Ok a) free = refl
-ordered_apart (AddTenant tenant quota) (Err refusal) free = line_apart refusal free
-ordered_apart (AddKey tenant name secret) (Err refusal) free = line_apart refusal free
-ordered_apart (RemoveKey tenant name) (Err refusal) free = line_apart refusal free
+ordered_apart (AddTenant tenant quota) (Err e) free = line_apart e.refusal free
+ordered_apart (AddKey tenant name secret) (Err e) free = line_apart e.refusal free
+ordered_apart (RemoveKey tenant name) (Err e) free = line_apart e.refusal free
 
 clock_response : is_fixed_response (clock_text Request) ≡ true
 unfolding digits
@@ -58,20 +66,26 @@ differs : (test : Octets → Bool) (reply other : Octets) → test reply ≡ fal
 differs test reply other isnt is same = true_is_false (test other) is (ap test (sym same) ∙ isnt)
 
 -- the text of a step, whoever the act belongs to
-turned_reply : (act : Act) (m : ℕ) (base old new : Tables) (reply : Octets) (o : Option Octets) → owner_of act ≡ o → Turned act m base old new reply
+turned_reply : (o : Option Octets) (act : Act) (m : ℕ) (stamped new : Tables) (reply : Octets) → TurnedFor o m act stamped new reply
     → (s : Option State) × (reply ≡ text act (step m act s).0)
-turned_reply act m base old new reply (Some t) is turned = (view old t, (turned.owned t is).told)
-turned_reply act m base old new reply None is turned = (None, (turned.nobody is).told)
+turned_reply (Some t) act m stamped new reply turned = (view stamped t, turned.told)
+turned_reply None act m stamped new reply turned = (None, turned.told)
 
-pub told_apart : (limits : HostLimits) (content : Content) (m : ℕ) (base old new : Tables) (reply : Octets) → Turns limits content m base old new reply
+pub told_apart : (limits : HostLimits) (content : Content) (m : ℕ) (stamped new : Tables) (reply : Octets) → Turns limits content m stamped new reply
     → (reply ≢ clock_text (caller_of content)) × (reply ≢ wanting_text (caller_of content))
-told_apart limits (Requested bytes) m base old new reply (act, (answer, reads, is), turned) =
-    let found = turned_reply act m base old new reply (owner_of act) refl turned in
-    let free = step_free limits (Requested bytes) m act found.0 (answer, reads, is) in
+told_apart limits (Requested bytes) m stamped new reply (act, (answer, reads, is), turned) =
+    let found = turned_reply (owner_of act) act m stamped new reply turned.judged in
+    let free = step_only limits (Requested bytes) m act found.0 (answer, reads, is) in
     let no : is_fixed_response reply ≡ false = ap is_fixed_response (found.1 ∙ ap (λ a. text a (step m act found.0).0) is) ∙ answered_apart answer (step m act found.0).0 free in
     (differs is_fixed_response reply (clock_text Request) no clock_response, differs is_fixed_response reply (wanting_text Request) no wanting_response)
-told_apart limits (Ordered order) m base old new reply (act, is, turned) =
-    let found = turned_reply act m base old new reply (owner_of act) refl turned in
-    let free = step_free limits (Ordered order) m act found.0 is in
+told_apart limits (Ordered order) m stamped new reply (act, is, turned) =
+    let found = turned_reply (owner_of act) act m stamped new reply turned.judged in
+    let free = step_only limits (Ordered order) m act found.0 is in
     let no : is_fixed_line reply ≡ false = ap is_fixed_line (found.1 ∙ ap (λ a. text a (step m act found.0).0) is) ∙ ordered_apart order (step m act found.0).0 free in
     (differs is_fixed_line reply (clock_text Operator) no clock_line, differs is_fixed_line reply (wanting_text Operator) no wanting_line)
+
+-- the same of a storage
+pub apart_on : {H : Type 0} (IsOpen : H → Type 0) (seen : H → Seen) (event : Arrival) (m : ℕ) (old new : H) (reply : Octets) → AppliedTo IsOpen seen event old new (Some m) reply
+    → IsToldApart event (Some m) reply
+apart_on IsOpen seen event m old new reply (opened, still, (stamp, latest, turns)) =
+    told_apart (limits_in (seen old).now) event.content m (with_latest m (seen old).now) (seen new).now reply turns

@@ -1,61 +1,162 @@
 -- From the stages of an event to what the event does.
-use Rattle.std.proofs.Common.{◌≡◌, ℕ, false, List, Option, Some, None, Ok, Err, Result, refl, sym, ◌∙◌, ap, subst, rules, IfErr, OnErr, inl, inr, Vec, Global}
+use Rattle.std.proofs.Common.{◌≡◌, ℕ, false, List, Option, Some, None, Ok, Err, Result, refl, sym, ◌∙◌, ap, subst, rules, IfOk, IfErr, OnOk, OnErr, inl, inr, Vec, Global}
+use Rattle.std.specs.Prelude.{option_map}
 use Rattle.std.proofs.lemmas.Bool.{cases_Bool}
 use Rattle.std.proofs.lemmas.Option.{same_Some}
 use Rattle.bh_event.specs.Events.{Order, AddTenant, AddKey, RemoveKey, Arrival, arrival}
 use Rattle.bh_event.specs.declared.event.Event.{Event}
 use Rattle.bh_event.specs.declared.event.Event.TheVariants.{Http}
-use Rattle.bh_http.specs.Credentials.{owner}
+use Rattle.bh_http.specs.Credentials.{key_given}
 use Rattle.bh_http.specs.Reading.{Reads, ReadsError}
 use Rattle.bh_http.specs.Responses.{refusal_text}
 use Rattle.bh_http.specs.Views.{Taken}
-use Rattle.bh_types.specs.AccessKeys.{tenant_named}
-use Rattle.bh_model.specs.Operations.{Outcome}
-use Rattle.bh_model.specs.Runs.{settled}
+use Rattle.bh_machine.specs.Machine.{Act, Asked, Commanded, owner_of, tenant_of, requested, ordered, change, step}
+use Rattle.bh_model.specs.Operations.{Answer, Outcome, Done}
+use Rattle.bh_model.specs.Runs.{settled, purged_tenant}
 use Rattle.bh_model.specs.State.{Octets, State}
-use Rattle.bh_storage.specs.Calls.{Stamps}
+use Rattle.bh_storage.specs.Calls.{Seen, IsWorking, Within, Unless, OthersSame, Stamps, Purges, Carries}
+use Rattle.bh_storage.specs.declared.error.StepError.{StepError}
+use Rattle.bh_storage.specs.declared.error.StepError.TheVariants.{Refused, Failed}
 use Rattle.bh_tables.specs.Typed.{Tables}
+use Rattle.bh_types.specs.AccessKeys.{tenant_named}
 use Rattle.bh_types.specs.Limits.{HostLimits}
 use Rattle.bh_types.specs.Names.{is_tenant_name}
+use Rattle.bh_types.specs.Rejections.{plain, plainly}
+use Rattle.bh_types.specs.declared.access_key.AccessKeyId.{AccessKeyId}
 use Rattle.bh_types.specs.declared.error.RequestError.{RequestError}
 use Rattle.bh_types.specs.declared.error.RequestError.TheVariants as error
 use Rattle.bh_types.specs.declared.refusal.Refusal.{Refusal}
 use Rattle.bh_types.specs.declared.refusal.Refusal.TheVariants.{InvalidName}
-use Rattle.bh_view.specs.View.{view, latest_of, with_latest}
-use Rattle.bh_host.specs.Machine.{Act, Asked, Told, owner_of, tenant_of, requested, ordered, change, step}
+use Rattle.bh_types.specs.declared.rejection.Rejection.{Rejection}
+use Rattle.bh_view.specs.View.{view, latest_of, limits_in, with_latest, rows_purged}
 use Rattle.bh_host.specs.Replies.{text}
-use Rattle.bh_host.specs.Turns.{Turned, Turns, TurnsRequest, TellsUnread, Applied}
+use Rattle.bh_host.specs.Turns.{TurnedFor, Turned, Turns, TurnsRequest, Tells, TellsOrder, TellsUnread, Applied}
+
+-- ---- calls inside a transaction
+
+-- a call, and then another
+pub within_then : {H : Type 0} (IsIntact IsOpen : H → Type 0) (seen : H → Seen) (left : H → Tables → Type 0) (a b c : H)
+    → Within IsIntact IsOpen seen left a b → (IsOpen a → IsIntact b → IsOpen b) → Within IsIntact IsOpen seen left b c → Within IsIntact IsOpen seen left a c
+within_then IsIntact IsOpen seen left a b c first opens next = record {
+  intact = λ i. first.intact (next.intact i);
+  opened = λ i o. first.opened (next.intact i) (next.opened i o);
+  survives = λ o i x l. first.survives o (next.intact i) x (next.survives (opens o (next.intact i)) i x l);
+  kept = λ clean. next.kept clean ∙ first.kept (next.intact clean.0, next.opened clean.0 clean.1);
+  limits = next.limits ∙ first.limits;
+}
+
+pub limits_stay : (old new : Seen) → IsWorking old → IsWorking new → new.limits ≡ old.limits → limits_in new.now ≡ limits_in old.now
+limits_stay old new before after same = after.limits ∙ same ∙ sym before.limits
+
+pub if_ordered : {X Y : Type 0} (r : Result (Vec ℕ Global) Y) (order : Order) (outcome : Result X (StepError Refusal)) (P : Type 0) (Q : List ℕ → Type 0)
+    → IfOk r (λ bytes. TellsOrder order outcome bytes.items) → Unless outcome P → ((bytes : List ℕ) → P → TellsOrder order outcome bytes → Q bytes) → IfOk r (λ bytes. Q bytes.items)
+if_ordered (Ok bytes) order (Ok x) P Q told p go = go bytes.items p told
+if_ordered (Ok bytes) order (Err (Refused e)) P Q told p go = go bytes.items p told
+if_ordered (Ok bytes) order (Err (Failed trouble)) P Q told p go = absurd told
+if_ordered (Err e) order outcome P Q told p go = tt
+
+-- ---- an act of a tenant: its stale uploads go, and then comes the change
+
+-- the tables in which the change found its owner
+module _ (t : Octets) (m : ℕ) (act : Act) (old mid new : Tables) (reply : List ℕ) where
+  changed : (result : Result Outcome Rejection) → Purges t m old mid → change m act (view mid t) ≡ result
+      → step m act (view old t) ≡ settled (purged_tenant (view old t) m) result
+  changed result purges is = ap (settled (purged_tenant (view old t) m)) (ap (change m act) (sym purges.own) ∙ is)
+
+  turned_done : (answer : Answer) → owner_of act ≡ Some t → Purges t m old mid → change m act (view mid t) ≡ Ok (answer, view new t)
+      → OthersSame t mid new → latest_of new ≡ latest_of mid → limits_in new ≡ limits_in old → reply ≡ text act (Ok answer) → Turned act m old new reply
+  turned_done answer owner purges is others latest limits told =
+      let stepped = changed (Ok (answer, view new t)) purges is in
+      let P : Result Answer Rejection × Option State → Type 0 = λ s. IfErr s.0 (λ _. new ≡ rows_purged t m old) in
+      let O : Option Octets → Type 0 = λ o. TurnedFor o m act old new reply in
+      record {
+        judged = subst O (sym owner) (record {
+          told = told ∙ ap (λ s. text act s.0) (sym stepped);
+          own = ap (λ s. s.1) (sym stepped);
+          others = λ u other. others u other ∙ purges.others u other;
+          refused = subst P (sym stepped) tt;
+        });
+        latest = latest ∙ purges.latest;
+        limits = limits;
+      }
+
+  turned_refused : (e : Rejection) → owner_of act ≡ Some t → Purges t m old mid → change m act (view mid t) ≡ Err e → new ≡ mid
+      → limits_in new ≡ limits_in old → reply ≡ text act (Err e) → Turned act m old new reply
+  turned_refused e owner purges is same limits told =
+      let stepped = changed (Err e) purges is in
+      let P : Result Answer Rejection × Option State → Type 0 = λ s. IfErr s.0 (λ _. new ≡ rows_purged t m old) in
+      let O : Option Octets → Type 0 = λ o. TurnedFor o m act old new reply in
+      record {
+        judged = subst O (sym owner) (record {
+          told = told ∙ ap (λ s. text act s.0) (sym stepped);
+          own = ap (λ x. view x t) same ∙ purges.own ∙ ap (λ s. s.1) (sym stepped);
+          others = λ u other. ap (λ x. view x u) same ∙ purges.others u other;
+          refused = subst P (sym stepped) (same ∙ purges.is);
+        });
+        latest = ap latest_of same ∙ purges.latest;
+        limits = limits;
+      }
+
+owner_is : (r : Taken) (key : AccessKeyId) → key_given r ≡ Some key → owner_of (Asked (Ok r)) ≡ Some key.tenant
+owner_is r key is = ap (option_map (λ (k : AccessKeyId). k.tenant)) is
+
+pub turned_request : {X : Type 0} (shown : X → Answer) (key : AccessKeyId) (m : ℕ) (r : Taken) (old mid new : Tables) (outcome : Result X (StepError Rejection)) (reply : List ℕ)
+    → key_given r ≡ Some key → Purges key.tenant m old mid → Carries shown key.tenant (requested m r) mid new outcome → limits_in new ≡ limits_in old
+    → Tells shown (Asked (Ok r)) outcome reply → Turned (Asked (Ok r)) m old new reply
+turned_request shown key m r old mid new (Ok x) reply is purges gives limits told =
+    turned_done key.tenant m (Asked (Ok r)) old mid new reply (shown x) (owner_is r key is) purges gives.gives gives.others gives.latest limits told
+turned_request shown key m r old mid new (Err (Refused e)) reply is purges gives limits told =
+    turned_refused key.tenant m (Asked (Ok r)) old mid new reply e (owner_is r key is) purges gives.0 gives.1 limits told
+turned_request shown key m r old mid new (Err (Failed trouble)) reply is purges gives limits told = absurd told
 
 none_is_none : {X : Type 0} (o : Option X) (x : X) → o ≡ None → o ≡ Some x → ⊥
 none_is_none o x none some = search rules
 
--- an act of nobody, which is refused
-turned_stranger : (act : Act) (at : ℕ) (refusal : Refusal) (old : Tables) (reply : List ℕ) → owner_of act ≡ None → change at act None ≡ Err refusal → reply ≡ text act (Err refusal) → Turned act at old old old reply
-turned_stranger act at refusal old reply none is told = record {
-  owned = λ t some. absurd (none_is_none (owner_of act) t none some);
-  nobody = λ _. record { told = told ∙ ap (λ (o : Result Outcome Refusal). text act (settled None o).0) (sym is); same = refl };
-  others = λ u other. refl;
-  latest = refl;
-}
-
-pub turned_nobody : (at : ℕ) (r : Taken) (refusal : Refusal) (old : Tables) (reply : List ℕ) → owner r ≡ None → ((m : ℕ) → requested m r None ≡ Err refusal)
-    → reply ≡ text (Asked (Ok r)) (Err refusal) → Turned (Asked (Ok r)) at old old old reply
-turned_nobody at r refusal old reply none is told = turned_stranger (Asked (Ok r)) at refusal old reply none (is at) told
-
--- bytes that are no request
-pub turned_unread : (at : ℕ) (refusal : Refusal) (old : Tables) (reply : List ℕ) → reply ≡ text (Asked (Err refusal)) (Err refusal) → Turned (Asked (Err refusal)) at old old old reply
-turned_unread at refusal old reply told = turned_stranger (Asked (Err refusal)) at refusal old reply refl refl told
-
-pub turns_unread : (limits : HostLimits) (bytes : List ℕ) (at : ℕ) (old : Tables) (error : RequestError) (reply : List ℕ) → ReadsError limits bytes error → TellsUnread error reply → TurnsRequest limits bytes at old old reply
-turns_unread limits bytes at old (error.Refused refusal) reply reads told = (Err refusal, reads, turned_unread at refusal old reply told)
-turns_unread limits bytes at old error.OutOfMemory reply reads told = absurd told
-
 -- a text that is a tenant's name is the name
-pub named_is : (text name : Octets) → tenant_named text ≡ Some name → text ≡ name
+named_is : (text name : Octets) → tenant_named text ≡ Some name → text ≡ name
 named_is text name is = elim (cases_Bool (is_tenant_name text)) [
   | inl good ↦ same_Some text name (sym (rw good refl) ∙ is)
   | inr bad ↦ absurd (none_is_none (tenant_named text) name (rw bad refl) is)
 ]
+
+-- the tenant of an order and the tenant that it names
+pub turned_order : {X : Type 0} (t : Octets) (m : ℕ) (order : Order) (old mid new : Tables) (outcome : Result X (StepError Refusal)) (reply : List ℕ)
+    → owner_of (Commanded order) ≡ Some t → Purges t m old mid → Carries (λ _. Done) (tenant_of order) (ordered order) mid new outcome → limits_in new ≡ limits_in old
+    → TellsOrder order outcome reply → Turned (Commanded order) m old new reply
+turned_order t m order old mid new (Ok x) reply owner purges gives limits told =
+    let is : tenant_of order ≡ t = named_is (tenant_of order) t owner in
+    let G : Octets → Type 0 = λ u. ordered order (view mid u) ≡ Ok (Done, view new u) in
+    let O : Octets → Type 0 = λ u. OthersSame u mid new in
+    turned_done t m (Commanded order) old mid new reply Done owner purges (ap plainly (subst G is gives.gives)) (subst O is gives.others) gives.latest limits told
+turned_order t m order old mid new (Err (Refused r)) reply owner purges gives limits told =
+    let is : tenant_of order ≡ t = named_is (tenant_of order) t owner in
+    let G : Octets → Type 0 = λ u. ordered order (view mid u) ≡ Err r in
+    turned_refused t m (Commanded order) old mid new reply (plain r) owner purges (ap plainly (subst G is gives.0)) gives.1 limits told
+turned_order t m order old mid new (Err (Failed trouble)) reply owner purges gives limits told = absurd told
+
+-- ---- an act of nobody, which is refused
+
+turned_stranger : (act : Act) (at : ℕ) (e : Rejection) (old : Tables) (reply : List ℕ) → owner_of act ≡ None → change at act None ≡ Err e → reply ≡ text act (Err e) → Turned act at old old reply
+turned_stranger act at e old reply none is told =
+    let O : Option Octets → Type 0 = λ o. TurnedFor o at act old old reply in
+    record {
+      judged = subst O (sym none) (record { told = told ∙ ap (λ (o : Result Outcome Rejection). text act (settled None o).0) (sym is); same = refl });
+      latest = refl;
+      limits = refl;
+    }
+
+pub turned_nobody : (at : ℕ) (r : Taken) (e : Rejection) (old : Tables) (reply : List ℕ) → key_given r ≡ None → ((m : ℕ) → requested m r None ≡ Err e)
+    → reply ≡ text (Asked (Ok r)) (Err e) → Turned (Asked (Ok r)) at old old reply
+turned_nobody at r e old reply none is told =
+    turned_stranger (Asked (Ok r)) at e old reply (ap (option_map (λ (k : AccessKeyId). k.tenant)) none) (is at) told
+
+-- bytes that are no request
+turned_unread : (at : ℕ) (refusal : Refusal) (old : Tables) (reply : List ℕ) → reply ≡ text (Asked (Err refusal)) (Err (plain refusal)) → Turned (Asked (Err refusal)) at old old reply
+turned_unread at refusal old reply told = turned_stranger (Asked (Err refusal)) at (plain refusal) old reply refl refl told
+
+pub turns_unread : (limits : HostLimits) (bytes : List ℕ) (at : ℕ) (old : Tables) (error : RequestError) (reply : List ℕ) → ReadsError limits bytes error → TellsUnread error reply → TurnsRequest limits bytes at old old reply
+turns_unread limits bytes at old (error.Refused refusal) reply reads told = (Err refusal, reads, turned_unread at refusal old reply told)
+turns_unread limits bytes at old error.OutOfMemory reply reads told = absurd told
 
 unnamed : (text : Octets) → tenant_named text ≡ None → is_tenant_name text ≡ false
 unnamed text none = elim (cases_Bool (is_tenant_name text)) [
@@ -69,43 +170,25 @@ nameless (AddTenant tenant quota) bad = rw bad refl
 nameless (AddKey tenant name secret) bad = rw bad refl
 nameless (RemoveKey tenant name) bad = rw bad refl
 
-pub turned_nameless : (at : ℕ) (order : Order) (old : Tables) (reply : List ℕ) → owner_of (Told order) ≡ None → reply ≡ refusal_text InvalidName → Turned (Told order) at old old old reply
+pub turned_nameless : (at : ℕ) (order : Order) (old : Tables) (reply : List ℕ) → owner_of (Commanded order) ≡ None → reply ≡ refusal_text InvalidName → Turned (Commanded order) at old old reply
 unfolding text
-turned_nameless at order old reply none told = turned_stranger (Told order) at InvalidName old reply none (nameless order (unnamed (tenant_of order) none)) told
+turned_nameless at order old reply none told =
+    turned_stranger (Commanded order) at (plain InvalidName) old reply none (ap plainly (nameless order (unnamed (tenant_of order) none))) told
 
--- an event's turn, from its stamp and what it does after it
-pub applied : (limits : HostLimits) (event : Arrival) (m : ℕ) (old mid new : Tables) (reply : List ℕ) → Stamps event.reading m old mid → Turns limits event.content m mid mid new reply → Applied limits event old new (Some m) reply
-applied limits event m old mid new reply stamps (act, acted, turned) =
-    let latest : latest_of new ≡ m = turned.latest ∙ stamps.latest in (
-      stamps.stamp,
-      latest,
-      (
-        act,
-        acted,
-        record {
-          owned = λ t is. (let o = turned.owned t is in record {
-            told = o.told ∙ ap (λ s. text act (step m act s).0) (stamps.views t);
-            own = o.own ∙ ap (λ s. (step m act s).1) (stamps.views t);
-            refused =
-                let P : Tables → Type 0 = λ base. IfErr (step m act (view mid t)).0 (λ _. new ≡ base) in
-                let Q : Option State → Type 0 = λ s. IfErr (step m act s).0 (λ _. new ≡ with_latest m old) in
-                subst Q (stamps.views t) (subst P stamps.is o.refused);
-          });
-          nobody = λ is. (let n = turned.nobody is in record { told = n.told; same = n.same ∙ stamps.is });
-          others = λ u other. turned.others u other ∙ stamps.views u;
-          latest = turned.latest ∙ ap latest_of stamps.is;
-        },
-      ),
-    )
+-- ---- an event
 
-pub on_err : {X E : Type 0} (r : Result X E) {P : Type 0} → P → OnErr r P
-on_err (Ok x) p = tt
-on_err (Err e) p = p
+-- from its stamp, and what it does after it
+pub applied : (limits : HostLimits) (event : Arrival) (m : ℕ) (old mid new : Tables) (reply : List ℕ) → limits ≡ limits_in old → Stamps event.reading m old mid
+    → Turns limits event.content m mid new reply → Applied event old new (Some m) reply
+applied limits event m old mid new reply is stamps turns =
+    let L : HostLimits → Type 0 = λ l. Turns l event.content m mid new reply in
+    let T : Tables → Type 0 = λ x. Turns (limits_in old) event.content m x new reply in
+    (stamps.stamp, turns.2.latest ∙ stamps.latest, subst T stamps.is (subst L is turns))
 
 -- a request's turn is its event's
 pub turns_request : (limits : HostLimits) (event : Event) (reading : ℕ) (held : Vec ℕ Global) (bytes : List ℕ) (m : ℕ) (old new : Tables) (reply : List ℕ) → event ≡ Http reading held → bytes ≡ held.items
-    → TurnsRequest limits bytes m old new reply → Turns limits (arrival event).content m old old new reply
+    → TurnsRequest limits bytes m old new reply → Turns limits (arrival event).content m old new reply
 turns_request limits event reading held bytes m old new reply is same (answer, reads, turned) =
-    let P : Event → Type 0 = λ e. Turns limits (arrival e).content m old old new reply in
+    let P : Event → Type 0 = λ e. Turns limits (arrival e).content m old new reply in
     let Q : List ℕ → Type 0 = λ b. Reads limits b answer in
     subst P (sym is) (Asked answer, (answer, subst Q same reads, refl), turned)

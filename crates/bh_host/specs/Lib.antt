@@ -1,5 +1,4 @@
 pub mod Answers
-pub mod Machine
 pub mod Replies
-pub mod Turns
 pub mod Runs
+pub mod Turns

@@ -1,5 +1,5 @@
 -- The bytes that an act is answered with.
-use Rattle.std.specs.Prelude.{true, [], ◌++◌, length, codes, if◌then◌else◌, Option, Some, None, Result, Ok, Err}
+use Rattle.std.specs.Prelude.{Bool, true, false, [], ◌++◌, length, codes, if◌then◌else◌, Option, Some, None, Result, Ok, Err}
 use Rattle.std.specs.Str.{bytes_eq}
 use Rattle.std.specs.Str.Lossy.{utf8_lossy}
 use Rattle.bh_docs.specs.Documents.{error_text}
@@ -8,6 +8,9 @@ use Rattle.bh_http.specs.Answers.{bare, empty, refused, bare_refusal}
 use Rattle.bh_http.specs.Responses.{Sent, response_text, refusal_text}
 use Rattle.bh_http.specs.Views.{Taken}
 use Rattle.bh_http.specs.declared.values.Allow.{Allow}
+use Rattle.bh_http.specs.declared.values.Allow.TheVariants.{Marker}
+use Rattle.bh_http.specs.declared.values.ContentRange.{ContentRange}
+use Rattle.bh_http.specs.declared.values.ContentRange.TheVariants.{Unsatisfied}
 use Rattle.bh_http.specs.declared.values.ContentType.TheVariants.{OctetStream}
 use Rattle.bh_model.specs.Operations.{Answer, Done, Stored, Object}
 use Rattle.bh_model.specs.State.{Octets}
@@ -15,8 +18,11 @@ use Rattle.bh_operation.specs.Allowed.{allow_of}
 use Rattle.bh_operation.specs.Targets.{path_of}
 use Rattle.bh_types.specs.Refusals.{code_of}
 use Rattle.bh_types.specs.declared.refusal.Refusal.{Refusal}
+use Rattle.bh_types.specs.declared.rejection.Detail.{Detail}
+use Rattle.bh_types.specs.declared.rejection.Detail.TheVariants.{CurrentMarker, NamedMarker, ObjectSize}
+use Rattle.bh_types.specs.declared.rejection.Rejection.{Rejection}
 use Rattle.bh_types.specs.declared.refusal.Refusal.TheVariants.{MethodNotAllowed, ClockOutOfRange, ServiceUnavailable, Unavailable}
-use Rattle.bh_host.specs.Machine.{Act, Asked, Told}
+use Rattle.bh_machine.specs.Machine.{Act, Asked, Commanded}
 use Rattle.bh_host.specs.declared.reply.Caller.{Caller}
 use Rattle.bh_host.specs.declared.reply.Caller.TheVariants.{Request, Operator}
 use Rattle.bh_host.specs.declared.reply.Reply.{Reply}
@@ -39,22 +45,38 @@ response_to (Object id bytes checksum) = record (bare 200) {
   body = bytes;
 }
 
--- the methods that a target takes are told where the method was at fault
-abbrev pub allow_for : Octets → Refusal → Option Allow
-allow_for target MethodNotAllowed = allow_of target
-allow_for target refusal = None
+-- the methods that may be used: of a delete marker that was named, or of the target where the method was at fault
+abbrev pub allow_told : Octets → Refusal → Detail → Option Allow
+allow_told target refusal NamedMarker = Some Marker
+allow_told target MethodNotAllowed detail = allow_of target
+allow_told target refusal detail = None
+
+-- whether a delete marker was met
+abbrev pub marker_told : Detail → Bool
+marker_told CurrentMarker = true
+marker_told NamedMarker = true
+marker_told detail = false
+
+-- the size of an object of which no byte was asked for (RFC 9110, section 14.4)
+abbrev pub range_told : Detail → Option ContentRange
+range_told (ObjectSize size) = Some (Unsatisfied size)
+range_told detail = None
 
 -- the document of a refusal names the target's path
 abbrev pub document_for : Octets → Refusal → Octets
 document_for target refusal = error_text (code_of refusal) (shown_path target)
 
 -- the response that refuses a request with this target
-abbrev pub refusal_to : Octets → Refusal → Sent
-refusal_to target refusal = record (refused refusal (document_for target refusal)) { allow = allow_for target refusal }
+abbrev pub refusal_to : Octets → Rejection → Sent
+refusal_to target rejection = record (refused rejection.refusal (document_for target rejection.refusal)) {
+  content_range = range_told rejection.detail;
+  allow = allow_told target rejection.refusal rejection.detail;
+  delete_marker = marker_told rejection.detail;
+}
 
-abbrev pub response : Octets → Result Answer Refusal → Sent
+abbrev pub response : Octets → Result Answer Rejection → Sent
 response target (Ok answer) = response_to answer
-response target (Err refusal) = refusal_to target refusal
+response target (Err rejection) = refusal_to target rejection
 
 -- HEAD is answered with the head of the response alone (RFC 9110, section 9.3.2)
 abbrev pub body_for : Octets → Octets → Octets
@@ -64,7 +86,7 @@ abbrev pub sent_for : Octets → Sent → Sent
 sent_for method sent = record sent { body = body_for method sent.body }
 
 -- the response to a request, or to bytes that are none
-abbrev pub asked_text : Result Taken Refusal → Result Answer Refusal → Octets
+abbrev pub asked_text : Result Taken Refusal → Result Answer Rejection → Octets
 asked_text (Ok request) outcome = response_text (sent_for request.method (response request.target outcome))
 asked_text (Err refusal) outcome = response_text (response [] outcome)
 
@@ -74,14 +96,14 @@ line_of (AddTenant tenant quota) = codes "tenant " ++ tenant
 line_of (AddKey tenant name secret) = codes "key " ++ (tenant ++ (codes "$" ++ name))
 line_of (RemoveKey tenant name) = codes "removed " ++ (tenant ++ (codes "$" ++ name))
 
-abbrev pub line : Order → Result Answer Refusal → Octets
+abbrev pub line : Order → Result Answer Rejection → Octets
 line order (Ok answer) = line_of order
-line order (Err refusal) = refusal_text refusal
+line order (Err rejection) = refusal_text rejection.refusal
 
 -- the bytes that an act's outcome is told in
-unfoldable pub text : Act → Result Answer Refusal → Octets
+unfoldable pub text : Act → Result Answer Rejection → Octets
 text (Asked answer) outcome = asked_text answer outcome
-text (Told order) outcome = line order outcome
+text (Commanded order) outcome = line order outcome
 
 -- who asks: a request, or an operator
 abbrev pub caller_of : Content → Caller

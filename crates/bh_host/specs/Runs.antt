@@ -1,15 +1,16 @@
 -- A list of events, and what each tenant is told, as if it were alone.
-use Rattle.std.specs.Prelude.{◌≡◌, ◌++◌, ℕ, List, [], ◌∷◌, max, Option, Some, None}
+use Rattle.std.specs.Prelude.{◌≡◌, ◌⊎◌, ◌++◌, ℕ, List, [], ◌∷◌, Option, Some, None, Ok}
 use Rattle.bh_types.specs.Limits.{HostLimits}
 use Rattle.bh_event.specs.Events.{Arrival}
 use Rattle.bh_model.specs.Runs as runs
-use Rattle.bh_model.specs.Runs.{Follows}
+use Rattle.bh_model.specs.Runs.{Follows, stamp_of}
 use Rattle.bh_model.specs.State.{Octets, State}
 use Rattle.bh_tables.specs.Typed.{Tables}
-use Rattle.bh_view.specs.View.{view, latest_of}
-use Rattle.bh_host.specs.Machine.{Act, Acted, owner_of, step}
+use Rattle.bh_machine.specs.Machine.{Act, Acted, owner_of, step}
+use Rattle.bh_storage.specs.Calls.{Seen}
+use Rattle.bh_view.specs.View.{view, latest_of, limits_in}
 use Rattle.bh_host.specs.Replies.{text}
-use Rattle.bh_host.specs.Turns.{fixed}
+use Rattle.bh_host.specs.Turns.{Applied, IsToldApart, WouldApply, fixed}
 
 -- an event with a stamp: what it turned out to be, and the bytes that were answered
 abbrev pub Turn : Type 0
@@ -19,10 +20,36 @@ Turn = runs.Turn Act (List ℕ)
 abbrev pub Told : Type 0
 Told = Option ℕ × List ℕ
 
+-- ---- what a list of events does, one after another
+
+abbrev pub Ran : List Arrival → List Told → Tables → Tables → Type 0
+Ran [] [] old new = new ≡ old
+Ran [] (done ∷ dones) old new = ⊥
+Ran (event ∷ events) [] old new = ⊥
+Ran (event ∷ events) ((stamp, reply) ∷ dones) old new =
+    (mid : Tables) × Applied event old mid stamp reply × IsToldApart event stamp reply × Ran events dones mid new
+
+-- what a crash may leave once events were applied, given what it might have left before them: after an event with a stamp,
+-- the tables at the end; after one without, also what its commit would have given. What comes before the last stamp doesn't count
+abbrev pub MayRemain : List Arrival → List Told → (Tables → Type 0) → Tables → Tables → Type 0
+MayRemain [] dones before end x = before x
+MayRemain (event ∷ events) [] before end x = before x
+MayRemain (event ∷ events) ((Some m, reply) ∷ dones) before end x = MayRemain events dones (λ y. y ≡ end) end x
+MayRemain (event ∷ events) ((None, reply) ∷ dones) before end x = MayRemain events dones (λ y. before y ⊎ WouldApply event end y) end x
+
+-- the same of a storage: an open one shows the tables at the end
+pub record RanOn {H : Type 0} (IsOpen : H → Type 0) (seen : H → Seen) (left : H → Tables → Type 0) (events : List Arrival) (dones : List Told) (old new : H) : Type 0 where
+  pub end : Tables
+  pub ran : Ran events dones (seen old).now end
+  pub now : IsOpen new → (seen new).now ≡ end
+  pub crash : (x : Tables) → left new x → MayRemain events dones (left old) end x
+
+-- ---- whose events they were, and what each tenant is told
+
 -- from one last stamp to another, these are the turns of the events with a stamp; the others got the fixed reply
 abbrev pub Head : HostLimits → Arrival → Told → (List Turn → ℕ → Type 0) → List Turn → ℕ → Type 0
 Head limits event (None, reply) rest turns from = (reply ≡ fixed event) × rest turns from
-Head limits event (Some m, reply) rest turns from = (act : Act) × (others : List Turn) × (m ≡ max event.reading from) × Acted limits event.content act
+Head limits event (Some m, reply) rest turns from = (act : Act) × (others : List Turn) × (stamp_of event.reading from ≡ Ok m) × Acted limits event.content act
     × (turns ≡ record { act = act; stamp = m; reply = reply } ∷ others) × rest others m
 
 abbrev pub Shows : HostLimits → ℕ → List Arrival → List Told → List Turn → ℕ → Type 0
@@ -58,8 +85,17 @@ pub record HasRun (limits : HostLimits) (events : List Arrival) (dones : List To
   pub shown : Shows limits (latest_of new) events dones turns (latest_of old)
   pub alone : IsAlone turns old new
 
-abbrev pub Ran : HostLimits → List Arrival → List Told → Tables → Tables → Type 0
-Ran limits events dones old new = (turns : List Turn) × HasRun limits events dones turns old new
+-- the same of a storage: an open one shows the tables at the end
+pub record HasRunOn {H : Type 0} (IsOpen : H → Type 0) (seen : H → Seen) (events : List Arrival) (dones : List Told) (old new : H) : Type 0 where
+  pub end : Tables
+  pub turns : List Turn
+  pub has_run : HasRun (limits_in (seen old).now) events dones turns (seen old).now end
+  pub now : IsOpen new → (seen new).now ≡ end
+
+-- every tenant is alone in what was run
+abbrev pub EachIsAlone : Type 0
+EachIsAlone = (events : List Arrival) (dones : List Told) (old new : Tables)
+    → Ran events dones old new → (turns : List Turn) × HasRun (limits_in old) events dones turns old new
 
 -- hosts that agree on a tenant's state and own acts answer it alike
 abbrev pub AnswersAlike : Type 0
@@ -74,5 +110,5 @@ HasOneTelling = (limits : HostLimits) (to : ℕ) (events : List Arrival) (dones 
 
 -- a run and then a run is a run of all
 abbrev pub GoesOn : Type 0
-GoesOn = (limits : HostLimits) (events more : List Arrival) (dones others : List Told) (old mid new : Tables)
-    → Ran limits events dones old mid → Ran limits more others mid new → Ran limits (events ++ more) (dones ++ others) old new
+GoesOn = (events more : List Arrival) (dones others : List Told) (old mid new : Tables)
+    → Ran events dones old mid → Ran more others mid new → Ran (events ++ more) (dones ++ others) old new

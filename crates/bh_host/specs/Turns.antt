@@ -1,57 +1,74 @@
 -- What one event does to the tables, and what it is answered.
-use Rattle.std.specs.Prelude.{◌≡◌, ◌≢◌, ◌≤◌, ℕ, List, max, nat_lt, IfErr, Option, Some, None, Result, Ok, Err, if◌then◌else◌}
+use Rattle.std.specs.Prelude.{◌≡◌, ◌≢◌, ◌≤◌, ℕ, List, nat_lt, IfErr, Option, Some, None, Result, Ok, Err, if◌then◌else◌}
 use Rattle.bh_types.specs.Limits.{HostLimits}
+use Rattle.bh_types.specs.Rejections.{plain}
 use Rattle.bh_types.specs.declared.error.RequestError.{RequestError}
 use Rattle.bh_types.specs.declared.error.RequestError.TheVariants as request
 use Rattle.bh_types.specs.declared.refusal.Refusal.{Refusal}
-use Rattle.bh_event.specs.Events.{Content, Arrival}
+use Rattle.bh_types.specs.declared.rejection.Rejection.{Rejection}
+use Rattle.bh_event.specs.Events.{Order, Content, Arrival}
 use Rattle.bh_http.specs.Reading.{Reads}
 use Rattle.bh_http.specs.Views.{Taken}
-use Rattle.bh_model.specs.Operations.{Answer}
-use Rattle.bh_model.specs.Runs.{last_reading}
+use Rattle.bh_machine.specs.Machine.{Act, Asked, Commanded, Acted, owner_of, step}
+use Rattle.bh_model.specs.Operations.{Answer, Done}
+use Rattle.bh_model.specs.Runs.{last_reading, stamp_of}
 use Rattle.bh_model.specs.State.{Octets}
+use Rattle.bh_storage.specs.Calls.{Seen, OthersSame}
 use Rattle.bh_storage.specs.declared.error.StepError.{StepError}
 use Rattle.bh_storage.specs.declared.error.StepError.TheVariants.{Refused, Failed}
 use Rattle.bh_tables.specs.Typed.{Tables}
-use Rattle.bh_view.specs.View.{view, latest_of, with_latest}
-use Rattle.bh_host.specs.Machine.{Act, Asked, Acted, owner_of, step}
+use Rattle.bh_view.specs.View.{view, latest_of, limits_in, with_latest, rows_purged}
 use Rattle.bh_host.specs.Replies.{text, caller_of, clock_text, wanting_text}
 
--- what the owner is told and what it then has are those of the machine's step
-pub record Owned (t : Octets) (m : ℕ) (act : Act) (base old new : Tables) (reply : List ℕ) : Type 0 where
-  pub told : reply ≡ text act (step m act (view old t)).0
-  pub own : view new t ≡ (step m act (view old t)).1
-  -- a refusal leaves all tables
-  pub refused : IfErr (step m act (view old t)).0 (λ _. new ≡ base)
+-- ---- an act at the stamp m. `stamped` is the tables before it with m as the last stamp
 
--- nobody is answered as a tenant that was not added is
-pub record IsNobody (m : ℕ) (act : Act) (base new : Tables) (reply : List ℕ) : Type 0 where
+-- the owner is told, and then has, what the machine's step gives; all others see what they saw
+pub record Owned (t : Octets) (m : ℕ) (act : Act) (stamped new : Tables) (reply : List ℕ) : Type 0 where
+  pub told : reply ≡ text act (step m act (view stamped t)).0
+  pub own : view new t ≡ (step m act (view stamped t)).1
+  pub others : OthersSame t stamped new
+  -- a refusal leaves all tables but for the owner's stale uploads
+  pub refused : IfErr (step m act (view stamped t)).0 (λ _. new ≡ rows_purged t m stamped)
+
+-- nobody is answered as a tenant that was not added is, and all tables stay
+pub record IsNobody (m : ℕ) (act : Act) (stamped new : Tables) (reply : List ℕ) : Type 0 where
   pub told : reply ≡ text act (step m act None).0
-  pub same : new ≡ base
+  pub same : new ≡ stamped
 
--- an act at the stamp m; base is the tables before it, but for the stamp
-pub record Turned (act : Act) (m : ℕ) (base old new : Tables) (reply : List ℕ) : Type 0 where
-  pub owned : (t : Octets) → owner_of act ≡ Some t → Owned t m act base old new reply
-  pub nobody : owner_of act ≡ None → IsNobody m act base new reply
-  pub others : (u : Octets) → owner_of act ≢ Some u → view new u ≡ view old u
-  pub latest : latest_of new ≡ latest_of base
+abbrev pub TurnedFor : Option Octets → ℕ → Act → Tables → Tables → List ℕ → Type 0
+TurnedFor (Some t) m act stamped new reply = Owned t m act stamped new reply
+TurnedFor None m act stamped new reply = IsNobody m act stamped new reply
 
-abbrev pub Turns : HostLimits → Content → ℕ → Tables → Tables → Tables → List ℕ → Type 0
-Turns limits content m base old new reply = (act : Act) × Acted limits content act × Turned act m base old new reply
+-- an act is judged by whose it is
+pub record Turned (act : Act) (m : ℕ) (stamped new : Tables) (reply : List ℕ) : Type 0 where
+  pub judged : TurnedFor (owner_of act) m act stamped new reply
+  pub latest : latest_of new ≡ latest_of stamped
+  pub limits : limits_in new ≡ limits_in stamped
+
+abbrev pub Turns : HostLimits → Content → ℕ → Tables → Tables → List ℕ → Type 0
+Turns limits content m stamped new reply = (act : Act) × Acted limits content act × Turned act m stamped new reply
 
 abbrev pub TurnsRequest : HostLimits → List ℕ → ℕ → Tables → Tables → List ℕ → Type 0
-TurnsRequest limits bytes m old new reply = (answer : Result Taken Refusal) × Reads limits bytes answer × Turned (Asked answer) m old old new reply
+TurnsRequest limits bytes m stamped new reply = (answer : Result Taken Refusal) × Reads limits bytes answer × Turned (Asked answer) m stamped new reply
 
 -- the bytes that an outcome is told in; trouble isn't told
-abbrev pub Tells : {X : Type 0} → (X → Answer) → Act → Result X StepError → List ℕ → Type 0
+abbrev pub Tells : {X : Type 0} → (X → Answer) → Act → Result X (StepError Rejection) → List ℕ → Type 0
 Tells shown act (Ok answer) bytes = bytes ≡ text act (Ok (shown answer))
 Tells shown act (Err (Refused r)) bytes = bytes ≡ text act (Err r)
 Tells shown act (Err (Failed trouble)) bytes = ⊥
 
+-- the line that tells what came of an order
+abbrev pub TellsOrder : {X : Type 0} → Order → Result X (StepError Refusal) → List ℕ → Type 0
+TellsOrder order (Ok x) bytes = bytes ≡ text (Commanded order) (Ok Done)
+TellsOrder order (Err (Refused r)) bytes = bytes ≡ text (Commanded order) (Err (plain r))
+TellsOrder order (Err (Failed trouble)) bytes = ⊥
+
 -- the bytes that tell why others are no request
 abbrev pub TellsUnread : RequestError → List ℕ → Type 0
-TellsUnread (request.Refused r) bytes = bytes ≡ text (Asked (Err r)) (Err r)
+TellsUnread (request.Refused r) bytes = bytes ≡ text (Asked (Err r)) (Err (plain r))
 TellsUnread request.OutOfMemory bytes = ⊥
+
+-- ---- an event
 
 -- the fixed reply to an event that is left out
 abbrev pub fixed : Arrival → List ℕ
@@ -60,14 +77,19 @@ fixed event = if nat_lt last_reading event.reading then clock_text (caller_of ev
 -- a reply that is neither of the fixed ones
 abbrev pub IsToldApart : Arrival → Option ℕ → List ℕ → Type 0
 IsToldApart event None reply = reply ≡ fixed event
-IsToldApart event (Some m) reply = (event.reading ≤ last_reading) × (reply ≢ clock_text (caller_of event.content)) × (reply ≢ wanting_text (caller_of event.content))
+IsToldApart event (Some m) reply = (reply ≢ clock_text (caller_of event.content)) × (reply ≢ wanting_text (caller_of event.content))
 
 -- what an event does: without a stamp nothing, and with one a turn at the greater of the reading and the last stamp
-abbrev pub Applied : HostLimits → Arrival → Tables → Tables → Option ℕ → List ℕ → Type 0
-Applied limits event old new None reply = new ≡ old
-Applied limits event old new (Some m) reply =
-    (m ≡ max event.reading (latest_of old)) × (latest_of new ≡ m) × Turns limits event.content m (with_latest m old) old new reply
+abbrev pub Applied : Arrival → Tables → Tables → Option ℕ → List ℕ → Type 0
+Applied event old new None reply = new ≡ old
+Applied event old new (Some m) reply =
+    (stamp_of event.reading (latest_of old) ≡ Ok m) × (latest_of new ≡ m) × Turns (limits_in old) event.content m (with_latest m old) new reply
+
+-- the same of a storage: with a stamp, it is open before and after; without one, what an open one shows is what it showed
+abbrev pub AppliedTo : {H : Type 0} → (H → Type 0) → (H → Seen) → Arrival → H → H → Option ℕ → List ℕ → Type 0
+AppliedTo IsOpen seen event old new None reply = IsOpen new → IsOpen old × ((seen new).now ≡ (seen old).now)
+AppliedTo IsOpen seen event old new (Some m) reply = IsOpen old × IsOpen new × Applied event (seen old).now (seen new).now (Some m) reply
 
 -- what the event's commit would have given
-abbrev pub WouldApply : HostLimits → Arrival → Tables → Tables → Type 0
-WouldApply limits event old new = (m : ℕ) × (reply : List ℕ) × Applied limits event old new (Some m) reply
+abbrev pub WouldApply : Arrival → Tables → Tables → Type 0
+WouldApply event old new = (m : ℕ) × (reply : List ℕ) × Applied event old new (Some m) reply

@@ -1,33 +1,35 @@
 ghost use Rattle.std.specs.Prelude.{◌≡◌, ◌⊎◌, ◌<◌, ◌≤◌, ℕ, Ok, Err, Some, None, IfOk, IfSome, IfNone, OnOk, OnErr};
 ghost use Rattle.bh_event.specs.Events.{arrival, order_of};
-ghost use Rattle.bh_http.specs.Credentials.{owner};
+ghost use Rattle.bh_http.specs.Credentials.{key_given};
 ghost use Rattle.bh_http.specs.Views.{view as request_view};
-ghost use Rattle.bh_types.specs.AccessKeys as keys;
+ghost use Rattle.bh_machine.specs.Machine.{Asked, Commanded, owner_of as owner_of_act};
+ghost use Rattle.bh_machine.specs.Machine as machine;
 ghost use Rattle.bh_model.specs.Runs.{last_reading};
-ghost use Rattle.bh_storage.specs.Calls.{Within, IsAtRest, IsWorking, IsSettled};
+ghost use Rattle.bh_storage.specs.Calls.{Clean, Within, IsAtRest, IsWorking};
 ghost use Rattle.bh_tables.specs.Typed.{Tables};
+ghost use Rattle.bh_types.specs.AccessKeys as keys;
+ghost use Rattle.bh_types.specs.Rejections.{plain};
 ghost use Rattle.bh_view.specs.View.{latest_of};
-ghost use Rattle.bh_host.specs.Machine.{Asked, Told, owner_of as owner_of_act};
-ghost use Rattle.bh_host.specs.Machine as machine;
 ghost use Rattle.bh_host.specs.Replies.{clock_text, reply_bytes};
 ghost use Rattle.bh_host.specs.Replies as reply;
-ghost use Rattle.bh_host.specs.Turns.{Turns, Turned, TurnsRequest, TellsUnread, IsToldApart, WouldApply, Applied};
+ghost use Rattle.bh_host.specs.Turns.{Turns, Turned, TurnsRequest, TellsUnread, IsToldApart, WouldApply, AppliedTo};
 
 use crate::reply::{
     Caller, Reply, order_text, refusal_line, refused_request_text, request_text, unread_text,
 };
-use crate::serve::{commanded, requested};
+use crate::serve::requested;
 use bh_event::event::{Command, Event};
-use bh_http::credentials::{credentials_of, owner_of};
+use bh_http::credentials::{access_key_of, secret_of};
 use bh_http::read::read_request;
 use bh_http::request::Request;
 use bh_storage::error::Trouble;
 use bh_storage::storage::Storage;
+use bh_types::access_key::AccessKeyId;
 use bh_types::error::RequestError;
-use bh_types::limits::Limits;
 use bh_types::moment::Moment;
 use bh_types::names::TenantName;
 use bh_types::refusal::Refusal;
+use bh_types::rejection::Rejection;
 use std::alloc::{AllocError, Global};
 
 /// The greatest reading of the clock that is served, in seconds since 1970.
@@ -40,31 +42,33 @@ pub struct Done {
     pub reply: Reply,
 }
 
-/// A request of a tenant.
+/// A request of the tenant of this access key.
 fn serve_tenant<H: Storage>(
     alloc: Global,
     host: &mut H,
-    tenant: &TenantName,
+    key: &AccessKeyId,
     request: &Request,
     at: Moment,
 ) -> Result<Vec<u8>, Trouble>
-    requires named { owner (request_view request.now) ≡ Some tenant.now }
-    requires working { H.IsClean host.old → IsWorking (H.seen host.old) }
-    requires early { H.IsClean host.old → at ≤ latest_of (H.seen host.old).now }
-    ensures working { OnOk result (H.IsClean host.new → IsWorking (H.seen host.new)) }
-    ensures within { Within H.IsClean H.seen H.left host.old host.new }
-    ensures turned { IfOk result (λ bytes. H.IsClean host.new → Turned (Asked (Ok (request_view request.now))) at (H.seen host.old).now (H.seen host.old).now (H.seen host.new).now bytes.items) }
+    requires keyed { key_given (request_view request.now) ≡ Some key.now }
+    requires working { Clean H.IsIntact H.IsOpen host.old → IsWorking (H.seen host.old) }
+    requires early { Clean H.IsIntact H.IsOpen host.old → at ≤ latest_of (H.seen host.old).now }
+    ensures within { Within H.IsIntact H.IsOpen H.seen H.left host.old host.new }
+    ensures opens { OnOk result (H.IsOpen host.old → H.IsIntact host.new → H.IsOpen host.new) }
+    ensures working { OnOk result (Clean H.IsIntact H.IsOpen host.new → IsWorking (H.seen host.new)) }
+    ensures turned { IfOk result (λ bytes. Clean H.IsIntact H.IsOpen host.new
+        → Turned (Asked (Ok (request_view request.now))) at (H.seen host.old).now (H.seen host.new).now bytes.items) }
 {
-    host.purge(tenant, at)?;
-    let outcome = requested(alloc, host, tenant, at, request);
+    host.purge(&key.tenant, at)?;
+    let outcome = requested(alloc, host, key, at, request);
     request_text(alloc, request, outcome)
 }
 
 /// Why a request that belongs to nobody is refused.
 fn stranger_refusal(request: &Request) -> Refusal
-    ensures { (at : ℕ) → machine.requested at (request_view request.now) None ≡ Err result }
+    ensures { (at : ℕ) → machine.requested at (request_view request.now) None ≡ Err (plain result) }
 {
-    match credentials_of(request) {
+    match secret_of(request) {
         Ok(_) => Refusal::InvalidAccessKeyId,
         Err(refusal) => refusal,
     }
@@ -80,35 +84,54 @@ fn serve_unread(alloc: Global, error: RequestError) -> Result<Vec<u8>, Trouble>
     }
 }
 
+/// A request that was read.
+fn serve_read<H: Storage>(
+    alloc: Global,
+    host: &mut H,
+    request: &Request,
+    at: Moment,
+) -> Result<Vec<u8>, Trouble>
+    requires working { Clean H.IsIntact H.IsOpen host.old → IsWorking (H.seen host.old) }
+    requires early { Clean H.IsIntact H.IsOpen host.old → at ≤ latest_of (H.seen host.old).now }
+    ensures within { Within H.IsIntact H.IsOpen H.seen H.left host.old host.new }
+    ensures opens { OnOk result (H.IsOpen host.old → H.IsIntact host.new → H.IsOpen host.new) }
+    ensures working { OnOk result (Clean H.IsIntact H.IsOpen host.new → IsWorking (H.seen host.new)) }
+    ensures turned { IfOk result (λ bytes. Clean H.IsIntact H.IsOpen host.new
+        → Turned (Asked (Ok (request_view request.now))) at (H.seen host.old).now (H.seen host.new).now bytes.items) }
+{
+    match access_key_of(alloc, request)? {
+        Some(key) => serve_tenant(alloc, host, &key, request, at),
+        None => {
+            let rejection = Rejection::from(stranger_refusal(request));
+            Ok(refused_request_text(alloc, request, rejection)?)
+        }
+    }
+}
+
 /// A request, as its bytes are read.
 fn serve_request<H: Storage>(
     alloc: Global,
-    limits: &Limits,
     host: &mut H,
     bytes: &[u8],
     at: Moment,
 ) -> Result<Vec<u8>, Trouble>
-    requires working { H.IsClean host.old → IsWorking (H.seen host.old) }
-    requires early { H.IsClean host.old → at ≤ latest_of (H.seen host.old).now }
-    ensures working { OnOk result (H.IsClean host.new → IsWorking (H.seen host.new)) }
-    ensures within { Within H.IsClean H.seen H.left host.old host.new }
-    ensures turned { IfOk result (λ text. H.IsClean host.new → TurnsRequest limits.now bytes.now at (H.seen host.old).now (H.seen host.new).now text.items) }
+    requires working { Clean H.IsIntact H.IsOpen host.old → IsWorking (H.seen host.old) }
+    requires early { Clean H.IsIntact H.IsOpen host.old → at ≤ latest_of (H.seen host.old).now }
+    ensures within { Within H.IsIntact H.IsOpen H.seen H.left host.old host.new }
+    ensures opens { OnOk result (H.IsOpen host.old → H.IsIntact host.new → H.IsOpen host.new) }
+    ensures working { OnOk result (Clean H.IsIntact H.IsOpen host.new → IsWorking (H.seen host.new)) }
+    ensures turned { IfOk result (λ text. Clean H.IsIntact H.IsOpen host.new
+        → TurnsRequest (H.seen host.old).limits bytes.now at (H.seen host.old).now (H.seen host.new).now text.items) }
 {
-    match read_request(alloc, bytes, limits) {
-        Ok(request) => match owner_of(alloc, &request)? {
-            Some(tenant) => serve_tenant(alloc, host, &tenant, &request, at),
-            None => {
-                let refusal = stranger_refusal(&request);
-                Ok(refused_request_text(alloc, &request, refusal)?)
-            }
-        },
+    match read_request(alloc, bytes, &host.limits()) {
+        Ok(request) => serve_read(alloc, host, &request, at),
         Err(error) => serve_unread(alloc, error),
     }
 }
 
 /// The tenant that a command names, if it is a tenant's name.
 fn owner_of_command(alloc: Global, command: &Command) -> Result<Option<TenantName>, AllocError>
-    ensures { IfOk result (λ owner. owner ≡ owner_of_act (Told (order_of command.now))) }
+    ensures { IfOk result (λ owner. owner ≡ owner_of_act (Commanded (order_of command.now))) }
 {
     match command {
         Command::TenantAdd { tenant, .. } => tenant_named(alloc, tenant.as_str()),
@@ -131,14 +154,16 @@ fn serve_named_command<H: Storage>(
     command: &Command,
     at: Moment,
 ) -> Result<Vec<u8>, Trouble>
-    requires named { owner_of_act (Told (order_of command.now)) ≡ Some tenant.now }
-    requires working { H.IsClean host.old → IsWorking (H.seen host.old) }
-    ensures working { OnOk result (H.IsClean host.new → IsWorking (H.seen host.new)) }
-    ensures within { Within H.IsClean H.seen H.left host.old host.new }
-    ensures turned { IfOk result (λ bytes. H.IsClean host.new → Turned (Told (order_of command.now)) at (H.seen host.old).now (H.seen host.old).now (H.seen host.new).now bytes.items) }
+    requires named { owner_of_act (Commanded (order_of command.now)) ≡ Some tenant.now }
+    requires working { Clean H.IsIntact H.IsOpen host.old → IsWorking (H.seen host.old) }
+    ensures within { Within H.IsIntact H.IsOpen H.seen H.left host.old host.new }
+    ensures opens { OnOk result (H.IsOpen host.old → H.IsIntact host.new → H.IsOpen host.new) }
+    ensures working { OnOk result (Clean H.IsIntact H.IsOpen host.new → IsWorking (H.seen host.new)) }
+    ensures turned { IfOk result (λ bytes. Clean H.IsIntact H.IsOpen host.new
+        → Turned (Commanded (order_of command.now)) at (H.seen host.old).now (H.seen host.new).now bytes.items) }
 {
     host.purge(tenant, at)?;
-    let outcome = commanded(alloc, host, tenant, command);
+    let outcome = host.command(alloc, command);
     order_text(alloc, command, outcome)
 }
 
@@ -149,10 +174,12 @@ fn serve_command<H: Storage>(
     command: &Command,
     at: Moment,
 ) -> Result<Vec<u8>, Trouble>
-    requires working { H.IsClean host.old → IsWorking (H.seen host.old) }
-    ensures working { OnOk result (H.IsClean host.new → IsWorking (H.seen host.new)) }
-    ensures within { Within H.IsClean H.seen H.left host.old host.new }
-    ensures turned { IfOk result (λ bytes. H.IsClean host.new → Turned (Told (order_of command.now)) at (H.seen host.old).now (H.seen host.old).now (H.seen host.new).now bytes.items) }
+    requires working { Clean H.IsIntact H.IsOpen host.old → IsWorking (H.seen host.old) }
+    ensures within { Within H.IsIntact H.IsOpen H.seen H.left host.old host.new }
+    ensures opens { OnOk result (H.IsOpen host.old → H.IsIntact host.new → H.IsOpen host.new) }
+    ensures working { OnOk result (Clean H.IsIntact H.IsOpen host.new → IsWorking (H.seen host.new)) }
+    ensures turned { IfOk result (λ bytes. Clean H.IsIntact H.IsOpen host.new
+        → Turned (Commanded (order_of command.now)) at (H.seen host.old).now (H.seen host.new).now bytes.items) }
 {
     match owner_of_command(alloc, command)? {
         Some(tenant) => serve_named_command(alloc, host, &tenant, command, at),
@@ -163,19 +190,20 @@ fn serve_command<H: Storage>(
 /// What an event is answered, at its stamp.
 fn serve<H: Storage>(
     alloc: Global,
-    limits: &Limits,
     host: &mut H,
     event: &Event,
     at: Moment,
 ) -> Result<Vec<u8>, Trouble>
-    requires working { H.IsClean host.old → IsWorking (H.seen host.old) }
-    requires early { H.IsClean host.old → at ≤ latest_of (H.seen host.old).now }
-    ensures working { OnOk result (H.IsClean host.new → IsWorking (H.seen host.new)) }
-    ensures within { Within H.IsClean H.seen H.left host.old host.new }
-    ensures turned { IfOk result (λ bytes. H.IsClean host.new → Turns limits.now (arrival event.now).content at (H.seen host.old).now (H.seen host.old).now (H.seen host.new).now bytes.items) }
+    requires working { Clean H.IsIntact H.IsOpen host.old → IsWorking (H.seen host.old) }
+    requires early { Clean H.IsIntact H.IsOpen host.old → at ≤ latest_of (H.seen host.old).now }
+    ensures within { Within H.IsIntact H.IsOpen H.seen H.left host.old host.new }
+    ensures opens { OnOk result (H.IsOpen host.old → H.IsIntact host.new → H.IsOpen host.new) }
+    ensures working { OnOk result (Clean H.IsIntact H.IsOpen host.new → IsWorking (H.seen host.new)) }
+    ensures turned { IfOk result (λ bytes. Clean H.IsIntact H.IsOpen host.new
+        → Turns (H.seen host.old).limits (arrival event.now).content at (H.seen host.old).now (H.seen host.new).now bytes.items) }
 {
     match event {
-        Event::Http { bytes, .. } => serve_request(alloc, limits, host, bytes, at),
+        Event::Http { bytes, .. } => serve_request(alloc, host, bytes, at),
         Event::Operator { command, .. } => serve_command(alloc, host, command, at),
     }
 }
@@ -183,22 +211,25 @@ fn serve<H: Storage>(
 /// A transaction with one event: its stamp and its reply. After trouble it may be open still.
 fn try_apply<H: Storage>(
     alloc: Global,
-    limits: &Limits,
     host: &mut H,
     event: &Event,
 ) -> Result<(Moment, Vec<u8>), Trouble>
     requires in_range { (arrival event.now).reading ≤ last_reading }
-    requires rest { H.IsClean host.old → IsAtRest (H.seen host.old) }
-    ensures clean { H.IsClean host.new → H.IsClean host.old }
-    ensures ready { OnOk result (H.IsClean host.new → IsAtRest (H.seen host.new)) }
-    ensures applied { IfOk result (λ done. H.IsClean host.new → Applied limits.now (arrival event.now) (H.seen host.old).now (H.seen host.new).now (Some done.0) done.1.items) }
-    ensures survives { OnOk result (H.IsClean host.new → (x : Tables) → H.left host.new x → x ≡ (H.seen host.new).now) }
-    ensures crash { OnErr result (H.IsClean host.new → (x : Tables) → H.left host.new x → H.left host.old x ⊎ WouldApply limits.now (arrival event.now) (H.seen host.old).now x) }
-    ensures kept { OnErr result (H.IsClean host.new → ((H.seen host.new).kept ≡ (H.seen host.old).kept) × IsSettled (H.seen host.new)) }
+    requires rest { Clean H.IsIntact H.IsOpen host.old → IsAtRest (H.seen host.old) }
+    ensures intact { H.IsIntact host.new → H.IsIntact host.old }
+    ensures opened { H.IsIntact host.new → H.IsOpen host.new → H.IsOpen host.old }
+    ensures limits { (H.seen host.new).limits ≡ (H.seen host.old).limits }
+    ensures ready { OnOk result (Clean H.IsIntact H.IsOpen host.new → IsAtRest (H.seen host.new)) }
+    ensures applied { IfOk result (λ done. H.IsIntact host.new
+        → AppliedTo H.IsOpen H.seen (arrival event.now) host.old host.new (Some done.0) done.1.items) }
+    ensures survives { OnOk result (H.IsIntact host.new → (x : Tables) → H.left host.new x → x ≡ (H.seen host.new).now) }
+    ensures crash { OnErr result (H.IsIntact host.new → (x : Tables) → H.left host.new x
+        → H.left host.old x ⊎ (H.IsOpen host.old × WouldApply (arrival event.now) (H.seen host.old).now x)) }
+    ensures kept { OnErr result (Clean H.IsIntact H.IsOpen host.new → (H.seen host.new).kept ≡ (H.seen host.old).kept) }
 {
     host.begin()?;
     let stamp = host.stamp(event.reading())?;
-    let bytes = serve(alloc, limits, host, event, stamp)?;
+    let bytes = serve(alloc, host, event, stamp)?;
     host.commit()?;
     Ok((stamp, bytes))
 }
@@ -213,21 +244,31 @@ fn caller_of(event: &Event) -> Caller
     }
 }
 
-/// Applies one event in one transaction, and says what is answered.
+/// Applies one event in one transaction, and says what is answered. Requests are read by the host's limits.
 ///
-/// A reading above 250,000,000,000 seconds is answered ClockOutOfRange, which takes no memory. Where memory or the
-/// store is wanting, the answer is ServiceUnavailable to a request and Unavailable to an operator. In these cases
-/// there is no stamp, and all tables are as they were. Otherwise the event counts at its stamp, the greater of its
-/// reading and the last stamp, and its tenant is answered as its private machine answers.
-pub fn apply<H: Storage>(alloc: Global, limits: &Limits, host: &mut H, event: &Event) -> Done
-    requires { H.IsClean host.old → IsAtRest (H.seen host.old) }
-    ensures clean { H.IsClean host.new → H.IsClean host.old }
-    ensures ready { H.IsClean host.new → IsAtRest (H.seen host.new) }
-    ensures applied { H.IsClean host.new → Applied limits.now (arrival event.now) (H.seen host.old).now (H.seen host.new).now result.stamp (reply_bytes result.reply) }
-    ensures acknowledged { IfSome result.stamp (λ _. H.IsClean host.new → (x : Tables) → H.left host.new x → x ≡ (H.seen host.new).now) }
-    ensures crash { IfNone result.stamp (H.IsClean host.new → (x : Tables) → H.left host.new x → H.left host.old x ⊎ WouldApply limits.now (arrival event.now) (H.seen host.old).now x) }
-    ensures clock { last_reading < (arrival event.now).reading → (result.stamp ≡ None) × (reply_bytes result.reply ≡ clock_text (reply.caller_of (arrival event.now).content)) }
-    ensures told_apart { H.IsClean host.new → IsToldApart (arrival event.now) result.stamp (reply_bytes result.reply) }
+/// A reading above 250,000,000,000 seconds is answered ClockOutOfRange, which takes no memory and leaves the host as
+/// it was. Where memory or the store is wanting, the answer is ServiceUnavailable to a request and Unavailable to an
+/// operator. In these cases there is no stamp, and all tables are as they were. Otherwise the event counts at its
+/// stamp, the greater of its reading and the last stamp, and its tenant is answered as its private machine answers.
+///
+/// All that is said of replies and of a crash holds also where the store reports faults; what is said of the tables
+/// holds while no fault has shut it.
+pub fn apply<H: Storage>(alloc: Global, host: &mut H, event: &Event) -> Done
+    requires { Clean H.IsIntact H.IsOpen host.old → IsAtRest (H.seen host.old) }
+    ensures intact { H.IsIntact host.new → H.IsIntact host.old }
+    ensures opened { H.IsIntact host.new → H.IsOpen host.new → H.IsOpen host.old }
+    ensures ready { Clean H.IsIntact H.IsOpen host.new → IsAtRest (H.seen host.new) }
+    ensures limits { (H.seen host.new).limits ≡ (H.seen host.old).limits }
+    ensures applied { H.IsIntact host.new
+        → AppliedTo H.IsOpen H.seen (arrival event.now) host.old host.new result.stamp (reply_bytes result.reply) }
+    ensures told_apart { H.IsIntact host.new → IsToldApart (arrival event.now) result.stamp (reply_bytes result.reply) }
+    ensures acknowledged { IfSome result.stamp (λ _. H.IsIntact host.new
+        → (x : Tables) → H.left host.new x → x ≡ (H.seen host.new).now) }
+    ensures crash { IfNone result.stamp (H.IsIntact host.new → (x : Tables) → H.left host.new x
+        → H.left host.old x ⊎ (H.IsOpen host.old × WouldApply (arrival event.now) (H.seen host.old).now x)) }
+    ensures clock { last_reading < (arrival event.now).reading
+        → (result.stamp ≡ None) × (reply_bytes result.reply ≡ clock_text (reply.caller_of (arrival event.now).content))
+        × (host.new ≡ host.old) }
 {
     if event.reading() > LAST_READING {
         return Done {
@@ -235,7 +276,7 @@ pub fn apply<H: Storage>(alloc: Global, limits: &Limits, host: &mut H, event: &E
             reply: Reply::ClockOutOfRange(caller_of(event)),
         };
     }
-    match try_apply(alloc, limits, host, event) {
+    match try_apply(alloc, host, event) {
         Ok((stamp, bytes)) => Done {
             stamp: Some(stamp),
             reply: Reply::Text(bytes),

@@ -1,6 +1,11 @@
 //! What follows for those who are served.
 
-ghost use Rattle.bh_host.specs.Runs.{AnswersAlike, HasOneTelling, GoesOn};
+ghost use Rattle.bh_host.specs.Runs.{EachIsAlone, AnswersAlike, HasOneTelling, GoesOn};
+
+/// Whatever was run, each tenant was answered as a machine that it has to itself answers it.
+pub fn each_is_alone()
+    ensures { EachIsAlone }
+{}
 
 /// Two hosts that agree on a tenant's state at the start and on its own acts with their stamps answer it alike,
 /// whatever else came to either of them.

@@ -3,25 +3,26 @@ ghost use Rattle.bh_event.specs.Events.{order_of};
 ghost use Rattle.bh_http.specs.Answers.{response_view};
 ghost use Rattle.bh_http.specs.Responses.{response_text, refusal_text};
 ghost use Rattle.bh_http.specs.Views.{view as request_view};
-ghost use Rattle.bh_model.specs.Operations.{Done};
+ghost use Rattle.bh_machine.specs.Machine.{Asked};
+ghost use Rattle.bh_storage.specs.Answers.{answer_view};
+ghost use Rattle.bh_types.specs.Rejections.{plain};
 ghost use Rattle.std.specs.String.{string_bytes};
-ghost use Rattle.bh_host.specs.Answers.{answer_view};
-ghost use Rattle.bh_host.specs.Machine.{Asked, Told};
 ghost use Rattle.bh_host.specs.Replies as spec;
-ghost use Rattle.bh_host.specs.Turns.{Tells};
+ghost use Rattle.bh_host.specs.Turns.{Tells, TellsOrder};
 
-use crate::answer::Answer;
 use bh_docs::reply::error_document;
 use bh_event::event::Command;
 use bh_http::encode::response_bytes;
 use bh_http::fixed::{clock_out_of_range, service_unavailable};
 use bh_http::request::Request;
 use bh_http::response::Response;
-use bh_http::values::{Allow, ContentType};
+use bh_http::values::{Allow, ContentRange, ContentType};
 use bh_operation::allow::allow_of;
 use bh_operation::path_of;
+use bh_storage::answer::Answer;
 use bh_storage::error::{StepError, Trouble};
 use bh_types::refusal::Refusal;
+use bh_types::rejection::{Detail, Rejection};
 use http::StatusCode;
 use std::alloc::{AllocError, Global};
 
@@ -79,13 +80,15 @@ fn wanting_bytes(caller: Caller) -> &'static [u8]
 pub fn request_text(
     alloc: Global,
     request: &Request,
-    outcome: Result<Answer, StepError>,
+    outcome: Result<Answer, StepError<Rejection>>,
 ) -> Result<Vec<u8>, Trouble>
     ensures { IfOk result (λ bytes. Tells answer_view (Asked (Ok (request_view request.now))) outcome bytes.items) }
 {
     match outcome {
         Ok(answer) => Ok(answer_text(alloc, request, answer)?),
-        Err(StepError::Refused(refusal)) => Ok(refused_request_text(alloc, request, refusal)?),
+        Err(StepError::Refused(rejection)) => {
+            Ok(refused_request_text(alloc, request, rejection)?)
+        }
         Err(StepError::Failed(trouble)) => Err(trouble),
     }
 }
@@ -95,11 +98,11 @@ pub fn request_text(
 pub fn refused_request_text(
     alloc: Global,
     request: &Request,
-    refusal: Refusal,
+    rejection: Rejection,
 ) -> Result<Vec<u8>, AllocError>
-    ensures { IfOk result (λ bytes. bytes.items ≡ spec.text (Asked (Ok (request_view request.now))) (Err refusal)) }
+    ensures { IfOk result (λ bytes. bytes.items ≡ spec.text (Asked (Ok (request_view request.now))) (Err rejection)) }
 {
-    let response = refusal_to(alloc, request.target.as_slice(), refusal)?;
+    let response = refusal_to(alloc, request.target.as_slice(), rejection)?;
     sent_text(alloc, request.method.as_str(), response)
 }
 
@@ -156,32 +159,56 @@ fn response_to(alloc: Global, answer: Answer) -> Response
 }
 
 /// The response that refuses a request with this target.
-fn refusal_to(alloc: Global, target: &[u8], refusal: Refusal) -> Result<Response, AllocError>
-    ensures { IfOk result (λ response. response_view response ≡ spec.refusal_to target.now refusal) }
+fn refusal_to(alloc: Global, target: &[u8], rejection: Rejection) -> Result<Response, AllocError>
+    ensures { IfOk result (λ response. response_view response ≡ spec.refusal_to target.now rejection) }
 {
     let path = String::from_utf8_lossy(alloc, path_of(target))?;
-    let document = error_document(alloc, refusal.code(), path.as_str())?;
-    let mut response = Response::refused(alloc, refusal, document.into_bytes());
-    response.allow = allow_for(alloc, target, refusal)?;
+    let document = error_document(alloc, rejection.refusal.code(), path.as_str())?;
+    let mut response = Response::refused(alloc, rejection.refusal, document.into_bytes());
+    response.content_range = range_told(rejection.detail);
+    response.allow = allow_told(alloc, target, rejection)?;
+    response.delete_marker = marker_told(rejection.detail);
     Ok(response)
 }
 
 /// The methods to tell of with a refusal of this target.
-fn allow_for(alloc: Global, target: &[u8], refusal: Refusal) -> Result<Option<Allow>, AllocError>
-    ensures { IfOk result (λ allow. allow ≡ spec.allow_for target.now refusal) }
+fn allow_told(
+    alloc: Global,
+    target: &[u8],
+    rejection: Rejection,
+) -> Result<Option<Allow>, AllocError>
+    ensures { IfOk result (λ allow. allow ≡ spec.allow_told target.now rejection.refusal rejection.detail) }
 {
-    match refusal {
-        Refusal::MethodNotAllowed => allow_of(alloc, target),
+    match (rejection.refusal, rejection.detail) {
+        (_, Detail::NamedMarker) => Ok(Some(Allow::Marker)),
+        (Refusal::MethodNotAllowed, _) => allow_of(alloc, target),
         _ => Ok(None),
+    }
+}
+
+/// Whether a delete marker was met.
+fn marker_told(detail: Detail) -> bool
+    ensures { result ≡ spec.marker_told detail }
+{
+    matches!(detail, Detail::CurrentMarker | Detail::NamedMarker)
+}
+
+/// The size of an object of which no byte was asked for.
+fn range_told(detail: Detail) -> Option<ContentRange>
+    ensures { result ≡ spec.range_told detail }
+{
+    match detail {
+        Detail::ObjectSize(size) => Some(ContentRange::Unsatisfied { size }),
+        _ => None,
     }
 }
 
 /// The response that refuses bytes that are no request.
 #[tactic(auto, unfolding(crate::specs::Replies::text))]
 pub fn unread_text(alloc: Global, refusal: Refusal) -> Result<Vec<u8>, AllocError>
-    ensures { IfOk result (λ bytes. bytes.items ≡ spec.text (Asked (Err refusal)) (Err refusal)) }
+    ensures { IfOk result (λ bytes. bytes.items ≡ spec.text (Asked (Err refusal)) (Err (plain refusal))) }
 {
-    let response = refusal_to(alloc, b"", refusal)?;
+    let response = refusal_to(alloc, b"", Rejection::from(refusal))?;
     response_bytes(alloc, &response)
 }
 
@@ -190,9 +217,9 @@ pub fn unread_text(alloc: Global, refusal: Refusal) -> Result<Vec<u8>, AllocErro
 pub fn order_text(
     alloc: Global,
     command: &Command,
-    outcome: Result<(), StepError>,
+    outcome: Result<(), StepError<Refusal>>,
 ) -> Result<Vec<u8>, Trouble>
-    ensures { IfOk result (λ bytes. Tells (λ _. Done) (Told (order_of command.now)) outcome bytes.items) }
+    ensures { IfOk result (λ bytes. TellsOrder (order_of command.now) outcome bytes.items) }
 {
     match outcome {
         Ok(()) => Ok(line_of(alloc, command)?.into_bytes()),

@@ -1,3 +1,3 @@
-pub mod Ascii
 pub mod Digits
 pub mod Readings
+pub mod Refused

@@ -4,6 +4,7 @@ pub mod Fields
 pub mod HeadSpans
 pub mod Lines
 pub mod Reading
+pub mod Refused
 pub mod Responses
 pub mod Values
 pub mod Views

@@ -8,6 +8,7 @@ pub mod fields;
 pub mod fixed;
 mod framing;
 mod head;
+pub mod laws;
 pub mod read;
 pub mod request;
 pub mod response;

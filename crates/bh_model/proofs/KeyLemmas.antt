@@ -1,5 +1,5 @@
 -- The ids of access keys, and what they open.
-use Rattle.std.proofs.Common.{◌≡◌, ◌≢◌, ℕ, suc, ◌+◌, nat_lt, Bool, true, false, true≢false, not, ◌&&◌, cond, List, [], ◌∷◌, ◌++◌, length, take, drop, position, Option, Some, None, option_and_then, refl, sym, ap, ap₂, ok_or, is_eq, ◌∙◌, arith, bytes_eq, Result, Ok, Err, is_none, is_some, eqb→eq, length-append, lt-ltb}
+use Rattle.std.proofs.Common.{◌≡◌, ◌≢◌, ℕ, suc, ◌+◌, nat_lt, Bool, true, false, true≢false, not, ◌&&◌, cond, List, [], ◌∷◌, ◌++◌, length, take, drop, position, Option, Some, None, option_and_then, option_map, refl, sym, ap, ap₂, ok_or, is_eq, ◌∙◌, arith, bytes_eq, Result, Ok, Err, is_none, is_some, eqb→eq, length-append, lt-ltb}
 use Rattle.std.proofs.Math.Seq.{take-append_seam}
 use Rattle.std.proofs.lemmas.Slice.Eq.{bytes_eq-Decides}
 use Rattle.std.specs.Bool.{passes}
@@ -13,9 +13,9 @@ use Rattle.bh_types.specs.declared.refusal.Refusal.{Refusal}
 use Rattle.bh_types.specs.declared.refusal.Refusal.TheVariants.{AccessDenied, InvalidAccessKeyId, InvalidName, KeyExists, NoSuchKeyName}
 use Rattle.bh_types.specs.Outcomes.{◌>>=◌, require}
 use Rattle.bh_model.specs.State.{Octets, octets_cmp, State}
-use Rattle.bh_types.specs.AccessKeys.{is_dollar, tenant_named, tenant_of_key}
-use Rattle.bh_model.specs.Credentials.{key_name, key_name_of, secret_of, authenticate}
-use Rattle.bh_model.specs.Laws.{key_id, AddedKeyOpens, RemovedKeyIsUnknown}
+use Rattle.bh_types.specs.AccessKeys.{is_dollar, access_key, access_key_of}
+use Rattle.bh_model.specs.Credentials.{authenticate}
+use Rattle.bh_model.specs.Laws.{key_id, key_named, AddedKeyOpens, RemovedKeyIsUnknown}
 
 first : (a b : Bool) → a && b ≡ true → a ≡ true
 first true b h = refl
@@ -49,17 +49,12 @@ drop_past : (xs : List ℕ) (y : ℕ) (ys : List ℕ) → drop (length xs + 1) (
 drop_past [] y ys = refl
 drop_past (x ∷ xs) y ys = ap (λ n. drop n (x ∷ xs ++ y ∷ ys)) (let e : length (x ∷ xs) + 1 ≡ suc (length xs + 1) = omega arith in e) ∙ drop_past xs y ys
 
-module _ (tenant name : List ℕ) (is_tenant : is_tenant_name tenant ≡ true) where
-  owner-key_id : tenant_of_key (key_id tenant name) ≡ Some tenant
-  owner-key_id =
-      ap (option_and_then (λ i. tenant_named (take i (key_id tenant name)))) (dollar_at tenant name (second _ _ is_tenant))
-      ∙ ap tenant_named (take-append_seam tenant (36 ∷ name)) ∙ ap (λ t. cond t (Some tenant) None) is_tenant
-
-  key_name-key_id : is_key_name name ≡ true → key_name_of (key_id tenant name) ≡ Some name
-  key_name-key_id is_key =
-      ap (option_and_then (λ i. key_name (take i (key_id tenant name)) (drop (i + 1) (key_id tenant name)))) (dollar_at tenant name (second _ _ is_tenant))
-      ∙ ap₂ key_name (take-append_seam tenant (36 ∷ name)) (drop_past tenant 36 name)
-      ∙ ap₂ (λ t k. cond (t && k) (Some name) None) is_tenant is_key
+-- the id of a key with these names is read as that key
+read_back : (tenant name : List ℕ) → is_tenant_name tenant ≡ true → is_key_name name ≡ true → access_key (key_id tenant name) ≡ Some (key_named tenant name)
+read_back tenant name is_tenant is_key =
+    ap (option_and_then (λ i. access_key_of (take i (key_id tenant name)) (drop (i + 1) (key_id tenant name)))) (dollar_at tenant name (second _ _ is_tenant))
+    ∙ ap₂ access_key_of (take-append_seam tenant (36 ∷ name)) (drop_past tenant 36 name)
+    ∙ ap₂ (λ t k. option_map (λ (o : Octets). record { tenant = o; name = cond k (Some name) None }) (cond t (Some tenant) None)) is_tenant is_key
 
 -- at the key that was inserted, and at the one that was removed
 pub get-inserted : {X : Type 0} (m : FinMap octets_cmp X) (k : Octets) (v : X) → get (insert m k v) k ≡ Some v
@@ -73,10 +68,6 @@ opens : Octets → Option Octets → Result (Unit {0}) Refusal
 opens secret known = do
   k ← ok_or known InvalidAccessKeyId
   require (bytes_eq secret k) AccessDenied
-
-known_name : (id name secret : Octets) (s : State) → key_name_of id ≡ Some name → authenticate id secret (Some s) ≡ opens secret (get s.keys name)
-unfolding opens
-known_name id name secret s e = ap (λ o. ok_or o InvalidAccessKeyId >>= (λ name. ok_or (secret_of name (Some s)) InvalidAccessKeyId >>= (λ known. require (bytes_eq secret known) AccessDenied))) e
 
 opens_itself : (secret : Octets) → opens secret (Some secret) ≡ Ok tt
 unfolding opens
@@ -95,14 +86,17 @@ tested true a e f P h = h refl
 tested false a e f P h = tt
 
 pub added_key_opens : AddedKeyOpens
+unfolding opens
 added_key_opens tenant name secret None = tested (is_tenant_name tenant && is_key_name name && is_secret secret) tt InvalidName _ _ (λ _. tt)
 added_key_opens tenant name secret (Some t) =
     tested (is_tenant_name tenant && is_key_name name && is_secret secret) tt InvalidName _ _ (λ names.
     tested (is_none (get t.keys name)) tt KeyExists _ _ (λ _.
-    let is_tenant : is_tenant_name tenant ≡ true = first _ _ (first _ _ names) in
-    let at : (other : Octets) → authenticate (key_id tenant name) other (Some (record t { keys = insert t.keys name secret })) ≡ opens other (Some secret)
-    = λ other. known_name (key_id tenant name) name other (record t { keys = insert t.keys name secret }) (key_name-key_id tenant name is_tenant (second _ _ (first _ _ names))) ∙ ap (opens other) (get-inserted t.keys name secret) in
-    (owner-key_id tenant name is_tenant, at secret ∙ opens_itself secret, λ other apart. at other ∙ opens_other secret other apart)))
+    let at : (other : Octets) → authenticate (key_named tenant name) other (Some (record t { keys = insert t.keys name secret })) ≡ opens other (Some secret)
+    = λ other. ap (opens other) (get-inserted t.keys name secret) in (
+      read_back tenant name (first _ _ (first _ _ names)) (second _ _ (first _ _ names)),
+      at secret ∙ opens_itself secret,
+      λ other apart. at other ∙ opens_other secret other apart,
+    )))
 
 pub removed_key_is_unknown : RemovedKeyIsUnknown
 unfolding opens
@@ -110,4 +104,4 @@ removed_key_is_unknown tenant name secret None = tested (is_tenant_name tenant &
 removed_key_is_unknown tenant name secret (Some t) =
     tested (is_tenant_name tenant && is_key_name name) tt InvalidName _ _ (λ names.
     tested (is_some (get t.keys name)) tt NoSuchKeyName _ _ (λ _.
-    known_name (key_id tenant name) name secret (record t { keys = remove t.keys name }) (key_name-key_id tenant name (first _ _ names) (second _ _ names)) ∙ ap (opens secret) (get-removed t.keys name)))
+    ap (opens secret) (get-removed t.keys name)))

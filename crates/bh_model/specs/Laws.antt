@@ -12,7 +12,8 @@ use Rattle.bh_model.specs.State.{Octets, Content.Body, Entry, State, purged}
 use Rattle.bh_model.specs.Counting.{counts, AtMost}
 use Rattle.bh_model.specs.Entries.{Version, has_id, is_version, without, new_id, added, deleted, lookup, not_found}
 use Rattle.bh_types.specs.Checksums.{checksum_text}
-use Rattle.bh_types.specs.AccessKeys.{tenant_of_key}
+use Rattle.bh_types.specs.AccessKeys.{access_key}
+use Rattle.bh_types.specs.declared.access_key.AccessKeyId.{AccessKeyId}
 use Rattle.bh_model.specs.Credentials.{authenticate}
 use Rattle.bh_model.specs.Operations.{Answer.Stored, Answer.Object, add_tenant, add_key, remove_key, create_bucket, put_object, get_object}
 use Rattle.bh_model.specs.Runs.{solo, solo_state, step, Follows}
@@ -56,18 +57,21 @@ PutIsRead = (moment : ℕ) (name key bytes : Octets) (given : Option Octets) (s 
 abbrev pub key_id : Octets → Octets → Octets
 key_id tenant name = tenant ++ 36 ∷ name
 
--- a key that was added is its tenant's, and opens with its secret and no other
+abbrev pub key_named : Octets → Octets → AccessKeyId
+key_named tenant name = record { tenant = tenant; name = Some name }
+
+-- the id of a key that was added is read as that key, and it opens with its secret and no other
 abbrev pub AddedKeyOpens : Type 0
 AddedKeyOpens = (tenant name secret : Octets) (s : Option State)
     → IfOk (add_key tenant name secret s) (λ added.
-    (tenant_of_key (key_id tenant name) ≡ Some tenant)
-    × (authenticate (key_id tenant name) secret added.1 ≡ Ok tt)
-    × ((other : Octets) → other ≢ secret → authenticate (key_id tenant name) other added.1 ≡ Err AccessDenied))
+    (access_key (key_id tenant name) ≡ Some (key_named tenant name))
+    × (authenticate (key_named tenant name) secret added.1 ≡ Ok tt)
+    × ((other : Octets) → other ≢ secret → authenticate (key_named tenant name) other added.1 ≡ Err AccessDenied))
 
 -- a key that was removed is unknown
 abbrev pub RemovedKeyIsUnknown : Type 0
 RemovedKeyIsUnknown = (tenant name secret : Octets) (s : Option State)
-    → IfOk (remove_key tenant name s) (λ removed. authenticate (key_id tenant name) secret removed.1 ≡ Err InvalidAccessKeyId)
+    → IfOk (remove_key tenant name s) (λ removed. authenticate (key_named tenant name) secret removed.1 ≡ Err InvalidAccessKeyId)
 
 -- counters never go down, and a tenant never goes away
 abbrev pub Rises : Option State → Option State → Type 0

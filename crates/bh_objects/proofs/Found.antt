@@ -18,7 +18,7 @@ use Rattle.bh_view.proofs.FindLemmas.{first_find, bucket_found, counts_found, te
 use Rattle.bh_schema.specs.Rows.{bucket_numbers, tenant_numbers}
 use Rattle.bh_schema.specs.declared.rows.tenants.TenantNumbers.{TenantNumbers}
 use Rattle.bh_schema.specs.declared.rows.buckets.BucketNumbers.{BucketNumbers}
-use Rattle.bh_objects.specs.Working.{mode_in, counts_in, tenant_in, name_free}
+use Rattle.bh_objects.specs.Found.{mode_in, counts_in, tenant_in, name_free}
 
 abbrev mode_or : Option Bucket → Result BucketState Refusal
 mode_or o = ok_or (option_map (λ (b : Bucket). b.mode) o) NoSuchBucket

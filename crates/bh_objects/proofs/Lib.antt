@@ -3,4 +3,3 @@ pub mod Found
 pub mod Creating
 pub mod Putting
 pub mod Getting
-pub mod Storing

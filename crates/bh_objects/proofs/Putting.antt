@@ -12,11 +12,11 @@ use Rattle.bh_model.specs.Counting.{counts, after_entry}
 use Rattle.bh_model.specs.Entries.{new_id}
 use Rattle.bh_model.specs.Operations.{Stored, id_told, put_object}
 use Rattle.bh_tables.specs.Typed.{Tables}
-use Rattle.bh_view.specs.View.{view, latest_of}
+use Rattle.bh_view.specs.View.{view, latest_of, limits_in}
 use Rattle.bh_view.specs.Sound.{IsSound}
 use Rattle.bh_view.proofs.PutLemmas.{object_put}
 use Rattle.bh_storage.specs.Calls.{Gives}
-use Rattle.bh_objects.specs.Working.{mode_in, counts_in, IsKeyText, with_put}
+use Rattle.bh_objects.specs.Found.{mode_in, counts_in, IsKeyText, with_put}
 
 -- the tenant's bucket of a name, whose state was read
 pub record HasBucket (name : Octets) (v : Option State) (mode : BucketState) : Type 0 where
@@ -44,12 +44,12 @@ has_bucket name (Some s) mode e = go (get s.buckets name) refl e
 
 module _ (old new : Tables) (t b k : Octets) (at : ℕ) (bytes : Octets) (after : Counts) (sound : IsSound old) (early : at ≤ latest_of old) (key : IsKeyText k) where
   abbrev Goes : BucketState → Counts → Type 0
-  Goes mode c = after_entry mode c ≡ Ok after → new ≡ with_put mode c after t b k at bytes old → Gives t (put_object at b k bytes None) (Stored (id_told mode (new_id mode c.version)) (checksum_text bytes)) old new × IsSound new
+  Goes mode c = after_entry mode c ≡ Ok after → new ≡ with_put mode c after t b k at bytes old → Gives t (put_object at b k bytes None) (Stored (id_told mode (new_id mode c.version)) (checksum_text bytes)) old new × IsSound new × (limits_in new ≡ limits_in old)
 
   goes : (mode : BucketState) (h : HasBucket b (view old t) mode) → Goes h.bucket.mode (counts h.state)
   goes mode h given e =
       let change = object_put old new t h.state sound h.added b k h.bucket h.there at bytes early key.key key.valid h.bucket.mode after refl given e in
-      (record { gives = rw (h.added, change.shown, h.there, given) refl; others = change.others; latest = change.latest }, change.sound)
+      (record { gives = rw (h.added, change.shown, h.there, given) refl; others = change.others; latest = change.latest }, change.sound, change.limits)
 
   read_counts : (v : Option State) (s : State) (c : Counts) → v ≡ Some s → counts_in v ≡ Ok c → counts s ≡ c
   read_counts v s c is read = ap (λ r. counts_or r c) (ap counts_in (sym is) ∙ read)

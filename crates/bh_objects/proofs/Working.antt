@@ -1,27 +1,41 @@
--- What calls leave, one after another.
-use Rattle.std.proofs.Common.{◌≡◌, ap, ◌∙◌}
+-- What calls on a connection leave, one after another.
+use Rattle.std.proofs.Common.{◌≡◌, inl, refl, sym, ap, ◌∙◌, subst}
 use Rattle.sqlite.specs.State.{State}
 use Rattle.bh_tables.specs.Typed.{tables_in}
-use Rattle.bh_schema.specs.Layer.{Standing, standing, Within as LayerWithin}
-use Rattle.bh_objects.specs.Working.{tables_at, Within}
+use Rattle.bh_view.specs.View.{limits_in}
+use Rattle.bh_schema.specs.Layer.{Standing, standing, IsIntact, IsOpen, IsClean, IsInside, Within}
+use Rattle.bh_schema.specs.Working.{tables_at, IsWorking, StillWorking}
+use Rattle.bh_schema.proofs.Storing.{within_then}
 
--- a row function's call
-pub within : (old new : State) → LayerWithin old new → Within old new
-within old new w = record {
-  survives = λ clean db left. w.survives (w.follows.clean clean).is_open clean.intact db left;
-  clean = w.follows.clean;
-  kept = w.kept;
-  settled = w.settled;
-}
-
-pub within_then : (one two three : State) → Within one two → Within two three → Within one three
-within_then one two three f g = record {
-  survives = λ clean db left. f.survives (g.clean clean) db (g.survives clean db left);
-  clean = λ clean. f.clean (g.clean clean);
-  kept = λ clean. g.kept clean ∙ f.kept (g.clean clean);
-  settled = g.settled;
+-- no call
+pub no_call : (s : State) → (IsClean s → IsInside (standing s)) → Within s s
+no_call s inside = record {
+  follows = record { clean = λ clean. clean; intact = λ intact. intact; limit = refl };
+  kept = λ clean. refl;
+  settled = λ clean. inl (inside clean).inside;
+  survives = λ up intact db left. left;
 }
 
 -- a question leaves what there was
 pub same_tables : (old new : State) → standing new ≡ standing old → tables_at new ≡ tables_at old
 same_tables old new same = ap (λ (x : Standing). tables_in x.now) same
+
+pub asked_working : (old new : State) → (IsClean old → IsWorking old) → Within old new → (IsIntact new → standing new ≡ standing old) → IsClean new → StillWorking old new
+asked_working old new working w same clean =
+    let was = working (w.follows.clean clean) in
+    let is = same clean.intact in
+    record {
+      is = record { inside = subst IsInside (sym is) was.inside; sound = subst (λ (x : Standing). Rattle.bh_view.specs.Sound.IsSound (tables_in x.now)) (sym is) was.sound };
+      limits = ap limits_in (same_tables old new is);
+    }
+
+-- two calls
+module _ (one two three : State) (first : Within one two) (second : Within two three) (opens : IsIntact two → IsOpen one → IsOpen two) where
+  pub then_within : Within one three
+  then_within = within_then one two three opens first second
+
+  pub then_opens : (IsIntact three → IsOpen two → IsOpen three) → IsIntact three → IsOpen one → IsOpen three
+  then_opens stays intact up = stays intact (opens (second.follows.intact intact) up)
+
+  pub then_working : (IsClean two → StillWorking one two) → (IsClean three → StillWorking two three) → IsClean three → StillWorking one three
+  then_working before after clean = record { is = (after clean).is; limits = (after clean).limits ∙ (before (second.follows.clean clean)).limits }

@@ -1,16 +1,26 @@
 -- What is answered of the rows that were found.
 use Rattle.std.specs.Prelude.{ℕ, zero, suc, Option, Some, None, Result, Ok, Err}
-use Rattle.bh_types.specs.declared.refusal.Refusal.{Refusal}
+use Rattle.std.specs.Result.{result_map_both}
+use Rattle.bh_types.specs.Rejections.{plain}
+use Rattle.bh_types.specs.declared.plain.Wanted.TheVariants.{Current}
 use Rattle.bh_types.specs.declared.refusal.Refusal.TheVariants.{NoSuchKey}
-use Rattle.bh_model.specs.Operations.{Answer, Object}
+use Rattle.bh_types.specs.declared.rejection.Detail.TheVariants.{CurrentMarker}
+use Rattle.bh_types.specs.declared.rejection.Rejection.{Rejection}
+use Rattle.bh_model.specs.State.{Octets, State}
+use Rattle.bh_model.specs.Operations.{Answer, Outcome, Object, get_object}
+use Rattle.bh_machine.specs.Machine.{not_found}
 use Rattle.bh_schema.specs.Rows.{FoundVersion}
 
+-- S3's GetObject where no version id is given
+abbrev pub get_current : Octets → Octets → Option State → Result Outcome Rejection
+get_current bucket key s = result_map_both (λ o. o) not_found (get_object bucket key Current s)
+
 -- a delete marker is no object
-abbrev pub opened : ℕ → FoundVersion → Result Answer Refusal
+abbrev pub opened : ℕ → FoundVersion → Result Answer Rejection
 opened zero v = Ok (Object None v.bytes v.checksum)
-opened (suc n) v = Err NoSuchKey
+opened (suc n) v = Err (record { refusal = NoSuchKey; detail = CurrentMarker })
 
 -- of the version `null` of a key in a bucket that never had versions
-abbrev pub null_answer : Option FoundVersion → Result Answer Refusal
-null_answer None = Err NoSuchKey
+abbrev pub null_answer : Option FoundVersion → Result Answer Rejection
+null_answer None = Err (plain NoSuchKey)
 null_answer (Some v) = opened v.marker v

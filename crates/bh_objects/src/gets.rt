@@ -1,13 +1,13 @@
 ghost use Rattle.std.specs.Prelude.{◌≡◌, find, option_map, IfOk, OnOk};
 ghost use Rattle.std.specs.Result.{result_map_both};
-ghost use Rattle.sqlite.specs.Held.{state};
 ghost use Rattle.bh_tables.specs.Shown.{is_version};
-ghost use Rattle.bh_schema.specs.Layer.{standing, IsClean, IsInside};
+ghost use Rattle.bh_schema.specs.Connections.{IsClean, tables, InTransaction, StaysWithin, StaysOpen, WasOpen, ChangesNothing};
 ghost use Rattle.bh_schema.specs.Rows.{found_version};
 ghost use Rattle.bh_schema.specs.Views.{version_seen};
-ghost use Rattle.bh_storage.specs.Calls.{Unless, Carries, found_answer, get_current};
-ghost use Rattle.bh_objects.specs.Answers.{null_answer};
-ghost use Rattle.bh_objects.specs.Working.{tables_at, IsWorking, Within};
+ghost use Rattle.bh_schema.specs.Working.{Works, StillWorks};
+ghost use Rattle.bh_storage.specs.Answers.{found_answer};
+ghost use Rattle.bh_storage.specs.Calls.{Unless, Carries};
+ghost use Rattle.bh_objects.specs.Answers.{get_current, null_answer};
 
 use crate::reads::bucket_state;
 use bh_schema::rows;
@@ -20,6 +20,7 @@ use bh_types::key::ObjectKey;
 use bh_types::names::TenantName;
 use bh_types::plain::BucketState;
 use bh_types::refusal::Refusal;
+use bh_types::rejection::{Detail, Rejection};
 use sqlite::{Alter, Connection};
 
 /// The version `null` of a key, if there is one.
@@ -29,10 +30,13 @@ fn null_version<S: Alter>(
     bucket: &BucketName,
     key: &ObjectKey,
 ) -> Result<Option<VersionRow>, Trouble>
-    requires { IsClean (state S.Store connection.old) → IsInside (standing (state S.Store connection.old)) }
-    ensures within { Within (state S.Store connection.old) (state S.Store connection.new) }
-    ensures same { OnOk result (IsClean (state S.Store connection.new) → standing (state S.Store connection.new) ≡ standing (state S.Store connection.old)) }
-    ensures found { IfOk result (λ found. IsClean (state S.Store connection.new) → option_map version_seen found ≡ option_map found_version (find (is_version tenant.now bucket.now key.now 0) (tables_at (state S.Store connection.old)).versions)) }
+    requires { InTransaction S.Store connection.old }
+    ensures within { StaysWithin S.Store connection.old connection.new }
+    ensures opens { OnOk result (WasOpen S.Store connection.old connection.new) }
+    ensures same { OnOk result (ChangesNothing S.Store connection.old connection.new) }
+    ensures found { IfOk result (λ found. IsClean S.Store connection.new
+        → option_map version_seen found ≡ option_map found_version
+        (find (is_version tenant.now bucket.now key.now 0) (tables S.Store connection.old).versions)) }
 {
     let key = key.as_str().as_bytes();
     match rows::versions::find_version(connection, tenant.as_str(), bucket.as_str(), key, 0) {
@@ -42,12 +46,12 @@ fn null_version<S: Alter>(
 }
 
 /// What is answered of the version `null` in a bucket that never had versions. A delete marker is no
-/// object.
-fn opened(found: Option<VersionRow>) -> Result<FoundVersion, Refusal>
-    ensures { result_map_both found_answer (λ refusal. refusal) result ≡ null_answer (option_map version_seen found) }
+/// object, and a refusal tells of it.
+fn opened(found: Option<VersionRow>) -> Result<FoundVersion, Rejection>
+    ensures { result_map_both found_answer (λ rejection. rejection) result ≡ null_answer (option_map version_seen found) }
 {
     match found {
-        None => Err(Refusal::NoSuchKey),
+        None => Err(Rejection::from(Refusal::NoSuchKey)),
         Some(version) => {
             if version.marker == 0 {
                 Ok(FoundVersion {
@@ -56,7 +60,10 @@ fn opened(found: Option<VersionRow>) -> Result<FoundVersion, Refusal>
                     checksum: version.checksum,
                 })
             } else {
-                Err(Refusal::NoSuchKey)
+                Err(Rejection {
+                    refusal: Refusal::NoSuchKey,
+                    detail: Detail::CurrentMarker,
+                })
             }
         }
     }
@@ -69,11 +76,14 @@ pub fn get_object<S: Alter>(
     tenant: &TenantName,
     bucket: &BucketName,
     key: &ObjectKey,
-) -> Result<FoundVersion, StepError>
-    requires { IsClean (state S.Store connection.old) → IsWorking (state S.Store connection.old) }
-    ensures working { Unless result (IsClean (state S.Store connection.new) → IsWorking (state S.Store connection.new)) }
-    ensures within { Within (state S.Store connection.old) (state S.Store connection.new) }
-    ensures carries { IsClean (state S.Store connection.new) → Carries found_answer tenant.now (get_current bucket.now key.now) (tables_at (state S.Store connection.old)) (tables_at (state S.Store connection.new)) result }
+) -> Result<FoundVersion, StepError<Rejection>>
+    requires { Works S.Store connection.old }
+    ensures within { StaysWithin S.Store connection.old connection.new }
+    ensures opens { Unless result (StaysOpen S.Store connection.old connection.new) }
+    ensures working { Unless result (StillWorks S.Store connection.old connection.new) }
+    ensures carries { IsClean S.Store connection.new
+        → Carries found_answer tenant.now (get_current bucket.now key.now)
+        (tables S.Store connection.old) (tables S.Store connection.new) result }
 {
     let mode = bucket_state(connection, tenant, bucket)?;
     match mode {

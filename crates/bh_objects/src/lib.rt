@@ -5,5 +5,4 @@ pub mod buckets;
 pub mod gets;
 pub mod objects;
 pub mod reads;
-pub mod storage;
 pub mod writes;

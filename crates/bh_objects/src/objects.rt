@@ -1,11 +1,11 @@
 ghost use Rattle.std.specs.Prelude.{◌≡◌, ◌≤◌, None};
-ghost use Rattle.sqlite.specs.Held.{state};
 ghost use Rattle.bh_model.specs.Entries.{new_id};
 ghost use Rattle.bh_model.specs.Operations as machine;
-ghost use Rattle.bh_schema.specs.Layer.{IsClean};
-ghost use Rattle.bh_storage.specs.Calls.{Unless, Carries, stored_answer};
+ghost use Rattle.bh_storage.specs.Answers.{stored_answer};
+ghost use Rattle.bh_storage.specs.Calls.{Unless, Carries};
 ghost use Rattle.bh_view.specs.View.{latest_of};
-ghost use Rattle.bh_objects.specs.Working.{tables_at, IsWorking, Within};
+ghost use Rattle.bh_schema.specs.Connections.{IsClean, tables, StaysWithin, StaysOpen};
+ghost use Rattle.bh_schema.specs.Working.{Works, StillWorks};
 
 use crate::reads::{bucket_state, next_counters};
 use crate::writes::{NewObject, write_object};
@@ -15,6 +15,7 @@ use bh_storage::answer::StoredVersion;
 use bh_storage::error::StepError;
 use bh_types::id::VersionId;
 use bh_types::plain::BucketState;
+use bh_types::refusal::Refusal;
 use sqlite::{Alter, Connection};
 use std::alloc::Global;
 
@@ -34,12 +35,16 @@ pub fn put_object<S: Alter>(
     connection: &mut Connection<S>,
     alloc: Global,
     object: &NewObject<'_>,
-) -> Result<StoredVersion, StepError>
-    requires working { IsClean (state S.Store connection.old) → IsWorking (state S.Store connection.old) }
-    requires early { IsClean (state S.Store connection.old) → object.now.at ≤ latest_of (tables_at (state S.Store connection.old)) }
-    ensures working { Unless result (IsClean (state S.Store connection.new) → IsWorking (state S.Store connection.new)) }
-    ensures within { Within (state S.Store connection.old) (state S.Store connection.new) }
-    ensures carries { IsClean (state S.Store connection.new) → Carries stored_answer object.now.tenant.now (machine.put_object object.now.at object.now.bucket.now object.now.key.now object.now.bytes.now None) (tables_at (state S.Store connection.old)) (tables_at (state S.Store connection.new)) result }
+) -> Result<StoredVersion, StepError<Refusal>>
+    requires working { Works S.Store connection.old }
+    requires early { IsClean S.Store connection.old → object.now.at ≤ latest_of (tables S.Store connection.old) }
+    ensures within { StaysWithin S.Store connection.old connection.new }
+    ensures opens { Unless result (StaysOpen S.Store connection.old connection.new) }
+    ensures working { Unless result (StillWorks S.Store connection.old connection.new) }
+    ensures carries { IsClean S.Store connection.new
+        → Carries stored_answer object.now.tenant.now
+        (machine.put_object object.now.at object.now.bucket.now object.now.key.now object.now.bytes.now None)
+        (tables S.Store connection.old) (tables S.Store connection.new) result }
 {
     let mode = bucket_state(connection, object.tenant, object.bucket)?;
     let before = next_counters(connection, object.tenant)?;

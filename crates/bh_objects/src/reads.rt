@@ -1,9 +1,8 @@
-ghost use Rattle.std.specs.Prelude.{◌≡◌, ◌≤◌, IfOk, OnOk};
-ghost use Rattle.sqlite.specs.Held.{state};
-ghost use Rattle.bh_schema.specs.Layer.{IsClean};
 ghost use Rattle.bh_storage.specs.Calls.{Unless, Decides};
 ghost use Rattle.bh_view.specs.View.{view};
-ghost use Rattle.bh_objects.specs.Working.{tables_at, IsWorking, Within, mode_in, counts_in, tenant_in, name_free};
+ghost use Rattle.bh_schema.specs.Connections.{IsClean, tables, StaysWithin, StaysOpen};
+ghost use Rattle.bh_schema.specs.Working.{Works, StillWorks};
+ghost use Rattle.bh_objects.specs.Found.{mode_in, counts_in, tenant_in, name_free};
 
 use bh_schema::rows;
 use bh_schema::trouble::trouble_of;
@@ -19,11 +18,14 @@ pub fn bucket_state<S: Alter>(
     connection: &mut Connection<S>,
     tenant: &TenantName,
     bucket: &BucketName,
-) -> Result<BucketState, StepError>
-    requires { IsClean (state S.Store connection.old) → IsWorking (state S.Store connection.old) }
-    ensures working { Unless result (IsClean (state S.Store connection.new) → IsWorking (state S.Store connection.new)) }
-    ensures within { Within (state S.Store connection.old) (state S.Store connection.new) }
-    ensures decides { IsClean (state S.Store connection.new) → Decides (λ mode. mode) (mode_in bucket.now (view (tables_at (state S.Store connection.old)) tenant.now)) (tables_at (state S.Store connection.old)) (tables_at (state S.Store connection.new)) result }
+) -> Result<BucketState, StepError<Refusal>>
+    requires { Works S.Store connection.old }
+    ensures within { StaysWithin S.Store connection.old connection.new }
+    ensures opens { Unless result (StaysOpen S.Store connection.old connection.new) }
+    ensures working { Unless result (StillWorks S.Store connection.old connection.new) }
+    ensures decides { IsClean S.Store connection.new
+        → Decides (λ mode. mode) (mode_in bucket.now (view (tables S.Store connection.old) tenant.now))
+        (tables S.Store connection.old) (tables S.Store connection.new) result }
 {
     match rows::buckets::find_bucket(connection, tenant.as_str(), bucket.as_str()) {
         Ok(Some(numbers)) => match BucketState::from_number(numbers.state) {
@@ -39,11 +41,14 @@ pub fn bucket_state<S: Alter>(
 pub fn next_counters<S: Alter>(
     connection: &mut Connection<S>,
     tenant: &TenantName,
-) -> Result<Counters, StepError>
-    requires { IsClean (state S.Store connection.old) → IsWorking (state S.Store connection.old) }
-    ensures working { Unless result (IsClean (state S.Store connection.new) → IsWorking (state S.Store connection.new)) }
-    ensures within { Within (state S.Store connection.old) (state S.Store connection.new) }
-    ensures decides { IsClean (state S.Store connection.new) → Decides (λ counters. counters) (counts_in (view (tables_at (state S.Store connection.old)) tenant.now)) (tables_at (state S.Store connection.old)) (tables_at (state S.Store connection.new)) result }
+) -> Result<Counters, StepError<Refusal>>
+    requires { Works S.Store connection.old }
+    ensures within { StaysWithin S.Store connection.old connection.new }
+    ensures opens { Unless result (StaysOpen S.Store connection.old connection.new) }
+    ensures working { Unless result (StillWorks S.Store connection.old connection.new) }
+    ensures decides { IsClean S.Store connection.new
+        → Decides (λ counters. counters) (counts_in (view (tables S.Store connection.old) tenant.now))
+        (tables S.Store connection.old) (tables S.Store connection.new) result }
 {
     match rows::tenants::find_tenant(connection, tenant.as_str()) {
         Ok(Some(numbers)) => {
@@ -65,11 +70,14 @@ pub fn next_counters<S: Alter>(
 pub fn require_tenant<S: Alter>(
     connection: &mut Connection<S>,
     tenant: &TenantName,
-) -> Result<(), StepError>
-    requires { IsClean (state S.Store connection.old) → IsWorking (state S.Store connection.old) }
-    ensures working { Unless result (IsClean (state S.Store connection.new) → IsWorking (state S.Store connection.new)) }
-    ensures within { Within (state S.Store connection.old) (state S.Store connection.new) }
-    ensures decides { IsClean (state S.Store connection.new) → Decides (λ _. tt) (tenant_in (view (tables_at (state S.Store connection.old)) tenant.now)) (tables_at (state S.Store connection.old)) (tables_at (state S.Store connection.new)) result }
+) -> Result<(), StepError<Refusal>>
+    requires { Works S.Store connection.old }
+    ensures within { StaysWithin S.Store connection.old connection.new }
+    ensures opens { Unless result (StaysOpen S.Store connection.old connection.new) }
+    ensures working { Unless result (StillWorks S.Store connection.old connection.new) }
+    ensures decides { IsClean S.Store connection.new
+        → Decides (λ _. tt) (tenant_in (view (tables S.Store connection.old) tenant.now))
+        (tables S.Store connection.old) (tables S.Store connection.new) result }
 {
     match rows::tenants::find_tenant(connection, tenant.as_str()) {
         Ok(Some(_)) => Ok(()),
@@ -83,11 +91,14 @@ pub fn require_free_name<S: Alter>(
     connection: &mut Connection<S>,
     tenant: &TenantName,
     bucket: &BucketName,
-) -> Result<(), StepError>
-    requires { IsClean (state S.Store connection.old) → IsWorking (state S.Store connection.old) }
-    ensures working { Unless result (IsClean (state S.Store connection.new) → IsWorking (state S.Store connection.new)) }
-    ensures within { Within (state S.Store connection.old) (state S.Store connection.new) }
-    ensures decides { IsClean (state S.Store connection.new) → Decides (λ _. tt) (name_free bucket.now (view (tables_at (state S.Store connection.old)) tenant.now)) (tables_at (state S.Store connection.old)) (tables_at (state S.Store connection.new)) result }
+) -> Result<(), StepError<Refusal>>
+    requires { Works S.Store connection.old }
+    ensures within { StaysWithin S.Store connection.old connection.new }
+    ensures opens { Unless result (StaysOpen S.Store connection.old connection.new) }
+    ensures working { Unless result (StillWorks S.Store connection.old connection.new) }
+    ensures decides { IsClean S.Store connection.new
+        → Decides (λ _. tt) (name_free bucket.now (view (tables S.Store connection.old) tenant.now))
+        (tables S.Store connection.old) (tables S.Store connection.new) result }
 {
     match rows::buckets::find_bucket(connection, tenant.as_str(), bucket.as_str()) {
         Ok(None) => Ok(()),

@@ -1,12 +1,11 @@
 ghost use Rattle.std.specs.Prelude.{◌≡◌, ◌<◌, ◌^◌, ◌++◌, ◌∷◌, [], OnOk};
-ghost use Rattle.sqlite.specs.Held.{state};
 ghost use Rattle.sqlite_keyed.specs.Lists.{update_where, delete_where};
 ghost use Rattle.bh_types.specs.Checksums.{checksum_text};
 ghost use Rattle.bh_tables.specs.Shown.{is_tenant, is_version};
 ghost use Rattle.bh_view.specs.Put as put;
 ghost use Rattle.bh_view.specs.Put.{counters_row, rows_left};
-ghost use Rattle.bh_schema.specs.Layer.{standing, IsClean, IsInside, Holds};
-ghost use Rattle.bh_objects.specs.Working.{tables_at, Within, IsKeyText, with_put};
+ghost use Rattle.bh_schema.specs.Connections.{InTransaction, StaysWithin, StaysOpen, Becomes};
+ghost use Rattle.bh_objects.specs.Found.{IsKeyText, with_put};
 
 use bh_schema::rows;
 use bh_schema::rows::versions::NewVersion;
@@ -37,9 +36,11 @@ fn set_counters<S: Alter>(
     mode: BucketState,
     counters: Counters,
 ) -> Result<(), Trouble>
-    requires { IsClean (state S.Store connection.old) → IsInside (standing (state S.Store connection.old)) }
-    ensures within { Within (state S.Store connection.old) (state S.Store connection.new) }
-    ensures holds { OnOk result (IsClean (state S.Store connection.new) → Holds (record (tables_at (state S.Store connection.old)) { tenants = update_where (is_tenant tenant.now) (counters_row mode counters) (tables_at (state S.Store connection.old)).tenants }) (standing (state S.Store connection.new))) }
+    requires { InTransaction S.Store connection.old }
+    ensures within { StaysWithin S.Store connection.old connection.new }
+    ensures opens { OnOk result (StaysOpen S.Store connection.old connection.new) }
+    ensures holds { OnOk result (Becomes S.Store connection.old connection.new
+        (λ rows. record rows { tenants = update_where (is_tenant tenant.now) (counters_row mode counters) rows.tenants })) }
 {
     match mode {
         BucketState::Enabled => match rows::tenants::set_numbers(
@@ -61,10 +62,15 @@ fn set_next_entry<S: Alter>(
     tenant: &TenantName,
     entry: u64,
 ) -> Result<(), Trouble>
-    requires inside { IsClean (state S.Store connection.old) → IsInside (standing (state S.Store connection.old)) }
+    requires inside { InTransaction S.Store connection.old }
     requires small { entry < 2 ^ 63 }
-    ensures within { Within (state S.Store connection.old) (state S.Store connection.new) }
-    ensures holds { OnOk result (IsClean (state S.Store connection.new) → Holds (record (tables_at (state S.Store connection.old)) { tenants = update_where (is_tenant tenant.now) (λ t. record t { next_entry = entry }) (tables_at (state S.Store connection.old)).tenants }) (standing (state S.Store connection.new))) }
+    ensures within { StaysWithin S.Store connection.old connection.new }
+    ensures opens { OnOk result (StaysOpen S.Store connection.old connection.new) }
+    ensures holds { OnOk result (Becomes S.Store connection.old connection.new
+        (λ rows. record rows {
+          tenants =
+              update_where (is_tenant tenant.now) (λ t. record t { next_entry = entry }) rows.tenants;
+        })) }
 {
     match rows::tenants::set_next_entry(connection, tenant.as_str(), entry) {
         Ok(_) => Ok(()),
@@ -79,9 +85,14 @@ fn make_room<S: Alter>(
     object: &NewObject<'_>,
     mode: BucketState,
 ) -> Result<(), Trouble>
-    requires { IsClean (state S.Store connection.old) → IsInside (standing (state S.Store connection.old)) }
-    ensures within { Within (state S.Store connection.old) (state S.Store connection.new) }
-    ensures holds { OnOk result (IsClean (state S.Store connection.new) → Holds (record (tables_at (state S.Store connection.old)) { versions = rows_left mode object.now.tenant.now object.now.bucket.now object.now.key.now (tables_at (state S.Store connection.old)).versions }) (standing (state S.Store connection.new))) }
+    requires { InTransaction S.Store connection.old }
+    ensures within { StaysWithin S.Store connection.old connection.new }
+    ensures opens { OnOk result (StaysOpen S.Store connection.old connection.new) }
+    ensures holds { OnOk result (Becomes S.Store connection.old connection.new
+        (λ rows. record rows {
+          versions =
+              rows_left mode object.now.tenant.now object.now.bucket.now object.now.key.now rows.versions;
+        })) }
 {
     match mode {
         BucketState::Enabled => Ok(()),
@@ -94,9 +105,14 @@ fn drop_null<S: Alter>(
     connection: &mut Connection<S>,
     object: &NewObject<'_>,
 ) -> Result<(), Trouble>
-    requires { IsClean (state S.Store connection.old) → IsInside (standing (state S.Store connection.old)) }
-    ensures within { Within (state S.Store connection.old) (state S.Store connection.new) }
-    ensures holds { OnOk result (IsClean (state S.Store connection.new) → Holds (record (tables_at (state S.Store connection.old)) { versions = delete_where (is_version object.now.tenant.now object.now.bucket.now object.now.key.now 0) (tables_at (state S.Store connection.old)).versions }) (standing (state S.Store connection.new))) }
+    requires { InTransaction S.Store connection.old }
+    ensures within { StaysWithin S.Store connection.old connection.new }
+    ensures opens { OnOk result (StaysOpen S.Store connection.old connection.new) }
+    ensures holds { OnOk result (Becomes S.Store connection.old connection.new
+        (λ rows. record rows {
+          versions =
+              delete_where (is_version object.now.tenant.now object.now.bucket.now object.now.key.now 0) rows.versions;
+        })) }
 {
     let key = object.key.as_str().as_bytes();
     match rows::versions::delete_version(
@@ -129,10 +145,16 @@ fn add_row<S: Alter>(
     counters: Counters,
     checksum: &str,
 ) -> Result<(), Trouble>
-    requires inside { IsClean (state S.Store connection.old) → IsInside (standing (state S.Store connection.old)) }
+    requires inside { InTransaction S.Store connection.old }
     requires checksum { checksum.now ≡ checksum_text object.now.bytes.now }
-    ensures within { Within (state S.Store connection.old) (state S.Store connection.new) }
-    ensures holds { OnOk result (IsClean (state S.Store connection.new) → Holds (record (tables_at (state S.Store connection.old)) { versions = (tables_at (state S.Store connection.old)).versions ++ put.object_row object.now.tenant.now object.now.bucket.now object.now.key.now counters.entry (put.row_number mode counters.version) object.now.at object.now.bytes.now ∷ [] }) (standing (state S.Store connection.new))) }
+    ensures within { StaysWithin S.Store connection.old connection.new }
+    ensures opens { OnOk result (StaysOpen S.Store connection.old connection.new) }
+    ensures holds { OnOk result (Becomes S.Store connection.old connection.new
+        (λ rows. record rows {
+          versions = rows.versions
+              ++ put.object_row object.now.tenant.now object.now.bucket.now object.now.key.now
+              counters.entry (put.row_number mode counters.version) object.now.at object.now.bytes.now ∷ [];
+        })) }
     ensures key { IsKeyText object.now.key.now }
 {
     let version = NewVersion {
@@ -161,10 +183,13 @@ pub fn write_object<S: Alter>(
     after: Counters,
     checksum: &str,
 ) -> Result<(), Trouble>
-    requires inside { IsClean (state S.Store connection.old) → IsInside (standing (state S.Store connection.old)) }
+    requires inside { InTransaction S.Store connection.old }
     requires checksum { checksum.now ≡ checksum_text object.now.bytes.now }
-    ensures within { Within (state S.Store connection.old) (state S.Store connection.new) }
-    ensures holds { OnOk result (IsClean (state S.Store connection.new) → Holds (with_put mode before after object.now.tenant.now object.now.bucket.now object.now.key.now object.now.at object.now.bytes.now (tables_at (state S.Store connection.old))) (standing (state S.Store connection.new))) }
+    ensures within { StaysWithin S.Store connection.old connection.new }
+    ensures opens { OnOk result (StaysOpen S.Store connection.old connection.new) }
+    ensures holds { OnOk result (Becomes S.Store connection.old connection.new
+        (with_put mode before after object.now.tenant.now object.now.bucket.now object.now.key.now object.now.at
+        object.now.bytes.now)) }
     ensures key { OnOk result (IsKeyText object.now.key.now) }
 {
     set_counters(connection, object.tenant, mode, after)?;

@@ -1,4 +1,5 @@
 pub mod Digits
 pub mod IdLemmas
+pub mod Refused
 pub mod Routing
 pub mod Texts

@@ -6,5 +6,6 @@ pub mod Numbers
 pub mod Operations
 pub mod Pages
 pub mod Queries
+pub mod Refused
 pub mod Sources
 pub mod Targets

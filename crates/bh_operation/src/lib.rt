@@ -6,6 +6,7 @@ mod action;
 pub mod address;
 pub mod allow;
 mod headers;
+pub mod laws;
 mod number;
 pub mod operation;
 pub mod page;

@@ -1,5 +1,5 @@
 -- BEGIN, COMMIT and ROLLBACK, in the words of a host's storage.
-use Rattle.std.proofs.Common.{◌≡◌, inl, inr, false, Result, Ok, Err, OnErr, IsTrue, refl, sym, ap, ◌∙◌, subst}
+use Rattle.std.proofs.Common.{◌≡◌, ◌⊎◌, inl, inr, Result, Ok, Err, OnErr, IsTrue, refl, sym, ap, ◌∙◌, subst}
 use Rattle.std.specs.Result.{IsErrAnd}
 use Rattle.sqlite.specs.Schema.{Schema}
 use Rattle.sqlite.specs.Tree.{Trees}
@@ -7,13 +7,14 @@ use Rattle.sqlite.specs.Effect.{Database}
 use Rattle.sqlite.specs.Held.{Held, state}
 use Rattle.sqlite.specs.State.{State}
 use Rattle.sqlite_trees.specs.declared.store.Store.{Ghosts}
+use Rattle.bh_types.specs.Limits.{HostLimits}
 use Rattle.bh_tables.specs.Schema.{host_schema}
 use Rattle.bh_tables.specs.Typed.{Tables, IsHost}
 use Rattle.bh_tables.specs.Hosts.{tables_shown}
-use Rattle.bh_storage.specs.Calls.{IsAtRest, IsWorking, IsSettled}
-use Rattle.bh_schema.specs.Layer.{Standing, standing, IsClean, begun, committed, taken_back, Unwinds}
+use Rattle.bh_storage.specs.Calls.{IsAtRest, IsWorking, Commits, TakesBack}
+use Rattle.bh_schema.specs.Layer.{Standing, standing, IsOpen, Leaves, begun, committed, taken_back, Unwinds}
 use Rattle.bh_schema.specs.Storage.{shown, seen_in, left_in}
-use Rattle.bh_schema.proofs.Storing.{sound_host, left_kept, left_before}
+use Rattle.bh_schema.proofs.Storing.{sound_host, left_kept}
 
 -- what a `?` hands on after an error
 pub fails_on : {X E : Type 0} (r : Result X E) (P : Type 0) → P → OnErr r P
@@ -26,34 +27,27 @@ on_err (Err e) Q P h p = p
 
 -- ---- states
 
-pub as_shown : (s : State) (x : Standing) → standing s ≡ x → seen_in s ≡ shown x
-unfolding seen_in
-as_shown s x is = ap shown is
+module _ (l : HostLimits) (old new : State) where
+  pub begun_works : IsAtRest (seen_in l old) → standing new ≡ begun (standing old) → IsWorking (seen_in l new)
+  unfolding seen_in
+  begun_works rest is = subst (λ x. IsWorking (shown l x)) (sym is) (record { inside = refl; sound = rest.sound; limits = rest.limits })
 
-pub begun_works : (old new : State) → IsAtRest (seen_in old) → standing new ≡ begun (standing old) → IsWorking (seen_in new)
-unfolding seen_in
-begun_works old new rest is = subst IsWorking (sym (as_shown new (begun (standing old)) is)) (record { inside = refl; sound = rest.sound })
+  pub begun_shows : standing new ≡ begun (standing old) → (seen_in l new).now ≡ (seen_in l old).now
+  unfolding seen_in
+  begun_shows is = ap (λ (x : Standing). tables_shown x.now) is
 
-pub unwound : (old new : State) → IsWorking (seen_in old) → Unwinds (standing old) (standing new) → ((seen_in new).kept ≡ (seen_in old).kept) × IsSettled (seen_in new)
-unfolding seen_in
-unwound old new working (inl same) = (ap (λ (x : Standing). tables_shown x.kept) same, inl (ap (λ (x : Standing). x.inside) same ∙ working.inside))
-unwound old new working (inr back) = (ap (λ (x : Standing). tables_shown x.kept) back, inr (ap (λ (x : Standing). tables_shown x.now) back ∙ sym (ap (λ (x : Standing). tables_shown x.kept) back)))
+  pub unwound_kept : Unwinds (standing old) (standing new) → (seen_in l new).kept ≡ (seen_in l old).kept
+  unfolding seen_in
+  unwound_kept (inl same) = ap (λ (x : Standing). tables_shown x.kept) same
+  unwound_kept (inr back) = ap (λ (x : Standing). tables_shown x.kept) back
 
-pub unwound_kept : (old new : State) → Unwinds (standing old) (standing new) → (standing new).kept ≡ (standing old).kept
-unwound_kept old new (inl same) = ap (λ (x : Standing). x.kept) same
-unwound_kept old new (inr back) = ap (λ (x : Standing). x.kept) back
+  pub commit_shows : standing new ≡ committed (standing old) → Commits (seen_in l old) (seen_in l new)
+  unfolding seen_in
+  commit_shows is = record { now = ap (λ (x : Standing). tables_shown x.now) is; kept = ap (λ (x : Standing). tables_shown x.kept) is; outside = ap (λ (x : Standing). x.inside) is }
 
-pub begun_shows : (old new : State) → standing new ≡ begun (standing old) → (seen_in new).now ≡ (seen_in old).now
-unfolding seen_in
-begun_shows old new is = ap (λ (x : Standing). tables_shown x.now) is
-
-pub commit_shows : (old new : State) → standing new ≡ committed (standing old) → ((seen_in new).now ≡ (seen_in old).now) × ((seen_in new).kept ≡ (seen_in old).now) × ((seen_in new).inside ≡ false)
-unfolding seen_in
-commit_shows old new is = (ap (λ (x : Standing). tables_shown x.now) is, ap (λ (x : Standing). tables_shown x.kept) is, ap (λ (x : Standing). x.inside) is)
-
-pub back_shows : (old new : State) → standing new ≡ taken_back (standing old) → ((seen_in new).now ≡ (seen_in old).kept) × ((seen_in new).kept ≡ (seen_in old).kept) × ((seen_in new).inside ≡ false)
-unfolding seen_in
-back_shows old new is = (ap (λ (x : Standing). tables_shown x.now) is, ap (λ (x : Standing). tables_shown x.kept) is, ap (λ (x : Standing). x.inside) is)
+  pub back_shows : standing new ≡ taken_back (standing old) → TakesBack (seen_in l old) (seen_in l new)
+  unfolding seen_in
+  back_shows is = record { now = ap (λ (x : Standing). tables_shown x.now) is; kept = ap (λ (x : Standing). tables_shown x.kept) is; outside = ap (λ (x : Standing). x.inside) is }
 
 -- ---- crashes
 
@@ -61,13 +55,22 @@ back_shows old new is = (ap (λ (x : Standing). tables_shown x.now) is, ap (λ (
 trees_show : (db : Database) → IsHost db → tables_shown (record { schema = host_schema; trees = db.trees }) ≡ tables_shown db
 trees_show db host = ap (λ (s : Schema). tables_shown (record { schema = s; trees = db.trees })) (sym host.schema)
 
-module _ {S : Type 0} (g : Ghosts S) (settles : (s : S) (db : Trees) → IsTrue (g.view s).is_open → g.recovers s db → db ≡ (g.view s).committed) (stays : (s : S) → IsTrue (g.view s).is_open → g.recovers s (g.view s).committed) where
-  pub commit_stands : (old new : Held S) → IsClean (state g new) → IsWorking (seen_in (state g old)) → standing (state g new) ≡ committed (standing (state g old)) → (x : Tables) → left_in (state g new) x → x ≡ (seen_in (state g old)).now
-  unfolding seen_in left_in
-  commit_stands old new clean working is x it =
-      let db = (standing (state g old)).now in
-      it.2 ∙ ap (λ (t : Trees). tables_shown (record { schema = host_schema; trees = t })) (left_kept g settles stays new clean it.0 it.1 ∙ ap (λ (y : Standing). y.kept.trees) is) ∙ trees_show db (sound_host db working.sound)
+-- what the trees show that a crash leaves
+left_shows : (l : HostLimits) (s : State) → IsWorking (seen_in l s) → (db : Trees) → db ≡ (standing s).now.trees → tables_shown (record { schema = host_schema; trees = db }) ≡ (seen_in l s).now
+unfolding seen_in
+left_shows l s working db is =
+    ap (λ (t : Trees). tables_shown (record { schema = host_schema; trees = t })) is ∙ trees_show (standing s).now (sound_host (standing s).now working.sound)
 
-  pub nothing_new : (old new : Held S) → IsClean (state g old) → IsClean (state g new) → (standing (state g new)).kept ≡ (standing (state g old)).kept → (x : Tables) → left_in (state g new) x → left_in (state g old) x
-  unfolding left_in
-  nothing_new old new was clean kept x it = (it.0, left_before g settles stays old new was clean kept it.0 it.1, it.2)
+pub commit_stands : {S : Type 0} (g : Ghosts S) (settles : (s : S) (db : Trees) → IsTrue (g.view s).is_open → g.recovers s db → db ≡ (g.view s).committed) (l : HostLimits)
+    (old new : Held S) → IsOpen (state g new) → IsWorking (seen_in l (state g old)) → standing (state g new) ≡ committed (standing (state g old)) → (x : Tables) → left_in (state g new) x → x ≡ (seen_in l (state g old)).now
+unfolding left_in
+commit_stands g settles l old new up working is x it =
+    it.2 ∙ left_shows _ (state g old) working it.0 (left_kept g settles new up it.0 it.1 ∙ ap (λ (y : Standing). y.kept.trees) is)
+
+pub commit_crashes : (l : HostLimits) (old new : State) → IsWorking (seen_in l old) → ((db : Trees) → Leaves new db → Leaves old db ⊎ (db ≡ (standing old).now.trees))
+    → (x : Tables) → left_in new x → left_in old x ⊎ (x ≡ (seen_in l old).now)
+unfolding left_in
+commit_crashes l old new working leaves x it = elim (leaves it.0 it.1) [
+  | inl was ↦ inl (it.0, was, it.2)
+  | inr is ↦ inr (it.2 ∙ left_shows _ old working it.0 is)
+]

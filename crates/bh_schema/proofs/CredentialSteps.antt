@@ -1,9 +1,11 @@
 -- What is seen of a secret, and the answers about credentials.
 use Rattle.std.proofs.Common.{◌≡◌, true, false, find, Option, Some, None, option_map, bytes_eq, Ok, Err, refl, sym, ap, ◌∙◌}
 use Rattle.sqlite.specs.State.{State}
+use Rattle.bh_types.specs.Limits.{HostLimits}
+use Rattle.bh_types.specs.declared.access_key.AccessKeyId.{AccessKeyId}
 use Rattle.bh_types.specs.declared.refusal.Refusal.TheVariants.{AccessDenied, InvalidAccessKeyId}
 use Rattle.bh_model.specs.State.{Octets, State as Machine}
-use Rattle.bh_model.specs.Credentials.{key_name_of, secret_of, authenticate}
+use Rattle.bh_model.specs.Credentials.{secret_of, authenticate}
 use Rattle.bh_tables.specs.Typed.{Tables, tables_in}
 use Rattle.bh_tables.specs.Shown.{is_key}
 use Rattle.bh_view.specs.View.{view}
@@ -14,16 +16,19 @@ use Rattle.bh_schema.specs.Rows.{secret_in}
 use Rattle.bh_schema.specs.Storage.{seen_in}
 use Rattle.bh_schema.proofs.Storing.{shows_in}
 
-pub secret_seen : (s : State) (t n : Octets) (read : Option Octets) → IsWorking (seen_in s) → read ≡ option_map secret_in (find (is_key t n) (tables_in (standing s).now).keys) → secret_of n (view (seen_in s).now t) ≡ read
-secret_seen s t n read working is =
-    secret_found (seen_in s).now t working.sound n ∙ ap (option_map secret_in) (first_find (is_key t n) (seen_in s).now.keys) ∙ ap (λ (x : Tables). option_map secret_in (find (is_key t n) x.keys)) (shows_in s working) ∙ sym is
+pub secret_seen : (l : HostLimits) (s : State) (t n : Octets) (read : Option Octets) → IsWorking (seen_in l s) → read ≡ option_map secret_in (find (is_key t n) (tables_in (standing s).now).keys) → secret_of n (view (seen_in l s).now t) ≡ read
+secret_seen l s t n read working is =
+    secret_found (seen_in l s).now t working.sound n ∙ ap (option_map secret_in) (first_find (is_key t n) (seen_in l s).now.keys) ∙ ap (λ (x : Tables). option_map secret_in (find (is_key t n) x.keys)) (shows_in _ s working) ∙ sym is
 
-module _ (id secret n : Octets) (o : Option Machine) (named : key_name_of id ≡ Some n) where
-  pub unknown_key : secret_of n o ≡ None → authenticate id secret o ≡ Err InvalidAccessKeyId
+pub unnamed_key : (key : AccessKeyId) (secret : Octets) (o : Option Machine) → key.name ≡ None → authenticate key secret o ≡ Err InvalidAccessKeyId
+unnamed_key key secret o none = rw none refl
+
+module _ (key : AccessKeyId) (secret n : Octets) (o : Option Machine) (named : key.name ≡ Some n) where
+  pub unknown_key : secret_of n o ≡ None → authenticate key secret o ≡ Err InvalidAccessKeyId
   unknown_key none = rw (named, none) refl
 
-  pub right_secret : (known : Octets) → secret_of n o ≡ Some known → bytes_eq secret known ≡ true → authenticate id secret o ≡ Ok tt
+  pub right_secret : (known : Octets) → secret_of n o ≡ Some known → bytes_eq secret known ≡ true → authenticate key secret o ≡ Ok tt
   right_secret known is same = rw (named, is, same) refl
 
-  pub wrong_secret : (known : Octets) → secret_of n o ≡ Some known → bytes_eq secret known ≡ false → authenticate id secret o ≡ Err AccessDenied
+  pub wrong_secret : (known : Octets) → secret_of n o ≡ Some known → bytes_eq secret known ≡ false → authenticate key secret o ≡ Err AccessDenied
   wrong_secret known is other = rw (named, is, other) refl

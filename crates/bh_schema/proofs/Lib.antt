@@ -6,6 +6,5 @@ pub mod TenantSteps
 pub mod Committing
 pub mod Stamping
 pub mod KeySteps
-pub mod NameTexts
 pub mod CredentialSteps
 pub mod KnownSteps

@@ -1,10 +1,11 @@
 -- From the words of a connection to those of a host's storage.
-use Rattle.std.proofs.Common.{◌≡◌, inl, inr, true, IsTrue, Ok, Result, OnOk, sym, ap, ◌∙◌, subst}
+use Rattle.std.proofs.Common.{◌≡◌, true, IsTrue, Ok, Result, OnOk, refl, sym, ap, ◌∙◌, subst}
 use Rattle.sqlite.specs.Tree.{Trees}
 use Rattle.sqlite.specs.Effect.{Database}
 use Rattle.sqlite.specs.Held.{Held, state}
 use Rattle.sqlite.specs.State.{State}
 use Rattle.sqlite_trees.specs.declared.store.Store.{Ghosts}
+use Rattle.bh_types.specs.Limits.{HostLimits}
 use Rattle.bh_tables.specs.Typed.{Tables, IsHost, tables_in}
 use Rattle.bh_tables.specs.Hosts.{tables_shown}
 use Rattle.bh_tables.proofs.HostTests.{host_shows, shown_host}
@@ -19,27 +20,42 @@ use Rattle.bh_schema.specs.Storage.{shown, seen_in, left_in, Keeps}
 pub on_ok : {X E : Type 0} {r : Result X E} {x : X} (P : Type 0) → r ≡ Ok x → OnOk r P → P
 on_ok P is h = subst (λ o. OnOk o P) is h
 
+-- ---- intact and open
+
+abbrev pub AreBoth : State → Type 0
+AreBoth s = IsIntact s × IsOpen s
+
+pub both : {s : State} → AreBoth s → IsClean s
+both h = record { intact = h.0; is_open = h.1 }
+
+pub parts : {s : State} → IsClean s → AreBoth s
+parts clean = (clean.intact, clean.is_open)
+
 -- ---- the tables that are seen
 
 pub sound_host : (db : Database) → IsSound (tables_shown db) → IsHost db
 sound_host db sound = shown_host db sound.host.row sound.host.alone
 
-pub inside_of : (s : State) → IsWorking (seen_in s) → IsInside (standing s)
+pub inside_of : (l : HostLimits) (s : State) → IsWorking (seen_in l s) → IsInside (standing s)
 unfolding seen_in
-inside_of s working = record { inside = working.inside; host = sound_host (standing s).now working.sound }
+inside_of l s working = record { inside = working.inside; host = sound_host (standing s).now working.sound }
 
-pub seen_same : (old new : State) → standing new ≡ standing old → seen_in new ≡ seen_in old
+pub limits_seen : (l : HostLimits) (s : State) → (seen_in l s).limits ≡ l
 unfolding seen_in
-seen_same old new same = ap shown same
+limits_seen l s = refl
+
+pub seen_same : (l : HostLimits) (old new : State) → standing new ≡ standing old → seen_in l new ≡ seen_in l old
+unfolding seen_in
+seen_same l old new same = ap (shown l) same
 
 -- a sound host's tables are those of its database
-pub shows_in : (s : State) → IsWorking (seen_in s) → (seen_in s).now ≡ tables_in (standing s).now
+pub shows_in : (l : HostLimits) (s : State) → IsWorking (seen_in l s) → (seen_in l s).now ≡ tables_in (standing s).now
 unfolding seen_in
-shows_in s working = host_shows (standing s).now (sound_host (standing s).now working.sound)
+shows_in l s working = host_shows (standing s).now (sound_host (standing s).now working.sound)
 
-pub holds_seen : (tables : Tables) (s : State) → Holds tables (standing s) → ((seen_in s).now ≡ tables) × ((seen_in s).inside ≡ true)
+pub holds_seen : (l : HostLimits) (tables : Tables) (s : State) → Holds tables (standing s) → ((seen_in l s).now ≡ tables) × ((seen_in l s).inside ≡ true)
 unfolding seen_in
-holds_seen tables s h = (host_shows (standing s).now h.within.host ∙ h.is, h.within.inside)
+holds_seen l tables s h = (host_shows (standing s).now h.within.host ∙ h.is, h.within.inside)
 
 -- ---- several calls
 
@@ -54,37 +70,64 @@ within_then a b c opens one two = record {
   survives = λ up intact db h. let before = two.follows.intact intact in one.survives up before db (two.survives (opens before up) intact db h);
 }
 
--- ---- what a crash leaves of an open connection
+-- ---- a host's calls
 
-module _ {S : Type 0} (g : Ghosts S) (settles : (s : S) (db : Trees) → IsTrue (g.view s).is_open → g.recovers s db → db ≡ (g.view s).committed) (stays : (s : S) → IsTrue (g.view s).is_open → g.recovers s (g.view s).committed) where
-  pub left_kept : (h : Held S) → IsClean (state g h) → (db : Trees) → Leaves (state g h) db → db ≡ (standing (state g h)).kept.trees
-  unfolding standing Leaves IsOpen
-  left_kept h clean db left = settles h.store db clean.is_open left
+-- what a crash leaves of an open connection
+pub left_kept : {S : Type 0} (g : Ghosts S) (settles : (s : S) (db : Trees) → IsTrue (g.view s).is_open → g.recovers s db → db ≡ (g.view s).committed)
+    (h : Held S) → IsOpen (state g h) → (db : Trees) → Leaves (state g h) db → db ≡ (standing (state g h)).kept.trees
+unfolding standing Leaves IsOpen
+left_kept g settles h up db left = settles h.store db up left
 
-  pub kept_left : (h : Held S) → IsClean (state g h) → Leaves (state g h) (standing (state g h)).kept.trees
-  unfolding standing Leaves IsOpen
-  kept_left h clean = stays h.store clean.is_open
+pub left_less : (old new : State) → ((db : Trees) → Leaves new db → Leaves old db) → (x : Tables) → left_in new x → left_in old x
+unfolding left_in
+left_less old new leaves x it = (it.0, leaves it.0 it.1, it.2)
 
-  pub left_before : (old new : Held S) → IsClean (state g old) → IsClean (state g new) → (standing (state g new)).kept ≡ (standing (state g old)).kept → (db : Trees) → Leaves (state g new) db → Leaves (state g old) db
-  left_before old new was clean kept db left = subst (Leaves (state g old)) (sym (left_kept new clean db left ∙ ap (λ (d : Database). d.trees) kept)) (kept_left old was)
+kept_seen : (l m : HostLimits) (old new : State) → (standing new).kept ≡ (standing old).kept → (seen_in l new).kept ≡ (seen_in m old).kept
+unfolding seen_in
+kept_seen l m old new same = ap tables_shown same
 
-  pub keeps : {D : Type 0} (old new : Host S D) → Within (state g old.connection) (state g new.connection) → Keeps g old new
-  unfolding seen_in left_in
-  keeps old new w = record {
-    survives = λ clean x it. (it.0, left_before old.connection new.connection (w.follows.clean clean) clean (w.kept clean) it.0 it.1, it.2);
-    clean = w.follows.clean;
-    kept = λ clean. ap tables_shown (w.kept clean);
-    settled = λ clean. elim (w.settled clean) [ inl inside ↦ inl inside | inr same ↦ inr (ap tables_shown same) ];
-  }
+pub same_limits : (l : HostLimits) (old new : State) → (seen_in l new).limits ≡ (seen_in l old).limits
+unfolding seen_in
+same_limits l old new = refl
+
+pub keeps : {S D : Type 0} (g : Ghosts S) (old new : Host S D) → new.limits ≡ old.limits → Within (state g old.connection) (state g new.connection) → Keeps g old new
+keeps g old new same w =
+    let a = state g old.connection in
+    let b = state g new.connection in
+    record {
+      intact = w.follows.intact;
+      opened = λ intact up. (w.follows.clean (record { intact = intact; is_open = up })).is_open;
+      survives = λ up intact. left_less a b (w.survives up intact);
+      kept = λ clean. kept_seen new.limits old.limits a b (w.kept (both clean));
+      limits = limits_seen new.limits b ∙ same ∙ sym (limits_seen old.limits a);
+    }
 
 -- ---- after a question that changed nothing
 
-module _ (old new : State) (working : IsClean old → IsWorking (seen_in old)) (w : Within old new) (same : IsIntact new → standing new ≡ standing old) where
-  pub asked_works : IsClean new → IsWorking (seen_in new)
-  asked_works clean = subst IsWorking (sym (seen_same old new (same clean.intact))) (working (w.follows.clean clean))
+module _ (l : HostLimits) (old new : State) (working : AreBoth old → IsWorking (seen_in l old)) (w : Within old new) (same : IsIntact new → standing new ≡ standing old) where
+  pub asked_before : AreBoth new → AreBoth old
+  asked_before clean = parts (w.follows.clean (both clean))
+
+  pub asked_works : AreBoth new → IsWorking (seen_in l new)
+  asked_works clean = subst IsWorking (sym (seen_same _ old new (same clean.0))) (working (asked_before clean))
 
   pub asked_inside : IsClean new → IsInside (standing new)
-  asked_inside clean = inside_of new (asked_works clean)
+  asked_inside clean = inside_of _ new (asked_works (parts clean))
 
-  pub asked_same : IsClean new → (seen_in new).now ≡ (seen_in old).now
-  asked_same clean = ap (λ (x : Seen). x.now) (seen_same old new (same clean.intact))
+  pub asked_same : AreBoth new → (seen_in l new).now ≡ (seen_in l old).now
+  asked_same clean = ap (λ (x : Seen). x.now) (seen_same _ old new (same clean.0))
+
+-- ---- after such a question and a write
+
+module _ (old mid new : State) (asked : Within old mid) (opens : IsIntact mid → IsOpen old × IsOpen mid) (wrote : Within mid new) where
+  pub wrote_within : Within old new
+  wrote_within = within_then old mid new (λ intact up. (opens intact).1) asked wrote
+
+  pub wrote_opens : (IsIntact new → IsOpen mid → IsOpen new) → IsOpen old → IsIntact new → IsOpen new
+  wrote_opens stays up intact = stays intact (opens (wrote.follows.intact intact)).1
+
+  pub wrote_before : AreBoth new → AreBoth mid
+  wrote_before clean = parts (wrote.follows.clean (both clean))
+
+  pub wrote_first : AreBoth new → AreBoth old
+  wrote_first clean = parts (asked.follows.clean (wrote.follows.clean (both clean)))

@@ -2,6 +2,7 @@
 use Rattle.std.proofs.Common.{◌≡◌, ◌≤◌, ℕ, nat_le, ◌^◌, Bool, true, false, [], ◌∷◌, ◌++◌, find, Option, Some, None, option_map, is_some, IsTrue, Result, Ok, Err, refl, sym, ap, ◌∙◌, subst}
 use Rattle.sqlite.specs.State.{State}
 use Rattle.sqlite_keyed.proofs.SliceLemmas.{is_some-map}
+use Rattle.bh_types.specs.Limits.{HostLimits}
 use Rattle.bh_types.specs.Names.{is_tenant_name}
 use Rattle.bh_types.specs.declared.refusal.Refusal.{Refusal}
 use Rattle.bh_types.specs.declared.refusal.Refusal.TheVariants.{TenantExists}
@@ -16,7 +17,7 @@ use Rattle.bh_view.proofs.TenantChanges.{tenant_added}
 use Rattle.bh_storage.specs.Calls.{IsWorking, Gives}
 use Rattle.bh_schema.specs.Layer.{standing, Holds}
 use Rattle.bh_schema.specs.Storage.{seen_in}
-use Rattle.bh_schema.proofs.Storing.{shows_in, holds_seen}
+use Rattle.bh_schema.proofs.Storing.{shows_in, holds_seen, same_limits}
 
 -- ---- options
 
@@ -33,9 +34,9 @@ some_of (Some x) h = (x, refl)
 pub view_found : (tables : Tables) (t : Octets) → is_some (view tables t) ≡ is_some (find (is_tenant t) tables.tenants)
 view_found tables t = ap is_some (tenant_found tables t) ∙ is_some-map _ _ ∙ ap is_some (first_find (is_tenant t) tables.tenants)
 
-pub tenant_seen : {X : Type 0} (s : State) (t : Octets) (read : TenantRow → X) (found : Option X) → IsWorking (seen_in s) → found ≡ option_map read (find (is_tenant t) (tables_in (standing s).now).tenants)
-    → is_some (view (seen_in s).now t) ≡ is_some found
-tenant_seen s t read found working is = view_found (seen_in s).now t ∙ ap (λ (x : Tables). is_some (find (is_tenant t) x.tenants)) (shows_in s working) ∙ sym (ap is_some is ∙ is_some-map read _)
+pub tenant_seen : (l : HostLimits) {X : Type 0} (s : State) (t : Octets) (read : TenantRow → X) (found : Option X) → IsWorking (seen_in l s) → found ≡ option_map read (find (is_tenant t) (tables_in (standing s).now).tenants)
+    → is_some (view (seen_in l s).now t) ≡ is_some found
+tenant_seen l s t read found working is = view_found (seen_in l s).now t ∙ ap (λ (x : Tables). is_some (find (is_tenant t) x.tenants)) (shows_in _ s working) ∙ sym (ap is_some is ∙ is_some-map read _)
 
 -- ---- the step
 
@@ -51,16 +52,16 @@ tenant_exists t quota s name few there = let it = some_of s there in rw (require
 pub gives_of : {Y : Type 0} (t : Octets) (step : Option Machine → Result (Y × Option Machine) Refusal) (y : Y) (s : Option Machine) (old new : Tables) → step (view old t) ≡ Ok (y, s) → Becomes t s old new → Gives t step y old new
 gives_of t step y s old new given b = record { gives = given ∙ ap (λ v. Ok (y, v)) (sym b.shown); others = b.others; latest = b.latest }
 
-pub works_of : (t : Octets) (s : Option Machine) (old new : State) → (seen_in new).inside ≡ true → Becomes t s (seen_in old).now (seen_in new).now → IsWorking (seen_in new)
-works_of t s old new inside b = record { inside = inside; sound = b.sound }
+pub works_of : (l : HostLimits) (t : Octets) (s : Option Machine) (old new : State) → IsWorking (seen_in l old) → (seen_in l new).inside ≡ true → Becomes t s (seen_in l old).now (seen_in l new).now → IsWorking (seen_in l new)
+works_of l t s old new working inside b = record { inside = inside; sound = b.sound; limits = b.limits ∙ working.limits ∙ same_limits l new old }
 
 -- a tenant's row that was added
-pub tenant_becomes : (old new : State) (t : Octets) (quota : ℕ) → IsWorking (seen_in old) → view (seen_in old).now t ≡ None → IsTrue (is_tenant_name t) → quota ≤ 2 ^ 60
+pub tenant_becomes : (l : HostLimits) (old new : State) (t : Octets) (quota : ℕ) → IsWorking (seen_in l old) → view (seen_in l old).now t ≡ None → IsTrue (is_tenant_name t) → quota ≤ 2 ^ 60
     → Holds (record (tables_in (standing old).now) { tenants = (tables_in (standing old).now).tenants ++ record { tenant = t; quota = quota; next_version = 1; next_upload = 1; next_entry = 1 } ∷ [] }) (standing new)
-    → Becomes t (Some (new_tenant quota)) (seen_in old).now (seen_in new).now
-tenant_becomes old new t quota working none name few h =
-    tenant_added (seen_in old).now (seen_in new).now t quota working.sound none name few ((holds_seen _ new h).0
-    ∙ ap (λ (x : Tables). record x { tenants = x.tenants ++ record { tenant = t; quota = quota; next_version = 1; next_upload = 1; next_entry = 1 } ∷ [] }) (sym (shows_in old working)))
+    → Becomes t (Some (new_tenant quota)) (seen_in l old).now (seen_in l new).now
+tenant_becomes l old new t quota working none name few h =
+    tenant_added (seen_in l old).now (seen_in l new).now t quota working.sound none name few ((holds_seen _ _ new h).0
+    ∙ ap (λ (x : Tables). record x { tenants = x.tenants ++ record { tenant = t; quota = quota; next_version = 1; next_upload = 1; next_entry = 1 } ∷ [] }) (sym (shows_in _ old working)))
 
 -- the tables that a write holds, after questions that changed nothing
 pub holds_after : (old mid new : State) (change : Tables → Tables) → standing mid ≡ standing old → Holds (change (tables_in (standing mid).now)) (standing new) → Holds (change (tables_in (standing old).now)) (standing new)

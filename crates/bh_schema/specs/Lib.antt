@@ -5,3 +5,4 @@ pub mod Troubles
 pub mod Views
 pub mod Known
 pub mod Connections
+pub mod Working

@@ -1,27 +1,24 @@
 -- A host's connection, in the words of a host's storage.
-use Rattle.std.specs.Prelude.{◌≡◌, ℕ, Result, Ok, Err}
+use Rattle.std.specs.Prelude.{◌≡◌}
 use Rattle.sqlite.specs.Tree.{Trees}
 use Rattle.sqlite_trees.specs.declared.store.Store.{Ghosts}
 use Rattle.sqlite.specs.Held.{state}
 use Rattle.sqlite.specs.State.{State}
+use Rattle.bh_types.specs.Limits.{HostLimits}
 use Rattle.bh_tables.specs.Schema.{host_schema}
 use Rattle.bh_tables.specs.Typed.{Tables}
 use Rattle.bh_tables.specs.Hosts.{tables_shown}
-use Rattle.bh_model.specs.Runs.{stamp_of}
-use Rattle.bh_view.specs.View.{latest_of}
-use Rattle.bh_storage.specs.Calls.{Seen, Within, Stamps}
-use Rattle.bh_storage.specs.declared.error.StepError.{StepError}
-use Rattle.bh_storage.specs.declared.error.StepError.TheVariants.{Refused, Failed}
+use Rattle.bh_storage.specs.Calls.{Seen, Clean, Within, IsWorking}
 use Rattle.bh_schema.specs.declared.host.Host.{Host}
 use Rattle.bh_schema.specs.Layer.{Standing, standing, Leaves}
 use Rattle.bh_schema.specs.Layer as layer
 
--- the tables that stand and that were committed
-abbrev pub shown : Standing → Seen
-shown x = record { now = tables_shown x.now; kept = tables_shown x.kept; inside = x.inside }
+-- the tables that stand and that were committed, under the host's limits
+abbrev pub shown : HostLimits → Standing → Seen
+shown limits x = record { now = tables_shown x.now; kept = tables_shown x.kept; inside = x.inside; limits = limits }
 
-unfoldable pub seen_in : State → Seen
-seen_in s = shown (standing s)
+unfoldable pub seen_in : HostLimits → State → Seen
+seen_in limits s = shown limits (standing s)
 
 -- the tables that a crash may leave
 unfoldable pub left_in : State → Tables → Type 0
@@ -29,33 +26,38 @@ left_in s x = (db : Trees) × Leaves s db × (x ≡ tables_shown (record { schem
 
 -- ---- a host, as its connection shows it
 
--- its store has returned what was written to it, and no fault has shut the connection
-abbrev pub IsClean : {S D : Type 0} → Ghosts S → Host S D → Type 0
-IsClean g host = layer.IsClean (state g host.connection)
+module _ {S D : Type 0} (g : Ghosts S) where
+  -- its store has returned what was written to it
+  abbrev pub IsIntact : Host S D → Type 0
+  IsIntact host = layer.IsIntact (state g host.connection)
 
-abbrev pub IsIntact : {S D : Type 0} → Ghosts S → Host S D → Type 0
-IsIntact g host = layer.IsIntact (state g host.connection)
+  -- no fault has shut the connection
+  abbrev pub IsOpen : Host S D → Type 0
+  IsOpen host = layer.IsOpen (state g host.connection)
 
-abbrev pub IsOpen : {S D : Type 0} → Ghosts S → Host S D → Type 0
-IsOpen g host = layer.IsOpen (state g host.connection)
+  -- both
+  abbrev pub IsClean : Host S D → Type 0
+  IsClean host = Clean IsIntact IsOpen host
 
-abbrev pub seen : {S D : Type 0} → Ghosts S → Host S D → Seen
-seen g host = seen_in (state g host.connection)
+  abbrev pub seen : Host S D → Seen
+  seen host = seen_in host.limits (state g host.connection)
 
-abbrev pub left : {S D : Type 0} → Ghosts S → Host S D → Tables → Type 0
-left g host = left_in (state g host.connection)
+  abbrev pub left : Host S D → Tables → Type 0
+  left host = left_in (state g host.connection)
 
--- a call inside a transaction commits nothing
-abbrev pub Keeps : {S D : Type 0} → Ghosts S → Host S D → Host S D → Type 0
-Keeps g = Within (IsClean g) (seen g) (left g)
+  -- while it is clean, a transaction is open on sound tables
+  abbrev pub Works : Host S D → Type 0
+  Works host = IsClean host → IsWorking (seen host)
 
--- a call leaves the digester, the limits, the tuning, and the limit on the steps of a text
-abbrev pub KeepsSettings : {S D : Type 0} → Ghosts S → Host S D → Host S D → Type 0
-KeepsSettings g old new = (new ≡ record old { connection = new.connection })
-    × ((standing (state g new.connection)).limit ≡ (standing (state g old.connection)).limit)
+  -- a call inside a transaction commits nothing
+  abbrev pub Keeps : Host S D → Host S D → Type 0
+  Keeps = Within IsIntact IsOpen seen left
 
--- a reading of the clock has its stamp, or is past the last one that a host takes
-abbrev pub Clocks : ℕ → Tables → Tables → Result ℕ StepError → Type 0
-Clocks reading old new (Ok m) = (stamp_of reading (latest_of old) ≡ Ok m) × Stamps reading m old new
-Clocks reading old new (Err (Refused r)) = (stamp_of reading (latest_of old) ≡ Err r) × (new ≡ old)
-Clocks reading old new (Err (Failed trouble)) = Unit {0}
+  -- an answer means that the connection is open
+  abbrev pub StaysOpen : Host S D → Host S D → Type 0
+  StaysOpen old new = IsOpen old → IsIntact new → IsOpen new
+
+  -- a call leaves the digester, the limits, the tuning, and the limit on the steps of a text
+  abbrev pub KeepsSettings : Host S D → Host S D → Type 0
+  KeepsSettings old new = (new ≡ record old { connection = new.connection })
+      × ((standing (state g new.connection)).limit ≡ (standing (state g old.connection)).limit)

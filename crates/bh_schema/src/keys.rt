@@ -1,6 +1,6 @@
 ghost use Rattle.bh_model.specs.Operations.{Done, add_key, remove_key};
-ghost use Rattle.bh_storage.specs.Calls.{IsWorking, Unless, Carries};
-ghost use Rattle.bh_schema.specs.Storage.{IsClean, seen, Keeps, KeepsSettings};
+ghost use Rattle.bh_storage.specs.Calls.{Unless, Carries};
+ghost use Rattle.bh_schema.specs.Storage.{IsClean, seen, Works, Keeps, StaysOpen, KeepsSettings};
 
 use crate::host::{Digester, Host};
 use crate::rows::keys::{delete_key, insert_key};
@@ -21,12 +21,14 @@ impl<S: Alter + Drop, D: Digester + Drop> Host<S, D> {
         tenant: &str,
         name: &str,
         secret: &str,
-    ) -> Result<(), StepError>
-        requires { IsClean S.Store self.old → IsWorking (seen S.Store self.old) }
-        ensures working { Unless result (IsClean S.Store self.new → IsWorking (seen S.Store self.new)) }
+    ) -> Result<(), StepError<Refusal>>
+        requires { Works S.Store self.old }
         ensures within { Keeps S.Store self.old self.new }
+        ensures opens { Unless result (StaysOpen S.Store self.old self.new) }
+        ensures working { Unless result (Works S.Store self.new) }
         ensures carries { IsClean S.Store self.new
-            → Carries (λ _. Done) tenant.now (add_key tenant.now name.now secret.now) (seen S.Store self.old).now (seen S.Store self.new).now result }
+            → Carries (λ _. Done) tenant.now (add_key tenant.now name.now secret.now)
+            (seen S.Store self.old).now (seen S.Store self.new).now result }
         ensures settings { KeepsSettings S.Store self.old self.new }
     {
         if !are_words(alloc, tenant, name, secret)? {
@@ -42,12 +44,19 @@ impl<S: Alter + Drop, D: Digester + Drop> Host<S, D> {
     }
 
     /// Takes an access key of a tenant away: InvalidName for either name, NoSuchTenant, NoSuchKeyName.
-    pub fn key_remove(&mut self, alloc: Global, tenant: &str, name: &str) -> Result<(), StepError>
-        requires { IsClean S.Store self.old → IsWorking (seen S.Store self.old) }
-        ensures working { Unless result (IsClean S.Store self.new → IsWorking (seen S.Store self.new)) }
+    pub fn key_remove(
+        &mut self,
+        alloc: Global,
+        tenant: &str,
+        name: &str,
+    ) -> Result<(), StepError<Refusal>>
+        requires { Works S.Store self.old }
         ensures within { Keeps S.Store self.old self.new }
+        ensures opens { Unless result (StaysOpen S.Store self.old self.new) }
+        ensures working { Unless result (Works S.Store self.new) }
         ensures carries { IsClean S.Store self.new
-            → Carries (λ _. Done) tenant.now (remove_key tenant.now name.now) (seen S.Store self.old).now (seen S.Store self.new).now result }
+            → Carries (λ _. Done) tenant.now (remove_key tenant.now name.now)
+            (seen S.Store self.old).now (seen S.Store self.new).now result }
         ensures settings { KeepsSettings S.Store self.old self.new }
     {
         if !are_names(alloc, tenant, name)? {

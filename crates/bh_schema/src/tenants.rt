@@ -1,6 +1,6 @@
 ghost use Rattle.bh_model.specs.Operations.{Done, add_tenant};
-ghost use Rattle.bh_storage.specs.Calls.{IsWorking, Unless, Carries};
-ghost use Rattle.bh_schema.specs.Storage.{IsClean, seen, Keeps, KeepsSettings};
+ghost use Rattle.bh_storage.specs.Calls.{Unless, Carries};
+ghost use Rattle.bh_schema.specs.Storage.{IsClean, seen, Works, Keeps, StaysOpen, KeepsSettings};
 
 use crate::host::{Digester, Host};
 use crate::rows::tenants::{find_tenant, insert_tenant};
@@ -14,12 +14,19 @@ use std::alloc::Global;
 
 impl<S: Alter + Drop, D: Digester + Drop> Host<S, D> {
     /// Adds a tenant with a quota in bytes: InvalidName, InvalidQuota, TenantExists.
-    pub fn tenant_add(&mut self, alloc: Global, tenant: &str, quota: u64) -> Result<(), StepError>
-        requires { IsClean S.Store self.old → IsWorking (seen S.Store self.old) }
-        ensures working { Unless result (IsClean S.Store self.new → IsWorking (seen S.Store self.new)) }
+    pub fn tenant_add(
+        &mut self,
+        alloc: Global,
+        tenant: &str,
+        quota: u64,
+    ) -> Result<(), StepError<Refusal>>
+        requires { Works S.Store self.old }
         ensures within { Keeps S.Store self.old self.new }
+        ensures opens { Unless result (StaysOpen S.Store self.old self.new) }
+        ensures working { Unless result (Works S.Store self.new) }
         ensures carries { IsClean S.Store self.new
-            → Carries (λ _. Done) tenant.now (add_tenant tenant.now quota) (seen S.Store self.old).now (seen S.Store self.new).now result }
+            → Carries (λ _. Done) tenant.now (add_tenant tenant.now quota)
+            (seen S.Store self.old).now (seen S.Store self.new).now result }
         ensures settings { KeepsSettings S.Store self.old self.new }
     {
         if TenantName::read(alloc, tenant)?.is_none() {

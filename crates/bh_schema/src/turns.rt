@@ -1,7 +1,7 @@
-ghost use Rattle.std.specs.Prelude.{◌≡◌, ◌⊎◌, false, OnOk, OnErr};
+ghost use Rattle.std.specs.Prelude.{◌≡◌, ◌⊎◌, OnOk, OnErr};
 ghost use Rattle.bh_tables.specs.Typed.{Tables};
-ghost use Rattle.bh_storage.specs.Calls.{IsAtRest, IsWorking, IsSettled};
-ghost use Rattle.bh_schema.specs.Storage.{IsClean, IsIntact, IsOpen, seen, left, Keeps, KeepsSettings};
+ghost use Rattle.bh_storage.specs.Calls.{IsAtRest, IsWorking, LeavesNothingNew, Commits, TakesBack};
+ghost use Rattle.bh_schema.specs.Storage.{IsClean, IsIntact, IsOpen, seen, left, Works, Keeps, KeepsSettings};
 
 use crate::host::{Digester, Host};
 use crate::rows::transactions;
@@ -14,9 +14,10 @@ impl<S: Alter + Drop, D: Digester + Drop> Host<S, D> {
     pub fn begin(&mut self) -> Result<(), Trouble>
         requires { IsClean S.Store self.old → IsAtRest (seen S.Store self.old) }
         ensures within { Keeps S.Store self.old self.new }
-        ensures same { OnOk result (IsClean S.Store self.new → (seen S.Store self.new).now ≡ (seen S.Store self.old).now) }
-        ensures working { OnOk result (IsClean S.Store self.new → IsWorking (seen S.Store self.new)) }
+        ensures survives { IsIntact S.Store self.new → LeavesNothingNew (left S.Store) self.old self.new }
         ensures opens { OnOk result (IsIntact S.Store self.new → IsOpen S.Store self.old × IsOpen S.Store self.new) }
+        ensures same { OnOk result (IsIntact S.Store self.new → (seen S.Store self.new).now ≡ (seen S.Store self.old).now) }
+        ensures working { OnOk result (IsIntact S.Store self.new → IsWorking (seen S.Store self.new)) }
         ensures settings { KeepsSettings S.Store self.old self.new }
     {
         told(transactions::begin(&mut self.connection))?;
@@ -25,13 +26,17 @@ impl<S: Alter + Drop, D: Digester + Drop> Host<S, D> {
 
     /// Commits the transaction. A crash then finds what was committed.
     pub fn commit(&mut self) -> Result<(), Trouble>
-        requires { IsClean S.Store self.old → IsWorking (seen S.Store self.old) }
-        ensures survives { OnOk result (IsClean S.Store self.new → (x : Tables) → left S.Store self.new x → x ≡ (seen S.Store self.old).now) }
-        ensures crash { OnErr result (IsClean S.Store self.new → (x : Tables) → left S.Store self.new x → left S.Store self.old x ⊎ (x ≡ (seen S.Store self.old).now)) }
-        ensures clean { IsClean S.Store self.new → IsClean S.Store self.old }
-        ensures done { OnOk result (IsClean S.Store self.new → ((seen S.Store self.new).now ≡ (seen S.Store self.old).now)
-            × ((seen S.Store self.new).kept ≡ (seen S.Store self.old).now) × ((seen S.Store self.new).inside ≡ false)) }
-        ensures kept { OnErr result (IsClean S.Store self.new → ((seen S.Store self.new).kept ≡ (seen S.Store self.old).kept) × IsSettled (seen S.Store self.new)) }
+        requires { Works S.Store self.old }
+        ensures intact { IsIntact S.Store self.new → IsIntact S.Store self.old }
+        ensures opened { IsIntact S.Store self.new → IsOpen S.Store self.new → IsOpen S.Store self.old }
+        ensures opens { OnOk result (IsIntact S.Store self.new → IsOpen S.Store self.old × IsOpen S.Store self.new) }
+        ensures done { OnOk result (IsIntact S.Store self.new → Commits (seen S.Store self.old) (seen S.Store self.new)) }
+        ensures survives { OnOk result (IsIntact S.Store self.new → (x : Tables) → left S.Store self.new x
+            → x ≡ (seen S.Store self.old).now) }
+        ensures crash { OnErr result (IsOpen S.Store self.old → IsIntact S.Store self.new → (x : Tables) → left S.Store self.new x
+            → left S.Store self.old x ⊎ (x ≡ (seen S.Store self.old).now)) }
+        ensures kept { OnErr result (IsClean S.Store self.new → (seen S.Store self.new).kept ≡ (seen S.Store self.old).kept) }
+        ensures limits { (seen S.Store self.new).limits ≡ (seen S.Store self.old).limits }
         ensures settings { KeepsSettings S.Store self.old self.new }
     {
         told(transactions::commit(&mut self.connection))?;
@@ -40,10 +45,11 @@ impl<S: Alter + Drop, D: Digester + Drop> Host<S, D> {
 
     /// Ends the transaction, if one is open: what was committed stands.
     pub fn take_back(&mut self)
-        ensures survives { IsClean S.Store self.new → (x : Tables) → left S.Store self.new x → left S.Store self.old x }
-        ensures clean { IsClean S.Store self.new → IsClean S.Store self.old }
-        ensures back { IsClean S.Store self.new → ((seen S.Store self.new).now ≡ (seen S.Store self.old).kept)
-            × ((seen S.Store self.new).kept ≡ (seen S.Store self.old).kept) × ((seen S.Store self.new).inside ≡ false) }
+        ensures intact { IsIntact S.Store self.new → IsIntact S.Store self.old }
+        ensures opened { IsIntact S.Store self.new → IsOpen S.Store self.new → IsOpen S.Store self.old }
+        ensures survives { IsIntact S.Store self.new → LeavesNothingNew (left S.Store) self.old self.new }
+        ensures back { IsClean S.Store self.new → TakesBack (seen S.Store self.old) (seen S.Store self.new) }
+        ensures limits { (seen S.Store self.new).limits ≡ (seen S.Store self.old).limits }
         ensures settings { KeepsSettings S.Store self.old self.new }
     {
         transactions::take_back(&mut self.connection);

@@ -6,7 +6,7 @@ use Rattle.sqlite.specs.Held.{Held, state}
 use Rattle.sqlite.specs.Steps.{over_memory}
 use Rattle.bh_schema.specs.Layer.{IsIntact, IsOpen, IsClean}
 
-is_intact : (h : Held MemStore) → IsIntact (state over_memory h)
+pub is_intact : (h : Held MemStore) → IsIntact (state over_memory h)
   unfolding IsIntact doubt
 is_intact h = refl
 

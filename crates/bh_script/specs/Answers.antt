@@ -15,7 +15,7 @@ first_tables = new_host default_limits.min_part default_limits.max_body
 
 -- a new host, given these events one after another, gave these answers
 abbrev pub AnewRan : List Arrival → List Told → Type 0
-AnewRan events dones = (end : Tables) × Ran default_limits events dones first_tables end
+AnewRan events dones = (end : Tables) × Ran events dones first_tables end
 
 -- a reply, and a line feed
 abbrev pub reply_line : Told → List ℕ

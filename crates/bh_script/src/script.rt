@@ -11,10 +11,10 @@ ghost use Rattle.bh_script.specs.Answers.{AnewRan, AnswersScript, replies_text, 
 use crate::digester::Sha256Digester;
 use crate::input::{BadLine, read_script};
 use bh_create::create::create;
+use bh_dispatch::storage::HostStorage;
 use bh_event::event::Event;
 use bh_host::apply::Done;
 use bh_host::run::run;
-use bh_objects::storage::HostStorage;
 use bh_types::limits::{Limits, Tuning};
 use sqlite::{Connection, MemStore};
 use std::alloc::{AllocError, Global};
@@ -63,7 +63,8 @@ pub fn answer_script(alloc: Global, bytes: &[u8]) -> Result<Answered, Fault>
 
 /// A new host in memory.
 fn new_host(alloc: Global) -> Result<HostStorage<MemStore, Sha256Digester>, Fault>
-    ensures { IfOk result (λ storage. IsNewHost default_limits (state over_memory storage.host.connection)) }
+    ensures limits { IfOk result (λ storage. storage.host.limits ≡ default_limits) }
+    ensures made { IfOk result (λ storage. IsNewHost storage.host.limits (state over_memory storage.host.connection)) }
 {
     let connection = Connection::open_in_memory(alloc)?;
     match create(connection, Sha256Digester, Limits::default(), Tuning::default()) {
@@ -77,7 +78,7 @@ fn serve(alloc: Global, events: &[Event]) -> Result<Vec<Done>, Fault>
     ensures { IfOk result (λ dones. AnewRan (map arrival events.now) (map told dones.items)) }
 {
     let mut storage = new_host(alloc)?;
-    Ok(run(alloc, &Limits::default(), &mut storage, events)?)
+    Ok(run(alloc, &mut storage, events)?)
 }
 
 /// The text that tells what was done, and the bad line.

@@ -1,10 +1,17 @@
 -- Errors as one another.
+use Rattle.bh_types.specs.Rejections.{plain}
 use Rattle.bh_types.specs.declared.error.RequestError.{RequestError}
 use Rattle.bh_types.specs.declared.error.RequestError.TheVariants as request
+use Rattle.bh_types.specs.declared.refusal.Refusal.{Refusal}
+use Rattle.bh_types.specs.declared.rejection.Rejection.{Rejection}
 use Rattle.bh_storage.specs.declared.error.Trouble.TheVariants.{Memory}
 use Rattle.bh_storage.specs.declared.error.StepError.{StepError}
 use Rattle.bh_storage.specs.declared.error.StepError.TheVariants.{Refused, Failed}
 
-abbrev pub step_error : RequestError → StepError
-step_error (request.Refused refusal) = Refused refusal
-step_error request.OutOfMemory = Failed Memory
+abbrev pub request_rejected : RequestError → StepError Rejection
+request_rejected (request.Refused refusal) = Refused (plain refusal)
+request_rejected request.OutOfMemory = Failed Memory
+
+abbrev pub step_rejected : StepError Refusal → StepError Rejection
+step_rejected (Refused refusal) = Refused (plain refusal)
+step_rejected (Failed trouble) = Failed trouble

@@ -1,5 +1,14 @@
 use bh_types::id::VersionId;
 
+/// What an operation answers where nothing is refused.
+#[derive(Drop)]
+pub enum Answer {
+    /// Nothing but that it is done.
+    Done,
+    Stored(StoredVersion),
+    Found(FoundVersion),
+}
+
 /// What a put answers.
 #[derive(Drop)]
 pub struct StoredVersion {

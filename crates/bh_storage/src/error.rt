@@ -1,5 +1,6 @@
 use bh_types::error::RequestError;
 use bh_types::refusal::Refusal;
+use bh_types::rejection::Rejection;
 use std::alloc::AllocError;
 
 /// Why a call was not carried out though nothing is wrong with what it asks.
@@ -22,58 +23,95 @@ impl From<AllocError> for Trouble {
     }
 }
 
-/// Why a call of a tenant gave nothing.
+/// Why a step of a tenant gave nothing: refused for a reason `E`, or for want of memory or the store.
 #[derive(Clone, Copy, Debug, PartialEq, Eq)]
-pub enum StepError {
+pub enum StepError<E> {
     /// A numbered refusal: the tables are as they were.
-    Refused(Refusal),
+    Refused(E),
     /// Memory or the store was wanting: of the rows nothing is said until the transaction is taken back.
     Failed(Trouble),
 }
 
-impl From<Trouble> for StepError {
+impl<E> From<Trouble> for StepError<E> {
     ghost use Rattle.std.specs.Prelude.{◌≡◌};
     ghost use Rattle.bh_storage.specs.declared.error.StepError.TheVariants.{Failed};
 
     ghost from_gives = { λ trouble e. e ≡ Failed trouble };
 
-    fn from(trouble: Trouble) -> StepError {
+    fn from(trouble: Trouble) -> StepError<E> {
         StepError::Failed(trouble)
     }
 }
 
-impl From<Refusal> for StepError {
-    ghost use Rattle.std.specs.Prelude.{◌≡◌};
-    ghost use Rattle.bh_storage.specs.declared.error.StepError.TheVariants.{Refused};
-
-    ghost from_gives = { λ refusal e. e ≡ Refused refusal };
-
-    fn from(refusal: Refusal) -> StepError {
-        StepError::Refused(refusal)
-    }
-}
-
-impl From<AllocError> for StepError {
+impl<E> From<AllocError> for StepError<E> {
     ghost use Rattle.std.specs.Prelude.{◌≡◌};
     ghost use Rattle.bh_storage.specs.declared.error.Trouble.TheVariants.{Memory};
     ghost use Rattle.bh_storage.specs.declared.error.StepError.TheVariants.{Failed};
 
     ghost from_gives = { λ _ e. e ≡ Failed Memory };
 
-    fn from(_error: AllocError) -> StepError {
+    fn from(_error: AllocError) -> StepError<E> {
         StepError::Failed(Trouble::Memory)
     }
 }
 
-impl From<RequestError> for StepError {
+impl From<Refusal> for StepError<Refusal> {
     ghost use Rattle.std.specs.Prelude.{◌≡◌};
-    ghost use Rattle.bh_storage.specs.Errors.{step_error};
+    ghost use Rattle.bh_storage.specs.declared.error.StepError.TheVariants.{Refused};
 
-    ghost from_gives = { λ error e. e ≡ step_error error };
+    ghost from_gives = { λ refusal e. e ≡ Refused refusal };
 
-    fn from(error: RequestError) -> StepError {
+    fn from(refusal: Refusal) -> StepError<Refusal> {
+        StepError::Refused(refusal)
+    }
+}
+
+impl From<Refusal> for StepError<Rejection> {
+    ghost use Rattle.std.specs.Prelude.{◌≡◌};
+    ghost use Rattle.bh_types.specs.Rejections.{plain};
+    ghost use Rattle.bh_storage.specs.declared.error.StepError.TheVariants.{Refused};
+
+    ghost from_gives = { λ refusal e. e ≡ Refused (plain refusal) };
+
+    fn from(refusal: Refusal) -> StepError<Rejection> {
+        StepError::Refused(Rejection::from(refusal))
+    }
+}
+
+impl From<Rejection> for StepError<Rejection> {
+    ghost use Rattle.std.specs.Prelude.{◌≡◌};
+    ghost use Rattle.bh_storage.specs.declared.error.StepError.TheVariants.{Refused};
+
+    ghost from_gives = { λ rejection e. e ≡ Refused rejection };
+
+    fn from(rejection: Rejection) -> StepError<Rejection> {
+        StepError::Refused(rejection)
+    }
+}
+
+impl From<StepError<Refusal>> for StepError<Rejection> {
+    ghost use Rattle.std.specs.Prelude.{◌≡◌};
+    ghost use Rattle.bh_storage.specs.Errors.{step_rejected};
+
+    ghost from_gives = { λ error e. e ≡ step_rejected error };
+
+    fn from(error: StepError<Refusal>) -> StepError<Rejection> {
         match error {
-            RequestError::Refused(refusal) => StepError::Refused(refusal),
+            StepError::Refused(refusal) => StepError::Refused(Rejection::from(refusal)),
+            StepError::Failed(trouble) => StepError::Failed(trouble),
+        }
+    }
+}
+
+impl From<RequestError> for StepError<Rejection> {
+    ghost use Rattle.std.specs.Prelude.{◌≡◌};
+    ghost use Rattle.bh_storage.specs.Errors.{request_rejected};
+
+    ghost from_gives = { λ error e. e ≡ request_rejected error };
+
+    fn from(error: RequestError) -> StepError<Rejection> {
+        match error {
+            RequestError::Refused(refusal) => StepError::Refused(Rejection::from(refusal)),
             RequestError::OutOfMemory => StepError::Failed(Trouble::Memory),
         }
     }

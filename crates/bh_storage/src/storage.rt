@@ -1,149 +1,133 @@
-ghost use Rattle.std.specs.Prelude.{◌≡◌, ◌⊎◌, ◌≤◌, ℕ, true, false, Some, None, IfOk, OnOk, OnErr};
-ghost use Rattle.bh_model.specs.Credentials.{authenticate};
-ghost use Rattle.bh_model.specs.Operations.{Done, add_tenant, add_key, remove_key, create_bucket, put_object};
+ghost use Rattle.std.specs.Prelude.{◌≡◌, ◌⊎◌, ◌≤◌, IfOk, OnOk, OnErr};
+ghost use Rattle.bh_event.specs.Events.{order_of};
+ghost use Rattle.bh_machine.specs.Machine.{tenant_of, operated, ordered};
+ghost use Rattle.bh_model.specs.Credentials as machine;
+ghost use Rattle.bh_model.specs.Operations.{Done};
 ghost use Rattle.bh_model.specs.Runs.{last_reading};
 ghost use Rattle.bh_tables.specs.Typed.{Tables};
 ghost use Rattle.bh_view.specs.View.{view, latest_of};
-ghost use Rattle.bh_storage.specs.Calls.{Seen, Within, IsAtRest, IsWorking, IsSettled, Unless, Stamps, Purges, Carries, Decides, stored_answer, found_answer, get_current};
+ghost use Rattle.bh_storage.specs.Answers.{answer_view};
+ghost use Rattle.bh_storage.specs.Calls.{Seen, Clean, Within, LeavesNothingNew, IsAtRest, IsWorking, Commits, TakesBack, Unless, Stamps, Purges, Carries, Decides};
 
-use crate::answer::{FoundVersion, StoredVersion};
+use crate::answer::Answer;
 use crate::error::{StepError, Trouble};
-use bh_types::bucket::BucketName;
-use bh_types::key::ObjectKey;
+use bh_event::event::Command;
+use bh_operation::operation::Operation;
+use bh_types::access_key::AccessKeyId;
+use bh_types::limits::Limits;
 use bh_types::moment::Moment;
 use bh_types::names::TenantName;
+use bh_types::refusal::Refusal;
+use bh_types::rejection::Rejection;
 use std::alloc::Global;
 
-/// The calls of a host's storage. All but `begin` and `take_back` work in an open transaction. A call that
-/// refuses leaves the tables as they were; where memory or the store was wanting, `take_back` brings back
+/// The calls of a host's storage. All but `limits`, `begin` and `take_back` work in an open transaction. A call
+/// that refuses leaves the tables as they were; where memory or the store was wanting, `take_back` brings back
 /// what was committed.
+///
+/// What is said of replies and of a crash holds of a store that gives back what was written to it, whatever
+/// errors it reports; what is said of the tables holds while no fault has shut it.
 pub trait Storage {
-    /// What stands, what was committed, and whether a transaction is open.
+    /// What stands, what was committed, whether a transaction is open, and the limits.
     ghost seen: { Self → Seen };
 
-    /// The store gave back what was written to it, and is open.
-    ghost IsClean: { Self → Type 0 };
+    /// The store gave back what was written to it.
+    ghost IsIntact: { Self → Type 0 };
+
+    /// No fault has shut the store.
+    ghost IsOpen: { Self → Type 0 };
 
     /// What a crash at this moment may leave.
     ghost left: { Self → Tables → Type 0 };
 
-    /// Opens a transaction.
+    /// The limits that the host was made with.
+    fn limits(&self) -> Limits
+        ensures { result ≡ (seen self.now).limits };
+
+    /// Opens a transaction. A store that a fault has shut refuses it.
     fn begin(&mut self) -> Result<(), Trouble>
-        requires { IsClean self.old → IsAtRest (seen self.old) }
-        ensures within { Within IsClean seen left self.old self.new }
-        ensures same { OnOk result (IsClean self.new → (seen self.new).now ≡ (seen self.old).now) }
-        ensures working { OnOk result (IsClean self.new → IsWorking (seen self.new)) };
+        requires { Clean IsIntact IsOpen self.old → IsAtRest (seen self.old) }
+        ensures within { Within IsIntact IsOpen seen left self.old self.new }
+        ensures survives { IsIntact self.new → LeavesNothingNew left self.old self.new }
+        ensures opens { OnOk result (IsIntact self.new → IsOpen self.old × IsOpen self.new) }
+        ensures same { OnOk result (IsIntact self.new → (seen self.new).now ≡ (seen self.old).now) }
+        ensures working { OnOk result (IsIntact self.new → IsWorking (seen self.new)) };
 
     /// Commits the transaction.
     fn commit(&mut self) -> Result<(), Trouble>
-        requires { IsClean self.old → IsWorking (seen self.old) }
-        ensures survives { OnOk result (IsClean self.new → (x : Tables) → left self.new x → x ≡ (seen self.old).now) }
-        ensures crash { OnErr result (IsClean self.new → (x : Tables) → left self.new x → left self.old x ⊎ (x ≡ (seen self.old).now)) }
-        ensures clean { IsClean self.new → IsClean self.old }
-        ensures done { OnOk result (IsClean self.new → ((seen self.new).now ≡ (seen self.old).now) × ((seen self.new).kept ≡ (seen self.old).now) × ((seen self.new).inside ≡ false)) }
-        ensures kept { OnErr result (IsClean self.new → ((seen self.new).kept ≡ (seen self.old).kept) × IsSettled (seen self.new)) };
+        requires { Clean IsIntact IsOpen self.old → IsWorking (seen self.old) }
+        ensures intact { IsIntact self.new → IsIntact self.old }
+        ensures opened { IsIntact self.new → IsOpen self.new → IsOpen self.old }
+        ensures opens { OnOk result (IsIntact self.new → IsOpen self.old × IsOpen self.new) }
+        ensures done { OnOk result (IsIntact self.new → Commits (seen self.old) (seen self.new)) }
+        ensures survives { OnOk result (IsIntact self.new → (x : Tables) → left self.new x → x ≡ (seen self.old).now) }
+        ensures crash { OnErr result (IsOpen self.old → IsIntact self.new → (x : Tables) → left self.new x → left self.old x ⊎ (x ≡ (seen self.old).now)) }
+        ensures kept { OnErr result (Clean IsIntact IsOpen self.new → (seen self.new).kept ≡ (seen self.old).kept) }
+        ensures limits { (seen self.new).limits ≡ (seen self.old).limits };
 
     /// Ends the transaction, if one is open: what was committed stands.
     fn take_back(&mut self)
-        ensures survives { IsClean self.new → (x : Tables) → left self.new x → left self.old x }
-        ensures clean { IsClean self.new → IsClean self.old }
-        ensures back { IsClean self.new → IsSettled (seen self.old) → ((seen self.new).now ≡ (seen self.old).kept) × ((seen self.new).kept ≡ (seen self.old).kept) × ((seen self.new).inside ≡ false) };
+        ensures intact { IsIntact self.new → IsIntact self.old }
+        ensures opened { IsIntact self.new → IsOpen self.new → IsOpen self.old }
+        ensures survives { IsIntact self.new → LeavesNothingNew left self.old self.new }
+        ensures back { Clean IsIntact IsOpen self.new → TakesBack (seen self.old) (seen self.new) }
+        ensures limits { (seen self.new).limits ≡ (seen self.old).limits };
 
     /// Writes the stamp of a reading, in seconds since 1970: the greater of it and the last stamp.
     fn stamp(&mut self, reading: u64) -> Result<Moment, Trouble>
         requires in_range { reading ≤ last_reading }
-        requires working { IsClean self.old → IsWorking (seen self.old) }
-        ensures working { OnOk result (IsClean self.new → IsWorking (seen self.new)) }
-        ensures within { Within IsClean seen left self.old self.new }
-        ensures stamps { IfOk result (λ m. IsClean self.new → Stamps reading m (seen self.old).now (seen self.new).now) };
+        requires working { Clean IsIntact IsOpen self.old → IsWorking (seen self.old) }
+        ensures within { Within IsIntact IsOpen seen left self.old self.new }
+        ensures opens { OnOk result (IsOpen self.old → IsIntact self.new → IsOpen self.new) }
+        ensures working { OnOk result (Clean IsIntact IsOpen self.new → IsWorking (seen self.new)) }
+        ensures stamps { IfOk result (λ m. Clean IsIntact IsOpen self.new → Stamps reading m (seen self.old).now (seen self.new).now) };
 
     /// Takes away a tenant's uploads that are stale at a moment.
     fn purge(&mut self, tenant: &TenantName, at: Moment) -> Result<(), Trouble>
-        requires { IsClean self.old → IsWorking (seen self.old) }
-        ensures working { OnOk result (IsClean self.new → IsWorking (seen self.new)) }
-        ensures within { Within IsClean seen left self.old self.new }
-        ensures purges { OnOk result (IsClean self.new → Purges tenant.now at (seen self.old).now (seen self.new).now) };
+        requires { Clean IsIntact IsOpen self.old → IsWorking (seen self.old) }
+        ensures within { Within IsIntact IsOpen seen left self.old self.new }
+        ensures opens { OnOk result (IsOpen self.old → IsIntact self.new → IsOpen self.new) }
+        ensures working { OnOk result (Clean IsIntact IsOpen self.new → IsWorking (seen self.new)) }
+        ensures purges { OnOk result (Clean IsIntact IsOpen self.new → Purges tenant.now at (seen self.old).now (seen self.new).now) };
 
-    /// Whether an access key of a tenant has this secret: InvalidAccessKeyId, AccessDenied.
+    /// Whether an access key has this secret: InvalidAccessKeyId, AccessDenied.
     fn authenticate(
         &mut self,
         alloc: Global,
-        tenant: &TenantName,
-        id: &[u8],
+        key: &AccessKeyId,
         secret: &[u8],
-    ) -> Result<(), StepError>
-        requires { IsClean self.old → IsWorking (seen self.old) }
-        ensures working { Unless result (IsClean self.new → IsWorking (seen self.new)) }
-        ensures within { Within IsClean seen left self.old self.new }
-        ensures decides { IsClean self.new → Decides (λ _. tt) (authenticate id.now secret.now (view (seen self.old).now tenant.now)) (seen self.old).now (seen self.new).now result };
+    ) -> Result<(), StepError<Refusal>>
+        requires { Clean IsIntact IsOpen self.old → IsWorking (seen self.old) }
+        ensures within { Within IsIntact IsOpen seen left self.old self.new }
+        ensures opens { Unless result (IsOpen self.old → IsIntact self.new → IsOpen self.new) }
+        ensures working { Unless result (Clean IsIntact IsOpen self.new → IsWorking (seen self.new)) }
+        ensures decides { Clean IsIntact IsOpen self.new
+            → Decides (λ _. tt) (machine.authenticate key.now secret.now (view (seen self.old).now key.now.tenant)) (seen self.old).now (seen self.new).now result };
 
-    /// Adds a tenant with a quota in bytes: InvalidName, InvalidQuota, TenantExists.
-    fn tenant_add(&mut self, alloc: Global, tenant: &str, quota: u64) -> Result<(), StepError>
-        requires { IsClean self.old → IsWorking (seen self.old) }
-        ensures working { Unless result (IsClean self.new → IsWorking (seen self.new)) }
-        ensures within { Within IsClean seen left self.old self.new }
-        ensures carries { IsClean self.new → Carries (λ _. Done) tenant.now (add_tenant tenant.now quota) (seen self.old).now (seen self.new).now result };
-
-    /// Adds an access key: InvalidName, NoSuchTenant, KeyExists.
-    fn key_add(
-        &mut self,
-        alloc: Global,
-        tenant: &str,
-        name: &str,
-        secret: &str,
-    ) -> Result<(), StepError>
-        requires { IsClean self.old → IsWorking (seen self.old) }
-        ensures working { Unless result (IsClean self.new → IsWorking (seen self.new)) }
-        ensures within { Within IsClean seen left self.old self.new }
-        ensures carries { IsClean self.new → Carries (λ _. Done) tenant.now (add_key tenant.now name.now secret.now) (seen self.old).now (seen self.new).now result };
-
-    /// Removes an access key: InvalidName, NoSuchTenant, NoSuchKeyName.
-    fn key_remove(&mut self, alloc: Global, tenant: &str, name: &str) -> Result<(), StepError>
-        requires { IsClean self.old → IsWorking (seen self.old) }
-        ensures working { Unless result (IsClean self.new → IsWorking (seen self.new)) }
-        ensures within { Within IsClean seen left self.old self.new }
-        ensures carries { IsClean self.new → Carries (λ _. Done) tenant.now (remove_key tenant.now name.now) (seen self.old).now (seen self.new).now result };
-
-    /// S3's CreateBucket: BucketAlreadyOwnedByYou.
-    fn create_bucket(
+    /// Carries out an operation of a tenant whose stale uploads are gone, at a moment that is not after the
+    /// last stamp.
+    fn operate(
         &mut self,
         alloc: Global,
         tenant: &TenantName,
         at: Moment,
-        bucket: &BucketName,
-    ) -> Result<(), StepError>
-        requires working { IsClean self.old → IsWorking (seen self.old) }
-        requires early { IsClean self.old → at ≤ latest_of (seen self.old).now }
-        ensures working { Unless result (IsClean self.new → IsWorking (seen self.new)) }
-        ensures within { Within IsClean seen left self.old self.new }
-        ensures carries { IsClean self.new → Carries (λ _. Done) tenant.now (create_bucket at bucket.now) (seen self.old).now (seen self.new).now result };
+        operation: &Operation,
+        body: &[u8],
+    ) -> Result<Answer, StepError<Rejection>>
+        requires working { Clean IsIntact IsOpen self.old → IsWorking (seen self.old) }
+        requires early { Clean IsIntact IsOpen self.old → at ≤ latest_of (seen self.old).now }
+        ensures within { Within IsIntact IsOpen seen left self.old self.new }
+        ensures opens { Unless result (IsOpen self.old → IsIntact self.new → IsOpen self.new) }
+        ensures working { Unless result (Clean IsIntact IsOpen self.new → IsWorking (seen self.new)) }
+        ensures carries { Clean IsIntact IsOpen self.new
+            → Carries answer_view tenant.now (operated at body.now operation.now) (seen self.old).now (seen self.new).now result };
 
-    /// S3's PutObject: NoSuchBucket, CounterExhausted.
-    fn put_object(
-        &mut self,
-        alloc: Global,
-        tenant: &TenantName,
-        at: Moment,
-        bucket: &BucketName,
-        key: &ObjectKey,
-        bytes: &[u8],
-    ) -> Result<StoredVersion, StepError>
-        requires working { IsClean self.old → IsWorking (seen self.old) }
-        requires early { IsClean self.old → at ≤ latest_of (seen self.old).now }
-        ensures working { Unless result (IsClean self.new → IsWorking (seen self.new)) }
-        ensures within { Within IsClean seen left self.old self.new }
-        ensures carries { IsClean self.new → Carries stored_answer tenant.now (put_object at bucket.now key.now bytes.now None) (seen self.old).now (seen self.new).now result };
-
-    /// S3's GetObject of the current version: NoSuchBucket, NoSuchKey.
-    fn get_object(
-        &mut self,
-        alloc: Global,
-        tenant: &TenantName,
-        bucket: &BucketName,
-        key: &ObjectKey,
-    ) -> Result<FoundVersion, StepError>
-        requires { IsClean self.old → IsWorking (seen self.old) }
-        ensures working { Unless result (IsClean self.new → IsWorking (seen self.new)) }
-        ensures within { Within IsClean seen left self.old self.new }
-        ensures carries { IsClean self.new → Carries found_answer tenant.now (get_current bucket.now key.now) (seen self.old).now (seen self.new).now result };
+    /// Carries out an operator's command on the tenant that it names.
+    fn command(&mut self, alloc: Global, command: &Command) -> Result<(), StepError<Refusal>>
+        requires { Clean IsIntact IsOpen self.old → IsWorking (seen self.old) }
+        ensures within { Within IsIntact IsOpen seen left self.old self.new }
+        ensures opens { Unless result (IsOpen self.old → IsIntact self.new → IsOpen self.new) }
+        ensures working { Unless result (Clean IsIntact IsOpen self.new → IsWorking (seen self.new)) }
+        ensures carries { Clean IsIntact IsOpen self.new
+            → Carries (λ _. Done) (tenant_of (order_of command.now)) (ordered (order_of command.now)) (seen self.old).now (seen self.new).now result };
 }

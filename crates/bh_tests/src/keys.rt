@@ -1,8 +1,8 @@
 //! The rows of a tenant and its access key.
 use bh_create::create::create;
+use bh_dispatch::storage::HostStorage;
 use bh_event::event::Event;
 use bh_host::run::run;
-use bh_objects::storage::HostStorage;
 use bh_script::digester::Sha256Digester;
 use bh_script::input::read_script;
 use bh_types::limits::{Limits, Tuning};
@@ -22,12 +22,16 @@ const SCRIPT: &str = r#"
 /// The tenant, its quota, its key's name and its secret, once events were applied to a new host.
 fn key_after(alloc: Global, events: &[Event]) -> Result<String, Fail> {
     let connection = Connection::open_in_memory(alloc)?;
-    let limits = Limits::default();
-    let Ok(host) = create(connection, Sha256Digester, limits, Tuning::default()) else {
+    let Ok(host) = create(
+        connection,
+        Sha256Digester,
+        Limits::default(),
+        Tuning::default(),
+    ) else {
         return Err(Fail::from("no host"));
     };
     let mut storage = HostStorage { host };
-    let _ = run(alloc, &limits, &mut storage, events)?;
+    let _ = run(alloc, &mut storage, events)?;
     let mut connection = storage.host.into_connection();
     let row = connection.query_row(
         "SELECT tenants.tenant || ' ' || quota || ' ' || name || ' ' || secret FROM tenants, keys",

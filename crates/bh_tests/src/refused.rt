@@ -1,9 +1,9 @@
 //! What refused requests answer, and that they leave all rows but the last stamp.
 use crate::events::tenant_add;
 use bh_create::create::create;
+use bh_dispatch::storage::HostStorage;
 use bh_event::event::{Command, Event};
 use bh_host::run::run;
-use bh_objects::storage::HostStorage;
 use bh_script::digester::Sha256Digester;
 use bh_types::limits::{Limits, Tuning};
 use sqlite::{Alter, Connection, Row};
@@ -106,12 +106,16 @@ fn all_tables<S: Alter>(
 
 fn outcome_of(alloc: Global, events: &[Event]) -> Result<Outcome, Fail> {
     let connection = Connection::open_in_memory(alloc)?;
-    let limits = Limits::default();
-    let Ok(host) = create(connection, Sha256Digester, limits, Tuning::default()) else {
+    let Ok(host) = create(
+        connection,
+        Sha256Digester,
+        Limits::default(),
+        Tuning::default(),
+    ) else {
         return Err(Fail::from("no host"));
     };
     let mut storage = HostStorage { host };
-    let dones = run(alloc, &limits, &mut storage, events)?;
+    let dones = run(alloc, &mut storage, events)?;
     let last = dones.as_slice().last().ok_or("no event")?;
     let last_reply = String::from_utf8_lossy(alloc, last.reply.bytes())?;
     let mut connection = storage.host.into_connection();

@@ -1,9 +1,9 @@
 //! The stamps of events, whatever the clock reads.
 use crate::events::tenant_add;
 use bh_create::create::create;
+use bh_dispatch::storage::HostStorage;
 use bh_host::apply::Done;
 use bh_host::run::run;
-use bh_objects::storage::HostStorage;
 use bh_script::digester::Sha256Digester;
 use bh_types::limits::{Limits, Tuning};
 use sqlite::Connection;
@@ -28,12 +28,16 @@ fn answers(alloc: Global, additions: &[(u64, &str)]) -> Result<String, Fail> {
         events.push(tenant_add(alloc, *reading, tenant)?)?;
     }
     let connection = Connection::open_in_memory(alloc)?;
-    let limits = Limits::default();
-    let Ok(host) = create(connection, Sha256Digester, limits, Tuning::default()) else {
+    let Ok(host) = create(
+        connection,
+        Sha256Digester,
+        Limits::default(),
+        Tuning::default(),
+    ) else {
         return Err(Fail::from("no host"));
     };
     let mut storage = HostStorage { host };
-    let dones = run(alloc, &limits, &mut storage, events.as_slice())?;
+    let dones = run(alloc, &mut storage, events.as_slice())?;
     Ok(told(alloc, dones.as_slice())?)
 }
 

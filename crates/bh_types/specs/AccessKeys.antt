@@ -1,6 +1,8 @@
--- The tenant that an access key's id names. The id is `tenant$name`.
-use Rattle.std.specs.Prelude.{ℕ, Bool, ◌==◌, List, take, position, if◌then◌else◌, Option, Some, None, option_and_then}
-use Rattle.bh_types.specs.Names.{is_tenant_name}
+-- The access key that an id names. The id is `tenant$name` (Ceph Object Gateway, "Multitenancy": a user in a tenant's namespace is written
+-- `tenant$user`).
+use Rattle.std.specs.Prelude.{ℕ, ◌+◌, Bool, ◌==◌, List, take, drop, position, if◌then◌else◌, Option, Some, None, option_map, option_and_then}
+use Rattle.bh_types.specs.Names.{is_tenant_name, is_key_name}
+use Rattle.bh_types.specs.declared.access_key.AccessKeyId.{AccessKeyId}
 
 -- 36 is '$'
 abbrev pub is_dollar : ℕ → Bool
@@ -10,8 +12,18 @@ is_dollar b = b == 36
 abbrev pub tenant_named : List ℕ → Option (List ℕ)
 tenant_named text = if is_tenant_name text then Some text else None
 
--- the tenant that an access key belongs to: the name before the first '$' of its id. It need not have been added, nor
--- need the key be there
--- Ceph Object Gateway, "Multitenancy": a user in a tenant's namespace is written `tenant$user`
+-- a text, if it is a key's name
+abbrev pub key_named : List ℕ → Option (List ℕ)
+key_named text = if is_key_name text then Some text else None
+
+-- the key of a tenant and a name: none without a tenant's name
+abbrev pub access_key_of : List ℕ → List ℕ → Option AccessKeyId
+access_key_of tenant name = option_map (λ t. record { tenant = t; name = key_named name }) (tenant_named tenant)
+
+-- the tenant is what stands before the first '$', the key's name what stands after it. Neither needs to be there
+abbrev pub access_key : List ℕ → Option AccessKeyId
+access_key id = option_and_then (λ i. access_key_of (take i id) (drop (i + 1) id)) (position is_dollar id)
+
+-- the tenant that an access key belongs to. It need not have been added, nor need the key be there
 abbrev pub tenant_of_key : List ℕ → Option (List ℕ)
-tenant_of_key id = option_and_then (λ i. tenant_named (take i id)) (position is_dollar id)
+tenant_of_key id = option_map (λ (key : AccessKeyId). key.tenant) (access_key id)

@@ -8,3 +8,5 @@ pub mod Names
 pub mod Outcomes
 pub mod Plain
 pub mod Refusals
+pub mod Refusing
+pub mod Rejections

@@ -1,6 +1,7 @@
 //! Names, ids, moments, limits and refusals of a bucket host.
 #![tactic(auto)]
 
+pub mod access_key;
 pub mod bucket;
 mod bytes;
 pub mod error;
@@ -11,3 +12,4 @@ pub mod moment;
 pub mod names;
 pub mod plain;
 pub mod refusal;
+pub mod rejection;

@@ -6,7 +6,7 @@ use Rattle.bh_types.specs.Limits.{AreLimits}
 use Rattle.bh_model.specs.State.{Octets}
 use Rattle.bh_model.specs.Runs.{last_reading}
 use Rattle.bh_tables.specs.Typed.{HostRow, Tables}
-use Rattle.bh_view.specs.View.{TenantRows, rows_of, view, latest_of, with_latest}
+use Rattle.bh_view.specs.View.{TenantRows, rows_of, view, latest_of, limits_in, with_latest}
 use Rattle.bh_view.specs.Sound.{IsBucketRow, IsVersionRow, AreSound, IsSound}
 use Rattle.bh_view.specs.Becomes.{IsStamped}
 use Rattle.bh_view.specs.Laws.{new_host}
@@ -17,6 +17,11 @@ use Rattle.bh_view.proofs.ViewLemmas.{view_is, same_view}
 pub latest_is : (tables : Tables) (row : HostRow) → tables.host ≡ row ∷ [] → latest_of tables ≡ row.latest
 unfolding latest_of
 latest_is tables row alone = ap (λ rows. latest_of (record tables { host = rows })) alone
+
+-- and the limits are that row's
+pub limits_are : (tables : Tables) (row : HostRow) → tables.host ≡ row ∷ [] → limits_in tables ≡ record { min_part = row.min_part; max_body = row.max_body }
+unfolding limits_in
+limits_are tables row alone = ap (λ rows. limits_in (record tables { host = rows })) alone
 
 -- rows that are sound at a stamp are so at a later one
 pub sound_later : (m n : ℕ) → m ≤ n → (rows : TenantRows) → AreSound m rows → AreSound n rows
@@ -38,6 +43,7 @@ stamped old new n sound up top e =
     let latest = latest_is (with_latest n old) (record row { latest = n }) alone in
     subst (IsStamped n old) (sym e) (record {
       latest = latest;
+      limits = limits_are (with_latest n old) (record row { latest = n }) alone ∙ sym (limits_are old row sound.host.alone);
       views = λ u. same_view u old (with_latest n old) refl;
       sound = record {
         host = record { row = record row { latest = n }; alone = alone; good = record { version = sound.host.good.version; latest = top; limits = sound.host.good.limits } };
@@ -54,11 +60,12 @@ stamped_again tables sound =
     ap (map (λ (r : HostRow). record r { latest = latest_of tables })) alone ∙ ap (λ n. record row { latest = n } ∷ []) (latest_is tables row alone) ∙ sym alone in
     ap (λ l. record tables { host = l }) rows
 
--- a new host: no tenant is there
-pub created : (tables : Tables) (min_part max_body : ℕ) → AreLimits min_part max_body → tables ≡ new_host min_part max_body → IsSound tables × (latest_of tables ≡ 0) × ((t : Octets) → view tables t ≡ None)
+-- a new host: no tenant is there, and the limits are those that it was made with
+pub created : (tables : Tables) (min_part max_body : ℕ) → AreLimits min_part max_body → tables ≡ new_host min_part max_body
+    → IsSound tables × (latest_of tables ≡ 0) × ((t : Octets) → view tables t ≡ None) × (limits_in tables ≡ record { min_part = min_part; max_body = max_body })
 created tables min_part max_body limits e =
     let row : HostRow = record { version = 0; latest = 0; min_part = min_part; max_body = max_body } in
-    subst (λ (x : Tables). IsSound x × (latest_of x ≡ 0) × ((t : Octets) → view x t ≡ None)) (sym e) (
+    subst (λ (x : Tables). IsSound x × (latest_of x ≡ 0) × ((t : Octets) → view x t ≡ None) × (limits_in x ≡ record { min_part = min_part; max_body = max_body })) (sym e) (
       record {
         host = record { row = row; alone = refl; good = record { version = refl; latest = omega arith; limits = limits } };
         tenants = λ t. record {
@@ -70,4 +77,5 @@ created tables min_part max_body limits e =
       },
       latest_is (new_host min_part max_body) row refl,
       λ t. view_is (new_host min_part max_body) t,
+      limits_are (new_host min_part max_body) row refl,
     )

@@ -5,7 +5,7 @@ use Rattle.sqlite_typed.specs.Tests.{bytes_eq}
 use Rattle.bh_model.specs.State.{Octets, octets_cmp, Bucket, State}
 use Rattle.bh_tables.specs.Typed.{TenantRow, KeyRow, Tables}
 use Rattle.bh_view.specs.Grouped.{first}
-use Rattle.bh_view.specs.View.{TenantRows, rows_of, keys_of, buckets_of, state_of, state_shown, view, latest_of}
+use Rattle.bh_view.specs.View.{TenantRows, rows_of, keys_of, buckets_of, state_of, state_shown, view, latest_of, limits_in}
 use Rattle.bh_view.specs.Sound.{IsHostTable, AreSound, IsSound}
 use Rattle.bh_view.specs.Becomes.{Becomes}
 use Rattle.bh_view.proofs.Keys.{octets}
@@ -26,6 +26,11 @@ pub same_latest : (old new : Tables) → new.host ≡ old.host → latest_of new
 unfolding latest_of
 same_latest old new e = ap (λ rows. latest_of (record old { host = rows })) e
 
+-- and so do the limits
+pub same_limits : (old new : Tables) → new.host ≡ old.host → limits_in new ≡ limits_in old
+unfolding limits_in
+same_limits old new e = ap (λ rows. limits_in (record old { host = rows })) e
+
 -- the row behind a tenant's state
 pub own_row : (tables : Tables) (t : Octets) (s : State) → view tables t ≡ Some s → (r : TenantRow) × (first (rows_of t tables).tenants ≡ Some r) × (state_of (rows_of t tables) r ≡ s)
 own_row tables t s is = row_of (state_of (rows_of t tables)) (first (rows_of t tables).tenants) s (sym (view_is tables t) ∙ is)
@@ -43,6 +48,7 @@ becomes t state old new sound host others here good =
       shown = view_is new t ∙ here;
       others = λ u apart. same_view u old new (others u apart);
       latest = latest;
+      limits = same_limits old new host;
       sound = record {
         host = subst IsHostTable (sym host) sound.host;
         tenants = λ u. elim (bytes_eq u t) as (λ b. bytes_eq u t ≡ b → AreSound (latest_of new) (rows_of u new)) [
@@ -58,6 +64,7 @@ becomes_then t a b one two three f g = record {
   shown = g.shown;
   others = λ u apart. g.others u apart ∙ f.others u apart;
   latest = g.latest ∙ f.latest;
+  limits = g.limits ∙ f.limits;
   sound = g.sound;
 }
 

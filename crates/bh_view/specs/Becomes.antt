@@ -2,18 +2,20 @@
 use Rattle.std.specs.Prelude.{◌≡◌, ◌≢◌, ℕ, Option}
 use Rattle.bh_model.specs.State.{Octets, State}
 use Rattle.bh_tables.specs.Typed.{Tables}
-use Rattle.bh_view.specs.View.{view, latest_of}
+use Rattle.bh_view.specs.View.{view, latest_of, limits_in}
 use Rattle.bh_view.specs.Sound.{IsSound}
 
--- this tenant's state becomes that one; the other tenants' states and the last stamp stay
+-- this tenant's state becomes that one; the other tenants' states, the last stamp and the limits stay
 pub record Becomes (t : Octets) (state : Option State) (old new : Tables) : Type 0 where
   pub shown : view new t ≡ state
   pub others : (u : Octets) → u ≢ t → view new u ≡ view old u
   pub latest : latest_of new ≡ latest_of old
+  pub limits : limits_in new ≡ limits_in old
   pub sound : IsSound new
 
--- the last stamp becomes that one; all tenants' states stay
+-- the last stamp becomes that one; the limits and all tenants' states stay
 pub record IsStamped (stamp : ℕ) (old new : Tables) : Type 0 where
   pub latest : latest_of new ≡ stamp
+  pub limits : limits_in new ≡ limits_in old
   pub views : (u : Octets) → view new u ≡ view old u
   pub sound : IsSound new

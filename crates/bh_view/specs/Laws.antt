@@ -3,7 +3,7 @@ use Rattle.std.specs.Prelude.{◌≡◌, ℕ, [], ◌∷◌, None}
 use Rattle.bh_types.specs.Limits.{AreLimits}
 use Rattle.bh_model.specs.State.{Octets}
 use Rattle.bh_tables.specs.Typed.{Tables}
-use Rattle.bh_view.specs.View.{rows_of, view, latest_of}
+use Rattle.bh_view.specs.View.{rows_of, view, latest_of, limits_in}
 use Rattle.bh_view.specs.Sound.{IsSound}
 
 -- a tenant whose rows are the same has the same state, whatever the other rows are
@@ -20,7 +20,8 @@ new_host min_part max_body = record {
   versions = [];
 }
 
--- a new host is sound; no tenant is there
+-- a new host is sound; no tenant is there, and the limits are those that it was made with
 abbrev pub NewHostIsSound : Type 0
 NewHostIsSound = (min_part max_body : ℕ) → AreLimits min_part max_body
     → IsSound (new_host min_part max_body) × (latest_of (new_host min_part max_body) ≡ 0) × ((t : Octets) → view (new_host min_part max_body) t ≡ None)
+    × (limits_in (new_host min_part max_body) ≡ record { min_part = min_part; max_body = max_body })

@@ -6,6 +6,7 @@ use Rattle.std.specs.declared.cmp.Ordering.{Ordering}
 use Rattle.std.specs.FinMap.{FinMap, empty}
 use Rattle.sqlite_keyed.specs.Lists.{sort_by}
 use Rattle.sqlite_typed.specs.Tests.{bytes_eq}
+use Rattle.bh_types.specs.Limits.{HostLimits}
 use Rattle.bh_types.specs.declared.id.VersionId.{VersionId}
 use Rattle.bh_types.specs.declared.id.VersionId.TheVariants.{Null, Numbered}
 use Rattle.bh_types.specs.declared.plain.BucketState.{BucketState}
@@ -19,9 +20,17 @@ use Rattle.bh_view.specs.Grouped.{first, matching, grouped, keyed}
 unfoldable pub latest_of : Tables → ℕ
 latest_of tables = option_map_or (λ (r : HostRow). r.latest) (first tables.host) 0
 
+-- the limits that the host was made with
+unfoldable pub limits_in : Tables → HostLimits
+limits_in tables = option_map_or (λ (r : HostRow). record { min_part = r.min_part; max_body = r.max_body }) (first tables.host) (record { min_part = 0; max_body = 0 })
+
 -- the tables with this stamp as the last one
 abbrev pub with_latest : ℕ → Tables → Tables
 with_latest n tables = record tables { host = map (λ (r : HostRow). record r { latest = n }) tables.host }
+
+-- the tables without a tenant's uploads that are stale at a moment. No table has uploads
+abbrev pub rows_purged : Octets → ℕ → Tables → Tables
+rows_purged t at tables = tables
 
 -- one tenant's rows of each table; `tenants` has its own row, or none
 pub record TenantRows : Type 0 where

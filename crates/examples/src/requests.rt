@@ -4,13 +4,14 @@ use crate::answer::{Answer, Fault, bytes, refused, text};
 use crate::operations::asks_of_target;
 use bh_event::event::{Command, Event};
 use bh_event::line::read_line;
-use bh_http::credentials::{credentials_of, owner_of};
+use bh_http::credentials::{access_key_of, secret_of};
 use bh_http::encode::response_bytes;
 use bh_http::read::read_request;
 use bh_http::request::Request;
 use bh_http::response::Response;
 use bh_types::error::RequestError;
 use bh_types::limits::Limits;
+use bh_types::names::KeyName;
 use bh_types::refusal::Refusal;
 use http::StatusCode;
 use std::alloc::{AllocError, Global};
@@ -65,7 +66,7 @@ fn request_refusal(alloc: Global, input: &[u8]) -> Answer {
     }
 }
 
-/// The tenant whose request it is, the access key's id and the secret.
+/// The tenant whose request it is, the access key that it names and the secret.
 fn credentials(alloc: Global, input: &[u8]) -> Answer {
     match read(alloc, input) {
         Ok(request) => credentials_text(alloc, &request),
@@ -74,16 +75,16 @@ fn credentials(alloc: Global, input: &[u8]) -> Answer {
 }
 
 fn credentials_text(alloc: Global, request: &Request) -> Answer {
-    let Some(owner) = owner_of(alloc, request)? else {
+    let Some(key) = access_key_of(alloc, request)? else {
         return text(alloc, "nobody");
     };
-    let Ok(found) = credentials_of(request) else {
+    let Ok(secret) = secret_of(request) else {
         return text(alloc, "no credentials");
     };
-    let id = String::from_utf8_lossy(alloc, found.id)?;
-    let secret = String::from_utf8_lossy(alloc, found.secret)?;
-    let owner = owner.as_str();
-    Ok(format!(in alloc; "{owner} {id} {secret}")?)
+    let secret = String::from_utf8_lossy(alloc, secret)?;
+    let tenant = key.tenant.as_str();
+    let name = key.name.as_ref().map_or("none", KeyName::as_str);
+    Ok(format!(in alloc; "{tenant} {tenant}${name} {secret}")?)
 }
 
 /// The refusals of the first 0, 1, 2, .. bytes of a request, one after another.

@@ -4,12 +4,12 @@
 //! the refused one lies outside an event: so an event that was answered ServiceUnavailable or Unavailable had
 //! changed nothing, and the same event then has its ample answer.
 
-ghost use Rattle.bh_storage.specs.Calls.{IsAtRest};
+ghost use Rattle.bh_storage.specs.Calls.{Clean, IsAtRest};
 
 use bh_create::create::create;
+use bh_dispatch::storage::HostStorage;
 use bh_event::event::Event;
 use bh_host::apply::{Done, apply};
-use bh_objects::storage::HostStorage;
 use bh_script::digester::Sha256Digester;
 use bh_script::input::{read_all, read_script};
 use bh_storage::storage::Storage;
@@ -20,29 +20,24 @@ use std::io;
 use std::io::Write;
 
 /// The answer to an event, asked once more where it has no stamp.
-fn answer<H: Storage>(alloc: Global, limits: &Limits, host: &mut H, event: &Event) -> Done
-    requires { H.IsClean host.old → IsAtRest (H.seen host.old) }
-    ensures { H.IsClean host.new → IsAtRest (H.seen host.new) }
+fn answer<H: Storage>(alloc: Global, host: &mut H, event: &Event) -> Done
+    requires { Clean H.IsIntact H.IsOpen host.old → IsAtRest (H.seen host.old) }
+    ensures { Clean H.IsIntact H.IsOpen host.new → IsAtRest (H.seen host.new) }
 {
-    let done = apply(alloc, limits, host, event);
+    let done = apply(alloc, host, event);
     match done.stamp {
         Some(_) => done,
-        None => apply(alloc, limits, host, event),
+        None => apply(alloc, host, event),
     }
 }
 
 /// What the events are answered, a line's end after each.
-fn answers<H: Storage>(
-    alloc: Global,
-    limits: &Limits,
-    host: &mut H,
-    events: &[Event],
-) -> io::Result<Vec<u8>>
-    requires { H.IsClean host.old → IsAtRest (H.seen host.old) }
+fn answers<H: Storage>(alloc: Global, host: &mut H, events: &[Event]) -> io::Result<Vec<u8>>
+    requires { Clean H.IsIntact H.IsOpen host.old → IsAtRest (H.seen host.old) }
 {
     let mut text = Vec::new(alloc);
     for event in events {
-        let done = answer(alloc, limits, host, event);
+        let done = answer(alloc, host, event);
         text.extend_from_slice(done.reply.bytes())?;
         text.extend_from_slice(b"\n")?;
     }
@@ -57,11 +52,15 @@ pub fn retry(rt: &(impl Input + Print + AllocGlobal)) -> io::Result<bool> {
     };
     let script = read_script(alloc, bytes.as_slice())?;
     let connection = Connection::open_in_memory(alloc)?;
-    let limits = Limits::default();
-    match create(connection, Sha256Digester, limits, Tuning::default()) {
+    match create(
+        connection,
+        Sha256Digester,
+        Limits::default(),
+        Tuning::default(),
+    ) {
         Ok(host) => {
             let mut storage = HostStorage { host };
-            let text = answers(alloc, &limits, &mut storage, script.events.as_slice())?;
+            let text = answers(alloc, &mut storage, script.events.as_slice())?;
             io::writer(rt).write_all(text.as_slice())?;
             Ok(true)
         }

@@ -1,12 +1,12 @@
 //! Applies a script to a new host in a file: what each event is answered, and how long its last events took.
 
-ghost use Rattle.bh_storage.specs.Calls.{IsAtRest};
+ghost use Rattle.bh_storage.specs.Calls.{Clean, IsAtRest};
 
 use bh_create::create::create;
+use bh_dispatch::storage::HostStorage;
 use bh_event::event::Event;
 use bh_host::apply::Done;
 use bh_host::run::run;
-use bh_objects::storage::HostStorage;
 use bh_script::digester::Sha256Digester;
 use bh_script::input::{read_all, read_script};
 use bh_storage::storage::Storage;
@@ -32,15 +32,14 @@ struct Served {
 
 fn apply_timed<H: Storage>(
     rt: &(impl Clock + AllocGlobal),
-    limits: &Limits,
     host: &mut H,
     events: &[Event],
 ) -> io::Result<Timed>
-    requires { H.IsClean host.old → IsAtRest (H.seen host.old) }
-    ensures { H.IsClean host.new → IsAtRest (H.seen host.new) }
+    requires { Clean H.IsIntact H.IsOpen host.old → IsAtRest (H.seen host.old) }
+    ensures { Clean H.IsIntact H.IsOpen host.new → IsAtRest (H.seen host.new) }
 {
     let start = Instant::now(rt)?;
-    let dones = run(rt.alloc(), limits, host, events)?;
+    let dones = run(rt.alloc(), host, events)?;
     let microseconds = start.elapsed(rt)?.as_micros();
     Ok(Timed {
         dones,
@@ -55,13 +54,17 @@ fn serve<S: Alter + Drop>(
     first: &[Event],
     last: &[Event],
 ) -> io::Result<Option<Served>> {
-    let limits = Limits::default();
-    let Ok(host) = create(connection, Sha256Digester, limits, Tuning::default()) else {
+    let Ok(host) = create(
+        connection,
+        Sha256Digester,
+        Limits::default(),
+        Tuning::default(),
+    ) else {
         return Ok(None);
     };
     let mut storage = HostStorage { host };
-    let first = apply_timed(rt, &limits, &mut storage, first)?;
-    let last = apply_timed(rt, &limits, &mut storage, last)?;
+    let first = apply_timed(rt, &mut storage, first)?;
+    let last = apply_timed(rt, &mut storage, last)?;
     Ok(Some(Served { first, last }))
 }
 

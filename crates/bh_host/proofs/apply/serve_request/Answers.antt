@@ -1,11 +1,12 @@
-use Rattle.std.proofs.Common.{Ok, sym, ◌∙◌}
-use Rattle.bh_http.specs.Views.{view}
-use Rattle.bh_host.proofs.Turning.{turned_nobody}
+use Rattle.std.proofs.Common.{subst}
+use Rattle.std.proofs.lemmas.Result.{IfOk-weaker}
+use Rattle.bh_http.specs.Reading.{ReadsError}
+use Rattle.bh_host.proofs.Turning.{turns_unread}
 use Rattle.bh_host.proofs.apply.serve_request.Goals as goal
 
-pub returns-in-Ok-clause-turned : goal.returns-in-Ok-clause-turned
-returns-in-Ok-clause-turned g c = λ clean. (
-  Ok (view c.in-Ok.request),
-  c.in-Ok.ensures.ok,
-  turned_nobody c.args.at (view c.in-Ok.request) c.stranger_refusal-refusal.result _ _ (sym c.in_ok-tenant-in-Ok.ensures ∙ c.in-None.is) c.stranger_refusal-refusal.ensures c.in_ok-refused_request_text-in-None.ensures,
-)
+pub returns-in-Err-clause-turned : goal.returns-in-Err-clause-turned
+returns-in-Err-clause-turned g c =
+    let seen = g.H.Storage.seen c.args.host.now in
+    let reads = subst (λ limits. ReadsError limits c.args.bytes.now c.in-Err.error) c.limits.ensures c.in-Err.ensures.err in
+    IfOk-weaker c.serve_unread.result _ _
+    (λ text told clean. turns_unread seen.limits c.args.bytes.now c.args.at seen.now c.in-Err.error text.items reads told) c.serve_unread.ensures

@@ -1,4 +1,4 @@
-use Rattle.bh_http.proofs.Ascii.{IsUtf8-digits}
+use Rattle.bh_types.proofs.Ascii.{IsUtf8-digits}
 use Rattle.bh_http.proofs.Digits.{too_large}
 use Rattle.bh_http.proofs.framing.number_of.Goals as goal
 

@@ -1,11 +1,14 @@
-use Rattle.std.proofs.Common.{subst}
+use Rattle.std.proofs.Common.{subst, sym, ◌∙◌}
 use Rattle.sqlite.specs.Held.{state}
 use Rattle.sqlite.specs.Steps.{over_memory}
 use Rattle.bh_create.specs.Creation.{IsNewHost}
 use Rattle.bh_script.proofs.Memory.{is_clean}
 use Rattle.bh_script.proofs.script.new_host.Goals as goal
 
-pub returns-in-Ok : goal.returns-in-Ok
-returns-in-Ok c =
+pub returns-in-Ok-clause-limits : goal.returns-in-Ok-clause-limits
+returns-in-Ok-clause-limits c = c.in-Ok.ensures.given.0 ∙ c.default.ensures
+
+pub returns-in-Ok-clause-made : goal.returns-in-Ok-clause-made
+returns-in-Ok-clause-made c =
     let connection = c.in-Ok.host.connection in
-    subst (λ l. IsNewHost l (state over_memory connection)) c.default.ensures (c.in-Ok.ensures.made (is_clean connection))
+    subst (λ l. IsNewHost l (state over_memory connection)) (sym c.in-Ok.ensures.given.0) (c.in-Ok.ensures.made (is_clean connection))

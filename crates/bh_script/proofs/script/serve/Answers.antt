@@ -1,7 +1,8 @@
-use Rattle.bh_script.proofs.Memory.{is_clean}
-use Rattle.bh_script.proofs.Replies.{ran_anew}
+use Rattle.bh_script.proofs.Memory.{is_intact}
+use Rattle.bh_script.proofs.Replies.{ran_anew, made_first}
 use Rattle.bh_script.proofs.script.serve.Goals as goal
 
 pub returns : goal.returns
 returns c =
-    ran_anew _ _ _ _ _ c.default.ensures c.in_ok-storage.ensures.tables (c.in_ok-run.ensures.ran (is_clean c.run.new.host.host.connection))
+    let made = c.in_ok-storage.ensures in
+    ran_anew (made_first _ _ made.made.tables made.limits) (c.in_ok-run.ensures.ran (is_intact c.run.new.host.host.connection))

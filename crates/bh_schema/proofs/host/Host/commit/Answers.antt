@@ -1,22 +1,35 @@
-use Rattle.std.proofs.Common.{inl}
 use Rattle.sqlite.specs.Held.{state}
-use Rattle.bh_schema.proofs.Storing.{on_ok}
-use Rattle.bh_schema.proofs.Committing.{fails_on, on_err, unwound, unwound_kept, commit_stands, commit_shows, nothing_new}
+use Rattle.bh_schema.proofs.Storing.{on_ok, both, parts, same_limits, inside_of}
+use Rattle.bh_schema.proofs.Committing.{fails_on, on_err, unwound_kept, commit_stands, commit_shows, commit_crashes}
 use Rattle.bh_schema.proofs.host.Host.commit.Goals as goal
 
+pub returns-clause-opened : goal.returns-clause-opened
+returns-clause-opened g c intact up = (parts (c.commit.ensures.follows.clean (both (intact, up)))).1
+
 pub returns-clause-survives : goal.returns-clause-survives
-returns-clause-survives g c clean =
-    commit_stands g.S.Store g.met.S.Store.settled g.met.S.Store.stays c.args.self.now.connection c.commit.new.connection clean (c.requires (c.commit.ensures.follows.clean clean)) (on_ok _ c.in_ok-told.ensures.ok c.commit.ensures.commits clean.intact)
+returns-clause-survives g c intact =
+    let opens = on_ok _ c.in_ok-told.ensures.ok c.commit.ensures.opens intact in
+    commit_stands g.S.Store g.met.S.Store.settled _ c.args.self.now.connection c.commit.new.connection opens.1
+    (c.requires (c.commit.ensures.follows.intact intact, opens.0)) (on_ok _ c.in_ok-told.ensures.ok c.commit.ensures.commits intact)
 
 pub returns-clause-done : goal.returns-clause-done
-returns-clause-done g c clean = commit_shows (state g.S.Store c.args.self.now.connection) (state g.S.Store c.commit.new.connection) (on_ok _ c.in_ok-told.ensures.ok c.commit.ensures.commits clean.intact)
+returns-clause-done g c intact = commit_shows _ (state g.S.Store c.args.self.now.connection) (state g.S.Store c.commit.new.connection) (on_ok _ c.in_ok-told.ensures.ok c.commit.ensures.commits intact)
+
+pub returns-clause-limits : goal.returns-clause-limits
+returns-clause-limits g c = same_limits c.args.self.now.limits (state g.S.Store c.args.self.now.connection) (state g.S.Store c.commit.new.connection)
+
+pub returns-in_err-told-clause-opened : goal.returns-in_err-told-clause-opened
+returns-in_err-told-clause-opened g c intact up = (parts (c.commit.ensures.follows.clean (both (intact, up)))).1
+
+pub returns-in_err-told-clause-limits : goal.returns-in_err-told-clause-limits
+returns-in_err-told-clause-limits g c = same_limits c.args.self.now.limits (state g.S.Store c.args.self.now.connection) (state g.S.Store c.commit.new.connection)
 
 pub returns-in_err-told-clause-crash : goal.returns-in_err-told-clause-crash
-returns-in_err-told-clause-crash g c = fails_on c.from_residual.result _ (λ clean x left.
-    let unwinds = on_err c.commit.result _ _ c.in_err-told.ensures.err c.commit.ensures.unwinds clean in
-    inl (nothing_new g.S.Store g.met.S.Store.settled g.met.S.Store.stays c.args.self.now.connection c.commit.new.connection (c.commit.ensures.follows.clean clean) clean
-    (unwound_kept (state g.S.Store c.args.self.now.connection) (state g.S.Store c.commit.new.connection) unwinds) x left))
+returns-in_err-told-clause-crash g c = fails_on c.from_residual.result _ (λ up intact.
+    let old = state g.S.Store c.args.self.now.connection in
+    let working = c.requires (c.commit.ensures.follows.intact intact, up) in
+    commit_crashes _ old (state g.S.Store c.commit.new.connection) working (c.commit.ensures.survives intact (inside_of _ old working).inside))
 
 pub returns-in_err-told-clause-kept : goal.returns-in_err-told-clause-kept
 returns-in_err-told-clause-kept g c = fails_on c.from_residual.result _ (λ clean.
-    unwound (state g.S.Store c.args.self.now.connection) (state g.S.Store c.commit.new.connection) (c.requires (c.commit.ensures.follows.clean clean)) (on_err c.commit.result _ _ c.in_err-told.ensures.err c.commit.ensures.unwinds clean))
+    unwound_kept _ (state g.S.Store c.args.self.now.connection) (state g.S.Store c.commit.new.connection) (on_err c.commit.result _ _ c.in_err-told.ensures.err c.commit.ensures.unwinds (both clean)))

@@ -1,0 +1,68 @@
+-- From the words of a connection to those of a host's storage.
+use Rattle.std.proofs.Common.{◌≡◌, ℕ, ◌≤◌, Option, Result, Ok, Err, refl, sym, ap, ◌∙◌, subst}
+use Rattle.sqlite.specs.State.{State}
+use Rattle.sqlite_trees.specs.declared.store.Store.{Ghosts}
+use Rattle.bh_types.specs.Limits.{HostLimits}
+use Rattle.bh_model.specs.State.{Octets, State as Machine}
+use Rattle.bh_tables.specs.Typed.{Tables}
+use Rattle.bh_view.specs.Sound.{IsSound}
+use Rattle.bh_view.specs.View.{latest_of, limits_in}
+use Rattle.bh_view.proofs.PurgeLemmas.{view_purged}
+use Rattle.bh_storage.specs.declared.error.StepError.{StepError}
+use Rattle.bh_storage.specs.declared.error.StepError.TheVariants.{Refused, Failed}
+use Rattle.bh_storage.specs.Calls as calls
+use Rattle.bh_schema.specs.Layer.{IsClean}
+use Rattle.bh_schema.specs.Storage.{seen_in, IsIntact, IsOpen, seen, left, Keeps}
+use Rattle.bh_schema.specs.Working.{tables_at, IsWorking, StillWorking}
+use Rattle.bh_schema.proofs.Storing.{AreBoth, both, inside_of, shows_in, holds_seen, same_limits}
+use Rattle.bh_dispatch.specs.declared.storage.HostStorage.{HostStorage}
+
+module _ (l : HostLimits) (s : State) where
+  pub seen_working : calls.IsWorking (seen_in l s) → IsWorking s
+  seen_working working = record { inside = inside_of l s working; sound = subst IsSound (shows_in l s working) working.sound }
+
+  shown_now : IsWorking s → ((seen_in l s).now ≡ tables_at s) × ((seen_in l s).inside ≡ Rattle.std.specs.Prelude.true)
+  shown_now working = holds_seen l (tables_at s) s (record { within = working.inside; is = refl })
+
+  pub early_seen : (at : ℕ) → calls.IsWorking (seen_in l s) → at ≤ latest_of (seen_in l s).now → at ≤ latest_of (tables_at s)
+  early_seen at working = subst (λ x. at ≤ latest_of x) (shows_in l s working)
+
+-- ---- a call on the connection
+
+module _ (l : HostLimits) (old new : State) where
+  working_seen : calls.IsWorking (seen_in l old) → StillWorking old new → calls.IsWorking (seen_in l new)
+  working_seen was still = record {
+    inside = (shown_now l new still.is).1;
+    sound = subst IsSound (sym (shown_now l new still.is).0) still.is.sound;
+    limits = ap limits_in (shown_now l new still.is).0 ∙ still.limits ∙ sym (ap limits_in (shows_in l old was)) ∙ was.limits ∙ same_limits l new old;
+  }
+
+  pub still_working : {X E : Type 0} (result : Result X (StepError E)) → (AreBoth new → calls.IsWorking (seen_in l old)) → calls.Unless result (IsClean new → StillWorking old new)
+      → calls.Unless result (AreBoth new → calls.IsWorking (seen_in l new))
+  still_working (Ok x) was h = λ clean. working_seen (was clean) (h (both clean))
+  still_working (Err (Refused r)) was h = λ clean. working_seen (was clean) (h (both clean))
+  still_working (Err (Failed trouble)) was h = tt
+
+  -- the same step, of the tables that a storage shows
+  pub carried : {X Y E : Type 0} (shown : X → Y) (t : Octets) (step : Option Machine → Result (Y × Option Machine) E) (result : Result X (StepError E)) → calls.IsWorking (seen_in l old) → AreBoth new
+      → calls.Unless result (IsClean new → StillWorking old new) → calls.Carries shown t step (tables_at old) (tables_at new) result → calls.Carries shown t step (seen_in l old).now (seen_in l new).now result
+  carried shown t step (Ok x) was clean working h = rw (shows_in l old was, (shown_now l new (working (both clean)).is).0) h
+  carried shown t step (Err (Refused r)) was clean working h = rw (shows_in l old was, (shown_now l new (working (both clean)).is).0) h
+  carried shown t step (Err (Failed trouble)) was clean working h = tt
+
+-- an answer means that the connection is open
+pub opened : {X E : Type 0} (I A B : Type 0) (result : Result X (StepError E)) → calls.Unless result (I → A → B) → calls.Unless result (A → I → B)
+opened I A B (Ok x) h = λ up intact. h intact up
+opened I A B (Err (Refused r)) h = λ up intact. h intact up
+opened I A B (Err (Failed trouble)) h = tt
+
+-- ---- a host's call
+
+-- as its storage's
+pub stored : {S D : Type 0} (g : Ghosts S) (old new : HostStorage S D) → Keeps g old.host new.host
+    → calls.Within (λ (h : HostStorage S D). IsIntact g h.host) (λ (h : HostStorage S D). IsOpen g h.host) (λ (h : HostStorage S D). seen g h.host) (λ (h : HostStorage S D). left g h.host) old new
+stored g old new k = record { intact = k.intact; opened = k.opened; survives = k.survives; kept = k.kept; limits = k.limits }
+
+-- no table has uploads, so there is nothing to purge
+pub purges : (tables : Tables) (t : Octets) (at : ℕ) → calls.Purges t at tables tables
+purges tables t at = record { is = refl; own = sym (view_purged tables t at); others = λ u apart. refl; latest = refl }

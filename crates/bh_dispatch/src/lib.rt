@@ -1,0 +1,6 @@
+//! A host over a SQL database as the storage that a host's events are applied to: each operation goes to the
+//! function that carries it out.
+#![tactic(auto)]
+
+pub mod operations;
+pub mod storage;

@@ -1,0 +1,104 @@
+use crate::operations;
+use bh_event::event::Command;
+use bh_operation::operation::Operation;
+use bh_schema::host::{Digester, Host};
+use bh_storage::answer::Answer;
+use bh_storage::error::{StepError, Trouble};
+use bh_storage::storage::Storage;
+use bh_types::access_key::AccessKeyId;
+use bh_types::limits::Limits;
+use bh_types::moment::Moment;
+use bh_types::names::TenantName;
+use bh_types::refusal::Refusal;
+use bh_types::rejection::Rejection;
+use sqlite::Alter;
+use std::alloc::Global;
+
+/// A host as a storage of buckets and objects.
+#[derive(Drop)]
+pub struct HostStorage<S: Alter + Drop, D: Digester + Drop> {
+    /// Its database, and what it was made with.
+    pub host: Host<S, D>,
+}
+
+impl<S: Alter + Drop, D: Digester + Drop> Storage for HostStorage<S, D> {
+    ghost use Rattle.bh_schema.specs.Storage as storage;
+
+    ghost seen = { λ h. storage.seen S.Store h.host };
+
+    ghost IsIntact = { λ h. storage.IsIntact S.Store h.host };
+
+    ghost IsOpen = { λ h. storage.IsOpen S.Store h.host };
+
+    ghost left = { λ h. storage.left S.Store h.host };
+
+    fn limits(&self) -> Limits {
+        self.host.limits
+    }
+
+    fn begin(&mut self) -> Result<(), Trouble> {
+        self.host.begin()
+    }
+
+    fn commit(&mut self) -> Result<(), Trouble> {
+        self.host.commit()
+    }
+
+    fn take_back(&mut self) {
+        self.host.take_back();
+    }
+
+    fn stamp(&mut self, reading: u64) -> Result<Moment, Trouble> {
+        self.host.stamp_reading(reading)
+    }
+
+    // No table has uploads.
+    fn purge(&mut self, _tenant: &TenantName, _at: Moment) -> Result<(), Trouble> {
+        Ok(())
+    }
+
+    fn authenticate(
+        &mut self,
+        _alloc: Global,
+        key: &AccessKeyId,
+        secret: &[u8],
+    ) -> Result<(), StepError<Refusal>> {
+        self.host.authenticate(key, secret)
+    }
+
+    fn operate(
+        &mut self,
+        alloc: Global,
+        tenant: &TenantName,
+        at: Moment,
+        operation: &Operation,
+        body: &[u8],
+    ) -> Result<Answer, StepError<Rejection>> {
+        operations::operate(
+            &mut self.host.connection,
+            alloc,
+            tenant,
+            at,
+            operation,
+            body,
+        )
+    }
+
+    fn command(&mut self, alloc: Global, command: &Command) -> Result<(), StepError<Refusal>> {
+        match command {
+            Command::TenantAdd { tenant, quota } => {
+                self.host.tenant_add(alloc, tenant.as_str(), *quota)
+            }
+            Command::KeyAdd {
+                tenant,
+                name,
+                secret,
+            } => self
+                .host
+                .key_add(alloc, tenant.as_str(), name.as_str(), secret.as_str()),
+            Command::KeyRemove { tenant, name } => {
+                self.host.key_remove(alloc, tenant.as_str(), name.as_str())
+            }
+        }
+    }
+}

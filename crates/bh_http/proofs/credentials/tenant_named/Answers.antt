@@ -1,9 +1,0 @@
-use Rattle.std.proofs.lemmas.Bool.{false_from_ne_true}
-use Rattle.bh_types.specs.Names.{is_tenant_name}
-use Rattle.bh_http.proofs.Ascii.{IsUtf8-is_tenant_name}
-use Rattle.bh_http.proofs.credentials.tenant_named.Goals as goal
-
-pub returns-in-Err : goal.returns-in-Err
-returns-in-Err c =
-    let name = c.args.name.now in
-    rw (false_from_ne_true (is_tenant_name name) (λ h. c.in-Err.ensures.cases.0 (IsUtf8-is_tenant_name name h)))

@@ -1,0 +1,99 @@
+-- The private machine of a host: what an event turns out to be, whose it is, and what it makes of its owner's state.
+use Rattle.std.specs.Prelude.{◌≡◌, ℕ, false, Bool, Option, None, ok_or, Result, Ok, Err, if◌then◌else◌}
+use Rattle.std.specs.Result.{result_map_both}
+use Rattle.bh_types.specs.AccessKeys.{tenant_named}
+use Rattle.bh_types.specs.Limits.{HostLimits}
+use Rattle.bh_types.specs.Outcomes.{◌>>=◌}
+use Rattle.bh_types.specs.Rejections.{plain, plainly}
+use Rattle.bh_types.specs.declared.plain.Wanted.TheVariants.{Current}
+use Rattle.bh_types.specs.declared.refusal.Refusal.{Refusal}
+use Rattle.bh_types.specs.declared.refusal.Refusal.TheVariants.{InvalidAccessKeyId, MethodNotAllowed, NotImplemented}
+use Rattle.bh_types.specs.declared.rejection.Detail.{Detail}
+use Rattle.bh_types.specs.declared.rejection.Detail.TheVariants.{Nothing, CurrentMarker, NamedMarker}
+use Rattle.bh_types.specs.declared.rejection.Rejection.{Rejection}
+use Rattle.bh_event.specs.Events.{Order, AddTenant, AddKey, RemoveKey, Content, Requested, Ordered}
+use Rattle.bh_http.specs.Credentials.{owner, key_given, secret_given}
+use Rattle.bh_http.specs.Reading.{Reads}
+use Rattle.bh_http.specs.Views.{Taken}
+use Rattle.bh_model.specs.Credentials.{authenticate}
+use Rattle.bh_model.specs.Operations.{Answer, Outcome, add_tenant, add_key, remove_key, create_bucket, put_object, get_object}
+use Rattle.bh_model.specs.Runs as runs
+use Rattle.bh_model.specs.State.{Octets, State}
+use Rattle.bh_model.specs.declared.entries.LookupFault.{LookupFault}
+use Rattle.bh_operation.specs.Operations.{operation}
+use Rattle.bh_operation.specs.declared.operation.Operation.{Operation}
+use Rattle.bh_operation.specs.declared.operation.Operation.TheVariants.{CreateBucket, PutObject, GetObject}
+
+-- ---- acts
+
+-- what an event turns out to be: a request, or its first refusal, as its bytes are read; or an operator's order
+pub data Act : Type 0 where
+  Asked : (answer : Result Taken Refusal) → Act
+  Commanded : (order : Order) → Act
+
+-- the act that an event's content is
+abbrev pub Acted : HostLimits → Content → Act → Type 0
+Acted limits (Requested bytes) act = (answer : Result Taken Refusal) × Reads limits bytes answer × (act ≡ Asked answer)
+Acted limits (Ordered order) act = act ≡ Commanded order
+
+abbrev pub tenant_of : Order → Octets
+tenant_of (AddTenant tenant quota) = tenant
+tenant_of (AddKey tenant name secret) = tenant
+tenant_of (RemoveKey tenant name) = tenant
+
+abbrev pub asker : Result Taken Refusal → Option Octets
+asker (Ok request) = owner request
+asker (Err refusal) = None
+
+-- the tenant that an act belongs to, if it belongs to one
+abbrev pub owner_of : Act → Option Octets
+owner_of (Asked answer) = asker answer
+owner_of (Commanded order) = tenant_named (tenant_of order)
+
+-- ---- operations
+
+-- which marker was met, by how its version was asked for
+abbrev pub marker_met : Refusal → Detail
+marker_met MethodNotAllowed = NamedMarker
+marker_met refusal = CurrentMarker
+
+-- a lookup that found no object tells whether it met a delete marker
+abbrev pub not_found : LookupFault → Rejection
+not_found fault = record { refusal = fault.refusal; detail = if fault.marker then marker_met fault.refusal else Nothing }
+
+-- an operation at a moment; those that the host doesn't carry out yet are refused. A version id, a range and a checksum
+-- are read, and not yet looked at here
+unfoldable pub operated : ℕ → Octets → Operation → Option State → Result Outcome Rejection
+operated now body (CreateBucket bucket) s = plainly (create_bucket now bucket s)
+operated now body (PutObject object checksum) s = plainly (put_object now object.bucket object.key body None s)
+operated now body (GetObject object version range) s = result_map_both (λ o. o) not_found (get_object object.bucket object.key Current s)
+operated now body other s = Err (plain NotImplemented)
+
+-- ---- requests and orders
+
+-- a request: its credentials, what it asks for by its target and names, and then what comes of that
+abbrev pub requested : ℕ → Taken → Option State → Result Outcome Rejection
+requested now request s = do
+  secret ← plainly (secret_given request)
+  key ← ok_or (key_given request) (plain InvalidAccessKeyId)
+  _ ← plainly (authenticate key secret s)
+  asked_for ← plainly (operation key.tenant request)
+  operated now request.body asked_for s
+
+abbrev pub asked : ℕ → Result Taken Refusal → Option State → Result Outcome Rejection
+asked now (Ok request) s = requested now request s
+asked now (Err refusal) s = Err (plain refusal)
+
+abbrev pub ordered : Order → Option State → Result Outcome Refusal
+ordered (AddTenant tenant quota) s = add_tenant tenant quota s
+ordered (AddKey tenant name secret) s = add_key tenant name secret s
+ordered (RemoveKey tenant name) s = remove_key tenant name s
+
+-- what an act makes of its owner's state once that is purged
+abbrev pub change : ℕ → Act → Option State → Result Outcome Rejection
+change now (Asked answer) s = asked now answer s
+change now (Commanded order) s = plainly (ordered order s)
+
+-- an act at a moment: the owner's stale uploads go, and then comes the change, or a refusal that changes nothing more
+abbrev pub step : ℕ → Act → Option State → Result Answer Rejection × Option State
+step = runs.step change

@@ -1,0 +1,7 @@
+//! What the definitions say, each the contract of a function that does nothing.
+ghost use Rattle.bh_machine.specs.Refused.{StepRefusals};
+
+/// No step of the machine is refused with ClockOutOfRange, ServiceUnavailable or Unavailable.
+pub fn step_refusals()
+    ensures { StepRefusals }
+{}

@@ -1,0 +1,5 @@
+//! What a host answers a tenant, as the steps of the tenant's private machine: definitions alone, for the
+//! contracts of the storage and of the host.
+#![tactic(auto)]
+
+pub mod laws;

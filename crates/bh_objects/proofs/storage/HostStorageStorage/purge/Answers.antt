@@ -1,7 +1,0 @@
-use Rattle.sqlite.specs.Held.{state}
-use Rattle.bh_schema.specs.Storage.{seen_in}
-use Rattle.bh_objects.proofs.Storing.{purges}
-use Rattle.bh_objects.proofs.storage.HostStorageStorage.purge.Goals as goal
-
-pub returns-clause-purges : goal.returns-clause-purges
-returns-clause-purges g c clean = purges (seen_in (state g.S.Store c.args.self.now.host.connection)).now c.args._tenant.now c.args._at

@@ -1,0 +1,32 @@
+-- A connection while a transaction is open on sound tables, in which the operations of tenants are carried out.
+use Rattle.std.specs.Prelude.{◌≡◌}
+use Rattle.sqlite.specs.Held.{Held, state}
+use Rattle.sqlite.specs.State.{State}
+use Rattle.sqlite_trees.specs.declared.store.Store.{Ghosts}
+use Rattle.bh_tables.specs.Typed.{Tables, tables_in}
+use Rattle.bh_view.specs.Sound.{IsSound}
+use Rattle.bh_view.specs.View.{limits_in}
+use Rattle.bh_schema.specs.Layer.{standing, IsInside}
+use Rattle.bh_schema.specs.Connections.{IsClean}
+
+-- the tables as they stand
+abbrev pub tables_at : State → Tables
+tables_at s = tables_in (standing s).now
+
+-- a transaction is open on a host's sound tables
+pub record IsWorking (s : State) : Type 0 where
+  pub inside : IsInside (standing s)
+  pub sound : IsSound (tables_at s)
+
+-- so is one, and the limits that the tables keep are those that they kept before
+pub record StillWorking (old new : State) : Type 0 where
+  pub is : IsWorking new
+  pub limits : limits_in (tables_at new) ≡ limits_in (tables_at old)
+
+module _ {S : Type 0} (g : Ghosts S) where
+  -- while the connection is clean
+  abbrev pub Works : Held S → Type 0
+  Works c = IsClean g c → IsWorking (state g c)
+
+  abbrev pub StillWorks : Held S → Held S → Type 0
+  StillWorks old new = IsClean g new → StillWorking (state g old) (state g new)
