@@ -268,7 +268,7 @@ pub fn apply<H: Storage>(alloc: Global, host: &mut H, event: &Event) -> Done
         → H.left host.old x ⊎ (H.IsOpen host.old × WouldApply (arrival event.now) (H.seen host.old).now x)) }
     ensures clock { last_reading < (arrival event.now).reading
         → (result.stamp ≡ None) × (reply_bytes result.reply ≡ clock_text (reply.caller_of (arrival event.now).content))
-            × (host.new ≡ host.old) }
+        × (host.new ≡ host.old) }
 {
     if event.reading() > LAST_READING {
         return Done {

@@ -159,11 +159,7 @@ fn response_to(alloc: Global, answer: Answer) -> Response
 }
 
 /// The response that refuses a request with this target.
-fn refusal_to(
-    alloc: Global,
-    target: &[u8],
-    rejection: Rejection,
-) -> Result<Response, AllocError>
+fn refusal_to(alloc: Global, target: &[u8], rejection: Rejection) -> Result<Response, AllocError>
     ensures { IfOk result (λ response. response_view response ≡ spec.refusal_to target.now rejection) }
 {
     let path = String::from_utf8_lossy(alloc, path_of(target))?;

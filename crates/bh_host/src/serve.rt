@@ -33,7 +33,7 @@ pub fn requested<H: Storage>(
     ensures working { Unless result (Clean H.IsIntact H.IsOpen host.new → IsWorking (H.seen host.new)) }
     ensures carries { Clean H.IsIntact H.IsOpen host.new
         → Carries answer_view key.now.tenant (machine.requested at (request_view request.now))
-            (H.seen host.old).now (H.seen host.new).now result }
+        (H.seen host.old).now (H.seen host.new).now result }
 {
     let secret = secret_of(request)?;
     host.authenticate(alloc, key, secret)?;

@@ -15,7 +15,7 @@ loop-event-init g c =
       count = search rules;
       room = search rules;
       ran = λ intact. subst (λ dones. RanOn g.H.Storage.IsOpen g.H.Storage.seen g.H.Storage.left [] (map told dones) host host)
-      (sym c.in_ok-dones.ensures.items) (ran_none g.H.Storage.IsOpen g.H.Storage.seen g.H.Storage.left host);
+          (sym c.in_ok-dones.ensures.items) (ran_none g.H.Storage.IsOpen g.H.Storage.seen g.H.Storage.left host);
     }
 
 pub loop-event-preserved : goal.loop-event-preserved
@@ -30,7 +30,7 @@ loop-event-preserved g c =
       count = search rules;
       room = search rules;
       ran = λ intact. ran_more g.H.Storage.IsOpen g.H.Storage.seen g.H.Storage.left _ _ c.event-item.result _ _ c.apply-done.result _ _ _ c.loop-event-test.true c.event-item.is c.push_reserved.ensures.items
-      (so_far.ran (done.intact intact)) (done.applied intact) (done.told_apart intact) _ intact done.acknowledged done.crash;
+          (so_far.ran (done.intact intact)) (done.applied intact) (done.told_apart intact) _ intact done.acknowledged done.crash;
     }
 
 pub returns-clause-alone : goal.returns-clause-alone
