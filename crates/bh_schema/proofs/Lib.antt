@@ -7,3 +7,4 @@ pub mod Committing
 pub mod Stamping
 pub mod KeySteps
 pub mod CredentialSteps
+pub mod KnownSteps

@@ -1,6 +1,7 @@
 -- The texts over buckets.
-use Rattle.std.proofs.Common.{arith, ◌≡◌, ◌≤◌, ℕ, ℤ, pos, codes, [], ◌∷◌, ◌&&◌, true, false, Option, None, Some, refl, ap, ◌∙◌}
+use Rattle.std.proofs.Common.{◌≡◌, ◌≤◌, nat_le, ℕ, ℤ, pos, codes, [], ◌∷◌, ◌&&◌, true, false, Option, None, Some, refl, ap, ◌∙◌}
 use Rattle.std.specs.List.{list_any}
+use Rattle.std.proofs.lemmas.Bool.{leb-true}
 use Rattle.sqlite.specs.declared.types.Value.TheVariants.{Null, Int, Text}
 use Rattle.sqlite.specs.Edit.{next_rowid}
 use Rattle.sqlite.specs.Effect.{Database}
@@ -32,11 +33,11 @@ bucket_agrees : (i j : ℤ) (a b : BucketRow) → agree plain (1 ∷ 2 ∷ []) (
 unfolding first_key
 bucket_agrees i j a b = then_term (at_texts false Eq a.tenant b.tenant) (last_term (at_texts false Eq a.bucket b.bucket))
 
-pub new_bucket : (db : Database) → IsHost db → (b : BucketRow) → b.state ≤ 2 → list_any (is_bucket b.tenant b.bucket) (tables_in db).buckets ≡ false → list_any (is_tenant b.tenant) (tables_in db).tenants ≡ true
+pub new_bucket : (db : Database) → IsHost db → (b : BucketRow) → nat_le b.state 2 ≡ true → list_any (is_bucket b.tenant b.bucket) (tables_in db).buckets ≡ false → list_any (is_tenant b.tenant) (tables_in db).tenants ≡ true
     → MayAdd bucket_form host_schema (at 5 buckets_table) db.trees b
 unfolding everything
 new_bucket db host b low free owned = record {
-  suits = bucket_suits _ b b.days low;
+  suits = bucket_suits _ b b.days (leb-true _ _ low);
   free = (any_typed bucket_form _ (is_bucket b.tenant b.bucket) (λ id a. bucket_agrees id (next_rowid (db.trees 5)) a b) (db.trees 5) host.held.buckets ∙ free, tt);
   parents = ap (λ c. c && true) (any_typed tenant_form _ (is_tenant b.tenant) (λ id t. last_term (at_texts false Eq t.tenant b.tenant)) (db.trees 1) host.held.tenants ∙ owned);
 }

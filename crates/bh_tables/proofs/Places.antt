@@ -40,8 +40,7 @@ pub record Place (T : Type 0) : Type 0 where
 -- a write to one table leaves a host's database, with the other tables as they were
 pub turned : {T : Type 0} (p : Place T) (old new : State) (after : List T) → IsHost old.now → Leaves p.form host_schema p.table.tree old new after → IsHost new.now × (tables new ≡ p.set (tables old) after)
 turned p old new after host l =
-    let now_is : raw new.now.trees ≡ p.put (raw old.now.trees) (l.next p.table.tree) = ap (λ (d : Database). raw d.trees) l.now ∙ raw_changed p.table.tree old.now.trees l.next l.others ∙ p.put_is old.now.trees (l.next p.table.tree) in
-    (
+    let now_is : raw new.now.trees ≡ p.put (raw old.now.trees) (l.next p.table.tree) = ap (λ (d : Database). raw d.trees) l.now ∙ raw_changed p.table.tree old.now.trees l.next l.others ∙ p.put_is old.now.trees (l.next p.table.tree) in (
       record { schema = ap (λ (d : Database). d.schema) l.now; held = subst AreHeld (sym now_is) (p.put_held (raw old.now.trees) (l.next p.table.tree) host.held l.held) },
       ap tables_of now_is ∙ p.put_reads (raw old.now.trees) (l.next p.table.tree) ∙ ap (p.set (tables old)) l.rows,
     )

@@ -1,5 +1,5 @@
 -- The texts over tenants.
-use Rattle.std.proofs.Common.{◌≡◌, ℕ, ℤ, pos, codes, [], ◌∷◌, true, false, refl, ◌∙◌}
+use Rattle.std.proofs.Common.{◌≡◌, ℕ, ℤ, pos, codes, [], ◌∷◌, false, refl, ◌∙◌}
 use Rattle.std.specs.List.{list_any}
 use Rattle.sqlite.specs.declared.types.Value.TheVariants.{Null, Int, Text}
 use Rattle.sqlite.specs.Edit.{next_rowid}

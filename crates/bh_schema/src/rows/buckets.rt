@@ -10,7 +10,7 @@ use sqlite::types::ToSql;
 use sqlite::{Alter, Connection, Error, Row};
 
 /// When a bucket was made, its state, and its rule for uploads that are left unfinished.
-#[derive(Clone, Copy, Debug, PartialEq, Eq)]
+#[derive(Clone, Copy)]
 pub struct BucketNumbers {
     /// Seconds since 1970.
     pub created: u64,

@@ -10,7 +10,7 @@ use crate::rows::tenants::find_tenant;
 use sqlite::{Alter, Connection, Error};
 
 /// What is known of a tenant's access key.
-#[derive(Clone, Copy, Debug, PartialEq, Eq)]
+#[derive(Clone, Copy)]
 pub enum Known {
     /// The tenant is not there.
     NoTenant,

@@ -11,7 +11,7 @@ use sqlite::types::ToSql;
 use sqlite::{Alter, Connection, Error, Row};
 
 /// A tenant's quota in bytes, and the next number that each of its counters gives.
-#[derive(Clone, Copy, Debug, PartialEq, Eq)]
+#[derive(Clone, Copy)]
 pub struct TenantNumbers {
     /// The most that its versions and parts may take, in bytes.
     pub quota: u64,

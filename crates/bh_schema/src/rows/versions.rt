@@ -13,7 +13,7 @@ use sqlite::types::ToSql;
 use sqlite::{Alter, Connection, Error, Row};
 
 /// What is kept of a version or a marker.
-#[derive(Debug, Drop)]
+#[derive(Drop)]
 pub struct StoredVersion {
     /// Its entry number, which orders the versions of a key.
     pub seq: u64,
@@ -30,7 +30,7 @@ pub struct StoredVersion {
 }
 
 /// A version that is to be added.
-#[derive(Clone, Copy, Debug)]
+#[derive(Clone, Copy)]
 pub struct NewVersion<'a> {
     pub tenant: &'a str,
     /// Its entry number.
