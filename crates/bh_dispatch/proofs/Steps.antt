@@ -1,10 +1,9 @@
 -- Steps of the machine as operations, and refusals with what they tell.
-use Rattle.std.proofs.Common.{◌≡◌, ℕ, None, Option, Result, Ok, Err, refl, ap, ◌∙◌, sym}
+use Rattle.std.proofs.Common.{◌≡◌, ℕ, None, Option, Result, Err, refl, ap}
 use Rattle.bh_types.specs.Rejections.{plain, plainly}
 use Rattle.bh_types.specs.declared.refusal.Refusal.{Refusal}
 use Rattle.bh_types.specs.declared.refusal.Refusal.TheVariants.{NotImplemented}
-use Rattle.bh_types.specs.declared.rejection.Rejection.{Rejection}
-use Rattle.bh_model.specs.Operations.{Outcome, create_bucket, put_object}
+use Rattle.bh_model.specs.Operations.{create_bucket, put_object}
 use Rattle.bh_model.specs.State.{Octets, State as Machine}
 use Rattle.bh_machine.specs.Machine.{operated}
 use Rattle.bh_operation.specs.declared.address.ObjectName.{ObjectName}
@@ -12,7 +11,6 @@ use Rattle.bh_operation.specs.declared.operation.Operation.{Operation}
 use Rattle.bh_operation.specs.declared.operation.Operation.TheVariants.{ListBuckets, Usage, CreateBucket, HeadBucket, DeleteBucket, ListObjectsV2, ListObjectVersions, ListMultipartUploads, GetBucketVersioning, PutBucketVersioning, GetLifecycle, PutLifecycle, DeleteLifecycle, PutObject, CopyObject, GetObject, HeadObject, DeleteObject, CreateMultipartUpload, UploadPart, ListParts, CompleteMultipartUpload, AbortMultipartUpload}
 use Rattle.bh_types.specs.declared.plain.Wanted.{Wanted}
 use Rattle.bh_tables.specs.Typed.{Tables}
-use Rattle.bh_view.specs.View.{view}
 use Rattle.bh_storage.specs.Calls.{Unless, Gives, Carries}
 use Rattle.bh_storage.specs.Errors.{step_rejected}
 use Rattle.bh_storage.specs.declared.error.StepError.{StepError}

@@ -1,5 +1,5 @@
 -- From the stages of an event to what the event does.
-use Rattle.std.proofs.Common.{◌≡◌, ℕ, false, List, Option, Some, None, Ok, Err, Result, refl, sym, ◌∙◌, ap, subst, rules, IfOk, IfErr, OnOk, OnErr, inl, inr, Vec, Global}
+use Rattle.std.proofs.Common.{◌≡◌, ℕ, false, List, Option, Some, None, Ok, Err, Result, refl, sym, ◌∙◌, ap, subst, rules, IfOk, IfErr, inl, inr, Vec, Global}
 use Rattle.std.specs.Prelude.{option_map}
 use Rattle.std.proofs.lemmas.Bool.{cases_Bool}
 use Rattle.std.proofs.lemmas.Option.{same_Some}
@@ -28,7 +28,7 @@ use Rattle.bh_types.specs.declared.error.RequestError.TheVariants as error
 use Rattle.bh_types.specs.declared.refusal.Refusal.{Refusal}
 use Rattle.bh_types.specs.declared.refusal.Refusal.TheVariants.{InvalidName}
 use Rattle.bh_types.specs.declared.rejection.Rejection.{Rejection}
-use Rattle.bh_view.specs.View.{view, latest_of, limits_in, with_latest, rows_purged}
+use Rattle.bh_view.specs.View.{view, latest_of, limits_in, rows_purged}
 use Rattle.bh_host.specs.Replies.{text}
 use Rattle.bh_host.specs.Turns.{TurnedFor, Turned, Turns, TurnsRequest, Tells, TellsOrder, TellsUnread, Applied}
 

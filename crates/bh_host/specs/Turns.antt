@@ -1,5 +1,5 @@
 -- What one event does to the tables, and what it is answered.
-use Rattle.std.specs.Prelude.{◌≡◌, ◌≢◌, ◌≤◌, ℕ, List, nat_lt, IfErr, Option, Some, None, Result, Ok, Err, if◌then◌else◌}
+use Rattle.std.specs.Prelude.{◌≡◌, ◌≢◌, ℕ, List, nat_lt, IfErr, Option, Some, None, Result, Ok, Err, if◌then◌else◌}
 use Rattle.bh_types.specs.Limits.{HostLimits}
 use Rattle.bh_types.specs.Rejections.{plain}
 use Rattle.bh_types.specs.declared.error.RequestError.{RequestError}

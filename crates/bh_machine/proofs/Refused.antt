@@ -20,7 +20,6 @@ use Rattle.bh_types.proofs.Refusing.{then_only, require_only, ok_or_only, weaker
 use Rattle.bh_event.specs.Events.{Order, AddTenant, AddKey, RemoveKey, Content as Arrived, Requested, Ordered}
 use Rattle.bh_http.specs.Credentials.{key_field, secret_field, secret_of_both, secret_given, key_given}
 use Rattle.bh_http.specs.Fields.{Standing, Missing, Once, Repeated}
-use Rattle.bh_http.specs.Reading.{Reads}
 use Rattle.bh_http.specs.Refused.{is_reading_refusal}
 use Rattle.bh_http.specs.Views.{Taken}
 use Rattle.bh_http.proofs.Refused.{reads_only}

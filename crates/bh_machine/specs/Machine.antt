@@ -1,5 +1,5 @@
 -- The private machine of a host: what an event turns out to be, whose it is, and what it makes of its owner's state.
-use Rattle.std.specs.Prelude.{◌≡◌, ℕ, false, Bool, Option, None, ok_or, Result, Ok, Err, if◌then◌else◌}
+use Rattle.std.specs.Prelude.{◌≡◌, ℕ, Option, None, ok_or, Result, Ok, Err, if◌then◌else◌}
 use Rattle.std.specs.Result.{result_map_both}
 use Rattle.bh_types.specs.AccessKeys.{tenant_named}
 use Rattle.bh_types.specs.Limits.{HostLimits}

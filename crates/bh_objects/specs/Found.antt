@@ -1,5 +1,5 @@
 -- What is read of a tenant's rows, and what a put makes of the tables.
-use Rattle.std.specs.Prelude.{◌≡◌, ℕ, ◌++◌, [], ◌∷◌, Option, option_map, option_and_then, is_none, ok_or, Result, IsTrue}
+use Rattle.std.specs.Prelude.{ℕ, ◌++◌, [], ◌∷◌, Option, option_map, option_and_then, is_none, ok_or, Result, IsTrue}
 use Rattle.std.specs.Str.{IsUtf8}
 use Rattle.std.specs.Result.{result_map_both}
 use Rattle.std.specs.FinMap.{get}

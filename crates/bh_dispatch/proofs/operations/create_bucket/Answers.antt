@@ -1,4 +1,3 @@
-use Rattle.std.proofs.Common.{◌≡◌}
 use Rattle.sqlite.specs.Held.{state}
 use Rattle.bh_model.specs.Operations.{Done, create_bucket}
 use Rattle.bh_storage.specs.Answers.{answer_view}

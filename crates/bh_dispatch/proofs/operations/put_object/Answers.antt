@@ -1,4 +1,4 @@
-use Rattle.std.proofs.Common.{◌≡◌, None}
+use Rattle.std.proofs.Common.{None}
 use Rattle.sqlite.specs.Held.{state}
 use Rattle.bh_model.specs.Operations.{put_object}
 use Rattle.bh_storage.specs.Answers.{answer_view, stored_answer}

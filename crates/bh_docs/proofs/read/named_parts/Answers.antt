@@ -39,6 +39,6 @@ out_of_range parts i d named (Refused r) all inside refused before =
 pub returns-in_err-part : goal.returns-in_err-part
 returns-in_err-part c =
     let fails : Fails c.in_err-part.field-0.0 (in_ranges (map part_view c.args.parts.now)) =
-      out_of_range c.args.parts.now c.loop-part.part-index _ c.loop-part.named.items c.in_err-part.field-0.0 _
-      c.loop-part-test.true c.in_err-part.ensures c.loop-part.invariant in
+    out_of_range c.args.parts.now c.loop-part.part-index _ c.loop-part.named.items c.in_err-part.field-0.0 _
+    c.loop-part-test.true c.in_err-part.ensures c.loop-part.invariant in
     search (rules, fails)

@@ -7,11 +7,10 @@ use Rattle.bh_model.specs.Operations.{Stored, id_told, put_object}
 use Rattle.bh_tables.specs.Typed.{Tables}
 use Rattle.bh_view.specs.Sound.{IsSound}
 use Rattle.bh_view.specs.View.{view, limits_in}
-use Rattle.bh_schema.specs.Layer.{IsClean, Within}
+use Rattle.bh_schema.specs.Layer.{IsClean}
 use Rattle.bh_storage.specs.Calls.{Gives}
 use Rattle.bh_schema.specs.Working.{tables_at}
 use Rattle.bh_objects.specs.Found.{counts_in, with_put}
-use Rattle.bh_objects.proofs.Working.{then_within, then_opens, then_working}
 use Rattle.bh_objects.proofs.Putting.{puts}
 use Rattle.bh_objects.proofs.objects.put_object.Given as given
 use Rattle.bh_objects.proofs.objects.put_object.Goals as goal

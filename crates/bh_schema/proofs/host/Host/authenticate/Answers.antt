@@ -1,4 +1,4 @@
-use Rattle.std.proofs.Common.{rules, ◌≡◌, true, false, Some, None, option_map, bytes_eq, sym, ap, ◌∙◌, refl}
+use Rattle.std.proofs.Common.{rules, ◌≡◌, true, false, Some, None, option_map, bytes_eq, ap, ◌∙◌, refl}
 use Rattle.std.specs.String.{string_bytes}
 use Rattle.std.proofs.lemmas.Result.{IfOk-at_ok}
 use Rattle.sqlite.specs.Held.{state}
