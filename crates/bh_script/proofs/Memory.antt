@@ -7,12 +7,12 @@ use Rattle.sqlite.specs.Steps.{over_memory}
 use Rattle.bh_schema.specs.Layer.{IsIntact, IsOpen, IsClean}
 
 pub is_intact : (h : Held MemStore) → IsIntact (state over_memory h)
-  unfolding IsIntact doubt
+unfolding IsIntact doubt
 is_intact h = refl
 
 is_open : (h : Held MemStore) → IsOpen (state over_memory h)
-  unfolding IsOpen
-is_open h = tt
+unfolding IsOpen
+is_open h = refl
 
 pub is_clean : (h : Held MemStore) → IsClean (state over_memory h)
 is_clean h = record { intact = is_intact h; is_open = is_open h }
