@@ -79,10 +79,10 @@ pub takes : (all : List (List ℕ)) (count : ℕ) (events : List Event) (line : 
     → Some (arrival event) ≡ told_by line → HasRead all count (map arrival events) → HasRead all (count + 1) (map arrival (events ++ event ∷ []))
 takes all count events line event next full is read = record {
   told =
-    ap (λ l. l ++ events_in (drop (count + 1) all)) (map_push arrival events event)
-    ∙ append_assoc (map arrival events) (arrival event ∷ []) (events_in (drop (count + 1) all))
-    ∙ ap (λ l. map arrival events ++ l) (sym (ap events_in (at all count line next) ∙ events_told line (drop (count + 1) all) (Some (arrival event)) full is))
-    ∙ read.told;
+      ap (λ l. l ++ events_in (drop (count + 1) all)) (map_push arrival events event)
+      ∙ append_assoc (map arrival events) (arrival event ∷ []) (events_in (drop (count + 1) all))
+      ∙ ap (λ l. map arrival events ++ l) (sym (ap events_in (at all count line next) ∙ events_told line (drop (count + 1) all) (Some (arrival event)) full is))
+      ∙ read.told;
   bad = sym (ap (bad_line_from (count + 1)) (at all count line next) ∙ bad_told (count + 1) line (drop (count + 1) all) (Some (arrival event)) full is) ∙ read.bad;
 }
 
@@ -90,18 +90,20 @@ takes all count events line event next full is read = record {
 pub ends_at : (all : List (List ℕ)) (count : ℕ) (events : List Arrival) (line : List ℕ) → IsNext all count line → length line ≢ 0
     → None ≡ told_by line → HasRead all count events
     → (events ≡ events_in all) × (Some (record { number = count + 1; flaw = flaw_of line }) ≡ bad_line_from 1 all)
-ends_at all count events line next full is read =
-    (sym (append-nil events)
-    ∙ ap (λ l. events ++ l) (sym (ap events_in (at all count line next) ∙ events_told line (drop (count + 1) all) None full is))
-    ∙ read.told,
-    sym (ap (bad_line_from (count + 1)) (at all count line next) ∙ bad_told (count + 1) line (drop (count + 1) all) None full is) ∙ read.bad)
+ends_at all count events line next full is read = (
+  sym (append-nil events)
+      ∙ ap (λ l. events ++ l) (sym (ap events_in (at all count line next) ∙ events_told line (drop (count + 1) all) None full is))
+      ∙ read.told,
+  sym (ap (bad_line_from (count + 1)) (at all count line next) ∙ bad_told (count + 1) line (drop (count + 1) all) None full is) ∙ read.bad,
+)
 
 -- no line is left
 pub ends : (all : List (List ℕ)) (count : ℕ) (events : List Arrival) → count ≡ length all → HasRead all count events
     → (events ≡ events_in all) × (None ≡ bad_line_from 1 all)
-ends all count events e read =
-    (sym (append-nil events) ∙ ap (λ l. events ++ events_in l) (sym (drop_all count all (omega (arith, e)))) ∙ read.told,
-    ap (bad_line_from (count + 1)) (sym (drop_all count all (omega (arith, e)))) ∙ read.bad)
+ends all count events e read = (
+  sym (append-nil events) ∙ ap (λ l. events ++ events_in l) (sym (drop_all count all (omega (arith, e)))) ∙ read.told,
+  ap (bad_line_from (count + 1)) (sym (drop_all count all (omega (arith, e)))) ∙ read.bad,
+)
 
 -- the number that a count saturates at isn't reached
 pub counted : (number count index : ℕ) (input : List ℕ) → number ≡ min (index + 1) (2 ^ 64 - 1) → index ≡ count → count < length (lines input) → length input < 2 ^ 63 → number ≡ count + 1

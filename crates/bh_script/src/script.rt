@@ -67,7 +67,12 @@ fn new_host(alloc: Global) -> Result<HostStorage<MemStore, Sha256Digester>, Faul
     ensures made { IfOk result (λ storage. IsNewHost storage.host.limits (state over_memory storage.host.connection)) }
 {
     let connection = Connection::open_in_memory(alloc)?;
-    match create(connection, Sha256Digester, Limits::default(), Tuning::default()) {
+    match create(
+        connection,
+        Sha256Digester,
+        Limits::default(),
+        Tuning::default(),
+    ) {
         Ok(host) => Ok(HostStorage { host }),
         Err(_) => Err(Fault::Store),
     }

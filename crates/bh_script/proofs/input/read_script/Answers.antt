@@ -19,9 +19,9 @@ pub loop-index-preserved-then-is_empty : goal.loop-index-preserved-then-is_empty
 loop-index-preserved-then-is_empty c =
     let all = lines c.args.bytes.now in
     let turn =
-        YieldsList-turn (YieldsList-from_enumerate {s = c.into_iter-index-iterator.result} (YieldsList-at {s = enumerate_source c.into_iter-index-iterator.result} {t = c.split.result} (cc)
-            (YieldsList-from_slice_split _ _ c.args.bytes.now c.split.ensures.rest c.split.ensures.done c.split.ensures.closure (λ x r q k. search (rules, tests)))) (cc))
-        c.loop-index.yielded _ c.loop-index.yielded_by _ _ (c.in-Some.index, c.in-Some.line) c.in-Some.is c.next.ensures.steps in
+    YieldsList-turn (YieldsList-from_enumerate {s = c.into_iter-index-iterator.result} (YieldsList-at {s = enumerate_source c.into_iter-index-iterator.result} {t = c.split.result} (cc)
+    (YieldsList-from_slice_split _ _ c.args.bytes.now c.split.ensures.rest c.split.ensures.done c.split.ensures.closure (λ x r q k. search (rules, tests)))) (cc))
+    c.loop-index.yielded _ c.loop-index.yielded_by _ _ (c.in-Some.index, c.in-Some.line) c.in-Some.is c.next.ensures.steps in
     let next = next_line all _ _ _ turn in
     subst (λ n. HasRead all n (map arrival c.loop-index.events.items)) (sym (length_push c.loop-index.yielded (c.in-Some.index, c.in-Some.line)))
     (skips all _ _ _ next.1 (grind (arith, nat_tests)) c.loop-index.invariant)
@@ -30,9 +30,9 @@ pub loop-index-preserved : goal.loop-index-preserved
 loop-index-preserved c =
     let all = lines c.args.bytes.now in
     let turn =
-        YieldsList-turn (YieldsList-from_enumerate {s = c.into_iter-index-iterator.result} (YieldsList-at {s = enumerate_source c.into_iter-index-iterator.result} {t = c.split.result} (cc)
-            (YieldsList-from_slice_split _ _ c.args.bytes.now c.split.ensures.rest c.split.ensures.done c.split.ensures.closure (λ x r q k. search (rules, tests)))) (cc))
-        c.loop-index.yielded _ c.loop-index.yielded_by _ _ (c.in-Some.index, c.in-Some.line) c.in-Some.is c.next.ensures.steps in
+    YieldsList-turn (YieldsList-from_enumerate {s = c.into_iter-index-iterator.result} (YieldsList-at {s = enumerate_source c.into_iter-index-iterator.result} {t = c.split.result} (cc)
+    (YieldsList-from_slice_split _ _ c.args.bytes.now c.split.ensures.rest c.split.ensures.done c.split.ensures.closure (λ x r q k. search (rules, tests)))) (cc))
+    c.loop-index.yielded _ c.loop-index.yielded_by _ _ (c.in-Some.index, c.in-Some.line) c.in-Some.is c.next.ensures.steps in
     let next = next_line all _ _ _ turn in
     let told = sym (ap (option_map arrival) c.in-Some-2.is) ∙ c.in_ok-event.ensures in
     subst (λ n. HasRead all n (map arrival c.push.new.self.items)) (sym (length_push c.loop-index.yielded (c.in-Some.index, c.in-Some.line)))
@@ -43,9 +43,9 @@ pub returns-in-None-2-clause-events : goal.returns-in-None-2-clause-events
 returns-in-None-2-clause-events c =
     let all = lines c.args.bytes.now in
     let turn =
-        YieldsList-turn (YieldsList-from_enumerate {s = c.into_iter-index-iterator.result} (YieldsList-at {s = enumerate_source c.into_iter-index-iterator.result} {t = c.split.result} (cc)
-            (YieldsList-from_slice_split _ _ c.args.bytes.now c.split.ensures.rest c.split.ensures.done c.split.ensures.closure (λ x r q k. search (rules, tests)))) (cc))
-        c.loop-index.yielded _ c.loop-index.yielded_by _ _ (c.in-Some.index, c.in-Some.line) c.in-Some.is c.next.ensures.steps in
+    YieldsList-turn (YieldsList-from_enumerate {s = c.into_iter-index-iterator.result} (YieldsList-at {s = enumerate_source c.into_iter-index-iterator.result} {t = c.split.result} (cc)
+    (YieldsList-from_slice_split _ _ c.args.bytes.now c.split.ensures.rest c.split.ensures.done c.split.ensures.closure (λ x r q k. search (rules, tests)))) (cc))
+    c.loop-index.yielded _ c.loop-index.yielded_by _ _ (c.in-Some.index, c.in-Some.line) c.in-Some.is c.next.ensures.steps in
     let next = next_line all _ _ _ turn in
     let none = sym (ap (option_map arrival) c.in-None-2.is) ∙ c.in_ok-event.ensures in
     (ends_at all _ _ _ next.1 (λ e. grind (arith, nat_tests)) none c.loop-index.invariant).0
@@ -54,9 +54,9 @@ pub returns-in-None-2-clause-bad_line : goal.returns-in-None-2-clause-bad_line
 returns-in-None-2-clause-bad_line c =
     let all = lines c.args.bytes.now in
     let turn =
-        YieldsList-turn (YieldsList-from_enumerate {s = c.into_iter-index-iterator.result} (YieldsList-at {s = enumerate_source c.into_iter-index-iterator.result} {t = c.split.result} (cc)
-            (YieldsList-from_slice_split _ _ c.args.bytes.now c.split.ensures.rest c.split.ensures.done c.split.ensures.closure (λ x r q k. search (rules, tests)))) (cc))
-        c.loop-index.yielded _ c.loop-index.yielded_by _ _ (c.in-Some.index, c.in-Some.line) c.in-Some.is c.next.ensures.steps in
+    YieldsList-turn (YieldsList-from_enumerate {s = c.into_iter-index-iterator.result} (YieldsList-at {s = enumerate_source c.into_iter-index-iterator.result} {t = c.split.result} (cc)
+    (YieldsList-from_slice_split _ _ c.args.bytes.now c.split.ensures.rest c.split.ensures.done c.split.ensures.closure (λ x r q k. search (rules, tests)))) (cc))
+    c.loop-index.yielded _ c.loop-index.yielded_by _ _ (c.in-Some.index, c.in-Some.line) c.in-Some.is c.next.ensures.steps in
     let next = next_line all _ _ _ turn in
     let none = sym (ap (option_map arrival) c.in-None-2.is) ∙ c.in_ok-event.ensures in
     let number = counted _ _ _ c.args.bytes.now c.saturating_add-number.ensures next.0 next.1.within (omega arith) in
@@ -67,8 +67,8 @@ pub returns-clause-events : goal.returns-clause-events
 returns-clause-events c =
     let all = lines c.args.bytes.now in
     let end = YieldsList-end (YieldsList-from_enumerate {s = c.into_iter-index-iterator.result} (YieldsList-at {s = enumerate_source c.into_iter-index-iterator.result} {t = c.split.result} (cc)
-            (YieldsList-from_slice_split _ (λ b. b == 10) c.args.bytes.now c.split.ensures.rest c.split.ensures.done c.split.ensures.closure (λ x r q k. search (rules, tests)))) (cc))
-        c.loop-index.yielded _ c.loop-index.yielded_by _ _ c.in-None.is c.next.ensures.steps in
+    (YieldsList-from_slice_split _ (λ b. b == 10) c.args.bytes.now c.split.ensures.rest c.split.ensures.done c.split.ensures.closure (λ x r q k. search (rules, tests)))) (cc))
+    c.loop-index.yielded _ c.loop-index.yielded_by _ _ c.in-None.is c.next.ensures.steps in
     let whole = ends all _ (map arrival c.loop-index.events.items) (omega (arith, length-enumerate_from 0 all, end.1)) c.loop-index.invariant in
     whole.0
 
@@ -76,7 +76,7 @@ pub returns-clause-bad_line : goal.returns-clause-bad_line
 returns-clause-bad_line c =
     let all = lines c.args.bytes.now in
     let end = YieldsList-end (YieldsList-from_enumerate {s = c.into_iter-index-iterator.result} (YieldsList-at {s = enumerate_source c.into_iter-index-iterator.result} {t = c.split.result} (cc)
-            (YieldsList-from_slice_split _ (λ b. b == 10) c.args.bytes.now c.split.ensures.rest c.split.ensures.done c.split.ensures.closure (λ x r q k. search (rules, tests)))) (cc))
-        c.loop-index.yielded _ c.loop-index.yielded_by _ _ c.in-None.is c.next.ensures.steps in
+    (YieldsList-from_slice_split _ (λ b. b == 10) c.args.bytes.now c.split.ensures.rest c.split.ensures.done c.split.ensures.closure (λ x r q k. search (rules, tests)))) (cc))
+    c.loop-index.yielded _ c.loop-index.yielded_by _ _ c.in-None.is c.next.ensures.steps in
     let whole = ends all _ (map arrival c.loop-index.events.items) (omega (arith, length-enumerate_from 0 all, end.1)) c.loop-index.invariant in
     whole.1
