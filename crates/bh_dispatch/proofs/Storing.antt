@@ -1,5 +1,5 @@
 -- From the words of a connection to those of a host's storage.
-use Rattle.std.proofs.Common.{◌≡◌, ℕ, ◌≤◌, Option, Result, Ok, Err, refl, sym, ap, ◌∙◌, subst}
+use Rattle.std.proofs.Common.{◌≡◌, ℕ, ◌≤◌, true, Option, Result, Ok, Err, refl, sym, ap, ◌∙◌, subst}
 use Rattle.sqlite.specs.State.{State}
 use Rattle.sqlite_trees.specs.declared.store.Store.{Ghosts}
 use Rattle.bh_types.specs.Limits.{HostLimits}
@@ -21,7 +21,7 @@ module _ (l : HostLimits) (s : State) where
   pub seen_working : calls.IsWorking (seen_in l s) → IsWorking s
   seen_working working = record { inside = inside_of l s working; sound = subst IsSound (shows_in l s working) working.sound }
 
-  shown_now : IsWorking s → ((seen_in l s).now ≡ tables_at s) × ((seen_in l s).inside ≡ Rattle.std.specs.Prelude.true)
+  shown_now : IsWorking s → ((seen_in l s).now ≡ tables_at s) × ((seen_in l s).inside ≡ true)
   shown_now working = holds_seen l (tables_at s) s (record { within = working.inside; is = refl })
 
   pub early_seen : (at : ℕ) → calls.IsWorking (seen_in l s) → at ≤ latest_of (seen_in l s).now → at ≤ latest_of (tables_at s)

@@ -1,9 +1,9 @@
 -- From the stages of an event to what the event does.
-use Rattle.std.proofs.Common.{◌≡◌, ℕ, false, List, Option, Some, None, Ok, Err, Result, refl, sym, ◌∙◌, ap, subst, rules, IfOk, IfErr, inl, inr, Vec, Global}
+use Rattle.std.proofs.Common.{◌≡◌, ℕ, List, Option, Some, None, Ok, Err, Result, refl, sym, ◌∙◌, ap, subst, rules, IfOk, IfErr, inl, inr, Vec, Global}
 use Rattle.std.specs.Prelude.{option_map}
 use Rattle.std.proofs.lemmas.Bool.{cases_Bool}
 use Rattle.std.proofs.lemmas.Option.{same_Some}
-use Rattle.bh_event.specs.Events.{Order, AddTenant, AddKey, RemoveKey, Arrival, arrival}
+use Rattle.bh_event.specs.Events.{Order, Arrival, arrival}
 use Rattle.bh_event.specs.declared.event.Event.{Event}
 use Rattle.bh_event.specs.declared.event.Event.TheVariants.{Http}
 use Rattle.bh_http.specs.Credentials.{key_given}
@@ -11,6 +11,7 @@ use Rattle.bh_http.specs.Reading.{Reads, ReadsError}
 use Rattle.bh_http.specs.Responses.{refusal_text}
 use Rattle.bh_http.specs.Views.{Taken}
 use Rattle.bh_machine.specs.Machine.{Act, Asked, Commanded, owner_of, tenant_of, requested, ordered, change, step}
+use Rattle.bh_machine.proofs.Nameless.{nameless}
 use Rattle.bh_model.specs.Operations.{Answer, Outcome, Done}
 use Rattle.bh_model.specs.Runs.{settled, purged_tenant}
 use Rattle.bh_model.specs.State.{Octets, State}
@@ -158,22 +159,10 @@ pub turns_unread : (limits : HostLimits) (bytes : List ℕ) (at : ℕ) (old : Ta
 turns_unread limits bytes at old (error.Refused refusal) reply reads told = (Err refusal, reads, turned_unread at refusal old reply told)
 turns_unread limits bytes at old error.OutOfMemory reply reads told = absurd told
 
-unnamed : (text : Octets) → tenant_named text ≡ None → is_tenant_name text ≡ false
-unnamed text none = elim (cases_Bool (is_tenant_name text)) [
-  | inl good ↦ absurd (none_is_none (tenant_named text) text none (rw good refl))
-  | inr bad ↦ bad
-]
-
--- a command without a tenant's name is refused as such
-nameless : (order : Order) → is_tenant_name (tenant_of order) ≡ false → ordered order None ≡ Err InvalidName
-nameless (AddTenant tenant quota) bad = rw bad refl
-nameless (AddKey tenant name secret) bad = rw bad refl
-nameless (RemoveKey tenant name) bad = rw bad refl
-
 pub turned_nameless : (at : ℕ) (order : Order) (old : Tables) (reply : List ℕ) → owner_of (Commanded order) ≡ None → reply ≡ refusal_text InvalidName → Turned (Commanded order) at old old reply
 unfolding text
 turned_nameless at order old reply none told =
-    turned_stranger (Commanded order) at (plain InvalidName) old reply none (ap plainly (nameless order (unnamed (tenant_of order) none))) told
+    turned_stranger (Commanded order) at (plain InvalidName) old reply none (ap plainly (nameless order none)) told
 
 -- ---- an event
 

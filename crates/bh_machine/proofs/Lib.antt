@@ -1,1 +1,2 @@
+pub mod Nameless
 pub mod Refused

@@ -1,4 +1,4 @@
-//! What a host answers a tenant, as the steps of the tenant's private machine: definitions alone, for the
+//! What a host answers a tenant, as the steps of the tenant's private machine: definitions and a law, for the
 //! contracts of the storage and of the host.
 #![tactic(auto)]
 

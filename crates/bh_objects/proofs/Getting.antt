@@ -1,17 +1,14 @@
 -- GetObject: the row that was read is the machine's answer.
-use Rattle.std.proofs.Common.{◌≡◌, ℕ, zero, suc, List, [], ◌∷◌, Option, Some, None, option_map, option_to_list, find, Result, Ok, Err, is_ok, true≢false, refl, ap, ◌∙◌}
+use Rattle.std.proofs.Common.{◌≡◌, ℕ, zero, suc, List, [], ◌∷◌, Option, Some, None, option_map, option_to_list, find, Result, Ok, Err, refl, ap, ◌∙◌}
 use Rattle.std.specs.Result.{result_map_both}
 use Rattle.std.specs.FinMap.{get}
-use Rattle.bh_types.specs.declared.plain.BucketState.{BucketState}
 use Rattle.bh_types.specs.declared.plain.BucketState.TheVariants.{Unversioned}
-use Rattle.bh_types.specs.Rejections.{plain}
-use Rattle.bh_types.specs.declared.refusal.Refusal.{Refusal}
 use Rattle.bh_types.specs.declared.rejection.Rejection.{Rejection}
 use Rattle.bh_machine.specs.Machine.{not_found}
 use Rattle.bh_model.specs.State.{Octets, State, Bucket, Entry}
 use Rattle.bh_types.specs.Outcomes.{◌>>=◌}
 use Rattle.bh_model.specs.Entries.{Version, found_current}
-use Rattle.bh_model.specs.Operations.{Answer, Outcome, Object, id_told, listed, shown, tenant_bucket, unmarked}
+use Rattle.bh_model.specs.Operations.{Answer, Outcome, Object, id_told, listed, shown}
 use Rattle.bh_model.specs.declared.entries.LookupFault.{LookupFault}
 use Rattle.bh_tables.specs.Typed.{Tables, VersionRow}
 use Rattle.bh_tables.specs.Shown.{is_version}
@@ -22,10 +19,6 @@ use Rattle.bh_schema.specs.Rows.{found_version}
 use Rattle.bh_objects.specs.Answers.{get_current, opened, null_answer}
 use Rattle.bh_objects.specs.Found.{mode_in}
 use Rattle.bh_objects.proofs.Putting.{has_bucket}
-
-abbrev pub refusal_or : Result BucketState Refusal → Refusal → Refusal
-refusal_or (Ok m) other = other
-refusal_or (Err e) other = e
 
 abbrev pub with_state : Option State → Result Answer Rejection → Result Outcome Rejection
 with_state v r = result_map_both (λ a. (a, v)) (λ rejection. rejection) r
@@ -57,12 +50,3 @@ gets tables t b k sound plain =
     ∙ ap (told h.bucket (view tables t)) (null_found tables t h.state h.added b k h.bucket h.there sound h.its)
     ∙ ap (λ o. told h.bucket (view tables t) (option_to_list (option_map entry_of o))) (first_find (is_version t b k 0) tables.versions)
     ∙ null_told h.bucket (view tables t) h.its (find (is_version t b k 0) tables.versions)
-
--- no bucket, no object
-pub without_bucket : (b k : Octets) (v : Option State) (refusal : Refusal) → mode_in b v ≡ Err refusal → get_current b k v ≡ Err (plain refusal)
-without_bucket b k v refusal e = go (tenant_bucket b v) e
-  where
-    go : (r : Result (State × Bucket) Refusal) → result_map_both (λ (f : State × Bucket). f.1.mode) (λ refusal. refusal) r ≡ Err refusal
-        → result_map_both {T = Outcome} (λ o. o) not_found (result_map_both (λ f. f) unmarked r >>= (λ f. found_current (listed k f.1) >>= (λ x. Ok (shown f.1 x, v)))) ≡ Err (plain refusal)
-    go (Ok f) e = absurd (true≢false (ap is_ok e))
-    go (Err r) e = ap (λ x. Err (plain (refusal_or x r))) e

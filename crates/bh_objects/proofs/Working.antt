@@ -1,11 +1,11 @@
 -- What calls on a connection leave, one after another.
-use Rattle.std.proofs.Common.{◌≡◌, inl, refl, sym, ap, ◌∙◌, subst}
+use Rattle.std.proofs.Common.{◌≡◌, inl, refl, sym, ap, subst}
 use Rattle.sqlite.specs.State.{State}
 use Rattle.bh_tables.specs.Typed.{tables_in}
+use Rattle.bh_view.specs.Sound.{IsSound}
 use Rattle.bh_view.specs.View.{limits_in}
-use Rattle.bh_schema.specs.Layer.{Standing, standing, IsIntact, IsOpen, IsClean, IsInside, Within}
+use Rattle.bh_schema.specs.Layer.{Standing, standing, IsIntact, IsClean, IsInside, Within}
 use Rattle.bh_schema.specs.Working.{tables_at, IsWorking, StillWorking}
-use Rattle.bh_schema.proofs.Storing.{within_then}
 
 -- no call
 pub no_call : (s : State) → (IsClean s → IsInside (standing s)) → Within s s
@@ -25,17 +25,6 @@ asked_working old new working w same clean =
     let was = working (w.follows.clean clean) in
     let is = same clean.intact in
     record {
-      is = record { inside = subst IsInside (sym is) was.inside; sound = subst (λ (x : Standing). Rattle.bh_view.specs.Sound.IsSound (tables_in x.now)) (sym is) was.sound };
+      is = record { inside = subst IsInside (sym is) was.inside; sound = subst (λ (x : Standing). IsSound (tables_in x.now)) (sym is) was.sound };
       limits = ap limits_in (same_tables old new is);
     }
-
--- two calls
-module _ (one two three : State) (first : Within one two) (second : Within two three) (opens : IsIntact two → IsOpen one → IsOpen two) where
-  pub then_within : Within one three
-  then_within = within_then one two three opens first second
-
-  pub then_opens : (IsIntact three → IsOpen two → IsOpen three) → IsIntact three → IsOpen one → IsOpen three
-  then_opens stays intact up = stays intact (opens (second.follows.intact intact) up)
-
-  pub then_working : (IsClean two → StillWorking one two) → (IsClean three → StillWorking two three) → IsClean three → StillWorking one three
-  then_working before after clean = record { is = (after clean).is; limits = (after clean).limits ∙ (before (second.follows.clean clean)).limits }

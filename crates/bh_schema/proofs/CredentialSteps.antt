@@ -20,9 +20,6 @@ pub secret_seen : (l : HostLimits) (s : State) (t n : Octets) (read : Option Oct
 secret_seen l s t n read working is =
     secret_found (seen_in l s).now t working.sound n ∙ ap (option_map secret_in) (first_find (is_key t n) (seen_in l s).now.keys) ∙ ap (λ (x : Tables). option_map secret_in (find (is_key t n) x.keys)) (shows_in _ s working) ∙ sym is
 
-pub unnamed_key : (key : AccessKeyId) (secret : Octets) (o : Option Machine) → key.name ≡ None → authenticate key secret o ≡ Err InvalidAccessKeyId
-unnamed_key key secret o none = rw none refl
-
 module _ (key : AccessKeyId) (secret n : Octets) (o : Option Machine) (named : key.name ≡ Some n) where
   pub unknown_key : secret_of n o ≡ None → authenticate key secret o ≡ Err InvalidAccessKeyId
   unknown_key none = rw (named, none) refl

@@ -5,9 +5,9 @@ ghost use Rattle.bh_schema.specs.Storage.{IsClean, seen, Works, Keeps, StaysOpen
 use crate::host::{Digester, Host};
 use crate::rows::tenants::{find_tenant, insert_tenant};
 use crate::trouble::told;
+use crate::words::is_tenant;
 use bh_storage::error::StepError;
 use bh_types::limits::is_quota;
-use bh_types::names::TenantName;
 use bh_types::refusal::Refusal;
 use sqlite::Alter;
 use std::alloc::Global;
@@ -29,7 +29,7 @@ impl<S: Alter + Drop, D: Digester + Drop> Host<S, D> {
             (seen S.Store self.old).now (seen S.Store self.new).now result }
         ensures settings { KeepsSettings S.Store self.old self.new }
     {
-        if TenantName::read(alloc, tenant)?.is_none() {
+        if !is_tenant(alloc, tenant)? {
             return Err(StepError::Refused(Refusal::InvalidName));
         }
         if !is_quota(quota) {

@@ -4,6 +4,13 @@ ghost use Rattle.bh_types.specs.Names.{is_tenant_name, is_key_name, is_secret};
 use bh_types::names::{KeyName, Secret, TenantName};
 use std::alloc::{AllocError, Global};
 
+/// Whether a text is a tenant's name.
+pub fn is_tenant(alloc: Global, tenant: &str) -> Result<bool, AllocError>
+    ensures { IfOk result (λ is. is ≡ is_tenant_name tenant.now) }
+{
+    Ok(TenantName::read(alloc, tenant)?.is_some())
+}
+
 /// Whether two texts are names of a tenant and of a key of it.
 pub fn are_names(alloc: Global, tenant: &str, name: &str) -> Result<bool, AllocError>
     ensures { IfOk result (λ are. are ≡ (is_tenant_name tenant.now && is_key_name name.now)) }

@@ -52,7 +52,7 @@ pub record Within {H : Type 0} (IsIntact IsOpen : H → Type 0) (seen : H → Se
   pub kept : Clean IsIntact IsOpen new → (seen new).kept ≡ (seen old).kept
   pub limits : (seen new).limits ≡ (seen old).limits
 
--- the transaction is committed: what stood then stands, and is all that a crash may leave
+-- the transaction is committed: what stood then stands
 pub record Commits (old new : Seen) : Type 0 where
   pub now : new.now ≡ old.now
   pub kept : new.kept ≡ old.now

@@ -104,8 +104,7 @@ pub trait Storage {
         ensures decides { Clean IsIntact IsOpen self.new
             → Decides (λ _. tt) (machine.authenticate key.now secret.now (view (seen self.old).now key.now.tenant)) (seen self.old).now (seen self.new).now result };
 
-    /// Carries out an operation of a tenant whose stale uploads are gone, at a moment that is not after the
-    /// last stamp.
+    /// Carries out an operation of a tenant, at a moment that is not after the last stamp.
     fn operate(
         &mut self,
         alloc: Global,

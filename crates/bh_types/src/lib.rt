@@ -1,4 +1,4 @@
-//! Names, ids, moments, limits and refusals of a bucket host.
+//! Names, access keys, ids, moments, limits, refusals and rejections of a bucket host.
 #![tactic(auto)]
 
 pub mod access_key;

@@ -81,7 +81,7 @@ pub enum Refusal {
     InvalidName,
     /// The quota is above 2^60 bytes.
     InvalidQuota,
-    /// The file holds no host, or holds one where a new one was to be made.
+    /// There is no host, or something stands already where a new one was to be made.
     NotAHostFile,
     /// Memory or the store failed under an operator's command; nothing was changed.
     Unavailable,

@@ -6,7 +6,7 @@ pub fn views_stand_alone()
     ensures { ViewsStandAlone }
 {}
 
-/// The tables of a new host are sound, and show no tenant.
+/// The tables of a new host are sound and show no tenant; its last stamp is 0.
 pub fn new_host_is_sound()
     ensures { NewHostIsSound }
 {}

@@ -1,0 +1,27 @@
+-- An order that names no tenant.
+use Rattle.std.proofs.Common.{◌≡◌, false, Option, Some, None, Err, refl, rules, inl, inr}
+use Rattle.std.proofs.lemmas.Bool.{cases_Bool}
+use Rattle.bh_event.specs.Events.{Order, AddTenant, AddKey, RemoveKey}
+use Rattle.bh_model.specs.State.{Octets}
+use Rattle.bh_types.specs.AccessKeys.{tenant_named}
+use Rattle.bh_types.specs.Names.{is_tenant_name}
+use Rattle.bh_types.specs.declared.refusal.Refusal.TheVariants.{InvalidName}
+use Rattle.bh_machine.specs.Machine.{tenant_of, ordered}
+
+none_is_none : {X : Type 0} (o : Option X) (x : X) → o ≡ None → o ≡ Some x → ⊥
+none_is_none o x none some = search rules
+
+unnamed : (text : Octets) → tenant_named text ≡ None → is_tenant_name text ≡ false
+unnamed text none = elim (cases_Bool (is_tenant_name text)) [
+  | inl good ↦ absurd (none_is_none (tenant_named text) text none (rw good refl))
+  | inr bad ↦ bad
+]
+
+refused : (order : Order) → is_tenant_name (tenant_of order) ≡ false → ordered order None ≡ Err InvalidName
+refused (AddTenant tenant quota) bad = rw bad refl
+refused (AddKey tenant name secret) bad = rw bad refl
+refused (RemoveKey tenant name) bad = rw bad refl
+
+-- it is refused as such
+pub nameless : (order : Order) → tenant_named (tenant_of order) ≡ None → ordered order None ≡ Err InvalidName
+nameless order none = refused order (unnamed (tenant_of order) none)
