@@ -19,7 +19,7 @@ use Rattle.sqlite.specs.declared.error.Error.{Error}
 use Rattle.bh_rows.specs.Means.{IsBlank, is_trouble, IsUndone, StaysInside, Changes, Grows}
 use Rattle.bh_rows.proofs.CreateLemmas.{Makes as Creates, grows, create_changes}
 use Rattle.bh_rows.proofs.CreateErrors.{IsFree, create_trouble}
-use Rattle.bh_schema.specs.Layer.{Standing, standing, IsIntact, IsOpen, IsClean, Leaves, IsInside, Holds, begun, committed}
+use Rattle.bh_schema.specs.Layer.{Standing, standing, IsIntact, IsOpen, IsStateClean, Leaves, IsInside, Holds, begun, committed}
 use Rattle.bh_schema.specs.Storage.{seen_in, left_in}
 use Rattle.bh_schema.proofs.Storing.{follows_then}
 use Rattle.bh_schema.proofs.TurnLemmas.{follows}
@@ -27,13 +27,13 @@ use Rattle.bh_create.specs.Creation.{IsEmpty, IsNewHost, IsMaking, Keeps, Makes}
 
 -- ---- one CREATE
 
-module _ (before : Schema) (sql : List ℕ) (table : Table) (creates : Creates before sql table) (old new : State) (making : IsClean old → IsMaking before old) where
+module _ (before : Schema) (sql : List ℕ) (table : Table) (creates : Creates before sql table) (old new : State) (making : IsStateClean old → IsMaking before old) where
   blank_before : HasCleanDisk old → IsTrue old.is_open → IsBlank before old
   unfolding IsIntact IsOpen
   blank_before clean up = (making (record { intact = clean; is_open = up })).blank
 
-  module _ (result : Result ℕ Error) (changes : Changes old new result) (after : Grows (created before table) old new result) (was : IsClean new → IsClean old) where
-    kept_by : IsClean new → (standing new).kept ≡ (standing old).kept
+  module _ (result : Result ℕ Error) (changes : Changes old new result) (after : Grows (created before table) old new result) (was : IsStateClean new → IsStateClean old) where
+    kept_by : IsStateClean new → (standing new).kept ≡ (standing old).kept
     unfolding standing IsIntact IsOpen
     kept_by c = go result (changes.inside c.intact (was c).is_open) (changes.undone c.intact)
       where
@@ -42,11 +42,11 @@ module _ (before : Schema) (sql : List ℕ) (table : Table) (creates : Creates b
         go (Err e) stays (inl same) = same.0.committed_is
         go (Err e) stays (inr back) = (back.undone c.is_open).1
 
-    made_by : OnOk result (IsClean new → IsMaking (created before table) new)
+    made_by : OnOk result (IsStateClean new → IsMaking (created before table) new)
     unfolding standing IsIntact IsOpen
     made_by = go result changes.inside after.blank
       where
-        go : (r : Result ℕ Error) → (HasCleanDisk new → IsTrue old.is_open → OnOk r (StaysInside old new)) → (HasCleanDisk new → IsTrue old.is_open → OnOk r (IsBlank (created before table) new)) → OnOk r (IsClean new → IsMaking (created before table) new)
+        go : (r : Result ℕ Error) → (HasCleanDisk new → IsTrue old.is_open → OnOk r (StaysInside old new)) → (HasCleanDisk new → IsTrue old.is_open → OnOk r (IsBlank (created before table) new)) → OnOk r (IsStateClean new → IsMaking (created before table) new)
         go (Ok x) stays blank = λ c. record { inside = (stays c.intact (was c).is_open).inside (making (was c)).inside; blank = blank c.intact (was c).is_open }
         go (Err e) stays blank = tt
 

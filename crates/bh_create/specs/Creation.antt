@@ -10,7 +10,7 @@ use Rattle.bh_tables.specs.Typed.{Tables}
 use Rattle.bh_view.specs.Laws.{new_host}
 use Rattle.bh_view.specs.View.{view, latest_of}
 use Rattle.bh_storage.specs.Calls.{IsAtRest}
-use Rattle.bh_schema.specs.Layer.{standing, IsClean, Follows}
+use Rattle.bh_schema.specs.Layer.{standing, IsStateClean, KeepsDisk}
 use Rattle.bh_schema.specs.Storage.{seen_in, left_in}
 
 -- the database has no table, index or view
@@ -35,10 +35,10 @@ pub record IsMaking (schema : Schema) (s : State) : Type 0 where
 
 -- nothing is committed
 pub record Keeps (old new : State) : Type 0 where
-  pub follows : Follows old new
-  pub kept : IsClean new → (standing new).kept ≡ (standing old).kept
+  pub follows : KeepsDisk old new
+  pub kept : IsStateClean new → (standing new).kept ≡ (standing old).kept
 
 -- nothing is committed, and on success the database has this schema and no row
 pub record Makes {X E : Type 0} (schema : Schema) (old new : State) (result : Result X E) : Type 0 where
   pub keeps : Keeps old new
-  pub made : OnOk result (IsClean new → IsMaking schema new)
+  pub made : OnOk result (IsStateClean new → IsMaking schema new)

@@ -3,7 +3,7 @@ ghost use Rattle.sqlite.specs.Held.{state};
 ghost use Rattle.bh_types.specs.declared.refusal.Refusal.TheVariants as refusal;
 ghost use Rattle.bh_rows.specs.Means.{is_trouble};
 ghost use Rattle.bh_tables.specs.Schema.{no_schema};
-ghost use Rattle.bh_schema.specs.Layer.{standing, IsIntact, IsClean, taken_back, Follows};
+ghost use Rattle.bh_schema.specs.Layer.{standing, IsIntact, IsStateClean, taken_back, KeepsDisk};
 ghost use Rattle.bh_create.specs.Creation.{IsEmpty, IsNewHost};
 
 use crate::fill::make;
@@ -46,8 +46,8 @@ pub fn create<S: Alter + Drop, D: Digester + Drop>(
 ) -> Result<Host<S, D>, CreateError<S, D>>
     ensures given { IfOk result (λ host. (host.limits ≡ limits) × (host.tuning ≡ tuning) × (host.digester ≡ digester)) }
     ensures empty { IfOk result (λ host. IsEmpty (state S.Store connection)) }
-    ensures follows { IfOk result (λ host. Follows (state S.Store connection) (state S.Store host.connection)) }
-    ensures made { IfOk result (λ host. IsClean (state S.Store host.connection)
+    ensures follows { IfOk result (λ host. KeepsDisk (state S.Store connection) (state S.Store host.connection)) }
+    ensures made { IfOk result (λ host. IsStateClean (state S.Store host.connection)
         → IsNewHost limits (state S.Store host.connection)) }
     ensures back { IfErr result (λ e. e.digester ≡ digester) }
     ensures refused { IfErr result (λ e. e.refusal ≡ refusal.NotAHostFile
@@ -59,7 +59,7 @@ pub fn create<S: Alter + Drop, D: Digester + Drop>(
     ensures cause { IfErr result (λ e. (e.refusal ≡ refusal.Unavailable) ↔ IsSome e.cause) }
     ensures trouble { IfErr result (λ e. IfSome e.cause (λ cause. IsIntact (state S.Store e.connection)
         → (standing (state S.Store connection)).limit ≡ None
-        → (IsClean (state S.Store connection) → (standing (state S.Store connection)).inside ≡ false) → is_trouble cause ≡ true)) }
+        → (IsStateClean (state S.Store connection) → (standing (state S.Store connection)).inside ≡ false) → is_trouble cause ≡ true)) }
 {
     if !is_empty(connection.schema()) {
         return Err(CreateError {

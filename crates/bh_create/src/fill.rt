@@ -4,7 +4,7 @@ ghost use Rattle.bh_rows.specs.Means.{is_trouble};
 ghost use Rattle.bh_types.specs.Limits.{AreLimits};
 ghost use Rattle.bh_tables.specs.Schema.{no_schema};
 ghost use Rattle.bh_view.specs.Laws.{new_host};
-ghost use Rattle.bh_schema.specs.Layer.{standing, IsIntact, IsClean, taken_back, Follows, Holds};
+ghost use Rattle.bh_schema.specs.Layer.{standing, IsIntact, IsStateClean, taken_back, KeepsDisk, Holds};
 ghost use Rattle.bh_create.specs.Creation.{IsEmpty, IsNewHost, IsMaking, Keeps};
 
 use crate::tables::create_tables;
@@ -19,9 +19,9 @@ fn fill<S: Alter>(
     max_body: u64,
 ) -> Result<usize, Error>
     requires limits { AreLimits min_part max_body }
-    requires making { IsClean (state S.Store connection.old) → IsMaking no_schema (state S.Store connection.old) }
+    requires making { IsStateClean (state S.Store connection.old) → IsMaking no_schema (state S.Store connection.old) }
     ensures keeps { Keeps (state S.Store connection.old) (state S.Store connection.new) }
-    ensures holds { OnOk result (IsClean (state S.Store connection.new)
+    ensures holds { OnOk result (IsStateClean (state S.Store connection.new)
         → Holds (new_host min_part max_body) (standing (state S.Store connection.new))) }
     ensures trouble { IfErr result (λ e. IsIntact (state S.Store connection.new)
         → (standing (state S.Store connection.old)).limit ≡ None → is_trouble e ≡ true) }
@@ -31,14 +31,14 @@ fn fill<S: Alter>(
 }
 
 fn commit_new<S: Alter>(connection: &mut Connection<S>, limits: Limits) -> Result<usize, Error>
-    requires { IsClean (state S.Store connection.old) → IsEmpty (state S.Store connection.old) }
-    ensures follows { Follows (state S.Store connection.old) (state S.Store connection.new) }
-    ensures made { OnOk result (IsClean (state S.Store connection.new) → IsNewHost limits (state S.Store connection.new)) }
-    ensures kept { OnErr result (IsClean (state S.Store connection.new)
+    requires { IsStateClean (state S.Store connection.old) → IsEmpty (state S.Store connection.old) }
+    ensures follows { KeepsDisk (state S.Store connection.old) (state S.Store connection.new) }
+    ensures made { OnOk result (IsStateClean (state S.Store connection.new) → IsNewHost limits (state S.Store connection.new)) }
+    ensures kept { OnErr result (IsStateClean (state S.Store connection.new)
         → (standing (state S.Store connection.new)).kept ≡ (standing (state S.Store connection.old)).kept) }
     ensures trouble { IfErr result (λ e. IsIntact (state S.Store connection.new)
         → (standing (state S.Store connection.old)).limit ≡ None
-        → (IsClean (state S.Store connection.old) → (standing (state S.Store connection.old)).inside ≡ false) → is_trouble e ≡ true) }
+        → (IsStateClean (state S.Store connection.old) → (standing (state S.Store connection.old)).inside ≡ false) → is_trouble e ≡ true) }
 {
     begin(connection)?;
     fill(connection, limits.min_part, limits.max_body)?;
@@ -47,14 +47,14 @@ fn commit_new<S: Alter>(connection: &mut Connection<S>, limits: Limits) -> Resul
 
 /// Makes a host in an empty database and commits it. After an error nothing of it stands.
 pub fn make<S: Alter>(connection: &mut Connection<S>, limits: Limits) -> Result<(), Error>
-    requires { IsClean (state S.Store connection.old) → IsEmpty (state S.Store connection.old) }
-    ensures follows { Follows (state S.Store connection.old) (state S.Store connection.new) }
-    ensures made { OnOk result (IsClean (state S.Store connection.new) → IsNewHost limits (state S.Store connection.new)) }
-    ensures back { OnErr result (IsClean (state S.Store connection.new)
+    requires { IsStateClean (state S.Store connection.old) → IsEmpty (state S.Store connection.old) }
+    ensures follows { KeepsDisk (state S.Store connection.old) (state S.Store connection.new) }
+    ensures made { OnOk result (IsStateClean (state S.Store connection.new) → IsNewHost limits (state S.Store connection.new)) }
+    ensures back { OnErr result (IsStateClean (state S.Store connection.new)
         → standing (state S.Store connection.new) ≡ taken_back (standing (state S.Store connection.old))) }
     ensures trouble { IfErr result (λ e. IsIntact (state S.Store connection.new)
         → (standing (state S.Store connection.old)).limit ≡ None
-        → (IsClean (state S.Store connection.old) → (standing (state S.Store connection.old)).inside ≡ false) → is_trouble e ≡ true) }
+        → (IsStateClean (state S.Store connection.old) → (standing (state S.Store connection.old)).inside ≡ false) → is_trouble e ≡ true) }
 {
     match commit_new(connection, limits) {
         Ok(_) => Ok(()),

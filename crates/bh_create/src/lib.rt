@@ -1,6 +1,8 @@
 //! Makes a host of buckets in an empty database.
 #![tactic(auto)]
 
-pub mod create;
+mod create;
 mod fill;
 mod tables;
+
+pub use create::{CreateError, create};

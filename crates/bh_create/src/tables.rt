@@ -3,13 +3,13 @@ ghost use Rattle.sqlite.specs.Held.{state};
 ghost use Rattle.bh_rows.specs.Means.{is_trouble};
 ghost use Rattle.bh_tables.specs.Schema.{no_schema};
 ghost use Rattle.bh_tables.specs.Made.{with_host, with_tenants, with_keys, with_buckets, with_versions};
-ghost use Rattle.bh_schema.specs.Layer.{IsIntact, IsClean};
+ghost use Rattle.bh_schema.specs.Layer.{IsIntact, IsStateClean};
 ghost use Rattle.bh_create.specs.Creation.{IsMaking, Makes};
 
 use sqlite::{Alter, Connection, Error};
 
 fn create_host<S: Alter>(connection: &mut Connection<S>) -> Result<usize, Error>
-    requires { IsClean (state S.Store connection.old) → IsMaking no_schema (state S.Store connection.old) }
+    requires { IsStateClean (state S.Store connection.old) → IsMaking no_schema (state S.Store connection.old) }
     ensures makes { Makes with_host (state S.Store connection.old) (state S.Store connection.new) result }
     ensures trouble { IfErr result (λ e. IsIntact (state S.Store connection.new) → is_trouble e ≡ true) }
 {
@@ -20,7 +20,7 @@ fn create_host<S: Alter>(connection: &mut Connection<S>) -> Result<usize, Error>
 }
 
 fn create_tenants<S: Alter>(connection: &mut Connection<S>) -> Result<usize, Error>
-    requires { IsClean (state S.Store connection.old) → IsMaking with_host (state S.Store connection.old) }
+    requires { IsStateClean (state S.Store connection.old) → IsMaking with_host (state S.Store connection.old) }
     ensures makes { Makes with_tenants (state S.Store connection.old) (state S.Store connection.new) result }
     ensures trouble { IfErr result (λ e. IsIntact (state S.Store connection.new) → is_trouble e ≡ true) }
 {
@@ -31,7 +31,7 @@ fn create_tenants<S: Alter>(connection: &mut Connection<S>) -> Result<usize, Err
 }
 
 fn create_keys<S: Alter>(connection: &mut Connection<S>) -> Result<usize, Error>
-    requires { IsClean (state S.Store connection.old) → IsMaking with_tenants (state S.Store connection.old) }
+    requires { IsStateClean (state S.Store connection.old) → IsMaking with_tenants (state S.Store connection.old) }
     ensures makes { Makes with_keys (state S.Store connection.old) (state S.Store connection.new) result }
     ensures trouble { IfErr result (λ e. IsIntact (state S.Store connection.new) → is_trouble e ≡ true) }
 {
@@ -42,7 +42,7 @@ fn create_keys<S: Alter>(connection: &mut Connection<S>) -> Result<usize, Error>
 }
 
 fn create_buckets<S: Alter>(connection: &mut Connection<S>) -> Result<usize, Error>
-    requires { IsClean (state S.Store connection.old) → IsMaking with_keys (state S.Store connection.old) }
+    requires { IsStateClean (state S.Store connection.old) → IsMaking with_keys (state S.Store connection.old) }
     ensures makes { Makes with_buckets (state S.Store connection.old) (state S.Store connection.new) result }
     ensures trouble { IfErr result (λ e. IsIntact (state S.Store connection.new) → is_trouble e ≡ true) }
 {
@@ -53,7 +53,7 @@ fn create_buckets<S: Alter>(connection: &mut Connection<S>) -> Result<usize, Err
 }
 
 fn create_versions<S: Alter>(connection: &mut Connection<S>) -> Result<usize, Error>
-    requires { IsClean (state S.Store connection.old) → IsMaking with_buckets (state S.Store connection.old) }
+    requires { IsStateClean (state S.Store connection.old) → IsMaking with_buckets (state S.Store connection.old) }
     ensures makes { Makes with_versions (state S.Store connection.old) (state S.Store connection.new) result }
     ensures trouble { IfErr result (λ e. IsIntact (state S.Store connection.new) → is_trouble e ≡ true) }
 {
@@ -64,7 +64,7 @@ fn create_versions<S: Alter>(connection: &mut Connection<S>) -> Result<usize, Er
 }
 
 fn create_accounts<S: Alter>(connection: &mut Connection<S>) -> Result<usize, Error>
-    requires { IsClean (state S.Store connection.old) → IsMaking no_schema (state S.Store connection.old) }
+    requires { IsStateClean (state S.Store connection.old) → IsMaking no_schema (state S.Store connection.old) }
     ensures makes { Makes with_keys (state S.Store connection.old) (state S.Store connection.new) result }
     ensures trouble { IfErr result (λ e. IsIntact (state S.Store connection.new) → is_trouble e ≡ true) }
 {
@@ -74,7 +74,7 @@ fn create_accounts<S: Alter>(connection: &mut Connection<S>) -> Result<usize, Er
 }
 
 fn create_objects<S: Alter>(connection: &mut Connection<S>) -> Result<usize, Error>
-    requires { IsClean (state S.Store connection.old) → IsMaking with_keys (state S.Store connection.old) }
+    requires { IsStateClean (state S.Store connection.old) → IsMaking with_keys (state S.Store connection.old) }
     ensures makes { Makes with_versions (state S.Store connection.old) (state S.Store connection.new) result }
     ensures trouble { IfErr result (λ e. IsIntact (state S.Store connection.new) → is_trouble e ≡ true) }
 {
@@ -84,7 +84,7 @@ fn create_objects<S: Alter>(connection: &mut Connection<S>) -> Result<usize, Err
 
 /// Makes the tables of a host, with no row.
 pub fn create_tables<S: Alter>(connection: &mut Connection<S>) -> Result<(), Error>
-    requires { IsClean (state S.Store connection.old) → IsMaking no_schema (state S.Store connection.old) }
+    requires { IsStateClean (state S.Store connection.old) → IsMaking no_schema (state S.Store connection.old) }
     ensures makes { Makes with_versions (state S.Store connection.old) (state S.Store connection.new) result }
     ensures trouble { IfErr result (λ e. IsIntact (state S.Store connection.new) → is_trouble e ≡ true) }
 {

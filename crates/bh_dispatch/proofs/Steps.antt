@@ -9,9 +9,9 @@ use Rattle.bh_machine.specs.Machine.{operated}
 use Rattle.bh_operation.specs.declared.address.ObjectName.{ObjectName}
 use Rattle.bh_operation.specs.declared.operation.Operation.{Operation}
 use Rattle.bh_operation.specs.declared.operation.Operation.TheVariants.{ListBuckets, Usage, CreateBucket, HeadBucket, DeleteBucket, ListObjectsV2, ListObjectVersions, ListMultipartUploads, GetBucketVersioning, PutBucketVersioning, GetLifecycle, PutLifecycle, DeleteLifecycle, PutObject, CopyObject, GetObject, HeadObject, DeleteObject, CreateMultipartUpload, UploadPart, ListParts, CompleteMultipartUpload, AbortMultipartUpload}
-use Rattle.bh_types.specs.declared.plain.Wanted.{Wanted}
+use Rattle.bh_types.specs.declared.wanted.Wanted.{Wanted}
 use Rattle.bh_tables.specs.Typed.{Tables}
-use Rattle.bh_storage.specs.Calls.{Unless, Gives, Carries}
+use Rattle.bh_storage.specs.Calls.{Unless, GivesStep, Carries}
 use Rattle.bh_storage.specs.Errors.{step_rejected}
 use Rattle.bh_storage.specs.declared.error.StepError.{StepError}
 use Rattle.bh_storage.specs.declared.error.StepError.TheVariants.{Refused, Failed}
@@ -24,7 +24,7 @@ unless_rejected (Refused r) P h = h
 unless_rejected (Failed trouble) P h = tt
 
 module _ {Y : Type 0} (t : Octets) (step : Option Machine → Result (Y × Option Machine) Refusal) (old new : Tables) where
-  pub gives_plainly : (y : Y) → Gives t step y old new → Gives t (λ s. plainly (step s)) y old new
+  pub gives_plainly : (y : Y) → GivesStep t step y old new → GivesStep t (λ s. plainly (step s)) y old new
   gives_plainly y g = record { gives = ap plainly g.gives; others = g.others; latest = g.latest }
 
   pub carries_rejected : {X Z : Type 0} (shown : X → Y) (told : Z → Y) (e : StepError Refusal) → Carries {X = X} shown t step old new (Err e) → Carries {X = Z} told t (λ s. plainly (step s)) old new (Err (step_rejected e))

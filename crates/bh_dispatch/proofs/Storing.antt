@@ -11,7 +11,7 @@ use Rattle.bh_view.proofs.PurgeLemmas.{view_purged}
 use Rattle.bh_storage.specs.declared.error.StepError.{StepError}
 use Rattle.bh_storage.specs.declared.error.StepError.TheVariants.{Refused, Failed}
 use Rattle.bh_storage.specs.Calls as calls
-use Rattle.bh_schema.specs.Layer.{IsClean}
+use Rattle.bh_schema.specs.Layer.{IsStateClean}
 use Rattle.bh_schema.specs.Storage.{seen_in, IsIntact, IsOpen, seen, left, Keeps}
 use Rattle.bh_schema.specs.Working.{tables_at, IsWorking, StillWorking}
 use Rattle.bh_schema.proofs.Storing.{AreBoth, both, inside_of, shows_in, holds_seen, same_limits}
@@ -37,7 +37,7 @@ module _ (l : HostLimits) (old new : State) where
     limits = ap limits_in (shown_now l new still.is).0 ∙ still.limits ∙ sym (ap limits_in (shows_in l old was)) ∙ was.limits ∙ same_limits l new old;
   }
 
-  pub still_working : {X E : Type 0} (result : Result X (StepError E)) → (AreBoth new → calls.IsWorking (seen_in l old)) → calls.Unless result (IsClean new → StillWorking old new)
+  pub still_working : {X E : Type 0} (result : Result X (StepError E)) → (AreBoth new → calls.IsWorking (seen_in l old)) → calls.Unless result (IsStateClean new → StillWorking old new)
       → calls.Unless result (AreBoth new → calls.IsWorking (seen_in l new))
   still_working (Ok x) was h = λ clean. working_seen (was clean) (h (both clean))
   still_working (Err (Refused r)) was h = λ clean. working_seen (was clean) (h (both clean))
@@ -45,7 +45,7 @@ module _ (l : HostLimits) (old new : State) where
 
   -- the same step, of the tables that a storage shows
   pub carried : {X Y E : Type 0} (shown : X → Y) (t : Octets) (step : Option Machine → Result (Y × Option Machine) E) (result : Result X (StepError E)) → calls.IsWorking (seen_in l old) → AreBoth new
-      → calls.Unless result (IsClean new → StillWorking old new) → calls.Carries shown t step (tables_at old) (tables_at new) result → calls.Carries shown t step (seen_in l old).now (seen_in l new).now result
+      → calls.Unless result (IsStateClean new → StillWorking old new) → calls.Carries shown t step (tables_at old) (tables_at new) result → calls.Carries shown t step (seen_in l old).now (seen_in l new).now result
   carried shown t step (Ok x) was clean working h = rw (shows_in l old was, (shown_now l new (working (both clean)).is).0) h
   carried shown t step (Err (Refused r)) was clean working h = rw (shows_in l old was, (shown_now l new (working (both clean)).is).0) h
   carried shown t step (Err (Failed trouble)) was clean working h = tt

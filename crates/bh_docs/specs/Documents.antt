@@ -6,8 +6,8 @@ use Rattle.serde_json.specs.Written.{compact_text}
 use Rattle.bh_types.specs.Ids.{upload_text}
 use Rattle.bh_types.specs.Moments.{moment_text}
 use Rattle.bh_types.specs.declared.id.UploadId.{UploadId}
-use Rattle.bh_types.specs.declared.plain.BucketState.{BucketState}
-use Rattle.bh_types.specs.declared.plain.BucketState.TheVariants.{Unversioned, Enabled, Suspended}
+use Rattle.bh_types.specs.declared.bucket_state.BucketState.{BucketState}
+use Rattle.bh_types.specs.declared.bucket_state.BucketState.TheVariants.{Unversioned, Enabled, Suspended}
 use Rattle.bh_docs.specs.declared.reply.BucketEntry.{BucketEntry}
 use Rattle.bh_docs.specs.declared.reply.Usage.{Usage}
 

@@ -5,8 +5,8 @@ use Rattle.serde_json.specs.Data.{Data}
 use Rattle.bh_types.specs.Outcomes.{◌>>=◌}
 use Rattle.bh_types.specs.declared.refusal.Refusal.{Refusal}
 use Rattle.bh_types.specs.declared.refusal.Refusal.TheVariants.{InvalidArgument, MalformedJson}
-use Rattle.bh_types.specs.declared.plain.BucketState.{BucketState}
-use Rattle.bh_types.specs.declared.plain.Named.{Named}
+use Rattle.bh_types.specs.declared.bucket_state.BucketState.{BucketState}
+use Rattle.bh_types.specs.declared.wanted.Named.{Named}
 use Rattle.bh_docs.specs.Shapes.{Part, data_of, versioning_shape, lifecycle_shape, complete_shape}
 
 abbrev pub or_malformed : {A : Type 0} → Option A → Result A Refusal

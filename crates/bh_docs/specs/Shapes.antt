@@ -6,8 +6,8 @@ use Rattle.serde_json.specs.Data.{Data, Items, no_items, item, Members}
 use Rattle.serde_json.specs.Events.{items_len, members_len}
 use Rattle.serde_json.specs.Find.{get_member, as_array, as_integer, as_number, as_object, as_str}
 use Rattle.serde_json.specs.Read.{read}
-use Rattle.bh_types.specs.declared.plain.BucketState.{BucketState}
-use Rattle.bh_types.specs.declared.plain.BucketState.TheVariants.{Enabled, Suspended}
+use Rattle.bh_types.specs.declared.bucket_state.BucketState.{BucketState}
+use Rattle.bh_types.specs.declared.bucket_state.BucketState.TheVariants.{Enabled, Suspended}
 use Rattle.bh_docs.specs.declared.shape.PartShape.{PartShape}
 
 infixl 10 ◌>>=◌

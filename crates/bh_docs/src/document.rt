@@ -17,7 +17,7 @@ use serde_json::{Map, Value};
 use std::alloc::{AllocError, Global};
 
 /// An entry of a list in a document.
-pub trait Entry {
+pub trait Listed {
     /// What is shown of the entry.
     ghost shown: { Self → Data };
 
@@ -25,7 +25,7 @@ pub trait Entry {
         ensures { IfOk result (λ value. view value ≡ shown self.now) };
 }
 
-fn values_of<E: Entry>(alloc: Global, entries: &[E]) -> Result<Vec<Value>, AllocError>
+fn values_of<E: Listed>(alloc: Global, entries: &[E]) -> Result<Vec<Value>, AllocError>
     ensures { IfOk result (λ values. map view values.items ≡ map E.shown entries.now) }
 {
     let mut values = Vec::with_capacity(alloc, entries.len())?;
@@ -101,7 +101,7 @@ pub fn with_shown(
 }
 
 /// An object with one more member, the entries as an array.
-pub fn with_entries<E: Entry>(
+pub fn with_entries<E: Listed>(
     alloc: Global,
     document: Value,
     name: &str,

@@ -6,7 +6,7 @@ ghost use Rattle.serde_json.specs.View.{view};
 ghost use Rattle.bh_docs.specs.Members.{shown_data};
 ghost use Rattle.bh_docs.specs.Pages as spec;
 
-use crate::document::{Entry, Shown, object_of, print, with_entries, with_shown};
+use crate::document::{Listed, Shown, object_of, print, with_entries, with_shown};
 use crate::prefix::CommonPrefix;
 use bh_types::moment::Moment;
 use serde_json::Value;
@@ -22,7 +22,7 @@ pub struct ObjectEntry {
     pub size: u64,
 }
 
-impl Entry for ObjectEntry {
+impl Listed for ObjectEntry {
     ghost use Rattle.bh_docs.specs.Pages.{object_data};
 
     ghost shown = { object_data };

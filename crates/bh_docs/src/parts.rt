@@ -7,7 +7,7 @@ ghost use Rattle.bh_docs.specs.Documents.{natural};
 ghost use Rattle.bh_docs.specs.Members.{shown_data};
 ghost use Rattle.bh_docs.specs.Pages as spec;
 
-use crate::document::{Entry, Shown, object_of, print, with_entries, with_shown};
+use crate::document::{Listed, Shown, object_of, print, with_entries, with_shown};
 use bh_types::id::UploadId;
 use bh_types::moment::Moment;
 use serde_json::Value;
@@ -23,7 +23,7 @@ pub struct PartEntry {
     pub size: u64,
 }
 
-impl Entry for PartEntry {
+impl Listed for PartEntry {
     ghost use Rattle.bh_docs.specs.Pages.{part_data};
 
     ghost shown = { part_data };

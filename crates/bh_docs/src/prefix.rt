@@ -1,6 +1,6 @@
 //! Common prefixes of keys.
 
-use crate::document::{Entry, Shown, object_of};
+use crate::document::{Listed, Shown, object_of};
 use serde_json::Value;
 use std::alloc::{AllocError, Global};
 
@@ -10,7 +10,7 @@ pub struct CommonPrefix {
     pub prefix: String,
 }
 
-impl Entry for CommonPrefix {
+impl Listed for CommonPrefix {
     ghost use Rattle.bh_docs.specs.Pages.{prefix_data};
 
     ghost shown = { prefix_data };

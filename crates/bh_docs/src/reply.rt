@@ -7,10 +7,10 @@ ghost use Rattle.serde_json.specs.View.{view};
 ghost use Rattle.bh_docs.specs.Documents as spec;
 ghost use Rattle.bh_docs.specs.Requests.{versioning_of, lifecycle_of};
 
-use crate::document::{Entry, Shown, object_of, print, with_entries, with_member};
+use crate::document::{Listed, Shown, object_of, print, with_entries, with_member};
 use bh_types::id::UploadId;
 use bh_types::moment::Moment;
-use bh_types::plain::BucketState;
+use bh_types::bucket_state::BucketState;
 use serde_json::{Value, json};
 use std::alloc::{AllocError, Global};
 
@@ -44,7 +44,7 @@ pub struct BucketEntry {
     pub name: String,
 }
 
-impl Entry for BucketEntry {
+impl Listed for BucketEntry {
     ghost use Rattle.bh_docs.specs.Documents.{bucket_data};
 
     ghost shown = { bucket_data };

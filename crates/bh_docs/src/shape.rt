@@ -5,7 +5,7 @@ ghost use Rattle.serde_json.specs.Events.{items_len, members_len};
 ghost use Rattle.serde_json.specs.View.{view, items_view, members_view};
 ghost use Rattle.bh_docs.specs.Shapes as spec;
 
-use bh_types::plain::BucketState;
+use bh_types::bucket_state::BucketState;
 use serde_json::{Map, Value};
 use std::alloc::{AllocError, Global};
 

@@ -6,7 +6,7 @@ ghost use Rattle.serde_json.specs.View.{view};
 ghost use Rattle.bh_docs.specs.Members.{shown_data};
 ghost use Rattle.bh_docs.specs.Pages as spec;
 
-use crate::document::{Entry, Shown, object_of, print, with_entries, with_shown};
+use crate::document::{Listed, Shown, object_of, print, with_entries, with_shown};
 use crate::prefix::CommonPrefix;
 use bh_types::id::UploadId;
 use bh_types::moment::Moment;
@@ -22,7 +22,7 @@ pub struct UploadEntry {
     pub id: UploadId,
 }
 
-impl Entry for UploadEntry {
+impl Listed for UploadEntry {
     ghost use Rattle.bh_docs.specs.Pages.{upload_data};
 
     ghost shown = { upload_data };

@@ -7,7 +7,7 @@ ghost use Rattle.serde_json.specs.View.{view};
 ghost use Rattle.bh_docs.specs.Members.{shown_data};
 ghost use Rattle.bh_docs.specs.Pages as spec;
 
-use crate::document::{Entry, Shown, object_of, print, with_entries, with_shown};
+use crate::document::{Listed, Shown, object_of, print, with_entries, with_shown};
 use crate::prefix::CommonPrefix;
 use bh_types::id::VersionId;
 use bh_types::moment::Moment;
@@ -34,7 +34,7 @@ pub struct VersionEntry {
     pub object: Option<StoredObject>,
 }
 
-impl Entry for VersionEntry {
+impl Listed for VersionEntry {
     ghost use Rattle.bh_docs.specs.Pages.{version_data};
 
     ghost shown = { version_data };

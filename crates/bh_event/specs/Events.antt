@@ -13,14 +13,14 @@ pub data Order : Type 0 where
   RemoveKey : (tenant : List ℕ) (name : List ℕ) → Order
 
 -- the bytes of a request, or an order
-pub data Content : Type 0 where
-  Requested : (bytes : List ℕ) → Content
-  Ordered : (order : Order) → Content
+pub data Message : Type 0 where
+  Requested : (bytes : List ℕ) → Message
+  Ordered : (order : Order) → Message
 
 -- at a reading of the clock, in seconds since 1970
 pub record Arrival : Type 0 where
   pub reading : ℕ
-  pub content : Content
+  pub message : Message
 
 abbrev pub order_of : Command → Order
 order_of (TenantAdd tenant quota) = AddTenant (string_bytes tenant) quota
@@ -28,5 +28,5 @@ order_of (KeyAdd tenant name secret) = AddKey (string_bytes tenant) (string_byte
 order_of (KeyRemove tenant name) = RemoveKey (string_bytes tenant) (string_bytes name)
 
 abbrev pub arrival : Event → Arrival
-arrival (event.Http reading bytes) = record { reading = reading; content = Requested bytes.items }
-arrival (event.Operator reading command) = record { reading = reading; content = Ordered (order_of command) }
+arrival (event.Http reading bytes) = record { reading = reading; message = Requested bytes.items }
+arrival (event.Operator reading command) = record { reading = reading; message = Ordered (order_of command) }

@@ -8,7 +8,7 @@ use Rattle.serde_json.specs.Data.{Data}
 use Rattle.serde_json.specs.Events.{members_len}
 use Rattle.serde_json.specs.Find.{get, as_object, as_str, as_number, as_u64}
 use Rattle.serde_json.specs.Read.{read}
-use Rattle.bh_event.specs.Events.{Order, AddTenant, AddKey, RemoveKey, Content, Requested, Ordered, Arrival}
+use Rattle.bh_event.specs.Events.{Order, AddTenant, AddKey, RemoveKey, Message, Requested, Ordered, Arrival}
 
 abbrev pub text_at : List ℕ → Data → Option (List ℕ)
 text_at key d = option_and_then as_str (get key d)
@@ -63,12 +63,12 @@ order_named d op =
 abbrev pub order_in : Data → Option Order
 order_in d = option_and_then (order_named d) (text_at (codes "op") d)
 
-abbrev pub content_in : Data → Option Content
-content_in d = option_or (option_map Requested (request_in d)) (option_map Ordered (order_in d))
+abbrev pub message_in : Data → Option Message
+message_in d = option_or (option_map Requested (request_in d)) (option_map Ordered (order_in d))
 
 -- `at` is the reading of the clock
 abbrev pub arrival_in : Data → Option Arrival
-arrival_in d = option_and_then (λ reading. option_map (λ content. record { reading = reading; content = content }) (content_in d)) (number_at (codes "at") d)
+arrival_in d = option_and_then (λ reading. option_map (λ message. record { reading = reading; message = message }) (message_in d)) (number_at (codes "at") d)
 
 -- the value whose JSON text bytes are
 abbrev pub value_in : List ℕ → Option Data

@@ -1,7 +1,7 @@
 -- The reply to an event with a stamp is no fixed text.
 use Rattle.std.proofs.Common.{◌≡◌, ◌≢◌, ℕ, Bool, true, false, Option, Some, None, [], Ok, Err, Result, IfErr, refl, sym, ◌∙◌, ap, rules}
 use Rattle.std.specs.Fmt.{digits}
-use Rattle.bh_event.specs.Events.{Order, AddTenant, AddKey, RemoveKey, Content, Requested, Ordered, Arrival}
+use Rattle.bh_event.specs.Events.{Order, AddTenant, AddKey, RemoveKey, Message, Requested, Ordered, Arrival}
 use Rattle.bh_http.specs.Responses.{response_text}
 use Rattle.bh_http.specs.Views.{Taken}
 use Rattle.bh_machine.specs.Machine.{Act, Asked, Commanded, owner_of, step}
@@ -71,8 +71,8 @@ turned_reply : (o : Option Octets) (act : Act) (m : ℕ) (stamped new : Tables) 
 turned_reply (Some t) act m stamped new reply turned = (view stamped t, turned.told)
 turned_reply None act m stamped new reply turned = (None, turned.told)
 
-pub told_apart : (limits : HostLimits) (content : Content) (m : ℕ) (stamped new : Tables) (reply : Octets) → Turns limits content m stamped new reply
-    → (reply ≢ clock_text (caller_of content)) × (reply ≢ wanting_text (caller_of content))
+pub told_apart : (limits : HostLimits) (message : Message) (m : ℕ) (stamped new : Tables) (reply : Octets) → Turns limits message m stamped new reply
+    → (reply ≢ clock_text (caller_of message)) × (reply ≢ wanting_text (caller_of message))
 told_apart limits (Requested bytes) m stamped new reply (act, (answer, reads, is), turned) =
     let found = turned_reply (owner_of act) act m stamped new reply turned.judged in
     let free = step_only limits (Requested bytes) m act found.0 (answer, reads, is) in
@@ -88,4 +88,4 @@ told_apart limits (Ordered order) m stamped new reply (act, is, turned) =
 pub apart_on : {H : Type 0} (IsOpen : H → Type 0) (seen : H → Seen) (event : Arrival) (m : ℕ) (old new : H) (reply : Octets) → AppliedTo IsOpen seen event old new (Some m) reply
     → IsToldApart event (Some m) reply
 apart_on IsOpen seen event m old new reply (opened, still, (stamp, latest, turns)) =
-    told_apart (limits_in (seen old).now) event.content m (with_latest m (seen old).now) (seen new).now reply turns
+    told_apart (limits_in (seen old).now) event.message m (with_latest m (seen old).now) (seen new).now reply turns

@@ -168,16 +168,16 @@ turned_nameless at order old reply none told =
 
 -- from its stamp, and what it does after it
 pub applied : (limits : HostLimits) (event : Arrival) (m : ℕ) (old mid new : Tables) (reply : List ℕ) → limits ≡ limits_in old → Stamps event.reading m old mid
-    → Turns limits event.content m mid new reply → Applied event old new (Some m) reply
+    → Turns limits event.message m mid new reply → Applied event old new (Some m) reply
 applied limits event m old mid new reply is stamps turns =
-    let L : HostLimits → Type 0 = λ l. Turns l event.content m mid new reply in
-    let T : Tables → Type 0 = λ x. Turns (limits_in old) event.content m x new reply in
+    let L : HostLimits → Type 0 = λ l. Turns l event.message m mid new reply in
+    let T : Tables → Type 0 = λ x. Turns (limits_in old) event.message m x new reply in
     (stamps.stamp, turns.2.latest ∙ stamps.latest, subst T stamps.is (subst L is turns))
 
 -- a request's turn is its event's
 pub turns_request : (limits : HostLimits) (event : Event) (reading : ℕ) (held : Vec ℕ Global) (bytes : List ℕ) (m : ℕ) (old new : Tables) (reply : List ℕ) → event ≡ Http reading held → bytes ≡ held.items
-    → TurnsRequest limits bytes m old new reply → Turns limits (arrival event).content m old new reply
+    → TurnsRequest limits bytes m old new reply → Turns limits (arrival event).message m old new reply
 turns_request limits event reading held bytes m old new reply is same (answer, reads, turned) =
-    let P : Event → Type 0 = λ e. Turns limits (arrival e).content m old new reply in
+    let P : Event → Type 0 = λ e. Turns limits (arrival e).message m old new reply in
     let Q : List ℕ → Type 0 = λ b. Reads limits b answer in
     subst P (sym is) (Asked answer, (answer, subst Q same reads, refl), turned)

@@ -3,7 +3,7 @@ use Rattle.std.specs.Prelude.{Bool, true, false, [], ◌++◌, length, codes, if
 use Rattle.std.specs.Str.{bytes_eq}
 use Rattle.std.specs.Str.Lossy.{utf8_lossy}
 use Rattle.bh_docs.specs.Documents.{error_text}
-use Rattle.bh_event.specs.Events.{Order, AddTenant, AddKey, RemoveKey, Content, Requested, Ordered}
+use Rattle.bh_event.specs.Events.{Order, AddTenant, AddKey, RemoveKey, Message, Requested, Ordered}
 use Rattle.bh_http.specs.Answers.{bare, empty, refused, bare_refusal}
 use Rattle.bh_http.specs.Responses.{Sent, response_text, refusal_text}
 use Rattle.bh_http.specs.Views.{Taken}
@@ -106,7 +106,7 @@ text (Asked answer) outcome = asked_text answer outcome
 text (Commanded order) outcome = line order outcome
 
 -- who asks: a request, or an operator
-abbrev pub caller_of : Content → Caller
+abbrev pub caller_of : Message → Caller
 caller_of (Requested bytes) = Request
 caller_of (Ordered order) = Operator
 

@@ -47,16 +47,16 @@ pub record RanOn {H : Type 0} (IsOpen : H → Type 0) (seen : H → Seen) (left 
 -- ---- whose events they were, and what each tenant is told
 
 -- from one last stamp to another, these are the turns of the events with a stamp; the others got the fixed reply
-abbrev pub Head : HostLimits → Arrival → Told → (List Turn → ℕ → Type 0) → List Turn → ℕ → Type 0
-Head limits event (None, reply) rest turns from = (reply ≡ fixed event) × rest turns from
-Head limits event (Some m, reply) rest turns from = (act : Act) × (others : List Turn) × (stamp_of event.reading from ≡ Ok m) × Acted limits event.content act
+abbrev pub ShowsFirst : HostLimits → Arrival → Told → (List Turn → ℕ → Type 0) → List Turn → ℕ → Type 0
+ShowsFirst limits event (None, reply) rest turns from = (reply ≡ fixed event) × rest turns from
+ShowsFirst limits event (Some m, reply) rest turns from = (act : Act) × (others : List Turn) × (stamp_of event.reading from ≡ Ok m) × Acted limits event.message act
     × (turns ≡ record { act = act; stamp = m; reply = reply } ∷ others) × rest others m
 
 abbrev pub Shows : HostLimits → ℕ → List Arrival → List Told → List Turn → ℕ → Type 0
 Shows limits to [] [] turns from = (turns ≡ []) × (to ≡ from)
 Shows limits to [] (done ∷ dones) turns from = ⊥
 Shows limits to (event ∷ events) [] turns from = ⊥
-Shows limits to (event ∷ events) (done ∷ dones) turns from = Head limits event done (λ others m. Shows limits to events dones others m) turns from
+Shows limits to (event ∷ events) (done ∷ dones) turns from = ShowsFirst limits event done (λ others m. Shows limits to events dones others m) turns from
 
 -- a tenant's own acts with their stamps, and what it was told
 abbrev pub own : Octets → List Turn → List (ℕ × Act)

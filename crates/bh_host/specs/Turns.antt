@@ -6,7 +6,7 @@ use Rattle.bh_types.specs.declared.error.RequestError.{RequestError}
 use Rattle.bh_types.specs.declared.error.RequestError.TheVariants as request
 use Rattle.bh_types.specs.declared.refusal.Refusal.{Refusal}
 use Rattle.bh_types.specs.declared.rejection.Rejection.{Rejection}
-use Rattle.bh_event.specs.Events.{Order, Content, Arrival}
+use Rattle.bh_event.specs.Events.{Order, Message, Arrival}
 use Rattle.bh_http.specs.Reading.{Reads}
 use Rattle.bh_http.specs.Views.{Taken}
 use Rattle.bh_machine.specs.Machine.{Act, Asked, Commanded, Acted, owner_of, step}
@@ -45,8 +45,8 @@ pub record Turned (act : Act) (m : ℕ) (stamped new : Tables) (reply : List ℕ
   pub latest : latest_of new ≡ latest_of stamped
   pub limits : limits_in new ≡ limits_in stamped
 
-abbrev pub Turns : HostLimits → Content → ℕ → Tables → Tables → List ℕ → Type 0
-Turns limits content m stamped new reply = (act : Act) × Acted limits content act × Turned act m stamped new reply
+abbrev pub Turns : HostLimits → Message → ℕ → Tables → Tables → List ℕ → Type 0
+Turns limits message m stamped new reply = (act : Act) × Acted limits message act × Turned act m stamped new reply
 
 abbrev pub TurnsRequest : HostLimits → List ℕ → ℕ → Tables → Tables → List ℕ → Type 0
 TurnsRequest limits bytes m stamped new reply = (answer : Result Taken Refusal) × Reads limits bytes answer × Turned (Asked answer) m stamped new reply
@@ -72,18 +72,18 @@ TellsUnread request.OutOfMemory bytes = ⊥
 
 -- the fixed reply to an event that is left out
 abbrev pub fixed : Arrival → List ℕ
-fixed event = if nat_lt last_reading event.reading then clock_text (caller_of event.content) else wanting_text (caller_of event.content)
+fixed event = if nat_lt last_reading event.reading then clock_text (caller_of event.message) else wanting_text (caller_of event.message)
 
 -- a reply that is neither of the fixed ones
 abbrev pub IsToldApart : Arrival → Option ℕ → List ℕ → Type 0
 IsToldApart event None reply = reply ≡ fixed event
-IsToldApart event (Some m) reply = (reply ≢ clock_text (caller_of event.content)) × (reply ≢ wanting_text (caller_of event.content))
+IsToldApart event (Some m) reply = (reply ≢ clock_text (caller_of event.message)) × (reply ≢ wanting_text (caller_of event.message))
 
 -- what an event does: without a stamp nothing, and with one a turn at the greater of the reading and the last stamp
 abbrev pub Applied : Arrival → Tables → Tables → Option ℕ → List ℕ → Type 0
 Applied event old new None reply = new ≡ old
 Applied event old new (Some m) reply =
-    (stamp_of event.reading (latest_of old) ≡ Ok m) × (latest_of new ≡ m) × Turns (limits_in old) event.content m (with_latest m old) new reply
+    (stamp_of event.reading (latest_of old) ≡ Ok m) × (latest_of new ≡ m) × Turns (limits_in old) event.message m (with_latest m old) new reply
 
 -- the same of a storage: with a stamp, it is open before and after; without one, what an open one shows is what it showed
 abbrev pub AppliedTo : {H : Type 0} → (H → Type 0) → (H → Seen) → Arrival → H → H → Option ℕ → List ℕ → Type 0

@@ -37,7 +37,7 @@ const LAST_READING: u64 = 250_000_000_000;
 
 /// What an event was answered, and its stamp: the moment at which it counts, or none where it changed nothing.
 #[derive(Drop)]
-pub struct Done {
+pub struct Told {
     pub stamp: Option<Moment>,
     pub reply: Reply,
 }
@@ -200,7 +200,7 @@ fn serve<H: Storage>(
     ensures opens { OnOk result (H.IsOpen host.old → H.IsIntact host.new → H.IsOpen host.new) }
     ensures working { OnOk result (Clean H.IsIntact H.IsOpen host.new → IsWorking (H.seen host.new)) }
     ensures turned { IfOk result (λ bytes. Clean H.IsIntact H.IsOpen host.new
-        → Turns (H.seen host.old).limits (arrival event.now).content at (H.seen host.old).now (H.seen host.new).now bytes.items) }
+        → Turns (H.seen host.old).limits (arrival event.now).message at (H.seen host.old).now (H.seen host.new).now bytes.items) }
 {
     match event {
         Event::Http { bytes, .. } => serve_request(alloc, host, bytes, at),
@@ -236,7 +236,7 @@ fn try_apply<H: Storage>(
 
 /// Who asks by an event.
 fn caller_of(event: &Event) -> Caller
-    ensures { result ≡ reply.caller_of (arrival event.now).content }
+    ensures { result ≡ reply.caller_of (arrival event.now).message }
 {
     match event {
         Event::Http { .. } => Caller::Request,
@@ -253,7 +253,7 @@ fn caller_of(event: &Event) -> Caller
 ///
 /// All that is said of replies and of a crash holds also where the store reports faults; what is said of the tables
 /// holds while no fault has shut it.
-pub fn apply<H: Storage>(alloc: Global, host: &mut H, event: &Event) -> Done
+pub fn apply<H: Storage>(alloc: Global, host: &mut H, event: &Event) -> Told
     requires { Clean H.IsIntact H.IsOpen host.old → IsAtRest (H.seen host.old) }
     ensures intact { H.IsIntact host.new → H.IsIntact host.old }
     ensures opened { H.IsIntact host.new → H.IsOpen host.new → H.IsOpen host.old }
@@ -267,23 +267,23 @@ pub fn apply<H: Storage>(alloc: Global, host: &mut H, event: &Event) -> Done
     ensures crash { IfNone result.stamp (H.IsIntact host.new → (x : Tables) → H.left host.new x
         → H.left host.old x ⊎ (H.IsOpen host.old × WouldApply (arrival event.now) (H.seen host.old).now x)) }
     ensures clock { last_reading < (arrival event.now).reading
-        → (result.stamp ≡ None) × (reply_bytes result.reply ≡ clock_text (reply.caller_of (arrival event.now).content))
+        → (result.stamp ≡ None) × (reply_bytes result.reply ≡ clock_text (reply.caller_of (arrival event.now).message))
         × (host.new ≡ host.old) }
 {
     if event.reading() > LAST_READING {
-        return Done {
+        return Told {
             stamp: None,
             reply: Reply::ClockOutOfRange(caller_of(event)),
         };
     }
     match try_apply(alloc, host, event) {
-        Ok((stamp, bytes)) => Done {
+        Ok((stamp, bytes)) => Told {
             stamp: Some(stamp),
             reply: Reply::Text(bytes),
         },
         Err(_) => {
             host.take_back();
-            Done {
+            Told {
                 stamp: None,
                 reply: Reply::Wanting(caller_of(event)),
             }

@@ -6,7 +6,7 @@ ghost use Rattle.bh_storage.specs.Calls.{Clean, IsAtRest};
 ghost use Rattle.bh_host.specs.Answers.{told};
 ghost use Rattle.bh_host.specs.Runs.{HasRunOn, RanOn};
 
-use crate::apply::{Done, apply};
+use crate::apply::{Told, apply};
 use bh_event::event::Event;
 use bh_storage::storage::Storage;
 use std::alloc::{AllocError, Global};
@@ -19,7 +19,7 @@ pub fn run<H: Storage>(
     alloc: Global,
     host: &mut H,
     events: &[Event],
-) -> Result<Vec<Done>, AllocError>
+) -> Result<Vec<Told>, AllocError>
     requires { Clean H.IsIntact H.IsOpen host.old → IsAtRest (H.seen host.old) }
     ensures intact { H.IsIntact host.new → H.IsIntact host.old }
     ensures opened { H.IsIntact host.new → H.IsOpen host.new → H.IsOpen host.old }

@@ -6,7 +6,7 @@ use Rattle.std.proofs.lemmas.Bool.{cases_Bool}
 use Rattle.bh_types.specs.Limits.{HostLimits}
 use Rattle.bh_types.specs.Refusing.{RefusedOnly}
 use Rattle.bh_types.specs.declared.refusal.Refusal.{Refusal}
-use Rattle.bh_http.specs.Fields.{Standing, Missing, Once, Repeated, field_named}
+use Rattle.bh_http.specs.Fields.{Occurrence, Missing, Once, Repeated, field_named}
 use Rattle.bh_http.specs.Reading.{parts_of, taken, framing, announced, length_in, is_number, needs_length, is_once, is_missing}
 use Rattle.bh_http.specs.Refused.{ReadingRefusals, is_reading_refusal}
 use Rattle.bh_http.specs.Views.{Parts}
@@ -20,7 +20,7 @@ length_only max_body value = elim (cases_Bool (is_number value)) [
   | inr other ↦ rw other refl
 ]
 
-announced_only : (max_body : ℕ) (method : List ℕ) (length : Standing) → Only (announced max_body method length)
+announced_only : (max_body : ℕ) (method : List ℕ) (length : Occurrence) → Only (announced max_body method length)
 announced_only max_body method Missing = elim (cases_Bool (needs_length method)) [ inl needs ↦ rw needs refl | inr not_so ↦ rw not_so tt ]
 announced_only max_body method (Once value) = length_only max_body value
 announced_only max_body method Repeated = refl

@@ -4,17 +4,17 @@ use Rattle.bh_types.specs.AccessKeys.{access_key}
 use Rattle.bh_types.specs.declared.access_key.AccessKeyId.{AccessKeyId}
 use Rattle.bh_types.specs.declared.refusal.Refusal.{Refusal}
 use Rattle.bh_types.specs.declared.refusal.Refusal.TheVariants.{AccessDenied}
-use Rattle.bh_http.specs.Fields.{Standing, Missing, Once, Repeated, field_named}
+use Rattle.bh_http.specs.Fields.{Occurrence, Missing, Once, Repeated, field_named}
 use Rattle.bh_http.specs.Views.{Taken}
 
-abbrev pub key_field : Taken → Standing
+abbrev pub key_field : Taken → Occurrence
 key_field request = field_named (codes "x-access-key") request.fields
 
-abbrev pub secret_field : Taken → Standing
+abbrev pub secret_field : Taken → Occurrence
 secret_field request = field_named (codes "x-secret-key") request.fields
 
 -- the secret, where an access key's id and a secret stand once each
-abbrev pub secret_of_both : Standing → Standing → Result (List ℕ) Refusal
+abbrev pub secret_of_both : Occurrence → Occurrence → Result (List ℕ) Refusal
 secret_of_both (Once id) (Once secret) = Ok secret
 secret_of_both (Once id) Missing = Err AccessDenied
 secret_of_both (Once id) Repeated = Err AccessDenied
@@ -25,7 +25,7 @@ secret_of_both Repeated secret = Err AccessDenied
 abbrev pub secret_given : Taken → Result (List ℕ) Refusal
 secret_given request = secret_of_both (key_field request) (secret_field request)
 
-abbrev pub key_in : Standing → Option AccessKeyId
+abbrev pub key_in : Occurrence → Option AccessKeyId
 key_in (Once id) = access_key id
 key_in Missing = None
 key_in Repeated = None

@@ -15,22 +15,22 @@ abbrev pub values_of : List ℕ → List (List ℕ × List ℕ) → List (List �
 values_of name fields = map (λ f. f.1) (filter (is_named name) fields)
 
 -- how often a field stands, and its value where it stands once
-pub data Standing : Type 0 where
-  Missing : Standing
-  Once : List ℕ → Standing
-  Repeated : Standing
+pub data Occurrence : Type 0 where
+  Missing : Occurrence
+  Once : List ℕ → Occurrence
+  Repeated : Occurrence
 
-abbrev pub standing : List (List ℕ) → Standing
-standing [] = Missing
-standing (value ∷ []) = Once value
-standing (value ∷ next ∷ others) = Repeated
+abbrev pub occurrence : List (List ℕ) → Occurrence
+occurrence [] = Missing
+occurrence (value ∷ []) = Once value
+occurrence (value ∷ next ∷ others) = Repeated
 
 -- the field of a name
-abbrev pub field_named : List ℕ → List (List ℕ × List ℕ) → Standing
-field_named name fields = standing (values_of name fields)
+abbrev pub field_named : List ℕ → List (List ℕ × List ℕ) → Occurrence
+field_named name fields = occurrence (values_of name fields)
 
 -- what contracts see of the code's answer
-abbrev pub given_view : Given → Standing
+abbrev pub given_view : Given → Occurrence
 given_view code.Missing = Missing
 given_view (code.Once value) = Once value.now
 given_view code.Repeated = Repeated

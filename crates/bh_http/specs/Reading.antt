@@ -12,7 +12,7 @@ use Rattle.bh_types.specs.declared.error.RequestError.TheVariants.{Refused, OutO
 use Rattle.bh_types.specs.Limits.{HostLimits}
 use Rattle.bh_types.specs.declared.refusal.Refusal.{Refusal}
 use Rattle.bh_types.specs.declared.refusal.Refusal.TheVariants.{BadRequest, NotImplemented, MissingContentLength, EntityTooLarge, IncompleteBody}
-use Rattle.bh_http.specs.Fields.{Standing, Missing, Once, Repeated, field_named}
+use Rattle.bh_http.specs.Fields.{Occurrence, Missing, Once, Repeated, field_named}
 use Rattle.bh_http.specs.Views.{Taken, Parts}
 
 -- the bytes begin with this head, which has at most 16,384 bytes, empty lines before it included,
@@ -34,12 +34,12 @@ parts_of head = record {
   fields = map name_and_value head.fields;
 }
 
-abbrev pub is_missing : Standing → Bool
+abbrev pub is_missing : Occurrence → Bool
 is_missing Missing = true
 is_missing (Once value) = false
 is_missing Repeated = false
 
-abbrev pub is_once : Standing → Bool
+abbrev pub is_once : Occurrence → Bool
 is_once Missing = false
 is_once (Once value) = true
 is_once Repeated = false
@@ -61,7 +61,7 @@ length_in max_body value =
     else Err EntityTooLarge
 
 -- the length that Content-Length announces for a method
-abbrev pub announced : ℕ → List ℕ → Standing → Result ℕ Refusal
+abbrev pub announced : ℕ → List ℕ → Occurrence → Result ℕ Refusal
 announced max_body method Missing = if needs_length method then Err MissingContentLength else Ok 0
 announced max_body method (Once value) = length_in max_body value
 announced max_body method Repeated = Err BadRequest

@@ -11,15 +11,15 @@ use Rattle.bh_types.specs.Outcomes.{◌>>=◌, require}
 use Rattle.bh_types.specs.Refusing.{RefusedOnly}
 use Rattle.bh_types.specs.Rejections.{plain, plainly}
 use Rattle.bh_types.specs.declared.access_key.AccessKeyId.{AccessKeyId}
-use Rattle.bh_types.specs.declared.plain.BucketState.{BucketState}
-use Rattle.bh_types.specs.declared.plain.Wanted.TheVariants.{Current}
+use Rattle.bh_types.specs.declared.bucket_state.BucketState.{BucketState}
+use Rattle.bh_types.specs.declared.wanted.Wanted.TheVariants.{Current}
 use Rattle.bh_types.specs.declared.refusal.Refusal.{Refusal}
 use Rattle.bh_types.specs.declared.refusal.Refusal.TheVariants.{BadRequest, NotImplemented, MissingContentLength, EntityTooLarge, AccessDenied, InvalidAccessKeyId, InvalidUri, InvalidBucketName, KeyTooLong, InvalidArgument, MalformedJson, NoSuchBucket, NoSuchKey, NoSuchVersion, NoSuchUpload, MethodNotAllowed, BucketAlreadyOwnedByYou, BucketNotEmpty, InvalidBucketState, NoSuchLifecycleConfiguration, InvalidPart, InvalidPartOrder, EntityTooSmall, QuotaExceeded, InvalidRange, BadDigest, IncompleteBody, InvalidRequest, CounterExhausted, ClockOutOfRange, ServiceUnavailable, TenantExists, NoSuchTenant, KeyExists, NoSuchKeyName, InvalidName, InvalidQuota, NotAHostFile, Unavailable}
 use Rattle.bh_types.specs.declared.rejection.Rejection.{Rejection}
 use Rattle.bh_types.proofs.Refusing.{then_only, require_only, ok_or_only, weaker_only}
-use Rattle.bh_event.specs.Events.{Order, AddTenant, AddKey, RemoveKey, Content as Arrived, Requested, Ordered}
+use Rattle.bh_event.specs.Events.{Order, AddTenant, AddKey, RemoveKey, Message, Requested, Ordered}
 use Rattle.bh_http.specs.Credentials.{key_field, secret_field, secret_of_both, secret_given, key_given}
-use Rattle.bh_http.specs.Fields.{Standing, Missing, Once, Repeated}
+use Rattle.bh_http.specs.Fields.{Occurrence, Missing, Once, Repeated}
 use Rattle.bh_http.specs.Refused.{is_reading_refusal}
 use Rattle.bh_http.specs.Views.{Taken}
 use Rattle.bh_http.proofs.Refused.{reads_only}
@@ -42,8 +42,8 @@ abbrev Only : {X : Type 0} → Result X Refusal → Type 0
 Only r = RefusedOnly may r
 
 -- the same of refusals with what they tell
-abbrev Told : {X : Type 0} → Result X Rejection → Type 0
-Told r = IfErr r (λ (rejection : Rejection). may rejection.refusal ≡ true)
+abbrev MaySay : {X : Type 0} → Result X Rejection → Type 0
+MaySay r = IfErr r (λ (rejection : Rejection). may rejection.refusal ≡ true)
 
 both_ways : (b : Bool) → b ≡ true → b ≡ false → ⊥
 both_ways b t f = search rules
@@ -91,11 +91,11 @@ step_refusal test clock service wanting InvalidQuota is = refl
 step_refusal test clock service wanting NotAHostFile is = refl
 step_refusal test clock service wanting Unavailable is = absurd (both_ways (test Unavailable) is wanting)
 
-plainly_told : {X : Type 0} (r : Result X Refusal) → Only r → Told (plainly r)
+plainly_told : {X : Type 0} (r : Result X Refusal) → Only r → MaySay (plainly r)
 plainly_told (Ok x) only = tt
 plainly_told (Err e) only = only
 
-then_told : {A B : Type 0} (r : Result A Rejection) (f : A → Result B Rejection) → Told r → ((x : A) → Told (f x)) → Told (r >>= f)
+then_told : {A B : Type 0} (r : Result A Rejection) (f : A → Result B Rejection) → MaySay r → ((x : A) → MaySay (f x)) → MaySay (r >>= f)
 then_told (Ok x) f only next = next x
 then_told (Err e) f only next = only
 
@@ -110,7 +110,7 @@ authentic_only key secret s =
 numbers_only : (mode : BucketState) (c : Counts) → Only (after_entry mode c)
 numbers_only mode c = elim (cases_Bool (can_number mode c)) [ inl yet ↦ rw yet tt | inr over ↦ rw over refl ]
 
-both_only : (id secret : Standing) → Only (secret_of_both id secret)
+both_only : (id secret : Occurrence) → Only (secret_of_both id secret)
 both_only (Once id) (Once secret) = tt
 both_only (Once id) Missing = refl
 both_only (Once id) Repeated = refl
@@ -141,7 +141,7 @@ got_only bucket key s =
     fault_then (result_map_both (λ f. f) unmarked (tenant_bucket bucket s)) _ (unmarked_only (tenant_bucket bucket s) (ok_or_only may _ NoSuchBucket refl))
     (λ f. fault_then (lookup Current (listed key f.1)) _ (current_only (listed key f.1)) (λ v. tt))
 
-not_found_told : {X : Type 0} (r : Result X LookupFault) → IfErr r fault_only → Told (result_map_both (λ (o : X). o) not_found r)
+not_found_told : {X : Type 0} (r : Result X LookupFault) → IfErr r fault_only → MaySay (result_map_both (λ (o : X). o) not_found r)
 not_found_told (Ok x) h = tt
 not_found_told (Err e) h = h
 
@@ -155,7 +155,7 @@ put_only now bucket key body s =
     then_only may (tenant_bucket bucket s) _ (ok_or_only may _ NoSuchBucket refl)
     (λ f. then_only may (after_entry f.1.mode (counts f.0)) _ (numbers_only f.1.mode (counts f.0)) (λ c. tt))
 
-operated_only : (now : ℕ) (body : Octets) (operation : Operation) (s : Option State) → Told (operated now body operation s)
+operated_only : (now : ℕ) (body : Octets) (operation : Operation) (s : Option State) → MaySay (operated now body operation s)
 unfolding operated
 operated_only now body (op.CreateBucket bucket) s = plainly_told (create_bucket now bucket s) (created_only now bucket s)
 operated_only now body (op.PutObject object checksum) s = plainly_told (put_object now object.bucket object.key body None s) (put_only now object.bucket object.key body s)
@@ -181,7 +181,7 @@ operated_only now body (op.ListParts object upload page) s = refl
 operated_only now body (op.CompleteMultipartUpload object upload) s = refl
 operated_only now body (op.AbortMultipartUpload object upload) s = refl
 
-requested_only : (now : ℕ) (request : Taken) (s : Option State) → Told (requested now request s)
+requested_only : (now : ℕ) (request : Taken) (s : Option State) → MaySay (requested now request s)
 requested_only now request s =
     then_told (plainly (secret_given request)) _ (plainly_told (secret_given request) (both_only (key_field request) (secret_field request)))
     (λ secret. then_told (ok_or (key_given request) (plain InvalidAccessKeyId)) _ (keyed_told (key_given request))
@@ -189,7 +189,7 @@ requested_only now request s =
     (λ _. then_told (plainly (operation key.tenant request)) _ (plainly_told (operation key.tenant request) (asked_only key.tenant))
     (λ asked_for. operated_only now request.body asked_for s))))
   where
-    keyed_told : (key : Option AccessKeyId) → Told (ok_or key (plain InvalidAccessKeyId))
+    keyed_told : (key : Option AccessKeyId) → MaySay (ok_or key (plain InvalidAccessKeyId))
     keyed_told None = refl
     keyed_told (Some key) = tt
 
@@ -214,17 +214,17 @@ ordered_only (RemoveKey tenant name) s =
 
 -- ---- an act
 
-settled_told : {X : Type 0} (s : Option State) (o : Result (X × Option State) Rejection) → Told o → Told (settled s o).0
+settled_told : {X : Type 0} (s : Option State) (o : Result (X × Option State) Rejection) → MaySay o → MaySay (settled s o).0
 settled_told s (Ok a) only = tt
 settled_told s (Err e) only = only
 
-asked_told : (now : ℕ) (answer : Result Taken Refusal) (s : Option State) → RefusedOnly is_reading_refusal answer → Told (asked now answer s)
+asked_told : (now : ℕ) (answer : Result Taken Refusal) (s : Option State) → RefusedOnly is_reading_refusal answer → MaySay (asked now answer s)
 asked_told now (Ok request) s only = requested_only now request s
 asked_told now (Err refusal) s only = step_refusal is_reading_refusal refl refl refl refusal only
 
-change_told : (limits : HostLimits) (content : Arrived) (now : ℕ) (act : Act) (s : Option State) → Acted limits content act → Told (change now act s)
-change_told limits (Requested bytes) now act s (answer, reads, is) = subst (λ a. Told (change now a s)) (sym is) (asked_told now answer s (reads_only limits bytes answer reads))
-change_told limits (Ordered order) now act s is = subst (λ a. Told (change now a s)) (sym is) (plainly_told (ordered order s) (ordered_only order s))
+change_told : (limits : HostLimits) (message : Message) (now : ℕ) (act : Act) (s : Option State) → Acted limits message act → MaySay (change now act s)
+change_told limits (Requested bytes) now act s (answer, reads, is) = subst (λ a. MaySay (change now a s)) (sym is) (asked_told now answer s (reads_only limits bytes answer reads))
+change_told limits (Ordered order) now act s is = subst (λ a. MaySay (change now a s)) (sym is) (plainly_told (ordered order s) (ordered_only order s))
 
 pub step_only : StepRefusals
 step_only limits content now act s acted = settled_told (purged_tenant s now) (change now act (purged_tenant s now)) (change_told limits content now act (purged_tenant s now) acted)

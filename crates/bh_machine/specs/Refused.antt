@@ -1,6 +1,6 @@
 -- How a step of the machine may be refused.
 use Rattle.std.specs.Prelude.{◌≡◌, ℕ, Bool, true, false, IfErr, Option}
-use Rattle.bh_event.specs.Events.{Content}
+use Rattle.bh_event.specs.Events.{Message}
 use Rattle.bh_model.specs.State.{State}
 use Rattle.bh_types.specs.Limits.{HostLimits}
 use Rattle.bh_types.specs.declared.refusal.Refusal.{Refusal}
@@ -17,5 +17,5 @@ is_step_refusal refusal = true
 
 -- whatever an event turns out to be, and whatever its owner's state is
 abbrev pub StepRefusals : Type 0
-StepRefusals = (limits : HostLimits) (content : Content) (now : ℕ) (act : Act) (s : Option State) → Acted limits content act
+StepRefusals = (limits : HostLimits) (message : Message) (now : ℕ) (act : Act) (s : Option State) → Acted limits message act
     → IfErr (step now act s).0 (λ (rejection : Rejection). is_step_refusal rejection.refusal ≡ true)

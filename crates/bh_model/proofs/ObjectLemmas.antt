@@ -3,7 +3,7 @@ use Rattle.std.proofs.Common.{◌≡◌, ℕ, List, [], Option, Some, None, opti
 use Rattle.std.specs.Result.{IfOk, result_map_both}
 use Rattle.std.specs.FinMap.{get}
 use Rattle.bh_types.specs.declared.id.VersionId.{VersionId}
-use Rattle.bh_types.specs.declared.plain.Wanted.TheVariants.{Current}
+use Rattle.bh_types.specs.declared.wanted.Wanted.TheVariants.{Current}
 use Rattle.bh_types.specs.declared.refusal.Refusal.{Refusal}
 use Rattle.bh_model.specs.declared.entries.LookupFault.{LookupFault}
 use Rattle.bh_types.specs.declared.refusal.Refusal.TheVariants.{NoSuchBucket, BadDigest, CounterExhausted}

@@ -14,7 +14,7 @@ use Rattle.bh_types.specs.Outcomes.{◌>>=◌}
 use Rattle.bh_model.specs.Parts.{Naming, choice, chosen, are_large}
 use Rattle.bh_types.specs.Checksums.{checksum_text, joined_text}
 use Rattle.sha2.specs.Sha256.{sha256}
-use Rattle.bh_types.specs.declared.plain.Named.{Named}
+use Rattle.bh_types.specs.declared.wanted.Named.{Named}
 use Rattle.std.proofs.Math.Seq.{take-suc}
 use Rattle.std.proofs.lemmas.List.{map-append, length-map, take-append-drop}
 use Rattle.std.proofs.Common.{drop-cons}

@@ -3,10 +3,10 @@ use Rattle.std.specs.Prelude.{◌≡◌, ◌≢◌, ◌++◌, ◌∷◌, Err, �
 use Rattle.std.specs.List.{list_any}
 use Rattle.bh_types.specs.declared.id.VersionId.{VersionId}
 use Rattle.bh_types.specs.declared.id.VersionId.TheVariants.{Null, Numbered}
-use Rattle.bh_types.specs.declared.plain.BucketState.{BucketState}
-use Rattle.bh_types.specs.declared.plain.BucketState.TheVariants.{Enabled, Suspended}
-use Rattle.bh_types.specs.declared.plain.Wanted.{Wanted}
-use Rattle.bh_types.specs.declared.plain.Wanted.TheVariants.{Current, Named}
+use Rattle.bh_types.specs.declared.bucket_state.BucketState.{BucketState}
+use Rattle.bh_types.specs.declared.bucket_state.BucketState.TheVariants.{Enabled, Suspended}
+use Rattle.bh_types.specs.declared.wanted.Wanted.{Wanted}
+use Rattle.bh_types.specs.declared.wanted.Wanted.TheVariants.{Current, Named}
 use Rattle.bh_types.specs.declared.refusal.Refusal.TheVariants.{NoSuchVersion, AccessDenied, InvalidAccessKeyId}
 use Rattle.bh_model.specs.State.{Octets, Content.Body, Entry, State, purged}
 use Rattle.bh_model.specs.Counting.{counts, AtMost}

@@ -5,9 +5,9 @@ use Rattle.std.specs.Result.{result_map_both}
 use Rattle.std.specs.FinMap.{get, insert, remove}
 use Rattle.bh_types.specs.Names.{is_tenant_name, is_key_name, is_secret}
 use Rattle.bh_types.specs.declared.id.VersionId.{VersionId}
-use Rattle.bh_types.specs.declared.plain.BucketState.{BucketState}
-use Rattle.bh_types.specs.declared.plain.BucketState.TheVariants.{Unversioned, Enabled, Suspended}
-use Rattle.bh_types.specs.declared.plain.Wanted.{Wanted}
+use Rattle.bh_types.specs.declared.bucket_state.BucketState.{BucketState}
+use Rattle.bh_types.specs.declared.bucket_state.BucketState.TheVariants.{Unversioned, Enabled, Suspended}
+use Rattle.bh_types.specs.declared.wanted.Wanted.{Wanted}
 use Rattle.bh_types.specs.declared.refusal.Refusal.{Refusal}
 use Rattle.bh_types.specs.declared.refusal.Refusal.TheVariants.{NoSuchBucket, BucketAlreadyOwnedByYou, BadDigest, TenantExists, NoSuchTenant, KeyExists, NoSuchKeyName, InvalidName, InvalidQuota}
 use Rattle.bh_model.specs.declared.entries.LookupFault.{LookupFault}

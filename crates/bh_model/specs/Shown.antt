@@ -6,7 +6,7 @@ use Rattle.std.specs.FinMap as finite
 use Rattle.std.specs.Coded.{Coded, code_by, coded×, coded_list, coded_ℕ}
 use Rattle.std.specs.String.{string_bytes}
 use Rattle.std.specs.Borrow.{Bor}
-use Rattle.bh_types.specs.declared.plain.Named.{Named}
+use Rattle.bh_types.specs.declared.wanted.Named.{Named}
 use Rattle.bh_model.specs.declared.entries.Content as program
 use Rattle.bh_model.specs.State.{Octets, Content, Content.Marker, Content.Body, Part, Upload}
 use Rattle.bh_model.specs.Parts.{Naming}

@@ -7,8 +7,8 @@ use Rattle.std.specs.Cmp.Lexicographic.{slice_cmp}
 use Rattle.std.specs.FinMap.{FinMap, empty}
 use Rattle.bh_types.specs.Moments.{abort_moment}
 use Rattle.bh_types.specs.declared.id.VersionId.{VersionId}
-use Rattle.bh_types.specs.declared.plain.BucketState.{BucketState}
-use Rattle.bh_types.specs.declared.plain.BucketState.TheVariants.{Unversioned}
+use Rattle.bh_types.specs.declared.bucket_state.BucketState.{BucketState}
+use Rattle.bh_types.specs.declared.bucket_state.BucketState.TheVariants.{Unversioned}
 use Rattle.bh_model.specs.FinMaps.{adjusted, total}
 
 -- names, keys, secrets, texts and bodies, as their bytes

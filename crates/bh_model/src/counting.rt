@@ -1,7 +1,8 @@
 ghost use Rattle.std.specs.Prelude.{◌≡◌};
 ghost use Rattle.bh_model.specs.Counting as spec;
 
-use bh_types::plain::{BucketState, COUNTER_END, Counters};
+use bh_types::bucket_state::BucketState;
+use bh_types::counters::{COUNTER_END, Counters};
 use bh_types::refusal::Refusal;
 
 /// The counters once a new version or delete marker in a bucket of this state has taken its numbers: an

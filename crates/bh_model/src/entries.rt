@@ -5,7 +5,8 @@ ghost use Rattle.bh_model.specs.Entries as spec;
 ghost use Rattle.bh_model.specs.Shown.{content_of};
 
 use bh_types::id::VersionId;
-use bh_types::plain::{BucketState, Wanted};
+use bh_types::bucket_state::BucketState;
+use bh_types::wanted::Wanted;
 use bh_types::refusal::Refusal;
 use std::alloc::AllocError;
 use std::marker::Model;

@@ -13,7 +13,7 @@ ghost use Rattle.bh_model.specs.Shown.{content_of, naming_of, parts_of, shown_pa
 use crate::entries::Content;
 use base64::engine::general_purpose::STANDARD;
 use bh_types::error::RequestError;
-use bh_types::plain::Named;
+use bh_types::wanted::Named;
 use bh_types::refusal::Refusal;
 use sha2::{Digest, Sha256};
 use std::alloc::{AllocError, Global};

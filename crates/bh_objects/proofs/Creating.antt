@@ -10,7 +10,7 @@ use Rattle.bh_tables.specs.Typed.{Tables}
 use Rattle.bh_view.specs.View.{view, latest_of, limits_in}
 use Rattle.bh_view.specs.Sound.{IsSound}
 use Rattle.bh_view.proofs.BucketChanges.{bucket_added}
-use Rattle.bh_storage.specs.Calls.{Gives}
+use Rattle.bh_storage.specs.Calls.{GivesStep}
 use Rattle.bh_objects.specs.Found.{tenant_in, name_free}
 
 -- the tenant is there
@@ -23,7 +23,7 @@ no_bucket None e = refl
 no_bucket (Some b) e = absurd (true≢false (sym (ap is_ok e)))
 
 pub creates : (old new : Tables) (t : Octets) (at : ℕ) (b : Octets) → IsSound old → at ≤ latest_of old → IsTrue (is_bucket_name b) → tenant_in (view old t) ≡ Ok tt → name_free b (view old t) ≡ Ok tt
-    → new ≡ record old { buckets = old.buckets ++ record { tenant = t; bucket = b; created = at; state = 0; days = None } ∷ [] } → Gives t (create_bucket at b) Done old new × IsSound new × (limits_in new ≡ limits_in old)
+    → new ≡ record old { buckets = old.buckets ++ record { tenant = t; bucket = b; created = at; state = 0; days = None } ∷ [] } → GivesStep t (create_bucket at b) Done old new × IsSound new × (limits_in new ≡ limits_in old)
 creates old new t at b sound early good there free e =
     let v = has_state (view old t) there in
     let none : get v.0.buckets b ≡ None = no_bucket (get v.0.buckets b) (ap (name_free b) (sym v.1) ∙ free) in

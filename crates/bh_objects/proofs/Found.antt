@@ -3,9 +3,9 @@ use Rattle.std.proofs.Common.{◌≡◌, ℕ, Option, Some, None, option_map, op
 use Rattle.std.specs.Result.{result_map_both}
 use Rattle.std.specs.FinMap.{get}
 use Rattle.bh_types.specs.Counts.{Counts}
-use Rattle.bh_types.specs.Plain.{state_number}
-use Rattle.bh_types.specs.declared.plain.BucketState.{BucketState}
-use Rattle.bh_types.specs.declared.plain.BucketState.TheVariants.{Unversioned, Enabled, Suspended}
+use Rattle.bh_types.specs.BucketStates.{state_number}
+use Rattle.bh_types.specs.declared.bucket_state.BucketState.{BucketState}
+use Rattle.bh_types.specs.declared.bucket_state.BucketState.TheVariants.{Unversioned, Enabled, Suspended}
 use Rattle.bh_types.specs.declared.refusal.Refusal.{Refusal}
 use Rattle.bh_types.specs.declared.refusal.Refusal.TheVariants.{NoSuchBucket, NoSuchTenant, BucketAlreadyOwnedByYou}
 use Rattle.bh_model.specs.State.{Octets, State, Bucket}

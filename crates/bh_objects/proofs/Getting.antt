@@ -2,7 +2,7 @@
 use Rattle.std.proofs.Common.{◌≡◌, ℕ, zero, suc, List, [], ◌∷◌, Option, Some, None, option_map, option_to_list, find, Result, Ok, Err, refl, ap, ◌∙◌}
 use Rattle.std.specs.Result.{result_map_both}
 use Rattle.std.specs.FinMap.{get}
-use Rattle.bh_types.specs.declared.plain.BucketState.TheVariants.{Unversioned}
+use Rattle.bh_types.specs.declared.bucket_state.BucketState.TheVariants.{Unversioned}
 use Rattle.bh_types.specs.declared.rejection.Rejection.{Rejection}
 use Rattle.bh_machine.specs.Machine.{not_found}
 use Rattle.bh_model.specs.State.{Octets, State, Bucket, Entry}
@@ -15,8 +15,8 @@ use Rattle.bh_tables.specs.Shown.{is_version}
 use Rattle.bh_view.specs.View.{view, entry_of, content_of, id_of}
 use Rattle.bh_view.specs.Sound.{IsSound}
 use Rattle.bh_view.proofs.FindLemmas.{first_find, null_found}
-use Rattle.bh_schema.specs.Rows.{found_version}
-use Rattle.bh_objects.specs.Answers.{get_current, opened, null_answer}
+use Rattle.bh_schema.specs.Rows.{seen_version}
+use Rattle.bh_objects.specs.Answers.{get_current, opened_row, null_answer}
 use Rattle.bh_objects.specs.Found.{mode_in}
 use Rattle.bh_objects.proofs.Putting.{has_bucket}
 
@@ -27,11 +27,11 @@ abbrev told : Bucket → Option State → List Entry → Result Outcome Rejectio
 told B v entries = result_map_both (λ (x : Version). (shown B x, v)) not_found (found_current entries)
 
 -- what the lookup makes of a key's only entry
-null_told : (B : Bucket) (v : Option State) → B.mode ≡ Unversioned → (o : Option VersionRow) → told B v (option_to_list (option_map entry_of o)) ≡ with_state v (null_answer (option_map found_version o))
+null_told : (B : Bucket) (v : Option State) → B.mode ≡ Unversioned → (o : Option VersionRow) → told B v (option_to_list (option_map entry_of o)) ≡ with_state v (null_answer (option_map seen_version o))
 null_told B v plain None = refl
 null_told B v plain (Some r) = go r r.marker
   where
-    go : (r : VersionRow) (m : ℕ) → told B v (record { id = id_of r.id; moment = r.stamp; content = content_of m r } ∷ []) ≡ with_state v (opened m (found_version r))
+    go : (r : VersionRow) (m : ℕ) → told B v (record { id = id_of r.id; moment = r.stamp; content = content_of m r } ∷ []) ≡ with_state v (opened_row m (seen_version r))
     go r zero = ap (λ mode. Ok (Object (id_told mode (id_of r.id)) r.bytes r.checksum, v)) plain
     go r (suc n) = refl
 
@@ -43,7 +43,7 @@ current : (b k : Octets) (v : Option State) (s : State) (B : Bucket) → v ≡ S
 current b k v s B is at = rw (is, at) (both B (Some s) (found_current (listed k B)))
 
 pub gets : (tables : Tables) (t b k : Octets) → IsSound tables → mode_in b (view tables t) ≡ Ok Unversioned
-    → get_current b k (view tables t) ≡ with_state (view tables t) (null_answer (option_map found_version (find (is_version t b k 0) tables.versions)))
+    → get_current b k (view tables t) ≡ with_state (view tables t) (null_answer (option_map seen_version (find (is_version t b k 0) tables.versions)))
 gets tables t b k sound plain =
     let h = has_bucket b (view tables t) Unversioned plain in
     current b k (view tables t) h.state h.bucket h.added h.there

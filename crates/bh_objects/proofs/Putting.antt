@@ -3,7 +3,7 @@ use Rattle.std.proofs.Common.{◌≡◌, ℕ, ◌≤◌, is_ok, true≢false, Op
 use Rattle.std.specs.FinMap.{get}
 use Rattle.std.specs.Result.{result_map_both}
 use Rattle.bh_types.specs.Counts.{Counts}
-use Rattle.bh_types.specs.declared.plain.BucketState.{BucketState}
+use Rattle.bh_types.specs.declared.bucket_state.BucketState.{BucketState}
 use Rattle.bh_types.specs.declared.refusal.Refusal.{Refusal}
 use Rattle.bh_types.specs.declared.refusal.Refusal.TheVariants.{NoSuchBucket}
 use Rattle.bh_model.specs.State.{Octets, State, Bucket}
@@ -15,7 +15,7 @@ use Rattle.bh_tables.specs.Typed.{Tables}
 use Rattle.bh_view.specs.View.{view, latest_of, limits_in}
 use Rattle.bh_view.specs.Sound.{IsSound}
 use Rattle.bh_view.proofs.PutLemmas.{object_put}
-use Rattle.bh_storage.specs.Calls.{Gives}
+use Rattle.bh_storage.specs.Calls.{GivesStep}
 use Rattle.bh_objects.specs.Found.{mode_in, counts_in, IsKeyText, with_put}
 
 -- the tenant's bucket of a name, whose state was read
@@ -44,7 +44,7 @@ has_bucket name (Some s) mode e = go (get s.buckets name) refl e
 
 module _ (old new : Tables) (t b k : Octets) (at : ℕ) (bytes : Octets) (after : Counts) (sound : IsSound old) (early : at ≤ latest_of old) (key : IsKeyText k) where
   abbrev Goes : BucketState → Counts → Type 0
-  Goes mode c = after_entry mode c ≡ Ok after → new ≡ with_put mode c after t b k at bytes old → Gives t (put_object at b k bytes None) (Stored (id_told mode (new_id mode c.version)) (checksum_text bytes)) old new × IsSound new × (limits_in new ≡ limits_in old)
+  Goes mode c = after_entry mode c ≡ Ok after → new ≡ with_put mode c after t b k at bytes old → GivesStep t (put_object at b k bytes None) (Stored (id_told mode (new_id mode c.version)) (checksum_text bytes)) old new × IsSound new × (limits_in new ≡ limits_in old)
 
   goes : (mode : BucketState) (h : HasBucket b (view old t) mode) → Goes h.bucket.mode (counts h.state)
   goes mode h given e =

@@ -4,11 +4,11 @@ use Rattle.sqlite.specs.State.{State}
 use Rattle.bh_tables.specs.Typed.{tables_in}
 use Rattle.bh_view.specs.Sound.{IsSound}
 use Rattle.bh_view.specs.View.{limits_in}
-use Rattle.bh_schema.specs.Layer.{Standing, standing, IsIntact, IsClean, IsInside, Within}
+use Rattle.bh_schema.specs.Layer.{Standing, standing, IsIntact, IsStateClean, IsInside, StateWithin}
 use Rattle.bh_schema.specs.Working.{tables_at, IsWorking, StillWorking}
 
 -- no call
-pub no_call : (s : State) → (IsClean s → IsInside (standing s)) → Within s s
+pub no_call : (s : State) → (IsStateClean s → IsInside (standing s)) → StateWithin s s
 no_call s inside = record {
   follows = record { clean = λ clean. clean; intact = λ intact. intact; limit = refl };
   kept = λ clean. refl;
@@ -20,7 +20,7 @@ no_call s inside = record {
 pub same_tables : (old new : State) → standing new ≡ standing old → tables_at new ≡ tables_at old
 same_tables old new same = ap (λ (x : Standing). tables_in x.now) same
 
-pub asked_working : (old new : State) → (IsClean old → IsWorking old) → Within old new → (IsIntact new → standing new ≡ standing old) → IsClean new → StillWorking old new
+pub asked_working : (old new : State) → (IsStateClean old → IsWorking old) → StateWithin old new → (IsIntact new → standing new ≡ standing old) → IsStateClean new → StillWorking old new
 asked_working old new working w same clean =
     let was = working (w.follows.clean clean) in
     let is = same clean.intact in

@@ -2,7 +2,7 @@ ghost use Rattle.std.specs.Prelude.{◌≡◌, find, option_map, IfOk, OnOk};
 ghost use Rattle.std.specs.Result.{result_map_both};
 ghost use Rattle.bh_tables.specs.Shown.{is_version};
 ghost use Rattle.bh_schema.specs.Connections.{IsClean, tables, InTransaction, StaysWithin, StaysOpen, WasOpen, ChangesNothing};
-ghost use Rattle.bh_schema.specs.Rows.{found_version};
+ghost use Rattle.bh_schema.specs.Rows.{seen_version};
 ghost use Rattle.bh_schema.specs.Views.{version_seen};
 ghost use Rattle.bh_schema.specs.Working.{Works, StillWorks};
 ghost use Rattle.bh_storage.specs.Answers.{found_answer};
@@ -11,14 +11,14 @@ ghost use Rattle.bh_objects.specs.Answers.{get_current, null_answer};
 
 use crate::reads::bucket_state;
 use bh_schema::rows;
-use bh_schema::rows::versions::StoredVersion as VersionRow;
+use bh_schema::rows::versions::VersionColumns;
 use bh_schema::trouble::trouble_of;
 use bh_storage::answer::FoundVersion;
 use bh_storage::error::{StepError, Trouble};
 use bh_types::bucket::BucketName;
 use bh_types::key::ObjectKey;
 use bh_types::names::TenantName;
-use bh_types::plain::BucketState;
+use bh_types::bucket_state::BucketState;
 use bh_types::refusal::Refusal;
 use bh_types::rejection::{Detail, Rejection};
 use sqlite::{Alter, Connection};
@@ -29,13 +29,13 @@ fn null_version<S: Alter>(
     tenant: &TenantName,
     bucket: &BucketName,
     key: &ObjectKey,
-) -> Result<Option<VersionRow>, Trouble>
+) -> Result<Option<VersionColumns>, Trouble>
     requires { InTransaction S.Store connection.old }
     ensures within { StaysWithin S.Store connection.old connection.new }
     ensures opens { OnOk result (WasOpen S.Store connection.old connection.new) }
     ensures same { OnOk result (ChangesNothing S.Store connection.old connection.new) }
     ensures found { IfOk result (λ found. IsClean S.Store connection.new
-        → option_map version_seen found ≡ option_map found_version
+        → option_map version_seen found ≡ option_map seen_version
         (find (is_version tenant.now bucket.now key.now 0) (tables S.Store connection.old).versions)) }
 {
     let key = key.as_str().as_bytes();
@@ -47,7 +47,7 @@ fn null_version<S: Alter>(
 
 /// What is answered of the version `null` in a bucket that never had versions. A delete marker is no
 /// object, and a refusal tells of it.
-fn opened(found: Option<VersionRow>) -> Result<FoundVersion, Rejection>
+fn opened(found: Option<VersionColumns>) -> Result<FoundVersion, Rejection>
     ensures { result_map_both found_answer (λ rejection. rejection) result ≡ null_answer (option_map version_seen found) }
 {
     match found {

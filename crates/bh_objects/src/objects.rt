@@ -14,7 +14,7 @@ use bh_model::counting::after_entry;
 use bh_storage::answer::StoredVersion;
 use bh_storage::error::StepError;
 use bh_types::id::VersionId;
-use bh_types::plain::BucketState;
+use bh_types::bucket_state::BucketState;
 use bh_types::refusal::Refusal;
 use sqlite::{Alter, Connection};
 use std::alloc::Global;

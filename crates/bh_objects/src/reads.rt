@@ -9,7 +9,8 @@ use bh_schema::trouble::trouble_of;
 use bh_storage::error::{StepError, Trouble};
 use bh_types::bucket::BucketName;
 use bh_types::names::TenantName;
-use bh_types::plain::{BucketState, Counters};
+use bh_types::bucket_state::BucketState;
+use bh_types::counters::Counters;
 use bh_types::refusal::Refusal;
 use sqlite::{Alter, Connection};
 

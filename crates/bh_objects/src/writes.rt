@@ -15,7 +15,8 @@ use bh_types::bucket::BucketName;
 use bh_types::key::ObjectKey;
 use bh_types::moment::Moment;
 use bh_types::names::TenantName;
-use bh_types::plain::{BucketState, Counters};
+use bh_types::bucket_state::BucketState;
+use bh_types::counters::Counters;
 use sqlite::{Alter, Connection};
 
 /// An object that is sent whole.

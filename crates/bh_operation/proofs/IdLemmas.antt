@@ -13,7 +13,7 @@ use Rattle.bh_types.specs.declared.id.UploadId.{UploadId}
 use Rattle.bh_types.specs.declared.id.VersionId.{VersionId}
 use Rattle.bh_types.specs.declared.id.VersionId.TheVariants.{Null, Numbered}
 use Rattle.bh_types.proofs.IdLemmas.{decode_sized-number_text}
-use Rattle.bh_operation.specs.Numbers.{number_of, if_text_of, ok_of, upload_of, version_of}
+use Rattle.bh_operation.specs.Numbers.{number_written, if_text_of, ok_of, upload_of, version_of}
 
 if_text_of-same : (text : List ℕ) (n : ℕ) → number_text n ≡ text → if_text_of text n ≡ Some n
 if_text_of-same text n h = rw ((bytes_eq-Decides (number_text n) text).1 h) refl
@@ -36,13 +36,13 @@ unfolding from_bytes
 same-from_bytes text None n h = (cc)
 same-from_bytes text (Some bytes) n h = same-if_text_of text (from_be_bytes w64 bytes) n h
 
-number_of-number_text : (n : ℕ) → n < 2 ^ 64 → number_of (number_text n) ≡ Some n
+number_of-number_text : (n : ℕ) → n < 2 ^ 64 → number_written (number_text n) ≡ Some n
 number_of-number_text n h =
     let F : Result (List ℕ) FromHexError → Option ℕ = λ r. option_and_then (λ b. if_text_of (number_text n) (from_be_bytes w64 b)) (ok_of r) in
     ap F (decode_sized-number_text n) ∙ ap (if_text_of (number_text n)) (from_be_bytes-to_be_bytes_8 n h) ∙ if_text_of-same (number_text n) n refl
 
 -- the number that is read has the text
-number_text-number_of : (text : List ℕ) (n : ℕ) → number_of text ≡ Some n → number_text n ≡ text
+number_text-number_of : (text : List ℕ) (n : ℕ) → number_written text ≡ Some n → number_text n ≡ text
 unfolding from_bytes
 number_text-number_of text n h = same-from_bytes text _ n h
 
@@ -55,11 +55,11 @@ pub upload_read : (text : List ℕ) (r : Option UploadId) → IfSome r (λ id. u
     → IfNone r ((id : UploadId) → text ≢ upload_text id) → IfSome r (λ id. id.number < 2 ^ 64) → r ≡ upload_of text
 upload_read text None value none range =
     let mk : ℕ → UploadId = λ n. record { number = n } in
-    let e : number_of text ≡ None = none_of _ (λ n read. none (mk n) (sym (number_text-number_of text n read))) in
+    let e : number_written text ≡ None = none_of _ (λ n read. none (mk n) (sym (number_text-number_of text n read))) in
     sym (ap (option_map mk) e)
 upload_read text (Some id) value none range =
     let mk : ℕ → UploadId = λ n. record { number = n } in
-    let e : number_of text ≡ Some id.number = ap number_of (sym value) ∙ number_of-number_text id.number range in
+    let e : number_written text ≡ Some id.number = ap number_written (sym value) ∙ number_of-number_text id.number range in
     sym (ap (option_map mk) e)
 
 number_text-null : (n : ℕ) → number_text n ≡ codes "null" → ⊥
@@ -68,7 +68,7 @@ number_text-null n h =
     (cc)
 
 -- no text but `null` is read as `null`
-not_null : (text : List ℕ) → (text ≡ codes "null" → ⊥) → version_of text ≡ option_map Numbered (number_of text)
+not_null : (text : List ℕ) → (text ≡ codes "null" → ⊥) → version_of text ≡ option_map Numbered (number_written text)
 not_null text h = rw (false_from_ne_true (bytes_eq text (codes "null")) (λ e. h ((bytes_eq-Decides text (codes "null")).0 e))) refl
 
 abbrev pub IsInRange64 : VersionId → Type 0
@@ -79,9 +79,9 @@ IsInRange64 (Numbered n) = n < 2 ^ 64
 pub version_read : (text : List ℕ) (r : Option VersionId) → IfSome r (λ id. version_text id ≡ text)
     → IfNone r ((id : VersionId) → text ≢ version_text id) → IfSome r IsInRange64 → r ≡ version_of text
 version_read text None value none range =
-    let e : number_of text ≡ None = none_of _ (λ n read. none (Numbered n) (sym (number_text-number_of text n read))) in
+    let e : number_written text ≡ None = none_of _ (λ n read. none (Numbered n) (sym (number_text-number_of text n read))) in
     sym (not_null text (none Null) ∙ ap (option_map Numbered) e)
 version_read text (Some Null) value none range = rw ((bytes_eq-Decides text (codes "null")).1 (sym value)) refl
 version_read text (Some (Numbered n)) value none range =
-    let e : number_of text ≡ Some n = ap number_of (sym value) ∙ number_of-number_text n range in
+    let e : number_written text ≡ Some n = ap number_written (sym value) ∙ number_of-number_text n range in
     sym (not_null text (λ null. number_text-null n (value ∙ null)) ∙ ap (option_map Numbered) e)

@@ -5,10 +5,10 @@ use Rattle.std.specs.List.{list_any, before_first, after_first}
 use Rattle.std.specs.Str.{bytes_eq}
 use Rattle.std.specs.Str.Parse.{digits_value}
 use Rattle.bh_types.specs.Names.{is_bucket_name, is_object_key}
-use Rattle.bh_types.specs.declared.plain.Wanted.TheVariants.{Current}
+use Rattle.bh_types.specs.declared.wanted.Wanted.TheVariants.{Current}
 use Rattle.bh_types.specs.declared.refusal.Refusal.{Refusal}
 use Rattle.bh_types.specs.declared.refusal.Refusal.TheVariants.{AccessDenied, InvalidBucketName, KeyTooLong, InvalidArgument, NotImplemented}
-use Rattle.bh_http.specs.Fields.{Standing, Missing, Once, Repeated, field_named}
+use Rattle.bh_http.specs.Fields.{Occurrence, Missing, Once, Repeated, field_named}
 use Rattle.bh_http.specs.Reading.{is_number}
 use Rattle.bh_operation.specs.Actions.{method_of, bucket_action, object_action}
 use Rattle.bh_operation.specs.Addresses.{is_colon, own_part, bucket_name, object_key, bucket_named, object_named}
@@ -251,7 +251,7 @@ upload_marker_only (Some key) (Some id) = then_only may (or_invalid_argument (up
 
 -- ---- header fields
 
-once_only : (field : Standing) → Only (at_most_once field)
+once_only : (field : Occurrence) → Only (at_most_once field)
 once_only Missing = tt
 once_only (Once value) = tt
 once_only Repeated = refl
@@ -286,7 +286,7 @@ source_of_only value =
     (λ _. then_only may (source_part (before_first is_slash (source_path value))) _ (part_only (before_first is_slash (source_path value)))
     (λ _. then_only may (source_part (after_first is_slash (source_path value))) _ (part_only (after_first is_slash (source_path value))) (λ _. tt)))
 
-source_only : (field : Standing) → Only (source_in field)
+source_only : (field : Occurrence) → Only (source_in field)
 unfolding source_in
 source_only Missing = refl
 source_only (Once value) = source_of_only value

@@ -3,12 +3,12 @@ use Rattle.std.specs.Prelude.{ℕ, ◌||◌, Bool, true, false, List, codes, Opt
 use Rattle.std.specs.List.{list_any}
 use Rattle.bh_types.specs.declared.refusal.Refusal.{Refusal}
 use Rattle.bh_types.specs.declared.refusal.Refusal.TheVariants.{InvalidArgument, NotImplemented}
-use Rattle.bh_http.specs.Fields.{Standing, Missing, Once, Repeated, field_named}
+use Rattle.bh_http.specs.Fields.{Occurrence, Missing, Once, Repeated, field_named}
 use Rattle.bh_operation.specs.declared.query.Parameter.{Parameter}
 use Rattle.bh_operation.specs.Queries.{is_unsupported}
 
 -- a field stands in the request, once or more
-abbrev pub stands : Standing → Bool
+abbrev pub stands : Occurrence → Bool
 stands Missing = false
 stands (Once value) = true
 stands Repeated = true
@@ -28,7 +28,7 @@ supported parameters fields =
     else Ok tt
 
 -- the value of a field that may stand once
-abbrev pub at_most_once : Standing → Result (Option (List ℕ)) Refusal
+abbrev pub at_most_once : Occurrence → Result (Option (List ℕ)) Refusal
 at_most_once Missing = Ok None
 at_most_once (Once value) = Ok (Some value)
 at_most_once Repeated = Err InvalidArgument
@@ -39,11 +39,11 @@ unfoldable pub checksum_in : List (List ℕ × List ℕ) → Result (Option (Lis
 checksum_in fields = at_most_once (field_named (codes "x-amz-checksum-sha256") fields)
 
 -- Amazon S3 API Reference, CopyObject: x-amz-copy-source
-abbrev pub copy_source : List (List ℕ × List ℕ) → Standing
+abbrev pub copy_source : List (List ℕ × List ℕ) → Occurrence
 copy_source fields = field_named (codes "x-amz-copy-source") fields
 
 -- the range that is asked for; two are ignored
-abbrev pub once_or_none : Standing → Option (List ℕ)
+abbrev pub once_or_none : Occurrence → Option (List ℕ)
 once_or_none Missing = None
 once_or_none (Once value) = Some value
 once_or_none Repeated = None

@@ -10,8 +10,8 @@ use Rattle.bh_types.specs.Outcomes.{◌>>=◌}
 use Rattle.bh_types.specs.declared.id.UploadId.{UploadId}
 use Rattle.bh_types.specs.declared.id.VersionId.{VersionId}
 use Rattle.bh_types.specs.declared.id.VersionId.TheVariants.{Null, Numbered}
-use Rattle.bh_types.specs.declared.plain.Wanted.{Wanted}
-use Rattle.bh_types.specs.declared.plain.Wanted.TheVariants.{Current, Named, Unknown}
+use Rattle.bh_types.specs.declared.wanted.Wanted.{Wanted}
+use Rattle.bh_types.specs.declared.wanted.Wanted.TheVariants.{Current, Named, Unknown}
 use Rattle.bh_types.specs.declared.refusal.Refusal.{Refusal}
 use Rattle.bh_types.specs.declared.refusal.Refusal.TheVariants.{InvalidArgument}
 
@@ -59,14 +59,14 @@ token_in text = or_invalid_argument (ok_of (decode_of text))
 abbrev pub if_text_of : List ℕ → ℕ → Option ℕ
 if_text_of text n = if bytes_eq (number_text n) text then Some n else None
 
-abbrev pub number_of : List ℕ → Option ℕ
-number_of text = option_and_then (λ bytes. if_text_of text (from_be_bytes w64 bytes)) (ok_of (decode_sized text 8))
+abbrev pub number_written : List ℕ → Option ℕ
+number_written text = option_and_then (λ bytes. if_text_of text (from_be_bytes w64 bytes)) (ok_of (decode_sized text 8))
 
 abbrev pub upload_of : List ℕ → Option UploadId
-upload_of text = option_map (λ n. record { number = n }) (number_of text)
+upload_of text = option_map (λ n. record { number = n }) (number_written text)
 
 abbrev pub version_of : List ℕ → Option VersionId
-version_of text = if bytes_eq text (codes "null") then Some Null else option_map Numbered (number_of text)
+version_of text = if bytes_eq text (codes "null") then Some Null else option_map Numbered (number_written text)
 
 -- the version that an id speaks of; the numbers of versions begin at 1 and are below 2^63
 abbrev pub named_version : Option VersionId → Wanted

@@ -11,11 +11,11 @@ use Rattle.bh_operation.specs.declared.query.Selector.{Selector}
 use Rattle.bh_operation.specs.declared.query.Selector.TheVariants.{ListType, Versions, Uploads, Versioning, Lifecycle, Usage, UploadId}
 
 -- the text that an encoded name or value stands for
-abbrev pub text_of : List ℕ → List ℕ
-text_of bytes = utf8_lossy (decode bytes)
+abbrev pub form_text : List ℕ → List ℕ
+form_text bytes = utf8_lossy (decode bytes)
 
 abbrev pub decoded_pair : List ℕ × List ℕ → Parameter
-decoded_pair p = record { name = text_of p.0; value = text_of p.1 }
+decoded_pair p = record { name = form_text p.0; value = form_text p.1 }
 
 -- the names and values of a query, as a form is read
 -- URL Standard, section 5.1: application/x-www-form-urlencoded parsing

@@ -4,11 +4,11 @@ use Rattle.std.specs.Prelude.{ℕ, ◌==◌, List, [], ◌∷◌, length, take, 
 use Rattle.std.specs.List.{before_first, after_first}
 use Rattle.std.specs.Str.{bytes_eq}
 use Rattle.bh_types.specs.Outcomes.{◌>>=◌}
-use Rattle.bh_types.specs.declared.plain.Wanted.{Wanted}
-use Rattle.bh_types.specs.declared.plain.Wanted.TheVariants.{Current, Unknown}
+use Rattle.bh_types.specs.declared.wanted.Wanted.{Wanted}
+use Rattle.bh_types.specs.declared.wanted.Wanted.TheVariants.{Current, Unknown}
 use Rattle.bh_types.specs.declared.refusal.Refusal.{Refusal}
 use Rattle.bh_types.specs.declared.refusal.Refusal.TheVariants.{InvalidArgument}
-use Rattle.bh_http.specs.Fields.{Standing, Missing, Once, Repeated}
+use Rattle.bh_http.specs.Fields.{Occurrence, Missing, Once, Repeated}
 use Rattle.bh_operation.specs.Numbers.{or_invalid_argument, wanted}
 use Rattle.bh_operation.specs.Targets.{is_question, is_slash, decoded, text_of}
 use Rattle.bh_operation.specs.declared.source.Source.{Source}
@@ -48,7 +48,7 @@ source_of value = do
   Ok (record { bucket = bucket; key = key; version = version })
 
 -- the source of a field that stands just once
-unfoldable pub source_in : Standing → Result Source Refusal
+unfoldable pub source_in : Occurrence → Result Source Refusal
 source_in Missing = Err InvalidArgument
 source_in (Once value) = source_of value
 source_in Repeated = Err InvalidArgument

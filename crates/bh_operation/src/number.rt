@@ -10,7 +10,7 @@ ghost use Rattle.bh_operation.specs.Numbers as spec;
 use crate::text::Bytes;
 use bh_types::error::RequestError;
 use bh_types::id::{UploadId, VersionId};
-use bh_types::plain::Wanted;
+use bh_types::wanted::Wanted;
 use bh_types::refusal::Refusal;
 use hex::FromHexError;
 use std::alloc::Global;

@@ -20,7 +20,7 @@ use bh_types::bucket::BucketName;
 use bh_types::error::RequestError;
 use bh_types::id::UploadId;
 use bh_types::names::TenantName;
-use bh_types::plain::Wanted;
+use bh_types::wanted::Wanted;
 use bh_types::refusal::Refusal;
 use std::alloc::Global;
 

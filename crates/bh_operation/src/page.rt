@@ -7,7 +7,7 @@ use crate::query::{Parameter, value_of};
 use crate::text::{Bytes, Text};
 use bh_types::error::RequestError;
 use bh_types::id::UploadId;
-use bh_types::plain::Wanted;
+use bh_types::wanted::Wanted;
 use bh_types::refusal::Refusal;
 use std::alloc::{AllocError, Global};
 

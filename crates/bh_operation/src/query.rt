@@ -94,7 +94,7 @@ pub fn read_query(alloc: Global, query: &[u8]) -> Result<Vec<Parameter>, AllocEr
 }
 
 fn text_of(alloc: Global, bytes: &[u8]) -> Result<Text, AllocError>
-    ensures { IfOk result (λ text. text ≡ spec.text_of bytes.now) }
+    ensures { IfOk result (λ text. text ≡ spec.form_text bytes.now) }
 {
     Ok(Text::new(decode(alloc, bytes)?.into_owned(alloc)?))
 }

@@ -14,21 +14,21 @@ use Rattle.bh_tables.specs.Typed.{IsHost, IsReady, Tables, tables_in, tables}
 use Rattle.bh_tables.proofs.Places.{Place}
 use Rattle.bh_tables.proofs.Statements.{Writes, Shows}
 use Rattle.bh_tables.proofs.Statements as statement
-use Rattle.bh_schema.specs.Layer.{Standing, standing, IsIntact, IsOpen, IsClean, Leaves, IsInside, Holds, Follows, LeavesNothingNew, IsSettled, Within, Unwinds}
+use Rattle.bh_schema.specs.Layer.{Standing, standing, IsIntact, IsOpen, IsStateClean, Leaves, IsInside, Holds, KeepsDisk, LeavesNothingNew, IsStandingSettled, StateWithin, Unwinds}
 use Rattle.bh_schema.proofs.TurnLemmas.{follows, unwinds}
 
-ready : (old : State) → (IsClean old → IsInside (standing old)) → IsReady old
+ready : (old : State) → (IsStateClean old → IsInside (standing old)) → IsReady old
 unfolding standing IsIntact IsOpen
 ready old inside clean up = (inside (record { intact = clean; is_open = up })).host
 
-module _ (old new : State) (inside : IsClean old → (standing old).inside ≡ true) where
+module _ (old new : State) (inside : IsStateClean old → (standing old).inside ≡ true) where
   -- ---- what an error leaves, and a crash
 
-  undone_leaves : IsClean new → (standing old).inside ≡ true → Unwinds (standing old) (standing new) → ((standing new).kept ≡ (standing old).kept) × IsSettled (standing new)
+  undone_leaves : IsStateClean new → (standing old).inside ≡ true → Unwinds (standing old) (standing new) → ((standing new).kept ≡ (standing old).kept) × IsStandingSettled (standing new)
   undone_leaves c was (inl same) = (ap (λ (x : Standing). x.kept) same, inl (ap (λ (x : Standing). x.inside) same ∙ was))
-  undone_leaves c was (inr back) = (ap (λ (x : Standing). x.kept) back, subst IsSettled (sym back) (inr refl))
+  undone_leaves c was (inr back) = (ap (λ (x : Standing). x.kept) back, subst IsStandingSettled (sym back) (inr refl))
 
-  crash_within : Follows old new → Survives old new (λ _. IsOutside old) → IsOpen old → LeavesNothingNew old new
+  crash_within : KeepsDisk old new → Survives old new (λ _. IsOutside old) → IsOpen old → LeavesNothingNew old new
   unfolding IsIntact IsOpen Leaves standing
   crash_within f s up clean db h = elim (s.crash clean db h) [
     | inl was ↦ was
@@ -39,7 +39,7 @@ module _ (old new : State) (inside : IsClean old → (standing old).inside ≡ t
   -- ---- a question
 
   module _ {X : Type 0} (result : Result X Error) (asks : Asks old new result) where
-    asks_follows : Follows old new
+    asks_follows : KeepsDisk old new
     asks_follows = follows old new asks.survives asks.up
 
     pub asks_same : OnOk result (IsIntact new → standing new ≡ standing old)
@@ -66,15 +66,15 @@ module _ (old new : State) (inside : IsClean old → (standing old).inside ≡ t
         go (Ok x) h = tt
         go (Err e) h = h
 
-    asks_unwinds : OnErr result (IsClean new → Unwinds (standing old) (standing new))
+    asks_unwinds : OnErr result (IsStateClean new → Unwinds (standing old) (standing new))
     unfolding IsIntact IsOpen
     asks_unwinds = go result asks.undone
       where
-        go : (r : Result X Error) → (HasCleanDisk new → OnErr r (IsUndone old new)) → OnErr r (IsClean new → Unwinds (standing old) (standing new))
+        go : (r : Result X Error) → (HasCleanDisk new → OnErr r (IsUndone old new)) → OnErr r (IsStateClean new → Unwinds (standing old) (standing new))
         go (Ok x) h = tt
         go (Err e) h = λ c. unwinds old new asks.survives c.is_open (h c.intact)
 
-    pub asks_within : Within old new
+    pub asks_within : StateWithin old new
     asks_within = record {
       follows = asks_follows;
       kept = λ c. (go result asks_same asks_unwinds c).0;
@@ -82,14 +82,14 @@ module _ (old new : State) (inside : IsClean old → (standing old).inside ≡ t
       survives = crash_within asks_follows asks.survives;
     }
       where
-        go : (r : Result X Error) → OnOk r (IsIntact new → standing new ≡ standing old) → OnErr r (IsClean new → Unwinds (standing old) (standing new)) → IsClean new → ((standing new).kept ≡ (standing old).kept) × IsSettled (standing new)
+        go : (r : Result X Error) → OnOk r (IsIntact new → standing new ≡ standing old) → OnErr r (IsStateClean new → Unwinds (standing old) (standing new)) → IsStateClean new → ((standing new).kept ≡ (standing old).kept) × IsStandingSettled (standing new)
         go (Ok x) ok err c = undone_leaves c (inside (asks_follows.clean c)) (inl (ok c.intact))
         go (Err e) ok err c = undone_leaves c (inside (asks_follows.clean c)) (err c)
 
   -- ---- a write
 
   module _ {X : Type 0} (result : Result X Error) (changes : Changes old new result) where
-    changes_follows : Follows old new
+    changes_follows : KeepsDisk old new
     changes_follows = follows old new changes.survives changes.up
 
     pub changes_opens : OnOk result (IsIntact new → IsOpen old → IsOpen new)
@@ -100,19 +100,19 @@ module _ (old new : State) (inside : IsClean old → (standing old).inside ≡ t
         go (Err e) h = tt
         go (Ok x) h = λ clean up. (h clean up).is_open
 
-    changes_stays : OnOk result (IsClean new → StaysInside old new)
+    changes_stays : OnOk result (IsStateClean new → StaysInside old new)
     unfolding IsIntact IsOpen
     changes_stays = go result changes.inside
       where
-        go : (r : Result X Error) → (HasCleanDisk new → IsTrue old.is_open → OnOk r (StaysInside old new)) → OnOk r (IsClean new → StaysInside old new)
+        go : (r : Result X Error) → (HasCleanDisk new → IsTrue old.is_open → OnOk r (StaysInside old new)) → OnOk r (IsStateClean new → StaysInside old new)
         go (Err e) h = tt
         go (Ok x) h = λ c. h c.intact (changes.up c.intact c.is_open)
 
-    changes_unwinds : OnErr result (IsClean new → Unwinds (standing old) (standing new))
+    changes_unwinds : OnErr result (IsStateClean new → Unwinds (standing old) (standing new))
     unfolding IsIntact IsOpen
     changes_unwinds = go result changes.undone
       where
-        go : (r : Result X Error) → (HasCleanDisk new → OnErr r (IsUndone old new)) → OnErr r (IsClean new → Unwinds (standing old) (standing new))
+        go : (r : Result X Error) → (HasCleanDisk new → OnErr r (IsUndone old new)) → OnErr r (IsStateClean new → Unwinds (standing old) (standing new))
         go (Ok x) h = tt
         go (Err e) h = λ c. unwinds old new changes.survives c.is_open (h c.intact)
 
@@ -120,7 +120,7 @@ module _ (old new : State) (inside : IsClean old → (standing old).inside ≡ t
     unfolding standing
     stayed was stays = (stays.committed was, stays.inside was)
 
-    pub changes_within : Within old new
+    pub changes_within : StateWithin old new
     changes_within = record {
       follows = changes_follows;
       kept = λ c. (go result changes_stays changes_unwinds c).0;
@@ -128,24 +128,24 @@ module _ (old new : State) (inside : IsClean old → (standing old).inside ≡ t
       survives = crash_within changes_follows changes.survives;
     }
       where
-        go : (r : Result X Error) → OnOk r (IsClean new → StaysInside old new) → OnErr r (IsClean new → Unwinds (standing old) (standing new)) → IsClean new → ((standing new).kept ≡ (standing old).kept) × IsSettled (standing new)
+        go : (r : Result X Error) → OnOk r (IsStateClean new → StaysInside old new) → OnErr r (IsStateClean new → Unwinds (standing old) (standing new)) → IsStateClean new → ((standing new).kept ≡ (standing old).kept) × IsStandingSettled (standing new)
         go (Ok x) ok err c = let it = stayed (inside (changes_follows.clean c)) (ok c) in (it.0, inl it.1)
         go (Err e) ok err c = undone_leaves c (inside (changes_follows.clean c)) (err c)
 
     -- the transaction goes on
-    pub changes_inside : OnOk result (IsClean new → (standing new).inside ≡ true)
+    pub changes_inside : OnOk result (IsStateClean new → (standing new).inside ≡ true)
     changes_inside = go result changes_stays
       where
-        go : (r : Result X Error) → OnOk r (IsClean new → StaysInside old new) → OnOk r (IsClean new → (standing new).inside ≡ true)
+        go : (r : Result X Error) → OnOk r (IsStateClean new → StaysInside old new) → OnOk r (IsStateClean new → (standing new).inside ≡ true)
         go (Err e) h = tt
         go (Ok x) h = λ c. (stayed (inside (changes_follows.clean c)) (h c)).1
 
     -- the equation of a write's tables
-    pub changes_holds : (tables : Tables) → (HasCleanDisk new → IsTrue old.is_open → OnOk result (IsHost new.now × (tables_in new.now ≡ tables))) → OnOk result (IsClean new → Holds tables (standing new))
+    pub changes_holds : (tables : Tables) → (HasCleanDisk new → IsTrue old.is_open → OnOk result (IsHost new.now × (tables_in new.now ≡ tables))) → OnOk result (IsStateClean new → Holds tables (standing new))
     unfolding IsIntact IsOpen standing
     changes_holds tables = go result changes_stays
       where
-        go : (r : Result X Error) → OnOk r (IsClean new → StaysInside old new) → (HasCleanDisk new → IsTrue old.is_open → OnOk r (IsHost new.now × (tables_in new.now ≡ tables))) → OnOk r (IsClean new → Holds tables (standing new))
+        go : (r : Result X Error) → OnOk r (IsStateClean new → StaysInside old new) → (HasCleanDisk new → IsTrue old.is_open → OnOk r (IsHost new.now × (tables_in new.now ≡ tables))) → OnOk r (IsStateClean new → Holds tables (standing new))
         go (Err e) stays h = tt
         go (Ok x) stays h = λ c.
             let was = changes_follows.clean c in
@@ -153,7 +153,7 @@ module _ (old new : State) (inside : IsClean old → (standing old).inside ≡ t
             record { within = record { inside = (stayed (inside was) (stays c)).1; host = it.0 }; is = it.1 }
 
 -- what holds of a value on an intact disk holds on a clean connection
-pub if_clean : {X E : Type 0} (new : State) (result : Result X E) (P : X → Type 0) → (HasCleanDisk new → IfOk result P) → IfOk result (λ x. IsClean new → P x)
+pub if_clean : {X E : Type 0} (new : State) (result : Result X E) (P : X → Type 0) → (HasCleanDisk new → IfOk result P) → IfOk result (λ x. IsStateClean new → P x)
 unfolding IsIntact
 if_clean new (Ok x) P h = λ c. h c.intact
 if_clean new (Err e) P h = tt
@@ -167,13 +167,13 @@ if_error old new (Ok x) P h = tt
 if_error old new (Err e) P h = h
 
 pub record Question {X : Type 0} (old new : State) (rows_in : X → List Row) (shown : Tables → List Row) (result : Result X Error) : Type 0 where
-  pub within : Within old new
+  pub within : StateWithin old new
   pub opens : OnOk result (IsIntact new → IsOpen old × IsOpen new)
   pub same : OnOk result (IsIntact new → standing new ≡ standing old)
-  pub rows : IfOk result (λ x. IsClean new → rows_in x ≡ shown (tables_in (standing old).now))
+  pub rows : IfOk result (λ x. IsStateClean new → rows_in x ≡ shown (tables_in (standing old).now))
   pub trouble : IfErr result (λ e. IsIntact new → (standing old).limit ≡ None → is_trouble e ≡ true)
 
-question : {X : Type 0} (old new : State) (rows_in : X → List Row) (shown : Tables → List Row) (result : Result X Error) → (IsClean old → IsInside (standing old)) → Shows old new rows_in shown result → Question old new rows_in shown result
+question : {X : Type 0} (old new : State) (rows_in : X → List Row) (shown : Tables → List Row) (result : Result X Error) → (IsStateClean old → IsInside (standing old)) → Shows old new rows_in shown result → Question old new rows_in shown result
 unfolding standing
 question old new rows_in shown result inside it = record {
   within = asks_within old new (λ c. (inside c).inside) result it.asks;
@@ -184,12 +184,12 @@ question old new rows_in shown result inside it = record {
 }
 
 pub record Write (old new : State) (change : Tables → Tables) (allowed : Error → Type 0) (result : Result ℕ Error) : Type 0 where
-  pub within : Within old new
+  pub within : StateWithin old new
   pub opens : OnOk result (IsIntact new → IsOpen old → IsOpen new)
-  pub holds : OnOk result (IsClean new → Holds (change (tables_in (standing old).now)) (standing new))
+  pub holds : OnOk result (IsStateClean new → Holds (change (tables_in (standing old).now)) (standing new))
   pub trouble : IfErr result (λ e. IsIntact new → (standing old).limit ≡ None → allowed e)
 
-write : (old new : State) (change : Tables → Tables) (allowed : Error → Type 0) (result : Result ℕ Error) → (IsClean old → IsInside (standing old)) → Writes old new change allowed result → Write old new change allowed result
+write : (old new : State) (change : Tables → Tables) (allowed : Error → Type 0) (result : Result ℕ Error) → (IsStateClean old → IsInside (standing old)) → Writes old new change allowed result → Write old new change allowed result
 unfolding standing
 write old new change allowed result inside it = record {
   within = changes_within old new (λ c. (inside c).inside) result it.changes;
@@ -200,14 +200,14 @@ write old new change allowed result inside it = record {
 
 -- ---- the kinds of texts, over any of the tables
 
-module _ {T : Type 0} (p : Place T) (old new : State) (inside : IsClean old → IsInside (standing old)) where
+module _ {T : Type 0} (p : Place T) (old new : State) (inside : IsStateClean old → IsInside (standing old)) where
   pub selected : {X : Type 0} (rows_in : X → List Row) (result : Result X Error) {sql : List ℕ} {params : Row} {m : T → Bool} {view : T → Row} → SelectText p.form host_schema p.table.tree sql params m view no_limit
       → (HasCleanDisk new → IfOk result (λ x. Shown sql params old new (rows_in x))) → (HasCleanDisk new → IfErr result (FailsToQuery sql params old new)) → Survives old new (CommitsShowing sql params old)
       → Question old new rows_in (λ t. map view (filter m (p.rows t))) result
   selected rows_in result it ok err survives = question old new rows_in _ result inside (statement.selected p old new (ready old inside) rows_in result _ _ _ _ it ok err survives)
 
   module _ (result : Result ℕ Error) (live : IsLive old) where
-    pub inserted : {sql : List ℕ} {params : Row} {x : T} {A : Type 0} → InsertText p.form host_schema p.number p.table sql params x → (IsClean old → A → MayAdd p.form host_schema p.table (standing old).now.trees x)
+    pub inserted : {sql : List ℕ} {params : Row} {x : T} {A : Type 0} → InsertText p.form host_schema p.number p.table sql params x → (IsStateClean old → A → MayAdd p.form host_schema p.table (standing old).now.trees x)
         → (HasCleanDisk new → Executes sql params old new result) → Survives old new (CommitsBy sql params old)
         → Write old new (λ t. p.set t (p.rows t ++ x ∷ [])) (λ e. A → is_trouble e ≡ true) result
     unfolding IsIntact IsOpen standing

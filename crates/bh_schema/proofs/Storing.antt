@@ -11,7 +11,7 @@ use Rattle.bh_tables.specs.Hosts.{tables_shown}
 use Rattle.bh_tables.proofs.HostTests.{host_shows, shown_host}
 use Rattle.bh_view.specs.Sound.{IsSound}
 use Rattle.bh_storage.specs.Calls.{Seen, IsWorking}
-use Rattle.bh_schema.specs.Layer.{standing, IsIntact, IsOpen, IsClean, Leaves, IsInside, Holds, Follows, Within}
+use Rattle.bh_schema.specs.Layer.{standing, IsIntact, IsOpen, IsStateClean, Leaves, IsInside, Holds, KeepsDisk, StateWithin}
 use Rattle.bh_schema.specs.declared.host.Host.{Host}
 use Rattle.bh_schema.specs.Storage.{shown, seen_in, left_in, Keeps}
 
@@ -25,10 +25,10 @@ on_ok P is h = subst (λ o. OnOk o P) is h
 abbrev pub AreBoth : State → Type 0
 AreBoth s = IsIntact s × IsOpen s
 
-pub both : {s : State} → AreBoth s → IsClean s
+pub both : {s : State} → AreBoth s → IsStateClean s
 both h = record { intact = h.0; is_open = h.1 }
 
-pub parts : {s : State} → IsClean s → AreBoth s
+pub parts : {s : State} → IsStateClean s → AreBoth s
 parts clean = (clean.intact, clean.is_open)
 
 -- ---- the tables that are seen
@@ -59,10 +59,10 @@ holds_seen l tables s h = (host_shows (standing s).now h.within.host ∙ h.is, h
 
 -- ---- several calls
 
-pub follows_then : (a b c : State) → Follows a b → Follows b c → Follows a c
+pub follows_then : (a b c : State) → KeepsDisk a b → KeepsDisk b c → KeepsDisk a c
 follows_then a b c one two = record { clean = λ h. one.clean (two.clean h); intact = λ h. one.intact (two.intact h); limit = two.limit ∙ one.limit }
 
-pub within_then : (a b c : State) → (IsIntact b → IsOpen a → IsOpen b) → Within a b → Within b c → Within a c
+pub within_then : (a b c : State) → (IsIntact b → IsOpen a → IsOpen b) → StateWithin a b → StateWithin b c → StateWithin a c
 within_then a b c opens one two = record {
   follows = follows_then a b c one.follows two.follows;
   kept = λ clean. two.kept clean ∙ one.kept (two.follows.clean clean);
@@ -90,7 +90,7 @@ pub same_limits : (l : HostLimits) (old new : State) → (seen_in l new).limits 
 unfolding seen_in
 same_limits l old new = refl
 
-pub keeps : {S D : Type 0} (g : Ghosts S) (old new : Host S D) → new.limits ≡ old.limits → Within (state g old.connection) (state g new.connection) → Keeps g old new
+pub keeps : {S D : Type 0} (g : Ghosts S) (old new : Host S D) → new.limits ≡ old.limits → StateWithin (state g old.connection) (state g new.connection) → Keeps g old new
 keeps g old new same w =
     let a = state g old.connection in
     let b = state g new.connection in
@@ -104,14 +104,14 @@ keeps g old new same w =
 
 -- ---- after a question that changed nothing
 
-module _ (l : HostLimits) (old new : State) (working : AreBoth old → IsWorking (seen_in l old)) (w : Within old new) (same : IsIntact new → standing new ≡ standing old) where
+module _ (l : HostLimits) (old new : State) (working : AreBoth old → IsWorking (seen_in l old)) (w : StateWithin old new) (same : IsIntact new → standing new ≡ standing old) where
   pub asked_before : AreBoth new → AreBoth old
   asked_before clean = parts (w.follows.clean (both clean))
 
   pub asked_works : AreBoth new → IsWorking (seen_in l new)
   asked_works clean = subst IsWorking (sym (seen_same _ old new (same clean.0))) (working (asked_before clean))
 
-  pub asked_inside : IsClean new → IsInside (standing new)
+  pub asked_inside : IsStateClean new → IsInside (standing new)
   asked_inside clean = inside_of _ new (asked_works (parts clean))
 
   pub asked_same : AreBoth new → (seen_in l new).now ≡ (seen_in l old).now
@@ -119,8 +119,8 @@ module _ (l : HostLimits) (old new : State) (working : AreBoth old → IsWorking
 
 -- ---- after such a question and a write
 
-module _ (old mid new : State) (asked : Within old mid) (opens : IsIntact mid → IsOpen old × IsOpen mid) (wrote : Within mid new) where
-  pub wrote_within : Within old new
+module _ (old mid new : State) (asked : StateWithin old mid) (opens : IsIntact mid → IsOpen old × IsOpen mid) (wrote : StateWithin mid new) where
+  pub wrote_within : StateWithin old new
   wrote_within = within_then old mid new (λ intact up. (opens intact).1) asked wrote
 
   pub wrote_opens : (IsIntact new → IsOpen mid → IsOpen new) → IsOpen old → IsIntact new → IsOpen new

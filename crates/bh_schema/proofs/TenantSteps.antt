@@ -14,7 +14,7 @@ use Rattle.bh_view.specs.View.{view}
 use Rattle.bh_view.specs.Becomes.{Becomes}
 use Rattle.bh_view.proofs.FindLemmas.{first_find, tenant_found}
 use Rattle.bh_view.proofs.TenantChanges.{tenant_added}
-use Rattle.bh_storage.specs.Calls.{IsWorking, Gives}
+use Rattle.bh_storage.specs.Calls.{IsWorking, GivesStep}
 use Rattle.bh_schema.specs.Layer.{standing, Holds}
 use Rattle.bh_schema.specs.Storage.{seen_in}
 use Rattle.bh_schema.proofs.Storing.{shows_in, holds_seen, same_limits}
@@ -49,7 +49,7 @@ adds_tenant t quota s name few none = rw (required (is_tenant_name t) _ name, re
 pub tenant_exists : (t : Octets) (quota : ℕ) (s : Option Machine) → IsTrue (is_tenant_name t) → nat_le quota (2 ^ 60) ≡ true → is_some s ≡ true → add_tenant t quota s ≡ Err TenantExists
 tenant_exists t quota s name few there = let it = some_of s there in rw (required (is_tenant_name t) _ name, required (nat_le quota (2 ^ 60)) _ few, it.1) refl
 
-pub gives_of : {Y : Type 0} (t : Octets) (step : Option Machine → Result (Y × Option Machine) Refusal) (y : Y) (s : Option Machine) (old new : Tables) → step (view old t) ≡ Ok (y, s) → Becomes t s old new → Gives t step y old new
+pub gives_of : {Y : Type 0} (t : Octets) (step : Option Machine → Result (Y × Option Machine) Refusal) (y : Y) (s : Option Machine) (old new : Tables) → step (view old t) ≡ Ok (y, s) → Becomes t s old new → GivesStep t step y old new
 gives_of t step y s old new given b = record { gives = given ∙ ap (λ v. Ok (y, v)) (sym b.shown); others = b.others; latest = b.latest }
 
 pub works_of : (l : HostLimits) (t : Octets) (s : Option Machine) (old new : State) → IsWorking (seen_in l old) → (seen_in l new).inside ≡ true → Becomes t s (seen_in l old).now (seen_in l new).now → IsWorking (seen_in l new)

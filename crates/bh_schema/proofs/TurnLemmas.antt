@@ -12,12 +12,12 @@ use Rattle.bh_rows.specs.Means.{Means, is_trouble, IsUndone}
 use Rattle.bh_rows.proofs.CallLemmas.{clean_before, executes_undone}
 use Rattle.bh_rows.proofs.CrashLemmas.{turn_leaves as commits_nothing}
 use Rattle.bh_rows.proofs.TransactionLemmas.{turn_undone, turn_up, begin_trouble, commit_trouble, rollback_fails, commits_now}
-use Rattle.bh_schema.specs.Layer.{Standing, standing, IsIntact, IsOpen, IsClean, Leaves, begun, committed, taken_back, Follows, LeavesNothingNew, IsSettled, Within, Unwinds}
+use Rattle.bh_schema.specs.Layer.{Standing, standing, IsIntact, IsOpen, IsStateClean, Leaves, begun, committed, taken_back, KeepsDisk, LeavesNothingNew, IsStandingSettled, StateWithin, Unwinds}
 
 -- ---- any call
 
 module _ (old new : State) {P : Trees → Type 0} (s : Survives old new P) where
-  pub follows : (HasCleanDisk new → IsTrue new.is_open → IsTrue old.is_open) → Follows old new
+  pub follows : (HasCleanDisk new → IsTrue new.is_open → IsTrue old.is_open) → KeepsDisk old new
   unfolding standing IsIntact IsOpen
   follows up = record {
     clean = λ c. record { intact = clean_before old new _ s c.intact; is_open = up c.intact c.is_open };
@@ -47,7 +47,7 @@ module _ (sql : List ℕ) (old new : State) (result : Result ℕ Error) (runs : 
   abbrev always : HasCleanDisk old → IsTrue old.is_open → old.now.schema ≡ old.now.schema
   always clean up = refl
 
-  pub turn_follows : Follows old new
+  pub turn_follows : KeepsDisk old new
   turn_follows = follows old new s (turn_up sql old new old.now.schema always result runs s)
 
   -- a text that is no commit leaves nothing new
@@ -55,11 +55,11 @@ module _ (sql : List ℕ) (old new : State) (result : Result ℕ Error) (runs : 
   unfolding IsIntact Leaves
   turn_leaves command means which clean db h = elim ((commits_nothing sql old new command means which s).crash clean db h) [ inl was ↦ was | inr never ↦ absurd never ]
 
-  pub turn_fails : OnErr result (IsClean new → Unwinds (standing old) (standing new))
+  pub turn_fails : OnErr result (IsStateClean new → Unwinds (standing old) (standing new))
   unfolding IsIntact IsOpen
   turn_fails = go result (turn_undone sql old new old.now.schema always result runs s)
     where
-      go : (r : Result ℕ Error) → (HasCleanDisk new → OnErr r (IsUndone old new)) → OnErr r (IsClean new → Unwinds (standing old) (standing new))
+      go : (r : Result ℕ Error) → (HasCleanDisk new → OnErr r (IsUndone old new)) → OnErr r (IsStateClean new → Unwinds (standing old) (standing new))
       go (Ok count) h = tt
       go (Err e) h = λ c. unwinds old new s c.is_open (h c.intact)
 
@@ -88,7 +88,7 @@ module _ (sql : List ℕ) (old new : State) (result : Result ℕ Error) (runs : 
       go (Err e) h = tt
       go (Ok count) h = λ clean. shown_seen old new s old.now old.committed true (h clean)
 
-  pub begin_within : Means old.now.schema sql Begin 0 → (IsOpen old → IsSettled (standing old)) → Within old new
+  pub begin_within : Means old.now.schema sql Begin 0 → (IsOpen old → IsStandingSettled (standing old)) → StateWithin old new
   begin_within means before = record {
     follows = turn_follows;
     kept = λ c. (go result (begin_begins means) turn_fails c).0;
@@ -96,20 +96,20 @@ module _ (sql : List ℕ) (old new : State) (result : Result ℕ Error) (runs : 
     survives = λ up. turn_leaves Begin means (inl refl);
   }
     where
-      unwound : IsClean new → Unwinds (standing old) (standing new) → ((standing new).kept ≡ (standing old).kept) × IsSettled (standing new)
-      unwound c (inl same) = (ap (λ (x : Standing). x.kept) same, subst IsSettled (sym same) (before (turn_follows.clean c).is_open))
-      unwound c (inr back) = (ap (λ (x : Standing). x.kept) back, subst IsSettled (sym back) (inr refl))
+      unwound : IsStateClean new → Unwinds (standing old) (standing new) → ((standing new).kept ≡ (standing old).kept) × IsStandingSettled (standing new)
+      unwound c (inl same) = (ap (λ (x : Standing). x.kept) same, subst IsStandingSettled (sym same) (before (turn_follows.clean c).is_open))
+      unwound c (inr back) = (ap (λ (x : Standing). x.kept) back, subst IsStandingSettled (sym back) (inr refl))
 
-      go : (r : Result ℕ Error) → OnOk r (IsIntact new → standing new ≡ begun (standing old)) → OnErr r (IsClean new → Unwinds (standing old) (standing new)) → IsClean new → ((standing new).kept ≡ (standing old).kept) × IsSettled (standing new)
+      go : (r : Result ℕ Error) → OnOk r (IsIntact new → standing new ≡ begun (standing old)) → OnErr r (IsStateClean new → Unwinds (standing old) (standing new)) → IsStateClean new → ((standing new).kept ≡ (standing old).kept) × IsStandingSettled (standing new)
       go (Ok count) ok err c = let is = ok c.intact in (ap (λ (x : Standing). x.kept) is, inl (ap (λ (x : Standing). x.inside) is))
       go (Err e) ok err c = unwound c (err c)
 
   -- outside a transaction it fails in trouble alone
-  pub begin_fails : Means old.now.schema sql Begin 0 → IfErr result (λ e. IsIntact new → (IsClean old → (standing old).inside ≡ false) → is_trouble e ≡ true)
+  pub begin_fails : Means old.now.schema sql Begin 0 → IfErr result (λ e. IsIntact new → (IsStateClean old → (standing old).inside ≡ false) → is_trouble e ≡ true)
   unfolding IsIntact IsOpen standing
   begin_fails means = go result (λ outside. begin_trouble sql old new old.now.schema always result runs s means (λ clean up. outside (record { intact = clean; is_open = up })))
     where
-      go : (r : Result ℕ Error) → ((IsClean old → old.in_transaction ≡ false) → HasCleanDisk new → IfErr r (λ e. is_trouble e ≡ true)) → IfErr r (λ e. HasCleanDisk new → (IsClean old → old.in_transaction ≡ false) → is_trouble e ≡ true)
+      go : (r : Result ℕ Error) → ((IsStateClean old → old.in_transaction ≡ false) → HasCleanDisk new → IfErr r (λ e. is_trouble e ≡ true)) → IfErr r (λ e. HasCleanDisk new → (IsStateClean old → old.in_transaction ≡ false) → is_trouble e ≡ true)
       go (Ok count) h = tt
       go (Err e) h = λ clean outside. h outside clean
 
@@ -148,17 +148,17 @@ module _ (sql : List ℕ) (old new : State) (result : Result ℕ Error) (runs : 
   ]
 
   -- and it fails in trouble alone
-  pub commit_fails : Means old.now.schema sql Commit 0 → IfErr result (λ e. IsIntact new → (IsClean old → (standing old).inside ≡ true) → is_trouble e ≡ true)
+  pub commit_fails : Means old.now.schema sql Commit 0 → IfErr result (λ e. IsIntact new → (IsStateClean old → (standing old).inside ≡ true) → is_trouble e ≡ true)
   unfolding IsIntact IsOpen standing
   commit_fails means = go result (λ inside. commit_trouble sql old new old.now.schema always result runs s means (λ clean up. inside (record { intact = clean; is_open = up })))
     where
-      go : (r : Result ℕ Error) → ((IsClean old → old.in_transaction ≡ true) → HasCleanDisk new → IfErr r (λ e. is_trouble e ≡ true)) → IfErr r (λ e. HasCleanDisk new → (IsClean old → old.in_transaction ≡ true) → is_trouble e ≡ true)
+      go : (r : Result ℕ Error) → ((IsStateClean old → old.in_transaction ≡ true) → HasCleanDisk new → IfErr r (λ e. is_trouble e ≡ true)) → IfErr r (λ e. HasCleanDisk new → (IsStateClean old → old.in_transaction ≡ true) → is_trouble e ≡ true)
       go (Ok count) h = tt
       go (Err e) h = λ clean inside. h inside clean
 
   -- ---- ROLLBACK
 
-  pub rollback_goes : Means old.now.schema sql Rollback 0 → (IsOpen old → IsSettled (standing old)) → IsClean new → standing new ≡ taken_back (standing old)
+  pub rollback_goes : Means old.now.schema sql Rollback 0 → (IsOpen old → IsStandingSettled (standing old)) → IsStateClean new → standing new ≡ taken_back (standing old)
   unfolding IsIntact IsOpen standing
   rollback_goes means before c = go result (runs c.intact) (rollback_fails sql old new old.now.schema always result runs s means c.intact (turn_follows.clean c).is_open)
     where
@@ -179,6 +179,6 @@ module _ (sql : List ℕ) (old new : State) (result : Result ℕ Error) (runs : 
       ]
 
 -- outside a transaction, what an open connection sees was committed
-pub settled_by : (s : State) (autocommit : Bool) → autocommit ≡ not s.in_transaction → (IsTrue autocommit → IsTrue s.is_open → s.now ≡ s.committed) → IsOpen s → IsSettled (standing s)
+pub settled_by : (s : State) (autocommit : Bool) → autocommit ≡ not s.in_transaction → (IsTrue autocommit → IsTrue s.is_open → s.now ≡ s.committed) → IsOpen s → IsStandingSettled (standing s)
 unfolding IsOpen standing
 settled_by s autocommit is h up = elim (cases_Bool s.in_transaction) [ inl inside ↦ inl inside | inr outside ↦ inr (h (is ∙ ap not outside) up) ]

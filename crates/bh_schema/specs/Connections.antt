@@ -5,7 +5,7 @@ use Rattle.sqlite.specs.declared.error.Error.{Error}
 use Rattle.sqlite_trees.specs.declared.store.Store.{Ghosts}
 use Rattle.bh_rows.specs.Means.{is_trouble}
 use Rattle.bh_tables.specs.Typed.{Tables, tables_in}
-use Rattle.bh_schema.specs.Layer.{Standing, standing, IsInside, Holds, Within}
+use Rattle.bh_schema.specs.Layer.{Standing, standing, IsInside, Holds, StateWithin}
 use Rattle.bh_schema.specs.Layer as layer
 
 module _ {S : Type 0} (g : Ghosts S) where
@@ -19,7 +19,7 @@ module _ {S : Type 0} (g : Ghosts S) where
 
   -- both
   abbrev pub IsClean : Held S → Type 0
-  IsClean c = layer.IsClean (state g c)
+  IsClean c = layer.IsStateClean (state g c)
 
   -- where it stands, and the tables that it shows if they are a host's
   abbrev pub stands : Held S → Standing
@@ -35,7 +35,7 @@ module _ {S : Type 0} (g : Ghosts S) where
   module _ (old new : Held S) where
     -- a call inside a transaction commits nothing
     abbrev pub StaysWithin : Type 0
-    StaysWithin = Within (state g old) (state g new)
+    StaysWithin = StateWithin (state g old) (state g new)
 
     -- an answer tells that the connection was open, and is
     abbrev pub WasOpen : Type 0

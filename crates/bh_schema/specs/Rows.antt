@@ -23,7 +23,7 @@ abbrev pub bucket_numbers : BucketRow → BucketNumbers
 bucket_numbers b = record { created = b.created; state = b.state; days = b.days }
 
 -- the columns of a version that are read
-pub record FoundVersion : Type 0 where
+pub record SeenVersion : Type 0 where
   pub seq : ℕ
   pub marker : ℕ
   pub stamp : ℕ
@@ -31,8 +31,8 @@ pub record FoundVersion : Type 0 where
   pub checksum : Octets
   pub bytes : Octets
 
-abbrev pub found_version : VersionRow → FoundVersion
-found_version v = record { seq = v.seq; marker = v.marker; stamp = v.stamp; size = v.size; checksum = v.checksum; bytes = v.bytes }
+abbrev pub seen_version : VersionRow → SeenVersion
+seen_version v = record { seq = v.seq; marker = v.marker; stamp = v.stamp; size = v.size; checksum = v.checksum; bytes = v.bytes }
 
 -- ---- rows that may be added
 

@@ -1,7 +1,7 @@
 -- Owned values, as their columns.
 use Rattle.std.specs.String.{string_bytes}
-use Rattle.bh_schema.specs.Rows.{FoundVersion}
-use Rattle.bh_schema.specs.declared.rows.versions.StoredVersion.{StoredVersion}
+use Rattle.bh_schema.specs.Rows.{SeenVersion}
+use Rattle.bh_schema.specs.declared.rows.versions.VersionColumns.{VersionColumns}
 
-abbrev pub version_seen : StoredVersion → FoundVersion
+abbrev pub version_seen : VersionColumns → SeenVersion
 version_seen v = record { seq = v.seq; marker = v.marker; stamp = v.stamp; size = v.size; checksum = string_bytes v.checksum; bytes = v.bytes.items }

@@ -3,12 +3,12 @@ ghost use Rattle.sqlite.specs.Held.{state};
 ghost use Rattle.bh_model.specs.Runs.{last_reading};
 ghost use Rattle.bh_view.specs.View.{latest_of};
 ghost use Rattle.bh_storage.specs.Calls.{Stamps};
-ghost use Rattle.bh_schema.specs.Layer.{standing, Within};
+ghost use Rattle.bh_schema.specs.Layer.{standing, StateWithin};
 ghost use Rattle.bh_schema.specs.Storage.{IsClean, IsIntact, IsOpen, seen, Works, Keeps, StaysOpen, KeepsSettings};
 
 use crate::host::{Digester, Host};
 use crate::rows::host::{find_latest, set_latest};
-use crate::trouble::told;
+use crate::trouble::or_trouble;
 use bh_storage::error::Trouble;
 use bh_types::moment::Moment;
 use sqlite::Alter;
@@ -17,14 +17,14 @@ impl<S: Alter + Drop, D: Digester + Drop> Host<S, D> {
     /// The last stamp.
     pub fn latest(&mut self) -> Result<Moment, Trouble>
         requires { Works S.Store self.old }
-        ensures within { Within (state S.Store self.old.connection) (state S.Store self.new.connection) }
+        ensures within { StateWithin (state S.Store self.old.connection) (state S.Store self.new.connection) }
         ensures opens { OnOk result (IsIntact S.Store self.new → IsOpen S.Store self.old × IsOpen S.Store self.new) }
         ensures same { OnOk result (IsIntact S.Store self.new
             → standing (state S.Store self.new.connection) ≡ standing (state S.Store self.old.connection)) }
         ensures latest { IfOk result (λ m. IsClean S.Store self.new → m ≡ latest_of (seen S.Store self.old).now) }
         ensures settings { self.new ≡ record self.old { connection = self.new.connection } }
     {
-        let found = told(find_latest(&mut self.connection))?;
+        let found = or_trouble(find_latest(&mut self.connection))?;
         match Moment::from_reading(found.unwrap_or(0)) {
             Some(latest) => Ok(latest),
             None => Err(Trouble::Store),
@@ -49,7 +49,7 @@ impl<S: Alter + Drop, D: Digester + Drop> Host<S, D> {
         if reading <= latest.seconds() {
             return Ok(latest);
         }
-        told(set_latest(&mut self.connection, reading))?;
+        or_trouble(set_latest(&mut self.connection, reading))?;
         match Moment::from_reading(reading) {
             Some(read) => Ok(read),
             None => Err(Trouble::Store),

@@ -5,7 +5,7 @@ ghost use Rattle.bh_schema.specs.Storage.{IsClean, seen, Works, Keeps, StaysOpen
 
 use crate::host::{Digester, Host};
 use crate::rows::keys::find_secret;
-use crate::trouble::told;
+use crate::trouble::or_trouble;
 use bh_storage::error::StepError;
 use bh_types::access_key::AccessKeyId;
 use bh_types::refusal::Refusal;
@@ -30,7 +30,7 @@ impl<S: Alter + Drop, D: Digester + Drop> Host<S, D> {
         let Some(name) = &key.name else {
             return Err(StepError::Refused(Refusal::InvalidAccessKeyId));
         };
-        let found = told(find_secret(&mut self.connection, key.tenant.as_str(), name.as_str()))?;
+        let found = or_trouble(find_secret(&mut self.connection, key.tenant.as_str(), name.as_str()))?;
         let Some(known) = found else {
             return Err(StepError::Refused(Refusal::InvalidAccessKeyId));
         };

@@ -5,8 +5,8 @@ ghost use Rattle.bh_schema.specs.Storage.{IsClean, seen, Works, Keeps, StaysOpen
 use crate::host::{Digester, Host};
 use crate::rows::keys::{delete_key, insert_key};
 use crate::rows::known::{Known, find_key};
-use crate::trouble::told;
-use crate::words::{are_names, are_words};
+use crate::trouble::or_trouble;
+use crate::texts::{are_names, are_texts};
 use bh_storage::error::StepError;
 use bh_types::refusal::Refusal;
 use sqlite::Alter;
@@ -31,15 +31,15 @@ impl<S: Alter + Drop, D: Digester + Drop> Host<S, D> {
             (seen S.Store self.old).now (seen S.Store self.new).now result }
         ensures settings { KeepsSettings S.Store self.old self.new }
     {
-        if !are_words(alloc, tenant, name, secret)? {
+        if !are_texts(alloc, tenant, name, secret)? {
             return Err(StepError::Refused(Refusal::InvalidName));
         }
-        match told(find_key(&mut self.connection, tenant, name))? {
+        match or_trouble(find_key(&mut self.connection, tenant, name))? {
             Known::NoTenant => return Err(StepError::Refused(Refusal::NoSuchTenant)),
             Known::Key => return Err(StepError::Refused(Refusal::KeyExists)),
             Known::NoKey => (),
         }
-        told(insert_key(&mut self.connection, tenant, name, secret))?;
+        or_trouble(insert_key(&mut self.connection, tenant, name, secret))?;
         Ok(())
     }
 
@@ -62,12 +62,12 @@ impl<S: Alter + Drop, D: Digester + Drop> Host<S, D> {
         if !are_names(alloc, tenant, name)? {
             return Err(StepError::Refused(Refusal::InvalidName));
         }
-        match told(find_key(&mut self.connection, tenant, name))? {
+        match or_trouble(find_key(&mut self.connection, tenant, name))? {
             Known::NoTenant => return Err(StepError::Refused(Refusal::NoSuchTenant)),
             Known::NoKey => return Err(StepError::Refused(Refusal::NoSuchKeyName)),
             Known::Key => (),
         }
-        told(delete_key(&mut self.connection, tenant, name))?;
+        or_trouble(delete_key(&mut self.connection, tenant, name))?;
         Ok(())
     }
 }

@@ -8,5 +8,5 @@ mod keys;
 pub mod rows;
 mod tenants;
 pub mod trouble;
-mod turns;
-mod words;
+mod transactions;
+mod texts;

@@ -4,8 +4,8 @@ ghost use Rattle.bh_schema.specs.Storage.{IsClean, seen, Works, Keeps, StaysOpen
 
 use crate::host::{Digester, Host};
 use crate::rows::tenants::{find_tenant, insert_tenant};
-use crate::trouble::told;
-use crate::words::is_tenant;
+use crate::trouble::or_trouble;
+use crate::texts::is_tenant;
 use bh_storage::error::StepError;
 use bh_types::limits::is_quota;
 use bh_types::refusal::Refusal;
@@ -35,11 +35,11 @@ impl<S: Alter + Drop, D: Digester + Drop> Host<S, D> {
         if !is_quota(quota) {
             return Err(StepError::Refused(Refusal::InvalidQuota));
         }
-        let found = told(find_tenant(&mut self.connection, tenant))?;
+        let found = or_trouble(find_tenant(&mut self.connection, tenant))?;
         if found.is_some() {
             return Err(StepError::Refused(Refusal::TenantExists));
         }
-        told(insert_tenant(&mut self.connection, tenant, quota))?;
+        or_trouble(insert_tenant(&mut self.connection, tenant, quota))?;
         Ok(())
     }
 }

@@ -15,7 +15,7 @@ pub fn trouble_of(error: Error) -> Trouble
 }
 
 /// What a call on the database answered, with its error as trouble.
-pub fn told<T>(outcome: Result<T, Error>) -> Result<T, Trouble>
+pub fn or_trouble<T>(outcome: Result<T, Error>) -> Result<T, Trouble>
     ensures ok { IfOk result (λ x. outcome ≡ Ok x) }
     ensures err { IfErr result (λ trouble. IsErrAnd outcome (λ e. trouble ≡ spec.trouble_of e)) }
 {

@@ -4,7 +4,7 @@ use Rattle.sqlite_trees.specs.declared.memory.MemStore.{MemStore}
 use Rattle.sqlite_trees.specs.View.{doubt}
 use Rattle.sqlite.specs.Held.{Held, state}
 use Rattle.sqlite.specs.Steps.{over_memory}
-use Rattle.bh_schema.specs.Layer.{IsIntact, IsOpen, IsClean}
+use Rattle.bh_schema.specs.Layer.{IsIntact, IsOpen, IsStateClean}
 
 pub is_intact : (h : Held MemStore) → IsIntact (state over_memory h)
 unfolding IsIntact doubt
@@ -14,5 +14,5 @@ is_open : (h : Held MemStore) → IsOpen (state over_memory h)
 unfolding IsOpen
 is_open h = refl
 
-pub is_clean : (h : Held MemStore) → IsClean (state over_memory h)
+pub is_clean : (h : Held MemStore) → IsStateClean (state over_memory h)
 is_clean h = record { intact = is_intact h; is_open = is_open h }

@@ -10,7 +10,7 @@ use Rattle.bh_view.specs.Laws.{new_host}
 use Rattle.bh_host.specs.Answers.{told}
 use Rattle.bh_host.specs.Replies.{reply_bytes}
 use Rattle.bh_host.specs.Runs.{Told, Ran, RanOn}
-use Rattle.bh_host.specs.declared.apply.Done.{Done}
+use Rattle.bh_host.specs.declared.apply.Told.{Told as ToldOf}
 use Rattle.bh_script.specs.Answers.{first_tables, AnewRan, reply_line, replies_text}
 
 -- what `run` says of a host with a new host's tables
@@ -23,7 +23,7 @@ pub made_first : (limits : HostLimits) (made : Tables) → made ≡ new_host lim
 made_first limits made is same = is ∙ ap (λ (l : HostLimits). new_host l.min_part l.max_body) same
 
 -- one more reply and its line feed
-pub reply_added : (text : List ℕ) (dones : List Done) (count : ℕ) (done : Done) → count < length dones → done ≡ get_or dones count done
+pub reply_added : (text : List ℕ) (dones : List ToldOf) (count : ℕ) (done : ToldOf) → count < length dones → done ≡ get_or dones count done
     → text ≡ replies_text (map told (take count dones))
     → (text ++ reply_bytes done.reply) ++ 10 ∷ [] ≡ replies_text (map told (take (count + 1) dones))
 reply_added text dones count done within is so_far =

@@ -10,10 +10,10 @@ ghost use Rattle.bh_script.specs.Answers.{AnewRan, AnswersScript, replies_text, 
 
 use crate::digester::Sha256Digester;
 use crate::input::{BadLine, read_script};
-use bh_create::create::create;
+use bh_create::create;
 use bh_dispatch::storage::HostStorage;
 use bh_event::event::Event;
-use bh_host::apply::Done;
+use bh_host::apply::Told;
 use bh_host::run::run;
 use bh_types::limits::{Limits, Tuning};
 use sqlite::{Connection, MemStore};
@@ -79,7 +79,7 @@ fn new_host(alloc: Global) -> Result<HostStorage<MemStore, Sha256Digester>, Faul
 }
 
 /// What a new host answers events.
-fn serve(alloc: Global, events: &[Event]) -> Result<Vec<Done>, Fault>
+fn serve(alloc: Global, events: &[Event]) -> Result<Vec<Told>, Fault>
     ensures { IfOk result (λ dones. AnewRan (map arrival events.now) (map told dones.items)) }
 {
     let mut storage = new_host(alloc)?;
@@ -89,7 +89,7 @@ fn serve(alloc: Global, events: &[Event]) -> Result<Vec<Done>, Fault>
 /// The text that tells what was done, and the bad line.
 fn answer_text(
     alloc: Global,
-    dones: &[Done],
+    dones: &[Told],
     bad_line: Option<BadLine>,
 ) -> Result<Vec<u8>, AllocError>
     ensures { IfOk result (λ text. text.items ≡ answer_text (map told dones.now) bad_line) }
@@ -101,7 +101,7 @@ fn answer_text(
     Ok(text)
 }
 
-fn replies_text(alloc: Global, dones: &[Done]) -> Result<Vec<u8>, AllocError>
+fn replies_text(alloc: Global, dones: &[Told]) -> Result<Vec<u8>, AllocError>
     ensures { IfOk result (λ text. text.items ≡ replies_text (map told dones.now)) }
 {
     let mut text = Vec::new(alloc);

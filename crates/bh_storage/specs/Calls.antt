@@ -83,14 +83,14 @@ pub record Purges (t : Octets) (at : ℕ) (old new : Tables) : Type 0 where
   pub latest : latest_of new ≡ latest_of old
 
 -- a step of a tenant: the machine's step of its state gives the answer and the state
-pub record Gives {Y E : Type 0} (t : Octets) (step : Option State → Result (Y × Option State) E) (y : Y) (old new : Tables) : Type 0 where
+pub record GivesStep {Y E : Type 0} (t : Octets) (step : Option State → Result (Y × Option State) E) (y : Y) (old new : Tables) : Type 0 where
   pub gives : step (view old t) ≡ Ok (y, view new t)
   pub others : OthersSame t old new
   pub latest : latest_of new ≡ latest_of old
 
 -- the same, or the step's refusal with the tables as they were
 abbrev pub Carries : {X Y E : Type 0} → (X → Y) → Octets → (Option State → Result (Y × Option State) E) → Tables → Tables → Result X (StepError E) → Type 0
-Carries shown t step old new (Ok x) = Gives t step (shown x) old new
+Carries shown t step old new (Ok x) = GivesStep t step (shown x) old new
 Carries shown t step old new (Err (Refused r)) = (step (view old t) ≡ Err r) × (new ≡ old)
 Carries shown t step old new (Err (Failed trouble)) = Unit {0}
 

@@ -12,8 +12,8 @@ use Rattle.bh_tables.specs.Schema.{Octets, host_schema}
 
 -- ---- numbers in columns
 
-abbrev pub number_of : Value → ℕ
-number_of v = unsigned_abs (int_of v)
+abbrev pub column_number : Value → ℕ
+column_number v = unsigned_abs (int_of v)
 
 abbrev pub maybe_number : Value → Option ℕ
 maybe_number Null = None
@@ -40,7 +40,7 @@ abbrev pub host_columns : HostRow → Row
 host_columns x = Null ∷ number x.version ∷ number x.latest ∷ number x.min_part ∷ number x.max_body ∷ []
 
 abbrev pub host_of : Row → HostRow
-host_of r = record { version = number_of (column r 2); latest = number_of (column r 3); min_part = number_of (column r 4); max_body = number_of (column r 5) }
+host_of r = record { version = column_number (column r 2); latest = column_number (column r 3); min_part = column_number (column r 4); max_body = column_number (column r 5) }
 
 abbrev pub host_form : Form HostRow
 host_form = record { encode = host_columns; decode = host_of; back = λ _ x. refl }
@@ -58,7 +58,7 @@ abbrev pub tenant_columns : TenantRow → Row
 tenant_columns x = Text x.tenant ∷ number x.quota ∷ number x.next_version ∷ number x.next_upload ∷ number x.next_entry ∷ []
 
 abbrev pub tenant_of : Row → TenantRow
-tenant_of r = record { tenant = bytes_of (column r 1); quota = number_of (column r 2); next_version = number_of (column r 3); next_upload = number_of (column r 4); next_entry = number_of (column r 5) }
+tenant_of r = record { tenant = bytes_of (column r 1); quota = column_number (column r 2); next_version = column_number (column r 3); next_upload = column_number (column r 4); next_entry = column_number (column r 5) }
 
 abbrev pub tenant_form : Form TenantRow
 tenant_form = record { encode = tenant_columns; decode = tenant_of; back = λ _ x. refl }
@@ -95,7 +95,7 @@ abbrev pub bucket_columns : BucketRow → Row
 bucket_columns x = Text x.tenant ∷ Text x.bucket ∷ number x.created ∷ number x.state ∷ or_null number x.days ∷ []
 
 abbrev pub bucket_of : Row → BucketRow
-bucket_of r = record { tenant = bytes_of (column r 1); bucket = bytes_of (column r 2); created = number_of (column r 3); state = number_of (column r 4); days = maybe_number (column r 5) }
+bucket_of r = record { tenant = bytes_of (column r 1); bucket = bytes_of (column r 2); created = column_number (column r 3); state = column_number (column r 4); days = maybe_number (column r 5) }
 
 abbrev pub bucket_form : Form BucketRow
 bucket_form = record { encode = bucket_columns; decode = bucket_of; back = λ _ x. (λ i. record x { days = maybe_back x.days i }) }
@@ -125,13 +125,13 @@ version_columns x = Text x.tenant ∷ number x.seq ∷ Text x.bucket ∷ Blob x.
 abbrev pub version_of : Row → VersionRow
 version_of r = record {
   tenant = bytes_of (column r 1);
-  seq = number_of (column r 2);
+  seq = column_number (column r 2);
   bucket = bytes_of (column r 3);
   okey = bytes_of (column r 4);
-  id = number_of (column r 5);
-  marker = number_of (column r 6);
-  stamp = number_of (column r 7);
-  size = number_of (column r 8);
+  id = column_number (column r 5);
+  marker = column_number (column r 6);
+  stamp = column_number (column r 7);
+  size = column_number (column r 8);
   checksum = bytes_of (column r 9);
   bytes = bytes_of (column r 10);
 }

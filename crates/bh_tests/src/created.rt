@@ -1,5 +1,5 @@
 //! The making of a host.
-use bh_create::create::{CreateError, create};
+use bh_create::{CreateError, create};
 use bh_script::digester::Sha256Digester;
 use bh_types::limits::{Limits, Tuning};
 use bh_types::refusal::Refusal;

@@ -1,5 +1,5 @@
 //! The rows of a tenant and its access key.
-use bh_create::create::create;
+use bh_create::create;
 use bh_dispatch::storage::HostStorage;
 use bh_event::event::Event;
 use bh_host::run::run;

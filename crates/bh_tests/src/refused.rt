@@ -1,6 +1,6 @@
 //! What refused requests answer, and that they leave all rows but the last stamp.
 use crate::events::tenant_add;
-use bh_create::create::create;
+use bh_create::create;
 use bh_dispatch::storage::HostStorage;
 use bh_event::event::{Command, Event};
 use bh_host::run::run;

@@ -1,8 +1,8 @@
 //! The stamps of events, whatever the clock reads.
 use crate::events::tenant_add;
-use bh_create::create::create;
+use bh_create::create;
 use bh_dispatch::storage::HostStorage;
-use bh_host::apply::Done;
+use bh_host::apply::Told;
 use bh_host::run::run;
 use bh_script::digester::Sha256Digester;
 use bh_types::limits::{Limits, Tuning};
@@ -11,7 +11,7 @@ use std::alloc::{AllocError, Global};
 use std::test::Fail;
 
 /// What events were answered: on a line each the stamp, if there is one, and the reply.
-fn told(alloc: Global, dones: &[Done]) -> Result<String, AllocError> {
+fn told(alloc: Global, dones: &[Told]) -> Result<String, AllocError> {
     let mut told = String::new(alloc);
     for done in dones {
         let stamp = done.stamp.map(|moment| moment.seconds());

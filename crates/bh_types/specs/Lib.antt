@@ -6,7 +6,7 @@ pub mod Limits
 pub mod Moments
 pub mod Names
 pub mod Outcomes
-pub mod Plain
+pub mod BucketStates
 pub mod Refusals
 pub mod Refusing
 pub mod Rejections

@@ -42,13 +42,13 @@ abbrev pub day_text : Day → List ℕ
 day_text d = four_digits d.year ++ 45 ∷ [] ++ two_digits d.month ++ 45 ∷ [] ++ two_digits d.day
 
 -- HH:MM:SS of a second of the day; 58 is ':'
-abbrev pub clock_text : ℕ → List ℕ
-clock_text s = two_digits (s / 3600) ++ 58 ∷ two_digits (s / 60 % 60) ++ 58 ∷ two_digits (s % 60)
+abbrev pub time_text : ℕ → List ℕ
+time_text s = two_digits (s / 3600) ++ 58 ∷ two_digits (s / 60 % 60) ++ 58 ∷ two_digits (s % 60)
 
 -- YYYY-MM-DDTHH:MM:SSZ of seconds since 1970, each day having 86,400; 84 is 'T', 90 is 'Z'
 -- RFC 3339, section 5.6
 abbrev pub moment_text : ℕ → List ℕ
-moment_text m = day_text (day_at (m / 86400)) ++ (84 ∷ (clock_text (m % 86400) ++ 90 ∷ []))
+moment_text m = day_text (day_at (m / 86400)) ++ (84 ∷ (time_text (m % 86400) ++ 90 ∷ []))
 
 -- when an upload begun then is stale under a rule of so many days: at the midnight that ends the day
 -- which is so many days later

@@ -3,13 +3,15 @@
 
 pub mod access_key;
 pub mod bucket;
+pub mod bucket_state;
 mod bytes;
+pub mod counters;
 pub mod error;
 pub mod id;
 pub mod key;
 pub mod limits;
 pub mod moment;
 pub mod names;
-pub mod plain;
 pub mod refusal;
 pub mod rejection;
+pub mod wanted;

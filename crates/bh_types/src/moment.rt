@@ -132,7 +132,7 @@ fn day_after(days: u32) -> Date
 /// The time of a second of the day.
 fn clock(second: u32) -> Time
     requires { second < 86400 }
-    ensures { time_text None result ≡ spec.clock_text second }
+    ensures { time_text None result ≡ spec.time_text second }
 {
     match Time::new(
         (second / 3600) as i8,

@@ -4,7 +4,7 @@ use Rattle.std.specs.List.{AllByRecursion}
 use Rattle.std.specs.FinMap.{get, insert}
 use Rattle.sqlite_typed.specs.Tests.{bytes_eq}
 use Rattle.bh_types.specs.Names.{is_bucket_name}
-use Rattle.bh_types.specs.declared.plain.BucketState.TheVariants.{Unversioned}
+use Rattle.bh_types.specs.declared.bucket_state.BucketState.TheVariants.{Unversioned}
 use Rattle.bh_model.specs.State.{Octets, State, new_bucket}
 use Rattle.bh_model.specs.Operations.{with_bucket}
 use Rattle.bh_tables.specs.Typed.{TenantRow, BucketRow, VersionRow, Tables}

@@ -5,8 +5,8 @@ use Rattle.std.specs.FinMap.{get}
 use Rattle.sqlite_keyed.specs.Lists.{sort_by, delete_where}
 use Rattle.sqlite_keyed.proofs.ListLemmas.{all_weaker, all-filter, filter-map, filter_all, filter_none}
 use Rattle.sqlite_typed.specs.Tests.{bytes_eq}
-use Rattle.bh_types.specs.declared.plain.BucketState.TheVariants.{Unversioned}
-use Rattle.bh_types.specs.declared.plain.Wanted.TheVariants.{Current, Named}
+use Rattle.bh_types.specs.declared.bucket_state.BucketState.TheVariants.{Unversioned}
+use Rattle.bh_types.specs.declared.wanted.Wanted.TheVariants.{Current, Named}
 use Rattle.bh_types.specs.declared.refusal.Refusal.TheVariants.{NoSuchKey}
 use Rattle.bh_model.specs.State.{Octets, Bucket, State}
 use Rattle.bh_model.specs.Counting.{counts}

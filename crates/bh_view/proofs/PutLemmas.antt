@@ -8,9 +8,9 @@ use Rattle.sqlite_keyed.specs.Lists.{delete_where, update_where}
 use Rattle.sqlite_keyed.proofs.ListLemmas.{all_weaker, all-filter, filter_none}
 use Rattle.bh_types.specs.Counts.{Counts, AreCounters}
 use Rattle.bh_types.specs.Names.{is_object_key}
-use Rattle.bh_types.specs.declared.plain.BucketState.{BucketState}
+use Rattle.bh_types.specs.declared.bucket_state.BucketState.{BucketState}
 use Rattle.bh_types.specs.declared.refusal.Refusal.TheVariants.{CounterExhausted}
-use Rattle.bh_types.specs.declared.plain.BucketState.TheVariants.{Unversioned, Enabled, Suspended}
+use Rattle.bh_types.specs.declared.bucket_state.BucketState.TheVariants.{Unversioned, Enabled, Suspended}
 use Rattle.bh_types.specs.declared.id.VersionId.{VersionId}
 use Rattle.bh_types.specs.declared.id.VersionId.TheVariants.{Null, Numbered}
 use Rattle.bh_model.specs.FinMaps.{non_empty}

@@ -8,7 +8,7 @@ use Rattle.std.proofs.lemmas.Bool.{and_parts}
 use Rattle.sqlite_keyed.specs.Lists.{delete_where}
 use Rattle.sqlite_keyed.proofs.ListLemmas.{all_weaker, all_both, all-filter, filter_none}
 use Rattle.sqlite_typed.specs.Tests.{bytes_eq}
-use Rattle.bh_types.specs.declared.plain.BucketState.TheVariants.{Unversioned}
+use Rattle.bh_types.specs.declared.bucket_state.BucketState.TheVariants.{Unversioned}
 use Rattle.bh_model.specs.State.{Octets, Bucket, State}
 use Rattle.bh_model.specs.Entries.{same_id, has_id, without}
 use Rattle.bh_model.specs.Operations.{with_bucket, with_entries, listed}

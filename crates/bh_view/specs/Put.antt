@@ -2,8 +2,8 @@
 use Rattle.std.specs.Prelude.{ℕ, List, length}
 use Rattle.sqlite_keyed.specs.Lists.{delete_where}
 use Rattle.bh_types.specs.Counts.{Counts}
-use Rattle.bh_types.specs.declared.plain.BucketState.{BucketState}
-use Rattle.bh_types.specs.declared.plain.BucketState.TheVariants.{Unversioned, Enabled, Suspended}
+use Rattle.bh_types.specs.declared.bucket_state.BucketState.{BucketState}
+use Rattle.bh_types.specs.declared.bucket_state.BucketState.TheVariants.{Unversioned, Enabled, Suspended}
 use Rattle.bh_model.specs.State.{Octets}
 use Rattle.bh_types.specs.Checksums.{checksum_text}
 use Rattle.bh_tables.specs.Typed.{TenantRow, VersionRow}

@@ -6,7 +6,7 @@ use Rattle.sqlite_typed.specs.Tests.{bytes_eq}
 use Rattle.bh_types.specs.Names.{is_tenant_name, is_key_name, is_secret, is_bucket_name, is_object_key}
 use Rattle.bh_types.specs.Counts.{AreCounters}
 use Rattle.bh_types.specs.Limits.{AreLimits, IsQuota}
-use Rattle.bh_types.specs.declared.plain.BucketState.TheVariants.{Unversioned}
+use Rattle.bh_types.specs.declared.bucket_state.BucketState.TheVariants.{Unversioned}
 use Rattle.bh_model.specs.State.{Octets}
 use Rattle.bh_model.specs.Runs.{last_reading}
 use Rattle.bh_tables.specs.Typed.{HostRow, TenantRow, KeyRow, BucketRow, VersionRow, Tables}

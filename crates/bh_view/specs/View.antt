@@ -9,8 +9,8 @@ use Rattle.sqlite_typed.specs.Tests.{bytes_eq}
 use Rattle.bh_types.specs.Limits.{HostLimits}
 use Rattle.bh_types.specs.declared.id.VersionId.{VersionId}
 use Rattle.bh_types.specs.declared.id.VersionId.TheVariants.{Null, Numbered}
-use Rattle.bh_types.specs.declared.plain.BucketState.{BucketState}
-use Rattle.bh_types.specs.declared.plain.BucketState.TheVariants.{Unversioned, Enabled, Suspended}
+use Rattle.bh_types.specs.declared.bucket_state.BucketState.{BucketState}
+use Rattle.bh_types.specs.declared.bucket_state.BucketState.TheVariants.{Unversioned, Enabled, Suspended}
 use Rattle.bh_model.specs.State.{Octets, octets_cmp, Content, Content.Marker, Content.Body, Entry, Bucket, State}
 use Rattle.bh_tables.specs.Typed.{HostRow, TenantRow, KeyRow, BucketRow, VersionRow, Tables}
 use Rattle.bh_model.specs.FinMaps.{non_empty}

@@ -9,7 +9,7 @@ use bh_docs::{
     usage_document, versioning_document,
 };
 use bh_types::id::UploadId;
-use bh_types::plain::Named;
+use bh_types::wanted::Named;
 use std::alloc::{AllocError, Global};
 
 pub fn answer(alloc: Global, call: &str, input: &str) -> Answer {

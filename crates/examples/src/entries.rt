@@ -4,7 +4,8 @@ use crate::answer::{Answer, Fault};
 use crate::parts;
 use crate::words::{four, number, state_of, wanted_of};
 use bh_model::entries::{Content, Entry, add, delete, lookup};
-use bh_types::plain::{BucketState, Wanted};
+use bh_types::bucket_state::BucketState;
+use bh_types::wanted::Wanted;
 use std::alloc::{AllocError, Global};
 
 pub fn answer(alloc: Global, call: &str, input: &str) -> Answer {

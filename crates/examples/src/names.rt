@@ -7,7 +7,7 @@ use bh_types::bucket::BucketName;
 use bh_types::id::{UploadId, VersionId};
 use bh_types::key::ObjectKey;
 use bh_types::names::{KeyName, Secret, TenantName};
-use bh_types::plain::Wanted;
+use bh_types::wanted::Wanted;
 use std::alloc::Global;
 
 pub fn answer(alloc: Global, call: &str, input: &str) -> Answer {

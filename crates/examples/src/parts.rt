@@ -7,7 +7,8 @@ use bh_model::counting::after_entry;
 use bh_model::entries::Content;
 use bh_model::parts::{Part, complete};
 use bh_model::uploads::{Upload, is_stale, purged};
-use bh_types::plain::{Counters, Named};
+use bh_types::counters::Counters;
+use bh_types::wanted::Named;
 use std::alloc::{AllocError, Global};
 
 pub fn answer(alloc: Global, call: &str, input: &str) -> Answer {

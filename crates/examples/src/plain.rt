@@ -5,7 +5,8 @@ use crate::responses;
 use crate::words::{number, numbers, state_text};
 use bh_types::limits::{Limits, Tuning, is_quota};
 use bh_types::moment::{Moment, abort_moment, moment_text};
-use bh_types::plain::{BucketState, Counters};
+use bh_types::bucket_state::BucketState;
+use bh_types::counters::Counters;
 use bh_types::refusal::Refusal;
 use std::alloc::Global;
 

@@ -6,10 +6,10 @@
 
 ghost use Rattle.bh_storage.specs.Calls.{Clean, IsAtRest};
 
-use bh_create::create::create;
+use bh_create::create;
 use bh_dispatch::storage::HostStorage;
 use bh_event::event::Event;
-use bh_host::apply::{Done, apply};
+use bh_host::apply::{Told, apply};
 use bh_script::digester::Sha256Digester;
 use bh_script::input::{read_all, read_script};
 use bh_storage::storage::Storage;
@@ -20,7 +20,7 @@ use std::io;
 use std::io::Write;
 
 /// The answer to an event, asked once more where it has no stamp.
-fn answer<H: Storage>(alloc: Global, host: &mut H, event: &Event) -> Done
+fn answer<H: Storage>(alloc: Global, host: &mut H, event: &Event) -> Told
     requires { Clean H.IsIntact H.IsOpen host.old → IsAtRest (H.seen host.old) }
     ensures { Clean H.IsIntact H.IsOpen host.new → IsAtRest (H.seen host.new) }
 {

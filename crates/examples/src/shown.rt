@@ -7,7 +7,7 @@ use bh_operation::page::{Page, UploadMarker, VersionMarker};
 use bh_operation::text::Bytes;
 use bh_types::bucket::BucketName;
 use bh_types::id::UploadId;
-use bh_types::plain::Wanted;
+use bh_types::wanted::Wanted;
 use std::alloc::{AllocError, Global};
 
 /// What an operation is asked with.

@@ -2,10 +2,10 @@
 
 ghost use Rattle.bh_storage.specs.Calls.{Clean, IsAtRest};
 
-use bh_create::create::create;
+use bh_create::create;
 use bh_dispatch::storage::HostStorage;
 use bh_event::event::Event;
-use bh_host::apply::Done;
+use bh_host::apply::Told;
 use bh_host::run::run;
 use bh_script::digester::Sha256Digester;
 use bh_script::input::{read_all, read_script};
@@ -19,7 +19,7 @@ use std::time::{Clock, Instant};
 /// What events were answered, and the time that they took together.
 #[derive(Drop)]
 struct Timed {
-    dones: Vec<Done>,
+    dones: Vec<Told>,
     microseconds: u128,
 }
 
@@ -69,7 +69,7 @@ fn serve<S: Alter + Drop>(
 }
 
 /// Writes the replies, a line's end after each.
-fn write_replies(rt: &(impl Print + AllocGlobal), dones: &[Done]) -> io::Result<()> {
+fn write_replies(rt: &(impl Print + AllocGlobal), dones: &[Told]) -> io::Result<()> {
     let mut text = Vec::new(rt.alloc());
     for done in dones {
         text.extend_from_slice(done.reply.bytes())?;

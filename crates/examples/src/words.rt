@@ -3,7 +3,8 @@
 use crate::answer::Fault;
 use bh_types::id::VersionId;
 use bh_types::moment::Moment;
-use bh_types::plain::{BucketState, Wanted};
+use bh_types::bucket_state::BucketState;
+use bh_types::wanted::Wanted;
 use std::alloc::{AllocError, Global};
 
 /// The two pieces of a text before and after the first of these characters.

@@ -3,7 +3,7 @@ ghost use Rattle.sqlite.specs.Tree.{Trees};
 ghost use Rattle.sqlite.specs.Held.{state};
 ghost use Rattle.bh_rows.specs.Means.{is_trouble};
 ghost use Rattle.bh_schema.specs.Connections.{IsIntact, IsClean, stands, StaysWithin, WasOpen};
-ghost use Rattle.bh_schema.specs.Layer.{Leaves, begun, committed, taken_back, Follows, LeavesNothingNew, Unwinds};
+ghost use Rattle.bh_schema.specs.Layer.{Leaves, begun, committed, taken_back, KeepsDisk, LeavesNothingNew, Unwinds};
 
 use sqlite::{Alter, Connection, Error};
 
@@ -26,7 +26,7 @@ pub fn commit<S: Alter>(connection: &mut Connection<S>) -> Result<usize, Error>
     ensures opens { OnOk result (WasOpen S.Store connection.old connection.new) }
     ensures commits { OnOk result (IsIntact S.Store connection.new
         → stands S.Store connection.new ≡ committed (stands S.Store connection.old)) }
-    ensures follows { Follows (state S.Store connection.old) (state S.Store connection.new) }
+    ensures follows { KeepsDisk (state S.Store connection.old) (state S.Store connection.new) }
     ensures unwinds { OnErr result (IsClean S.Store connection.new
         → Unwinds (stands S.Store connection.old) (stands S.Store connection.new)) }
     ensures survives { IsIntact S.Store connection.new → (stands S.Store connection.old).inside ≡ true
@@ -41,7 +41,7 @@ pub fn commit<S: Alter>(connection: &mut Connection<S>) -> Result<usize, Error>
 /// Ends the transaction, if one is open: what was committed before it stands.
 pub fn take_back<S: Alter>(connection: &mut Connection<S>)
     ensures back { IsClean S.Store connection.new → stands S.Store connection.new ≡ taken_back (stands S.Store connection.old) }
-    ensures follows { Follows (state S.Store connection.old) (state S.Store connection.new) }
+    ensures follows { KeepsDisk (state S.Store connection.old) (state S.Store connection.new) }
     ensures survives { LeavesNothingNew (state S.Store connection.old) (state S.Store connection.new) }
 {
     // Asked for what it ensures: outside a transaction, what is standing was committed.

@@ -5,7 +5,7 @@ ghost use Rattle.bh_tables.specs.Typed.{VersionRow as Stored};
 ghost use Rattle.bh_tables.specs.Shown.{is_version, shown_version};
 ghost use Rattle.bh_rows.specs.Means.{is_trouble};
 ghost use Rattle.bh_schema.specs.Connections.{IsClean, tables, InTransaction, StaysWithin, WasOpen, StaysOpen, ChangesNothing, Becomes, IsTrouble, IsTroubleIf};
-ghost use Rattle.bh_schema.specs.Rows.{found_version, IsNewVersion};
+ghost use Rattle.bh_schema.specs.Rows.{seen_version, IsNewVersion};
 ghost use Rattle.bh_schema.specs.Views.{version_seen};
 
 use crate::rows::number::number;
@@ -14,7 +14,7 @@ use sqlite::{Alter, Connection, Error, Row};
 
 /// What is kept of a version or a marker.
 #[derive(Drop)]
-pub struct StoredVersion {
+pub struct VersionColumns {
     /// Its entry number, which orders the versions of a key.
     pub seq: u64,
     /// 1 for a delete marker, 0 for a version.
@@ -45,11 +45,11 @@ pub struct NewVersion<'a> {
     pub bytes: &'a [u8],
 }
 
-fn read_version(row: &Row) -> Result<StoredVersion, Error>
-    ensures read { IfOk result (λ version. (v : Stored) → row.now ≡ shown_version v → version_seen version ≡ found_version v) }
+fn read_version(row: &Row) -> Result<VersionColumns, Error>
+    ensures read { IfOk result (λ version. (v : Stored) → row.now ≡ shown_version v → version_seen version ≡ seen_version v) }
     ensures trouble { IfErr result (λ e. (v : Stored) → row.now ≡ shown_version v → IsUtf8 v.checksum → is_trouble e ≡ true) }
 {
-    Ok(StoredVersion {
+    Ok(VersionColumns {
         seq: row.get(0)?,
         marker: row.get(1)?,
         stamp: row.get(2)?,
@@ -88,14 +88,14 @@ pub fn find_version<S: Alter>(
     bucket: &str,
     okey: &[u8],
     id: u64,
-) -> Result<Option<StoredVersion>, Error>
+) -> Result<Option<VersionColumns>, Error>
     requires inside { InTransaction S.Store connection.old }
     requires small { id < 2 ^ 63 }
     ensures within { StaysWithin S.Store connection.old connection.new }
     ensures opens { OnOk result (WasOpen S.Store connection.old connection.new) }
     ensures same { OnOk result (ChangesNothing S.Store connection.old connection.new) }
     ensures found { IfOk result (λ found. IsClean S.Store connection.new
-        → option_map version_seen found ≡ option_map found_version
+        → option_map version_seen found ≡ option_map seen_version
         (find (is_version tenant.now bucket.now okey.now id) (tables S.Store connection.old).versions)) }
     ensures trouble { IfErr result (IsTroubleIf S.Store connection.old connection.new
         ((v : Stored) → find (is_version tenant.now bucket.now okey.now id) (tables S.Store connection.old).versions ≡ Some v

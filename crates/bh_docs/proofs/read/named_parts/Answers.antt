@@ -4,7 +4,7 @@ use Rattle.std.proofs.lemmas.List.{map-append}
 use Rattle.bh_types.specs.Outcomes.{◌>>=◌, Fails}
 use Rattle.bh_types.specs.declared.error.RequestError.{RequestError}
 use Rattle.bh_types.specs.declared.error.RequestError.TheVariants.{OutOfMemory, Refused}
-use Rattle.bh_types.specs.declared.plain.Named.{Named}
+use Rattle.bh_types.specs.declared.wanted.Named.{Named}
 use Rattle.bh_types.specs.declared.refusal.Refusal.{Refusal}
 use Rattle.bh_docs.specs.Requests.{named_view, in_range, in_ranges}
 use Rattle.bh_docs.specs.Shapes.{part_view}

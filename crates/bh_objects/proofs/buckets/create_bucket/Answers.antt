@@ -4,16 +4,16 @@ use Rattle.bh_model.specs.Operations.{Done, create_bucket}
 use Rattle.bh_tables.specs.Typed.{Tables}
 use Rattle.bh_view.specs.Sound.{IsSound}
 use Rattle.bh_view.specs.View.{view, limits_in}
-use Rattle.bh_schema.specs.Layer.{IsClean}
-use Rattle.bh_storage.specs.Calls.{Gives}
+use Rattle.bh_schema.specs.Layer.{IsStateClean}
+use Rattle.bh_storage.specs.Calls.{GivesStep}
 use Rattle.bh_schema.specs.Working.{tables_at}
 use Rattle.bh_objects.specs.Found.{name_free}
 use Rattle.bh_objects.proofs.Creating.{creates}
 use Rattle.bh_objects.proofs.buckets.create_bucket.Given as given
 use Rattle.bh_objects.proofs.buckets.create_bucket.Goals as goal
 
-done : (g : given.Over) (c : goal.In-Ok g) → IsClean (state g.S.Store c.insert_bucket.new.connection)
-    → Gives c.args.tenant.now (create_bucket c.args.at c.args.bucket.now) Done (tables_at (state g.S.Store c.args.connection.now)) (tables_at (state g.S.Store c.insert_bucket.new.connection)) × IsSound (tables_at (state g.S.Store c.insert_bucket.new.connection))
+done : (g : given.Over) (c : goal.In-Ok g) → IsStateClean (state g.S.Store c.insert_bucket.new.connection)
+    → GivesStep c.args.tenant.now (create_bucket c.args.at c.args.bucket.now) Done (tables_at (state g.S.Store c.args.connection.now)) (tables_at (state g.S.Store c.insert_bucket.new.connection)) × IsSound (tables_at (state g.S.Store c.insert_bucket.new.connection))
     × (limits_in (tables_at (state g.S.Store c.insert_bucket.new.connection)) ≡ limits_in (tables_at (state g.S.Store c.args.connection.now)))
 done g c clean =
     let old = state g.S.Store c.args.connection.now in

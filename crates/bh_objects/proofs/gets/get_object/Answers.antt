@@ -2,14 +2,14 @@ use Rattle.std.proofs.Common.{◌≡◌, Option, option_map, find, Result, Ok, E
 use Rattle.std.proofs.lemmas.Result.{err_from_is_err_and}
 use Rattle.sqlite.specs.Held.{state}
 use Rattle.bh_types.specs.declared.rejection.Rejection.{Rejection}
-use Rattle.bh_types.specs.declared.plain.BucketState.TheVariants.{Unversioned}
+use Rattle.bh_types.specs.declared.bucket_state.BucketState.TheVariants.{Unversioned}
 use Rattle.bh_model.specs.State.{Octets}
 use Rattle.bh_model.specs.Operations.{Answer}
 use Rattle.bh_tables.specs.Typed.{Tables}
 use Rattle.bh_tables.specs.Shown.{is_version}
 use Rattle.bh_view.specs.View.{view, latest_of}
 use Rattle.bh_view.specs.Sound.{IsSound}
-use Rattle.bh_schema.specs.Rows.{FoundVersion, found_version}
+use Rattle.bh_schema.specs.Rows.{SeenVersion, seen_version}
 use Rattle.bh_schema.specs.Views.{version_seen}
 use Rattle.bh_storage.specs.Answers.{found_answer}
 use Rattle.bh_schema.specs.Working.{tables_at}
@@ -20,12 +20,12 @@ use Rattle.bh_objects.proofs.Getting.{with_state, gets}
 use Rattle.bh_objects.proofs.gets.get_object.Goals as goal
 
 -- the machine's answer is that of the row which was read
-answer : (old middle new : Tables) (t b k : Octets) (found : Option FoundVersion) (r : Result Answer Rejection) → IsSound old → mode_in b (view old t) ≡ Ok Unversioned → middle ≡ old → new ≡ middle
-    → found ≡ option_map found_version (find (is_version t b k 0) middle.versions) → r ≡ null_answer found → get_current b k (view old t) ≡ with_state (view new t) r
+answer : (old middle new : Tables) (t b k : Octets) (found : Option SeenVersion) (r : Result Answer Rejection) → IsSound old → mode_in b (view old t) ≡ Ok Unversioned → middle ≡ old → new ≡ middle
+    → found ≡ option_map seen_version (find (is_version t b k 0) middle.versions) → r ≡ null_answer found → get_current b k (view old t) ≡ with_state (view new t) r
 answer old middle new t b k found r sound plain one two read is =
     gets old t b k sound plain
-    ∙ ap (λ (x : Tables). with_state (view x t) (null_answer (option_map found_version (find (is_version t b k 0) x.versions)))) (sym one)
-    ∙ ap (λ (x : Tables). with_state (view x t) (null_answer (option_map found_version (find (is_version t b k 0) middle.versions)))) (sym two)
+    ∙ ap (λ (x : Tables). with_state (view x t) (null_answer (option_map seen_version (find (is_version t b k 0) x.versions)))) (sym one)
+    ∙ ap (λ (x : Tables). with_state (view x t) (null_answer (option_map seen_version (find (is_version t b k 0) middle.versions)))) (sym two)
     ∙ ap (with_state (view new t)) (ap null_answer (sym read) ∙ sym is)
 
 pub returns-in_err-opened-in-Unversioned-clause-carries : goal.returns-in_err-opened-in-Unversioned-clause-carries

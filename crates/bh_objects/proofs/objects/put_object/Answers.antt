@@ -7,16 +7,16 @@ use Rattle.bh_model.specs.Operations.{Stored, id_told, put_object}
 use Rattle.bh_tables.specs.Typed.{Tables}
 use Rattle.bh_view.specs.Sound.{IsSound}
 use Rattle.bh_view.specs.View.{view, limits_in}
-use Rattle.bh_schema.specs.Layer.{IsClean}
-use Rattle.bh_storage.specs.Calls.{Gives}
+use Rattle.bh_schema.specs.Layer.{IsStateClean}
+use Rattle.bh_storage.specs.Calls.{GivesStep}
 use Rattle.bh_schema.specs.Working.{tables_at}
 use Rattle.bh_objects.specs.Found.{counts_in, with_put}
 use Rattle.bh_objects.proofs.Putting.{puts}
 use Rattle.bh_objects.proofs.objects.put_object.Given as given
 use Rattle.bh_objects.proofs.objects.put_object.Goals as goal
 
-done : (g : given.Over) (c : goal.After-told_id g) → IsClean (state g.S.Store c.write_object.new.connection)
-    → Gives c.args.object.now.tenant.now (put_object c.args.object.now.at c.args.object.now.bucket.now c.args.object.now.key.now c.args.object.now.bytes.now None)
+done : (g : given.Over) (c : goal.After-told_id g) → IsStateClean (state g.S.Store c.write_object.new.connection)
+    → GivesStep c.args.object.now.tenant.now (put_object c.args.object.now.at c.args.object.now.bucket.now c.args.object.now.key.now c.args.object.now.bytes.now None)
     (Stored (id_told c.in_ok-mode.mode (new_id c.in_ok-mode.mode c.in_ok-before.before.version)) (checksum_text c.args.object.now.bytes.now))
     (tables_at (state g.S.Store c.args.connection.now)) (tables_at (state g.S.Store c.write_object.new.connection)) × IsSound (tables_at (state g.S.Store c.write_object.new.connection))
     × (limits_in (tables_at (state g.S.Store c.write_object.new.connection)) ≡ limits_in (tables_at (state g.S.Store c.args.connection.now)))

@@ -4,11 +4,11 @@ use Rattle.bh_schema.proofs.Storing.{on_ok, keeps, left_less}
 use Rattle.bh_schema.proofs.Committing.{begun_works, begun_shows}
 use Rattle.bh_schema.proofs.host.Host.begin.Goals as goal
 
-pub returns-in_err-told-clause-within : goal.returns-in_err-told-clause-within
-returns-in_err-told-clause-within g c = keeps g.S.Store c.args.self.now _ refl c.begin.ensures.within
+pub returns-in_err-or_trouble-clause-within : goal.returns-in_err-or_trouble-clause-within
+returns-in_err-or_trouble-clause-within g c = keeps g.S.Store c.args.self.now _ refl c.begin.ensures.within
 
-pub returns-in_err-told-clause-survives : goal.returns-in_err-told-clause-survives
-returns-in_err-told-clause-survives g c intact = left_less (state g.S.Store c.args.self.now.connection) (state g.S.Store c.begin.new.connection) (c.begin.ensures.survives intact)
+pub returns-in_err-or_trouble-clause-survives : goal.returns-in_err-or_trouble-clause-survives
+returns-in_err-or_trouble-clause-survives g c intact = left_less (state g.S.Store c.args.self.now.connection) (state g.S.Store c.begin.new.connection) (c.begin.ensures.survives intact)
 
 pub returns-clause-within : goal.returns-clause-within
 returns-clause-within g c = keeps g.S.Store c.args.self.now _ refl c.begin.ensures.within
@@ -17,9 +17,9 @@ pub returns-clause-survives : goal.returns-clause-survives
 returns-clause-survives g c intact = left_less (state g.S.Store c.args.self.now.connection) (state g.S.Store c.begin.new.connection) (c.begin.ensures.survives intact)
 
 pub returns-clause-same : goal.returns-clause-same
-returns-clause-same g c intact = begun_shows _ (state g.S.Store c.args.self.now.connection) (state g.S.Store c.begin.new.connection) (on_ok _ c.in_ok-told.ensures.ok c.begin.ensures.begins intact)
+returns-clause-same g c intact = begun_shows _ (state g.S.Store c.args.self.now.connection) (state g.S.Store c.begin.new.connection) (on_ok _ c.in_ok-or_trouble.ensures.ok c.begin.ensures.begins intact)
 
 pub returns-clause-working : goal.returns-clause-working
 returns-clause-working g c intact =
     begun_works _ (state g.S.Store c.args.self.now.connection) (state g.S.Store c.begin.new.connection)
-    (c.requires (c.begin.ensures.within.follows.intact intact, (on_ok _ c.in_ok-told.ensures.ok c.begin.ensures.opens intact).0)) (on_ok _ c.in_ok-told.ensures.ok c.begin.ensures.begins intact)
+    (c.requires (c.begin.ensures.within.follows.intact intact, (on_ok _ c.in_ok-or_trouble.ensures.ok c.begin.ensures.opens intact).0)) (on_ok _ c.in_ok-or_trouble.ensures.ok c.begin.ensures.begins intact)

@@ -16,8 +16,8 @@ use Rattle.bh_schema.proofs.host.Host.key_add.Goals as goal
 pub find_key-requires : goal.find_key-requires
 find_key-requires g c = record { inside = λ clean. inside_of _ (state g.S.Store c.args.self.now.connection) (c.requires (parts clean)) }
 
-pub returns-in_err-told-clause-within : goal.returns-in_err-told-clause-within
-returns-in_err-told-clause-within g c = keeps g.S.Store c.args.self.now _ refl c.find_key.ensures.within
+pub returns-in_err-or_trouble-clause-within : goal.returns-in_err-or_trouble-clause-within
+returns-in_err-or_trouble-clause-within g c = keeps g.S.Store c.args.self.now _ refl c.find_key.ensures.within
 
 pub returns-in-NoTenant : goal.returns-in-NoTenant
 returns-in-NoTenant g c =
@@ -26,15 +26,15 @@ returns-in-NoTenant g c =
     let old = state g.S.Store c.args.self.now.connection in
     let new = state g.S.Store c.find_key.new.connection in
     let w = c.find_key.ensures.within in
-    let same = on_ok _ c.in_ok-told.ensures.ok c.find_key.ensures.same in
+    let same = on_ok _ c.in_ok-or_trouble.ensures.ok c.find_key.ensures.same in
     let words : (is_tenant_name t && is_key_name n && is_secret c.args.secret.now) ≡ true = search rules in
     record {
-      opens = λ up intact. (on_ok _ c.in_ok-told.ensures.ok c.find_key.ensures.opens intact).1;
+      opens = λ up intact. (on_ok _ c.in_ok-or_trouble.ensures.ok c.find_key.ensures.opens intact).1;
       working = asked_works _ old new c.requires w same;
       within = keeps g.S.Store c.args.self.now _ refl w;
       settings = (refl, w.follows.limit);
       carries = λ clean.
-          let it = no_tenant n _ (sym c.in-NoTenant.is ∙ known_seen _ old t n _ (c.requires (asked_before _ old new c.requires w same clean)) (IfOk-at_ok _ c.in_ok-told.ensures.ok c.find_key.ensures.known (both clean))) in
+          let it = no_tenant n _ (sym c.in-NoTenant.is ∙ known_seen _ old t n _ (c.requires (asked_before _ old new c.requires w same clean)) (IfOk-at_ok _ c.in_ok-or_trouble.ensures.ok c.find_key.ensures.known (both clean))) in
           (adds_to_nobody t n c.args.secret.now _ words it, asked_same _ old new c.requires w same clean);
     }
 
@@ -45,29 +45,29 @@ returns-in-Key g c =
     let old = state g.S.Store c.args.self.now.connection in
     let new = state g.S.Store c.find_key.new.connection in
     let w = c.find_key.ensures.within in
-    let same = on_ok _ c.in_ok-told.ensures.ok c.find_key.ensures.same in
+    let same = on_ok _ c.in_ok-or_trouble.ensures.ok c.find_key.ensures.same in
     let words : (is_tenant_name t && is_key_name n && is_secret c.args.secret.now) ≡ true = search rules in
     record {
-      opens = λ up intact. (on_ok _ c.in_ok-told.ensures.ok c.find_key.ensures.opens intact).1;
+      opens = λ up intact. (on_ok _ c.in_ok-or_trouble.ensures.ok c.find_key.ensures.opens intact).1;
       working = asked_works _ old new c.requires w same;
       within = keeps g.S.Store c.args.self.now _ refl w;
       settings = (refl, w.follows.limit);
       carries = λ clean.
-          let it = a_key n _ (sym c.in-Key.is ∙ known_seen _ old t n _ (c.requires (asked_before _ old new c.requires w same clean)) (IfOk-at_ok _ c.in_ok-told.ensures.ok c.find_key.ensures.known (both clean))) in
+          let it = a_key n _ (sym c.in-Key.is ∙ known_seen _ old t n _ (c.requires (asked_before _ old new c.requires w same clean)) (IfOk-at_ok _ c.in_ok-or_trouble.ensures.ok c.find_key.ensures.known (both clean))) in
           (adds_again t n c.args.secret.now _ words it.0 it.1 it.2, asked_same _ old new c.requires w same clean);
     }
 
 pub insert_key-requires : goal.insert_key-requires
 insert_key-requires g c =
-    record { inside = asked_inside _ (state g.S.Store c.args.self.now.connection) (state g.S.Store c.find_key.new.connection) c.requires c.find_key.ensures.within (on_ok _ c.in_ok-told.ensures.ok c.find_key.ensures.same) }
+    record { inside = asked_inside _ (state g.S.Store c.args.self.now.connection) (state g.S.Store c.find_key.new.connection) c.requires c.find_key.ensures.within (on_ok _ c.in_ok-or_trouble.ensures.ok c.find_key.ensures.same) }
 
-pub returns-in_err-told-2-clause-within : goal.returns-in_err-told-2-clause-within
-returns-in_err-told-2-clause-within g c =
+pub returns-in_err-or_trouble-2-clause-within : goal.returns-in_err-or_trouble-2-clause-within
+returns-in_err-or_trouble-2-clause-within g c =
     let old = state g.S.Store c.args.self.now.connection in
     let mid = state g.S.Store c.find_key.new.connection in
     let new = state g.S.Store c.insert_key.new.connection in
     keeps g.S.Store c.args.self.now _ refl
-    (wrote_within old mid new c.find_key.ensures.within (on_ok _ c.in_ok-told.ensures.ok c.find_key.ensures.opens) c.insert_key.ensures.within)
+    (wrote_within old mid new c.find_key.ensures.within (on_ok _ c.in_ok-or_trouble.ensures.ok c.find_key.ensures.opens) c.insert_key.ensures.within)
 
 pub returns : goal.returns
 returns g c =
@@ -78,21 +78,21 @@ returns g c =
     let new = state g.S.Store c.insert_key.new.connection in
     let w = c.find_key.ensures.within in
     let words : (is_tenant_name t && is_key_name n && is_secret c.args.secret.now) ≡ true = search rules in
-    let same = on_ok _ c.in_ok-told.ensures.ok c.find_key.ensures.same in
-    let holds = on_ok _ c.in_ok-told-2.ensures.ok c.insert_key.ensures.holds in
-    let opens = on_ok _ c.in_ok-told.ensures.ok c.find_key.ensures.opens in
+    let same = on_ok _ c.in_ok-or_trouble.ensures.ok c.find_key.ensures.same in
+    let holds = on_ok _ c.in_ok-or_trouble-2.ensures.ok c.insert_key.ensures.holds in
+    let opens = on_ok _ c.in_ok-or_trouble.ensures.ok c.find_key.ensures.opens in
     let before = wrote_before old mid new w opens c.insert_key.ensures.within in
     let works = λ (clean : AreBoth new). c.requires (wrote_first old mid new w opens c.insert_key.ensures.within clean) in
     let known : AreBoth new → (s : Machine) × (view (seen_in c.args.self.now.limits old).now t ≡ Some s) × (get s.keys n ≡ None) = λ clean.
-    no_key n _ (sym c.in-NoKey.is ∙ known_seen _ old t n _ (works clean) (IfOk-at_ok _ c.in_ok-told.ensures.ok c.find_key.ensures.known (both (before clean)))) in
+    no_key n _ (sym c.in-NoKey.is ∙ known_seen _ old t n _ (works clean) (IfOk-at_ok _ c.in_ok-or_trouble.ensures.ok c.find_key.ensures.known (both (before clean)))) in
     let becomes : (clean : AreBoth new) → Becomes t (Some (record (known clean).0 { keys = insert (known clean).0.keys n c.args.secret.now })) (seen_in c.args.self.now.limits old).now (seen_in c.args.self.now.limits new).now = λ clean.
     let it = known clean in
     key_becomes _ old new t n c.args.secret.now it.0 (works clean) it.1 it.2 words (holds_after old mid new (λ x. record x { keys = x.keys ++ record { tenant = t; name = n; secret = c.args.secret.now } ∷ [] }) (same (before clean).0) (holds (both clean))) in
     record {
-      opens = wrote_opens old mid new w opens c.insert_key.ensures.within (on_ok _ c.in_ok-told-2.ensures.ok c.insert_key.ensures.opens);
+      opens = wrote_opens old mid new w opens c.insert_key.ensures.within (on_ok _ c.in_ok-or_trouble-2.ensures.ok c.insert_key.ensures.opens);
       working = λ clean. works_of _ t _ old new (works clean) (holds_seen _ _ new (holds (both clean))).1 (becomes clean);
       within = keeps g.S.Store c.args.self.now _ refl
-          (wrote_within old mid new w (on_ok _ c.in_ok-told.ensures.ok c.find_key.ensures.opens) c.insert_key.ensures.within);
+          (wrote_within old mid new w (on_ok _ c.in_ok-or_trouble.ensures.ok c.find_key.ensures.opens) c.insert_key.ensures.within);
       settings = (refl, c.insert_key.ensures.within.follows.limit ∙ w.follows.limit);
       carries = λ clean. let it = known clean in gives_of t (add_key t n c.args.secret.now) Done _ (seen_in c.args.self.now.limits old).now (seen_in c.args.self.now.limits new).now (adds_key t n c.args.secret.now _ words it.0 it.1 it.2) (becomes clean);
     }

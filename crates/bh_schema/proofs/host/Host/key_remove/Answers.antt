@@ -18,8 +18,8 @@ use Rattle.bh_schema.proofs.host.Host.key_remove.Goals as goal
 pub find_key-requires : goal.find_key-requires
 find_key-requires g c = record { inside = λ clean. inside_of _ (state g.S.Store c.args.self.now.connection) (c.requires (parts clean)) }
 
-pub returns-in_err-told-clause-within : goal.returns-in_err-told-clause-within
-returns-in_err-told-clause-within g c = keeps g.S.Store c.args.self.now _ refl c.find_key.ensures.within
+pub returns-in_err-or_trouble-clause-within : goal.returns-in_err-or_trouble-clause-within
+returns-in_err-or_trouble-clause-within g c = keeps g.S.Store c.args.self.now _ refl c.find_key.ensures.within
 
 pub returns-in-NoTenant : goal.returns-in-NoTenant
 returns-in-NoTenant g c =
@@ -28,15 +28,15 @@ returns-in-NoTenant g c =
     let old = state g.S.Store c.args.self.now.connection in
     let new = state g.S.Store c.find_key.new.connection in
     let w = c.find_key.ensures.within in
-    let same = on_ok _ c.in_ok-told.ensures.ok c.find_key.ensures.same in
+    let same = on_ok _ c.in_ok-or_trouble.ensures.ok c.find_key.ensures.same in
     let words : (is_tenant_name t && is_key_name n) ≡ true = search rules in
     record {
-      opens = λ up intact. (on_ok _ c.in_ok-told.ensures.ok c.find_key.ensures.opens intact).1;
+      opens = λ up intact. (on_ok _ c.in_ok-or_trouble.ensures.ok c.find_key.ensures.opens intact).1;
       working = asked_works _ old new c.requires w same;
       within = keeps g.S.Store c.args.self.now _ refl w;
       settings = (refl, w.follows.limit);
       carries = λ clean.
-          let it = no_tenant n _ (sym c.in-NoTenant.is ∙ known_seen _ old t n _ (c.requires (asked_before _ old new c.requires w same clean)) (IfOk-at_ok _ c.in_ok-told.ensures.ok c.find_key.ensures.known (both clean))) in
+          let it = no_tenant n _ (sym c.in-NoTenant.is ∙ known_seen _ old t n _ (c.requires (asked_before _ old new c.requires w same clean)) (IfOk-at_ok _ c.in_ok-or_trouble.ensures.ok c.find_key.ensures.known (both clean))) in
           (removes_from_nobody t n _ words it, asked_same _ old new c.requires w same clean);
     }
 
@@ -47,29 +47,29 @@ returns-in-NoKey g c =
     let old = state g.S.Store c.args.self.now.connection in
     let new = state g.S.Store c.find_key.new.connection in
     let w = c.find_key.ensures.within in
-    let same = on_ok _ c.in_ok-told.ensures.ok c.find_key.ensures.same in
+    let same = on_ok _ c.in_ok-or_trouble.ensures.ok c.find_key.ensures.same in
     let words : (is_tenant_name t && is_key_name n) ≡ true = search rules in
     record {
-      opens = λ up intact. (on_ok _ c.in_ok-told.ensures.ok c.find_key.ensures.opens intact).1;
+      opens = λ up intact. (on_ok _ c.in_ok-or_trouble.ensures.ok c.find_key.ensures.opens intact).1;
       working = asked_works _ old new c.requires w same;
       within = keeps g.S.Store c.args.self.now _ refl w;
       settings = (refl, w.follows.limit);
       carries = λ clean.
-          let it = no_key n _ (sym c.in-NoKey.is ∙ known_seen _ old t n _ (c.requires (asked_before _ old new c.requires w same clean)) (IfOk-at_ok _ c.in_ok-told.ensures.ok c.find_key.ensures.known (both clean))) in
+          let it = no_key n _ (sym c.in-NoKey.is ∙ known_seen _ old t n _ (c.requires (asked_before _ old new c.requires w same clean)) (IfOk-at_ok _ c.in_ok-or_trouble.ensures.ok c.find_key.ensures.known (both clean))) in
           (removes_none t n _ words it.0 it.1 it.2, asked_same _ old new c.requires w same clean);
     }
 
 pub delete_key-requires : goal.delete_key-requires
 delete_key-requires g c =
-    record { inside = asked_inside _ (state g.S.Store c.args.self.now.connection) (state g.S.Store c.find_key.new.connection) c.requires c.find_key.ensures.within (on_ok _ c.in_ok-told.ensures.ok c.find_key.ensures.same) }
+    record { inside = asked_inside _ (state g.S.Store c.args.self.now.connection) (state g.S.Store c.find_key.new.connection) c.requires c.find_key.ensures.within (on_ok _ c.in_ok-or_trouble.ensures.ok c.find_key.ensures.same) }
 
-pub returns-in_err-told-2-clause-within : goal.returns-in_err-told-2-clause-within
-returns-in_err-told-2-clause-within g c =
+pub returns-in_err-or_trouble-2-clause-within : goal.returns-in_err-or_trouble-2-clause-within
+returns-in_err-or_trouble-2-clause-within g c =
     let old = state g.S.Store c.args.self.now.connection in
     let mid = state g.S.Store c.find_key.new.connection in
     let new = state g.S.Store c.delete_key.new.connection in
     keeps g.S.Store c.args.self.now _ refl
-    (wrote_within old mid new c.find_key.ensures.within (on_ok _ c.in_ok-told.ensures.ok c.find_key.ensures.opens) c.delete_key.ensures.within)
+    (wrote_within old mid new c.find_key.ensures.within (on_ok _ c.in_ok-or_trouble.ensures.ok c.find_key.ensures.opens) c.delete_key.ensures.within)
 
 pub returns : goal.returns
 returns g c =
@@ -80,21 +80,21 @@ returns g c =
     let new = state g.S.Store c.delete_key.new.connection in
     let w = c.find_key.ensures.within in
     let words : (is_tenant_name t && is_key_name n) ≡ true = search rules in
-    let same = on_ok _ c.in_ok-told.ensures.ok c.find_key.ensures.same in
-    let holds = on_ok _ c.in_ok-told-2.ensures.ok c.delete_key.ensures.holds in
-    let opens = on_ok _ c.in_ok-told.ensures.ok c.find_key.ensures.opens in
+    let same = on_ok _ c.in_ok-or_trouble.ensures.ok c.find_key.ensures.same in
+    let holds = on_ok _ c.in_ok-or_trouble-2.ensures.ok c.delete_key.ensures.holds in
+    let opens = on_ok _ c.in_ok-or_trouble.ensures.ok c.find_key.ensures.opens in
     let before = wrote_before old mid new w opens c.delete_key.ensures.within in
     let works = λ (clean : AreBoth new). c.requires (wrote_first old mid new w opens c.delete_key.ensures.within clean) in
     let known : AreBoth new → (s : Machine) × (view (seen_in c.args.self.now.limits old).now t ≡ Some s) × (is_some (get s.keys n) ≡ true) = λ clean.
-    a_key n _ (sym c.in-Key.is ∙ known_seen _ old t n _ (works clean) (IfOk-at_ok _ c.in_ok-told.ensures.ok c.find_key.ensures.known (both (before clean)))) in
+    a_key n _ (sym c.in-Key.is ∙ known_seen _ old t n _ (works clean) (IfOk-at_ok _ c.in_ok-or_trouble.ensures.ok c.find_key.ensures.known (both (before clean)))) in
     let becomes : (clean : AreBoth new) → Becomes t (Some (record (known clean).0 { keys = remove (known clean).0.keys n })) (seen_in c.args.self.now.limits old).now (seen_in c.args.self.now.limits new).now = λ clean.
     let it = known clean in
     key_goes _ old new t n it.0 (works clean) it.1 (holds_after old mid new (λ x. record x { keys = delete_where (is_key t n) x.keys }) (same (before clean).0) (holds (both clean))) in
     record {
-      opens = wrote_opens old mid new w opens c.delete_key.ensures.within (on_ok _ c.in_ok-told-2.ensures.ok c.delete_key.ensures.opens);
+      opens = wrote_opens old mid new w opens c.delete_key.ensures.within (on_ok _ c.in_ok-or_trouble-2.ensures.ok c.delete_key.ensures.opens);
       working = λ clean. works_of _ t _ old new (works clean) (holds_seen _ _ new (holds (both clean))).1 (becomes clean);
       within = keeps g.S.Store c.args.self.now _ refl
-          (wrote_within old mid new w (on_ok _ c.in_ok-told.ensures.ok c.find_key.ensures.opens) c.delete_key.ensures.within);
+          (wrote_within old mid new w (on_ok _ c.in_ok-or_trouble.ensures.ok c.find_key.ensures.opens) c.delete_key.ensures.within);
       settings = (refl, c.delete_key.ensures.within.follows.limit ∙ w.follows.limit);
       carries = λ clean. let it = known clean in gives_of t (remove_key t n) Done _ (seen_in c.args.self.now.limits old).now (seen_in c.args.self.now.limits new).now (removes_key t n _ words it.0 it.1 it.2) (becomes clean);
     }

@@ -32,8 +32,8 @@ pub set_latest-requires-clause-inside : goal.set_latest-requires-clause-inside
 set_latest-requires-clause-inside g c =
     asked_inside _ (state g.S.Store c.args.self.now.connection) (state g.S.Store c.latest.new.self.connection) c.requires.working c.in_ok-latest.ensures.within c.in_ok-latest.ensures.same
 
-pub returns-in_err-told-clause-within : goal.returns-in_err-told-clause-within
-returns-in_err-told-clause-within g c =
+pub returns-in_err-or_trouble-clause-within : goal.returns-in_err-or_trouble-clause-within
+returns-in_err-or_trouble-clause-within g c =
     keeps g.S.Store c.args.self.now _ (search rules)
     (wrote_within (state g.S.Store c.args.self.now.connection) (state g.S.Store c.latest.new.self.connection) (state g.S.Store c.set_latest.new.connection) c.in_ok-latest.ensures.within c.in_ok-latest.ensures.opens c.set_latest.ensures.within)
 
@@ -49,13 +49,13 @@ returns-in-Some g c =
     let same_read : c.in-Some.read ≡ c.args.reading = search rules in
     let before = wrote_before old mid new h.within h.opens w in
     let works = λ (clean : AreBoth new). c.requires.working (wrote_first old mid new h.within h.opens w clean) in
-    let holds = λ (clean : AreBoth new). on_ok _ c.in_ok-told.ensures.ok c.set_latest.ensures.holds (both clean) in
+    let holds = λ (clean : AreBoth new). on_ok _ c.in_ok-or_trouble.ensures.ok c.set_latest.ensures.holds (both clean) in
     let written : AreBoth new → IsStamped c.args.reading (seen_in l old).now (seen_in l new).now × ((seen_in l new).now ≡ with_latest c.args.reading (seen_in l old).now) = λ clean.
     stamp_written _ old new c.args.reading c.in_ok-latest.latest (works clean) (h.latest (before clean)) high c.requires.in_range
     (holds_after old mid new (λ x. record x { host = map (with_stamp c.args.reading) x.host }) (h.same (before clean).0) (holds clean)) in
     rw h.settings (record {
       within = keeps g.S.Store c.args.self.now _ refl (wrote_within old mid new h.within h.opens w);
-      opens = wrote_opens old mid new h.within h.opens w (on_ok _ c.in_ok-told.ensures.ok c.set_latest.ensures.opens);
+      opens = wrote_opens old mid new h.within h.opens w (on_ok _ c.in_ok-or_trouble.ensures.ok c.set_latest.ensures.opens);
       working = λ clean. record { inside = (holds_seen _ _ new (holds clean)).1; sound = (written clean).0.sound; limits = (written clean).0.limits ∙ (works clean).limits ∙ same_limits l new old };
       stamps = λ clean. subst (λ m. Stamps c.args.reading m (seen_in l old).now (seen_in l new).now) (sym same_read)
           (stamps_of (seen_in l old).now (seen_in l new).now c.args.reading c.in_ok-latest.latest (h.latest (before clean)) high c.requires.in_range (written clean).1 (written clean).0);

@@ -44,8 +44,8 @@ pub insert_tenant-requires-clause-inside : goal.insert_tenant-requires-clause-in
 insert_tenant-requires-clause-inside g c =
     asked_inside _ (state g.S.Store c.args.self.now.connection) (state g.S.Store c.find_tenant.new.connection) c.requires c.find_tenant.ensures.within (on_ok _ c.in_ok-found.ensures.ok c.find_tenant.ensures.same)
 
-pub returns-in_err-told-clause-within : goal.returns-in_err-told-clause-within
-returns-in_err-told-clause-within g c =
+pub returns-in_err-or_trouble-clause-within : goal.returns-in_err-or_trouble-clause-within
+returns-in_err-or_trouble-clause-within g c =
     keeps g.S.Store c.args.self.now _ refl
     (wrote_within (state g.S.Store c.args.self.now.connection) (state g.S.Store c.find_tenant.new.connection) (state g.S.Store c.insert_tenant.new.connection)
     c.find_tenant.ensures.within (on_ok _ c.in_ok-found.ensures.ok c.find_tenant.ensures.opens) c.insert_tenant.ensures.within)
@@ -65,7 +65,7 @@ returns g c =
     let away : is_some c.in_ok-found.found ≡ false = search rules in
     let before = wrote_before old mid new asked opens wrote in
     let works = λ (clean : AreBoth new). c.requires (wrote_first old mid new asked opens wrote clean) in
-    let holds = λ (clean : AreBoth new). on_ok _ c.in_ok-told.ensures.ok c.insert_tenant.ensures.holds (both clean) in
+    let holds = λ (clean : AreBoth new). on_ok _ c.in_ok-or_trouble.ensures.ok c.insert_tenant.ensures.holds (both clean) in
     let none : AreBoth new → view (seen_in l old).now t ≡ None = λ clean.
     none_of _ (tenant_seen _ old t tenant_numbers c.in_ok-found.found (works clean) (IfOk-at_ok _ c.in_ok-found.ensures.ok c.find_tenant.ensures.found (both (before clean))) ∙ away) in
     let becomes : AreBoth new → Becomes t (Some (new_tenant c.args.quota)) (seen_in l old).now (seen_in l new).now = λ clean.
@@ -74,7 +74,7 @@ returns g c =
     (on_ok _ c.in_ok-found.ensures.ok c.find_tenant.ensures.same (before clean).0) (holds clean)) in
     record {
       within = keeps g.S.Store c.args.self.now _ refl (wrote_within old mid new asked opens wrote);
-      opens = wrote_opens old mid new asked opens wrote (on_ok _ c.in_ok-told.ensures.ok c.insert_tenant.ensures.opens);
+      opens = wrote_opens old mid new asked opens wrote (on_ok _ c.in_ok-or_trouble.ensures.ok c.insert_tenant.ensures.opens);
       working = λ clean. works_of _ t _ old new (works clean) (holds_seen _ _ new (holds clean)).1 (becomes clean);
       settings = (refl, wrote.follows.limit ∙ asked.follows.limit);
       carries = λ clean. gives_of t (add_tenant t c.args.quota) Done _ (seen_in l old).now (seen_in l new).now (adds_tenant t c.args.quota _ name few (none clean)) (becomes clean);

@@ -2,7 +2,7 @@ use Rattle.std.proofs.Common.{ap, ◌∙◌, true}
 use Rattle.sqlite.specs.Held.{state}
 use Rattle.bh_rows.specs.Means.{is_trouble}
 use Rattle.bh_tables.specs.Shown.{shown_latest}
-use Rattle.bh_schema.specs.Layer.{IsClean}
+use Rattle.bh_schema.specs.Layer.{IsStateClean}
 use Rattle.bh_schema.specs.Rows.{latest_in}
 use Rattle.bh_schema.proofs.Finds.{none_read, row_of, row_read, handed_on}
 use Rattle.bh_schema.proofs.rows.host.find_latest.Goals as goal
@@ -15,5 +15,5 @@ returns-clause-found g c clean = row_read shown_latest (λ _. true) _ _ (c.deref
 
 pub returns-in_err-read_latest-in-Some-clause-trouble : goal.returns-in_err-read_latest-in-Some-clause-trouble
 returns-in_err-read_latest-in-Some-clause-trouble g c = handed_on _ _ _ c.from_residual-in_err-read_latest-in-Some.ensures (λ e same intact unlimited.
-    let clean : IsClean (state g.S.Store c.latest_rows.new.connection) = record { intact = intact; is_open = (c.in_ok-rows.ensures.opens intact).1 } in
+    let clean : IsStateClean (state g.S.Store c.latest_rows.new.connection) = record { intact = intact; is_open = (c.in_ok-rows.ensures.opens intact).1 } in
     ap is_trouble same ∙ row_of shown_latest (λ _. true) _ _ (c.deref.ensures.value ∙ c.in_ok-rows.ensures.rows clean) c.in-Some.row.now c.in-Some.ensures.value (λ t found row. c.in_err-read_latest-in-Some.ensures.trouble t row))

@@ -5,7 +5,7 @@ ghost use Rattle.bh_schema.specs.Storage.{IsClean, IsIntact, IsOpen, seen, left,
 
 use crate::host::{Digester, Host};
 use crate::rows::transactions;
-use crate::trouble::told;
+use crate::trouble::or_trouble;
 use bh_storage::error::Trouble;
 use sqlite::Alter;
 
@@ -20,7 +20,7 @@ impl<S: Alter + Drop, D: Digester + Drop> Host<S, D> {
         ensures working { OnOk result (IsIntact S.Store self.new → IsWorking (seen S.Store self.new)) }
         ensures settings { KeepsSettings S.Store self.old self.new }
     {
-        told(transactions::begin(&mut self.connection))?;
+        or_trouble(transactions::begin(&mut self.connection))?;
         Ok(())
     }
 
@@ -39,7 +39,7 @@ impl<S: Alter + Drop, D: Digester + Drop> Host<S, D> {
         ensures limits { (seen S.Store self.new).limits ≡ (seen S.Store self.old).limits }
         ensures settings { KeepsSettings S.Store self.old self.new }
     {
-        told(transactions::commit(&mut self.connection))?;
+        or_trouble(transactions::commit(&mut self.connection))?;
         Ok(())
     }
 

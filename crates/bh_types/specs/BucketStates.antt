@@ -1,7 +1,7 @@
 -- Numbers of states and of counters.
 use Rattle.std.specs.Prelude.{ℕ}
-use Rattle.bh_types.specs.declared.plain.BucketState.{BucketState}
-use Rattle.bh_types.specs.declared.plain.BucketState.TheVariants.{Unversioned, Enabled, Suspended}
+use Rattle.bh_types.specs.declared.bucket_state.BucketState.{BucketState}
+use Rattle.bh_types.specs.declared.bucket_state.BucketState.TheVariants.{Unversioned, Enabled, Suspended}
 
 -- the number by which a table's column keeps a bucket's state
 -- Amazon S3 API Reference, GetBucketVersioning has these three states; the numbers are this host's

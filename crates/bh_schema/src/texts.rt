@@ -22,7 +22,7 @@ pub fn are_names(alloc: Global, tenant: &str, name: &str) -> Result<bool, AllocE
 }
 
 /// The same, and a third text is a secret.
-pub fn are_words(alloc: Global, tenant: &str, name: &str, secret: &str) -> Result<bool, AllocError>
+pub fn are_texts(alloc: Global, tenant: &str, name: &str, secret: &str) -> Result<bool, AllocError>
     ensures { IfOk result (λ are. are ≡ (is_tenant_name tenant.now && is_key_name name.now && is_secret secret.now)) }
 {
     if !are_names(alloc, tenant, name)? {
