@@ -3,7 +3,7 @@ use crate::events::tenant_add;
 use bh_create::create;
 use bh_dispatch::storage::HostStorage;
 use bh_event::event::{Command, Event};
-use bh_host::run::run;
+use bh_host::run;
 use bh_script::digester::Sha256Digester;
 use bh_types::limits::{Limits, Tuning};
 use sqlite::{Alter, Connection, Row};

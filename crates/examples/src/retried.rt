@@ -9,7 +9,7 @@ ghost use Rattle.bh_storage.specs.Calls.{Clean, IsAtRest};
 use bh_create::create;
 use bh_dispatch::storage::HostStorage;
 use bh_event::event::Event;
-use bh_host::apply::{Told, apply};
+use bh_host::{Told, apply};
 use bh_script::digester::Sha256Digester;
 use bh_script::input::{read_all, read_script};
 use bh_storage::storage::Storage;
