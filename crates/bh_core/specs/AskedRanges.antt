@@ -1,5 +1,4 @@
 -- The ranges of the definitions that those of the program are.
-use Rattle.std.specs.Prelude.{ℕ}
 use Rattle.bh_types.specs.Ranges.{Asked, Asked.Between, Asked.From, Asked.Last}
 use Rattle.bh_core.specs.declared.ranges.Asked as program
 

@@ -1,4 +1,4 @@
-ghost use Rattle.std.specs.Prelude.{◌≡◌, ◌<◌, length, position, IfSome};
+ghost use Rattle.std.specs.Prelude.{◌≡◌, ◌<◌, false, length, position, IfSome};
 ghost use Rattle.bh_core.specs.Places as spec;
 
 use bh_model::entries::{LookupFault, same_id};
@@ -24,15 +24,27 @@ pub fn decide_lookup(entries: &[Entry], wanted: Wanted) -> Result<usize, LookupF
     ensures finds { spec.FindsVersion wanted entries.now result }
 {
     match wanted {
-        Wanted::Current => match entries.first() {
-            Some(newest) => open(Refusal::NoSuchKey, 0, newest.marker),
-            None => Err(not_found(Refusal::NoSuchKey)),
-        },
-        Wanted::Named(id) => match place_of(entries, id) {
-            Some(at) => open(Refusal::MethodNotAllowed, at, entries[at].marker),
-            None => Err(not_found(Refusal::NoSuchVersion)),
-        },
+        Wanted::Current => current_place(entries),
+        Wanted::Named(id) => named_place(entries, id),
         Wanted::Unknown => Err(not_found(Refusal::NoSuchVersion)),
+    }
+}
+
+fn current_place(entries: &[Entry]) -> Result<usize, LookupFault>
+    ensures { result ≡ spec.current_place entries.now }
+{
+    match entries.first() {
+        Some(newest) => open(Refusal::NoSuchKey, 0, newest.marker),
+        None => Err(not_found(Refusal::NoSuchKey)),
+    }
+}
+
+fn named_place(entries: &[Entry], id: VersionId) -> Result<usize, LookupFault>
+    ensures { result ≡ spec.named_place entries.now (position (spec.is_of id) entries.now) }
+{
+    match place_of(entries, id) {
+        Some(at) => open(Refusal::MethodNotAllowed, at, entries[at].marker),
+        None => Err(not_found(Refusal::NoSuchVersion)),
     }
 }
 

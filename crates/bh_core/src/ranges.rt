@@ -12,6 +12,7 @@ use bh_types::refusal::Refusal;
 const GREATEST_NUMBER: u64 = 1 << 62;
 
 /// What a Range field asks for.
+#[derive(Clone, Copy)]
 enum Asked {
     Between { first: u64, last: u64 },
     From(u64),
@@ -22,7 +23,7 @@ enum Asked {
 /// (RFC 9110, section 14.1.2): one range of bytes, in decimal digits. A field of another form is ignored.
 /// [`Refusal::InvalidRange`] where the object has none of the bytes asked for (section 15.5.17).
 pub fn range_of(range: Option<&[u8]>, size: u64) -> Result<RangePlan, Refusal>
-    ensures { result ≡ spec.range_of (option_copied range) size }
+    ensures { result ≡ spec.range_of (option_copied range.entry) size }
 {
     let Some(text) = range else {
         return Ok(RangePlan::Whole);

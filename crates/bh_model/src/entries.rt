@@ -4,10 +4,10 @@ ghost use Rattle.std.specs.List as list;
 ghost use Rattle.bh_model.specs.Entries as spec;
 ghost use Rattle.bh_model.specs.Shown.{content_of};
 
-use bh_types::id::VersionId;
 use bh_types::bucket_state::BucketState;
-use bh_types::wanted::Wanted;
+use bh_types::id::VersionId;
 use bh_types::refusal::Refusal;
+use bh_types::wanted::Wanted;
 use std::alloc::AllocError;
 use std::marker::Model;
 
