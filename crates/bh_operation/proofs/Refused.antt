@@ -9,7 +9,7 @@ use Rattle.bh_types.specs.declared.wanted.Wanted.TheVariants.{Current}
 use Rattle.bh_types.specs.declared.refusal.Refusal.{Refusal}
 use Rattle.bh_types.specs.declared.refusal.Refusal.TheVariants.{AccessDenied, InvalidBucketName, KeyTooLong, InvalidArgument, NotImplemented}
 use Rattle.bh_http.specs.Fields.{Occurrence, Missing, Once, Repeated, field_named}
-use Rattle.bh_http.specs.Reading.{is_number}
+use Rattle.bh_types.specs.Digits.{is_number}
 use Rattle.bh_operation.specs.Actions.{method_of, bucket_action, object_action}
 use Rattle.bh_operation.specs.Addresses.{is_colon, own_part, bucket_name, object_key, bucket_named, object_named}
 use Rattle.bh_operation.specs.Headers.{has_lock_field, supported, at_most_once, checksum_in, copy_source, stands}

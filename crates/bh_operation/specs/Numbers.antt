@@ -5,7 +5,7 @@ use Rattle.std.specs.Str.{bytes_eq}
 use Rattle.std.specs.Str.Parse.{digits_value}
 use Rattle.hex.specs.Hex.{decode_sized, decode_of}
 use Rattle.bh_types.specs.Ids.{number_text}
-use Rattle.bh_http.specs.Reading.{is_number}
+use Rattle.bh_types.specs.Digits.{is_number}
 use Rattle.bh_types.specs.Outcomes.{◌>>=◌}
 use Rattle.bh_types.specs.declared.id.UploadId.{UploadId}
 use Rattle.bh_types.specs.declared.id.VersionId.{VersionId}

@@ -4,10 +4,10 @@ ghost use Rattle.std.specs.List.{list_all};
 ghost use Rattle.std.specs.Option.{option_copied};
 ghost use Rattle.std.specs.Str.Parse.{digits_value};
 ghost use Rattle.bh_types.specs.Outcomes.{Gives};
-ghost use Rattle.bh_http.specs.Reading as digits;
 ghost use Rattle.bh_operation.specs.Numbers as spec;
 
 use crate::text::Bytes;
+use bh_types::digits::{is_number, number_of};
 use bh_types::error::RequestError;
 use bh_types::id::{UploadId, VersionId};
 use bh_types::wanted::Wanted;
@@ -21,33 +21,9 @@ const MAX_PAGE: u64 = 1000;
 /// The greatest number of a part.
 const MAX_PART: u64 = 10_000;
 
-fn are_digits(text: &[u8]) -> bool
-    ensures { result ≡ list_all is_ascii_digit text.now }
-{
-    text.iter().all(|b| b.is_ascii_digit())
-}
-
-fn is_number(text: &str) -> bool
-    ensures { result ≡ digits.is_number text.now }
-{
-    !text.is_empty() && are_digits(text.as_bytes())
-}
-
-/// The number that digits write, if it is below 2^64.
-fn number_of(text: &str) -> Option<u64>
-    requires { digits.is_number text.now ≡ true }
-    ensures some { IfSome result (λ n. n ≡ digits_value 10 text.now) }
-    ensures none { IfNone result (2 ^ 64 ≤ digits_value 10 text.now) }
-{
-    match text.parse::<u64>() {
-        Ok(n) => Some(n),
-        Err(_) => None,
-    }
-}
-
 /// The number of 1 to 10 digits: InvalidArgument for another text.
 #[tactic(auto, unfolding(crate::specs::Numbers::short_number))]
-fn short_number(text: &str) -> Result<u64, Refusal>
+fn short_number(text: &[u8]) -> Result<u64, Refusal>
     ensures { result ≡ spec.short_number text.now }
 {
     if !is_number(text) || text.len() > 10 {
@@ -67,7 +43,7 @@ pub fn page_size(text: Option<&str>) -> Result<u64, Refusal>
 {
     match text {
         None => Ok(MAX_PAGE),
-        Some(text) => Ok(short_number(text)?.min(MAX_PAGE)),
+        Some(text) => Ok(short_number(text.as_bytes())?.min(MAX_PAGE)),
     }
 }
 
@@ -79,7 +55,7 @@ pub fn part_marker(text: Option<&str>) -> Result<u64, Refusal>
 {
     match text {
         None => Ok(0),
-        Some(text) => short_number(text),
+        Some(text) => short_number(text.as_bytes()),
     }
 }
 
@@ -89,7 +65,7 @@ pub fn part_number(text: Option<&str>) -> Result<u32, Refusal>
     ensures { result ≡ spec.part_number (option_copied text.entry) }
 {
     match text {
-        Some(text) if is_number(text) => match number_of(text) {
+        Some(text) if is_number(text.as_bytes()) => match number_of(text.as_bytes()) {
             Some(n) if 1 <= n && n <= MAX_PART => Ok(n as u32),
             _ => Err(Refusal::InvalidArgument),
         },
