@@ -12,7 +12,6 @@ pub mod prefix;
 pub mod read;
 pub mod reply;
 mod shape;
-pub mod token;
 pub mod uploads;
 pub mod versions;
 
@@ -25,6 +24,5 @@ pub use reply::{
     BucketEntry, Usage, begun_document, buckets_document, completed_document, copied_document,
     error_document, lifecycle_document, usage_document, versioning_document,
 };
-pub use token::{read_token, token_text};
 pub use uploads::{UploadEntry, UploadsNext, UploadsPage, uploads_document};
 pub use versions::{StoredObject, VersionEntry, VersionsNext, VersionsPage, versions_document};

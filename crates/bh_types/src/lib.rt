@@ -16,4 +16,5 @@ pub mod names;
 pub mod range;
 pub mod refusal;
 pub mod rejection;
+pub mod token;
 pub mod wanted;
