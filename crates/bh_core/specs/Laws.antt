@@ -10,9 +10,9 @@ use Rattle.bh_types.specs.declared.range.RangePlan.{RangePlan}
 use Rattle.bh_types.specs.declared.range.RangePlan.TheVariants.{Whole, Part}
 use Rattle.bh_types.specs.declared.wanted.Wanted.{Wanted}
 use Rattle.bh_model.specs.State.{Content, Entry}
-use Rattle.bh_model.specs.Counting.{after_entry}
+use Rattle.bh_model.specs.Counting.{after_entry, after_delete}
 use Rattle.bh_model.specs.Entries.{has_id, added, deleted}
-use Rattle.bh_core.specs.Plans.{put_plan, delete_plan, stands, null_removed, wanted_stands, put_in, left_by, counts_after, after_delete}
+use Rattle.bh_core.specs.Plans.{put_plan, delete_plan, stands, null_removed, wanted_stands, put_in, left_by, counts_after}
 
 -- a put's plan leaves the entries that the machine's put leaves
 abbrev pub PutLeaves : Type 0
@@ -33,7 +33,7 @@ DeleteLeaves = (mode : BucketState) (wanted : Wanted) (c : Counts) (moment : ℕ
     → IfOk (delete_plan mode wanted (null_removed mode entries) (wanted_stands wanted entries) c)
     (λ plan. left_by plan moment entries ≡ deleted mode wanted c.version moment entries)
 
--- its counters and its refusals are those of an entry that is made, and none is made but a delete marker
+-- its counters are the machine's, and so are its refusals
 abbrev pub DeleteCounts : Type 0
 DeleteCounts = (mode : BucketState) (wanted : Wanted) (null_stands wanted_stands : Bool) (c : Counts)
     → (do

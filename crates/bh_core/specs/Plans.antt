@@ -93,11 +93,3 @@ abbrev pub counts_after : Counts → DeletePlan → Counts
 counts_after c Nothing = c
 counts_after c (Remove id) = c
 counts_after c (Marker id seq removes_null after) = after
-
--- those after a delete: where a marker is made it takes its numbers
-abbrev pub after_delete : BucketState → Wanted → Counts → Result Counts Refusal
-after_delete Unversioned Current c = Ok c
-after_delete Enabled Current c = after_entry Enabled c
-after_delete Suspended Current c = after_entry Suspended c
-after_delete mode (Named id) c = Ok c
-after_delete mode Unknown c = Ok c

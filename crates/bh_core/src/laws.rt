@@ -16,7 +16,7 @@ pub fn delete_leaves()
     ensures { DeleteLeaves }
 {}
 
-/// A delete is refused, and takes numbers, exactly where it makes a delete marker.
+/// A delete's plan has the private machine's counters, or its refusal.
 pub fn delete_counts()
     ensures { DeleteCounts }
 {}

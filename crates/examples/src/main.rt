@@ -3,6 +3,7 @@
 
 mod answer;
 mod checksums;
+mod decisions;
 mod documents;
 mod entries;
 mod escapes;
