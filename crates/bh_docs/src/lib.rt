@@ -1,10 +1,9 @@
-//! The texts of a bucket host: JSON documents (RFC 8259), checksums and tokens.
+//! The JSON documents (RFC 8259) of a bucket host.
 //!
 //! A request's document is read exactly where it has its shape, and a reply's document is one exact
 //! text. Beside that, only memory can be wanting.
 #![tactic(auto)]
 
-pub mod checksum;
 mod document;
 pub mod objects;
 pub mod parts;
@@ -15,7 +14,6 @@ mod shape;
 pub mod uploads;
 pub mod versions;
 
-pub use checksum::{checksum_of, checksum_of_digest, digest_of, joined_checksum, read_checksum};
 pub use objects::{ObjectEntry, ObjectsPage, objects_document};
 pub use parts::{PartEntry, PartsPage, parts_document};
 pub use prefix::CommonPrefix;
