@@ -1,9 +1,9 @@
 -- What ties the plans to the private machine, and shows that a range is the intended one.
-use Rattle.std.specs.Prelude.{◌≡◌, ℕ, ◌<◌, ◌≤◌, Bool, List, length, Option, Ok, IfOk}
+use Rattle.std.specs.Prelude.{◌≡◌, ℕ, ◌+◌, ◌-◌, ◌<◌, ◌≤◌, Bool, List, length, Option, Ok, IfOk}
 use Rattle.std.specs.List.{filter}
 use Rattle.bh_types.specs.Counts.{Counts}
 use Rattle.bh_types.specs.Outcomes.{◌>>=◌}
-use Rattle.bh_types.specs.Ranges.{range_of}
+use Rattle.bh_types.specs.Ranges.{range_of, cut}
 use Rattle.bh_types.specs.declared.id.VersionId.TheVariants.{Null}
 use Rattle.bh_types.specs.declared.bucket_state.BucketState.{BucketState}
 use Rattle.bh_types.specs.declared.range.RangePlan.{RangePlan}
@@ -47,3 +47,12 @@ LiesWithin size (Part first last) = (first ≤ last) × (last < size)
 
 abbrev pub RangesLieWithin : Type 0
 RangesLieWithin = (text : Option (List ℕ)) (size : ℕ) → IfOk (range_of text size) (LiesWithin size)
+
+-- the bytes that a plan names of so many
+abbrev pub plan_size : ℕ → RangePlan → ℕ
+plan_size size Whole = size
+plan_size size (Part first last) = last + 1 - first
+
+abbrev pub PartsAreCut : Type 0
+PartsAreCut = (text : Option (List ℕ)) (bytes : List ℕ)
+    → IfOk (range_of text (length bytes)) (λ plan. length (cut plan bytes) ≡ plan_size (length bytes) plan)

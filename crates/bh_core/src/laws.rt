@@ -1,5 +1,5 @@
 //! Laws of the plans and of ranges, each the contract of a function that does nothing.
-ghost use Rattle.bh_core.specs.Laws.{PutLeaves, PutCounts, DeleteLeaves, DeleteCounts, RangesLieWithin};
+ghost use Rattle.bh_core.specs.Laws.{PutLeaves, PutCounts, DeleteLeaves, DeleteCounts, RangesLieWithin, PartsAreCut};
 
 /// A put's plan leaves the entries that the private machine's put leaves.
 pub fn put_leaves()
@@ -24,4 +24,9 @@ pub fn delete_counts()
 /// A part that is answered has a byte, and lies within the object.
 pub fn ranges_lie_within()
     ensures { RangesLieWithin }
+{}
+
+/// The bytes of a part are as many as its positions.
+pub fn parts_are_cut()
+    ensures { PartsAreCut }
 {}
