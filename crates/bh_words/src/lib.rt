@@ -1,8 +1,11 @@
 //! The words of the command line.
 #![tactic(auto)]
 
+mod command;
 mod fault;
 mod lines;
+mod options;
+mod subcommands;
 
 pub use fault::LineFault;
 pub use lines::{Line, SecretGiven};
