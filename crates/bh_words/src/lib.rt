@@ -3,8 +3,10 @@
 
 mod command;
 mod fault;
+mod given;
 mod lines;
 mod options;
+mod readings;
 mod subcommands;
 
 pub use fault::LineFault;
