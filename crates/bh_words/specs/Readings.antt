@@ -2,7 +2,7 @@
 use Rattle.std.specs.Prelude.{◌≡◌, ℕ, ◌^◌, ◌&&◌, List, codes, find, nat_le, nat_lt, Option, Some, None, Result, Ok, Err, if◌then◌else◌}
 use Rattle.std.specs.Str.{bytes_eq}
 use Rattle.std.specs.Str.Parse.{digits_value, without_leading_plus}
-use Rattle.clap.specs.Words.{Row, Text, first_of, found_of, rows_of, subcommand_of}
+use Rattle.clap.specs.Words.{Kinds, Row, Text, fault_of, first_of, found_of, rows_of, subcommand_of}
 use Rattle.clap.specs.ValueTests.{is_numeral}
 use Rattle.clap.specs.declared.parser.matches.ArgMatches.{ArgMatches}
 use Rattle.bh_types.specs.Limits.{HostLimits, HostTuning}
@@ -171,6 +171,14 @@ told_in met = do
   subcommand ← subcommand_named met.0
   told_at subcommand met.1
 
+-- the line that the matches of a subcommand tell
+abbrev pub told_of : Option (Text × List Row) → Option Told
+told_of met = met >>= told_in
+
 -- the line that words tell, by `clap`'s matches for the program's command
 unfoldable pub told_by : List Text → Option Told
-told_by words = subcommand_of the_command words >>= told_in
+told_by words = told_of (subcommand_of the_command words)
+
+-- what `clap` refuses in words, by the kinds of its first fault; none where it takes them
+unfoldable pub faults_of : List Text → Kinds
+faults_of words = fault_of the_command words

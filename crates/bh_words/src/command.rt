@@ -10,7 +10,7 @@ use clap::Command;
 use std::alloc::{AllocError, Global};
 
 /// The program's command with its ten subcommands.
-pub(crate) fn the_command(alloc: Global) -> Result<Command<'static>, AllocError>
+pub(crate) fn the_command<'a>(alloc: Global) -> Result<Command<'a>, AllocError>
     ensures { IfOk result (λ c. app_of c ≡ spec.the_command) }
 {
     let bare = Command::new(alloc, "bucketd")
@@ -20,11 +20,11 @@ pub(crate) fn the_command(alloc: Global) -> Result<Command<'static>, AllocError>
     with_subcommands(alloc, bare, SUBCOMMANDS.as_slice())
 }
 
-fn with_subcommands(
+fn with_subcommands<'a>(
     alloc: Global,
-    bare: Command<'static>,
+    bare: Command<'a>,
     subcommands: &[Subcommand],
-) -> Result<Command<'static>, AllocError>
+) -> Result<Command<'a>, AllocError>
     ensures { IfOk result (λ c. app_of c ≡ spec.with_subcommands (app_of bare.entry) subcommands.now) }
 {
     let mut command = bare;
@@ -47,10 +47,10 @@ static SUBCOMMANDS: [Subcommand; 10] = [
     Subcommand::Serve,
 ];
 
-fn subcommand_command(
+fn subcommand_command<'a>(
     alloc: Global,
     subcommand: Subcommand,
-) -> Result<Command<'static>, AllocError>
+) -> Result<Command<'a>, AllocError>
     ensures shape { IfOk result (λ c. shape_of c ≡ spec.shape (spec.word subcommand) (spec.options subcommand)) }
     ensures local { IfOk result (λ c. (fields_of c).has_globals ≡ false) }
 {
@@ -58,11 +58,11 @@ fn subcommand_command(
     with_options(alloc, bare, subcommand.options())
 }
 
-fn with_options(
+fn with_options<'a>(
     alloc: Global,
-    bare: Command<'static>,
+    bare: Command<'a>,
     options: &[OptionName],
-) -> Result<Command<'static>, AllocError>
+) -> Result<Command<'a>, AllocError>
     ensures rules { IfOk result (λ c. app_of c ≡ spec.with_options (app_of bare.entry) options.now) }
     ensures local { IfOk result (λ c. (fields_of c).has_globals ≡ (fields_of bare.entry).has_globals) }
 {

@@ -6,8 +6,10 @@ mod fault;
 mod given;
 mod lines;
 mod options;
+mod read;
 mod readings;
 mod subcommands;
 
 pub use fault::LineFault;
 pub use lines::{Line, SecretGiven};
+pub use read::read_words;

@@ -28,7 +28,7 @@ pub(crate) enum OptionName {
 
 impl OptionName {
     /// The word that follows `--`.
-    pub(crate) fn word(self) -> &'static str
+    pub(crate) fn word<'a>(self) -> &'a str
         ensures { result.now ≡ spec.word self }
     {
         match self {
@@ -49,7 +49,7 @@ impl OptionName {
         }
     }
 
-    fn help(self) -> &'static str {
+    fn help<'a>(self) -> &'a str {
         match self {
             OptionName::File => "The host's file",
             OptionName::Tenant => "The tenant's name: 1 to 32 of a to z, 0 to 9",
@@ -69,7 +69,7 @@ impl OptionName {
     }
 
     /// The option as `clap` is told of it.
-    pub(crate) fn arg(self, alloc: Global) -> Arg<'static>
+    pub(crate) fn arg<'a>(self, alloc: Global) -> Arg<'a>
         ensures rule { rule_of result ≡ spec.rule self }
         ensures local { result.global ≡ false }
     {
@@ -91,7 +91,7 @@ impl OptionName {
     }
 
     // An option that may not be missing, with any text.
-    fn text(self, alloc: Global) -> Arg<'static>
+    fn text<'a>(self, alloc: Global) -> Arg<'a>
         ensures rule { rule_of result ≡ spec.text self }
         ensures local { result.global ≡ false }
     {
@@ -99,14 +99,14 @@ impl OptionName {
     }
 
     // An option with a number from `least` to `most`.
-    fn number(self, alloc: Global, least: u64, most: u64) -> Arg<'static>
+    fn number<'a>(self, alloc: Global, least: u64, most: u64) -> Arg<'a>
         ensures rule { rule_of result ≡ spec.number self least most }
         ensures local { result.global ≡ false }
     {
         self.described(alloc).value_parser(ValueParser::unsigned(least, most))
     }
 
-    fn described(self, alloc: Global) -> Arg<'static>
+    fn described<'a>(self, alloc: Global) -> Arg<'a>
         ensures rule { rule_of result ≡ spec.described self }
         ensures local { result.global ≡ false }
     {

@@ -60,7 +60,7 @@ static SERVE: [OptionName; 6] = [
 
 impl Subcommand {
     /// The subcommand's name.
-    pub(crate) fn word(self) -> &'static str
+    pub(crate) fn word<'a>(self) -> &'a str
         ensures { result.now ≡ spec.word self }
     {
         match self {
@@ -78,7 +78,7 @@ impl Subcommand {
     }
 
     /// What it does, for the help.
-    pub(crate) fn about(self) -> &'static str {
+    pub(crate) fn about<'a>(self) -> &'a str {
         match self {
             Subcommand::Script => "Applies events from standard input to a new host in memory, and writes their answers",
             Subcommand::Init => "Makes a host in a file",
