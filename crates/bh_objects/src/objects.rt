@@ -9,7 +9,7 @@ ghost use Rattle.bh_schema.specs.Working.{Works, StillWorks};
 
 use crate::reads::{bucket_state, next_counters};
 use crate::writes::{NewObject, write_object};
-use bh_docs::checksum::checksum_of;
+use bh_types::checksum::checksum_of;
 use bh_model::counting::after_entry;
 use bh_storage::answer::StoredVersion;
 use bh_storage::error::StepError;

@@ -51,10 +51,6 @@ abbrev pub ok_of : {A E : Type 0} → Result A E → Option A
 ok_of (Ok x) = Some x
 ok_of (Err e) = None
 
--- the bytes that pairs of hexadecimal digits write
-unfoldable pub token_in : List ℕ → Result (List ℕ) Refusal
-token_in text = or_invalid_argument (ok_of (decode_of text))
-
 -- the number whose text this is, if it is one's: 16 lower hexadecimal digits
 abbrev pub if_text_of : List ℕ → ℕ → Option ℕ
 if_text_of text n = if bytes_eq (number_text n) text then Some n else None

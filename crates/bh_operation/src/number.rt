@@ -1,18 +1,16 @@
-ghost use Rattle.std.specs.Prelude.{◌≡◌, ◌≤◌, ◌^◌, true, IfSome, IfNone};
-ghost use Rattle.std.specs.Char.{is_ascii_digit};
-ghost use Rattle.std.specs.List.{list_all};
+ghost use Rattle.std.specs.Prelude.{◌≡◌};
 ghost use Rattle.std.specs.Option.{option_copied};
-ghost use Rattle.std.specs.Str.Parse.{digits_value};
 ghost use Rattle.bh_types.specs.Outcomes.{Gives};
+ghost use Rattle.bh_types.specs.Tokens.{token_of};
 ghost use Rattle.bh_operation.specs.Numbers as spec;
 
 use crate::text::Bytes;
 use bh_types::digits::{is_number, number_of};
 use bh_types::error::RequestError;
 use bh_types::id::{UploadId, VersionId};
-use bh_types::wanted::Wanted;
 use bh_types::refusal::Refusal;
-use hex::FromHexError;
+use bh_types::token::read_token;
+use bh_types::wanted::Wanted;
 use std::alloc::Global;
 
 /// The entries of a page where a request does not say how many, and the most that it gets.
@@ -23,13 +21,14 @@ const MAX_PART: u64 = 10_000;
 
 /// The number of 1 to 10 digits: InvalidArgument for another text.
 #[tactic(auto, unfolding(crate::specs::Numbers::short_number))]
-fn short_number(text: &[u8]) -> Result<u64, Refusal>
+fn short_number(text: &str) -> Result<u64, Refusal>
     ensures { result ≡ spec.short_number text.now }
 {
-    if !is_number(text) || text.len() > 10 {
+    let digits = text.as_bytes();
+    if !is_number(digits) || digits.len() > 10 {
         return Err(Refusal::InvalidArgument);
     }
-    match number_of(text) {
+    match number_of(digits) {
         Some(n) => Ok(n),
         None => unreachable!(),
     }
@@ -43,7 +42,7 @@ pub fn page_size(text: Option<&str>) -> Result<u64, Refusal>
 {
     match text {
         None => Ok(MAX_PAGE),
-        Some(text) => Ok(short_number(text.as_bytes())?.min(MAX_PAGE)),
+        Some(text) => Ok(short_number(text)?.min(MAX_PAGE)),
     }
 }
 
@@ -55,7 +54,7 @@ pub fn part_marker(text: Option<&str>) -> Result<u64, Refusal>
 {
     match text {
         None => Ok(0),
-        Some(text) => short_number(text.as_bytes()),
+        Some(text) => short_number(text),
     }
 }
 
@@ -75,15 +74,10 @@ pub fn part_number(text: Option<&str>) -> Result<u32, Refusal>
 
 /// The bytes that pairs of hexadecimal digits write (RFC 4648, section 8, in either case): InvalidArgument for
 /// another text.
-#[tactic(auto, unfolding(crate::specs::Numbers::token_in))]
 pub fn token_in(alloc: Global, text: &str) -> Result<Bytes, RequestError>
-    ensures { Gives (λ x. x) result (spec.token_in text.now) }
+    ensures { Gives (λ x. x) result (token_of text.now) }
 {
-    match hex::decode(alloc, text) {
-        Ok(bytes) => Ok(Bytes::new(bytes)),
-        Err(FromHexError::OutOfMemory) => Err(RequestError::OutOfMemory),
-        Err(_) => Err(RequestError::Refused(Refusal::InvalidArgument)),
-    }
+    Ok(Bytes::new(read_token(alloc, text)?))
 }
 
 /// The upload that a text is the id of, if it is an id.

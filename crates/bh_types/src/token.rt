@@ -3,10 +3,10 @@
 ghost use Rattle.std.specs.Prelude.{◌≡◌, IfOk};
 ghost use Rattle.std.specs.String.{string_bytes};
 ghost use Rattle.bh_types.specs.Outcomes.{Gives};
-ghost use Rattle.bh_docs.specs.Tokens as spec;
+ghost use Rattle.bh_types.specs.Tokens as spec;
 
-use bh_types::error::RequestError;
-use bh_types::refusal::Refusal;
+use crate::error::RequestError;
+use crate::refusal::Refusal;
 use hex::FromHexError;
 use std::alloc::{AllocError, Global};
 

@@ -2,8 +2,8 @@ use Rattle.std.proofs.Common.{ap, ◌∙◌, rules}
 use Rattle.std.proofs.lemmas.Result.{IfOk-weaker}
 use Rattle.hex.specs.Hex.{decode_of}
 use Rattle.hex.proofs.HexLemmas.{decode_of-encode_lower}
-use Rattle.bh_docs.specs.Tokens.{or_argument}
-use Rattle.bh_docs.proofs.token.token_text.Goals as goal
+use Rattle.bh_types.specs.Tokens.{or_argument}
+use Rattle.bh_types.proofs.token.token_text.Goals as goal
 
 pub returns-clause-reads_back : goal.returns-clause-reads_back
 returns-clause-reads_back c =
