@@ -1,10 +1,11 @@
 -- Which rows a text finds, and what it shows of each.
 use Rattle.std.specs.Prelude.{ℕ, Bool, ◌&&◌, ◌||◌, pos, [], ◌∷◌}
 use Rattle.std.specs.Ordering.{int_eq}
+use Rattle.std.specs.declared.cmp.Ordering.{Ordering}
 use Rattle.sqlite.specs.declared.types.Value.TheVariants.{Text, Blob}
 use Rattle.sqlite.specs.Order.{Row}
 use Rattle.sqlite_typed.specs.Columns.{or_null}
-use Rattle.sqlite_typed.specs.Tests.{bytes_eq}
+use Rattle.sqlite_typed.specs.Tests.{bytes_eq, bytes_cmp}
 use Rattle.bh_tables.specs.Schema.{Octets}
 use Rattle.bh_tables.specs.Typed.{HostRow, TenantRow, KeyRow, BucketRow, VersionRow, number}
 
@@ -19,6 +20,10 @@ is_key tenant name k = bytes_eq k.tenant tenant && bytes_eq k.name name
 abbrev pub is_bucket : Octets → Octets → BucketRow → Bool
 is_bucket tenant bucket b = bytes_eq b.tenant tenant && bytes_eq b.bucket bucket
 
+-- the version or marker of any key of a bucket
+abbrev pub is_in_bucket : Octets → Octets → VersionRow → Bool
+is_in_bucket tenant bucket v = bytes_eq v.tenant tenant && bytes_eq v.bucket bucket
+
 -- the version of this id, where 0 is `null`
 abbrev pub is_version : Octets → Octets → Octets → ℕ → VersionRow → Bool
 is_version tenant bucket okey id v = bytes_eq v.tenant tenant && (bytes_eq v.bucket bucket && (bytes_eq v.okey okey && int_eq (pos v.id) (pos id)))
@@ -30,6 +35,16 @@ is_entry tenant seq v = bytes_eq v.tenant tenant && int_eq (pos v.seq) (pos seq)
 -- a marker has size 0 and an empty checksum
 abbrev pub is_marked_right : VersionRow → Bool
 is_marked_right v = int_eq (pos v.marker) (pos 0) || (int_eq (pos v.size) (pos 0) && bytes_eq v.checksum [])
+
+-- ---- the rows of a listing
+
+-- the buckets of a tenant
+abbrev pub is_owned_bucket : Octets → BucketRow → Bool
+is_owned_bucket tenant b = bytes_eq b.tenant tenant
+
+-- by name, in byte order
+abbrev pub by_bucket : BucketRow → BucketRow → Ordering
+by_bucket a b = bytes_cmp a.bucket b.bucket
 
 -- ---- the columns that are asked for
 
@@ -44,6 +59,10 @@ shown_secret k = Text k.secret ∷ []
 
 abbrev pub shown_bucket : BucketRow → Row
 shown_bucket b = number b.created ∷ number b.state ∷ or_null number b.days ∷ []
+
+-- in a listing
+abbrev pub shown_entry : BucketRow → Row
+shown_entry b = Text b.bucket ∷ number b.created ∷ []
 
 abbrev pub shown_version : VersionRow → Row
 shown_version v = number v.seq ∷ number v.marker ∷ number v.stamp ∷ number v.size ∷ Text v.checksum ∷ Blob v.bytes ∷ []
