@@ -2,9 +2,9 @@
 # tests, without proof, in minutes. gate: every proof, wrong body, example and test, from nothing. times: the gate, and then
 # what each crate cost, in seconds of a processor ('tools/gate-times COMMAND..' tells it of any run). wrong-bodies: tries the
 # wrong bodies that the gate leaves out (wrong-bodies/README.md); of one crate by CRATE=bh_docs. lint: the layout of all sources.
-# bench: the program's speed and memory; lookups: the time of lookups by key at 1,000 and 100,000 rows on a file (both
-# bench/README.md). memory: the stored run with each allocation refused in turn.
-.PHONY: demo try build test gate times wrong-bodies lint bench lookups memory
+# bench: the program's speed and memory; lookups: the time of lookups by key at 1,000 and 100,000 rows on a file; versions:
+# that of requests on many versions and keys (all three bench/README.md). memory: the stored run with each allocation refused in turn.
+.PHONY: demo try build test gate times wrong-bodies lint bench lookups versions memory
 
 demo:
 	@tools/bucketd <crates/bucketd/stdin
@@ -35,6 +35,9 @@ bench:
 
 lookups:
 	@bench/lookups.py
+
+versions:
+	@bench/versions.py
 
 memory:
 	@tools/memory

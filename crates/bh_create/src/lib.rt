@@ -1,8 +1,8 @@
 //! Makes a host of buckets in an empty database.
 #![tactic(auto)]
 
-mod create;
 mod fill;
+mod host;
 mod tables;
 
-pub use create::{CreateError, create};
+pub use host::{CreateError, create};

@@ -1,75 +1,116 @@
 -- Steps of the machine as operations, and refusals with what they tell.
-use Rattle.std.proofs.Common.{◌≡◌, ℕ, None, Option, Result, Err, refl, ap}
+use Rattle.std.proofs.Common.{◌≡◌, ℕ, None, Option, Result, Ok, Err, refl, ap, sym, ◌∙◌}
+use Rattle.std.specs.Result.{result_map_both}
 use Rattle.bh_types.specs.Rejections.{plain, plainly}
 use Rattle.bh_types.specs.declared.refusal.Refusal.{Refusal}
 use Rattle.bh_types.specs.declared.refusal.Refusal.TheVariants.{NotImplemented}
-use Rattle.bh_model.specs.Operations.{create_bucket, put_object}
+use Rattle.bh_model.specs.Operations.{Answer, Outcome, create_bucket, head_bucket, delete_bucket, list_buckets, get_versioning, put_object, get_object, head_object, delete_object}
 use Rattle.bh_model.specs.State.{Octets, State as Machine}
-use Rattle.bh_machine.specs.Machine.{operated}
+use Rattle.bh_machine.specs.Machine.{set_versioning, operated}
 use Rattle.bh_operation.specs.declared.address.ObjectName.{ObjectName}
 use Rattle.bh_operation.specs.declared.operation.Operation.{Operation}
 use Rattle.bh_operation.specs.declared.operation.Operation.TheVariants.{ListBuckets, Usage, CreateBucket, HeadBucket, DeleteBucket, ListObjectsV2, ListObjectVersions, ListMultipartUploads, GetBucketVersioning, PutBucketVersioning, GetLifecycle, PutLifecycle, DeleteLifecycle, PutObject, CopyObject, GetObject, HeadObject, DeleteObject, CreateMultipartUpload, UploadPart, ListParts, CompleteMultipartUpload, AbortMultipartUpload}
 use Rattle.bh_types.specs.declared.wanted.Wanted.{Wanted}
 use Rattle.bh_tables.specs.Typed.{Tables}
+use Rattle.bh_storage.specs.Answers.{answer_view}
+use Rattle.bh_storage.specs.declared.answer.Answer.{Answer as Told}
+use Rattle.bh_view.specs.View.{view}
 use Rattle.bh_storage.specs.Calls.{Unless, GivesStep, Carries}
 use Rattle.bh_storage.specs.Errors.{step_rejected}
 use Rattle.bh_storage.specs.declared.error.StepError.{StepError}
 use Rattle.bh_storage.specs.declared.error.StepError.TheVariants.{Refused, Failed}
-use Rattle.bh_objects.specs.Answers.{get_current}
 
--- ---- an error that tells nothing more
+-- ---- what an operation gave, told as an answer
 
-pub unless_rejected : (e : StepError Refusal) (P : Type 0) → Unless {X = Unit {0}} (Err e) P → Unless {X = Unit {0}} (Err (step_rejected e)) P
-unless_rejected (Refused r) P h = h
-unless_rejected (Failed trouble) P h = tt
+pub unless_told : {X : Type 0} (made : X → Told) (outcome : Result X (StepError Refusal)) (P : Type 0) → Unless outcome P → Unless (result_map_both made step_rejected outcome) P
+unless_told made (Ok x) P h = h
+unless_told made (Err (Refused r)) P h = h
+unless_told made (Err (Failed trouble)) P h = tt
 
-module _ {Y : Type 0} (t : Octets) (step : Option Machine → Result (Y × Option Machine) Refusal) (old new : Tables) where
-  pub gives_plainly : (y : Y) → GivesStep t step y old new → GivesStep t (λ s. plainly (step s)) y old new
-  gives_plainly y g = record { gives = ap plainly g.gives; others = g.others; latest = g.latest }
-
-  pub carries_rejected : {X Z : Type 0} (shown : X → Y) (told : Z → Y) (e : StepError Refusal) → Carries {X = X} shown t step old new (Err e) → Carries {X = Z} told t (λ s. plainly (step s)) old new (Err (step_rejected e))
-  carries_rejected shown told (Refused r) h = (ap plainly h.0, h.1)
-  carries_rejected shown told (Failed trouble) h = tt
+pub carries_told : {X : Type 0} (t : Octets) (step : Option Machine → Result Outcome Refusal) (old new : Tables) (shown : X → Answer) (made : X → Told)
+    → ((x : X) → answer_view (made x) ≡ shown x) → (outcome : Result X (StepError Refusal)) → Carries shown t step old new outcome
+    → Carries answer_view t (λ s. plainly (step s)) old new (result_map_both made step_rejected outcome)
+carries_told t step old new shown made same (Ok x) g =
+    record { gives = ap plainly g.gives ∙ ap (λ y. Ok (y, view new t)) (sym (same x)); others = g.others; latest = g.latest }
+carries_told t step old new shown made same (Err (Refused r)) h = (ap plainly h.0, h.1)
+carries_told t step old new shown made same (Err (Failed trouble)) h = tt
 
 -- ---- the operations
 
-pub creates_bucket : (at : ℕ) (body bucket : Octets) → operated at body (CreateBucket bucket) ≡ (λ s. plainly (create_bucket at bucket s))
+pub lists_buckets : (at : ℕ) (body : Octets) → operated at body ListBuckets ≡ (λ s. plainly (list_buckets s))
+unfolding operated
+lists_buckets at body = refl
+
+pub creates_bucket : (at : ℕ) (body : Octets) (bucket : Octets) → operated at body (CreateBucket bucket) ≡ (λ s. plainly (create_bucket at bucket s))
 unfolding operated
 creates_bucket at body bucket = refl
 
-pub puts_object : (at : ℕ) (body : Octets) (object : ObjectName) (checksum : Option Octets) → operated at body (PutObject object checksum) ≡ (λ s. plainly (put_object at object.bucket object.key body None s))
+pub heads_bucket : (at : ℕ) (body : Octets) (bucket : Octets) → operated at body (HeadBucket bucket) ≡ (λ s. plainly (head_bucket bucket s))
+unfolding operated
+heads_bucket at body bucket = refl
+
+pub deletes_bucket : (at : ℕ) (body : Octets) (bucket : Octets) → operated at body (DeleteBucket bucket) ≡ (λ s. plainly (delete_bucket bucket s))
+unfolding operated
+deletes_bucket at body bucket = refl
+
+pub tells_versioning : (at : ℕ) (body : Octets) (bucket : Octets) → operated at body (GetBucketVersioning bucket) ≡ (λ s. plainly (get_versioning bucket s))
+unfolding operated
+tells_versioning at body bucket = refl
+
+pub sets_versioning : (at : ℕ) (body : Octets) (bucket : Octets) → operated at body (PutBucketVersioning bucket) ≡ (λ s. plainly (set_versioning bucket body s))
+unfolding operated
+sets_versioning at body bucket = refl
+
+pub puts_object : (at : ℕ) (body : Octets) (object : ObjectName) (checksum : Option Octets) → operated at body (PutObject object checksum) ≡ (λ s. plainly (put_object at object.bucket object.key body checksum s))
 unfolding operated
 puts_object at body object checksum = refl
 
-pub gets_object : (at : ℕ) (body : Octets) (object : ObjectName) (version : Wanted) (range : Option Octets) → operated at body (GetObject object version range) ≡ get_current object.bucket object.key
+pub gets_object : (at : ℕ) (body : Octets) (object : ObjectName) (version : Wanted) (range : Option Octets) → operated at body (GetObject object version range) ≡ get_object object.bucket object.key version range
 unfolding operated
 gets_object at body object version range = refl
 
--- all others are refused
-pub not_done : (at : ℕ) (body : Octets) (s : Option Machine) (operation : Operation) → ((bucket : Octets) → operation ≡ CreateBucket bucket → ⊥)
-    → ((object : ObjectName) (checksum : Option Octets) → operation ≡ PutObject object checksum → ⊥)
-    → ((object : ObjectName) (version : Wanted) (range : Option Octets) → operation ≡ GetObject object version range → ⊥) → operated at body operation s ≡ Err (plain NotImplemented)
+pub heads_object : (at : ℕ) (body : Octets) (object : ObjectName) (version : Wanted) → operated at body (HeadObject object version) ≡ head_object object.bucket object.key version
 unfolding operated
-not_done at body s ListBuckets bucket put get = refl
-not_done at body s Usage bucket put get = refl
-not_done at body s (CreateBucket x) bucket put get = absurd (bucket x refl)
-not_done at body s (HeadBucket x) bucket put get = refl
-not_done at body s (DeleteBucket x) bucket put get = refl
-not_done at body s (ListObjectsV2 x y z) bucket put get = refl
-not_done at body s (ListObjectVersions x y z) bucket put get = refl
-not_done at body s (ListMultipartUploads x y z) bucket put get = refl
-not_done at body s (GetBucketVersioning x) bucket put get = refl
-not_done at body s (PutBucketVersioning x) bucket put get = refl
-not_done at body s (GetLifecycle x) bucket put get = refl
-not_done at body s (PutLifecycle x) bucket put get = refl
-not_done at body s (DeleteLifecycle x) bucket put get = refl
-not_done at body s (PutObject x y) bucket put get = absurd (put x y refl)
-not_done at body s (CopyObject x y) bucket put get = refl
-not_done at body s (GetObject x y z) bucket put get = absurd (get x y z refl)
-not_done at body s (HeadObject x y) bucket put get = refl
-not_done at body s (DeleteObject x y) bucket put get = refl
-not_done at body s (CreateMultipartUpload x) bucket put get = refl
-not_done at body s (UploadPart x y z w) bucket put get = refl
-not_done at body s (ListParts x y z) bucket put get = refl
-not_done at body s (CompleteMultipartUpload x y) bucket put get = refl
-not_done at body s (AbortMultipartUpload x y) bucket put get = refl
+heads_object at body object version = refl
+
+pub deletes_object : (at : ℕ) (body : Octets) (object : ObjectName) (version : Wanted) → operated at body (DeleteObject object version) ≡ (λ s. plainly (delete_object at object.bucket object.key version s))
+unfolding operated
+deletes_object at body object version = refl
+
+-- all others are refused
+pub not_done : (at : ℕ) (body : Octets) (s : Option Machine) (operation : Operation)
+    → (operation ≡ ListBuckets → ⊥)
+    → ((bucket : Octets) → operation ≡ CreateBucket bucket → ⊥)
+    → ((bucket : Octets) → operation ≡ HeadBucket bucket → ⊥)
+    → ((bucket : Octets) → operation ≡ DeleteBucket bucket → ⊥)
+    → ((bucket : Octets) → operation ≡ GetBucketVersioning bucket → ⊥)
+    → ((bucket : Octets) → operation ≡ PutBucketVersioning bucket → ⊥)
+    → ((object : ObjectName) (checksum : Option Octets) → operation ≡ PutObject object checksum → ⊥)
+    → ((object : ObjectName) (version : Wanted) (range : Option Octets) → operation ≡ GetObject object version range → ⊥)
+    → ((object : ObjectName) (version : Wanted) → operation ≡ HeadObject object version → ⊥)
+    → ((object : ObjectName) (version : Wanted) → operation ≡ DeleteObject object version → ⊥)
+    → operated at body operation s ≡ Err (plain NotImplemented)
+unfolding operated
+not_done at body s ListBuckets list create head delete ask set put get look remove = absurd (list refl)
+not_done at body s Usage list create head delete ask set put get look remove = refl
+not_done at body s (CreateBucket x) list create head delete ask set put get look remove = absurd (create x refl)
+not_done at body s (HeadBucket x) list create head delete ask set put get look remove = absurd (head x refl)
+not_done at body s (DeleteBucket x) list create head delete ask set put get look remove = absurd (delete x refl)
+not_done at body s (ListObjectsV2 x y z) list create head delete ask set put get look remove = refl
+not_done at body s (ListObjectVersions x y z) list create head delete ask set put get look remove = refl
+not_done at body s (ListMultipartUploads x y z) list create head delete ask set put get look remove = refl
+not_done at body s (GetBucketVersioning x) list create head delete ask set put get look remove = absurd (ask x refl)
+not_done at body s (PutBucketVersioning x) list create head delete ask set put get look remove = absurd (set x refl)
+not_done at body s (GetLifecycle x) list create head delete ask set put get look remove = refl
+not_done at body s (PutLifecycle x) list create head delete ask set put get look remove = refl
+not_done at body s (DeleteLifecycle x) list create head delete ask set put get look remove = refl
+not_done at body s (PutObject x y) list create head delete ask set put get look remove = absurd (put x y refl)
+not_done at body s (CopyObject x y) list create head delete ask set put get look remove = refl
+not_done at body s (GetObject x y z) list create head delete ask set put get look remove = absurd (get x y z refl)
+not_done at body s (HeadObject x y) list create head delete ask set put get look remove = absurd (look x y refl)
+not_done at body s (DeleteObject x y) list create head delete ask set put get look remove = absurd (remove x y refl)
+not_done at body s (CreateMultipartUpload x) list create head delete ask set put get look remove = refl
+not_done at body s (UploadPart x y z w) list create head delete ask set put get look remove = refl
+not_done at body s (ListParts x y z) list create head delete ask set put get look remove = refl
+not_done at body s (CompleteMultipartUpload x y) list create head delete ask set put get look remove = refl
+not_done at body s (AbortMultipartUpload x y) list create head delete ask set put get look remove = refl

@@ -1,12 +1,13 @@
 //! Events on a host: each is applied in one transaction, and answered as its tenant's private machine answers it.
 #![tactic(auto)]
 
-mod apply;
+mod answers;
+mod event;
+mod events;
 pub mod laws;
 mod reply;
-mod run;
 mod serve;
 
-pub use apply::{Told, apply};
+pub use event::{Told, apply};
+pub use events::run;
 pub use reply::{Caller, Reply};
-pub use run::run;

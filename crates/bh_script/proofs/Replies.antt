@@ -10,7 +10,7 @@ use Rattle.bh_view.specs.Laws.{new_host}
 use Rattle.bh_host.specs.Answers.{told}
 use Rattle.bh_host.specs.Replies.{reply_bytes}
 use Rattle.bh_host.specs.Runs.{Told, Ran, RanOn}
-use Rattle.bh_host.specs.declared.apply.Told.{Told as ToldOf}
+use Rattle.bh_host.specs.declared.event.Told.{Told as ToldOf}
 use Rattle.bh_script.specs.Answers.{first_tables, AnewRan, reply_line, replies_text}
 
 -- what `run` says of a host with a new host's tables

@@ -1,11 +1,13 @@
 pub mod AccessKeys
 pub mod Checksums
 pub mod Counts
+pub mod Digits
 pub mod Ids
 pub mod Limits
 pub mod Moments
 pub mod Names
 pub mod Outcomes
+pub mod Ranges
 pub mod BucketStates
 pub mod Refusals
 pub mod Refusing

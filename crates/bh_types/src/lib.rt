@@ -12,6 +12,7 @@ pub mod key;
 pub mod limits;
 pub mod moment;
 pub mod names;
+pub mod range;
 pub mod refusal;
 pub mod rejection;
 pub mod wanted;

@@ -2,7 +2,7 @@ use Rattle.std.proofs.Common.{subst}
 use Rattle.std.proofs.lemmas.Result.{IfOk-weaker}
 use Rattle.bh_http.specs.Reading.{ReadsError}
 use Rattle.bh_host.proofs.Turning.{turns_unread}
-use Rattle.bh_host.proofs.apply.serve_request.Goals as goal
+use Rattle.bh_host.proofs.event.serve_request.Goals as goal
 
 pub returns-in-Err-clause-turned : goal.returns-in-Err-clause-turned
 returns-in-Err-clause-turned g c =

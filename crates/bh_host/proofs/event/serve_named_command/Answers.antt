@@ -4,7 +4,7 @@ use Rattle.bh_machine.specs.Machine.{Commanded}
 use Rattle.bh_storage.specs.Calls.{Clean, IsWorking}
 use Rattle.bh_host.specs.Turns.{Turned}
 use Rattle.bh_host.proofs.Turning.{if_ordered, limits_stay, turned_order}
-use Rattle.bh_host.proofs.apply.serve_named_command.Goals as goal
+use Rattle.bh_host.proofs.event.serve_named_command.Goals as goal
 
 pub returns-clause-turned : goal.returns-clause-turned
 returns-clause-turned g c =

@@ -3,7 +3,7 @@ use Rattle.bh_event.specs.Events.{arrival}
 use Rattle.bh_storage.specs.Calls.{Clean, IsAtRest}
 use Rattle.bh_host.specs.Answers.{told}
 use Rattle.bh_host.specs.Runs.{RanOn}
-use Rattle.bh_host.proofs.run.run.Given as goal
+use Rattle.bh_host.proofs.events.run.Given as goal
 
 -- so far it ran, and there is room for the rest
 abbrev pub invariant-loop-event : goal.invariant-loop-event

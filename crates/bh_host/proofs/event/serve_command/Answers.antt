@@ -1,7 +1,7 @@
 use Rattle.std.proofs.Common.{sym, ap, ◌∙◌}
 use Rattle.bh_event.specs.Events.{order_of}
 use Rattle.bh_host.proofs.Turning.{turned_nameless}
-use Rattle.bh_host.proofs.apply.serve_command.Goals as goal
+use Rattle.bh_host.proofs.event.serve_command.Goals as goal
 
 pub returns-in_ok-refusal_line-in-None-clause-turned : goal.returns-in_ok-refusal_line-in-None-clause-turned
 returns-in_ok-refusal_line-in-None-clause-turned g c = λ clean.

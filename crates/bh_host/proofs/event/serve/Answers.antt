@@ -1,6 +1,6 @@
 use Rattle.std.proofs.lemmas.Result.{IfOk-weaker}
 use Rattle.bh_host.proofs.Turning.{turns_request}
-use Rattle.bh_host.proofs.apply.serve.Goals as goal
+use Rattle.bh_host.proofs.event.serve.Goals as goal
 
 pub returns-in-Http-clause-turned : goal.returns-in-Http-clause-turned
 returns-in-Http-clause-turned g c =

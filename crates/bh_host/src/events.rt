@@ -6,7 +6,7 @@ ghost use Rattle.bh_storage.specs.Calls.{Clean, IsAtRest};
 ghost use Rattle.bh_host.specs.Answers.{told};
 ghost use Rattle.bh_host.specs.Runs.{HasRunOn, RanOn};
 
-use crate::apply::{Told, apply};
+use crate::event::{Told, apply};
 use bh_event::event::Event;
 use bh_storage::storage::Storage;
 use std::alloc::{AllocError, Global};

@@ -2,7 +2,7 @@ use Rattle.std.proofs.Common.{[], map, rules, subst, sym, ◌∙◌}
 use Rattle.bh_host.specs.Answers.{told}
 use Rattle.bh_host.specs.Runs.{RanOn}
 use Rattle.bh_host.proofs.Running.{ran_alone, ran_more, ran_none}
-use Rattle.bh_host.proofs.run.run.Goals as goal
+use Rattle.bh_host.proofs.events.run.Goals as goal
 
 pub loop-event-init : goal.loop-event-init
 loop-event-init g c =

@@ -1,0 +1,79 @@
+//! What operations give, as answers of a host's storage.
+ghost use Rattle.std.specs.Prelude.{◌≡◌, None, false};
+ghost use Rattle.std.specs.Result.{result_map_both};
+ghost use Rattle.bh_storage.specs.Errors.{step_rejected};
+ghost use Rattle.bh_storage.specs.declared.answer.Answer.TheVariants as answer;
+
+use bh_docs::BucketEntry;
+use bh_storage::answer::{Answer, RemovedEntry, StoredVersion};
+use bh_storage::error::StepError;
+use bh_types::bucket_state::BucketState;
+use bh_types::refusal::Refusal;
+use bh_types::rejection::Rejection;
+
+pub fn done(outcome: Result<(), StepError<Refusal>>) -> Result<Answer, StepError<Rejection>>
+    ensures { result ≡ result_map_both (λ _. answer.Done) step_rejected outcome }
+{
+    match outcome {
+        Ok(()) => Ok(Answer::Done),
+        Err(error) => Err(StepError::from(error)),
+    }
+}
+
+/// A bucket is gone, of which nothing more is told.
+pub fn gone(outcome: Result<(), StepError<Refusal>>) -> Result<Answer, StepError<Rejection>>
+    ensures { result
+        ≡ result_map_both (λ _. answer.Removed (record { id = None; marker = false })) step_rejected outcome }
+{
+    match outcome {
+        Ok(()) => Ok(Answer::Removed(RemovedEntry {
+            id: None,
+            marker: false,
+        })),
+        Err(error) => Err(StepError::from(error)),
+    }
+}
+
+pub fn removed(
+    outcome: Result<RemovedEntry, StepError<Refusal>>,
+) -> Result<Answer, StepError<Rejection>>
+    ensures { result ≡ result_map_both answer.Removed step_rejected outcome }
+{
+    match outcome {
+        Ok(entry) => Ok(Answer::Removed(entry)),
+        Err(error) => Err(StepError::from(error)),
+    }
+}
+
+pub fn stored(
+    outcome: Result<StoredVersion, StepError<Refusal>>,
+) -> Result<Answer, StepError<Rejection>>
+    ensures { result ≡ result_map_both answer.Stored step_rejected outcome }
+{
+    match outcome {
+        Ok(version) => Ok(Answer::Stored(version)),
+        Err(error) => Err(StepError::from(error)),
+    }
+}
+
+pub fn listed(
+    outcome: Result<Vec<BucketEntry>, StepError<Refusal>>,
+) -> Result<Answer, StepError<Rejection>>
+    ensures { result ≡ result_map_both answer.Buckets step_rejected outcome }
+{
+    match outcome {
+        Ok(buckets) => Ok(Answer::Buckets(buckets)),
+        Err(error) => Err(StepError::from(error)),
+    }
+}
+
+pub fn versioning(
+    outcome: Result<BucketState, StepError<Refusal>>,
+) -> Result<Answer, StepError<Rejection>>
+    ensures { result ≡ result_map_both answer.Versioning step_rejected outcome }
+{
+    match outcome {
+        Ok(state) => Ok(Answer::Versioning(state)),
+        Err(error) => Err(StepError::from(error)),
+    }
+}
