@@ -1,5 +1,5 @@
 -- What a text over one table does to all of a host's tables: the lemmas on texts, once for every table.
-use Rattle.std.proofs.Common.{◌≡◌, ℕ, List, [], ◌∷◌, ◌++◌, map, filter, Bool, true, None, Ok, Err, Result, OnOk, IfOk, IfErr, IsTrue, Ordering, subst}
+use Rattle.std.proofs.Common.{◌≡◌, ℕ, List, [], ◌∷◌, ◌++◌, map, filter, Bool, true, None, Ok, Err, Result, OnOk, IfOk, IfErr, IsTrue, Ordering, subst, take}
 use Rattle.sqlite.specs.Order.{Row}
 use Rattle.sqlite.specs.Tree.{Trees}
 use Rattle.sqlite.specs.State.{State, HasCleanDisk, IsLive, Survives, Executes, CommitsBy, CommitsShowing, Shown, FailsToQuery}
@@ -15,6 +15,7 @@ use Rattle.bh_rows.proofs.TextLemmas as text
 use Rattle.bh_tables.specs.Schema.{host_schema}
 use Rattle.bh_tables.specs.Typed.{IsHost, IsReady, Tables, tables}
 use Rattle.bh_tables.proofs.Places.{Place, Goes, orderly, turned}
+use Rattle.bh_tables.proofs.Terms.{one_row}
 
 -- how a write may end, which tables it leaves, and which errors it gives
 pub record Writes (old new : State) (change : Tables → Tables) (allowed : Error → Type 0) (result : Result ℕ Error) : Type 0 where
@@ -102,4 +103,13 @@ module _ {T : Type 0} (p : Place T) (old new : State) (ready : IsReady old) wher
   sorted rows_in result sql params m view order it ok err survives = record {
     asks = text.sorted_asks p.form host_schema p.table.tree old new ready_at sql params m view order no_limit it rows_in result ok err survives;
     rows = λ clean. subst (λ l. IfOk result (λ x. rows_in x ≡ map view (sort_by order (filter m l)))) (p.rows_are old.now) (text.select_sorted p.form host_schema p.table.tree old new ready_at sql params m view order no_limit it rows_in result ok survives clean);
+  }
+
+  -- the first of the rows that pass, in an order, as shown
+  pub selected_first : {X : Type 0} (rows_in : X → List Row) (result : Result X Error) (sql : List ℕ) (params : Row) (m : T → Bool) (view : T → Row) (order : T → T → Ordering) → SortedText p.form host_schema p.table.tree sql params m view order one_row
+      → (HasCleanDisk new → IfOk result (λ x. Shown sql params old new (rows_in x))) → (HasCleanDisk new → IfErr result (FailsToQuery sql params old new)) → Survives old new (CommitsShowing sql params old)
+      → Shows old new rows_in (λ t. take 1 (map view (sort_by order (filter m (p.rows t))))) result
+  selected_first rows_in result sql params m view order it ok err survives = record {
+    asks = text.sorted_asks p.form host_schema p.table.tree old new ready_at sql params m view order one_row it rows_in result ok err survives;
+    rows = λ clean. subst (λ l. IfOk result (λ x. rows_in x ≡ take 1 (map view (sort_by order (filter m l))))) (p.rows_are old.now) (text.select_sorted p.form host_schema p.table.tree old new ready_at sql params m view order one_row it rows_in result ok survives clean);
   }
