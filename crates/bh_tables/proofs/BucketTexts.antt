@@ -64,10 +64,10 @@ named tenant bucket v b lies is =
 pub empty_goes : (db : Database) → IsHost db → (tenant bucket : Octets) → list_any (is_in_bucket tenant bucket) (tables_in db).versions ≡ false → Goes buckets db.trees (is_bucket tenant bucket)
 unfolding everything
 empty_goes db host tenant bucket empty = (
-    none_points bucket_form version_form (db.trees 5) (db.trees 7) to_buckets (is_bucket tenant bucket) (λ v b. bytes_eq v.tenant b.tenant && bytes_eq v.bucket b.bucket) lies_in host.held.buckets host.held.versions
-        (none_named (λ v b. bytes_eq v.tenant b.tenant && bytes_eq v.bucket b.bucket) (is_bucket tenant bucket) (is_in_bucket tenant bucket) (named tenant bucket) (tables_in db).buckets (tables_in db).versions empty),
-    tt,
-  )
+  none_points bucket_form version_form (db.trees 5) (db.trees 7) to_buckets (is_bucket tenant bucket) (λ v b. bytes_eq v.tenant b.tenant && bytes_eq v.bucket b.bucket) lies_in host.held.buckets host.held.versions
+      (none_named (λ v b. bytes_eq v.tenant b.tenant && bytes_eq v.bucket b.bucket) (is_bucket tenant bucket) (is_in_bucket tenant bucket) (named tenant bucket) (tables_in db).buckets (tables_in db).versions empty),
+  tt,
+)
 
 -- ---- a state is one of three
 

@@ -1,4 +1,5 @@
 use Rattle.std.proofs.Common.{◌≡◌, None, false, Ok, sym, ap, ◌∙◌}
+use Rattle.std.proofs.lemmas.Result.{err_from_is_err_and}
 use Rattle.sqlite.specs.Held.{state}
 use Rattle.sqlite_keyed.specs.Lists.{delete_where}
 use Rattle.bh_model.specs.Operations.{Removed, delete_bucket}
@@ -10,7 +11,7 @@ use Rattle.bh_schema.specs.Layer.{IsStateClean}
 use Rattle.bh_storage.specs.Calls.{GivesStep}
 use Rattle.bh_schema.specs.Working.{tables_at}
 use Rattle.bh_objects.specs.Buckets.{emptiness}
-use Rattle.bh_objects.proofs.Buckets.{deletes}
+use Rattle.bh_objects.proofs.BucketSteps.{deletes, full_refused}
 use Rattle.bh_objects.proofs.buckets.delete_bucket.Given as given
 use Rattle.bh_objects.proofs.buckets.delete_bucket.Goals as goal
 
@@ -36,3 +37,12 @@ returns-in-Ok-clause-working g c clean = record { is = record { inside = (c.in-O
 
 pub returns-in-Ok-clause-carries : goal.returns-in-Ok-clause-carries
 returns-in-Ok-clause-carries g c clean = (done g c clean).0
+
+pub returns-in_err-require_empty-clause-carries : goal.returns-in_err-require_empty-clause-carries
+returns-in_err-require_empty-clause-carries g c clean =
+    let p = err_from_is_err_and c.from_residual-in_err-require_empty.result c.from_residual-in_err-require_empty.ensures.1 in
+    let clean_first = c.in_err-require_empty.ensures.within.follows.clean clean in
+    let clean_old = c.in_ok-bucket_state.ensures.within.follows.clean clean_first in
+    let one = c.in_ok-bucket_state.ensures.decides clean_first in
+    rw (p.1, p.2) (full_refused (tables_at (state g.S.Store c.args.connection.now)) (tables_at (state g.S.Store c.require_empty.new.connection)) c.args.tenant.now c.args.bucket.now _ one.0 (c.requires.working clean_old).sound
+    (tables_at (state g.S.Store c.bucket_state.new.connection)) (tables_at (state g.S.Store c.require_empty.new.connection)) c.in_err-require_empty.field-0.0 one.1 (c.in_err-require_empty.ensures.decides clean))

@@ -10,7 +10,7 @@ use Rattle.bh_view.specs.View.{limits_in}
 use Rattle.bh_schema.specs.Layer.{IsStateClean}
 use Rattle.bh_storage.specs.Calls.{GivesStep}
 use Rattle.bh_schema.specs.Working.{tables_at}
-use Rattle.bh_objects.proofs.Buckets.{sets_versioning}
+use Rattle.bh_objects.proofs.BucketSteps.{sets_versioning}
 use Rattle.bh_objects.proofs.buckets.set_versioning.Given as given
 use Rattle.bh_objects.proofs.buckets.set_versioning.Goals as goal
 

@@ -1,19 +1,16 @@
 -- Operations on buckets: what was read, and the rows that changed, are the machine's step.
-use Rattle.std.proofs.Common.{◌≡◌, ℕ, ◌≤◌, Bool, true, false, not, is_ok, true≢false, List, [], map, Option, Some, None, option_map, ok_or, Result, Ok, Err, refl, sym, ap, ap₂, ◌∙◌, ◌&&◌, arith}
+use Rattle.std.proofs.Common.{◌≡◌, ℕ, ◌≤◌, Bool, true, false, not, is_ok, true≢false, List, map, Option, None, Result, Ok, Err, refl, sym, ap, ap₂, ◌∙◌, ◌&&◌, arith}
 use Rattle.std.specs.List.{list_any}
-use Rattle.std.specs.Option.{option_map_or}
-use Rattle.std.specs.Result.{result_map_both}
-use Rattle.std.specs.FinMap.{get}
 use Rattle.sqlite_keyed.specs.Lists.{update_where, delete_where}
 use Rattle.bh_types.specs.BucketStates.{state_number}
-use Rattle.bh_types.specs.Outcomes.{◌>>=◌, require}
+use Rattle.bh_types.specs.Outcomes.{require}
 use Rattle.bh_types.specs.declared.bucket_state.BucketState.{BucketState}
 use Rattle.bh_types.specs.declared.bucket_state.BucketState.TheVariants.{Unversioned, Enabled, Suspended}
 use Rattle.bh_types.specs.declared.refusal.Refusal.{Refusal}
 use Rattle.bh_types.specs.declared.refusal.Refusal.TheVariants.{BucketNotEmpty}
 use Rattle.bh_model.specs.FinMaps.{is_empty}
-use Rattle.bh_model.specs.State.{Octets, State, Bucket}
-use Rattle.bh_model.specs.Operations.{Answer, Outcome, Done, Removed, Buckets, Versioning, tenant_bucket, bucket_list, head_bucket, delete_bucket, list_buckets, get_versioning, put_versioning}
+use Rattle.bh_model.specs.State.{Octets, State}
+use Rattle.bh_model.specs.Operations.{Answer, Outcome, Done, Removed, Buckets, Versioning, head_bucket, delete_bucket, list_buckets, get_versioning, put_versioning}
 use Rattle.bh_tables.specs.Typed.{Tables}
 use Rattle.bh_tables.specs.Shown.{is_bucket, is_in_bucket}
 use Rattle.bh_view.specs.View.{view, mode_of, latest_of, limits_in}
@@ -21,22 +18,13 @@ use Rattle.bh_view.specs.Sound.{IsSound}
 use Rattle.bh_view.proofs.BucketChanges.{bucket_removed, state_changed}
 use Rattle.bh_view.proofs.BucketListing.{buckets_listed, none_in_bucket, objects_empty, uploads_empty}
 use Rattle.bh_schema.specs.Rows.{entry_in, listed_buckets}
-use Rattle.bh_storage.specs.Calls.{GivesStep}
+use Rattle.bh_storage.specs.Answers.{removed_answer}
+use Rattle.bh_storage.specs.Calls.{GivesStep, Decides, Carries}
+use Rattle.bh_storage.specs.declared.error.StepError.{StepError}
+use Rattle.bh_storage.specs.declared.error.StepError.TheVariants.{Refused, Failed}
 use Rattle.bh_objects.specs.Found.{mode_in}
 use Rattle.bh_objects.specs.Buckets.{emptiness}
 use Rattle.bh_objects.proofs.Putting.{HasBucket, has_bucket}
-
--- what first asks for a bucket that is not there is refused so
-pub refused_first : {Y : Type 0} (next : State × Bucket → Result Y Refusal) (b : Octets) (v : Option State) (r : Refusal) → mode_in b v ≡ Err r → (tenant_bucket b v >>= next) ≡ Err r
-refused_first {Y} next b v r e = go (tenant_bucket b v) e
-  where
-    refusal_or : Result BucketState Refusal → Refusal
-    refusal_or (Ok mode) = r
-    refusal_or (Err x) = x
-
-    go : (o : Result (State × Bucket) Refusal) → result_map_both (λ (f : State × Bucket). f.1.mode) (λ refusal. refusal) o ≡ Err r → (o >>= next) ≡ Err r
-    go (Ok f) e = absurd (true≢false (ap is_ok e))
-    go (Err x) e = ap Err (ap refusal_or e)
 
 module _ (old new : Tables) (t b : Octets) (mode : BucketState) (found : mode_in b (view old t) ≡ Ok mode) where
   -- ---- questions
@@ -95,6 +83,10 @@ module _ (old new : Tables) (t b : Octets) (mode : BucketState) (found : mode_in
         let h = has_bucket b (view old t) mode found in
         let same : require {E = Refusal} (is_empty h.bucket.objects && is_empty h.bucket.uploads) BucketNotEmpty ≡ Err r = ap (λ x. require x BucketNotEmpty) (is_none_there h) ∙ full in
         rw (h.added, h.there, same) refl
+
+    pub full_refused : (first middle : Tables) (e : StepError Refusal) → first ≡ old → Decides (λ (_ : Unit {0}). tt) (emptiness t b first) first middle (Err e) → Carries removed_answer t (delete_bucket b) old middle (Err e)
+    full_refused first middle (Refused r) same full = (kept_full r (ap (emptiness t b) (sym same) ∙ full.0), full.1 ∙ same)
+    full_refused first middle (Failed trouble) same full = tt
 
 -- ---- the listing
 
