@@ -79,3 +79,11 @@ module _ {K T : Type 0} {R : K → K → Ordering} {is : K → K → Bool} (k : 
       | true ↦ λ e. subst (λ z. matching is child z children ≡ []) ((k.decides at q).0 e) childless
       | false ↦ λ e. refers q (ap first (sym (delete_other (λ x. is (key x) q) (λ r. is (key r) at) rows (λ x here. is_other k (key x) at (λ there. true≢false (sym ((k.decides at q).1 (sym there ∙ (k.decides (key x) q).0 here)) ∙ e))))) ∙ none)
     ] refl
+
+    -- parents that keep their keys
+    pub refers_updated : (rows : List T) (children : List U) (t : T → Bool) (f : T → T) → ((x : T) → key (f x) ≡ key x) → Refers is key rows child children → Refers is key (update_where t f rows) child children
+    refers_updated rows children t f keeps refers q none = refers q (none_there (matching is key q rows) (ap first (sym (update_here (λ x. is (key x) q) t f (λ x _. ap (λ z. is z q) (keeps x)) rows)) ∙ none))
+      where
+        none_there : (l : List T) → first (update_where t f l) ≡ None → first l ≡ None
+        none_there [] h = refl
+        none_there (x ∷ xs) h = absurd (none_some (sym h))

@@ -15,6 +15,7 @@ pub mod KeyChanges
 pub mod HostChanges
 pub mod TenantChanges
 pub mod BucketChanges
+pub mod BucketListing
 pub mod VersionChanges
 pub mod PutLemmas
 pub mod FindLemmas
