@@ -1,22 +1,29 @@
 -- How a step of the machine may be refused.
 use Rattle.std.proofs.Common.{◌≡◌, ℕ, Bool, true, false, List, Option, Some, None, Ok, Err, Result, refl, sym, subst, rules, IfErr, inl, inr}
-use Rattle.std.specs.Prelude.{ok_or, bytes_eq, nat_le, [], ◌∷◌, ◌&&◌, ◌^◌, is_none, is_some}
+use Rattle.std.specs.Prelude.{ok_or, bytes_eq, nat_le, nat_lt, min, ◌-◌, [], ◌∷◌, length, ◌&&◌, ◌^◌, is_none, is_some}
 use Rattle.std.specs.FinMap.{get}
+use Rattle.std.specs.List.{find}
 use Rattle.std.specs.Result.{result_map_both}
 use Rattle.std.proofs.lemmas.Bool.{cases_Bool}
 use Rattle.bh_types.specs.Counts.{Counts}
 use Rattle.bh_types.specs.Limits.{HostLimits}
 use Rattle.bh_types.specs.Names.{is_tenant_name, is_key_name, is_secret}
 use Rattle.bh_types.specs.Outcomes.{◌>>=◌, require}
+use Rattle.bh_types.specs.Ranges.{Asked as Range, Between, From, Last, asked_in, part, planned_if_asked, range_of}
 use Rattle.bh_types.specs.Refusing.{RefusedOnly}
 use Rattle.bh_types.specs.Rejections.{plain, plainly}
 use Rattle.bh_types.specs.declared.access_key.AccessKeyId.{AccessKeyId}
 use Rattle.bh_types.specs.declared.bucket_state.BucketState.{BucketState}
-use Rattle.bh_types.specs.declared.wanted.Wanted.TheVariants.{Current}
+use Rattle.bh_types.specs.declared.bucket_state.BucketState.TheVariants.{Unversioned, Enabled, Suspended}
+use Rattle.bh_types.specs.declared.range.RangePlan.{RangePlan}
+use Rattle.bh_types.specs.declared.wanted.Wanted.{Wanted}
+use Rattle.bh_types.specs.declared.wanted.Wanted.TheVariants.{Current, Named, Unknown}
 use Rattle.bh_types.specs.declared.refusal.Refusal.{Refusal}
 use Rattle.bh_types.specs.declared.refusal.Refusal.TheVariants.{BadRequest, NotImplemented, MissingContentLength, EntityTooLarge, AccessDenied, InvalidAccessKeyId, InvalidUri, InvalidBucketName, KeyTooLong, InvalidArgument, MalformedJson, NoSuchBucket, NoSuchKey, NoSuchVersion, NoSuchUpload, MethodNotAllowed, BucketAlreadyOwnedByYou, BucketNotEmpty, InvalidBucketState, NoSuchLifecycleConfiguration, InvalidPart, InvalidPartOrder, EntityTooSmall, QuotaExceeded, InvalidRange, BadDigest, IncompleteBody, InvalidRequest, CounterExhausted, ClockOutOfRange, ServiceUnavailable, TenantExists, NoSuchTenant, KeyExists, NoSuchKeyName, InvalidName, InvalidQuota, NotAHostFile, Unavailable}
 use Rattle.bh_types.specs.declared.rejection.Rejection.{Rejection}
 use Rattle.bh_types.proofs.Refusing.{then_only, require_only, ok_or_only, weaker_only}
+use Rattle.bh_docs.specs.Requests.{or_malformed, document_of, versioning_of}
+use Rattle.bh_docs.specs.Shapes.{data_of, versioning_shape}
 use Rattle.bh_event.specs.Events.{Order, AddTenant, AddKey, RemoveKey, Message, Requested, Ordered}
 use Rattle.bh_http.specs.Credentials.{key_field, secret_field, secret_of_both, secret_given, key_given}
 use Rattle.bh_http.specs.Fields.{Occurrence, Missing, Once, Repeated}
@@ -24,18 +31,20 @@ use Rattle.bh_http.specs.Refused.{is_reading_refusal}
 use Rattle.bh_http.specs.Views.{Taken}
 use Rattle.bh_http.proofs.Refused.{reads_only}
 use Rattle.bh_model.specs.declared.entries.LookupFault.{LookupFault}
-use Rattle.bh_model.specs.Counting.{counts, can_number, after_entry}
+use Rattle.bh_model.specs.Counting.{counts, can_number, after_entry, after_delete}
 use Rattle.bh_model.specs.Credentials.{authenticate, secret_of}
-use Rattle.bh_model.specs.Entries.{lookup, opened}
-use Rattle.bh_model.specs.Operations.{added_tenant, tenant_bucket, listed, unmarked, create_bucket, put_object, get_object}
+use Rattle.bh_model.specs.Entries.{has_id, lookup, opened, found_named}
+use Rattle.bh_model.specs.FinMaps.{is_empty}
+use Rattle.bh_model.specs.Operations.{Outcome, added_tenant, tenant_bucket, listed, not_found, wanted_version, out_of_range, planned, create_bucket, head_bucket, delete_bucket, get_versioning, put_object, get_object, head_object, delete_object}
+use Rattle.bh_model.specs.Parts.{is_checksum}
 use Rattle.bh_model.specs.Runs.{settled, purged_tenant}
-use Rattle.bh_model.specs.State.{Octets, Content, Content.Marker, Content.Body, Entry, State}
+use Rattle.bh_model.specs.State.{Octets, Content, Content.Marker, Content.Body, Entry, Bucket, State}
 use Rattle.bh_operation.specs.Operations.{operation}
 use Rattle.bh_operation.specs.Refused.{is_operation_refusal}
 use Rattle.bh_operation.specs.declared.operation.Operation.{Operation}
 use Rattle.bh_operation.specs.declared.operation.Operation.TheVariants as op
 use Rattle.bh_operation.proofs.Refused.{operation_only}
-use Rattle.bh_machine.specs.Machine.{Act, Acted, not_found, operated, requested, asked, ordered, change}
+use Rattle.bh_machine.specs.Machine.{Act, Acted, set_versioning, operated, requested, asked, ordered, change}
 use Rattle.bh_machine.specs.Refused.{StepRefusals, is_step_refusal as may}
 
 abbrev Only : {X : Type 0} → Result X Refusal → Type 0
@@ -124,57 +133,118 @@ opened_only : (refusal : Refusal) (e : Entry) (content : Content) → may refusa
 opened_only refusal e Marker only = only
 opened_only refusal e (Body bytes checksum) only = tt
 
-current_only : (entries : List Entry) → IfErr (lookup Current entries) fault_only
-current_only [] = refl
-current_only (e ∷ older) = opened_only NoSuchKey e e.content refl
+named_only : (found : Option Entry) → IfErr (found_named found) fault_only
+named_only None = refl
+named_only (Some e) = opened_only MethodNotAllowed e e.content refl
 
-fault_then : {A B : Type 0} (r : Result A LookupFault) (f : A → Result B LookupFault) → IfErr r fault_only → ((x : A) → IfErr (f x) fault_only) → IfErr (r >>= f) fault_only
-fault_then (Ok x) f only next = next x
-fault_then (Err e) f only next = only
-
-unmarked_only : {A : Type 0} (r : Result A Refusal) → Only r → IfErr (result_map_both (λ (x : A). x) unmarked r) fault_only
-unmarked_only (Ok x) only = tt
-unmarked_only (Err e) only = only
-
-got_only : (bucket key : Octets) (s : Option State) → IfErr (get_object bucket key Current s) fault_only
-got_only bucket key s =
-    fault_then (result_map_both (λ f. f) unmarked (tenant_bucket bucket s)) _ (unmarked_only (tenant_bucket bucket s) (ok_or_only may _ NoSuchBucket refl))
-    (λ f. fault_then (lookup Current (listed key f.1)) _ (current_only (listed key f.1)) (λ v. tt))
+lookup_only : (wanted : Wanted) (entries : List Entry) → IfErr (lookup wanted entries) fault_only
+lookup_only Current [] = refl
+lookup_only Current (e ∷ older) = opened_only NoSuchKey e e.content refl
+lookup_only (Named id) entries = named_only (find (has_id id) entries)
+lookup_only Unknown entries = refl
 
 not_found_told : {X : Type 0} (r : Result X LookupFault) → IfErr r fault_only → MaySay (result_map_both (λ (o : X). o) not_found r)
 not_found_told (Ok x) h = tt
 not_found_told (Err e) h = h
+
+found_bucket : (bucket : Octets) (s : Option State) → Only (tenant_bucket bucket s)
+found_bucket bucket s = ok_or_only may _ NoSuchBucket refl
+
+wanted_only : (bucket key : Octets) (wanted : Wanted) (s : Option State) → MaySay (wanted_version bucket key wanted s)
+wanted_only bucket key wanted s =
+    then_told (plainly (tenant_bucket bucket s)) _ (plainly_told (tenant_bucket bucket s) (found_bucket bucket s))
+    (λ f. then_told (result_map_both (λ v. v) not_found (lookup wanted (listed key f.1))) _ (not_found_told (lookup wanted (listed key f.1)) (lookup_only wanted (listed key f.1))) (λ v. tt))
+
+part_only : (has_bytes : Bool) (first last : ℕ) → Only (part has_bytes first last)
+part_only true first last = tt
+part_only false first last = refl
+
+asked_plan_only : (size : ℕ) (asked : Option Range) → Only (planned_if_asked asked size)
+asked_plan_only size None = tt
+asked_plan_only size (Some (Between first last)) = part_only (nat_lt first size) first (min last (size - 1))
+asked_plan_only size (Some (From first)) = part_only (nat_lt first size) first (size - 1)
+asked_plan_only size (Some (Last count)) = part_only (nat_lt 0 (min count size)) (size - min count size) (size - 1)
+
+range_only : (range : Option Octets) (size : ℕ) → Only (range_of range size)
+range_only None size = tt
+range_only (Some text) size = asked_plan_only size (asked_in text)
+
+out_of_range_told : (size : ℕ) (r : Result RangePlan Refusal) → Only r → MaySay (result_map_both (λ plan. plan) (out_of_range size) r)
+out_of_range_told size (Ok plan) only = tt
+out_of_range_told size (Err refusal) only = only
+
+planned_only : (range : Option Octets) (size : ℕ) → MaySay (planned range size)
+planned_only range size = out_of_range_told size (range_of range size) (range_only range size)
+
+got_only : (bucket key : Octets) (wanted : Wanted) (range : Option Octets) (s : Option State) → MaySay (get_object bucket key wanted range s)
+got_only bucket key wanted range s =
+    then_told (wanted_version bucket key wanted s) _ (wanted_only bucket key wanted s)
+    (λ f. then_told (planned range (length f.1.bytes)) _ (planned_only range (length f.1.bytes)) (λ plan. tt))
+
+headed_only : (bucket key : Octets) (wanted : Wanted) (s : Option State) → MaySay (head_object bucket key wanted s)
+headed_only bucket key wanted s = then_told (wanted_version bucket key wanted s) _ (wanted_only bucket key wanted s) (λ f. tt)
 
 created_only : (now : ℕ) (bucket : Octets) (s : Option State) → Only (create_bucket now bucket s)
 created_only now bucket s =
     then_only may (added_tenant s) _ (ok_or_only may s NoSuchTenant refl)
     (λ t. then_only may (require (is_none (get t.buckets bucket)) BucketAlreadyOwnedByYou) _ (require_only may (is_none (get t.buckets bucket)) BucketAlreadyOwnedByYou refl) (λ _. tt))
 
-put_only : (now : ℕ) (bucket key body : Octets) (s : Option State) → Only (put_object now bucket key body None s)
-put_only now bucket key body s =
-    then_only may (tenant_bucket bucket s) _ (ok_or_only may _ NoSuchBucket refl)
-    (λ f. then_only may (after_entry f.1.mode (counts f.0)) _ (numbers_only f.1.mode (counts f.0)) (λ c. tt))
+put_only : (now : ℕ) (bucket key body : Octets) (given : Option Octets) (s : Option State) → Only (put_object now bucket key body given s)
+put_only now bucket key body given s =
+    then_only may (tenant_bucket bucket s) _ (found_bucket bucket s)
+    (λ f. then_only may (require (is_checksum given body) BadDigest) _ (require_only may (is_checksum given body) BadDigest refl)
+    (λ _. then_only may (after_entry f.1.mode (counts f.0)) _ (numbers_only f.1.mode (counts f.0)) (λ c. tt)))
+
+delete_numbers_only : (mode : BucketState) (wanted : Wanted) (c : Counts) → Only (after_delete mode wanted c)
+delete_numbers_only Unversioned Current c = tt
+delete_numbers_only Enabled Current c = numbers_only Enabled c
+delete_numbers_only Suspended Current c = numbers_only Suspended c
+delete_numbers_only mode (Named id) c = tt
+delete_numbers_only mode Unknown c = tt
+
+deleted_only : (now : ℕ) (bucket key : Octets) (wanted : Wanted) (s : Option State) → Only (delete_object now bucket key wanted s)
+deleted_only now bucket key wanted s =
+    then_only may (tenant_bucket bucket s) _ (found_bucket bucket s)
+    (λ f. then_only may (after_delete f.1.mode wanted (counts f.0)) _ (delete_numbers_only f.1.mode wanted (counts f.0)) (λ c. tt))
+
+bucket_only : (bucket : Octets) (s : Option State) (f : State × Bucket → Result Outcome Refusal) → ((found : State × Bucket) → Only (f found)) → Only (tenant_bucket bucket s >>= f)
+bucket_only bucket s f next = then_only may (tenant_bucket bucket s) f (found_bucket bucket s) next
+
+bucket_gone_only : (bucket : Octets) (s : Option State) → Only (delete_bucket bucket s)
+bucket_gone_only bucket s =
+    bucket_only bucket s _
+    (λ f. then_only may (require (is_empty f.1.objects && is_empty f.1.uploads) BucketNotEmpty) _ (require_only may (is_empty f.1.objects && is_empty f.1.uploads) BucketNotEmpty refl) (λ _. tt))
+
+or_malformed_only : {A : Type 0} (o : Option A) → Only (or_malformed o)
+or_malformed_only None = refl
+or_malformed_only (Some a) = tt
+
+versioning_only : (body : Octets) → Only (versioning_of body)
+versioning_only body = then_only may (document_of body) _ (or_malformed_only (data_of body)) (λ document. or_malformed_only (versioning_shape document))
+
+set_only : (bucket body : Octets) (s : Option State) → Only (set_versioning bucket body s)
+set_only bucket body s = then_only may (versioning_of body) _ (versioning_only body) (λ mode. bucket_only bucket s _ (λ f. tt))
 
 operated_only : (now : ℕ) (body : Octets) (operation : Operation) (s : Option State) → MaySay (operated now body operation s)
 unfolding operated
 operated_only now body (op.CreateBucket bucket) s = plainly_told (create_bucket now bucket s) (created_only now bucket s)
-operated_only now body (op.PutObject object checksum) s = plainly_told (put_object now object.bucket object.key body None s) (put_only now object.bucket object.key body s)
-operated_only now body (op.GetObject object version range) s = not_found_told (get_object object.bucket object.key Current s) (got_only object.bucket object.key s)
-operated_only now body op.ListBuckets s = refl
+operated_only now body (op.PutObject object checksum) s = plainly_told (put_object now object.bucket object.key body checksum s) (put_only now object.bucket object.key body checksum s)
+operated_only now body (op.GetObject object version range) s = got_only object.bucket object.key version range s
+operated_only now body op.ListBuckets s = tt
 operated_only now body op.Usage s = refl
-operated_only now body (op.HeadBucket bucket) s = refl
-operated_only now body (op.DeleteBucket bucket) s = refl
+operated_only now body (op.HeadBucket bucket) s = plainly_told (head_bucket bucket s) (bucket_only bucket s _ (λ f. tt))
+operated_only now body (op.DeleteBucket bucket) s = plainly_told (delete_bucket bucket s) (bucket_gone_only bucket s)
 operated_only now body (op.ListObjectsV2 bucket page token) s = refl
 operated_only now body (op.ListObjectVersions bucket page after) s = refl
 operated_only now body (op.ListMultipartUploads bucket page after) s = refl
-operated_only now body (op.GetBucketVersioning bucket) s = refl
-operated_only now body (op.PutBucketVersioning bucket) s = refl
+operated_only now body (op.GetBucketVersioning bucket) s = plainly_told (get_versioning bucket s) (bucket_only bucket s _ (λ f. tt))
+operated_only now body (op.PutBucketVersioning bucket) s = plainly_told (set_versioning bucket body s) (set_only bucket body s)
 operated_only now body (op.GetLifecycle bucket) s = refl
 operated_only now body (op.PutLifecycle bucket) s = refl
 operated_only now body (op.DeleteLifecycle bucket) s = refl
 operated_only now body (op.CopyObject object source) s = refl
-operated_only now body (op.HeadObject object version) s = refl
-operated_only now body (op.DeleteObject object version) s = refl
+operated_only now body (op.HeadObject object version) s = headed_only object.bucket object.key version s
+operated_only now body (op.DeleteObject object version) s = plainly_told (delete_object now object.bucket object.key version s) (deleted_only now object.bucket object.key version s)
 operated_only now body (op.CreateMultipartUpload object) s = refl
 operated_only now body (op.UploadPart object upload number checksum) s = refl
 operated_only now body (op.ListParts object upload page) s = refl

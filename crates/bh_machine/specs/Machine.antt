@@ -1,28 +1,24 @@
 -- The private machine of a host: what an event turns out to be, whose it is, and what it makes of its owner's state.
-use Rattle.std.specs.Prelude.{◌≡◌, ℕ, Option, None, ok_or, Result, Ok, Err, if◌then◌else◌}
-use Rattle.std.specs.Result.{result_map_both}
+use Rattle.std.specs.Prelude.{◌≡◌, ℕ, Option, None, ok_or, Result, Ok, Err}
 use Rattle.bh_types.specs.AccessKeys.{tenant_named}
 use Rattle.bh_types.specs.Limits.{HostLimits}
 use Rattle.bh_types.specs.Outcomes.{◌>>=◌}
 use Rattle.bh_types.specs.Rejections.{plain, plainly}
-use Rattle.bh_types.specs.declared.wanted.Wanted.TheVariants.{Current}
 use Rattle.bh_types.specs.declared.refusal.Refusal.{Refusal}
-use Rattle.bh_types.specs.declared.refusal.Refusal.TheVariants.{InvalidAccessKeyId, MethodNotAllowed, NotImplemented}
-use Rattle.bh_types.specs.declared.rejection.Detail.{Detail}
-use Rattle.bh_types.specs.declared.rejection.Detail.TheVariants.{Nothing, CurrentMarker, NamedMarker}
+use Rattle.bh_types.specs.declared.refusal.Refusal.TheVariants.{InvalidAccessKeyId, NotImplemented}
 use Rattle.bh_types.specs.declared.rejection.Rejection.{Rejection}
+use Rattle.bh_docs.specs.Requests.{versioning_of}
 use Rattle.bh_event.specs.Events.{Order, AddTenant, AddKey, RemoveKey, Message, Requested, Ordered}
 use Rattle.bh_http.specs.Credentials.{owner, key_given, secret_given}
 use Rattle.bh_http.specs.Reading.{Reads}
 use Rattle.bh_http.specs.Views.{Taken}
 use Rattle.bh_model.specs.Credentials.{authenticate}
-use Rattle.bh_model.specs.Operations.{Answer, Outcome, add_tenant, add_key, remove_key, create_bucket, put_object, get_object}
+use Rattle.bh_model.specs.Operations.{Answer, Outcome, add_tenant, add_key, remove_key, create_bucket, head_bucket, delete_bucket, list_buckets, get_versioning, put_versioning, put_object, get_object, head_object, delete_object}
 use Rattle.bh_model.specs.Runs as runs
 use Rattle.bh_model.specs.State.{Octets, State}
-use Rattle.bh_model.specs.declared.entries.LookupFault.{LookupFault}
 use Rattle.bh_operation.specs.Operations.{operation}
 use Rattle.bh_operation.specs.declared.operation.Operation.{Operation}
-use Rattle.bh_operation.specs.declared.operation.Operation.TheVariants.{CreateBucket, PutObject, GetObject}
+use Rattle.bh_operation.specs.declared.operation.Operation.TheVariants.{ListBuckets, CreateBucket, HeadBucket, DeleteBucket, GetBucketVersioning, PutBucketVersioning, PutObject, GetObject, HeadObject, DeleteObject}
 
 -- ---- acts
 
@@ -52,21 +48,25 @@ owner_of (Commanded order) = tenant_named (tenant_of order)
 
 -- ---- operations
 
--- which marker was met, by how its version was asked for
-abbrev pub marker_met : Refusal → Detail
-marker_met MethodNotAllowed = NamedMarker
-marker_met refusal = CurrentMarker
+-- the document says what the bucket's versioning is to be
+abbrev pub set_versioning : Octets → Octets → Option State → Result Outcome Refusal
+set_versioning bucket body s = do
+  mode ← versioning_of body
+  put_versioning bucket mode s
 
--- a lookup that found no object tells whether it met a delete marker
-abbrev pub not_found : LookupFault → Rejection
-not_found fault = record { refusal = fault.refusal; detail = if fault.marker then marker_met fault.refusal else Nothing }
-
--- an operation at a moment; those that the host doesn't carry out yet are refused. A version id, a range and a checksum
--- are read, and not yet looked at here
+-- an operation at a moment; those that the host doesn't carry out yet are refused. The document of a request is read
+-- before anything is looked at
 unfoldable pub operated : ℕ → Octets → Operation → Option State → Result Outcome Rejection
+operated now body ListBuckets s = plainly (list_buckets s)
 operated now body (CreateBucket bucket) s = plainly (create_bucket now bucket s)
-operated now body (PutObject object checksum) s = plainly (put_object now object.bucket object.key body None s)
-operated now body (GetObject object version range) s = result_map_both (λ o. o) not_found (get_object object.bucket object.key Current s)
+operated now body (HeadBucket bucket) s = plainly (head_bucket bucket s)
+operated now body (DeleteBucket bucket) s = plainly (delete_bucket bucket s)
+operated now body (GetBucketVersioning bucket) s = plainly (get_versioning bucket s)
+operated now body (PutBucketVersioning bucket) s = plainly (set_versioning bucket body s)
+operated now body (PutObject object checksum) s = plainly (put_object now object.bucket object.key body checksum s)
+operated now body (GetObject object version range) s = get_object object.bucket object.key version range s
+operated now body (HeadObject object version) s = head_object object.bucket object.key version s
+operated now body (DeleteObject object version) s = plainly (delete_object now object.bucket object.key version s)
 operated now body other s = Err (plain NotImplemented)
 
 -- ---- requests and orders

@@ -1,19 +1,21 @@
 -- What was put is what is read.
-use Rattle.std.proofs.Common.{◌≡◌, ℕ, List, [], Option, Some, None, option_map, unwrap_or, Result, Ok, refl, ap, ◌∙◌, ok_or}
+use Rattle.std.proofs.Common.{◌≡◌, ℕ, List, [], length, Option, Some, None, option_map, unwrap_or, Result, Ok, refl, ap, ◌∙◌, ok_or}
 use Rattle.std.specs.Result.{IfOk, result_map_both}
 use Rattle.std.specs.FinMap.{get}
 use Rattle.bh_types.specs.declared.id.VersionId.{VersionId}
 use Rattle.bh_types.specs.declared.wanted.Wanted.TheVariants.{Current}
 use Rattle.bh_types.specs.declared.refusal.Refusal.{Refusal}
-use Rattle.bh_model.specs.declared.entries.LookupFault.{LookupFault}
+use Rattle.bh_types.specs.declared.range.RangePlan.TheVariants.{Whole}
+use Rattle.bh_types.specs.declared.rejection.Rejection.{Rejection}
+use Rattle.bh_types.specs.Rejections.{plainly}
 use Rattle.bh_types.specs.declared.refusal.Refusal.TheVariants.{NoSuchBucket, BadDigest, CounterExhausted}
 use Rattle.bh_model.specs.State.{Octets, Content.Body, Entry, Bucket, State}
 use Rattle.bh_types.specs.Outcomes.{◌>>=◌, require}
 use Rattle.bh_types.specs.Checksums.{checksum_text}
 use Rattle.bh_model.specs.Counting.{counts, with_counts, can_number, numbered, after_entry}
-use Rattle.bh_model.specs.Entries.{added, new_id, found_current, lookup}
+use Rattle.bh_model.specs.Entries.{Version, added, new_id, found_current, lookup}
 use Rattle.bh_model.specs.Parts.{is_checksum}
-use Rattle.bh_model.specs.Operations.{Outcome, Answer.Stored, Answer.Object, id_told, listed, with_bucket, with_object, shown, stored, unmarked, get_object}
+use Rattle.bh_model.specs.Operations.{Answer, Outcome, Answer.Stored, Answer.Object, id_told, listed, with_bucket, with_object, shown, stored, not_found, planned, get_object}
 use Rattle.bh_model.specs.Laws.{PutIsRead}
 use Rattle.bh_model.proofs.KeyLemmas.{get-inserted, tested}
 
@@ -30,24 +32,39 @@ module _ (moment : ℕ) (name key bytes : Octets) where
   listed-with_object : (next : ℕ) (b : Bucket) → listed key (with_object moment key next bytes b) ≡ added b.mode next moment (Body bytes (checksum_text bytes)) (listed key b)
   listed-with_object next b = ap (λ o. unwrap_or o []) (get-inserted b.objects key (added b.mode next moment (Body bytes (checksum_text bytes)) (listed key b)))
 
-  abbrev get_in : State → Option Bucket → Result Outcome LookupFault
+  abbrev version_in : State → Option Bucket → Result (Bucket × Version) Rejection
+  version_in t o = do
+    f ← plainly (with_found t o)
+    v ← result_map_both (λ v. v) not_found (lookup Current (listed key f.1))
+    Ok (f.1, v)
+
+  abbrev get_in : State → Option Bucket → Result Outcome Rejection
   get_in t o = do
-    f ← result_map_both (λ f. f) unmarked (with_found t o)
-    v ← lookup Current (listed key f.1)
-    Ok (shown f.1 v, Some t)
+    f ← version_in t o
+    plan ← planned None (length f.1.bytes)
+    Ok (shown f.0 f.1 plan, Some t)
 
-  abbrev get_from : State → Bucket → List Entry → Result Outcome LookupFault
+  abbrev version_from : Bucket → List Entry → Result (Bucket × Version) Rejection
+  version_from b entries = do
+    v ← result_map_both (λ v. v) not_found (found_current entries)
+    Ok (b, v)
+
+  abbrev get_from : State → Bucket → List Entry → Result Outcome Rejection
   get_from t b entries = do
-    v ← found_current entries
-    Ok (shown b v, Some t)
+    f ← version_from b entries
+    plan ← planned None (length f.1.bytes)
+    Ok (shown f.0 f.1 plan, Some t)
 
-  read : (t : State) (b : Bucket) → get_object name key Current (Some (put_state t b)) ≡ Ok (Object (id_of t b) bytes (checksum_text bytes), Some (put_state t b))
+  abbrev read_answer : Option VersionId → Answer
+  read_answer id = Object id (length bytes) Whole bytes (checksum_text bytes)
+
+  read : (t : State) (b : Bucket) → get_object name key Current None (Some (put_state t b)) ≡ Ok (read_answer (id_of t b), Some (put_state t b))
   read t b =
       ap (get_in (put_state t b)) (get-inserted t.buckets name (with_object moment key t.next_version bytes b))
       ∙ ap (get_from (put_state t b) (with_object moment key t.next_version bytes b)) (listed-with_object t.next_version b)
 
   abbrev IsRead : Outcome → Type 0
-  IsRead put = (id : Option VersionId) × (put.0 ≡ Stored id (checksum_text bytes)) × (get_object name key Current put.1 ≡ Ok (Object id bytes (checksum_text bytes), put.1))
+  IsRead put = (id : Option VersionId) × (put.0 ≡ Stored id (checksum_text bytes)) × (get_object name key Current None put.1 ≡ Ok (read_answer id, put.1))
 
   abbrev put_in : Option Octets → State → Option Bucket → Result Outcome Refusal
   put_in given t o = do

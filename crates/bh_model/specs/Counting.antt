@@ -3,6 +3,8 @@ use Rattle.std.specs.Prelude.{ℕ, ◌+◌, ◌-◌, ◌^◌, ◌≤◌, Bool, �
 use Rattle.bh_types.specs.Counts.{Counts}
 use Rattle.bh_types.specs.declared.bucket_state.BucketState.{BucketState}
 use Rattle.bh_types.specs.declared.bucket_state.BucketState.TheVariants.{Unversioned, Enabled, Suspended}
+use Rattle.bh_types.specs.declared.wanted.Wanted.{Wanted}
+use Rattle.bh_types.specs.declared.wanted.Wanted.TheVariants.{Current, Named, Unknown}
 use Rattle.bh_types.specs.declared.refusal.Refusal.{Refusal}
 use Rattle.bh_types.specs.declared.refusal.Refusal.TheVariants.{CounterExhausted}
 use Rattle.bh_model.specs.State.{State}
@@ -32,6 +34,14 @@ numbered Suspended c = record c { entry = c.entry + 1 }
 -- the counters once a new version or marker in a bucket of this state has its numbers
 abbrev pub after_entry : BucketState → Counts → Result Counts Refusal
 after_entry mode c = if can_number mode c then Ok (numbered mode c) else Err CounterExhausted
+
+-- a delete takes numbers only for a marker that it makes
+abbrev pub after_delete : BucketState → Wanted → Counts → Result Counts Refusal
+after_delete Unversioned Current c = Ok c
+after_delete Enabled Current c = after_entry Enabled c
+after_delete Suspended Current c = after_entry Suspended c
+after_delete mode (Named id) c = Ok c
+after_delete mode Unknown c = Ok c
 
 -- no counter of the first is above that of the second
 abbrev pub AtMost : Counts → Counts → Type 0

@@ -1,8 +1,8 @@
 -- Finite maps: one key's value set or taken out, each value changed, and the sum of a size over the values.
-use Rattle.std.specs.Prelude.{ℕ, List, [], ◌∷◌, Option, Some, None, option_map, option_and_then}
+use Rattle.std.specs.Prelude.{ℕ, Bool, ◌==◌, List, [], ◌∷◌, Option, Some, None, option_map, option_and_then}
 use Rattle.std.specs.List.{filter_map, sum_by}
 use Rattle.std.specs.declared.cmp.Ordering.{Ordering}
-use Rattle.std.specs.FinMap.{FinMap, from_entries, entries, get, insert, remove}
+use Rattle.std.specs.FinMap.{FinMap, from_entries, entries, get, insert, remove, len}
 
 -- a list as the value of a key, where a key with an empty list is not in the map
 abbrev pub non_empty : {X : Type 0} → List X → Option (List X)
@@ -15,6 +15,10 @@ module _ {K X : Type 0} (R : K → K → Ordering) where
   tabulate key value items = from_entries (filter_map (λ t. option_map (λ x. (key t, x)) (value (key t))) items)
 
 module _ {K X : Type 0} {R : K → K → Ordering} where
+  -- whether no key has a value
+  abbrev pub is_empty : FinMap R X → Bool
+  is_empty m = len m == 0
+
   -- the map with this value at a key, or with none there
   abbrev pub set_at : FinMap R X → K → Option X → FinMap R X
   set_at m k None = remove m k

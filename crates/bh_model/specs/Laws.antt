@@ -1,5 +1,5 @@
 -- What shows that the definitions are the intended ones.
-use Rattle.std.specs.Prelude.{◌≡◌, ◌≢◌, ◌++◌, ◌∷◌, Err, ℕ, ◌≤◌, false, ◌&&◌, List, drop, Option, Some, None, Result, Ok, IfOk}
+use Rattle.std.specs.Prelude.{◌≡◌, ◌≢◌, ◌++◌, ◌∷◌, Err, ℕ, ◌≤◌, false, ◌&&◌, List, length, drop, Option, Some, None, Result, Ok, IfOk}
 use Rattle.std.specs.List.{list_any}
 use Rattle.bh_types.specs.declared.id.VersionId.{VersionId}
 use Rattle.bh_types.specs.declared.id.VersionId.TheVariants.{Null, Numbered}
@@ -7,6 +7,7 @@ use Rattle.bh_types.specs.declared.bucket_state.BucketState.{BucketState}
 use Rattle.bh_types.specs.declared.bucket_state.BucketState.TheVariants.{Enabled, Suspended}
 use Rattle.bh_types.specs.declared.wanted.Wanted.{Wanted}
 use Rattle.bh_types.specs.declared.wanted.Wanted.TheVariants.{Current, Named}
+use Rattle.bh_types.specs.declared.range.RangePlan.TheVariants.{Whole}
 use Rattle.bh_types.specs.declared.refusal.Refusal.TheVariants.{NoSuchVersion, AccessDenied, InvalidAccessKeyId}
 use Rattle.bh_model.specs.State.{Octets, Content.Body, Entry, State, purged}
 use Rattle.bh_model.specs.Counting.{counts, AtMost}
@@ -15,7 +16,7 @@ use Rattle.bh_types.specs.Checksums.{checksum_text}
 use Rattle.bh_types.specs.AccessKeys.{access_key}
 use Rattle.bh_types.specs.declared.access_key.AccessKeyId.{AccessKeyId}
 use Rattle.bh_model.specs.Credentials.{authenticate}
-use Rattle.bh_model.specs.Operations.{Answer.Stored, Answer.Object, add_tenant, add_key, remove_key, create_bucket, put_object, get_object}
+use Rattle.bh_model.specs.Operations.{Answer.Stored, Answer.Object, add_tenant, add_key, remove_key, create_bucket, delete_bucket, put_versioning, put_object, get_object, delete_object}
 use Rattle.bh_model.specs.Runs.{solo, solo_state, step, Follows}
 
 -- to purge, and then at a later moment, is to purge at the later one
@@ -51,7 +52,7 @@ SuspendedDeleteClears = (next moment : ℕ) (entries : List Entry)
 abbrev pub PutIsRead : Type 0
 PutIsRead = (moment : ℕ) (name key bytes : Octets) (given : Option Octets) (s : Option State)
     → IfOk (put_object moment name key bytes given s) (λ put.
-    (id : Option VersionId) × (put.0 ≡ Stored id (checksum_text bytes)) × (get_object name key Current put.1 ≡ Ok (Object id bytes (checksum_text bytes), put.1)))
+    (id : Option VersionId) × (put.0 ≡ Stored id (checksum_text bytes)) × (get_object name key Current None put.1 ≡ Ok (Object id (length bytes) Whole bytes (checksum_text bytes), put.1)))
 
 -- 36 is '$'
 abbrev pub key_id : Octets → Octets → Octets
@@ -88,7 +89,10 @@ pub record CountersRise : Type 0 where
   pub remove_key_rises : (tenant name : Octets) → AlwaysRises (remove_key tenant name)
   pub create_bucket_rises : (moment : ℕ) (name : Octets) → AlwaysRises (create_bucket moment name)
   pub put_object_rises : (moment : ℕ) (name key bytes : Octets) (given : Option Octets) → AlwaysRises (put_object moment name key bytes given)
-  pub get_object_rises : (name key : Octets) (wanted : Wanted) → AlwaysRises (get_object name key wanted)
+  pub get_object_rises : (name key : Octets) (wanted : Wanted) (range : Option Octets) → AlwaysRises (get_object name key wanted range)
+  pub delete_object_rises : (moment : ℕ) (name key : Octets) (wanted : Wanted) → AlwaysRises (delete_object moment name key wanted)
+  pub delete_bucket_rises : (name : Octets) → AlwaysRises (delete_bucket name)
+  pub put_versioning_rises : (name : Octets) (mode : BucketState) → AlwaysRises (put_versioning name mode)
 
 -- so no counter goes down in a step that purges first and then makes such a change, or is refused
 abbrev pub StepsRise : Type 0 → Type 0 → Type 0 → Type 0

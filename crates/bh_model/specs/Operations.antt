@@ -1,29 +1,44 @@
 -- What each operation and each command of the operator makes of a tenant's state, and what it answers. The
 -- refusals stand in their order. A state that is absent is that of a tenant that was not added.
-use Rattle.std.specs.Prelude.{ℕ, ◌^◌, false, ◌&&◌, nat_le, Option, Some, None, option_and_then, option_map, is_none, is_some, unwrap_or, List, [], ok_or, Result, Ok}
+use Rattle.std.specs.Prelude.{ℕ, ◌^◌, Bool, true, false, not, ◌&&◌, nat_le, Option, Some, None, option_and_then, option_map, is_none, is_some, unwrap_or, List, [], length, map, ok_or, Result, Ok, if◌then◌else◌}
+use Rattle.std.specs.List.{find}
+use Rattle.std.specs.Option.{option_map_or}
 use Rattle.std.specs.Result.{result_map_both}
-use Rattle.std.specs.FinMap.{get, insert, remove}
+use Rattle.std.specs.FinMap.{entries, get, insert, remove}
 use Rattle.bh_types.specs.Names.{is_tenant_name, is_key_name, is_secret}
 use Rattle.bh_types.specs.declared.id.VersionId.{VersionId}
 use Rattle.bh_types.specs.declared.bucket_state.BucketState.{BucketState}
 use Rattle.bh_types.specs.declared.bucket_state.BucketState.TheVariants.{Unversioned, Enabled, Suspended}
-use Rattle.bh_types.specs.declared.wanted.Wanted.{Wanted}
+use Rattle.bh_types.specs.declared.range.RangePlan.{RangePlan}
 use Rattle.bh_types.specs.declared.refusal.Refusal.{Refusal}
-use Rattle.bh_types.specs.declared.refusal.Refusal.TheVariants.{NoSuchBucket, BucketAlreadyOwnedByYou, BadDigest, TenantExists, NoSuchTenant, KeyExists, NoSuchKeyName, InvalidName, InvalidQuota}
+use Rattle.bh_types.specs.declared.refusal.Refusal.TheVariants.{NoSuchBucket, MethodNotAllowed, BucketAlreadyOwnedByYou, BucketNotEmpty, BadDigest, TenantExists, NoSuchTenant, KeyExists, NoSuchKeyName, InvalidName, InvalidQuota}
+use Rattle.bh_types.specs.declared.rejection.Detail.{Detail}
+use Rattle.bh_types.specs.declared.rejection.Detail.TheVariants.{Nothing, CurrentMarker, NamedMarker, ObjectSize}
+use Rattle.bh_types.specs.declared.rejection.Rejection.{Rejection}
+use Rattle.bh_types.specs.declared.wanted.Wanted.{Wanted}
+use Rattle.bh_types.specs.declared.wanted.Wanted.TheVariants.{Current, Named, Unknown}
 use Rattle.bh_model.specs.declared.entries.LookupFault.{LookupFault}
-use Rattle.bh_model.specs.FinMaps.{set_at, non_empty}
+use Rattle.bh_model.specs.FinMaps.{is_empty, set_at, non_empty}
 use Rattle.bh_model.specs.State.{Octets, Content.Body, Entry, Bucket, State, new_tenant, new_bucket}
 use Rattle.bh_types.specs.Checksums.{checksum_text}
 use Rattle.bh_types.specs.Outcomes.{◌>>=◌, require}
-use Rattle.bh_model.specs.Counting.{counts, with_counts, after_entry}
-use Rattle.bh_model.specs.Entries.{Version, added, new_id, lookup}
+use Rattle.bh_types.specs.Ranges.{range_of, cut}
+use Rattle.bh_types.specs.Rejections.{plainly}
+use Rattle.bh_model.specs.Counting.{counts, with_counts, after_entry, after_delete}
+use Rattle.bh_model.specs.Entries.{Version, has_id, is_version, added, deleted, new_id, lookup}
 use Rattle.bh_model.specs.Parts.{is_checksum}
 
--- what is told where nothing is refused. An id is told where the bucket is or was versioned
+-- what is told where nothing is refused. An id is told where the bucket is or was versioned. `Removed` says whether a
+-- marker was made or taken out. `Head` and `Object` tell the whole object's size, `Object` with the bytes that its plan
+-- names. Buckets are told with their moments, in the order of their names
 pub data Answer : Type 0 where
   Done : Answer
+  Removed : (id : Option VersionId) (marker : Bool) → Answer
   Stored : (id : Option VersionId) (checksum : Octets) → Answer
-  Object : (id : Option VersionId) (bytes checksum : Octets) → Answer
+  Head : (id : Option VersionId) (size : ℕ) (checksum : Octets) → Answer
+  Object : (id : Option VersionId) (size : ℕ) (plan : RangePlan) (bytes checksum : Octets) → Answer
+  Buckets : (buckets : List (Octets × ℕ)) → Answer
+  Versioning : (mode : BucketState) → Answer
 
 -- an answer, and the state afterwards
 abbrev pub Outcome : Type 0
@@ -84,6 +99,38 @@ create_bucket moment name s = do
   _ ← require (is_none (get t.buckets name)) BucketAlreadyOwnedByYou
   Ok (Done, Some (with_bucket name (new_bucket moment) t))
 
+-- Amazon S3 API Reference, HeadBucket
+abbrev pub head_bucket : Octets → Option State → Result Outcome Refusal
+head_bucket name s = do
+  _ ← tenant_bucket name s
+  Ok (Done, s)
+
+-- Amazon S3 API Reference, DeleteBucket; uploads keep a bucket too
+abbrev pub delete_bucket : Octets → Option State → Result Outcome Refusal
+delete_bucket name s = do
+  f ← tenant_bucket name s
+  _ ← require (is_empty f.1.objects && is_empty f.1.uploads) BucketNotEmpty
+  Ok (Removed None false, Some (record f.0 { buckets = remove f.0.buckets name }))
+
+abbrev pub bucket_list : State → List (Octets × ℕ)
+bucket_list t = map (λ e. (e.0, e.1.created)) (entries t.buckets)
+
+-- Amazon S3 API Reference, ListBuckets
+abbrev pub list_buckets : Option State → Result Outcome Refusal
+list_buckets s = Ok (Buckets (option_map_or bucket_list s []), s)
+
+-- Amazon S3 API Reference, GetBucketVersioning
+abbrev pub get_versioning : Octets → Option State → Result Outcome Refusal
+get_versioning name s = do
+  f ← tenant_bucket name s
+  Ok (Versioning f.1.mode, s)
+
+-- Amazon S3 API Reference, PutBucketVersioning
+abbrev pub put_versioning : Octets → BucketState → Option State → Result Outcome Refusal
+put_versioning name mode s = do
+  f ← tenant_bucket name s
+  Ok (Done, Some (with_bucket name (record f.1 { mode = mode }) f.0))
+
 -- the bucket with a new object, whose id depends on the next version number
 abbrev pub with_object : ℕ → Octets → ℕ → Octets → Bucket → Bucket
 with_object moment key next bytes b = with_entries key (added b.mode next moment (Body bytes (checksum_text bytes)) (listed key b)) b
@@ -100,15 +147,70 @@ put_object moment name key bytes given s = do
   c ← after_entry f.1.mode (counts f.0)
   Ok (stored bytes f.0.next_version f.1, Some (with_bucket name (with_object moment key f.0.next_version bytes f.1) (with_counts c f.0)))
 
-abbrev pub shown : Bucket → Version → Answer
-shown b v = Object (id_told b.mode v.id) v.bytes v.checksum
+-- which marker was met, by how its version was asked for
+abbrev pub marker_met : Refusal → Detail
+marker_met MethodNotAllowed = NamedMarker
+marker_met refusal = CurrentMarker
 
-abbrev pub unmarked : Refusal → LookupFault
-unmarked refusal = record { refusal = refusal; marker = false }
+-- a lookup that found no object tells whether it met a delete marker
+abbrev pub not_found : LookupFault → Rejection
+not_found fault = record { refusal = fault.refusal; detail = if fault.marker then marker_met fault.refusal else Nothing }
 
+-- the version that is wanted, with its bucket
+abbrev pub wanted_version : Octets → Octets → Wanted → Option State → Result (Bucket × Version) Rejection
+wanted_version name key wanted s = do
+  f ← plainly (tenant_bucket name s)
+  v ← result_map_both (λ v. v) not_found (lookup wanted (listed key f.1))
+  Ok (f.1, v)
+
+-- a range in which no byte is tells the object's size
+abbrev pub out_of_range : ℕ → Refusal → Rejection
+out_of_range size refusal = record { refusal = refusal; detail = ObjectSize size }
+
+abbrev pub planned : Option Octets → ℕ → Result RangePlan Rejection
+planned range size = result_map_both (λ plan. plan) (out_of_range size) (range_of range size)
+
+abbrev pub shown : Bucket → Version → RangePlan → Answer
+shown b v plan = Object (id_told b.mode v.id) (length v.bytes) plan (cut plan v.bytes) v.checksum
+
+-- `range` is the text of the request's field Range, if it has one
 -- Amazon S3 API Reference, GetObject
-abbrev pub get_object : Octets → Octets → Wanted → Option State → Result Outcome LookupFault
-get_object name key wanted s = do
-  f ← result_map_both (λ f. f) unmarked (tenant_bucket name s)
-  v ← lookup wanted (listed key f.1)
-  Ok (shown f.1 v, s)
+abbrev pub get_object : Octets → Octets → Wanted → Option Octets → Option State → Result Outcome Rejection
+get_object name key wanted range s = do
+  f ← wanted_version name key wanted s
+  plan ← planned range (length f.1.bytes)
+  Ok (shown f.0 f.1 plan, s)
+
+-- a range is not looked at
+-- Amazon S3 API Reference, HeadObject
+abbrev pub head_object : Octets → Octets → Wanted → Option State → Result Outcome Rejection
+head_object name key wanted s = do
+  f ← wanted_version name key wanted s
+  Ok (Head (id_told f.0.mode f.1.id) (length f.1.bytes) f.1.checksum, s)
+
+-- ---- what a delete tells: the id of the marker that it made, or of the entry that it took out by its id
+
+abbrev pub removed_current : BucketState → ℕ → Answer
+removed_current Unversioned next = Removed None false
+removed_current Enabled next = Removed (Some (new_id Enabled next)) true
+removed_current Suspended next = Removed (Some (new_id Suspended next)) true
+
+abbrev pub removed_named : BucketState → Option Entry → Answer
+removed_named mode None = Removed None false
+removed_named mode (Some e) = Removed (id_told mode e.id) (not (is_version e))
+
+abbrev pub removed : BucketState → Wanted → ℕ → List Entry → Answer
+removed mode Current next entries = removed_current mode next
+removed mode (Named id) next entries = removed_named mode (find (has_id id) entries)
+removed mode Unknown next entries = Removed None false
+
+-- the bucket once a delete of a key is done
+abbrev pub with_deleted : ℕ → Octets → Wanted → ℕ → Bucket → Bucket
+with_deleted moment key wanted next b = with_entries key (deleted b.mode wanted next moment (listed key b)) b
+
+-- Amazon S3 API Reference, DeleteObject
+abbrev pub delete_object : ℕ → Octets → Octets → Wanted → Option State → Result Outcome Refusal
+delete_object moment name key wanted s = do
+  f ← tenant_bucket name s
+  c ← after_delete f.1.mode wanted (counts f.0)
+  Ok (removed f.1.mode wanted f.0.next_version (listed key f.1), Some (with_bucket name (with_deleted moment key wanted f.0.next_version f.1) (with_counts c f.0)))
