@@ -18,6 +18,7 @@ pub mod BucketChanges
 pub mod VersionChanges
 pub mod PutLemmas
 pub mod FindLemmas
+pub mod WantedLemmas
 pub mod RowLemmas
 pub mod PurgeLemmas
 pub mod UsedLemmas

@@ -77,7 +77,7 @@ module _ (tables : Tables) (t : Octets) (s : State) (sound : IsSound tables) (is
       let row = own_row tables t s is in
       subst (λ (x : State). AreCounters x.next_version x.next_upload x.next_entry) row.2 (all_first _ _ row.0 row.1 (sound.tenants t).tenants.each).counters
 
-  below_next : AllByRecursion (λ v. (v.seq < s.next_entry) × (v.id < s.next_version)) (rows_of t tables).versions
+  pub below_next : AllByRecursion (λ v. (v.seq < s.next_entry) × (v.id < s.next_version)) (rows_of t tables).versions
   below_next =
       let row = own_row tables t s is in
       let given : AllByRecursion (λ v. IsBelow v row.0) (rows_of t tables).versions = (subst (AllByRecursion (λ (r : TenantRow). AllByRecursion (λ v. IsBelow v r) (rows_of t tables).versions)) (own_rows tables t s sound is) (sound.tenants t).versions.given).0 in
