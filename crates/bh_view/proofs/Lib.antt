@@ -19,6 +19,7 @@ pub mod VersionChanges
 pub mod PutLemmas
 pub mod FindLemmas
 pub mod WantedLemmas
+pub mod DeleteLemmas
 pub mod RowLemmas
 pub mod PurgeLemmas
 pub mod UsedLemmas
