@@ -1,9 +1,12 @@
 -- What the columns that are read stand for, and which new rows no key forbids.
-use Rattle.std.specs.Prelude.{◌≡◌, ℕ, true, false}
+use Rattle.std.specs.Prelude.{◌≡◌, ℕ, true, false, List, filter, Option}
 use Rattle.std.specs.List.{list_any}
+use Rattle.sqlite_keyed.specs.Lists.{sort_by}
 use Rattle.bh_tables.specs.Schema.{Octets}
 use Rattle.bh_tables.specs.Typed.{HostRow, TenantRow, KeyRow, BucketRow, VersionRow, Tables}
-use Rattle.bh_tables.specs.Shown.{is_tenant, is_key, is_bucket, is_entry, is_version}
+use Rattle.bh_tables.specs.Shown.{is_tenant, is_key, is_bucket, is_entry, is_version, is_at}
+use Rattle.bh_view.specs.Grouped.{first}
+use Rattle.bh_view.specs.View.{newer}
 use Rattle.bh_schema.specs.declared.rows.tenants.TenantNumbers.{TenantNumbers}
 use Rattle.bh_schema.specs.declared.rows.buckets.BucketNumbers.{BucketNumbers}
 
@@ -33,6 +36,25 @@ pub record SeenVersion : Type 0 where
 
 abbrev pub seen_version : VersionRow → SeenVersion
 seen_version v = record { seq = v.seq; marker = v.marker; stamp = v.stamp; size = v.size; checksum = v.checksum; bytes = v.bytes }
+
+-- a version without its bytes
+pub record SeenHead : Type 0 where
+  pub seq : ℕ
+  pub id : ℕ
+  pub marker : ℕ
+  pub stamp : ℕ
+  pub size : ℕ
+  pub checksum : Octets
+
+abbrev pub seen_head : VersionRow → SeenHead
+seen_head v = record { seq = v.seq; id = v.id; marker = v.marker; stamp = v.stamp; size = v.size; checksum = v.checksum }
+
+abbrev pub seen_bytes : VersionRow → Octets
+seen_bytes v = v.bytes
+
+-- the newest version or marker of a key
+abbrev pub newest_at : Octets → Octets → Octets → List VersionRow → Option VersionRow
+newest_at tenant bucket okey versions = first (sort_by newer (filter (is_at tenant bucket okey) versions))
 
 -- ---- rows that may be added
 

@@ -1,7 +1,11 @@
 -- Owned values, as their columns.
 use Rattle.std.specs.String.{string_bytes}
-use Rattle.bh_schema.specs.Rows.{SeenVersion}
+use Rattle.bh_schema.specs.Rows.{SeenVersion, SeenHead}
 use Rattle.bh_schema.specs.declared.rows.versions.VersionColumns.{VersionColumns}
+use Rattle.bh_schema.specs.declared.rows.versions.VersionHead.{VersionHead}
 
 abbrev pub version_seen : VersionColumns → SeenVersion
 version_seen v = record { seq = v.seq; marker = v.marker; stamp = v.stamp; size = v.size; checksum = string_bytes v.checksum; bytes = v.bytes.items }
+
+abbrev pub head_seen : VersionHead → SeenHead
+head_seen v = record { seq = v.seq; id = v.id; marker = v.marker; stamp = v.stamp; size = v.size; checksum = string_bytes v.checksum }

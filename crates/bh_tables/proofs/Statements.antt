@@ -1,20 +1,21 @@
 -- What a text over one table does to all of a host's tables: the lemmas on texts, once for every table.
-use Rattle.std.proofs.Common.{◌≡◌, ℕ, List, [], ◌∷◌, ◌++◌, map, filter, Bool, true, None, Ok, Err, Result, OnOk, IfOk, IfErr, IsTrue, subst}
+use Rattle.std.proofs.Common.{◌≡◌, ℕ, List, [], ◌∷◌, ◌++◌, map, filter, take, Bool, true, None, Ok, Err, Result, OnOk, IfOk, IfErr, IsTrue, subst, Ordering}
 use Rattle.sqlite.specs.Order.{Row}
 use Rattle.sqlite.specs.Tree.{Trees}
 use Rattle.sqlite.specs.State.{State, HasCleanDisk, IsLive, Survives, Executes, CommitsBy, CommitsShowing, Shown, FailsToQuery}
 use Rattle.sqlite.specs.declared.error.Error.{Error}
-use Rattle.sqlite_keyed.specs.Lists.{update_where, delete_where}
+use Rattle.sqlite_keyed.specs.Lists.{update_where, delete_where, sort_by}
 use Rattle.bh_rows.specs.Form.{typed}
 use Rattle.bh_rows.specs.Keys.{AreUnused}
 use Rattle.bh_rows.specs.Means.{is_trouble, Asks, Changes}
 use Rattle.bh_rows.specs.Scan.{no_limit}
-use Rattle.bh_rows.specs.Texts.{IsReadyAt, Leaves, MayAdd, MayChange, InsertText, UpdateText, DeleteText, SelectText}
+use Rattle.bh_rows.specs.Texts.{IsReadyAt, Leaves, MayAdd, MayChange, InsertText, UpdateText, DeleteText, SelectText, SortedText}
 use Rattle.bh_rows.proofs.CallLemmas.{clean_before}
 use Rattle.bh_rows.proofs.TextLemmas as text
 use Rattle.bh_tables.specs.Schema.{host_schema}
 use Rattle.bh_tables.specs.Typed.{IsHost, IsReady, Tables, tables}
 use Rattle.bh_tables.proofs.Places.{Place, orderly, turned}
+use Rattle.bh_tables.proofs.Terms.{one_row}
 
 -- how a write may end, which tables it leaves, and which errors it gives
 pub record Writes (old new : State) (change : Tables → Tables) (allowed : Error → Type 0) (result : Result ℕ Error) : Type 0 where
@@ -84,4 +85,13 @@ module _ {T : Type 0} (p : Place T) (old new : State) (ready : IsReady old) wher
   selected rows_in result sql params m view it ok err survives = record {
     asks = text.select_asks p.form host_schema p.table.tree old new ready_at sql params m view no_limit it rows_in result ok err survives;
     rows = λ clean. subst (λ l. IfOk result (λ x. rows_in x ≡ map view (filter m l))) (p.rows_are old.now) (text.select_rows p.form host_schema p.table.tree old new ready_at sql params m view no_limit it rows_in result ok survives clean);
+  }
+
+  -- the first of the rows that pass, in an order, as shown
+  pub selected_first : {X : Type 0} (rows_in : X → List Row) (result : Result X Error) (sql : List ℕ) (params : Row) (m : T → Bool) (view : T → Row) (order : T → T → Ordering) → SortedText p.form host_schema p.table.tree sql params m view order one_row
+      → (HasCleanDisk new → IfOk result (λ x. Shown sql params old new (rows_in x))) → (HasCleanDisk new → IfErr result (FailsToQuery sql params old new)) → Survives old new (CommitsShowing sql params old)
+      → Shows old new rows_in (λ t. take 1 (map view (sort_by order (filter m (p.rows t))))) result
+  selected_first rows_in result sql params m view order it ok err survives = record {
+    asks = text.sorted_asks p.form host_schema p.table.tree old new ready_at sql params m view order one_row it rows_in result ok err survives;
+    rows = λ clean. subst (λ l. IfOk result (λ x. rows_in x ≡ take 1 (map view (sort_by order (filter m l))))) (p.rows_are old.now) (text.select_sorted p.form host_schema p.table.tree old new ready_at sql params m view order one_row it rows_in result ok survives clean);
   }

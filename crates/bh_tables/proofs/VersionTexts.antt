@@ -1,7 +1,8 @@
 -- The texts over versions.
-use Rattle.std.proofs.Common.{◌≡◌, ℕ, ℤ, pos, codes, List, [], ◌∷◌, ◌&&◌, true, false, refl, ap, ◌∙◌}
+use Rattle.std.proofs.Common.{◌≡◌, ℕ, ℤ, pos, codes, List, [], ◌∷◌, ◌&&◌, true, false, refl, sym, ap, ◌∙◌, int_cmp}
 use Rattle.std.specs.List.{list_any}
 use Rattle.sqlite.specs.declared.types.Value.TheVariants.{Null, Int, Text, Blob}
+use Rattle.sqlite.specs.Collation.TheVariants.{Binary}
 use Rattle.sqlite.specs.Edit.{next_rowid}
 use Rattle.sqlite.specs.Effect.{Database}
 use Rattle.sqlite.specs.Listing.{understood}
@@ -9,20 +10,23 @@ use Rattle.sqlite.specs.Order.{Row}
 use Rattle.sqlite.specs.Term.{lit, col}
 use Rattle.sqlite.specs.Tree.{Trees}
 use Rattle.sqlite_sql.specs.declared.ops.CompareOp.TheVariants.{Eq}
-use Rattle.sqlite_value.specs.Keys.{plain, first_key}
+use Rattle.sqlite_value.specs.Keys.{plain, ascending, first_key}
+use Rattle.sqlite_value.proofs.OrderLemmas.{value_cmp-Int, value_cmp-Blob}
 use Rattle.sqlite_schema.specs.Rules.{agree}
 use Rattle.sqlite_tied.specs.Compute.{everything}
-use Rattle.sqlite_typed.proofs.TestLemmas.{at_texts, at_blobs, at_ints, last_term, then_term}
+use Rattle.sqlite_typed.proofs.TestLemmas.{at_texts, at_blobs, at_ints, last_term, then_term, last_key, then_key}
+use Rattle.sqlite_typed.specs.Tests.{bytes_cmp}
 use Rattle.bh_rows.specs.Form.{put}
 use Rattle.bh_rows.specs.Keys.{AreUnused}
-use Rattle.bh_rows.specs.Scan.{no_limit}
-use Rattle.bh_rows.specs.Texts.{MayAdd, InsertText, DeleteText, SelectText}
+use Rattle.bh_rows.specs.Scan.{no_limit, by_rowid}
+use Rattle.bh_rows.specs.Texts.{MayAdd, InsertText, DeleteText, SelectText, SortedText}
 use Rattle.bh_rows.proofs.FormLemmas.{any_typed}
+use Rattle.bh_rows.proofs.ScanLemmas.{then_assoc}
 use Rattle.bh_tables.specs.Schema.{Octets, host_schema, versions_table, at}
 use Rattle.bh_tables.specs.Typed.{VersionRow, version_form, bucket_form, number, IsHost, tables_in}
-use Rattle.bh_tables.specs.Shown.{is_version, is_entry, is_bucket, is_marked_right, shown_version}
+use Rattle.bh_tables.specs.Shown.{is_version, is_at, is_in_bucket, is_entry, is_bucket, is_marked_right, by_age, by_id, shown_version, shown_head, shown_bytes, shown_seq}
 use Rattle.bh_tables.proofs.Checked.{version_checked}
-use Rattle.bh_tables.proofs.Terms.{is}
+use Rattle.bh_tables.proofs.Terms.{is, one_row}
 
 -- ---- a version in a bucket, whose entry number and whose id no other has, may be added
 
@@ -67,6 +71,68 @@ version_shown tenant bucket okey version = record {
   shows = λ id v. refl;
 }
 
+pub head_shown : (tenant bucket okey : Octets) (version : ℕ)
+    → SelectText version_form host_schema 7 (codes "SELECT seq, id, marker, stamp, size, sum FROM versions WHERE tenant = ?1 AND bucket = ?2 AND okey = ?3 AND id = ?4 ORDER BY rowid") (Text tenant ∷ Text bucket ∷ Blob okey ∷ number version ∷ [])
+    (is_version tenant bucket okey version) shown_head no_limit
+unfolding understood everything
+head_shown tenant bucket okey version = record {
+  test = is 1 0 ∷ is 3 1 ∷ is 4 2 ∷ is 5 3 ∷ [];
+  show = col 1 2 ∷ col 1 5 ∷ col 1 6 ∷ col 1 7 ∷ col 1 8 ∷ col 1 9 ∷ [];
+  names = codes "seq" ∷ codes "id" ∷ codes "marker" ∷ codes "stamp" ∷ codes "size" ∷ codes "sum" ∷ [];
+  means = record { is = refl; plain = (refl, refl); unlisted = refl; whole = refl; given = refl };
+  low = refl;
+  accepts = refl;
+  tests = λ id v. then_term (at_texts false Eq v.tenant tenant) (then_term (at_texts false Eq v.bucket bucket) (then_term (at_blobs false Eq v.okey okey) (last_term (at_ints false Eq (pos v.id) (pos version)))));
+  shows = λ id v. refl;
+}
+
+pub newest_shown : (tenant bucket okey : Octets)
+    → SortedText version_form host_schema 7 (codes "SELECT seq, id, marker, stamp, size, sum FROM versions WHERE tenant = ?1 AND bucket = ?2 AND okey = ?3 ORDER BY seq DESC, rowid LIMIT 1") (Text tenant ∷ Text bucket ∷ Blob okey ∷ [])
+    (is_at tenant bucket okey) shown_head by_age one_row
+unfolding understood everything
+newest_shown tenant bucket okey = record {
+  test = is 1 0 ∷ is 3 1 ∷ is 4 2 ∷ [];
+  show = col 1 2 ∷ col 1 5 ∷ col 1 6 ∷ col 1 7 ∷ col 1 8 ∷ col 1 9 ∷ [];
+  keys = (col 1 2, record { collation = Binary; descending = true }) ∷ by_rowid;
+  names = codes "seq" ∷ codes "id" ∷ codes "marker" ∷ codes "stamp" ∷ codes "size" ∷ codes "sum" ∷ [];
+  means = record { is = refl; plain = (refl, refl); unlisted = refl; whole = refl; given = refl };
+  low = refl;
+  accepts = refl;
+  tests = λ id v. then_term (at_texts false Eq v.tenant tenant) (then_term (at_texts false Eq v.bucket bucket) (last_term (at_blobs false Eq v.okey okey)));
+  shows = λ id v. refl;
+  orders = λ a b. then_key (value_cmp-Int (pos b.1.seq) (pos a.1.seq)) (last_key (value_cmp-Int a.0 b.0));
+}
+
+pub bytes_shown : (tenant : Octets) (seq : ℕ)
+    → SelectText version_form host_schema 7 (codes "SELECT bytes FROM versions WHERE tenant = ?1 AND seq = ?2 ORDER BY rowid") (Text tenant ∷ number seq ∷ []) (is_entry tenant seq) shown_bytes no_limit
+unfolding understood everything
+bytes_shown tenant seq = record {
+  test = is 1 0 ∷ is 2 1 ∷ [];
+  show = col 1 10 ∷ [];
+  names = codes "bytes" ∷ [];
+  means = record { is = refl; plain = (refl, refl); unlisted = refl; whole = refl; given = refl };
+  low = refl;
+  accepts = refl;
+  tests = λ id v. then_term (at_texts false Eq v.tenant tenant) (last_term (at_ints false Eq (pos v.seq) (pos seq)));
+  shows = λ id v. refl;
+}
+
+pub bucket_shown_first : (tenant bucket : Octets)
+    → SortedText version_form host_schema 7 (codes "SELECT seq FROM versions WHERE tenant = ?1 AND bucket = ?2 ORDER BY okey, id, rowid LIMIT 1") (Text tenant ∷ Text bucket ∷ []) (is_in_bucket tenant bucket) shown_seq by_id one_row
+unfolding understood everything
+bucket_shown_first tenant bucket = record {
+  test = is 1 0 ∷ is 3 1 ∷ [];
+  show = col 1 2 ∷ [];
+  keys = (col 1 4, ascending Binary) ∷ (col 1 5, ascending Binary) ∷ by_rowid;
+  names = codes "seq" ∷ [];
+  means = record { is = refl; plain = (refl, refl); unlisted = refl; whole = refl; given = refl };
+  low = refl;
+  accepts = refl;
+  tests = λ id v. then_term (at_texts false Eq v.tenant tenant) (last_term (at_texts false Eq v.bucket bucket));
+  shows = λ id v. refl;
+  orders = λ a b. then_key (value_cmp-Blob a.1.okey b.1.okey) (then_key (value_cmp-Int (pos a.1.id) (pos b.1.id)) (last_key (value_cmp-Int a.0 b.0))) ∙ sym (then_assoc (bytes_cmp a.1.okey b.1.okey) (int_cmp (pos a.1.id) (pos b.1.id)) (int_cmp a.0 b.0));
+}
+
 pub version_inserted : (tenant bucket okey checksum bytes : Octets) (seq id stamp size : ℕ)
     → InsertText version_form host_schema 4 (at 7 versions_table) (codes "INSERT INTO versions (tenant, seq, bucket, okey, id, marker, stamp, size, sum, bytes) VALUES (?1, ?2, ?3, ?4, ?5, 0, ?6, ?7, ?8, ?9)")
     (Text tenant ∷ number seq ∷ Text bucket ∷ Blob okey ∷ number id ∷ number stamp ∷ number size ∷ Text checksum ∷ Blob bytes ∷ [])
@@ -74,6 +140,19 @@ pub version_inserted : (tenant bucket okey checksum bytes : Octets) (seq id stam
 unfolding understood everything
 version_inserted tenant bucket okey checksum bytes seq id stamp size = record {
   terms = lit Null ∷ col 0 0 ∷ col 0 1 ∷ col 0 2 ∷ col 0 3 ∷ col 0 4 ∷ lit (Int (pos 0)) ∷ col 0 5 ∷ col 0 6 ∷ col 0 7 ∷ col 0 8 ∷ [];
+  width = 11;
+  means = record { is = refl; plain = (refl, refl); unlisted = refl; whole = refl; given = refl };
+  gives = refl;
+  accepts = refl;
+}
+
+pub marker_inserted : (tenant bucket okey : Octets) (seq id stamp : ℕ)
+    → InsertText version_form host_schema 4 (at 7 versions_table) (codes "INSERT INTO versions (tenant, seq, bucket, okey, id, marker, stamp, size, sum, bytes) VALUES (?1, ?2, ?3, ?4, ?5, 1, ?6, 0, '', x'')")
+    (Text tenant ∷ number seq ∷ Text bucket ∷ Blob okey ∷ number id ∷ number stamp ∷ [])
+    (record { tenant = tenant; seq = seq; bucket = bucket; okey = okey; id = id; marker = 1; stamp = stamp; size = 0; checksum = []; bytes = [] })
+unfolding understood everything
+marker_inserted tenant bucket okey seq id stamp = record {
+  terms = lit Null ∷ col 0 0 ∷ col 0 1 ∷ col 0 2 ∷ col 0 3 ∷ col 0 4 ∷ lit (Int (pos 1)) ∷ col 0 5 ∷ lit (Int (pos 0)) ∷ lit (Text []) ∷ lit (Blob []) ∷ [];
   width = 11;
   means = record { is = refl; plain = (refl, refl); unlisted = refl; whole = refl; given = refl };
   gives = refl;

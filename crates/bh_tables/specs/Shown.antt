@@ -1,10 +1,11 @@
 -- Which rows a text finds, and what it shows of each.
 use Rattle.std.specs.Prelude.{ℕ, Bool, ◌&&◌, ◌||◌, pos, [], ◌∷◌}
-use Rattle.std.specs.Ordering.{int_eq}
+use Rattle.std.specs.declared.cmp.Ordering.{Ordering}
+use Rattle.std.specs.Ordering.{int_eq, int_cmp, ordering_then}
 use Rattle.sqlite.specs.declared.types.Value.TheVariants.{Text, Blob}
 use Rattle.sqlite.specs.Order.{Row}
 use Rattle.sqlite_typed.specs.Columns.{or_null}
-use Rattle.sqlite_typed.specs.Tests.{bytes_eq}
+use Rattle.sqlite_typed.specs.Tests.{bytes_eq, bytes_cmp}
 use Rattle.bh_tables.specs.Schema.{Octets}
 use Rattle.bh_tables.specs.Typed.{HostRow, TenantRow, KeyRow, BucketRow, VersionRow, number}
 
@@ -27,6 +28,22 @@ is_version tenant bucket okey id v = bytes_eq v.tenant tenant && (bytes_eq v.buc
 abbrev pub is_entry : Octets → ℕ → VersionRow → Bool
 is_entry tenant seq v = bytes_eq v.tenant tenant && int_eq (pos v.seq) (pos seq)
 
+-- a version or marker of this key
+abbrev pub is_at : Octets → Octets → Octets → VersionRow → Bool
+is_at tenant bucket okey v = bytes_eq v.tenant tenant && (bytes_eq v.bucket bucket && bytes_eq v.okey okey)
+
+-- one of any key of this bucket
+abbrev pub is_in_bucket : Octets → Octets → VersionRow → Bool
+is_in_bucket tenant bucket v = bytes_eq v.tenant tenant && bytes_eq v.bucket bucket
+
+-- the greatest `seq` first
+abbrev pub by_age : VersionRow → VersionRow → Ordering
+by_age a b = int_cmp (pos b.seq) (pos a.seq)
+
+-- the order of the index on keys and ids
+abbrev pub by_id : VersionRow → VersionRow → Ordering
+by_id a b = ordering_then (bytes_cmp a.okey b.okey) (int_cmp (pos a.id) (pos b.id))
+
 -- a marker has size 0 and an empty checksum
 abbrev pub is_marked_right : VersionRow → Bool
 is_marked_right v = int_eq (pos v.marker) (pos 0) || (int_eq (pos v.size) (pos 0) && bytes_eq v.checksum [])
@@ -47,3 +64,13 @@ shown_bucket b = number b.created ∷ number b.state ∷ or_null number b.days �
 
 abbrev pub shown_version : VersionRow → Row
 shown_version v = number v.seq ∷ number v.marker ∷ number v.stamp ∷ number v.size ∷ Text v.checksum ∷ Blob v.bytes ∷ []
+
+-- a version without its bytes
+abbrev pub shown_head : VersionRow → Row
+shown_head v = number v.seq ∷ number v.id ∷ number v.marker ∷ number v.stamp ∷ number v.size ∷ Text v.checksum ∷ []
+
+abbrev pub shown_bytes : VersionRow → Row
+shown_bytes v = Blob v.bytes ∷ []
+
+abbrev pub shown_seq : VersionRow → Row
+shown_seq v = number v.seq ∷ []
