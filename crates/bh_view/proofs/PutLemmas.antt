@@ -57,7 +57,7 @@ was_given true x c h = (refl, ap (value_or x) h)
 was_given false x c h = absurd (true≢false (sym (ap is_ok h)))
 
 -- an id that is not 0 is a number
-numbered_id : (n : ℕ) → 1 ≤ n → id_of n ≡ Numbered n
+pub numbered_id : (n : ℕ) → 1 ≤ n → id_of n ≡ Numbered n
 numbered_id zero low = absurd (omega arith)
 numbered_id (suc n) low = refl
 

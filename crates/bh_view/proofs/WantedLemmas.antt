@@ -14,11 +14,11 @@ use Rattle.bh_model.specs.State.{Octets, Entry, Bucket, State}
 use Rattle.bh_model.specs.Entries.{same_id, has_id, found_current, found_named, lookup}
 use Rattle.bh_model.specs.Operations.{listed}
 use Rattle.bh_tables.specs.Typed.{VersionRow, Tables}
-use Rattle.bh_tables.specs.Shown.{is_version, is_entry}
+use Rattle.bh_tables.specs.Shown.{is_version, is_at, is_entry}
 use Rattle.bh_view.specs.Grouped.{first, same_number}
 use Rattle.bh_view.specs.View.{TenantRows, rows_of, id_of, entry_of, newer, view, latest_of}
 use Rattle.bh_view.specs.Sound.{IsVersionRow, IsSound}
-use Rattle.bh_view.specs.Wanted.{is_of_key, has_row_id, wanted_row, newest_looked, looked}
+use Rattle.bh_view.specs.Wanted.{has_row_id, wanted_row, newest_looked, looked}
 use Rattle.bh_view.proofs.Keys.{numbers}
 use Rattle.bh_view.proofs.FilterLemmas.{none_some, filter_both}
 use Rattle.bh_view.proofs.SortLemmas.{all-sort_by}
@@ -60,7 +60,7 @@ module _ (tables : Tables) (t : Octets) (sound : IsSound tables) (b k : Octets) 
     pub named_entry : (id : VersionId) → find (has_id id) (listed k B) ≡ option_map entry_of (wanted_row t b k (Named id) tables.versions)
     named_entry Null = of_number 0
     named_entry (Numbered zero) =
-        ap (find (has_id (Numbered 0))) (entries_found tables t s is b k B at) ∙ none (sort_by newer (filter (is_of_key t b k) tables.versions))
+        ap (find (has_id (Numbered 0))) (entries_found tables t s is b k B at) ∙ none (sort_by newer (filter (is_at t b k) tables.versions))
         ∙ ap (option_map entry_of) (sym (find_none (has_row_id t b k (Numbered 0)) tables.versions (λ v. false_last (bytes_eq v.tenant t) (bytes_eq v.bucket b) (bytes_eq v.okey k) _ (not_zero v.id))))
       where
         none : (rows : List VersionRow) → find (has_id (Numbered 0)) (map entry_of rows) ≡ None
@@ -70,7 +70,7 @@ module _ (tables : Tables) (t : Octets) (sound : IsSound tables) (b k : Octets) 
 
     -- what a lookup finds
     pub lookup_row : (wanted : Wanted) → lookup wanted (listed k B) ≡ looked wanted (wanted_row t b k wanted tables.versions)
-    lookup_row Current = ap found_current (entries_found tables t s is b k B at) ∙ newest_found (sort_by newer (filter (is_of_key t b k) tables.versions))
+    lookup_row Current = ap found_current (entries_found tables t s is b k B at) ∙ newest_found (sort_by newer (filter (is_at t b k) tables.versions))
     lookup_row (Named id) = ap found_named (named_entry id)
     lookup_row Unknown = refl
 

@@ -11,20 +11,17 @@ use Rattle.bh_model.specs.State.{Octets}
 use Rattle.bh_model.specs.Entries.{Version, same_id, not_found, opened, found_named}
 use Rattle.bh_model.specs.declared.entries.LookupFault.{LookupFault}
 use Rattle.bh_tables.specs.Typed.{VersionRow}
+use Rattle.bh_tables.specs.Shown.{is_at}
 use Rattle.bh_view.specs.Grouped.{first}
 use Rattle.bh_view.specs.View.{id_of, content_of, entry_of, newer}
 
--- of a key in a tenant's bucket
-abbrev pub is_of_key : Octets → Octets → Octets → VersionRow → Bool
-is_of_key tenant bucket key v = bytes_eq v.tenant tenant && (bytes_eq v.bucket bucket && bytes_eq v.okey key)
-
--- with an id too
+-- of a key, with an id
 abbrev pub has_row_id : Octets → Octets → Octets → VersionId → VersionRow → Bool
 has_row_id tenant bucket key id v = bytes_eq v.tenant tenant && (bytes_eq v.bucket bucket && (bytes_eq v.okey key && same_id (id_of v.id) id))
 
 -- the newest of the key, or the one of the id
 abbrev pub wanted_row : Octets → Octets → Octets → Wanted → List VersionRow → Option VersionRow
-wanted_row tenant bucket key Current rows = first (sort_by newer (filter (is_of_key tenant bucket key) rows))
+wanted_row tenant bucket key Current rows = first (sort_by newer (filter (is_at tenant bucket key) rows))
 wanted_row tenant bucket key (Named id) rows = find (has_row_id tenant bucket key id) rows
 wanted_row tenant bucket key Unknown rows = None
 
