@@ -47,18 +47,22 @@ error_data code resource =
 abbrev pub error_text : List ℕ → List ℕ → List ℕ
 error_text code resource = compact_text (error_data code resource)
 
+-- a bucket's name and the moment of its making
+abbrev pub bucket_view : BucketEntry → List ℕ × ℕ
+bucket_view b = (string_bytes b.name, b.created)
+
 -- {"CreationDate":created,"Name":name}
-abbrev pub bucket_data : BucketEntry → Data
+abbrev pub bucket_data : List ℕ × ℕ → Data
 bucket_data b =
-    object (member (codes "CreationDate") (moment b.created)
-    (member (codes "Name") (string (string_bytes b.name)) no_members))
+    object (member (codes "CreationDate") (moment b.1)
+    (member (codes "Name") (string b.0) no_members))
 
 -- {"Buckets":[..]}
 -- Amazon S3 API Reference, ListBuckets, as JSON
-abbrev pub buckets_data : List BucketEntry → Data
+abbrev pub buckets_data : List (List ℕ × ℕ) → Data
 buckets_data buckets = object (member (codes "Buckets") (array_of bucket_data buckets) no_members)
 
-abbrev pub buckets_text : List BucketEntry → List ℕ
+abbrev pub buckets_text : List (List ℕ × ℕ) → List ℕ
 buckets_text buckets = compact_text (buckets_data buckets)
 
 -- S3 has no such document

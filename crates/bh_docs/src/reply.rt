@@ -1,7 +1,7 @@
 //! The documents of replies, but for the pages of listings. Each is compact JSON (RFC 8259) with
 //! its members in byte order. An error says that memory ran out.
 
-ghost use Rattle.std.specs.Prelude.{◌≡◌, ◌≢◌, ◌≤◌, IfOk};
+ghost use Rattle.std.specs.Prelude.{◌≡◌, ◌≢◌, ◌≤◌, map, IfOk};
 ghost use Rattle.std.specs.String.{string_bytes};
 ghost use Rattle.serde_json.specs.View.{view};
 ghost use Rattle.bh_docs.specs.Documents as spec;
@@ -45,9 +45,9 @@ pub struct BucketEntry {
 }
 
 impl Listed for BucketEntry {
-    ghost use Rattle.bh_docs.specs.Documents.{bucket_data};
+    ghost use Rattle.bh_docs.specs.Documents.{bucket_view, bucket_data};
 
-    ghost shown = { bucket_data };
+    ghost shown = { λ b. bucket_data (bucket_view b) };
 
     fn value(&self, alloc: Global) -> Result<Value, AllocError> {
         object_of(
@@ -62,14 +62,14 @@ impl Listed for BucketEntry {
 
 /// The answer to ListBuckets: `{"Buckets":[{"CreationDate":created,"Name":name},..]}`.
 pub fn buckets_document(alloc: Global, buckets: &[BucketEntry]) -> Result<String, AllocError>
-    ensures { IfOk result (λ text. string_bytes text ≡ spec.buckets_text buckets.now) }
+    ensures { IfOk result (λ text. string_bytes text ≡ spec.buckets_text (map spec.bucket_view buckets.now)) }
 {
     let document = buckets_value(alloc, buckets)?;
     print(alloc, &document)
 }
 
 fn buckets_value(alloc: Global, buckets: &[BucketEntry]) -> Result<Value, AllocError>
-    ensures { IfOk result (λ value. view value ≡ spec.buckets_data buckets.now) }
+    ensures { IfOk result (λ value. view value ≡ spec.buckets_data (map spec.bucket_view buckets.now)) }
 {
     let document = object_of(alloc, &[])?;
     with_entries(alloc, document, "Buckets", buckets)

@@ -1,22 +1,25 @@
 -- The bytes that an act is answered with.
-use Rattle.std.specs.Prelude.{Bool, true, false, [], ◌++◌, length, codes, if◌then◌else◌, Option, Some, None, Result, Ok, Err}
+use Rattle.std.specs.Prelude.{ℕ, Bool, true, false, [], ◌++◌, length, codes, if◌then◌else◌, Option, Some, None, Result, Ok, Err}
 use Rattle.std.specs.Str.{bytes_eq}
 use Rattle.std.specs.Str.Lossy.{utf8_lossy}
-use Rattle.bh_docs.specs.Documents.{error_text}
+use Rattle.bh_docs.specs.Documents.{buckets_text, error_text, versioning_text}
 use Rattle.bh_event.specs.Events.{Order, AddTenant, AddKey, RemoveKey, Message, Requested, Ordered}
-use Rattle.bh_http.specs.Answers.{bare, empty, refused, bare_refusal}
+use Rattle.bh_http.specs.Answers.{bare, empty, with_document, refused, bare_refusal}
 use Rattle.bh_http.specs.Responses.{Sent, response_text, refusal_text}
 use Rattle.bh_http.specs.Views.{Taken}
 use Rattle.bh_http.specs.declared.values.Allow.{Allow}
 use Rattle.bh_http.specs.declared.values.Allow.TheVariants.{Marker}
 use Rattle.bh_http.specs.declared.values.ContentRange.{ContentRange}
-use Rattle.bh_http.specs.declared.values.ContentRange.TheVariants.{Unsatisfied}
+use Rattle.bh_http.specs.declared.values.ContentRange.TheVariants.{Part as Satisfied, Unsatisfied}
 use Rattle.bh_http.specs.declared.values.ContentType.TheVariants.{OctetStream}
-use Rattle.bh_model.specs.Operations.{Answer, Done, Stored, Object}
+use Rattle.bh_model.specs.Operations.{Answer, Done, Removed, Stored, Head, Object, Buckets, Versioning}
 use Rattle.bh_model.specs.State.{Octets}
 use Rattle.bh_operation.specs.Allowed.{allow_of}
 use Rattle.bh_operation.specs.Targets.{path_of}
 use Rattle.bh_types.specs.Refusals.{code_of}
+use Rattle.bh_types.specs.declared.id.VersionId.{VersionId}
+use Rattle.bh_types.specs.declared.range.RangePlan.{RangePlan}
+use Rattle.bh_types.specs.declared.range.RangePlan.TheVariants.{Whole, Part}
 use Rattle.bh_types.specs.declared.refusal.Refusal.{Refusal}
 use Rattle.bh_types.specs.declared.rejection.Detail.{Detail}
 use Rattle.bh_types.specs.declared.rejection.Detail.TheVariants.{CurrentMarker, NamedMarker, ObjectSize}
@@ -32,18 +35,40 @@ use Rattle.bh_host.specs.declared.reply.Reply.TheVariants as reply
 abbrev pub shown_path : Octets → Octets
 shown_path target = utf8_lossy (path_of target)
 
--- the response to a request that was not refused
-abbrev pub response_to : Answer → Sent
-response_to Done = empty 200
-response_to (Stored id checksum) = record (empty 200) { checksum = Some checksum; version_id = id }
-response_to (Object id bytes checksum) = record (bare 200) {
+-- the part of an object that is answered, where it is not the whole
+-- RFC 9110, sections 14.4 and 15.3.7
+abbrev pub part_told : ℕ → RangePlan → Option ContentRange
+part_told size Whole = None
+part_told size (Part first last) = Some (Satisfied first last size)
+
+abbrev pub status_for : RangePlan → ℕ
+status_for Whole = 200
+status_for (Part first last) = 206
+
+-- the response to HeadObject, and what a get tells of the whole object
+abbrev pub head_response : Option VersionId → ℕ → Octets → Sent
+head_response id size checksum = record (bare 200) {
   content_type = Some OctetStream;
-  content_length = Some (length bytes);
+  content_length = Some size;
   accepts_ranges = true;
   checksum = Some checksum;
   version_id = id;
+}
+
+-- the response to a request that was not refused
+abbrev pub response_to : Answer → Sent
+response_to Done = empty 200
+response_to (Removed id marker) = record (bare 204) { version_id = id; delete_marker = marker }
+response_to (Stored id checksum) = record (empty 200) { checksum = Some checksum; version_id = id }
+response_to (Head id size checksum) = head_response id size checksum
+response_to (Object id size plan bytes checksum) = record (head_response id size checksum) {
+  status = status_for plan;
+  content_length = Some (length bytes);
+  content_range = part_told size plan;
   body = bytes;
 }
+response_to (Buckets buckets) = with_document 200 (buckets_text buckets)
+response_to (Versioning mode) = with_document 200 (versioning_text mode)
 
 -- the methods that may be used: of a delete marker that was named, or of the target where the method was at fault
 abbrev pub allow_told : Octets → Refusal → Detail → Option Allow

@@ -1,6 +1,7 @@
 //! Events on a host: each is applied in one transaction, and answered as its tenant's private machine answers it.
 #![tactic(auto)]
 
+mod answers;
 mod event;
 mod events;
 pub mod laws;
@@ -8,5 +9,5 @@ mod reply;
 mod serve;
 
 pub use event::{Told, apply};
-pub use reply::{Caller, Reply};
 pub use events::run;
+pub use reply::{Caller, Reply};

@@ -10,20 +10,20 @@ ghost use Rattle.std.specs.String.{string_bytes};
 ghost use Rattle.bh_host.specs.Replies as spec;
 ghost use Rattle.bh_host.specs.Turns.{Tells, TellsOrder};
 
+use crate::answers::response_to;
 use bh_docs::reply::error_document;
 use bh_event::event::Command;
 use bh_http::encode::response_bytes;
 use bh_http::fixed::{clock_out_of_range, service_unavailable};
 use bh_http::request::Request;
 use bh_http::response::Response;
-use bh_http::values::{Allow, ContentRange, ContentType};
+use bh_http::values::{Allow, ContentRange};
 use bh_operation::allow::allow_of;
 use bh_operation::path_of;
 use bh_storage::answer::Answer;
 use bh_storage::error::{StepError, Trouble};
 use bh_types::refusal::Refusal;
 use bh_types::rejection::{Detail, Rejection};
-use http::StatusCode;
 use std::alloc::{AllocError, Global};
 
 /// What an event is answered. The fixed texts take no memory.
@@ -110,7 +110,8 @@ pub fn refused_request_text(
 fn answer_text(alloc: Global, request: &Request, answer: Answer) -> Result<Vec<u8>, AllocError>
     ensures { IfOk result (λ bytes. bytes.items ≡ spec.text (Asked (Ok (request_view request.now))) (Ok (answer_view answer))) }
 {
-    sent_text(alloc, request.method.as_str(), response_to(alloc, answer))
+    let response = response_to(alloc, answer)?;
+    sent_text(alloc, request.method.as_str(), response)
 }
 
 /// The bytes of a response to a request of this method.
@@ -131,30 +132,6 @@ fn sent_for(alloc: Global, method: &str, response: Response) -> Response
         head
     } else {
         response
-    }
-}
-
-fn response_to(alloc: Global, answer: Answer) -> Response
-    ensures { response_view result ≡ spec.response_to (answer_view answer) }
-{
-    match answer {
-        Answer::Done => Response::empty(alloc, StatusCode::OK),
-        Answer::Stored(version) => {
-            let mut response = Response::empty(alloc, StatusCode::OK);
-            response.checksum = Some(version.checksum);
-            response.version_id = version.id;
-            response
-        }
-        Answer::Found(version) => {
-            let mut response = Response::bare(alloc, StatusCode::OK);
-            response.content_type = Some(ContentType::OctetStream);
-            response.content_length = Some(version.bytes.len() as u64);
-            response.accepts_ranges = true;
-            response.checksum = Some(version.checksum);
-            response.version_id = version.id;
-            response.body = version.bytes;
-            response
-        }
     }
 }
 

@@ -1,12 +1,30 @@
+use bh_docs::BucketEntry;
+use bh_types::bucket_state::BucketState;
 use bh_types::id::VersionId;
+use bh_types::range::RangePlan;
 
 /// What an operation answers where nothing is refused.
 #[derive(Drop)]
 pub enum Answer {
     /// Nothing but that it is done.
     Done,
+    Removed(RemovedEntry),
     Stored(StoredVersion),
+    Head(ObjectHead),
     Found(FoundVersion),
+    /// The buckets of a tenant, by their names.
+    Buckets(Vec<BucketEntry>),
+    Versioning(BucketState),
+}
+
+/// What a delete answers.
+#[derive(Clone, Copy, Debug, PartialEq, Eq)]
+pub struct RemovedEntry {
+    /// The id of the delete marker that was made, or of the entry that was taken out by its id, where the bucket is
+    /// or was versioned.
+    pub id: Option<VersionId>,
+    /// Whether a delete marker was made, or taken out by its id.
+    pub marker: bool,
 }
 
 /// What a put answers.
@@ -18,13 +36,24 @@ pub struct StoredVersion {
     pub checksum: String,
 }
 
+/// What is told of a version without its bytes.
+#[derive(Drop)]
+pub struct ObjectHead {
+    /// The version's id, where its bucket is or was versioned.
+    pub id: Option<VersionId>,
+    /// The object's length in bytes.
+    pub size: u64,
+    /// The text of the object's checksum.
+    pub checksum: String,
+}
+
 /// What a get answers.
 #[derive(Drop)]
 pub struct FoundVersion {
-    /// The version's id, where its bucket is or was versioned.
-    pub id: Option<VersionId>,
-    /// The whole object.
+    /// The version, of which `size` and `checksum` are those of the whole object.
+    pub head: ObjectHead,
+    /// Which of the object's bytes are answered.
+    pub plan: RangePlan,
+    /// These bytes.
     pub bytes: Vec<u8>,
-    /// The text of the object's checksum.
-    pub checksum: String,
 }

@@ -8,4 +8,4 @@ pub returns : goal.returns
 unfolding text
 returns c =
     IfOk-weaker c.sent_text.result _ _
-    (λ bytes h. h ∙ ap₂ (λ method sent. response_text (sent_for method sent)) c.as_str.ensures.value c.response_to.ensures) c.sent_text.ensures
+    (λ bytes h. h ∙ ap₂ (λ method sent. response_text (sent_for method sent)) c.as_str.ensures.value c.in_ok-response.ensures) c.sent_text.ensures

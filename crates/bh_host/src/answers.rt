@@ -1,0 +1,107 @@
+ghost use Rattle.std.specs.Prelude.{◌≡◌, map, IfOk};
+ghost use Rattle.bh_docs.specs.Documents.{bucket_view};
+ghost use Rattle.bh_http.specs.Answers.{response_view};
+ghost use Rattle.bh_host.specs.Replies as spec;
+ghost use Rattle.bh_model.specs.Operations.{Buckets, Versioning};
+ghost use Rattle.bh_storage.specs.Answers.{answer_view, removed_answer, stored_answer, head_answer, found_answer};
+
+use bh_docs::{BucketEntry, buckets_document, versioning_document};
+use bh_http::StatusCode;
+use bh_http::response::Response;
+use bh_http::values::{ContentRange, ContentType};
+use bh_storage::answer::{Answer, FoundVersion, ObjectHead, RemovedEntry, StoredVersion};
+use bh_types::bucket_state::BucketState;
+use bh_types::range::RangePlan;
+use std::alloc::{AllocError, Global};
+
+/// The response to a request that was carried out.
+pub fn response_to(alloc: Global, answer: Answer) -> Result<Response, AllocError>
+    ensures { IfOk result (λ response. response_view response ≡ spec.response_to (answer_view answer)) }
+{
+    match answer {
+        Answer::Done => Ok(Response::empty(alloc, StatusCode::OK)),
+        Answer::Removed(entry) => Ok(removed(alloc, entry)),
+        Answer::Stored(version) => Ok(stored(alloc, version)),
+        Answer::Head(head) => Ok(headed(alloc, head)),
+        Answer::Found(version) => Ok(found(alloc, version)),
+        Answer::Buckets(buckets) => listed(alloc, &buckets),
+        Answer::Versioning(state) => versioning(alloc, state),
+    }
+}
+
+fn removed(alloc: Global, entry: RemovedEntry) -> Response
+    ensures { response_view result ≡ spec.response_to (removed_answer entry) }
+{
+    let mut response = Response::bare(alloc, StatusCode::NO_CONTENT);
+    response.version_id = entry.id;
+    response.delete_marker = entry.marker;
+    response
+}
+
+fn stored(alloc: Global, version: StoredVersion) -> Response
+    ensures { response_view result ≡ spec.response_to (stored_answer version) }
+{
+    let mut response = Response::empty(alloc, StatusCode::OK);
+    response.checksum = Some(version.checksum);
+    response.version_id = version.id;
+    response
+}
+
+/// The head of an object, which no byte follows.
+fn headed(alloc: Global, head: ObjectHead) -> Response
+    ensures { response_view result ≡ spec.response_to (head_answer head) }
+{
+    let mut response = Response::bare(alloc, StatusCode::OK);
+    response.content_type = Some(ContentType::OctetStream);
+    response.content_length = Some(head.size);
+    response.accepts_ranges = true;
+    response.checksum = Some(head.checksum);
+    response.version_id = head.id;
+    response
+}
+
+/// An object's bytes, or the part of them that was asked for (RFC 9110, section 15.3.7).
+fn found(alloc: Global, version: FoundVersion) -> Response
+    ensures { response_view result ≡ spec.response_to (found_answer version) }
+{
+    let size = version.head.size;
+    let mut response = headed(alloc, version.head);
+    response.status = status_for(version.plan);
+    response.content_length = Some(version.bytes.len() as u64);
+    response.content_range = part_told(size, version.plan);
+    response.body = version.bytes;
+    response
+}
+
+fn status_for(plan: RangePlan) -> StatusCode
+    ensures { result ≡ spec.status_for plan }
+{
+    match plan {
+        RangePlan::Whole => StatusCode::OK,
+        RangePlan::Part { .. } => StatusCode::PARTIAL_CONTENT,
+    }
+}
+
+/// The part of an object of this many bytes, if not the whole is answered.
+fn part_told(size: u64, plan: RangePlan) -> Option<ContentRange>
+    ensures { result ≡ spec.part_told size plan }
+{
+    match plan {
+        RangePlan::Whole => None,
+        RangePlan::Part { first, last } => Some(ContentRange::Part { first, last, size }),
+    }
+}
+
+fn listed(alloc: Global, buckets: &[BucketEntry]) -> Result<Response, AllocError>
+    ensures { IfOk result (λ response. response_view response ≡ spec.response_to (Buckets (map bucket_view buckets.now))) }
+{
+    let document = buckets_document(alloc, buckets)?;
+    Ok(Response::with_document(alloc, StatusCode::OK, document.into_bytes()))
+}
+
+fn versioning(alloc: Global, state: BucketState) -> Result<Response, AllocError>
+    ensures { IfOk result (λ response. response_view response ≡ spec.response_to (Versioning state)) }
+{
+    let document = versioning_document(alloc, state)?;
+    Ok(Response::with_document(alloc, StatusCode::OK, document.into_bytes()))
+}
