@@ -1,12 +1,14 @@
-ghost use Rattle.std.specs.Prelude.{◌≡◌, ◌++◌, ◌∷◌, [], ◌<◌, ◌^◌, true, None, Some, length, map, filter, find, option_map, IfOk, IfErr, OnOk};
+ghost use Rattle.std.specs.Prelude.{◌≡◌, ◌++◌, ◌∷◌, [], ◌<◌, ◌^◌, true, None, Some, length, map, filter, find, take, option_map, IfOk, IfErr, OnOk};
+ghost use Rattle.std.specs.List.{list_any};
 ghost use Rattle.std.specs.Str.{IsUtf8};
-ghost use Rattle.sqlite_keyed.specs.Lists.{delete_where};
+ghost use Rattle.sqlite_keyed.specs.Lists.{delete_where, sort_by};
 ghost use Rattle.bh_tables.specs.Typed.{VersionRow as Stored};
-ghost use Rattle.bh_tables.specs.Shown.{is_version, shown_version};
+ghost use Rattle.bh_tables.specs.Shown.{is_version, is_at, is_in_bucket, is_entry, by_id, shown_version, shown_head, shown_bytes, shown_seq};
 ghost use Rattle.bh_rows.specs.Means.{is_trouble};
 ghost use Rattle.bh_schema.specs.Connections.{IsClean, tables, InTransaction, StaysWithin, WasOpen, StaysOpen, ChangesNothing, Becomes, IsTrouble, IsTroubleIf};
-ghost use Rattle.bh_schema.specs.Rows.{seen_version, IsNewVersion};
-ghost use Rattle.bh_schema.specs.Views.{version_seen};
+ghost use Rattle.bh_view.specs.View.{newer};
+ghost use Rattle.bh_schema.specs.Rows.{seen_version, seen_head, seen_bytes, newest_at, IsNewVersion};
+ghost use Rattle.bh_schema.specs.Views.{version_seen, head_seen};
 
 use crate::rows::number::number;
 use sqlite::types::ToSql;
@@ -29,6 +31,23 @@ pub struct VersionColumns {
     pub bytes: Vec<u8>,
 }
 
+/// What is kept of a version or a marker beside its bytes.
+#[derive(Drop)]
+pub struct VersionHead {
+    /// Its entry number, which orders the versions of a key.
+    pub seq: u64,
+    /// 0 for `null`.
+    pub id: u64,
+    /// 1 for a delete marker, 0 for a version.
+    pub marker: u64,
+    /// When it was made, in seconds since 1970.
+    pub stamp: u64,
+    /// Bytes.
+    pub size: u64,
+    /// The text of its checksum, empty for a marker.
+    pub checksum: String,
+}
+
 /// A version that is to be added.
 #[derive(Clone, Copy)]
 pub struct NewVersion<'a> {
@@ -43,6 +62,20 @@ pub struct NewVersion<'a> {
     pub stamp: u64,
     pub checksum: &'a str,
     pub bytes: &'a [u8],
+}
+
+/// A marker that is to be added.
+#[derive(Clone, Copy)]
+pub struct NewMarker<'a> {
+    pub tenant: &'a str,
+    /// Its entry number.
+    pub seq: u64,
+    pub bucket: &'a str,
+    pub okey: &'a [u8],
+    /// 0 for `null`.
+    pub id: u64,
+    /// When it is made, in seconds since 1970.
+    pub stamp: u64,
 }
 
 fn read_version(row: &Row) -> Result<VersionColumns, Error>
@@ -108,6 +141,203 @@ pub fn find_version<S: Alter>(
     }
 }
 
+fn read_head(row: &Row) -> Result<VersionHead, Error>
+    ensures read { IfOk result (λ head. (v : Stored) → row.now ≡ shown_head v → head_seen head ≡ seen_head v) }
+    ensures trouble { IfErr result (λ e. (v : Stored) → row.now ≡ shown_head v → IsUtf8 v.checksum → is_trouble e ≡ true) }
+{
+    Ok(VersionHead {
+        seq: row.get(0)?,
+        id: row.get(1)?,
+        marker: row.get(2)?,
+        stamp: row.get(3)?,
+        size: row.get(4)?,
+        checksum: row.get(5)?,
+    })
+}
+
+fn newest_rows<S: Alter>(
+    connection: &mut Connection<S>,
+    tenant: &str,
+    bucket: &str,
+    okey: &[u8],
+) -> Result<Vec<Row>, Error>
+    requires inside { InTransaction S.Store connection.old }
+    ensures within { StaysWithin S.Store connection.old connection.new }
+    ensures opens { OnOk result (WasOpen S.Store connection.old connection.new) }
+    ensures same { OnOk result (ChangesNothing S.Store connection.old connection.new) }
+    ensures rows { IfOk result (λ rows. IsClean S.Store connection.new
+        → rows.items ≡ take 1 (map shown_head
+        (sort_by newer (filter (is_at tenant.now bucket.now okey.now) (tables S.Store connection.old).versions)))) }
+    ensures trouble { IfErr result (IsTrouble S.Store connection.old connection.new) }
+{
+    connection.query_all(
+        "SELECT seq, id, marker, stamp, size, sum FROM versions WHERE tenant = ?1 AND bucket = ?2 AND okey = ?3 ORDER BY seq DESC, rowid LIMIT 1",
+        &[tenant.to_sql(), bucket.to_sql(), okey.to_sql()],
+    )
+}
+
+/// The newest version or marker of a key, if it has one.
+pub fn newest_version<S: Alter>(
+    connection: &mut Connection<S>,
+    tenant: &str,
+    bucket: &str,
+    okey: &[u8],
+) -> Result<Option<VersionHead>, Error>
+    requires inside { InTransaction S.Store connection.old }
+    ensures within { StaysWithin S.Store connection.old connection.new }
+    ensures opens { OnOk result (WasOpen S.Store connection.old connection.new) }
+    ensures same { OnOk result (ChangesNothing S.Store connection.old connection.new) }
+    ensures found { IfOk result (λ found. IsClean S.Store connection.new
+        → option_map head_seen found ≡ option_map seen_head
+        (newest_at tenant.now bucket.now okey.now (tables S.Store connection.old).versions)) }
+    ensures trouble { IfErr result (IsTroubleIf S.Store connection.old connection.new
+        ((v : Stored) → newest_at tenant.now bucket.now okey.now (tables S.Store connection.old).versions ≡ Some v
+        → IsUtf8 v.checksum)) }
+{
+    let rows = newest_rows(connection, tenant, bucket, okey)?;
+    match rows.first() {
+        None => Ok(None),
+        Some(row) => Ok(Some(read_head(row)?)),
+    }
+}
+
+fn head_rows<S: Alter>(
+    connection: &mut Connection<S>,
+    tenant: &str,
+    bucket: &str,
+    okey: &[u8],
+    id: u64,
+) -> Result<Vec<Row>, Error>
+    requires inside { InTransaction S.Store connection.old }
+    requires small { id < 2 ^ 63 }
+    ensures within { StaysWithin S.Store connection.old connection.new }
+    ensures opens { OnOk result (WasOpen S.Store connection.old connection.new) }
+    ensures same { OnOk result (ChangesNothing S.Store connection.old connection.new) }
+    ensures rows { IfOk result (λ rows. IsClean S.Store connection.new
+        → rows.items ≡ map shown_head (filter (is_version tenant.now bucket.now okey.now id) (tables S.Store connection.old).versions)) }
+    ensures trouble { IfErr result (IsTrouble S.Store connection.old connection.new) }
+{
+    connection.query_all(
+        "SELECT seq, id, marker, stamp, size, sum FROM versions WHERE tenant = ?1 AND bucket = ?2 AND okey = ?3 AND id = ?4 ORDER BY rowid",
+        &[tenant.to_sql(), bucket.to_sql(), okey.to_sql(), number(id)],
+    )
+}
+
+/// The version or marker of a key with this id, without its bytes, if there is one; 0 is `null`.
+pub fn version_of_id<S: Alter>(
+    connection: &mut Connection<S>,
+    tenant: &str,
+    bucket: &str,
+    okey: &[u8],
+    id: u64,
+) -> Result<Option<VersionHead>, Error>
+    requires inside { InTransaction S.Store connection.old }
+    requires small { id < 2 ^ 63 }
+    ensures within { StaysWithin S.Store connection.old connection.new }
+    ensures opens { OnOk result (WasOpen S.Store connection.old connection.new) }
+    ensures same { OnOk result (ChangesNothing S.Store connection.old connection.new) }
+    ensures found { IfOk result (λ found. IsClean S.Store connection.new
+        → option_map head_seen found ≡ option_map seen_head
+        (find (is_version tenant.now bucket.now okey.now id) (tables S.Store connection.old).versions)) }
+    ensures trouble { IfErr result (IsTroubleIf S.Store connection.old connection.new
+        ((v : Stored) → find (is_version tenant.now bucket.now okey.now id) (tables S.Store connection.old).versions ≡ Some v
+        → IsUtf8 v.checksum)) }
+{
+    let rows = head_rows(connection, tenant, bucket, okey, id)?;
+    match rows.first() {
+        None => Ok(None),
+        Some(row) => Ok(Some(read_head(row)?)),
+    }
+}
+
+fn read_bytes(row: &Row) -> Result<Vec<u8>, Error>
+    ensures read { IfOk result (λ bytes. (v : Stored) → row.now ≡ shown_bytes v → bytes.items ≡ v.bytes) }
+    ensures trouble { IfErr result (λ e. (v : Stored) → row.now ≡ shown_bytes v → is_trouble e ≡ true) }
+{
+    row.get(0)
+}
+
+fn bytes_rows<S: Alter>(
+    connection: &mut Connection<S>,
+    tenant: &str,
+    seq: u64,
+) -> Result<Vec<Row>, Error>
+    requires inside { InTransaction S.Store connection.old }
+    requires small { seq < 2 ^ 63 }
+    ensures within { StaysWithin S.Store connection.old connection.new }
+    ensures opens { OnOk result (WasOpen S.Store connection.old connection.new) }
+    ensures same { OnOk result (ChangesNothing S.Store connection.old connection.new) }
+    ensures rows { IfOk result (λ rows. IsClean S.Store connection.new
+        → rows.items ≡ map shown_bytes (filter (is_entry tenant.now seq) (tables S.Store connection.old).versions)) }
+    ensures trouble { IfErr result (IsTrouble S.Store connection.old connection.new) }
+{
+    connection.query_all(
+        "SELECT bytes FROM versions WHERE tenant = ?1 AND seq = ?2 ORDER BY rowid",
+        &[tenant.to_sql(), number(seq)],
+    )
+}
+
+/// The bytes of a tenant's version or marker with this entry number, if there is one.
+pub fn version_bytes<S: Alter>(
+    connection: &mut Connection<S>,
+    tenant: &str,
+    seq: u64,
+) -> Result<Option<Vec<u8>>, Error>
+    requires inside { InTransaction S.Store connection.old }
+    requires small { seq < 2 ^ 63 }
+    ensures within { StaysWithin S.Store connection.old connection.new }
+    ensures opens { OnOk result (WasOpen S.Store connection.old connection.new) }
+    ensures same { OnOk result (ChangesNothing S.Store connection.old connection.new) }
+    ensures found { IfOk result (λ found. IsClean S.Store connection.new
+        → option_map (λ bytes. bytes.items) found ≡ option_map seen_bytes
+        (find (is_entry tenant.now seq) (tables S.Store connection.old).versions)) }
+    ensures trouble { IfErr result (IsTrouble S.Store connection.old connection.new) }
+{
+    let rows = bytes_rows(connection, tenant, seq)?;
+    match rows.first() {
+        None => Ok(None),
+        Some(row) => Ok(Some(read_bytes(row)?)),
+    }
+}
+
+fn first_rows<S: Alter>(
+    connection: &mut Connection<S>,
+    tenant: &str,
+    bucket: &str,
+) -> Result<Vec<Row>, Error>
+    requires inside { InTransaction S.Store connection.old }
+    ensures within { StaysWithin S.Store connection.old connection.new }
+    ensures opens { OnOk result (WasOpen S.Store connection.old connection.new) }
+    ensures same { OnOk result (ChangesNothing S.Store connection.old connection.new) }
+    ensures rows { IfOk result (λ rows. IsClean S.Store connection.new
+        → rows.items ≡ take 1 (map shown_seq
+        (sort_by by_id (filter (is_in_bucket tenant.now bucket.now) (tables S.Store connection.old).versions)))) }
+    ensures trouble { IfErr result (IsTrouble S.Store connection.old connection.new) }
+{
+    connection.query_all(
+        "SELECT seq FROM versions WHERE tenant = ?1 AND bucket = ?2 ORDER BY okey, id, rowid LIMIT 1",
+        &[tenant.to_sql(), bucket.to_sql()],
+    )
+}
+
+/// Whether a bucket has a version or a marker.
+pub fn bucket_has_versions<S: Alter>(
+    connection: &mut Connection<S>,
+    tenant: &str,
+    bucket: &str,
+) -> Result<bool, Error>
+    requires inside { InTransaction S.Store connection.old }
+    ensures within { StaysWithin S.Store connection.old connection.new }
+    ensures opens { OnOk result (WasOpen S.Store connection.old connection.new) }
+    ensures same { OnOk result (ChangesNothing S.Store connection.old connection.new) }
+    ensures found { IfOk result (λ found. IsClean S.Store connection.new
+        → found ≡ list_any (is_in_bucket tenant.now bucket.now) (tables S.Store connection.old).versions) }
+    ensures trouble { IfErr result (IsTrouble S.Store connection.old connection.new) }
+{
+    let rows = first_rows(connection, tenant, bucket)?;
+    Ok(!rows.is_empty())
+}
+
 /// Adds a version.
 pub fn insert_version<S: Alter>(
     connection: &mut Connection<S>,
@@ -152,6 +382,51 @@ pub fn insert_version<S: Alter>(
             number(version.bytes.len() as u64),
             version.checksum.to_sql(),
             version.bytes.to_sql(),
+        ],
+    )
+}
+
+/// Adds a delete marker.
+pub fn insert_marker<S: Alter>(
+    connection: &mut Connection<S>,
+    marker: &NewMarker<'_>,
+) -> Result<usize, Error>
+    requires inside { InTransaction S.Store connection.old }
+    requires seq { marker.now.seq < 2 ^ 63 }
+    requires id { marker.now.id < 2 ^ 63 }
+    requires stamp { marker.now.stamp < 2 ^ 63 }
+    ensures within { StaysWithin S.Store connection.old connection.new }
+    ensures opens { OnOk result (StaysOpen S.Store connection.old connection.new) }
+    ensures holds { OnOk result (Becomes S.Store connection.old connection.new
+        (λ rows. record rows {
+          versions = rows.versions ++ record {
+            tenant = marker.now.tenant.now;
+            seq = marker.now.seq;
+            bucket = marker.now.bucket.now;
+            okey = marker.now.okey.now;
+            id = marker.now.id;
+            marker = 1;
+            stamp = marker.now.stamp;
+            size = 0;
+            checksum = [];
+            bytes = [];
+          } ∷ [];
+        })) }
+    ensures trouble { IfErr result (IsTroubleIf S.Store connection.old connection.new
+        (IsNewVersion (tables S.Store connection.old) marker.now.tenant.now marker.now.bucket.now marker.now.okey.now
+        marker.now.seq marker.now.id)) }
+{
+    // Asked for what it ensures: the rows obey the schema.
+    let _schema = connection.schema();
+    connection.execute(
+        "INSERT INTO versions (tenant, seq, bucket, okey, id, marker, stamp, size, sum, bytes) VALUES (?1, ?2, ?3, ?4, ?5, 1, ?6, 0, '', x'')",
+        &[
+            marker.tenant.to_sql(),
+            number(marker.seq),
+            marker.bucket.to_sql(),
+            marker.okey.to_sql(),
+            number(marker.id),
+            number(marker.stamp),
         ],
     )
 }
