@@ -6,6 +6,7 @@ pub mod bucket;
 pub mod bucket_state;
 mod bytes;
 pub mod counters;
+pub mod digits;
 pub mod error;
 pub mod id;
 pub mod key;
