@@ -3,3 +3,5 @@ pub mod Found
 pub mod Creating
 pub mod Putting
 pub mod Getting
+pub mod Deleting
+pub mod Ids

@@ -1,18 +1,22 @@
 -- What is read of a tenant's rows, and what a put or a delete makes of the tables.
-use Rattle.std.specs.Prelude.{ℕ, ◌++◌, [], ◌∷◌, Option, option_map, option_and_then, is_none, ok_or, Result, Ok, IsTrue}
+use Rattle.std.specs.Prelude.{◌≡◌, ℕ, ◌++◌, [], ◌∷◌, Option, option_map, option_and_then, is_none, ok_or, Result, Ok, Err, IsTrue}
 use Rattle.std.specs.Str.{IsUtf8}
 use Rattle.std.specs.Result.{result_map_both}
 use Rattle.std.specs.FinMap.{get}
 use Rattle.sqlite_keyed.specs.Lists.{update_where}
 use Rattle.bh_types.specs.declared.bucket_state.BucketState.{BucketState}
 use Rattle.bh_types.specs.declared.refusal.Refusal.{Refusal}
-use Rattle.bh_types.specs.declared.refusal.Refusal.TheVariants.{NoSuchBucket, BucketAlreadyOwnedByYou}
+use Rattle.bh_types.specs.declared.refusal.Refusal.TheVariants.{NoSuchBucket, BucketAlreadyOwnedByYou, BadDigest}
 use Rattle.bh_types.specs.Names.{is_object_key}
 use Rattle.bh_types.specs.Counts.{Counts}
+use Rattle.bh_types.specs.Checksums.{checksum_text}
 use Rattle.bh_model.specs.State.{Octets, State, Content}
 use Rattle.bh_types.specs.Outcomes.{◌>>=◌, require}
 use Rattle.bh_model.specs.Counting.{counts, after_entry}
 use Rattle.bh_model.specs.Operations.{tenant_bucket, added_tenant}
+use Rattle.bh_model.specs.Parts.{is_checksum}
+use Rattle.bh_storage.specs.declared.error.StepError.{StepError}
+use Rattle.bh_storage.specs.declared.error.StepError.TheVariants.{Refused, Failed}
 use Rattle.bh_tables.specs.Typed.{Tables}
 use Rattle.bh_tables.specs.Shown.{is_tenant}
 use Rattle.bh_view.specs.Put.{entry_row, row_number, counters_row, rows_left}
@@ -61,3 +65,15 @@ with_entry mode before after tenant bucket key moment content tables =
 pub record IsKeyText (text : Octets) : Type 0 where
   pub key : IsTrue (is_object_key text)
   pub valid : IsUtf8 text
+
+-- the text of the checksum of an object's bytes, where no other is given
+abbrev pub sum_given : Option Octets → Octets → Result Octets Refusal
+sum_given given bytes = do
+  _ ← require (is_checksum given bytes) BadDigest
+  Ok (checksum_text bytes)
+
+-- what was returned, as shown, is the answer, unless memory or the store was wanting
+abbrev pub Answers : {X Y E : Type 0} → (X → Y) → Result Y E → Result X (StepError E) → Type 0
+Answers shown answer (Ok x) = answer ≡ Ok (shown x)
+Answers shown answer (Err (Refused r)) = answer ≡ Err r
+Answers shown answer (Err (Failed trouble)) = Unit {0}

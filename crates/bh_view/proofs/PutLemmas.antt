@@ -183,8 +183,8 @@ module _ (old new : Tables) (t : Octets) (s : State) (sound : IsSound old) (is :
   object_put bytes c given e = put_in (Body bytes (checksum_text bytes)) (λ _. refl) B.mode c refl given e
 
   -- a delete marker is made, where versions are or were numbered
-  pub marker_put : (mode : BucketState) (c : Counts) → B.mode ≡ mode → is_plain mode ≡ false → after_entry mode (counts s) ≡ Ok c → new ≡ with_row mode c Marker
+  pub marker_put : (mode : BucketState) (c : Counts) → B.mode ≡ mode → (mode ≡ Unversioned → ⊥) → after_entry mode (counts s) ≡ Ok c → new ≡ with_row mode c Marker
       → Becomes t (Some (with_bucket b (with_entries k (deleted_current mode s.next_version moment (listed k B)) B) (with_counts c s))) old new
-  marker_put Unversioned c its versioned given e = absurd (true≢false versioned)
+  marker_put Unversioned c its versioned given e = absurd (versioned refl)
   marker_put Enabled c its versioned given e = put_in Marker (λ plain. absurd (true≢false (ap is_plain (sym plain ∙ its)))) Enabled c its given e
   marker_put Suspended c its versioned given e = put_in Marker (λ plain. absurd (true≢false (ap is_plain (sym plain ∙ its)))) Suspended c its given e
