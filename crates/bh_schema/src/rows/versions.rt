@@ -335,7 +335,10 @@ pub fn bucket_has_versions<S: Alter>(
     ensures trouble { IfErr result (IsTrouble S.Store connection.old connection.new) }
 {
     let rows = first_rows(connection, tenant, bucket)?;
-    Ok(!rows.is_empty())
+    match rows.first() {
+        None => Ok(false),
+        Some(_row) => Ok(true),
+    }
 }
 
 /// Adds a version.
