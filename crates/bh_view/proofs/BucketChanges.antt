@@ -14,7 +14,7 @@ use Rattle.bh_tables.specs.Typed.{TenantRow, BucketRow, VersionRow, Tables}
 use Rattle.bh_tables.specs.Shown.{is_bucket}
 use Rattle.bh_view.specs.Grouped.{first}
 use Rattle.bh_view.specs.View.{mode_of, rows_of, bucket_shown, buckets_of, view, latest_of, named, in_bucket}
-use Rattle.bh_view.specs.Sound.{AreBuckets, AreVersions, AreSound, IsSound}
+use Rattle.bh_view.specs.Sound.{IsPlain, AreBuckets, AreVersions, AreSound, IsSound}
 use Rattle.bh_view.specs.Becomes.{Becomes}
 use Rattle.bh_view.proofs.Keys.{octets}
 use Rattle.bh_view.proofs.FilterLemmas.{none_some, same_Some, none_mapped, push_other, delete_other, update_other, first_updated}
@@ -42,9 +42,9 @@ bucket_fresh tables t s is b none =
 
 -- a bucket with a new name has no versions
 unversioned_grown : (latest : ℕ) (tenants : List TenantRow) (buckets : List BucketRow) (versions : List VersionRow) → AreVersions latest tenants buckets versions → (new : BucketRow) → named new.bucket buckets ≡ []
-    → (b : Octets) (r : BucketRow) → first (named b (buckets ++ new ∷ [])) ≡ Some r → mode_of r.state ≡ Unversioned → AllByRecursion (λ v. v.id ≡ 0) (in_bucket b versions)
-unversioned_grown latest tenants buckets versions all new fresh b r there zero = elim (bytes_eq new.bucket b) as (λ h. bytes_eq new.bucket b ≡ h → AllByRecursion (λ v. v.id ≡ 0) (in_bucket b versions)) [
-  | true ↦ λ e. subst (AllByRecursion (λ v. v.id ≡ 0)) (sym (all.owned b (ap first (ap (λ z. named z buckets) (sym ((octets.decides new.bucket b).0 e)) ∙ fresh)))) tt
+    → (b : Octets) (r : BucketRow) → first (named b (buckets ++ new ∷ [])) ≡ Some r → mode_of r.state ≡ Unversioned → AllByRecursion IsPlain (in_bucket b versions)
+unversioned_grown latest tenants buckets versions all new fresh b r there zero = elim (bytes_eq new.bucket b) as (λ h. bytes_eq new.bucket b ≡ h → AllByRecursion IsPlain (in_bucket b versions)) [
+  | true ↦ λ e. subst (AllByRecursion IsPlain) (sym (all.owned b (ap first (ap (λ z. named z buckets) (sym ((octets.decides new.bucket b).0 e)) ∙ fresh)))) tt
   | false ↦ λ e. all.unversioned b r (ap first (sym (push_other (λ x. bytes_eq x.bucket b) buckets new e)) ∙ there) zero
 ] refl
 
