@@ -1,4 +1,5 @@
-ghost use Rattle.std.specs.Prelude.{◌≡◌, ◌≤◌, option_map};
+ghost use Rattle.std.specs.Option.{option_copied};
+ghost use Rattle.std.specs.Prelude.{◌≡◌, ◌≤◌};
 ghost use Rattle.bh_types.specs.Rejections.{plainly};
 ghost use Rattle.bh_machine.specs.Machine.{set_versioning, operated};
 ghost use Rattle.bh_model.specs.Operations as machine;
@@ -89,7 +90,7 @@ fn delete_bucket<S: Alter>(
         → Carries answer_view tenant.now (λ s. plainly (machine.delete_bucket bucket.now s))
         (tables S.Store connection.old) (tables S.Store connection.new) result }
 {
-    answers::gone(buckets::delete_bucket(connection, tenant, bucket))
+    answers::removed(buckets::delete_bucket(connection, tenant, bucket))
 }
 
 fn versioning<S: Alter>(
@@ -131,6 +132,7 @@ fn put_object<S: Alter>(
     connection: &mut Connection<S>,
     alloc: Global,
     object: &NewObject<'_>,
+    given: Option<&[u8]>,
 ) -> Result<Answer, StepError<Rejection>>
     requires working { Works S.Store connection.old }
     requires early { IsClean S.Store connection.old → object.now.at ≤ latest_of (tables S.Store connection.old) }
@@ -138,10 +140,10 @@ fn put_object<S: Alter>(
     ensures opens { Unless result (StaysOpen S.Store connection.old connection.new) }
     ensures working { Unless result (StillWorks S.Store connection.old connection.new) }
     ensures carries { IsClean S.Store connection.new
-        → Carries answer_view object.now.tenant.now (λ s. plainly (machine.put_object object.now.at object.now.bucket.now object.now.key.now object.now.bytes.now object.now.given.now s))
+        → Carries answer_view object.now.tenant.now (λ s. plainly (machine.put_object object.now.at object.now.bucket.now object.now.key.now object.now.bytes.now (option_copied given.entry) s))
         (tables S.Store connection.old) (tables S.Store connection.new) result }
 {
-    answers::stored(objects::put_object(connection, alloc, object))
+    answers::stored(objects::put_object(connection, alloc, object, given))
 }
 
 fn get_object<S: Alter>(
@@ -157,7 +159,7 @@ fn get_object<S: Alter>(
     ensures opens { Unless result (StaysOpen S.Store connection.old connection.new) }
     ensures working { Unless result (StillWorks S.Store connection.old connection.new) }
     ensures carries { IsClean S.Store connection.new
-        → Carries answer_view tenant.now (machine.get_object object.now.bucket object.now.key version (option_map (λ r. r.now) range))
+        → Carries answer_view tenant.now (machine.get_object object.now.bucket object.now.key version (option_copied range.entry))
         (tables S.Store connection.old) (tables S.Store connection.new) result }
 {
     let (bucket, key) = (&object.bucket, &object.key);
@@ -209,7 +211,7 @@ fn delete_object<S: Alter>(
 }
 
 fn bytes_of(bytes: &Option<Bytes>) -> Option<&[u8]>
-    ensures { option_map (λ r. r.now) result ≡ bytes.now }
+    ensures { option_copied result ≡ bytes.now }
 {
     match bytes {
         Some(bytes) => Some(bytes.as_slice()),
@@ -252,9 +254,8 @@ pub fn operate<S: Alter>(
                 key: &object.key,
                 at,
                 bytes: body,
-                given: bytes_of(checksum),
             };
-            put_object(connection, alloc, &object)
+            put_object(connection, alloc, &object, bytes_of(checksum))
         }
         Operation::GetObject {
             object,

@@ -1,19 +1,28 @@
-ghost use Rattle.std.specs.Prelude.{◌≤◌};
+ghost use Rattle.std.specs.Prelude.{◌≡◌, ◌≢◌, ◌≤◌, map, IfOk};
+ghost use Rattle.bh_docs.specs.Documents.{bucket_view};
 ghost use Rattle.bh_model.specs.Operations as machine;
-ghost use Rattle.bh_storage.specs.Calls.{Unless, Carries};
+ghost use Rattle.bh_storage.specs.Answers.{removed_answer};
+ghost use Rattle.bh_storage.specs.Calls.{Unless, Carries, Decides};
 ghost use Rattle.bh_view.specs.View.{latest_of};
 ghost use Rattle.bh_schema.specs.Connections.{IsClean, tables, StaysWithin, StaysOpen};
+ghost use Rattle.bh_schema.specs.Views.{entry_seen};
 ghost use Rattle.bh_schema.specs.Working.{Works, StillWorks};
+ghost use Rattle.bh_objects.specs.Buckets.{emptiness};
 
-use crate::reads::{require_free_name, require_tenant};
+use crate::reads::{bucket_state, require_free_name, require_tenant};
+use bh_docs::BucketEntry;
 use bh_schema::rows;
+use bh_schema::rows::buckets::ListedBucket;
 use bh_schema::trouble::trouble_of;
-use bh_storage::error::StepError;
+use bh_storage::answer::RemovedEntry;
+use bh_storage::error::{StepError, Trouble};
 use bh_types::bucket::BucketName;
+use bh_types::bucket_state::BucketState;
 use bh_types::moment::Moment;
 use bh_types::names::TenantName;
 use bh_types::refusal::Refusal;
 use sqlite::{Alter, Connection};
+use std::alloc::{AllocError, Global};
 
 /// S3's CreateBucket, at a moment that is not after the last stamp: NoSuchTenant,
 /// BucketAlreadyOwnedByYou.
@@ -36,6 +45,153 @@ pub fn create_bucket<S: Alter>(
     require_free_name(connection, tenant, bucket)?;
     match rows::buckets::insert_bucket(connection, tenant.as_str(), bucket.as_str(), at.seconds()) {
         Ok(_) => Ok(()),
+        Err(error) => Err(StepError::Failed(trouble_of(error))),
+    }
+}
+
+/// S3's HeadBucket: NoSuchBucket.
+pub fn head_bucket<S: Alter>(
+    connection: &mut Connection<S>,
+    tenant: &TenantName,
+    bucket: &BucketName,
+) -> Result<(), StepError<Refusal>>
+    requires working { Works S.Store connection.old }
+    ensures within { StaysWithin S.Store connection.old connection.new }
+    ensures opens { Unless result (StaysOpen S.Store connection.old connection.new) }
+    ensures working { Unless result (StillWorks S.Store connection.old connection.new) }
+    ensures carries { IsClean S.Store connection.new
+        → Carries (λ _. machine.Done) tenant.now (machine.head_bucket bucket.now)
+        (tables S.Store connection.old) (tables S.Store connection.new) result }
+{
+    bucket_state(connection, tenant, bucket)?;
+    Ok(())
+}
+
+/// S3's GetBucketVersioning: NoSuchBucket.
+pub fn versioning<S: Alter>(
+    connection: &mut Connection<S>,
+    tenant: &TenantName,
+    bucket: &BucketName,
+) -> Result<BucketState, StepError<Refusal>>
+    requires working { Works S.Store connection.old }
+    ensures within { StaysWithin S.Store connection.old connection.new }
+    ensures opens { Unless result (StaysOpen S.Store connection.old connection.new) }
+    ensures working { Unless result (StillWorks S.Store connection.old connection.new) }
+    ensures carries { IsClean S.Store connection.new
+        → Carries machine.Versioning tenant.now (machine.get_versioning bucket.now)
+        (tables S.Store connection.old) (tables S.Store connection.new) result }
+{
+    bucket_state(connection, tenant, bucket)
+}
+
+/// S3's PutBucketVersioning: NoSuchBucket. No bucket goes back to the state that it was made in.
+pub fn set_versioning<S: Alter>(
+    connection: &mut Connection<S>,
+    tenant: &TenantName,
+    bucket: &BucketName,
+    state: BucketState,
+) -> Result<(), StepError<Refusal>>
+    requires working { Works S.Store connection.old }
+    requires kept { state ≢ BucketState.Unversioned }
+    ensures within { StaysWithin S.Store connection.old connection.new }
+    ensures opens { Unless result (StaysOpen S.Store connection.old connection.new) }
+    ensures working { Unless result (StillWorks S.Store connection.old connection.new) }
+    ensures carries { IsClean S.Store connection.new
+        → Carries (λ _. machine.Done) tenant.now (machine.put_versioning bucket.now state)
+        (tables S.Store connection.old) (tables S.Store connection.new) result }
+{
+    bucket_state(connection, tenant, bucket)?;
+    match rows::buckets::set_state(connection, tenant.as_str(), bucket.as_str(), state) {
+        Ok(_) => Ok(()),
+        Err(error) => Err(StepError::Failed(trouble_of(error))),
+    }
+}
+
+/// Whether no version and no marker is in a tenant's bucket: BucketNotEmpty.
+fn require_empty<S: Alter>(
+    connection: &mut Connection<S>,
+    tenant: &TenantName,
+    bucket: &BucketName,
+) -> Result<(), StepError<Refusal>>
+    requires working { Works S.Store connection.old }
+    ensures within { StaysWithin S.Store connection.old connection.new }
+    ensures opens { Unless result (StaysOpen S.Store connection.old connection.new) }
+    ensures working { Unless result (StillWorks S.Store connection.old connection.new) }
+    ensures decides { IsClean S.Store connection.new
+        → Decides (λ _. tt) (emptiness tenant.now bucket.now (tables S.Store connection.old))
+        (tables S.Store connection.old) (tables S.Store connection.new) result }
+{
+    match rows::versions::bucket_has_versions(connection, tenant.as_str(), bucket.as_str()) {
+        Ok(false) => Ok(()),
+        Ok(true) => Err(StepError::Refused(Refusal::BucketNotEmpty)),
+        Err(error) => Err(StepError::Failed(trouble_of(error))),
+    }
+}
+
+/// S3's DeleteBucket: NoSuchBucket, BucketNotEmpty. A version or a delete marker keeps a bucket.
+pub fn delete_bucket<S: Alter>(
+    connection: &mut Connection<S>,
+    tenant: &TenantName,
+    bucket: &BucketName,
+) -> Result<RemovedEntry, StepError<Refusal>>
+    requires working { Works S.Store connection.old }
+    ensures within { StaysWithin S.Store connection.old connection.new }
+    ensures opens { Unless result (StaysOpen S.Store connection.old connection.new) }
+    ensures working { Unless result (StillWorks S.Store connection.old connection.new) }
+    ensures carries { IsClean S.Store connection.new
+        → Carries removed_answer tenant.now (machine.delete_bucket bucket.now)
+        (tables S.Store connection.old) (tables S.Store connection.new) result }
+{
+    bucket_state(connection, tenant, bucket)?;
+    require_empty(connection, tenant, bucket)?;
+    match rows::buckets::delete_bucket(connection, tenant.as_str(), bucket.as_str()) {
+        Ok(_) => Ok(RemovedEntry {
+            id: None,
+            marker: false,
+        }),
+        Err(error) => Err(StepError::Failed(trouble_of(error))),
+    }
+}
+
+/// A bucket of a listing, as it is told. A moment that is none can't be read.
+fn bucket_entry(alloc: Global, bucket: &ListedBucket) -> Result<BucketEntry, Trouble>
+    ensures { IfOk result (λ entry. bucket_view entry ≡ entry_seen bucket.now) }
+{
+    let Some(created) = Moment::new(bucket.created) else {
+        return Err(Trouble::Store);
+    };
+    let name = String::from_str(alloc, bucket.name.as_str())?;
+    Ok(BucketEntry { created, name })
+}
+
+fn bucket_entries(alloc: Global, listed: &[ListedBucket]) -> Result<Vec<BucketEntry>, Trouble>
+    ensures { IfOk result (λ entries. map bucket_view entries.items ≡ map entry_seen listed.now) }
+{
+    let mut entries = Vec::new(alloc);
+    for bucket in listed {
+        let entry = bucket_entry(alloc, bucket)?;
+        entries.push(entry).map_err(AllocError::from)?;
+    }
+    Ok(entries)
+}
+
+/// S3's ListBuckets: all of a tenant's buckets, by name in byte order. A tenant that was not added
+/// has none.
+pub fn list_buckets<S: Alter>(
+    connection: &mut Connection<S>,
+    alloc: Global,
+    tenant: &TenantName,
+) -> Result<Vec<BucketEntry>, StepError<Refusal>>
+    requires working { Works S.Store connection.old }
+    ensures within { StaysWithin S.Store connection.old connection.new }
+    ensures opens { Unless result (StaysOpen S.Store connection.old connection.new) }
+    ensures working { Unless result (StillWorks S.Store connection.old connection.new) }
+    ensures carries { IsClean S.Store connection.new
+        → Carries (λ buckets. machine.Buckets (map bucket_view buckets.items)) tenant.now machine.list_buckets
+        (tables S.Store connection.old) (tables S.Store connection.new) result }
+{
+    match rows::buckets::bucket_list(connection, alloc, tenant.as_str()) {
+        Ok(listed) => Ok(bucket_entries(alloc, &listed)?),
         Err(error) => Err(StepError::Failed(trouble_of(error))),
     }
 }

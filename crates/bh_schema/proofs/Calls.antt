@@ -1,5 +1,5 @@
 -- A call inside a transaction, in the words of the layer.
-use Rattle.std.proofs.Common.{◌≡◌, inl, inr, ℕ, List, [], ◌∷◌, ◌++◌, map, filter, take, Bool, true, IsTrue, None, Ok, Err, Result, OnOk, OnErr, IfOk, IfErr, refl, sym, ap, ◌∙◌, true≢false, subst, Ordering}
+use Rattle.std.proofs.Common.{◌≡◌, inl, inr, ℕ, List, [], ◌∷◌, ◌++◌, map, filter, Bool, true, IsTrue, None, Ok, Err, Result, OnOk, OnErr, IfOk, IfErr, Ordering, refl, sym, ap, ◌∙◌, true≢false, subst, take}
 use Rattle.sqlite.specs.Order.{Row}
 use Rattle.sqlite.specs.Tree.{Trees}
 use Rattle.sqlite.specs.State.{State, HasCleanDisk, IsLive, IsUnchanged, Survives, Executes, CommitsBy, CommitsShowing, Shown, FailsToQuery}
@@ -11,7 +11,7 @@ use Rattle.bh_rows.specs.Scan.{no_limit}
 use Rattle.bh_rows.specs.Texts.{MayAdd, MayChange, InsertText, UpdateText, DeleteText, SelectText, SortedText}
 use Rattle.bh_tables.specs.Schema.{host_schema}
 use Rattle.bh_tables.specs.Typed.{IsHost, IsReady, Tables, tables_in, tables}
-use Rattle.bh_tables.proofs.Places.{Place}
+use Rattle.bh_tables.proofs.Places.{Place, Goes}
 use Rattle.bh_tables.proofs.Terms.{one_row}
 use Rattle.bh_tables.proofs.Statements.{Writes, Shows}
 use Rattle.bh_tables.proofs.Statements as statement
@@ -207,6 +207,11 @@ module _ {T : Type 0} (p : Place T) (old new : State) (inside : IsStateClean old
       → Question old new rows_in (λ t. map view (filter m (p.rows t))) result
   selected rows_in result it ok err survives = question old new rows_in _ result inside (statement.selected p old new (ready old inside) rows_in result _ _ _ _ it ok err survives)
 
+  pub sorted : {X : Type 0} (rows_in : X → List Row) (result : Result X Error) {sql : List ℕ} {params : Row} {m : T → Bool} {view : T → Row} {order : T → T → Ordering} → SortedText p.form host_schema p.table.tree sql params m view order no_limit
+      → (HasCleanDisk new → IfOk result (λ x. Shown sql params old new (rows_in x))) → (HasCleanDisk new → IfErr result (FailsToQuery sql params old new)) → Survives old new (CommitsShowing sql params old)
+      → Question old new rows_in (λ t. map view (sort_by order (filter m (p.rows t)))) result
+  sorted rows_in result it ok err survives = question old new rows_in _ result inside (statement.sorted p old new (ready old inside) rows_in result _ _ _ _ _ it ok err survives)
+
   pub selected_first : {X : Type 0} (rows_in : X → List Row) (result : Result X Error) {sql : List ℕ} {params : Row} {m : T → Bool} {view : T → Row} {order : T → T → Ordering}
       → SortedText p.form host_schema p.table.tree sql params m view order one_row
       → (HasCleanDisk new → IfOk result (λ x. Shown sql params old new (rows_in x))) → (HasCleanDisk new → IfErr result (FailsToQuery sql params old new)) → Survives old new (CommitsShowing sql params old)
@@ -229,3 +234,9 @@ module _ {T : Type 0} (p : Place T) (old new : State) (inside : IsStateClean old
         → (HasCleanDisk new → Executes sql params old new result) → Survives old new (CommitsBy sql params old)
         → Write old new (λ t. p.set t (delete_where m (p.rows t))) (λ e. is_trouble e ≡ true) result
     deleted it unused runs survives = write old new _ _ result inside (statement.deleted p old new (ready old inside) result _ _ runs survives live _ it (unused old.now.trees))
+
+    pub removed : {sql : List ℕ} {params : Row} {m : T → Bool} {A : Type 0} → DeleteText p.form host_schema p.number p.table sql params m → (IsStateClean old → A → Goes p (standing old).now.trees m)
+        → (HasCleanDisk new → Executes sql params old new result) → Survives old new (CommitsBy sql params old)
+        → Write old new (λ t. p.set t (delete_where m (p.rows t))) (λ e. A → is_trouble e ≡ true) result
+    unfolding IsIntact IsOpen standing
+    removed it goes runs survives = write old new _ _ result inside (statement.removed p old new (ready old inside) result _ _ runs survives live _ it (λ clean up. goes (record { intact = clean; is_open = up })))

@@ -4,7 +4,7 @@ use Rattle.std.specs.List.{list_any}
 use Rattle.sqlite_keyed.specs.Lists.{sort_by}
 use Rattle.bh_tables.specs.Schema.{Octets}
 use Rattle.bh_tables.specs.Typed.{HostRow, TenantRow, KeyRow, BucketRow, VersionRow, Tables}
-use Rattle.bh_tables.specs.Shown.{is_tenant, is_key, is_bucket, is_entry, is_version, is_at}
+use Rattle.bh_tables.specs.Shown.{is_tenant, is_key, is_bucket, is_owned_bucket, by_bucket, is_entry, is_version, is_at}
 use Rattle.bh_view.specs.Grouped.{first}
 use Rattle.bh_view.specs.View.{newer}
 use Rattle.bh_schema.specs.declared.rows.tenants.TenantNumbers.{TenantNumbers}
@@ -24,6 +24,14 @@ secret_in k = k.secret
 
 abbrev pub bucket_numbers : BucketRow → BucketNumbers
 bucket_numbers b = record { created = b.created; state = b.state; days = b.days }
+
+-- a tenant's buckets by name, in byte order
+abbrev pub listed_buckets : Octets → Tables → List BucketRow
+listed_buckets tenant tables = sort_by by_bucket (filter (is_owned_bucket tenant) tables.buckets)
+
+-- a bucket's name, and when it was made in seconds since 1970
+abbrev pub entry_in : BucketRow → Octets × ℕ
+entry_in b = (b.bucket, b.created)
 
 -- the columns of a version that are read
 pub record SeenVersion : Type 0 where

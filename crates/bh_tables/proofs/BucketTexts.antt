@@ -1,7 +1,8 @@
 -- The texts over buckets.
-use Rattle.std.proofs.Common.{◌≡◌, ◌≤◌, nat_le, ℕ, ℤ, pos, codes, [], ◌∷◌, ◌&&◌, true, false, Option, None, Some, refl, ap, ◌∙◌}
+use Rattle.std.proofs.Common.{◌≡◌, ◌≤◌, nat_le, ℕ, ℤ, pos, codes, [], ◌∷◌, ◌&&◌, true, false, Option, None, Some, refl, sym, ap, ap₂, ◌∙◌}
 use Rattle.std.specs.List.{list_any}
-use Rattle.std.proofs.lemmas.Bool.{leb-true}
+use Rattle.std.proofs.lemmas.Bool.{leb-true, and_parts}
+use Rattle.sqlite.specs.Collation.TheVariants.{Binary}
 use Rattle.sqlite.specs.declared.types.Value.TheVariants.{Null, Int, Text}
 use Rattle.sqlite.specs.Edit.{next_rowid}
 use Rattle.sqlite.specs.Effect.{Database}
@@ -9,17 +10,21 @@ use Rattle.sqlite.specs.Listing.{understood}
 use Rattle.sqlite.specs.Term.{lit, col}
 use Rattle.sqlite_sql.specs.declared.ops.CompareOp.TheVariants.{Eq}
 use Rattle.sqlite_value.specs.Keys.{plain, first_key}
+use Rattle.sqlite_value.proofs.OrderLemmas.{value_cmp-Int, value_cmp-Text}
 use Rattle.sqlite_schema.specs.Rules.{agree}
 use Rattle.sqlite_tied.specs.Compute.{everything}
-use Rattle.sqlite_typed.proofs.TestLemmas.{at_texts, last_term, then_term}
+use Rattle.sqlite_typed.specs.Tests.{bytes_eq}
+use Rattle.sqlite_typed.proofs.TestLemmas.{same_bytes, at_texts, last_term, then_term, then_key, last_key}
 use Rattle.bh_rows.specs.Form.{put}
-use Rattle.bh_rows.specs.Keys.{Suits}
-use Rattle.bh_rows.specs.Scan.{no_limit}
-use Rattle.bh_rows.specs.Texts.{MayAdd, InsertText, SelectText}
+use Rattle.bh_rows.specs.Keys.{Pointer, points_at, Suits}
+use Rattle.bh_rows.specs.Scan.{by_rowid, no_limit}
+use Rattle.bh_rows.specs.Texts.{MayAdd, MayChange, InsertText, UpdateText, DeleteText, SelectText, SortedText}
+use Rattle.bh_rows.proofs.DeleteErrors.{none_points, none_named}
 use Rattle.bh_rows.proofs.FormLemmas.{any_typed}
 use Rattle.bh_tables.specs.Schema.{Octets, host_schema, buckets_table, at}
-use Rattle.bh_tables.specs.Typed.{BucketRow, bucket_form, tenant_form, number, IsHost, tables_in}
-use Rattle.bh_tables.specs.Shown.{is_bucket, is_tenant, shown_bucket}
+use Rattle.bh_tables.specs.Typed.{BucketRow, VersionRow, bucket_form, tenant_form, version_form, number, IsHost, tables_in}
+use Rattle.bh_tables.specs.Shown.{is_bucket, is_in_bucket, is_owned_bucket, is_tenant, by_bucket, shown_bucket, shown_entry}
+use Rattle.bh_tables.proofs.Places.{Goes, buckets}
 use Rattle.bh_tables.proofs.Checked.{bucket_checked}
 use Rattle.bh_tables.proofs.Terms.{is}
 
@@ -41,6 +46,34 @@ new_bucket db host b low free owned = record {
   free = (any_typed bucket_form _ (is_bucket b.tenant b.bucket) (λ id a. bucket_agrees id (next_rowid (db.trees 5)) a b) (db.trees 5) host.held.buckets ∙ free, tt);
   parents = ap (λ c. c && true) (any_typed tenant_form _ (is_tenant b.tenant) (λ id t. last_term (at_texts false Eq t.tenant b.tenant)) (db.trees 1) host.held.tenants ∙ owned);
 }
+
+-- ---- a bucket that no version names may go
+
+abbrev to_buckets : Pointer
+to_buckets = record { child = 7; columns = 1 ∷ 3 ∷ []; places = 1 ∷ 2 ∷ []; order = plain }
+
+lies_in : (i : ℤ) (v : VersionRow) (j : ℤ) (b : BucketRow) → points_at to_buckets (put version_form (i, v)) (put bucket_form (j, b)) ≡ (bytes_eq v.tenant b.tenant && bytes_eq v.bucket b.bucket)
+unfolding first_key
+lies_in i v j b = then_term (at_texts false Eq v.tenant b.tenant) (last_term (at_texts false Eq v.bucket b.bucket))
+
+named : (tenant bucket : Octets) (v : VersionRow) (b : BucketRow) → (bytes_eq v.tenant b.tenant && bytes_eq v.bucket b.bucket) ≡ true → is_bucket tenant bucket b ≡ true → is_in_bucket tenant bucket v ≡ true
+named tenant bucket v b lies is =
+    let both = and_parts _ _ is in
+    ap₂ (λ t n. bytes_eq v.tenant t && bytes_eq v.bucket n) (sym (same_bytes b.tenant tenant both.0)) (sym (same_bytes b.bucket bucket both.1)) ∙ lies
+
+pub empty_goes : (db : Database) → IsHost db → (tenant bucket : Octets) → list_any (is_in_bucket tenant bucket) (tables_in db).versions ≡ false → Goes buckets db.trees (is_bucket tenant bucket)
+unfolding everything
+empty_goes db host tenant bucket empty = (
+  none_points bucket_form version_form (db.trees 5) (db.trees 7) to_buckets (is_bucket tenant bucket) (λ v b. bytes_eq v.tenant b.tenant && bytes_eq v.bucket b.bucket) lies_in host.held.buckets host.held.versions
+      (none_named (λ v b. bytes_eq v.tenant b.tenant && bytes_eq v.bucket b.bucket) (is_bucket tenant bucket) (is_in_bucket tenant bucket) (named tenant bucket) (tables_in db).buckets (tables_in db).versions empty),
+  tt,
+)
+
+-- ---- a state is one of three
+
+pub state_may : (tenant bucket : Octets) (state : ℕ) → state ≤ 2 → MayChange bucket_form host_schema (at 5 buckets_table) (is_bucket tenant bucket) (λ b. record b { state = state })
+unfolding everything
+state_may tenant bucket state low = record { suits = λ id b found was. bucket_suits id (record b { state = state }) b.days low; unwatched = λ id b found. refl }
 
 -- ---- the texts
 
@@ -66,4 +99,40 @@ bucket_inserted tenant bucket created = record {
   means = record { is = refl; plain = (refl, refl); unlisted = refl; whole = refl; given = refl };
   gives = refl;
   accepts = refl;
+}
+
+pub buckets_listed : (tenant : Octets) → SortedText bucket_form host_schema 5 (codes "SELECT bucket, created FROM buckets WHERE tenant = ?1 ORDER BY bucket, rowid") (Text tenant ∷ []) (is_owned_bucket tenant) shown_entry by_bucket no_limit
+unfolding understood everything
+buckets_listed tenant = record {
+  test = is 1 0 ∷ [];
+  show = col 1 2 ∷ col 1 3 ∷ [];
+  keys = (col 1 2, record { collation = Binary; descending = false }) ∷ by_rowid;
+  names = codes "bucket" ∷ codes "created" ∷ [];
+  means = record { is = refl; plain = (refl, refl); unlisted = refl; whole = refl; given = refl };
+  low = refl;
+  accepts = refl;
+  tests = λ id b. last_term (at_texts false Eq b.tenant tenant);
+  shows = λ id b. refl;
+  orders = λ a b. then_key (value_cmp-Text a.1.bucket b.1.bucket) (last_key (value_cmp-Int a.0 b.0));
+}
+
+pub state_set : (tenant bucket : Octets) (state : ℕ) → UpdateText bucket_form host_schema 3 (at 5 buckets_table) (codes "UPDATE buckets SET state = ?3 WHERE tenant = ?1 AND bucket = ?2") (Text tenant ∷ Text bucket ∷ number state ∷ [])
+    (is_bucket tenant bucket) (λ b. record b { state = state })
+unfolding understood everything
+state_set tenant bucket state = record {
+  test = is 1 0 ∷ is 2 1 ∷ [];
+  show = col 1 0 ∷ col 1 0 ∷ col 1 1 ∷ col 1 2 ∷ col 1 3 ∷ col 0 2 ∷ col 1 5 ∷ [];
+  means = record { is = refl; plain = (refl, refl); unlisted = refl; whole = refl; given = refl };
+  accepts = refl;
+  tests = λ id b. then_term (at_texts false Eq b.tenant tenant) (last_term (at_texts false Eq b.bucket bucket));
+  shows = λ id b. refl;
+}
+
+pub bucket_deleted : (tenant bucket : Octets) → DeleteText bucket_form host_schema 3 (at 5 buckets_table) (codes "DELETE FROM buckets WHERE tenant = ?1 AND bucket = ?2") (Text tenant ∷ Text bucket ∷ []) (is_bucket tenant bucket)
+unfolding understood everything
+bucket_deleted tenant bucket = record {
+  test = is 1 0 ∷ is 2 1 ∷ [];
+  means = record { is = refl; plain = (refl, refl); unlisted = refl; whole = refl; given = refl };
+  accepts = refl;
+  tests = λ id b. then_term (at_texts false Eq b.tenant tenant) (last_term (at_texts false Eq b.bucket bucket));
 }

@@ -1,5 +1,5 @@
 -- Each of a host's tables among the others: its typed rows, and what a database is that has others of them.
-use Rattle.std.proofs.Common.{◌≡◌, ℕ, List, refl, sym, ap, subst, ◌∙◌}
+use Rattle.std.proofs.Common.{◌≡◌, ℕ, Bool, List, map, filter, refl, sym, ap, subst, ◌∙◌}
 use Rattle.sqlite.specs.Order.{Row}
 use Rattle.sqlite.specs.Tree.{Trees}
 use Rattle.sqlite.specs.Table.{Table}
@@ -7,7 +7,8 @@ use Rattle.sqlite.specs.Effect.{Database}
 use Rattle.sqlite.specs.State.{State}
 use Rattle.sqlite_tied.specs.Compute.{everything}
 use Rattle.sqlite_trees.specs.Tree.{with_tree}
-use Rattle.bh_rows.specs.Form.{Form, AreRows, typed}
+use Rattle.bh_rows.specs.Form.{Form, AreRows, Entry, put, entries, typed}
+use Rattle.bh_rows.specs.Keys.{AreUnused}
 use Rattle.bh_rows.specs.Texts.{IsOrderly, IsTableOf, Leaves}
 use Rattle.bh_tables.specs.Schema.{host_schema, host_table, tenants_table, keys_table, buckets_table, versions_table, at}
 use Rattle.bh_tables.specs.Typed.{HostRow, TenantRow, KeyRow, BucketRow, VersionRow, host_form, tenant_form, key_form, bucket_form, version_form, Tables, tables, tables_in, tables_of, Raw, raw, AreHeld, IsHost}
@@ -44,6 +45,10 @@ turned p old new after host l =
       record { schema = ap (λ (d : Database). d.schema) l.now; held = subst AreHeld (sym now_is) (p.put_held (raw old.now.trees) (l.next p.table.tree) host.held l.held) },
       ap tables_of now_is ∙ p.put_reads (raw old.now.trees) (l.next p.table.tree) ∙ ap (p.set (tables old)) l.rows,
     )
+
+-- no row of another table names one of the rows that pass a test
+abbrev pub Goes : {T : Type 0} → Place T → Trees → (T → Bool) → Type 0
+Goes {T} p db m = AreUnused host_schema db p.table.tree (map (put p.form) (filter (λ (e : Entry T). m e.1) (entries p.form (db p.table.tree))))
 
 -- ---- the tables
 

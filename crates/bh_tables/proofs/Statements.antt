@@ -1,5 +1,5 @@
 -- What a text over one table does to all of a host's tables: the lemmas on texts, once for every table.
-use Rattle.std.proofs.Common.{◌≡◌, ℕ, List, [], ◌∷◌, ◌++◌, map, filter, take, Bool, true, None, Ok, Err, Result, OnOk, IfOk, IfErr, IsTrue, subst, Ordering}
+use Rattle.std.proofs.Common.{◌≡◌, ℕ, List, [], ◌∷◌, ◌++◌, map, filter, Bool, true, None, Ok, Err, Result, OnOk, IfOk, IfErr, IsTrue, Ordering, subst, take}
 use Rattle.sqlite.specs.Order.{Row}
 use Rattle.sqlite.specs.Tree.{Trees}
 use Rattle.sqlite.specs.State.{State, HasCleanDisk, IsLive, Survives, Executes, CommitsBy, CommitsShowing, Shown, FailsToQuery}
@@ -14,7 +14,7 @@ use Rattle.bh_rows.proofs.CallLemmas.{clean_before}
 use Rattle.bh_rows.proofs.TextLemmas as text
 use Rattle.bh_tables.specs.Schema.{host_schema}
 use Rattle.bh_tables.specs.Typed.{IsHost, IsReady, Tables, tables}
-use Rattle.bh_tables.proofs.Places.{Place, orderly, turned}
+use Rattle.bh_tables.proofs.Places.{Place, Goes, orderly, turned}
 use Rattle.bh_tables.proofs.Terms.{one_row}
 
 -- how a write may end, which tables it leaves, and which errors it gives
@@ -78,6 +78,15 @@ module _ {T : Type 0} (p : Place T) (old new : State) (ready : IsReady old) wher
       errors = λ clean unlimited. text.delete_only_trouble p.form host_schema orderly p.number p.table p.is old new ready_at sql params m it live result runs survives clean unlimited (λ was up. unused _);
     }
 
+    -- the same of a table to which others refer, where they name none of those rows
+    pub removed : (m : T → Bool) {A : Type 0} → DeleteText p.form host_schema p.number p.table sql params m → (HasCleanDisk old → IsTrue old.is_open → A → Goes p old.now.trees m)
+        → Writes old new (λ t. p.set t (delete_where m (p.rows t))) (λ e. A → is_trouble e ≡ true) result
+    removed m it goes = record {
+      changes = text.delete_changes p.form host_schema orderly p.number p.table p.is old new ready_at sql params m it result runs survives;
+      leaves = left (delete_where m) result survives (text.delete_removes p.form host_schema orderly p.number p.table p.is old new ready_at sql params m it result runs survives);
+      errors = λ clean unlimited. only_if result (λ a. text.delete_only_trouble p.form host_schema orderly p.number p.table p.is old new ready_at sql params m it live result runs survives clean unlimited (λ was up. goes was up a));
+    }
+
   -- the rows that pass, as shown
   pub selected : {X : Type 0} (rows_in : X → List Row) (result : Result X Error) (sql : List ℕ) (params : Row) (m : T → Bool) (view : T → Row) → SelectText p.form host_schema p.table.tree sql params m view no_limit
       → (HasCleanDisk new → IfOk result (λ x. Shown sql params old new (rows_in x))) → (HasCleanDisk new → IfErr result (FailsToQuery sql params old new)) → Survives old new (CommitsShowing sql params old)
@@ -85,6 +94,15 @@ module _ {T : Type 0} (p : Place T) (old new : State) (ready : IsReady old) wher
   selected rows_in result sql params m view it ok err survives = record {
     asks = text.select_asks p.form host_schema p.table.tree old new ready_at sql params m view no_limit it rows_in result ok err survives;
     rows = λ clean. subst (λ l. IfOk result (λ x. rows_in x ≡ map view (filter m l))) (p.rows_are old.now) (text.select_rows p.form host_schema p.table.tree old new ready_at sql params m view no_limit it rows_in result ok survives clean);
+  }
+
+  -- the rows that pass, as shown, sorted
+  pub sorted : {X : Type 0} (rows_in : X → List Row) (result : Result X Error) (sql : List ℕ) (params : Row) (m : T → Bool) (view : T → Row) (order : T → T → Ordering) → SortedText p.form host_schema p.table.tree sql params m view order no_limit
+      → (HasCleanDisk new → IfOk result (λ x. Shown sql params old new (rows_in x))) → (HasCleanDisk new → IfErr result (FailsToQuery sql params old new)) → Survives old new (CommitsShowing sql params old)
+      → Shows old new rows_in (λ t. map view (sort_by order (filter m (p.rows t)))) result
+  sorted rows_in result sql params m view order it ok err survives = record {
+    asks = text.sorted_asks p.form host_schema p.table.tree old new ready_at sql params m view order no_limit it rows_in result ok err survives;
+    rows = λ clean. subst (λ l. IfOk result (λ x. rows_in x ≡ map view (sort_by order (filter m l)))) (p.rows_are old.now) (text.select_sorted p.form host_schema p.table.tree old new ready_at sql params m view order no_limit it rows_in result ok survives clean);
   }
 
   -- the first of the rows that pass, in an order, as shown

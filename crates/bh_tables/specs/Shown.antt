@@ -1,7 +1,7 @@
 -- Which rows a text finds, and what it shows of each.
 use Rattle.std.specs.Prelude.{ℕ, Bool, ◌&&◌, ◌||◌, pos, [], ◌∷◌}
-use Rattle.std.specs.declared.cmp.Ordering.{Ordering}
 use Rattle.std.specs.Ordering.{int_eq, int_cmp, ordering_then}
+use Rattle.std.specs.declared.cmp.Ordering.{Ordering}
 use Rattle.sqlite.specs.declared.types.Value.TheVariants.{Text, Blob}
 use Rattle.sqlite.specs.Order.{Row}
 use Rattle.sqlite_typed.specs.Columns.{or_null}
@@ -48,6 +48,16 @@ by_id a b = ordering_then (bytes_cmp a.okey b.okey) (int_cmp (pos a.id) (pos b.i
 abbrev pub is_marked_right : VersionRow → Bool
 is_marked_right v = int_eq (pos v.marker) (pos 0) || (int_eq (pos v.size) (pos 0) && bytes_eq v.checksum [])
 
+-- ---- the rows of a listing
+
+-- the buckets of a tenant
+abbrev pub is_owned_bucket : Octets → BucketRow → Bool
+is_owned_bucket tenant b = bytes_eq b.tenant tenant
+
+-- by name, in byte order
+abbrev pub by_bucket : BucketRow → BucketRow → Ordering
+by_bucket a b = bytes_cmp a.bucket b.bucket
+
 -- ---- the columns that are asked for
 
 abbrev pub shown_latest : HostRow → Row
@@ -61,6 +71,10 @@ shown_secret k = Text k.secret ∷ []
 
 abbrev pub shown_bucket : BucketRow → Row
 shown_bucket b = number b.created ∷ number b.state ∷ or_null number b.days ∷ []
+
+-- in a listing
+abbrev pub shown_entry : BucketRow → Row
+shown_entry b = Text b.bucket ∷ number b.created ∷ []
 
 abbrev pub shown_version : VersionRow → Row
 shown_version v = number v.seq ∷ number v.marker ∷ number v.stamp ∷ number v.size ∷ Text v.checksum ∷ Blob v.bytes ∷ []

@@ -15,9 +15,12 @@ pub mod KeyChanges
 pub mod HostChanges
 pub mod TenantChanges
 pub mod BucketChanges
+pub mod BucketListing
 pub mod VersionChanges
 pub mod PutLemmas
 pub mod FindLemmas
+pub mod WantedLemmas
+pub mod DeleteLemmas
 pub mod RowLemmas
 pub mod PurgeLemmas
 pub mod UsedLemmas

@@ -28,12 +28,17 @@ pub fn read_words(alloc: Global, words: &[String]) -> Result<Line, LineFault>
     let matches = matches_of(alloc, words)?;
     match line_of(alloc, &matches) {
         Ok(line) => Ok(line),
-        Err(GivenError::NotGiven) => Err(LineFault::from(AllocError)),
+        Err(GivenError::NotGiven) => Err(LineFault::from(unread(alloc)?)),
         Err(GivenError::OutOfMemory) => Err(LineFault::from(AllocError)),
     }
 }
 
-#[tactic(auto, unfolding(crate::specs::Readings::faults_of))]
+// The fault of words that were taken and yet tell no line.
+fn unread(alloc: Global) -> Result<Error, AllocError> {
+    let mut command = the_command(alloc)?;
+    command.error(ErrorKind::ValueValidation, "a value is missing or out of its range")
+}
+
 fn matches_of<'a>(alloc: Global, words: &'a [String]) -> Result<ArgMatches<'a>, Error>
     ensures rows { IfOk result (λ m.
         subcommand_rows_of m ≡ subcommand_of the_command (map string_bytes words.now)) }

@@ -3,6 +3,7 @@
 
 mod answer;
 mod checksums;
+mod command_line;
 mod decisions;
 mod documents;
 mod entries;

@@ -1,4 +1,5 @@
 use Rattle.std.proofs.Common.{refl}
+use Rattle.std.specs.Option.{option_copied}
 use Rattle.sqlite.specs.Held.{state}
 use Rattle.bh_model.specs.Operations.{put_object}
 use Rattle.bh_storage.specs.Answers.{stored_answer}
@@ -16,5 +17,5 @@ returns g c =
       within = it.ensures.within;
       opens = unless_told answer.Stored it.result _ it.ensures.opens;
       working = unless_told answer.Stored it.result _ it.ensures.working;
-      carries = λ clean. carries_told c.args.object.now.tenant.now (put_object c.args.object.now.at c.args.object.now.bucket.now c.args.object.now.key.now c.args.object.now.bytes.now c.args.object.now.given.now) old new stored_answer answer.Stored (λ _. refl) it.result (it.ensures.carries clean);
+      carries = λ clean. carries_told c.args.object.now.tenant.now (put_object c.args.object.now.at c.args.object.now.bucket.now c.args.object.now.key.now c.args.object.now.bytes.now (option_copied c.args.given.entry)) old new stored_answer answer.Stored (λ _. refl) it.result (it.ensures.carries clean);
     })
