@@ -1,3 +1,4 @@
 pub mod Cutting
 pub mod Finding
 pub mod Leaving
+pub mod Writing

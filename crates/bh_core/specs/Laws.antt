@@ -1,9 +1,10 @@
 -- What ties the plans to the private machine, and shows that a range is the intended one.
-use Rattle.std.specs.Prelude.{◌≡◌, ℕ, ◌+◌, ◌-◌, ◌<◌, ◌≤◌, Bool, List, length, Option, Ok, IfOk}
+use Rattle.std.specs.Prelude.{◌≡◌, ℕ, ◌+◌, ◌-◌, ◌^◌, ◌<◌, ◌≤◌, Bool, List, [], ◌∷◌, ◌++◌, length, codes, Option, Some, Ok, IfOk}
+use Rattle.std.specs.Fmt.{decimal}
 use Rattle.std.specs.List.{filter}
 use Rattle.bh_types.specs.Counts.{Counts}
 use Rattle.bh_types.specs.Outcomes.{◌>>=◌}
-use Rattle.bh_types.specs.Ranges.{range_of, cut}
+use Rattle.bh_types.specs.Ranges.{Asked, Asked.Between, Asked.From, Asked.Last, asked_in, range_of, cut}
 use Rattle.bh_types.specs.declared.id.VersionId.TheVariants.{Null}
 use Rattle.bh_types.specs.declared.bucket_state.BucketState.{BucketState}
 use Rattle.bh_types.specs.declared.range.RangePlan.{RangePlan}
@@ -56,3 +57,20 @@ plan_size size (Part first last) = last + 1 - first
 abbrev pub PartsAreCut : Type 0
 PartsAreCut = (text : Option (List ℕ)) (bytes : List ℕ)
     → IfOk (range_of text (length bytes)) (λ plan. length (cut plan bytes) ≡ plan_size (length bytes) plan)
+
+-- a Range field as it is written for a range of bytes; 45 is '-'
+-- RFC 9110, section 14.1.1
+abbrev pub written : Asked → List ℕ
+written (Between first last) = codes "bytes=" ++ (decimal first ++ 45 ∷ decimal last)
+written (From first) = codes "bytes=" ++ (decimal first ++ 45 ∷ [])
+written (Last count) = codes "bytes=" ++ 45 ∷ decimal count
+
+-- numbers up to 2^62, and two positions in their order
+abbrev pub CanBeAsked : Asked → Type 0
+CanBeAsked (Between first last) = (first ≤ last) × (last ≤ 2 ^ 62)
+CanBeAsked (From first) = first ≤ 2 ^ 62
+CanBeAsked (Last count) = count ≤ 2 ^ 62
+
+-- so written, each range is what is asked for
+abbrev pub WrittenIsAsked : Type 0
+WrittenIsAsked = (asked : Asked) → CanBeAsked asked → asked_in (written asked) ≡ Some asked

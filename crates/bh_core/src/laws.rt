@@ -1,5 +1,5 @@
 //! Laws of the plans and of ranges, each the contract of a function that does nothing.
-ghost use Rattle.bh_core.specs.Laws.{PutLeaves, PutCounts, DeleteLeaves, DeleteCounts, RangesLieWithin, PartsAreCut};
+ghost use Rattle.bh_core.specs.Laws.{PutLeaves, PutCounts, DeleteLeaves, DeleteCounts, RangesLieWithin, PartsAreCut, WrittenIsAsked};
 
 /// A put's plan leaves the entries that the private machine's put leaves.
 pub fn put_leaves()
@@ -29,4 +29,9 @@ pub fn ranges_lie_within()
 /// The bytes of a part are as many as its positions.
 pub fn parts_are_cut()
     ensures { PartsAreCut }
+{}
+
+/// A Range field that is written in decimal digits asks for the range that it was written for.
+pub fn written_is_asked()
+    ensures { WrittenIsAsked }
 {}
