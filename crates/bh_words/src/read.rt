@@ -36,7 +36,10 @@ pub fn read_words(alloc: Global, words: &[String]) -> Result<Line, LineFault>
 // The fault of words that were taken and yet tell no line.
 fn unread(alloc: Global) -> Result<Error, AllocError> {
     let mut command = the_command(alloc)?;
-    command.error(ErrorKind::ValueValidation, "a value is missing or out of its range")
+    command.error(
+        ErrorKind::ValueValidation,
+        "a value is missing or out of its range",
+    )
 }
 
 fn matches_of<'a>(alloc: Global, words: &'a [String]) -> Result<ArgMatches<'a>, Error>

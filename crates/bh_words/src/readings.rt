@@ -10,11 +10,7 @@ use clap::ArgMatches;
 use std::alloc::Global;
 
 /// The line that a subcommand's name and values tell.
-pub(crate) fn line_in(
-    alloc: Global,
-    name: &str,
-    given: &ArgMatches<'_>,
-) -> Result<Line, GivenError>
+pub(crate) fn line_in(alloc: Global, name: &str, given: &ArgMatches<'_>) -> Result<Line, GivenError>
     ensures { spec.Gives command_line result (spec.line_in (name.now, spec.rows_in given.now)) }
 {
     let subcommand = needed(Subcommand::named(name))?;
@@ -65,7 +61,12 @@ fn tenant_add(alloc: Global, given: &ArgMatches<'_>) -> Result<Line, GivenError>
     let tenant = text(alloc, given, OptionName::Tenant)?;
     let quota = needed(number(given, OptionName::Quota))?;
     let at = at(given);
-    Ok(Line::TenantAdd { file, tenant, quota, at })
+    Ok(Line::TenantAdd {
+        file,
+        tenant,
+        quota,
+        at,
+    })
 }
 
 fn quota(alloc: Global, given: &ArgMatches<'_>) -> Result<Line, GivenError>
@@ -75,7 +76,12 @@ fn quota(alloc: Global, given: &ArgMatches<'_>) -> Result<Line, GivenError>
     let tenant = text(alloc, given, OptionName::Tenant)?;
     let quota = needed(number(given, OptionName::Quota))?;
     let at = at(given);
-    Ok(Line::Quota { file, tenant, quota, at })
+    Ok(Line::Quota {
+        file,
+        tenant,
+        quota,
+        at,
+    })
 }
 
 fn key_add(alloc: Global, given: &ArgMatches<'_>) -> Result<Line, GivenError>
@@ -86,7 +92,13 @@ fn key_add(alloc: Global, given: &ArgMatches<'_>) -> Result<Line, GivenError>
     let name = text(alloc, given, OptionName::Name)?;
     let secret = secret(alloc, given)?;
     let at = at(given);
-    Ok(Line::KeyAdd { file, tenant, name, secret, at })
+    Ok(Line::KeyAdd {
+        file,
+        tenant,
+        name,
+        secret,
+        at,
+    })
 }
 
 fn key_remove(alloc: Global, given: &ArgMatches<'_>) -> Result<Line, GivenError>
@@ -96,7 +108,12 @@ fn key_remove(alloc: Global, given: &ArgMatches<'_>) -> Result<Line, GivenError>
     let tenant = text(alloc, given, OptionName::Tenant)?;
     let name = text(alloc, given, OptionName::Name)?;
     let at = at(given);
-    Ok(Line::KeyRemove { file, tenant, name, at })
+    Ok(Line::KeyRemove {
+        file,
+        tenant,
+        name,
+        at,
+    })
 }
 
 fn usage(alloc: Global, given: &ArgMatches<'_>) -> Result<Line, GivenError>
@@ -133,5 +150,11 @@ fn serve(alloc: Global, given: &ArgMatches<'_>) -> Result<Line, GivenError>
     let count = needed(number(given, OptionName::Count))?;
     let timeout = needed(number(given, OptionName::Timeout))?;
     let tuning = needed(tuning(given))?;
-    Ok(Line::Serve { file, port, count, timeout, tuning })
+    Ok(Line::Serve {
+        file,
+        port,
+        count,
+        timeout,
+        tuning,
+    })
 }

@@ -1,4 +1,4 @@
-use Rattle.std.proofs.Common.{◌≡◌, Some, sym, subst}
+use Rattle.std.proofs.Common.{Some, sym, subst}
 use Rattle.bh_words.proofs.Rows.{rows_met}
 use Rattle.bh_words.specs.Lines.{command_line}
 use Rattle.bh_words.specs.Readings.{Gives, line_of}

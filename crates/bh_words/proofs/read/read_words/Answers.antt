@@ -1,4 +1,4 @@
-use Rattle.std.proofs.Common.{◌≡◌, ◌∙◌, Err, ap, inr, subst, sym}
+use Rattle.std.proofs.Common.{◌∙◌, Err, ap, inr, subst, sym}
 use Rattle.clap.specs.Words.{subcommand_rows_of}
 use Rattle.bh_words.specs.Lines.{command_line}
 use Rattle.bh_words.specs.Readings.{Gives, told_by, line_of}
