@@ -3,7 +3,7 @@ use Rattle.std.proofs.Common.{◌≡◌, inl, inr, ℕ, List, [], ◌∷◌, ◌
 use Rattle.sqlite.specs.Tree.{Trees}
 use Rattle.bh_types.specs.Limits.{HostLimits, AreLimits}
 use Rattle.bh_tables.specs.Schema.{no_schema, host_schema}
-use Rattle.bh_tables.specs.Made.{with_versions}
+use Rattle.bh_tables.specs.Made.{with_newest}
 use Rattle.bh_tables.specs.Typed.{Tables, no_rows, tables_in}
 use Rattle.bh_tables.specs.Hosts.{tables_shown}
 use Rattle.bh_tables.proofs.HostTests.{host_shows}
@@ -13,58 +13,78 @@ use Rattle.bh_view.specs.Laws.{new_host}
 use Rattle.bh_view.proofs.HostChanges.{created as host_created}
 use Rattle.sqlite.specs.Schema.{Schema}
 use Rattle.sqlite.specs.Table.{Table}
-use Rattle.sqlite.specs.Change.{created}
+use Rattle.sqlite.specs.Change.{created, indexed}
 use Rattle.sqlite.specs.State.{State, HasCleanDisk, Survives, Executes, CommitsBy}
 use Rattle.sqlite.specs.declared.error.Error.{Error}
 use Rattle.bh_rows.specs.Means.{IsBlank, is_trouble, IsUndone, StaysInside, Changes, Grows}
 use Rattle.bh_rows.proofs.CreateLemmas.{Makes as Creates, grows, create_changes}
 use Rattle.bh_rows.proofs.CreateErrors.{IsFree, create_trouble}
+use Rattle.bh_rows.specs.Index.{Indexes}
+use Rattle.bh_rows.proofs.IndexLemmas.{index_changes, index_grows}
+use Rattle.bh_rows.proofs.IndexErrors.{IsFreeIndex, blank_trouble}
+use Rattle.sqlite_schema.specs.declared.schema.Index.{Index}
 use Rattle.bh_schema.specs.Layer.{Standing, standing, IsIntact, IsOpen, IsStateClean, Leaves, IsInside, Holds, begun, committed}
 use Rattle.bh_schema.specs.Storage.{seen_in, left_in}
 use Rattle.bh_schema.proofs.Storing.{follows_then}
 use Rattle.bh_schema.proofs.TurnLemmas.{follows}
 use Rattle.bh_create.specs.Creation.{IsEmpty, IsNewHost, IsMaking, Keeps, Makes}
 
--- ---- one CREATE
+-- ---- a call that makes a table or an index
 
-module _ (before : Schema) (sql : List ℕ) (table : Table) (creates : Creates before sql table) (old new : State) (making : IsStateClean old → IsMaking before old) where
+module _ (after : Schema) (old new : State) (inside : IsStateClean old → (standing old).inside ≡ true) (result : Result ℕ Error) (changes : Changes old new result) (grown : Grows after old new result) (was : IsStateClean new → IsStateClean old) where
+  kept_by : IsStateClean new → (standing new).kept ≡ (standing old).kept
+  unfolding standing IsIntact IsOpen
+  kept_by c = go result (changes.inside c.intact (was c).is_open) (changes.undone c.intact)
+    where
+      go : (r : Result ℕ Error) → OnOk r (StaysInside old new) → OnErr r (IsUndone old new) → new.committed ≡ old.committed
+      go (Ok x) stays undone = stays.committed (inside (was c))
+      go (Err e) stays (inl same) = same.0.committed_is
+      go (Err e) stays (inr back) = (back.undone c.is_open).1
+
+  made_by : OnOk result (IsStateClean new → IsMaking after new)
+  unfolding standing IsIntact IsOpen
+  made_by = go result changes.inside grown.blank
+    where
+      go : (r : Result ℕ Error) → (HasCleanDisk new → IsTrue old.is_open → OnOk r (StaysInside old new)) → (HasCleanDisk new → IsTrue old.is_open → OnOk r (IsBlank after new)) → OnOk r (IsStateClean new → IsMaking after new)
+      go (Ok x) stays blank = λ c. record { inside = (stays c.intact (was c).is_open).inside (inside (was c)); blank = blank c.intact (was c).is_open }
+      go (Err e) stays blank = tt
+
+module _ (before after : Schema) (old new : State) (making : IsStateClean old → IsMaking before old) where
   blank_before : HasCleanDisk old → IsTrue old.is_open → IsBlank before old
   unfolding IsIntact IsOpen
   blank_before clean up = (making (record { intact = clean; is_open = up })).blank
 
-  module _ (result : Result ℕ Error) (changes : Changes old new result) (after : Grows (created before table) old new result) (was : IsStateClean new → IsStateClean old) where
-    kept_by : IsStateClean new → (standing new).kept ≡ (standing old).kept
-    unfolding standing IsIntact IsOpen
-    kept_by c = go result (changes.inside c.intact (was c).is_open) (changes.undone c.intact)
-      where
-        go : (r : Result ℕ Error) → OnOk r (StaysInside old new) → OnErr r (IsUndone old new) → new.committed ≡ old.committed
-        go (Ok x) stays undone = stays.committed (making (was c)).inside
-        go (Err e) stays (inl same) = same.0.committed_is
-        go (Err e) stays (inr back) = (back.undone c.is_open).1
+  made : (result : Result ℕ Error) → Changes old new result → Grows after old new result → Makes after old new result
+  made result changes grown =
+      let follow = follows old new changes.survives changes.up in
+      let inside = λ (c : IsStateClean old). (making c).inside in
+      record { keeps = record { follows = follow; kept = kept_by after old new inside result changes grown follow.clean }; made = made_by after old new inside result changes grown follow.clean }
 
-    made_by : OnOk result (IsStateClean new → IsMaking (created before table) new)
-    unfolding standing IsIntact IsOpen
-    made_by = go result changes.inside after.blank
-      where
-        go : (r : Result ℕ Error) → (HasCleanDisk new → IsTrue old.is_open → OnOk r (StaysInside old new)) → (HasCleanDisk new → IsTrue old.is_open → OnOk r (IsBlank (created before table) new)) → OnOk r (IsStateClean new → IsMaking (created before table) new)
-        go (Ok x) stays blank = λ c. record { inside = (stays c.intact (was c).is_open).inside (making (was c)).inside; blank = blank c.intact (was c).is_open }
-        go (Err e) stays blank = tt
+-- trouble of an intact disk
+if_intact : (new : State) (r : Result ℕ Error) → (HasCleanDisk new → IfErr r (λ e. is_trouble e ≡ true)) → IfErr r (λ e. IsIntact new → is_trouble e ≡ true)
+unfolding IsIntact
+if_intact new (Ok x) h = tt
+if_intact new (Err e) h = h
 
+-- where nothing stands against the table, it fails in trouble alone
+module _ (before : Schema) (sql : List ℕ) (table : Table) (creates : Creates before sql table) (old new : State) (making : IsStateClean old → IsMaking before old) where
   pub makes : (result : Result ℕ Error) → (HasCleanDisk new → Executes sql [] old new result) → Survives old new (CommitsBy sql [] old) → Makes (created before table) old new result
-  makes result runs s =
-      let changes = create_changes before sql table creates old new blank_before result runs s in
-      let after = grows before sql table creates old new blank_before result runs s in
-      let follow = follows old new s changes.up in
-      record { keeps = record { follows = follow; kept = kept_by result changes after follow.clean }; made = made_by result changes after follow.clean }
+  makes result runs s = made before (created before table) old new making result
+      (create_changes before sql table creates old new (blank_before before (created before table) old new making) result runs s)
+      (grows before sql table creates old new (blank_before before (created before table) old new making) result runs s)
 
-  -- where nothing stands against the table, trouble alone
   pub fails : IsFree before sql table → (result : Result ℕ Error) → (HasCleanDisk new → Executes sql [] old new result) → Survives old new (CommitsBy sql [] old) → IfErr result (λ e. IsIntact new → is_trouble e ≡ true)
-  unfolding IsIntact
-  fails free result runs s = go result (create_trouble before sql table creates free old new blank_before result runs s)
-    where
-      go : (r : Result ℕ Error) → (HasCleanDisk new → IfErr r (λ e. is_trouble e ≡ true)) → IfErr r (λ e. HasCleanDisk new → is_trouble e ≡ true)
-      go (Ok count) h = tt
-      go (Err e) h = h
+  fails free result runs s = if_intact new result (create_trouble before sql table creates free old new (blank_before before (created before table) old new making) result runs s)
+
+-- and so does an index
+module _ (before : Schema) (sql : List ℕ) (place : ℕ) (table : Table) (index : Index) (it : Indexes before sql place table index) (old new : State) (making : IsStateClean old → IsMaking before old) where
+  pub indexes : (result : Result ℕ Error) → (HasCleanDisk new → Executes sql [] old new result) → Survives old new (CommitsBy sql [] old) → Makes (indexed before table index) old new result
+  indexes result runs s = made before (indexed before table index) old new making result
+      (index_changes before sql place table index it old new (λ clean up. (blank_before before (indexed before table index) old new making clean up).schema_is) result runs s)
+      (index_grows before sql place table index it old new (blank_before before (indexed before table index) old new making) result runs s)
+
+  pub index_fails : IsFreeIndex before sql table index → (result : Result ℕ Error) → (HasCleanDisk new → Executes sql [] old new result) → Survives old new (CommitsBy sql [] old) → IfErr result (λ e. IsIntact new → is_trouble e ≡ true)
+  index_fails free result runs s = if_intact new result (blank_trouble before sql place table index it free old new (blank_before before (indexed before table index) old new making) result runs s)
 
 -- ---- several calls
 
@@ -77,20 +97,20 @@ unfolding standing
 begun_making old new empty is = record { inside = ap (λ (x : Standing). x.inside) is; blank = record { schema_is = ap (λ (x : Standing). x.now.schema) is ∙ empty; blank = tt } }
 
 -- all tables are made
-made_host : (s : State) → IsMaking with_versions s → IsInside (standing s) × (tables_in (standing s).now ≡ no_rows)
+made_host : (s : State) → IsMaking with_newest s → IsInside (standing s) × (tables_in (standing s).now ≡ no_rows)
 unfolding standing
 made_host s making =
     let it = blank_host s (subst (λ schema. IsBlank schema s) all_made making.blank) in
     (record { inside = making.inside; host = it.0 }, it.1)
 
-pub made_empty : (s : State) → IsMaking with_versions s → (tables_in (standing s).now).host ≡ []
+pub made_empty : (s : State) → IsMaking with_newest s → (tables_in (standing s).now).host ≡ []
 made_empty s making = ap (λ (t : Tables). t.host) (made_host s making).1
 
-pub made_inside : (s : State) → IsMaking with_versions s → IsInside (standing s)
+pub made_inside : (s : State) → IsMaking with_newest s → IsInside (standing s)
 made_inside s making = (made_host s making).0
 
 -- the host's row is added
-pub filled : (old new : State) (min_part max_body : ℕ) → IsMaking with_versions old
+pub filled : (old new : State) (min_part max_body : ℕ) → IsMaking with_newest old
     → Holds (record (tables_in (standing old).now) { host = (tables_in (standing old).now).host ++ record { version = 0; latest = 0; min_part = min_part; max_body = max_body } ∷ [] }) (standing new)
     → Holds (new_host min_part max_body) (standing new)
 filled old new min_part max_body making it =

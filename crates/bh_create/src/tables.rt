@@ -2,7 +2,7 @@ ghost use Rattle.std.specs.Prelude.{◌≡◌, true, IfErr};
 ghost use Rattle.sqlite.specs.Held.{state};
 ghost use Rattle.bh_rows.specs.Means.{is_trouble};
 ghost use Rattle.bh_tables.specs.Schema.{no_schema};
-ghost use Rattle.bh_tables.specs.Made.{with_host, with_tenants, with_keys, with_buckets, with_versions};
+ghost use Rattle.bh_tables.specs.Made.{with_host, with_tenants, with_keys, with_buckets, with_versions, with_newest};
 ghost use Rattle.bh_schema.specs.Layer.{IsIntact, IsStateClean};
 ghost use Rattle.bh_create.specs.Creation.{IsMaking, Makes};
 
@@ -63,6 +63,17 @@ fn create_versions<S: Alter>(connection: &mut Connection<S>) -> Result<usize, Er
     )
 }
 
+fn create_newest<S: Alter>(connection: &mut Connection<S>) -> Result<usize, Error>
+    requires { IsStateClean (state S.Store connection.old) → IsMaking with_versions (state S.Store connection.old) }
+    ensures makes { Makes with_newest (state S.Store connection.old) (state S.Store connection.new) result }
+    ensures trouble { IfErr result (λ e. IsIntact (state S.Store connection.new) → is_trouble e ≡ true) }
+{
+    connection.execute(
+        "CREATE INDEX newest ON versions (tenant, bucket, okey, seq DESC)",
+        &[],
+    )
+}
+
 fn create_accounts<S: Alter>(connection: &mut Connection<S>) -> Result<usize, Error>
     requires { IsStateClean (state S.Store connection.old) → IsMaking no_schema (state S.Store connection.old) }
     ensures makes { Makes with_keys (state S.Store connection.old) (state S.Store connection.new) result }
@@ -75,17 +86,18 @@ fn create_accounts<S: Alter>(connection: &mut Connection<S>) -> Result<usize, Er
 
 fn create_objects<S: Alter>(connection: &mut Connection<S>) -> Result<usize, Error>
     requires { IsStateClean (state S.Store connection.old) → IsMaking with_keys (state S.Store connection.old) }
-    ensures makes { Makes with_versions (state S.Store connection.old) (state S.Store connection.new) result }
+    ensures makes { Makes with_newest (state S.Store connection.old) (state S.Store connection.new) result }
     ensures trouble { IfErr result (λ e. IsIntact (state S.Store connection.new) → is_trouble e ≡ true) }
 {
     create_buckets(connection)?;
-    create_versions(connection)
+    create_versions(connection)?;
+    create_newest(connection)
 }
 
-/// Makes the tables of a host, with no row.
+/// Makes the tables of a host and their index, with no row.
 pub fn create_tables<S: Alter>(connection: &mut Connection<S>) -> Result<(), Error>
     requires { IsStateClean (state S.Store connection.old) → IsMaking no_schema (state S.Store connection.old) }
-    ensures makes { Makes with_versions (state S.Store connection.old) (state S.Store connection.new) result }
+    ensures makes { Makes with_newest (state S.Store connection.old) (state S.Store connection.new) result }
     ensures trouble { IfErr result (λ e. IsIntact (state S.Store connection.new) → is_trouble e ≡ true) }
 {
     create_accounts(connection)?;

@@ -1,5 +1,5 @@
 //! What operations give, as answers of a host's storage.
-ghost use Rattle.std.specs.Prelude.{◌≡◌, None, false};
+ghost use Rattle.std.specs.Prelude.{◌≡◌};
 ghost use Rattle.std.specs.Result.{result_map_both};
 ghost use Rattle.bh_storage.specs.Errors.{step_rejected};
 ghost use Rattle.bh_storage.specs.declared.answer.Answer.TheVariants as answer;
@@ -16,20 +16,6 @@ pub fn done(outcome: Result<(), StepError<Refusal>>) -> Result<Answer, StepError
 {
     match outcome {
         Ok(()) => Ok(Answer::Done),
-        Err(error) => Err(StepError::from(error)),
-    }
-}
-
-/// A bucket is gone, of which nothing more is told.
-pub fn gone(outcome: Result<(), StepError<Refusal>>) -> Result<Answer, StepError<Rejection>>
-    ensures { result
-        ≡ result_map_both (λ _. answer.Removed (record { id = None; marker = false })) step_rejected outcome }
-{
-    match outcome {
-        Ok(()) => Ok(Answer::Removed(RemovedEntry {
-            id: None,
-            marker: false,
-        })),
         Err(error) => Err(StepError::from(error)),
     }
 }

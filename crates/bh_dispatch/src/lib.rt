@@ -2,5 +2,6 @@
 //! function that carries it out.
 #![tactic(auto)]
 
+mod answers;
 pub mod operations;
 pub mod storage;

@@ -1,18 +1,21 @@
-ghost use Rattle.std.specs.Prelude.{◌≤◌, None};
+ghost use Rattle.std.specs.Option.{option_copied};
+ghost use Rattle.std.specs.Prelude.{◌≡◌, ◌≤◌};
 ghost use Rattle.bh_types.specs.Rejections.{plainly};
-ghost use Rattle.bh_machine.specs.Machine.{operated};
+ghost use Rattle.bh_machine.specs.Machine.{set_versioning, operated};
 ghost use Rattle.bh_model.specs.Operations as machine;
 ghost use Rattle.bh_view.specs.View.{latest_of};
 ghost use Rattle.bh_storage.specs.Answers.{answer_view};
 ghost use Rattle.bh_storage.specs.Calls.{Unless, Carries};
 ghost use Rattle.bh_schema.specs.Connections.{IsClean, tables, StaysWithin, StaysOpen};
 ghost use Rattle.bh_schema.specs.Working.{Works, StillWorks};
-ghost use Rattle.bh_objects.specs.Answers.{get_current};
 
+use crate::answers;
+use bh_docs::read_versioning;
 use bh_objects::writes::NewObject;
-use bh_objects::{buckets, gets, objects};
+use bh_objects::{buckets, deletes, gets, heads, objects};
 use bh_operation::address::ObjectName;
 use bh_operation::operation::Operation;
+use bh_operation::text::Bytes;
 use bh_storage::answer::Answer;
 use bh_storage::error::StepError;
 use bh_types::bucket::BucketName;
@@ -20,8 +23,25 @@ use bh_types::moment::Moment;
 use bh_types::names::TenantName;
 use bh_types::refusal::Refusal;
 use bh_types::rejection::Rejection;
+use bh_types::wanted::Wanted;
 use sqlite::{Alter, Connection};
 use std::alloc::Global;
+
+fn list_buckets<S: Alter>(
+    connection: &mut Connection<S>,
+    alloc: Global,
+    tenant: &TenantName,
+) -> Result<Answer, StepError<Rejection>>
+    requires { Works S.Store connection.old }
+    ensures within { StaysWithin S.Store connection.old connection.new }
+    ensures opens { Unless result (StaysOpen S.Store connection.old connection.new) }
+    ensures working { Unless result (StillWorks S.Store connection.old connection.new) }
+    ensures carries { IsClean S.Store connection.new
+        → Carries answer_view tenant.now (λ s. plainly (machine.list_buckets s))
+        (tables S.Store connection.old) (tables S.Store connection.new) result }
+{
+    answers::listed(buckets::list_buckets(connection, alloc, tenant))
+}
 
 fn create_bucket<S: Alter>(
     connection: &mut Connection<S>,
@@ -38,16 +58,81 @@ fn create_bucket<S: Alter>(
         → Carries answer_view tenant.now (λ s. plainly (machine.create_bucket at bucket.now s))
         (tables S.Store connection.old) (tables S.Store connection.new) result }
 {
-    match buckets::create_bucket(connection, tenant, at, bucket) {
-        Ok(()) => Ok(Answer::Done),
-        Err(error) => Err(StepError::from(error)),
-    }
+    answers::done(buckets::create_bucket(connection, tenant, at, bucket))
+}
+
+fn head_bucket<S: Alter>(
+    connection: &mut Connection<S>,
+    tenant: &TenantName,
+    bucket: &BucketName,
+) -> Result<Answer, StepError<Rejection>>
+    requires { Works S.Store connection.old }
+    ensures within { StaysWithin S.Store connection.old connection.new }
+    ensures opens { Unless result (StaysOpen S.Store connection.old connection.new) }
+    ensures working { Unless result (StillWorks S.Store connection.old connection.new) }
+    ensures carries { IsClean S.Store connection.new
+        → Carries answer_view tenant.now (λ s. plainly (machine.head_bucket bucket.now s))
+        (tables S.Store connection.old) (tables S.Store connection.new) result }
+{
+    answers::done(buckets::head_bucket(connection, tenant, bucket))
+}
+
+fn delete_bucket<S: Alter>(
+    connection: &mut Connection<S>,
+    tenant: &TenantName,
+    bucket: &BucketName,
+) -> Result<Answer, StepError<Rejection>>
+    requires { Works S.Store connection.old }
+    ensures within { StaysWithin S.Store connection.old connection.new }
+    ensures opens { Unless result (StaysOpen S.Store connection.old connection.new) }
+    ensures working { Unless result (StillWorks S.Store connection.old connection.new) }
+    ensures carries { IsClean S.Store connection.new
+        → Carries answer_view tenant.now (λ s. plainly (machine.delete_bucket bucket.now s))
+        (tables S.Store connection.old) (tables S.Store connection.new) result }
+{
+    answers::removed(buckets::delete_bucket(connection, tenant, bucket))
+}
+
+fn versioning<S: Alter>(
+    connection: &mut Connection<S>,
+    tenant: &TenantName,
+    bucket: &BucketName,
+) -> Result<Answer, StepError<Rejection>>
+    requires { Works S.Store connection.old }
+    ensures within { StaysWithin S.Store connection.old connection.new }
+    ensures opens { Unless result (StaysOpen S.Store connection.old connection.new) }
+    ensures working { Unless result (StillWorks S.Store connection.old connection.new) }
+    ensures carries { IsClean S.Store connection.new
+        → Carries answer_view tenant.now (λ s. plainly (machine.get_versioning bucket.now s))
+        (tables S.Store connection.old) (tables S.Store connection.new) result }
+{
+    answers::versioning(buckets::versioning(connection, tenant, bucket))
+}
+
+fn set_versioning<S: Alter>(
+    connection: &mut Connection<S>,
+    alloc: Global,
+    tenant: &TenantName,
+    bucket: &BucketName,
+    body: &[u8],
+) -> Result<Answer, StepError<Rejection>>
+    requires { Works S.Store connection.old }
+    ensures within { StaysWithin S.Store connection.old connection.new }
+    ensures opens { Unless result (StaysOpen S.Store connection.old connection.new) }
+    ensures working { Unless result (StillWorks S.Store connection.old connection.new) }
+    ensures carries { IsClean S.Store connection.new
+        → Carries answer_view tenant.now (λ s. plainly (set_versioning bucket.now body.now s))
+        (tables S.Store connection.old) (tables S.Store connection.new) result }
+{
+    let state = read_versioning(alloc, body)?;
+    answers::done(buckets::set_versioning(connection, tenant, bucket, state))
 }
 
 fn put_object<S: Alter>(
     connection: &mut Connection<S>,
     alloc: Global,
     object: &NewObject<'_>,
+    given: Option<&[u8]>,
 ) -> Result<Answer, StepError<Rejection>>
     requires working { Works S.Store connection.old }
     requires early { IsClean S.Store connection.old → object.now.at ≤ latest_of (tables S.Store connection.old) }
@@ -55,32 +140,82 @@ fn put_object<S: Alter>(
     ensures opens { Unless result (StaysOpen S.Store connection.old connection.new) }
     ensures working { Unless result (StillWorks S.Store connection.old connection.new) }
     ensures carries { IsClean S.Store connection.new
-        → Carries answer_view object.now.tenant.now
-        (λ s. plainly (machine.put_object object.now.at object.now.bucket.now object.now.key.now object.now.bytes.now None s))
+        → Carries answer_view object.now.tenant.now (λ s. plainly (machine.put_object object.now.at object.now.bucket.now object.now.key.now object.now.bytes.now (option_copied given.entry) s))
         (tables S.Store connection.old) (tables S.Store connection.new) result }
 {
-    match objects::put_object(connection, alloc, object) {
-        Ok(version) => Ok(Answer::Stored(version)),
-        Err(error) => Err(StepError::from(error)),
-    }
+    answers::stored(objects::put_object(connection, alloc, object, given))
 }
 
 fn get_object<S: Alter>(
     connection: &mut Connection<S>,
+    alloc: Global,
     tenant: &TenantName,
     object: &ObjectName,
+    version: Wanted,
+    range: Option<&[u8]>,
 ) -> Result<Answer, StepError<Rejection>>
     requires { Works S.Store connection.old }
     ensures within { StaysWithin S.Store connection.old connection.new }
     ensures opens { Unless result (StaysOpen S.Store connection.old connection.new) }
     ensures working { Unless result (StillWorks S.Store connection.old connection.new) }
     ensures carries { IsClean S.Store connection.new
-        → Carries answer_view tenant.now (get_current object.now.bucket object.now.key)
+        → Carries answer_view tenant.now (machine.get_object object.now.bucket object.now.key version (option_copied range.entry))
         (tables S.Store connection.old) (tables S.Store connection.new) result }
 {
-    match gets::get_object(connection, tenant, &object.bucket, &object.key) {
-        Ok(version) => Ok(Answer::Found(version)),
+    let (bucket, key) = (&object.bucket, &object.key);
+    match gets::get_object(connection, alloc, tenant, bucket, key, version, range) {
+        Ok(found) => Ok(Answer::Found(found)),
         Err(error) => Err(error),
+    }
+}
+
+fn head_object<S: Alter>(
+    connection: &mut Connection<S>,
+    tenant: &TenantName,
+    object: &ObjectName,
+    version: Wanted,
+) -> Result<Answer, StepError<Rejection>>
+    requires { Works S.Store connection.old }
+    ensures within { StaysWithin S.Store connection.old connection.new }
+    ensures opens { Unless result (StaysOpen S.Store connection.old connection.new) }
+    ensures working { Unless result (StillWorks S.Store connection.old connection.new) }
+    ensures carries { IsClean S.Store connection.new
+        → Carries answer_view tenant.now (machine.head_object object.now.bucket object.now.key version)
+        (tables S.Store connection.old) (tables S.Store connection.new) result }
+{
+    match heads::head_object(connection, tenant, &object.bucket, &object.key, version) {
+        Ok(head) => Ok(Answer::Head(head)),
+        Err(error) => Err(error),
+    }
+}
+
+fn delete_object<S: Alter>(
+    connection: &mut Connection<S>,
+    tenant: &TenantName,
+    at: Moment,
+    object: &ObjectName,
+    version: Wanted,
+) -> Result<Answer, StepError<Rejection>>
+    requires working { Works S.Store connection.old }
+    requires early { IsClean S.Store connection.old → at ≤ latest_of (tables S.Store connection.old) }
+    ensures within { StaysWithin S.Store connection.old connection.new }
+    ensures opens { Unless result (StaysOpen S.Store connection.old connection.new) }
+    ensures working { Unless result (StillWorks S.Store connection.old connection.new) }
+    ensures carries { IsClean S.Store connection.new
+        → Carries answer_view tenant.now (λ s. plainly (machine.delete_object at object.now.bucket object.now.key version s))
+        (tables S.Store connection.old) (tables S.Store connection.new) result }
+{
+    let outcome =
+        deletes::delete_object(connection, tenant, at, &object.bucket, &object.key, version);
+    answers::removed(outcome)
+}
+
+fn bytes_of(bytes: &Option<Bytes>) -> Option<&[u8]>
+    ensures { option_copied result ≡ bytes.now }
+{
+    match bytes {
+        Some(bytes) => Some(bytes.as_slice()),
+        None => None,
     }
 }
 
@@ -104,8 +239,15 @@ pub fn operate<S: Alter>(
         (tables S.Store connection.old) (tables S.Store connection.new) result }
 {
     match operation {
+        Operation::ListBuckets => list_buckets(connection, alloc, tenant),
         Operation::CreateBucket(bucket) => create_bucket(connection, tenant, at, bucket),
-        Operation::PutObject { object, .. } => {
+        Operation::HeadBucket(bucket) => head_bucket(connection, tenant, bucket),
+        Operation::DeleteBucket(bucket) => delete_bucket(connection, tenant, bucket),
+        Operation::GetBucketVersioning(bucket) => versioning(connection, tenant, bucket),
+        Operation::PutBucketVersioning(bucket) => {
+            set_versioning(connection, alloc, tenant, bucket, body)
+        }
+        Operation::PutObject { object, checksum } => {
             let object = NewObject {
                 tenant,
                 bucket: &object.bucket,
@@ -113,9 +255,21 @@ pub fn operate<S: Alter>(
                 at,
                 bytes: body,
             };
-            put_object(connection, alloc, &object)
+            put_object(connection, alloc, &object, bytes_of(checksum))
         }
-        Operation::GetObject { object, .. } => get_object(connection, tenant, object),
+        Operation::GetObject {
+            object,
+            version,
+            range,
+        } => {
+            get_object(connection, alloc, tenant, object, *version, bytes_of(range))
+        }
+        Operation::HeadObject { object, version } => {
+            head_object(connection, tenant, object, *version)
+        }
+        Operation::DeleteObject { object, version } => {
+            delete_object(connection, tenant, at, object, *version)
+        }
         _ => Err(StepError::from(Refusal::NotImplemented)),
     }
 }

@@ -7,7 +7,7 @@ use Rattle.serde_json.specs.Written.{has_float, items_have_float, members_have_f
 use Rattle.bh_types.specs.Ids.{upload_text, version_text}
 use Rattle.bh_docs.specs.Documents.{member_if, natural}
 use Rattle.bh_docs.specs.Pages.{prefix_data, object_data, version_data, version_members, upload_data, part_data, objects_data, versions_data, uploads_data, parts_data}
-use Rattle.bh_docs.specs.Tokens.{token_text}
+use Rattle.bh_types.specs.Tokens.{token_text}
 use Rattle.bh_docs.specs.declared.objects.ObjectsPage.{ObjectsPage}
 use Rattle.bh_docs.specs.declared.parts.PartsPage.{PartsPage}
 use Rattle.bh_docs.specs.declared.uploads.UploadsPage.{UploadsPage}

@@ -3,4 +3,3 @@ pub mod Members
 pub mod Pages
 pub mod Requests
 pub mod Shapes
-pub mod Tokens

@@ -4,7 +4,7 @@ use Rattle.std.specs.Borrow.{Bor}
 use Rattle.serde_json.specs.Data.{Data, boolean, string, object, no_members}
 use Rattle.bh_types.specs.Ids.{version_text, upload_text}
 use Rattle.bh_docs.specs.Documents.{natural, moment, with_member}
-use Rattle.bh_docs.specs.Tokens.{token_text}
+use Rattle.bh_types.specs.Tokens.{token_text}
 use Rattle.bh_docs.specs.declared.document.Shown.{Shown}
 use Rattle.bh_docs.specs.declared.document.Shown.TheVariants.{Nothing, Text, Count, Flag, At, Version, Upload, Token}
 

@@ -6,7 +6,7 @@ use Rattle.serde_json.specs.Data.{Data, boolean, string, object, Members, member
 use Rattle.serde_json.specs.Written.{compact_text}
 use Rattle.bh_types.specs.Ids.{version_text, upload_text}
 use Rattle.bh_docs.specs.Documents.{natural, moment, array_of, member_if}
-use Rattle.bh_docs.specs.Tokens.{token_text}
+use Rattle.bh_types.specs.Tokens.{token_text}
 use Rattle.bh_docs.specs.declared.objects.ObjectEntry.{ObjectEntry}
 use Rattle.bh_docs.specs.declared.objects.ObjectsPage.{ObjectsPage}
 use Rattle.bh_docs.specs.declared.prefix.CommonPrefix.{CommonPrefix}

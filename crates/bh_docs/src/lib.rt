@@ -1,10 +1,9 @@
-//! The texts of a bucket host: JSON documents (RFC 8259), checksums and tokens.
+//! The JSON documents (RFC 8259) of a bucket host.
 //!
 //! A request's document is read exactly where it has its shape, and a reply's document is one exact
 //! text. Beside that, only memory can be wanting.
 #![tactic(auto)]
 
-pub mod checksum;
 mod document;
 pub mod objects;
 pub mod parts;
@@ -12,11 +11,9 @@ pub mod prefix;
 pub mod read;
 pub mod reply;
 mod shape;
-pub mod token;
 pub mod uploads;
 pub mod versions;
 
-pub use checksum::{checksum_of, checksum_of_digest, digest_of, joined_checksum, read_checksum};
 pub use objects::{ObjectEntry, ObjectsPage, objects_document};
 pub use parts::{PartEntry, PartsPage, parts_document};
 pub use prefix::CommonPrefix;
@@ -25,6 +22,5 @@ pub use reply::{
     BucketEntry, Usage, begun_document, buckets_document, completed_document, copied_document,
     error_document, lifecycle_document, usage_document, versioning_document,
 };
-pub use token::{read_token, token_text};
 pub use uploads::{UploadEntry, UploadsNext, UploadsPage, uploads_document};
 pub use versions::{StoredObject, VersionEntry, VersionsNext, VersionsPage, versions_document};

@@ -143,23 +143,19 @@ fn refusal_to(alloc: Global, target: &[u8], rejection: Rejection) -> Result<Resp
     let document = error_document(alloc, rejection.refusal.code(), path.as_str())?;
     let mut response = Response::refused(alloc, rejection.refusal, document.into_bytes());
     response.content_range = range_told(rejection.detail);
-    response.allow = allow_told(alloc, target, rejection)?;
+    response.allow = allow_told(target, rejection);
     response.delete_marker = marker_told(rejection.detail);
     Ok(response)
 }
 
 /// The methods to tell of with a refusal of this target.
-fn allow_told(
-    alloc: Global,
-    target: &[u8],
-    rejection: Rejection,
-) -> Result<Option<Allow>, AllocError>
-    ensures { IfOk result (λ allow. allow ≡ spec.allow_told target.now rejection.refusal rejection.detail) }
+fn allow_told(target: &[u8], rejection: Rejection) -> Option<Allow>
+    ensures { result ≡ spec.allow_told target.now rejection.refusal rejection.detail }
 {
     match (rejection.refusal, rejection.detail) {
-        (_, Detail::NamedMarker) => Ok(Some(Allow::Marker)),
-        (Refusal::MethodNotAllowed, _) => allow_of(alloc, target),
-        _ => Ok(None),
+        (_, Detail::NamedMarker) => Some(Allow::Marker),
+        (Refusal::MethodNotAllowed, _) => allow_of(target),
+        _ => None,
     }
 }
 

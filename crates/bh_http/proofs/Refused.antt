@@ -7,7 +7,8 @@ use Rattle.bh_types.specs.Limits.{HostLimits}
 use Rattle.bh_types.specs.Refusing.{RefusedOnly}
 use Rattle.bh_types.specs.declared.refusal.Refusal.{Refusal}
 use Rattle.bh_http.specs.Fields.{Occurrence, Missing, Once, Repeated, field_named}
-use Rattle.bh_http.specs.Reading.{parts_of, taken, framing, announced, length_in, is_number, needs_length, is_once, is_missing}
+use Rattle.bh_types.specs.Digits.{is_number}
+use Rattle.bh_http.specs.Reading.{parts_of, taken, framing, announced, length_in, needs_length, is_once, is_missing}
 use Rattle.bh_http.specs.Refused.{ReadingRefusals, is_reading_refusal}
 use Rattle.bh_http.specs.Views.{Parts}
 

@@ -1,14 +1,13 @@
 -- What the bytes of a request are: a head of httparse's grammar (RFC 9112), and then the body that
 -- its Content-Length frames.
-use Rattle.std.specs.Prelude.{◌≡◌, ℕ, ◌≤◌, Bool, true, false, ◌&&◌, ◌||◌, not, ◌==◌, nat_le, nat_lt, ◌⊎◌, List, length, take, map, codes, if◌then◌else◌, Result, Ok, Err}
-use Rattle.std.specs.List.{list_all}
-use Rattle.std.specs.Char.{is_ascii_digit}
+use Rattle.std.specs.Prelude.{◌≡◌, ℕ, ◌≤◌, Bool, true, false, ◌&&◌, ◌||◌, not, ◌==◌, nat_le, ◌⊎◌, List, length, take, map, codes, if◌then◌else◌, Result, Ok, Err}
 use Rattle.std.specs.Str.{bytes_eq}
 use Rattle.std.specs.Str.Parse.{digits_value}
 use Rattle.httparse.specs.Grammar.{RequestHead, ReadsRequest, print_request}
 use Rattle.httparse.specs.Spans.{name_and_value}
 use Rattle.bh_types.specs.declared.error.RequestError.{RequestError}
 use Rattle.bh_types.specs.declared.error.RequestError.TheVariants.{Refused, OutOfMemory}
+use Rattle.bh_types.specs.Digits.{is_number}
 use Rattle.bh_types.specs.Limits.{HostLimits}
 use Rattle.bh_types.specs.declared.refusal.Refusal.{Refusal}
 use Rattle.bh_types.specs.declared.refusal.Refusal.TheVariants.{BadRequest, NotImplemented, MissingContentLength, EntityTooLarge, IncompleteBody}
@@ -43,10 +42,6 @@ abbrev pub is_once : Occurrence → Bool
 is_once Missing = false
 is_once (Once value) = true
 is_once Repeated = false
-
--- one or more digits
-abbrev pub is_number : List ℕ → Bool
-is_number text = nat_lt 0 (length text) && list_all is_ascii_digit text
 
 -- RFC 9110, section 15.5.12: 411 where a length is wanted
 abbrev pub needs_length : List ℕ → Bool

@@ -1,13 +1,11 @@
-ghost use Rattle.std.specs.Prelude.{◌≡◌, ◌<◌, ◌≤◌, ◌^◌, ℕ, List, length, true, IfSome, IfNone};
-ghost use Rattle.std.specs.List.{list_all};
-ghost use Rattle.std.specs.Char.{is_ascii_digit};
-ghost use Rattle.std.specs.Str.Parse.{digits_value};
+ghost use Rattle.std.specs.Prelude.{◌≡◌, ℕ, List};
 ghost use Rattle.bh_http.specs.Fields.{given_view};
 ghost use Rattle.bh_http.specs.HeadSpans.{head_view};
 ghost use Rattle.bh_http.specs.Reading as spec;
 
 use crate::fields::{Given, field_named};
 use crate::head::Head;
+use bh_types::digits::{is_number, number_of};
 use bh_types::limits::Limits;
 use bh_types::refusal::Refusal;
 use http::Method;
@@ -70,33 +68,11 @@ fn needs_length(method: &Method) -> bool
 fn length_in(max_body: u64, value: &[u8]) -> Result<u64, Refusal>
     ensures { result ≡ spec.length_in max_body value.now }
 {
-    if value.is_empty() || !are_digits(value) {
+    if !is_number(value) {
         return Err(Refusal::BadRequest);
     }
     match number_of(value) {
         Some(size) if size <= max_body => Ok(size),
         _ => Err(Refusal::EntityTooLarge),
-    }
-}
-
-fn are_digits(text: &[u8]) -> bool
-    ensures { result ≡ list_all is_ascii_digit text.now }
-{
-    text.iter().all(|b| b.is_ascii_digit())
-}
-
-/// The number that digits stand for, if it is below 2^64.
-fn number_of(digits: &[u8]) -> Option<u64>
-    requires some_digits { 0 < length digits.now }
-    requires only_digits { list_all is_ascii_digit digits.now ≡ true }
-    ensures some { IfSome result (λ n. n ≡ digits_value 10 digits.now) }
-    ensures none { IfNone result (2 ^ 64 ≤ digits_value 10 digits.now) }
-{
-    let Ok(text) = str::from_utf8(digits) else {
-        return None;
-    };
-    match text.parse::<u64>() {
-        Ok(n) => Some(n),
-        Err(_) => None,
     }
 }

@@ -4,10 +4,10 @@ ghost use Rattle.std.specs.List as list;
 ghost use Rattle.bh_model.specs.Entries as spec;
 ghost use Rattle.bh_model.specs.Shown.{content_of};
 
-use bh_types::id::VersionId;
 use bh_types::bucket_state::BucketState;
-use bh_types::wanted::Wanted;
+use bh_types::id::VersionId;
 use bh_types::refusal::Refusal;
+use bh_types::wanted::Wanted;
 use std::alloc::AllocError;
 use std::marker::Model;
 
@@ -135,15 +135,21 @@ pub fn delete(
     }
 }
 
-/// Whether an entry has an id.
-fn has_id(entry: &Entry, id: VersionId) -> bool
-    ensures { result ≡ spec.has_id id entry.now }
+/// Whether two ids are one.
+pub fn same_id(a: VersionId, b: VersionId) -> bool
+    ensures { result ≡ spec.same_id a b }
 {
-    match (entry.id, id) {
+    match (a, b) {
         (VersionId::Null, VersionId::Null) => true,
         (VersionId::Numbered(m), VersionId::Numbered(n)) => m == n,
         _ => false,
     }
+}
+
+fn has_id(entry: &Entry, id: VersionId) -> bool
+    ensures { result ≡ spec.has_id id entry.now }
+{
+    same_id(entry.id, id)
 }
 
 fn find(entries: &[Entry], id: VersionId) -> Option<&Entry>
@@ -184,7 +190,8 @@ fn open(entry: &Entry, refusal: Refusal) -> Result<Version<'_>, LookupFault>
     }
 }
 
-fn new_id(state: BucketState, next: u64) -> VersionId
+/// The id of a new entry in a bucket of this state; `next` is the tenant's next version number.
+pub fn new_id(state: BucketState, next: u64) -> VersionId
     ensures { result ≡ spec.new_id state next }
 {
     match state {

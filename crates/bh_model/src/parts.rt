@@ -11,7 +11,7 @@ ghost use Rattle.bh_model.specs.Parts as spec;
 ghost use Rattle.bh_model.specs.Shown.{content_of, naming_of, parts_of, shown_parts};
 
 use crate::entries::Content;
-use base64::engine::general_purpose::STANDARD;
+use bh_types::checksum::checksum_of;
 use bh_types::error::RequestError;
 use bh_types::wanted::Named;
 use bh_types::refusal::Refusal;
@@ -171,10 +171,4 @@ fn joined_digests(alloc: Global, parts: &[&Part]) -> Result<Vec<u8>, AllocError>
         digests.extend_from_slice(Sha256::digest(part.bytes.as_slice()).as_slice())?;
     }
     Ok(digests)
-}
-
-fn checksum_of(alloc: Global, bytes: &[u8]) -> Result<String, AllocError>
-    ensures { IfOk result (λ text. string_bytes text ≡ checksum_text bytes.now) }
-{
-    STANDARD.encode(alloc, Sha256::digest(bytes).as_slice())
 }

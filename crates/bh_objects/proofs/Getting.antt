@@ -1,52 +1,157 @@
--- GetObject: the row that was read is the machine's answer.
-use Rattle.std.proofs.Common.{◌≡◌, ℕ, zero, suc, List, [], ◌∷◌, Option, Some, None, option_map, option_to_list, find, Result, Ok, Err, refl, ap, ◌∙◌}
+-- GetObject and HeadObject: the row that was read is the version that the machine finds.
+use Rattle.std.proofs.Common.{◌≡◌, ℕ, zero, suc, length, is_ok, true≢false, find, Option, Some, None, option_map, Result, Ok, Err, refl, sym, ap, ◌∙◌}
 use Rattle.std.specs.Result.{result_map_both}
 use Rattle.std.specs.FinMap.{get}
-use Rattle.bh_types.specs.declared.bucket_state.BucketState.TheVariants.{Unversioned}
-use Rattle.bh_types.specs.declared.rejection.Rejection.{Rejection}
-use Rattle.bh_machine.specs.Machine.{not_found}
-use Rattle.bh_model.specs.State.{Octets, State, Bucket, Entry}
 use Rattle.bh_types.specs.Outcomes.{◌>>=◌}
-use Rattle.bh_model.specs.Entries.{Version, found_current}
-use Rattle.bh_model.specs.Operations.{Answer, Outcome, Object, id_told, listed, shown}
+use Rattle.bh_types.specs.Ranges.{cut}
+use Rattle.bh_types.specs.Rejections.{plain, plainly}
+use Rattle.bh_types.specs.declared.bucket_state.BucketState.{BucketState}
+use Rattle.bh_types.specs.declared.range.RangePlan.{RangePlan}
+use Rattle.bh_types.specs.declared.refusal.Refusal.{Refusal}
+use Rattle.bh_types.specs.declared.refusal.Refusal.TheVariants.{NoSuchKey, MethodNotAllowed}
+use Rattle.bh_types.specs.declared.rejection.Rejection.{Rejection}
+use Rattle.bh_types.specs.declared.wanted.Wanted.{Wanted}
+use Rattle.bh_types.specs.declared.wanted.Wanted.TheVariants.{Current, Named, Unknown}
+use Rattle.bh_model.specs.State.{Octets, State, Bucket}
+use Rattle.bh_model.specs.Entries.{Version, opened, lookup}
+use Rattle.bh_model.specs.Operations.{Answer, Outcome, Head, Object, id_told, listed, not_found, planned, shown, wanted_version, get_object, head_object}
 use Rattle.bh_model.specs.declared.entries.LookupFault.{LookupFault}
 use Rattle.bh_tables.specs.Typed.{Tables, VersionRow}
-use Rattle.bh_tables.specs.Shown.{is_version}
+use Rattle.bh_tables.specs.Shown.{is_entry}
 use Rattle.bh_view.specs.View.{view, entry_of, content_of, id_of}
 use Rattle.bh_view.specs.Sound.{IsSound}
-use Rattle.bh_view.proofs.FindLemmas.{first_find, null_found}
-use Rattle.bh_schema.specs.Rows.{seen_version}
-use Rattle.bh_objects.specs.Answers.{get_current, opened_row, null_answer}
+use Rattle.bh_view.specs.Wanted.{wanted_row, looked}
+use Rattle.bh_view.proofs.FilterLemmas.{none_some, same_Some}
+use Rattle.bh_view.proofs.WantedLemmas.{lookup_row, wanted_good, wanted_entry}
+use Rattle.bh_schema.specs.Rows.{SeenHead, seen_head, seen_bytes}
+use Rattle.bh_objects.specs.Answers.{head_opened, head_looked, head_told}
 use Rattle.bh_objects.specs.Found.{mode_in}
-use Rattle.bh_objects.proofs.Putting.{has_bucket}
+use Rattle.bh_objects.proofs.Putting.{has_bucket, no_bucket}
 
-abbrev pub with_state : Option State → Result Answer Rejection → Result Outcome Rejection
-with_state v r = result_map_both (λ a. (a, v)) (λ rejection. rejection) r
+-- the version that a row is
+abbrev version_of : VersionRow → Version
+version_of row = record { id = id_of row.id; moment = row.stamp; bytes = row.bytes; checksum = row.checksum }
 
-abbrev told : Bucket → Option State → List Entry → Result Outcome Rejection
-told B v entries = result_map_both (λ (x : Version). (shown B x, v)) not_found (found_current entries)
+abbrev told : Result Version LookupFault → Result Version Rejection
+told r = result_map_both (λ v. v) not_found r
 
--- what the lookup makes of a key's only entry
-null_told : (B : Bucket) (v : Option State) → B.mode ≡ Unversioned → (o : Option VersionRow) → told B v (option_to_list (option_map entry_of o)) ≡ with_state v (null_answer (option_map seen_version o))
-null_told B v plain None = refl
-null_told B v plain (Some r) = go r r.marker
+abbrev head_or : Result SeenHead Rejection → SeenHead → SeenHead
+head_or (Ok head) other = head
+head_or (Err x) other = other
+
+abbrev rejection_or : Result SeenHead Rejection → Rejection → Rejection
+rejection_or (Ok head) other = other
+rejection_or (Err x) other = x
+
+-- the row of a head that was answered
+pub record IsRow (wanted : Wanted) (o : Option VersionRow) (head : SeenHead) : Type 0 where
+  pub row : VersionRow
+  pub there : o ≡ Some row
+  pub seen : seen_head row ≡ head
+  pub tells : told (looked wanted o) ≡ Ok (version_of row)
+
+body_told : (wanted : Wanted) (row : VersionRow) → row.marker ≡ 0 → (wanted ≡ Unknown → Some row ≡ None) → told (looked wanted (Some row)) ≡ Ok (version_of row)
+body_told Current row is away = ap (λ m. told (opened NoSuchKey (entry_of row) (content_of m row))) is
+body_told (Named id) row is away = ap (λ m. told (opened MethodNotAllowed (entry_of row) (content_of m row))) is
+body_told Unknown row is away = absurd (none_some (sym (away refl)))
+
+head_row : (wanted : Wanted) (o : Option VersionRow) → (wanted ≡ Unknown → o ≡ None) → (head : SeenHead) → head_looked wanted (option_map seen_head o) ≡ Ok head → IsRow wanted o head
+head_row wanted None away head e = absurd (true≢false (sym (ap is_ok e)))
+head_row wanted (Some row) away head e = go row.marker refl e
   where
-    go : (r : VersionRow) (m : ℕ) → told B v (record { id = id_of r.id; moment = r.stamp; content = content_of m r } ∷ []) ≡ with_state v (opened_row m (seen_version r))
-    go r zero = ap (λ mode. Ok (Object (id_told mode (id_of r.id)) r.bytes r.checksum, v)) plain
-    go r (suc n) = refl
+    go : (m : ℕ) → row.marker ≡ m → head_opened wanted m (seen_head row) ≡ Ok head → IsRow wanted (Some row) head
+    go zero is e = record { row = row; there = refl; seen = ap (λ r. head_or r head) e; tells = body_told wanted row is away }
+    go (suc n) is e = absurd (true≢false (sym (ap is_ok e)))
 
-both : (B : Bucket) (v : Option State) (r : Result Version LookupFault) → result_map_both {T = Outcome} (λ o. o) not_found (r >>= (λ x. Ok (shown B x, v))) ≡ result_map_both (λ (x : Version). (shown B x, v)) not_found r
-both B v (Ok x) = refl
-both B v (Err e) = refl
+head_refused : (wanted : Wanted) (o : Option VersionRow) → (wanted ≡ Unknown → o ≡ None) → (x : Rejection) → head_looked wanted (option_map seen_head o) ≡ Err x → told (looked wanted o) ≡ Err x
+head_refused Current None away x e = ap (λ r. Err (rejection_or r x)) e
+head_refused (Named id) None away x e = ap (λ r. Err (rejection_or r x)) e
+head_refused Unknown o away x e = ap (λ r. Err (rejection_or r x)) (ap (λ p. head_looked Unknown (option_map seen_head p)) (sym (away refl)) ∙ e)
+head_refused Current (Some row) away x e = go row.marker refl e
+  where
+    go : (m : ℕ) → row.marker ≡ m → head_opened Current m (seen_head row) ≡ Err x → told (looked Current (Some row)) ≡ Err x
+    go zero is e = absurd (true≢false (ap is_ok e))
+    go (suc n) is e = ap (λ m. told (opened NoSuchKey (entry_of row) (content_of m row))) is ∙ ap (λ r. Err (rejection_or r x)) e
+head_refused (Named id) (Some row) away x e = go row.marker refl e
+  where
+    go : (m : ℕ) → row.marker ≡ m → head_opened (Named id) m (seen_head row) ≡ Err x → told (looked (Named id) (Some row)) ≡ Err x
+    go zero is e = absurd (true≢false (ap is_ok e))
+    go (suc n) is e = ap (λ m. told (opened MethodNotAllowed (entry_of row) (content_of m row))) is ∙ ap (λ r. Err (rejection_or r x)) e
 
-current : (b k : Octets) (v : Option State) (s : State) (B : Bucket) → v ≡ Some s → get s.buckets b ≡ Some B → get_current b k v ≡ told B v (listed k B)
-current b k v s B is at = rw (is, at) (both B (Some s) (found_current (listed k B)))
+version_in : (b k : Octets) (wanted : Wanted) (v : Option State) (s : State) (B : Bucket) → v ≡ Some s → get s.buckets b ≡ Some B → wanted_version b k wanted v ≡ (told (lookup wanted (listed k B)) >>= (λ x. Ok (B, x)))
+version_in b k wanted v s B is at = rw (is, at) refl
 
-pub gets : (tables : Tables) (t b k : Octets) → IsSound tables → mode_in b (view tables t) ≡ Ok Unversioned
-    → get_current b k (view tables t) ≡ with_state (view tables t) (null_answer (option_map seen_version (find (is_version t b k 0) tables.versions)))
-gets tables t b k sound plain =
-    let h = has_bucket b (view tables t) Unversioned plain in
-    current b k (view tables t) h.state h.bucket h.added h.there
-    ∙ ap (told h.bucket (view tables t)) (null_found tables t h.state h.added b k h.bucket h.there sound h.its)
-    ∙ ap (λ o. told h.bucket (view tables t) (option_to_list (option_map entry_of o))) (first_find (is_version t b k 0) tables.versions)
-    ∙ null_told h.bucket (view tables t) h.its (find (is_version t b k 0) tables.versions)
+module _ (b k : Octets) (wanted : Wanted) (range : Option Octets) (v : Option State) (r : Refusal) (none : mode_in b v ≡ Err r) where
+  pub heads_nowhere : head_object b k wanted v ≡ Err (plain r)
+  heads_nowhere = rw (no_bucket b v r none) refl
+
+  pub gets_nowhere : get_object b k wanted range v ≡ Err (plain r)
+  gets_nowhere = rw (no_bucket b v r none) refl
+
+module _ (tables : Tables) (t b k : Octets) (sound : IsSound tables) (mode : BucketState) (found : mode_in b (view tables t) ≡ Ok mode) (wanted : Wanted) where
+  abbrev row_there : Option VersionRow
+  row_there = wanted_row t b k wanted tables.versions
+
+  nothing_unknown : (w : Wanted) → w ≡ Unknown → wanted_row t b k w tables.versions ≡ None
+  nothing_unknown w e = ap (λ x. wanted_row t b k x tables.versions) e
+
+  -- the bucket and the version
+  abbrev tell : Bucket → Result Version Rejection → Result (Bucket × Version) Rejection
+  tell B r = r >>= (λ x. Ok (B, x))
+
+  version_at : (r : Result Version Rejection) → told (looked wanted row_there) ≡ r → (B : Bucket) × (B.mode ≡ mode) × (wanted_version b k wanted (view tables t) ≡ tell B r)
+  version_at r is =
+      let h = has_bucket b (view tables t) mode found in
+      (h.bucket, h.its, version_in b k wanted (view tables t) h.state h.bucket h.added h.there ∙ ap (λ x. tell h.bucket (told x)) (lookup_row tables t sound b k h.state h.added h.bucket h.there wanted) ∙ ap (tell h.bucket) is)
+
+  abbrev head_given : Option State → Result (Bucket × Version) Rejection → Result Outcome Rejection
+  head_given v r = r >>= (λ f. Ok (Head (id_told f.0.mode f.1.id) (length f.1.bytes) f.1.checksum, v))
+
+  abbrev object_given : Option Octets → Option State → Result (Bucket × Version) Rejection → Result Outcome Rejection
+  object_given range v r = do
+    f ← r
+    plan ← planned range (length f.1.bytes)
+    Ok (shown f.0 f.1 plan, v)
+
+  -- a refusal of the lookup
+  module _ (x : Rejection) (e : head_looked wanted (option_map seen_head row_there) ≡ Err x) where
+    refused_version : (B : Bucket) × (B.mode ≡ mode) × (wanted_version b k wanted (view tables t) ≡ Err x)
+    refused_version = version_at (Err x) (head_refused wanted row_there (nothing_unknown wanted) x e)
+
+    pub head_is_refused : head_object b k wanted (view tables t) ≡ Err x
+    head_is_refused = ap (head_given (view tables t)) refused_version.2
+
+    pub get_is_refused : (range : Option Octets) → get_object b k wanted range (view tables t) ≡ Err x
+    get_is_refused range = ap (object_given range (view tables t)) refused_version.2
+
+  -- a version
+  module _ (head : SeenHead) (e : head_looked wanted (option_map seen_head row_there) ≡ Ok head) where
+    its : IsRow wanted row_there head
+    its = head_row wanted row_there (nothing_unknown wanted) head e
+
+    sized : head.size ≡ length its.row.bytes
+    sized = ap (λ (x : SeenHead). x.size) (sym its.seen) ∙ (wanted_good tables t sound b k wanted its.row its.there).size
+
+    found_version : (B : Bucket) × (B.mode ≡ mode) × (wanted_version b k wanted (view tables t) ≡ Ok (B, version_of its.row))
+    found_version = version_at (Ok (version_of its.row)) its.tells
+
+    pub head_is_told : head_object b k wanted (view tables t) ≡ Ok (head_told mode head, view tables t)
+    head_is_told = ap (head_given (view tables t)) found_version.2 ∙ (λ i. Ok (Head (id_told (found_version.1 i) (id_of its.row.id)) (sym sized i) its.row.checksum, view tables t))
+        ∙ ap (λ (x : SeenHead). Ok (Head (id_told mode (id_of x.id)) head.size x.checksum, view tables t)) its.seen
+
+    module _ (range : Option Octets) where
+      planned_at : get_object b k wanted range (view tables t) ≡ (planned range head.size >>= (λ plan. Ok (Object (id_told mode (id_of head.id)) head.size plan (cut plan its.row.bytes) head.checksum, view tables t)))
+      planned_at = ap (object_given range (view tables t)) found_version.2
+          ∙ (λ i. planned range (sym sized i) >>= (λ plan. Ok (Object (id_told (found_version.1 i) (id_of its.row.id)) (sym sized i) plan (cut plan its.row.bytes) its.row.checksum, view tables t)))
+          ∙ ap (λ (x : SeenHead). planned range head.size >>= (λ plan. Ok (Object (id_told mode (id_of x.id)) head.size plan (cut plan its.row.bytes) x.checksum, view tables t))) its.seen
+
+      pub range_is_refused : (x : Rejection) → planned range head.size ≡ Err x → get_object b k wanted range (view tables t) ≡ Err x
+      range_is_refused x out = planned_at ∙ ap (λ r. r >>= (λ plan. Ok (Object (id_told mode (id_of head.id)) head.size plan (cut plan its.row.bytes) head.checksum, view tables t))) out
+
+      pub object_is_told : (plan : RangePlan) (bytes : Octets) → planned range head.size ≡ Ok plan → option_map (λ v. cut plan (seen_bytes v)) (find (is_entry t head.seq) tables.versions) ≡ Some bytes
+          → get_object b k wanted range (view tables t) ≡ Ok (Object (id_told mode (id_of head.id)) head.size plan bytes head.checksum, view tables t)
+      object_is_told plan bytes within read =
+          let entry : find (is_entry t head.seq) tables.versions ≡ Some its.row = ap (λ (x : SeenHead). find (is_entry t x.seq) tables.versions) (sym its.seen) ∙ wanted_entry tables t sound b k wanted its.row its.there in
+          let kept : cut plan its.row.bytes ≡ bytes = same_Some (sym (ap (option_map (λ v. cut plan (seen_bytes v))) entry) ∙ read) in
+          planned_at ∙ ap (λ r. r >>= (λ p. Ok (Object (id_told mode (id_of head.id)) head.size p (cut p its.row.bytes) head.checksum, view tables t))) within
+          ∙ ap (λ l. Ok (Object (id_told mode (id_of head.id)) head.size plan l head.checksum, view tables t)) kept

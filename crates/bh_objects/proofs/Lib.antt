@@ -4,3 +4,5 @@ pub mod Creating
 pub mod Putting
 pub mod BucketSteps
 pub mod Getting
+pub mod Deleting
+pub mod Ids

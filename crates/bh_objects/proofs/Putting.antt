@@ -1,22 +1,24 @@
 -- PutObject: what was read, and the rows that were written, are the machine's step.
-use Rattle.std.proofs.Common.{◌≡◌, ℕ, ◌≤◌, is_ok, true≢false, Option, Some, None, option_map, ok_or, Result, Ok, Err, refl, sym, ap, ◌∙◌, subst}
+use Rattle.std.proofs.Common.{◌≡◌, ℕ, ◌≤◌, true, false, is_ok, true≢false, Option, Some, None, option_map, ok_or, Result, Ok, Err, refl, sym, ap, ◌∙◌, subst}
 use Rattle.std.specs.FinMap.{get}
 use Rattle.std.specs.Result.{result_map_both}
 use Rattle.bh_types.specs.Counts.{Counts}
+use Rattle.bh_types.specs.Outcomes.{◌>>=◌}
 use Rattle.bh_types.specs.declared.bucket_state.BucketState.{BucketState}
 use Rattle.bh_types.specs.declared.refusal.Refusal.{Refusal}
-use Rattle.bh_types.specs.declared.refusal.Refusal.TheVariants.{NoSuchBucket}
-use Rattle.bh_model.specs.State.{Octets, State, Bucket}
+use Rattle.bh_types.specs.declared.refusal.Refusal.TheVariants.{NoSuchBucket, BadDigest}
+use Rattle.bh_model.specs.State.{Octets, Content.Body, State, Bucket}
 use Rattle.bh_types.specs.Checksums.{checksum_text}
 use Rattle.bh_model.specs.Counting.{counts, after_entry}
 use Rattle.bh_model.specs.Entries.{new_id}
-use Rattle.bh_model.specs.Operations.{Stored, id_told, put_object}
+use Rattle.bh_model.specs.Operations.{Stored, id_told, tenant_bucket, put_object}
+use Rattle.bh_model.specs.Parts.{is_checksum}
 use Rattle.bh_tables.specs.Typed.{Tables}
 use Rattle.bh_view.specs.View.{view, latest_of, limits_in}
 use Rattle.bh_view.specs.Sound.{IsSound}
 use Rattle.bh_view.proofs.PutLemmas.{object_put}
 use Rattle.bh_storage.specs.Calls.{GivesStep}
-use Rattle.bh_objects.specs.Found.{mode_in, counts_in, IsKeyText, with_put}
+use Rattle.bh_objects.specs.Found.{mode_in, numbers_in, IsKeyText, with_entry}
 
 -- the tenant's bucket of a name, whose state was read
 pub record HasBucket (name : Octets) (v : Option State) (mode : BucketState) : Type 0 where
@@ -26,13 +28,13 @@ pub record HasBucket (name : Octets) (v : Option State) (mode : BucketState) : T
   pub there : get state.buckets name ≡ Some bucket
   pub its : bucket.mode ≡ mode
 
-abbrev mode_or : Result BucketState Refusal → BucketState → BucketState
-mode_or (Ok m) other = m
-mode_or (Err e) other = other
+abbrev ok_value : {X : Type 0} → Result X Refusal → X → X
+ok_value (Ok x) other = x
+ok_value (Err e) other = other
 
-abbrev counts_or : Result Counts Refusal → Counts → Counts
-counts_or (Ok c) other = c
-counts_or (Err e) other = other
+abbrev err_value : {X : Type 0} → Result X Refusal → Refusal → Refusal
+err_value (Ok x) other = other
+err_value (Err e) other = e
 
 pub has_bucket : (name : Octets) (v : Option State) (mode : BucketState) → mode_in name v ≡ Ok mode → HasBucket name v mode
 has_bucket name None mode e = absurd (true≢false (sym (ap is_ok e)))
@@ -40,21 +42,59 @@ has_bucket name (Some s) mode e = go (get s.buckets name) refl e
   where
     go : (o : Option Bucket) → get s.buckets name ≡ o → result_map_both (λ (f : State × Bucket). f.1.mode) (λ refusal. refusal) (ok_or (option_map (λ b. (s, b)) o) NoSuchBucket) ≡ Ok mode → HasBucket name (Some s) mode
     go None is e = absurd (true≢false (sym (ap is_ok e)))
-    go (Some b) is e = record { state = s; bucket = b; added = refl; there = is; its = ap (λ r. mode_or r mode) e }
+    go (Some b) is e = record { state = s; bucket = b; added = refl; there = is; its = ap (λ r. ok_value r mode) e }
 
-module _ (old new : Tables) (t b k : Octets) (at : ℕ) (bytes : Octets) (after : Counts) (sound : IsSound old) (early : at ≤ latest_of old) (key : IsKeyText k) where
+-- a bucket that is not there
+pub no_bucket : (name : Octets) (v : Option State) (r : Refusal) → mode_in name v ≡ Err r → tenant_bucket name v ≡ Err r
+no_bucket name v r e = go (tenant_bucket name v) e
+  where
+    go : (x : Result (State × Bucket) Refusal) → result_map_both (λ f. f.1.mode) (λ refusal. refusal) x ≡ Err r → x ≡ Err r
+    go (Ok f) e = absurd (true≢false (ap is_ok e))
+    go (Err q) e = ap (λ y. Err (err_value y r)) e
+
+-- the numbers that were read of the tenant's counters
+pub has_numbers : (v : Option State) (s : State) (mode : BucketState) (before after : Counts) → v ≡ Some s → numbers_in mode v ≡ Ok (before, after) → (counts s ≡ before) × (after_entry mode (counts s) ≡ Ok after)
+has_numbers v s mode before after is e = go (after_entry mode (counts s)) refl (ap (numbers_in mode) (sym is) ∙ e)
+  where
+    go : (x : Result Counts Refusal) → after_entry mode (counts s) ≡ x → (x >>= (λ a. Ok (counts s, a))) ≡ Ok (before, after) → (counts s ≡ before) × (after_entry mode (counts s) ≡ Ok after)
+    go (Ok a) given e = (ap (λ r. (ok_value r (before, after)).0) e, given ∙ ap (λ r. Ok ((ok_value r (before, after)).1)) e)
+    go (Err q) given e = absurd (true≢false (sym (ap is_ok e)))
+
+-- a counter has no number to give
+pub no_numbers : (v : Option State) (s : State) (mode : BucketState) (r : Refusal) → v ≡ Some s → numbers_in mode v ≡ Err r → after_entry mode (counts s) ≡ Err r
+no_numbers v s mode r is e = go (after_entry mode (counts s)) refl (ap (numbers_in mode) (sym is) ∙ e)
+  where
+    go : (x : Result Counts Refusal) → after_entry mode (counts s) ≡ x → (x >>= (λ a. Ok (counts s, a))) ≡ Err r → after_entry mode (counts s) ≡ Err r
+    go (Ok a) given e = absurd (true≢false (ap is_ok e))
+    go (Err q) given e = given ∙ ap (λ y. Err (err_value y r)) e
+
+module _ (v : Option State) (b k : Octets) (at : ℕ) (bytes : Octets) (given : Option Octets) where
+  pub puts_nowhere : (r : Refusal) → mode_in b v ≡ Err r → put_object at b k bytes given v ≡ Err r
+  puts_nowhere r none = rw (no_bucket b v r none) refl
+
+  module _ (mode : BucketState) (found : mode_in b v ≡ Ok mode) where
+    pub puts_wrong_sum : is_checksum given bytes ≡ false → put_object at b k bytes given v ≡ Err BadDigest
+    puts_wrong_sum wrong = let h = has_bucket b v mode found in rw (h.added, h.there, wrong) refl
+
+    pub puts_no_numbers : (r : Refusal) → is_checksum given bytes ≡ true → numbers_in mode v ≡ Err r → put_object at b k bytes given v ≡ Err r
+    puts_no_numbers r right none =
+        let h = has_bucket b v mode found in
+        let no : after_entry h.bucket.mode (counts h.state) ≡ Err r = ap (λ m. after_entry m (counts h.state)) h.its ∙ no_numbers v h.state mode r h.added none in
+        rw (h.added, h.there, right, no) refl
+
+module _ (old new : Tables) (t b k : Octets) (at : ℕ) (bytes : Octets) (given : Option Octets) (after : Counts) (sound : IsSound old) (early : at ≤ latest_of old) (key : IsKeyText k) (right : is_checksum given bytes ≡ true) where
   abbrev Goes : BucketState → Counts → Type 0
-  Goes mode c = after_entry mode c ≡ Ok after → new ≡ with_put mode c after t b k at bytes old → GivesStep t (put_object at b k bytes None) (Stored (id_told mode (new_id mode c.version)) (checksum_text bytes)) old new × IsSound new × (limits_in new ≡ limits_in old)
+  Goes mode c = after_entry mode c ≡ Ok after → new ≡ with_entry mode c after t b k at (Body bytes (checksum_text bytes)) old
+      → GivesStep t (put_object at b k bytes given) (Stored (id_told mode (new_id mode c.version)) (checksum_text bytes)) old new × IsSound new × (limits_in new ≡ limits_in old)
 
   goes : (mode : BucketState) (h : HasBucket b (view old t) mode) → Goes h.bucket.mode (counts h.state)
-  goes mode h given e =
-      let change = object_put old new t h.state sound h.added b k h.bucket h.there at bytes early key.key key.valid h.bucket.mode after refl given e in
-      (record { gives = rw (h.added, change.shown, h.there, given) refl; others = change.others; latest = change.latest }, change.sound, change.limits)
+  goes mode h room e =
+      let change = object_put old new t h.state sound h.added b k h.bucket h.there at early key.key key.valid bytes after room e in
+      (record { gives = rw (h.added, change.shown, h.there, right, room) refl; others = change.others; latest = change.latest }, change.sound, change.limits)
 
-  read_counts : (v : Option State) (s : State) (c : Counts) → v ≡ Some s → counts_in v ≡ Ok c → counts s ≡ c
-  read_counts v s c is read = ap (λ r. counts_or r c) (ap counts_in (sym is) ∙ read)
-
-  pub puts : (mode : BucketState) (c : Counts) → mode_in b (view old t) ≡ Ok mode → counts_in (view old t) ≡ Ok c → Goes mode c
+  pub puts : (mode : BucketState) (c : Counts) → mode_in b (view old t) ≡ Ok mode → numbers_in mode (view old t) ≡ Ok (c, after) → new ≡ with_entry mode c after t b k at (Body bytes (checksum_text bytes)) old
+      → GivesStep t (put_object at b k bytes given) (Stored (id_told mode (new_id mode c.version)) (checksum_text bytes)) old new × IsSound new × (limits_in new ≡ limits_in old)
   puts mode c found read =
       let h = has_bucket b (view old t) mode found in
-      subst (λ m. Goes m c) h.its (subst (Goes h.bucket.mode) (read_counts (view old t) h.state c h.added read) (goes mode h))
+      let numbers = has_numbers (view old t) h.state mode c after h.added read in
+      subst (λ m. Goes m c) h.its (subst (Goes h.bucket.mode) numbers.0 (goes mode h)) (subst (λ x. after_entry mode x ≡ Ok after) numbers.0 numbers.1)

@@ -1,26 +1,36 @@
 -- What is answered of the rows that were found.
 use Rattle.std.specs.Prelude.{ℕ, zero, suc, Option, Some, None, Result, Ok, Err}
-use Rattle.std.specs.Result.{result_map_both}
 use Rattle.bh_types.specs.Rejections.{plain}
-use Rattle.bh_types.specs.declared.wanted.Wanted.TheVariants.{Current}
-use Rattle.bh_types.specs.declared.refusal.Refusal.TheVariants.{NoSuchKey}
-use Rattle.bh_types.specs.declared.rejection.Detail.TheVariants.{CurrentMarker}
+use Rattle.bh_types.specs.declared.bucket_state.BucketState.{BucketState}
+use Rattle.bh_types.specs.declared.wanted.Wanted.{Wanted}
+use Rattle.bh_types.specs.declared.wanted.Wanted.TheVariants.{Current, Named, Unknown}
+use Rattle.bh_types.specs.declared.refusal.Refusal.TheVariants.{NoSuchKey, NoSuchVersion, MethodNotAllowed}
+use Rattle.bh_types.specs.declared.rejection.Detail.TheVariants.{CurrentMarker, NamedMarker}
 use Rattle.bh_types.specs.declared.rejection.Rejection.{Rejection}
-use Rattle.bh_model.specs.State.{Octets, State}
-use Rattle.bh_model.specs.Operations.{Answer, Outcome, Object, get_object}
-use Rattle.bh_machine.specs.Machine.{not_found}
-use Rattle.bh_schema.specs.Rows.{SeenVersion}
+use Rattle.bh_model.specs.Operations.{Answer, Head, id_told}
+use Rattle.bh_view.specs.View.{id_of}
+use Rattle.bh_schema.specs.Rows.{SeenHead}
 
--- S3's GetObject where no version id is given
-abbrev pub get_current : Octets → Octets → Option State → Result Outcome Rejection
-get_current bucket key s = result_map_both (λ o. o) not_found (get_object bucket key Current s)
+-- no entry is there
+abbrev pub missing : Wanted → Rejection
+missing Current = plain NoSuchKey
+missing (Named id) = plain NoSuchVersion
+missing Unknown = plain NoSuchVersion
 
--- a delete marker is no object
-abbrev pub opened_row : ℕ → SeenVersion → Result Answer Rejection
-opened_row zero v = Ok (Object None v.bytes v.checksum)
-opened_row (suc n) v = Err (record { refusal = NoSuchKey; detail = CurrentMarker })
+-- a delete marker is no object, and the refusal tells of it
+abbrev pub marker_refused : Wanted → Rejection
+marker_refused Current = record { refusal = NoSuchKey; detail = CurrentMarker }
+marker_refused (Named id) = record { refusal = MethodNotAllowed; detail = NamedMarker }
+marker_refused Unknown = plain NoSuchVersion
 
--- of the version `null` of a key in a bucket that never had versions
-abbrev pub null_answer : Option SeenVersion → Result Answer Rejection
-null_answer None = Err (plain NoSuchKey)
-null_answer (Some v) = opened_row v.marker v
+abbrev pub head_opened : Wanted → ℕ → SeenHead → Result SeenHead Rejection
+head_opened wanted zero head = Ok head
+head_opened wanted (suc n) head = Err (marker_refused wanted)
+
+-- the version, of the row that was found
+abbrev pub head_looked : Wanted → Option SeenHead → Result SeenHead Rejection
+head_looked wanted None = Err (missing wanted)
+head_looked wanted (Some head) = head_opened wanted head.marker head
+
+abbrev pub head_told : BucketState → SeenHead → Answer
+head_told mode head = Head (id_told mode (id_of head.id)) head.size head.checksum

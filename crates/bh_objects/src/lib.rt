@@ -2,7 +2,10 @@
 #![tactic(auto)]
 
 pub mod buckets;
+pub mod deletes;
 pub mod gets;
+pub mod heads;
+pub mod ids;
 pub mod objects;
 pub mod reads;
 pub mod writes;

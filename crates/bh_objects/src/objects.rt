@@ -1,40 +1,51 @@
-ghost use Rattle.std.specs.Prelude.{◌≡◌, ◌≤◌, None};
-ghost use Rattle.bh_model.specs.Entries.{new_id};
+ghost use Rattle.std.specs.Prelude.{◌≡◌, ◌≤◌};
+ghost use Rattle.std.specs.Option.{option_copied};
+ghost use Rattle.std.specs.String.{string_bytes};
 ghost use Rattle.bh_model.specs.Operations as machine;
 ghost use Rattle.bh_storage.specs.Answers.{stored_answer};
 ghost use Rattle.bh_storage.specs.Calls.{Unless, Carries};
 ghost use Rattle.bh_view.specs.View.{latest_of};
 ghost use Rattle.bh_schema.specs.Connections.{IsClean, tables, StaysWithin, StaysOpen};
 ghost use Rattle.bh_schema.specs.Working.{Works, StillWorks};
+ghost use Rattle.bh_objects.specs.Found.{Answers, sum_given};
 
-use crate::reads::{bucket_state, next_counters};
+use crate::ids::told_id;
+use crate::reads::{bucket_state, new_numbers};
 use crate::writes::{NewObject, write_object};
-use bh_docs::checksum::checksum_of;
-use bh_model::counting::after_entry;
+use bh_model::entries::new_id;
 use bh_storage::answer::StoredVersion;
 use bh_storage::error::StepError;
-use bh_types::id::VersionId;
-use bh_types::bucket_state::BucketState;
+use bh_types::checksum::checksum_of;
 use bh_types::refusal::Refusal;
 use sqlite::{Alter, Connection};
 use std::alloc::Global;
 
-/// The id that is told of a new version: none where the bucket never had versions.
-fn told_id(mode: BucketState, version: u64) -> Option<VersionId>
-    ensures { result ≡ machine.id_told mode (new_id mode version) }
+/// The text of the checksum of an object's bytes: BadDigest where another is given.
+fn checked_sum(
+    alloc: Global,
+    bytes: &[u8],
+    given: Option<&[u8]>,
+) -> Result<String, StepError<Refusal>>
+    ensures { Answers string_bytes (sum_given (option_copied given.entry) bytes.now) result }
 {
-    match mode {
-        BucketState::Unversioned => None,
-        BucketState::Enabled => Some(VersionId::Numbered(version)),
-        BucketState::Suspended => Some(VersionId::Null),
+    let checksum = checksum_of(alloc, bytes)?;
+    let Some(text) = given else {
+        return Ok(checksum);
+    };
+    if text == checksum.as_str().as_bytes() {
+        Ok(checksum)
+    } else {
+        Err(StepError::Refused(Refusal::BadDigest))
     }
 }
 
-/// S3's PutObject, at a moment that is not after the last stamp: NoSuchBucket, CounterExhausted.
+/// S3's PutObject, at a moment that is not after the last stamp, where the request may say which checksum the
+/// bytes have: NoSuchBucket, BadDigest, CounterExhausted.
 pub fn put_object<S: Alter>(
     connection: &mut Connection<S>,
     alloc: Global,
     object: &NewObject<'_>,
+    given: Option<&[u8]>,
 ) -> Result<StoredVersion, StepError<Refusal>>
     requires working { Works S.Store connection.old }
     requires early { IsClean S.Store connection.old → object.now.at ≤ latest_of (tables S.Store connection.old) }
@@ -43,16 +54,15 @@ pub fn put_object<S: Alter>(
     ensures working { Unless result (StillWorks S.Store connection.old connection.new) }
     ensures carries { IsClean S.Store connection.new
         → Carries stored_answer object.now.tenant.now
-        (machine.put_object object.now.at object.now.bucket.now object.now.key.now object.now.bytes.now None)
+        (machine.put_object object.now.at object.now.bucket.now object.now.key.now object.now.bytes.now (option_copied given.entry))
         (tables S.Store connection.old) (tables S.Store connection.new) result }
 {
     let mode = bucket_state(connection, object.tenant, object.bucket)?;
-    let before = next_counters(connection, object.tenant)?;
-    let after = after_entry(mode, before)?;
-    let checksum = checksum_of(alloc, object.bytes)?;
-    write_object(connection, object, mode, before, after, checksum.as_str())?;
+    let checksum = checked_sum(alloc, object.bytes, given)?;
+    let numbers = new_numbers(connection, object.tenant, mode)?;
+    write_object(connection, object, mode, numbers, checksum.as_str())?;
     Ok(StoredVersion {
-        id: told_id(mode, before.version),
+        id: told_id(mode, new_id(mode, numbers.before.version)),
         checksum,
     })
 }

@@ -2,8 +2,9 @@ ghost use Rattle.bh_storage.specs.Calls.{Unless, Decides};
 ghost use Rattle.bh_view.specs.View.{view};
 ghost use Rattle.bh_schema.specs.Connections.{IsClean, tables, StaysWithin, StaysOpen};
 ghost use Rattle.bh_schema.specs.Working.{Works, StillWorks};
-ghost use Rattle.bh_objects.specs.Found.{mode_in, counts_in, tenant_in, name_free};
+ghost use Rattle.bh_objects.specs.Found.{mode_in, counts_in, numbers_in, tenant_in, name_free};
 
+use bh_model::counting::after_entry;
 use bh_schema::rows;
 use bh_schema::trouble::trouble_of;
 use bh_storage::error::{StepError, Trouble};
@@ -65,6 +66,34 @@ pub fn next_counters<S: Alter>(
         Ok(None) => Err(StepError::Refused(Refusal::NoSuchBucket)),
         Err(error) => Err(StepError::Failed(trouble_of(error))),
     }
+}
+
+/// The numbers of a new entry.
+#[derive(Clone, Copy, Debug, PartialEq, Eq)]
+pub struct Numbers {
+    /// The tenant's counters, which give them.
+    pub before: Counters,
+    /// The counters once they are given.
+    pub after: Counters,
+}
+
+/// The numbers of a new entry in a bucket of this state: CounterExhausted.
+pub fn new_numbers<S: Alter>(
+    connection: &mut Connection<S>,
+    tenant: &TenantName,
+    mode: BucketState,
+) -> Result<Numbers, StepError<Refusal>>
+    requires { Works S.Store connection.old }
+    ensures within { StaysWithin S.Store connection.old connection.new }
+    ensures opens { Unless result (StaysOpen S.Store connection.old connection.new) }
+    ensures working { Unless result (StillWorks S.Store connection.old connection.new) }
+    ensures decides { IsClean S.Store connection.new
+        → Decides (λ numbers. (numbers.before, numbers.after)) (numbers_in mode (view (tables S.Store connection.old) tenant.now))
+        (tables S.Store connection.old) (tables S.Store connection.new) result }
+{
+    let before = next_counters(connection, tenant)?;
+    let after = after_entry(mode, before)?;
+    Ok(Numbers { before, after })
 }
 
 /// Whether a tenant was added: NoSuchTenant.

@@ -1,14 +1,15 @@
-ghost use Rattle.std.specs.Prelude.{◌≡◌, ◌<◌, ◌^◌, ◌++◌, ◌∷◌, [], OnOk};
+ghost use Rattle.std.specs.Prelude.{◌<◌, ◌^◌, OnOk};
 ghost use Rattle.sqlite_keyed.specs.Lists.{update_where, delete_where};
-ghost use Rattle.bh_types.specs.Checksums.{checksum_text};
+ghost use Rattle.bh_model.specs.State.{Content.Marker, Content.Body};
 ghost use Rattle.bh_tables.specs.Shown.{is_tenant, is_version};
-ghost use Rattle.bh_view.specs.Put as put;
 ghost use Rattle.bh_view.specs.Put.{counters_row, rows_left};
 ghost use Rattle.bh_schema.specs.Connections.{InTransaction, StaysWithin, StaysOpen, Becomes};
-ghost use Rattle.bh_objects.specs.Found.{IsKeyText, with_put};
+ghost use Rattle.bh_objects.specs.Found.{IsKeyText, with_way, with_row, with_entry};
 
+use crate::ids::row_number;
+use crate::reads::Numbers;
 use bh_schema::rows;
-use bh_schema::rows::versions::NewVersion;
+use bh_schema::rows::versions::{NewMarker, NewVersion};
 use bh_schema::trouble::trouble_of;
 use bh_storage::error::Trouble;
 use bh_types::bucket::BucketName;
@@ -79,67 +80,80 @@ fn set_next_entry<S: Alter>(
     }
 }
 
-/// What a new version in a bucket of this state replaces is taken away: the version `null`, unless
-/// versions are numbered.
+/// What a new entry in a bucket of this state replaces is taken away: the entry `null`, unless versions are
+/// numbered.
 fn make_room<S: Alter>(
     connection: &mut Connection<S>,
-    object: &NewObject<'_>,
+    tenant: &TenantName,
+    bucket: &BucketName,
+    key: &ObjectKey,
     mode: BucketState,
 ) -> Result<(), Trouble>
     requires { InTransaction S.Store connection.old }
     ensures within { StaysWithin S.Store connection.old connection.new }
     ensures opens { OnOk result (StaysOpen S.Store connection.old connection.new) }
     ensures holds { OnOk result (Becomes S.Store connection.old connection.new
-        (λ rows. record rows {
-          versions =
-              rows_left mode object.now.tenant.now object.now.bucket.now object.now.key.now rows.versions;
-        })) }
+        (λ rows. record rows { versions = rows_left mode tenant.now bucket.now key.now rows.versions })) }
 {
     match mode {
         BucketState::Enabled => Ok(()),
-        BucketState::Unversioned => drop_null(connection, object),
-        BucketState::Suspended => drop_null(connection, object),
+        BucketState::Unversioned => drop_entry(connection, tenant, bucket, key, 0),
+        BucketState::Suspended => drop_entry(connection, tenant, bucket, key, 0),
     }
 }
 
-fn drop_null<S: Alter>(
+/// Takes the entry of a key with this number in the column `id` away, if it is there.
+pub fn drop_entry<S: Alter>(
     connection: &mut Connection<S>,
-    object: &NewObject<'_>,
+    tenant: &TenantName,
+    bucket: &BucketName,
+    key: &ObjectKey,
+    number: u64,
 ) -> Result<(), Trouble>
-    requires { InTransaction S.Store connection.old }
+    requires inside { InTransaction S.Store connection.old }
+    requires small { number < 2 ^ 62 }
     ensures within { StaysWithin S.Store connection.old connection.new }
     ensures opens { OnOk result (StaysOpen S.Store connection.old connection.new) }
     ensures holds { OnOk result (Becomes S.Store connection.old connection.new
         (λ rows. record rows {
           versions =
-              delete_where (is_version object.now.tenant.now object.now.bucket.now object.now.key.now 0) rows.versions;
+              delete_where (is_version tenant.now bucket.now key.now number) rows.versions;
         })) }
 {
-    let key = object.key.as_str().as_bytes();
+    let key = key.as_str().as_bytes();
     match rows::versions::delete_version(
         connection,
-        object.tenant.as_str(),
-        object.bucket.as_str(),
+        tenant.as_str(),
+        bucket.as_str(),
         key,
-        0,
+        number,
     ) {
         Ok(_) => Ok(()),
         Err(error) => Err(trouble_of(error)),
     }
 }
 
-/// The column `id` of a new version: 0, which is `null`, unless versions are numbered.
-fn row_number(mode: BucketState, version: u64) -> u64
-    ensures { result ≡ put.row_number mode version }
+/// Makes way for a new entry of a key in a bucket of this state: the tenant's counters go on, and what the
+/// entry replaces is taken away.
+fn make_way<S: Alter>(
+    connection: &mut Connection<S>,
+    tenant: &TenantName,
+    bucket: &BucketName,
+    key: &ObjectKey,
+    mode: BucketState,
+    after: Counters,
+) -> Result<(), Trouble>
+    requires { InTransaction S.Store connection.old }
+    ensures within { StaysWithin S.Store connection.old connection.new }
+    ensures opens { OnOk result (StaysOpen S.Store connection.old connection.new) }
+    ensures holds { OnOk result (Becomes S.Store connection.old connection.new
+        (with_way mode after tenant.now bucket.now key.now)) }
 {
-    match mode {
-        BucketState::Unversioned => 0,
-        BucketState::Enabled => version,
-        BucketState::Suspended => 0,
-    }
+    set_counters(connection, tenant, mode, after)?;
+    make_room(connection, tenant, bucket, key, mode)
 }
 
-fn add_row<S: Alter>(
+fn add_object<S: Alter>(
     connection: &mut Connection<S>,
     object: &NewObject<'_>,
     mode: BucketState,
@@ -147,15 +161,11 @@ fn add_row<S: Alter>(
     checksum: &str,
 ) -> Result<(), Trouble>
     requires inside { InTransaction S.Store connection.old }
-    requires checksum { checksum.now ≡ checksum_text object.now.bytes.now }
     ensures within { StaysWithin S.Store connection.old connection.new }
     ensures opens { OnOk result (StaysOpen S.Store connection.old connection.new) }
     ensures holds { OnOk result (Becomes S.Store connection.old connection.new
-        (λ rows. record rows {
-          versions = rows.versions
-              ++ put.object_row object.now.tenant.now object.now.bucket.now object.now.key.now
-              counters.entry (put.row_number mode counters.version) object.now.at object.now.bytes.now ∷ [];
-        })) }
+        (with_row mode counters object.now.tenant.now object.now.bucket.now object.now.key.now object.now.at
+        (Body object.now.bytes.now checksum.now))) }
     ensures key { IsKeyText object.now.key.now }
 {
     let version = NewVersion {
@@ -174,26 +184,76 @@ fn add_row<S: Alter>(
     }
 }
 
-/// Puts an object into a bucket of this state, whose tenant's counters were `before` and go on to
-/// `after`, with the text of the checksum of its bytes.
+/// Puts an object into a bucket of this state, under the tenant's next numbers, with the text of its
+/// checksum.
 pub fn write_object<S: Alter>(
     connection: &mut Connection<S>,
     object: &NewObject<'_>,
     mode: BucketState,
-    before: Counters,
-    after: Counters,
+    numbers: Numbers,
     checksum: &str,
 ) -> Result<(), Trouble>
     requires inside { InTransaction S.Store connection.old }
-    requires checksum { checksum.now ≡ checksum_text object.now.bytes.now }
     ensures within { StaysWithin S.Store connection.old connection.new }
     ensures opens { OnOk result (StaysOpen S.Store connection.old connection.new) }
     ensures holds { OnOk result (Becomes S.Store connection.old connection.new
-        (with_put mode before after object.now.tenant.now object.now.bucket.now object.now.key.now object.now.at
-        object.now.bytes.now)) }
+        (with_entry mode numbers.before numbers.after object.now.tenant.now object.now.bucket.now object.now.key.now
+        object.now.at (Body object.now.bytes.now checksum.now))) }
     ensures key { OnOk result (IsKeyText object.now.key.now) }
 {
-    set_counters(connection, object.tenant, mode, after)?;
-    make_room(connection, object, mode)?;
-    add_row(connection, object, mode, before, checksum)
+    let after = numbers.after;
+    make_way(connection, object.tenant, object.bucket, object.key, mode, after)?;
+    add_object(connection, object, mode, numbers.before, checksum)
+}
+
+fn add_marker<S: Alter>(
+    connection: &mut Connection<S>,
+    tenant: &TenantName,
+    bucket: &BucketName,
+    key: &ObjectKey,
+    at: Moment,
+    mode: BucketState,
+    counters: Counters,
+) -> Result<(), Trouble>
+    requires inside { InTransaction S.Store connection.old }
+    ensures within { StaysWithin S.Store connection.old connection.new }
+    ensures opens { OnOk result (StaysOpen S.Store connection.old connection.new) }
+    ensures holds { OnOk result (Becomes S.Store connection.old connection.new
+        (with_row mode counters tenant.now bucket.now key.now at Marker)) }
+    ensures key { IsKeyText key.now }
+{
+    let marker = NewMarker {
+        tenant: tenant.as_str(),
+        seq: counters.entry,
+        bucket: bucket.as_str(),
+        okey: key.as_str().as_bytes(),
+        id: row_number(mode, counters.version),
+        stamp: at.seconds(),
+    };
+    match rows::versions::insert_marker(connection, &marker) {
+        Ok(_) => Ok(()),
+        Err(error) => Err(trouble_of(error)),
+    }
+}
+
+/// Puts a delete marker in front of a key's entries in a bucket of this state, under the tenant's next
+/// numbers.
+pub fn write_marker<S: Alter>(
+    connection: &mut Connection<S>,
+    tenant: &TenantName,
+    bucket: &BucketName,
+    key: &ObjectKey,
+    at: Moment,
+    mode: BucketState,
+    numbers: Numbers,
+) -> Result<(), Trouble>
+    requires inside { InTransaction S.Store connection.old }
+    ensures within { StaysWithin S.Store connection.old connection.new }
+    ensures opens { OnOk result (StaysOpen S.Store connection.old connection.new) }
+    ensures holds { OnOk result (Becomes S.Store connection.old connection.new
+        (with_entry mode numbers.before numbers.after tenant.now bucket.now key.now at Marker)) }
+    ensures key { OnOk result (IsKeyText key.now) }
+{
+    make_way(connection, tenant, bucket, key, mode, numbers.after)?;
+    add_marker(connection, tenant, bucket, key, at, mode, numbers.before)
 }

@@ -1,5 +1,4 @@
 pub mod Digits
 pub mod IdLemmas
 pub mod Refused
-pub mod Routing
 pub mod Texts

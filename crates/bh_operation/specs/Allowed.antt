@@ -11,7 +11,7 @@ allow_at kind.Host = Service
 allow_at kind.Bucket = Bucket
 allow_at kind.Object = Object
 
--- by the kind of the target, where its path has a route
+-- by the kind of the target, where its path is of a kind
 -- RFC 9110, section 10.2.1
 abbrev pub allow_of : List ℕ → Option Allow
 allow_of target = option_map allow_at (kind_of (path_of target))

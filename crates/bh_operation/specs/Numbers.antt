@@ -5,7 +5,7 @@ use Rattle.std.specs.Str.{bytes_eq}
 use Rattle.std.specs.Str.Parse.{digits_value}
 use Rattle.hex.specs.Hex.{decode_sized, decode_of}
 use Rattle.bh_types.specs.Ids.{number_text}
-use Rattle.bh_http.specs.Reading.{is_number}
+use Rattle.bh_types.specs.Digits.{is_number}
 use Rattle.bh_types.specs.Outcomes.{◌>>=◌}
 use Rattle.bh_types.specs.declared.id.UploadId.{UploadId}
 use Rattle.bh_types.specs.declared.id.VersionId.{VersionId}
@@ -50,10 +50,6 @@ part_number (Some text) =
 abbrev pub ok_of : {A E : Type 0} → Result A E → Option A
 ok_of (Ok x) = Some x
 ok_of (Err e) = None
-
--- the bytes that pairs of hexadecimal digits write
-unfoldable pub token_in : List ℕ → Result (List ℕ) Refusal
-token_in text = or_invalid_argument (ok_of (decode_of text))
 
 -- the number whose text this is, if it is one's: 16 lower hexadecimal digits
 abbrev pub if_text_of : List ℕ → ℕ → Option ℕ

@@ -4,7 +4,8 @@ use Rattle.std.specs.Str.{bytes_eq}
 use Rattle.bh_types.specs.Outcomes.{◌>>=◌}
 use Rattle.bh_types.specs.declared.refusal.Refusal.{Refusal}
 use Rattle.bh_types.specs.declared.refusal.Refusal.TheVariants.{InvalidArgument}
-use Rattle.bh_operation.specs.Numbers.{or_invalid_argument, page_size, part_marker, token_in, upload_of, wanted}
+use Rattle.bh_types.specs.Tokens as tokens
+use Rattle.bh_operation.specs.Numbers.{or_invalid_argument, page_size, part_marker, upload_of, wanted}
 use Rattle.bh_operation.specs.Queries.{value_of}
 use Rattle.bh_operation.specs.declared.page.Page.{Page}
 use Rattle.bh_operation.specs.declared.page.PartPage.{PartPage}
@@ -55,7 +56,7 @@ second_version parameters = if is_second (value_of (codes "list-type") parameter
 abbrev pub token_from : Option (List ℕ) → Result (Option (List ℕ)) Refusal
 token_from None = Ok None
 token_from (Some text) = do
-  token ← token_in text
+  token ← tokens.token_of text
   Ok (Some token)
 
 -- Amazon S3 API Reference, ListObjectsV2: continuation-token

@@ -3,9 +3,6 @@ use Rattle.std.specs.Prelude.{◌≡◌, ℕ, ◌<◌, ◌&&◌, ◌||◌, ◌==
 use Rattle.std.specs.Char.{is_ascii_hexdigit}
 use Rattle.std.specs.List.{before_first, after_first}
 use Rattle.std.specs.Str.{is_utf8}
-use Rattle.matchit.specs.Rows.{RowsOf}
-use Rattle.matchit.specs.Router.{RouteOf}
-use Rattle.matchit.specs.Seek.{first}
 use Rattle.percent_encoding.specs.Percent.{percent_decode}
 use Rattle.bh_types.specs.declared.refusal.Refusal.{Refusal}
 use Rattle.bh_types.specs.declared.refusal.Refusal.TheVariants.{InvalidUri}
@@ -70,11 +67,6 @@ abbrev pub kind_at : List ℕ → Option Kind
 kind_at [] = None
 kind_at (b ∷ rest) = if is_slash b then kind_in rest else None
 
--- a router's rows find the kind of each text
-abbrev pub FindsKind : RowsOf (RouteOf Kind) → Type 0
-FindsKind rows = (path : List ℕ) → ((i : ℕ) → slice_index path i < 256)
-    → option_map (λ route. route.value) (first rows path) ≡ kind_at path
-
 -- the kind of a path, if it is a text that has one
 abbrev pub kind_of : List ℕ → Option Kind
 kind_of path = option_and_then kind_at (text_of path)
@@ -83,7 +75,7 @@ abbrev pub or_invalid_uri : {A : Type 0} → Option A → Result A Refusal
 or_invalid_uri None = Err InvalidUri
 or_invalid_uri (Some x) = Ok x
 
--- first step: the path has a route
+-- first step: the path is of a kind
 unfoldable pub routed : List ℕ → Result Kind Refusal
 routed path = or_invalid_uri (kind_of path)
 

@@ -1,18 +1,16 @@
-ghost use Rattle.std.specs.Prelude.{◌≡◌, ◌≤◌, ◌^◌, true, IfSome, IfNone};
-ghost use Rattle.std.specs.Char.{is_ascii_digit};
-ghost use Rattle.std.specs.List.{list_all};
+ghost use Rattle.std.specs.Prelude.{◌≡◌};
 ghost use Rattle.std.specs.Option.{option_copied};
-ghost use Rattle.std.specs.Str.Parse.{digits_value};
 ghost use Rattle.bh_types.specs.Outcomes.{Gives};
-ghost use Rattle.bh_http.specs.Reading as digits;
+ghost use Rattle.bh_types.specs.Tokens.{token_of};
 ghost use Rattle.bh_operation.specs.Numbers as spec;
 
 use crate::text::Bytes;
+use bh_types::digits::{is_number, number_of};
 use bh_types::error::RequestError;
 use bh_types::id::{UploadId, VersionId};
-use bh_types::wanted::Wanted;
 use bh_types::refusal::Refusal;
-use hex::FromHexError;
+use bh_types::token::read_token;
+use bh_types::wanted::Wanted;
 use std::alloc::Global;
 
 /// The entries of a page where a request does not say how many, and the most that it gets.
@@ -21,39 +19,16 @@ const MAX_PAGE: u64 = 1000;
 /// The greatest number of a part.
 const MAX_PART: u64 = 10_000;
 
-fn are_digits(text: &[u8]) -> bool
-    ensures { result ≡ list_all is_ascii_digit text.now }
-{
-    text.iter().all(|b| b.is_ascii_digit())
-}
-
-fn is_number(text: &str) -> bool
-    ensures { result ≡ digits.is_number text.now }
-{
-    !text.is_empty() && are_digits(text.as_bytes())
-}
-
-/// The number that digits write, if it is below 2^64.
-fn number_of(text: &str) -> Option<u64>
-    requires { digits.is_number text.now ≡ true }
-    ensures some { IfSome result (λ n. n ≡ digits_value 10 text.now) }
-    ensures none { IfNone result (2 ^ 64 ≤ digits_value 10 text.now) }
-{
-    match text.parse::<u64>() {
-        Ok(n) => Some(n),
-        Err(_) => None,
-    }
-}
-
 /// The number of 1 to 10 digits: InvalidArgument for another text.
 #[tactic(auto, unfolding(crate::specs::Numbers::short_number))]
 fn short_number(text: &str) -> Result<u64, Refusal>
     ensures { result ≡ spec.short_number text.now }
 {
-    if !is_number(text) || text.len() > 10 {
+    let digits = text.as_bytes();
+    if !is_number(digits) || digits.len() > 10 {
         return Err(Refusal::InvalidArgument);
     }
-    match number_of(text) {
+    match number_of(digits) {
         Some(n) => Ok(n),
         None => unreachable!(),
     }
@@ -89,7 +64,7 @@ pub fn part_number(text: Option<&str>) -> Result<u32, Refusal>
     ensures { result ≡ spec.part_number (option_copied text.entry) }
 {
     match text {
-        Some(text) if is_number(text) => match number_of(text) {
+        Some(text) if is_number(text.as_bytes()) => match number_of(text.as_bytes()) {
             Some(n) if 1 <= n && n <= MAX_PART => Ok(n as u32),
             _ => Err(Refusal::InvalidArgument),
         },
@@ -99,15 +74,10 @@ pub fn part_number(text: Option<&str>) -> Result<u32, Refusal>
 
 /// The bytes that pairs of hexadecimal digits write (RFC 4648, section 8, in either case): InvalidArgument for
 /// another text.
-#[tactic(auto, unfolding(crate::specs::Numbers::token_in))]
 pub fn token_in(alloc: Global, text: &str) -> Result<Bytes, RequestError>
-    ensures { Gives (λ x. x) result (spec.token_in text.now) }
+    ensures { Gives (λ x. x) result (token_of text.now) }
 {
-    match hex::decode(alloc, text) {
-        Ok(bytes) => Ok(Bytes::new(bytes)),
-        Err(FromHexError::OutOfMemory) => Err(RequestError::OutOfMemory),
-        Err(_) => Err(RequestError::Refused(Refusal::InvalidArgument)),
-    }
+    Ok(Bytes::new(read_token(alloc, text)?))
 }
 
 /// The upload that a text is the id of, if it is an id.

@@ -425,7 +425,7 @@ pub fn operation_of(
     ensures { Gives (λ x. x) result (spec.operation caller.now (view request.now)) }
 {
     let (path, query) = split_target(request.target.as_slice());
-    let kind = routed(alloc, path)?;
+    let kind = routed(path)?;
     let target = target_at(alloc, kind, path)?;
     let parameters = parameters_in(alloc, query)?;
     let asked = Asked {

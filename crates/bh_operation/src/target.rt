@@ -7,11 +7,10 @@ ghost use Rattle.bh_operation.specs.Targets as spec;
 use crate::text::Text;
 use bh_types::error::RequestError;
 use bh_types::refusal::Refusal;
-use matchit::{InsertError, Router};
 use percent_encoding::percent_decode;
 use std::alloc::{AllocError, Global};
 
-/// What kind of target a path is, by the host's routes.
+/// What kind of target a path is.
 #[derive(Clone, Copy)]
 pub enum Kind {
     /// The host itself: `/`.
@@ -118,38 +117,36 @@ pub fn text_of(bytes: &[u8]) -> Option<&str>
     }
 }
 
-/// The routes of the host, which find what kind of target a path is.
-fn routes(alloc: Global) -> Result<Router<Kind>, InsertError>
-    ensures { IfOk result spec.FindsKind }
+/// What stands after the slash that a path begins with, as a bucket and a key.
+fn kind_in(rest: &[u8]) -> Option<Kind>
+    ensures { result ≡ spec.kind_in rest.now }
 {
-    let mut router = Router::new(alloc);
-    router.insert("/", Kind::Host)?;
-    router.insert("/{bucket}", Kind::Bucket)?;
-    router.insert("/{bucket}/", Kind::Bucket)?;
-    router.insert("/{bucket}/{*key}", Kind::Object)?;
-    Ok(router)
+    let (bucket, key) = split_at_slash(rest);
+    match (bucket, key) {
+        ([], _) if rest.is_empty() => Some(Kind::Host),
+        ([], _) => None,
+        (_, []) => Some(Kind::Bucket),
+        _ => Some(Kind::Object),
+    }
 }
 
-/// What kind of target a path is, if it is a text that a route fits. An error says that memory ran out.
-pub fn kind_of(alloc: Global, path: &[u8]) -> Result<Option<Kind>, AllocError>
-    ensures { IfOk result (λ found. found ≡ spec.kind_of path.now) }
+/// What kind of target a path is: `/`, `/bucket`, `/bucket/` or `/bucket/key`, if it is a text of such a form.
+pub fn kind_of(path: &[u8]) -> Option<Kind>
+    ensures { result ≡ spec.kind_of path.now }
 {
-    let Some(text) = text_of(path) else {
-        return Ok(None);
-    };
-    // No two of the routes conflict, so that an error is want of memory.
-    let Ok(router) = routes(alloc) else {
-        return Err(AllocError);
-    };
-    Ok(router.at(text).ok().map(|found| *found.value))
+    text_of(path)?;
+    match path {
+        [b'/', rest @ ..] => kind_in(rest),
+        _ => None,
+    }
 }
 
-/// The kind of a path: InvalidUri where no route fits it.
+/// The kind of a path: InvalidUri where it has none.
 #[tactic(auto, unfolding(crate::specs::Targets::routed))]
-pub fn routed(alloc: Global, path: &[u8]) -> Result<Kind, RequestError>
+pub fn routed(path: &[u8]) -> Result<Kind, RequestError>
     ensures { Gives (λ x. x) result (spec.routed path.now) }
 {
-    kind_of(alloc, path)?.ok_or(RequestError::Refused(Refusal::InvalidUri))
+    kind_of(path).ok_or(RequestError::Refused(Refusal::InvalidUri))
 }
 
 /// A name in a path, decoded: InvalidUri where it is at fault.

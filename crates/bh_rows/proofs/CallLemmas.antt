@@ -5,7 +5,7 @@ use Rattle.sqlite.specs.Schema.{Schema}
 use Rattle.sqlite.specs.Order.{Row}
 use Rattle.sqlite.specs.Tree.{Trees}
 use Rattle.sqlite.specs.Command.{Command}
-use Rattle.sqlite.specs.Command.TheVariants.{Insert, InsertOr, Update, Delete, CreateTable}
+use Rattle.sqlite.specs.Command.TheVariants.{Insert, InsertOr, Update, Delete, CreateTable, CreateIndex}
 use Rattle.sqlite.specs.Command.TheVariants as every
 use Rattle.sqlite.specs.Effect.{is_query}
 use Rattle.sqlite.specs.State.{is_pragma, IsMisplaced}
@@ -88,6 +88,7 @@ quiet_write (InsertOr at how from clauses) r h none = rw none
 quiet_write (Update at q) r h none = rw none
 quiet_write (Delete at q) r h none = rw none
 quiet_write CreateTable r h none = rw none
+quiet_write (CreateIndex at) r h none = rw none
 quiet_write _ r h none = absurd (true≢false (sym h))
 
 not_misplaced : (s : State) (k : Command) (e : Error) → is_write k ≡ true → ¬ IsMisplaced s k e
@@ -246,6 +247,7 @@ write_changes sql params old new schema command parameters means writes ready re
         written (Update at q) w it = writes_inside old new None _ _ params count s it
         written (Delete at q) w it = writes_inside old new None _ _ params count s it
         written CreateTable w it = writes_inside old new None _ _ params count s it
+        written (CreateIndex at) w it = writes_inside old new None _ _ params count s it
         written _ w it = absurd (true≢false (sym w))
 
     fails : (r : Result ℕ Error) → Executes sql params old new r → OnErr r (IsUndone old new)

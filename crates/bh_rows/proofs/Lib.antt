@@ -19,3 +19,5 @@ pub mod TotalLemmas
 pub mod CrashLemmas
 pub mod TextLemmas
 pub mod Example
+pub mod IndexLemmas
+pub mod IndexErrors

@@ -3,3 +3,4 @@ pub mod Scan
 pub mod Means
 pub mod Keys
 pub mod Texts
+pub mod Index

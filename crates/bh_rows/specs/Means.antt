@@ -3,7 +3,7 @@ use Rattle.std.specs.Prelude.{◌≡◌, ◌⊎◌, ℕ, Bool, true, false, List
 use Rattle.sqlite.specs.Schema.{Schema}
 use Rattle.std.specs.List.{AllByRecursion}
 use Rattle.sqlite.specs.Command.{Command}
-use Rattle.sqlite.specs.Command.TheVariants.{Insert, InsertOr, Update, Delete, CreateTable}
+use Rattle.sqlite.specs.Command.TheVariants.{Insert, InsertOr, Update, Delete, CreateTable, CreateIndex}
 use Rattle.sqlite.specs.Tree.{Trees}
 use Rattle.sqlite.specs.Listing.{understood, reads_listing}
 use Rattle.sqlite.specs.Given.{IsPlain}
@@ -33,13 +33,14 @@ pub record Means (schema : Schema) (sql : List ℕ) (command : Command) (paramet
   pub whole : nat_le (length sql) (tail_of (understood schema sql)) ≡ true
   pub given : parameters_of (understood schema sql) ≡ parameters
 
--- the command writes rows, or makes a table
+-- the command writes rows, or makes a table or an index
 abbrev pub is_write : Command → Bool
 is_write (Insert at from) = true
 is_write (InsertOr at how from clauses) = true
 is_write (Update at q) = true
 is_write (Delete at q) = true
 is_write CreateTable = true
+is_write (CreateIndex at) = true
 is_write _ = false
 
 -- want of memory or of a row number, a fault of the disk, a store that is shut, or a row that is too big

@@ -1,4 +1,4 @@
--- The CREATE texts, one after another, and that nothing stands against them.
+-- The CREATE texts of tables and of the index, one after another, and that nothing stands against them.
 use Rattle.std.proofs.Common.{◌≡◌, codes, refl}
 use Rattle.sqlite.specs.Listing.{understood}
 use Rattle.sqlite_tied.specs.Compute.{everything}
@@ -7,8 +7,10 @@ use Rattle.sqlite_value.specs.Order.{value_cmp}
 use Rattle.sqlite_trees.specs.Sound.{fits_kind, is_free_name, begins, same_name}
 use Rattle.bh_rows.proofs.CreateLemmas.{Makes}
 use Rattle.bh_rows.proofs.CreateErrors.{IsFree}
-use Rattle.bh_tables.specs.Schema.{Octets, no_schema, host_schema, host_table, tenants_table, keys_table, buckets_table, versions_table}
-use Rattle.bh_tables.specs.Made.{with_host, with_tenants, with_keys, with_buckets, with_versions}
+use Rattle.bh_rows.specs.Index.{Indexes}
+use Rattle.bh_rows.proofs.IndexErrors.{IsFreeIndex}
+use Rattle.bh_tables.specs.Schema.{Octets, no_schema, host_schema, host_table, tenants_table, keys_table, buckets_table, versions_table, at, newest}
+use Rattle.bh_tables.specs.Made.{with_host, with_tenants, with_keys, with_buckets, with_versions, with_newest}
 
 abbrev host_text : Octets
 host_text = codes "CREATE TABLE host (id INTEGER PRIMARY KEY CHECK (id = 1), version INTEGER NOT NULL CHECK (version >= 0), latest INTEGER NOT NULL CHECK (latest >= 0), min_part INTEGER NOT NULL CHECK (min_part >= 0), max_body INTEGER NOT NULL CHECK (max_body >= 0)) STRICT"
@@ -65,7 +67,18 @@ pub free_versions : IsFree with_buckets versions_text versions_table
 unfolding everything fits_kind is_free_name begins same_name value_cmp Ieee.lt Ieee.is_nan
 free_versions = record { text = refl; name = refl; own = refl; free = refl; keys_free = refl; few = refl; narrow = refl; keys_narrow = refl; formed = refl; fit = refl }
 
+abbrev newest_text : Octets
+newest_text = codes "CREATE INDEX newest ON versions (tenant, bucket, okey, seq DESC)"
+
+pub makes_newest : Indexes with_versions newest_text 4 (at 7 versions_table) newest
+unfolding understood everything
+makes_newest = record { means = record { is = refl; plain = (refl, refl); unlisted = refl; whole = refl; given = refl }; text = refl; is_table = refl; defined = refl }
+
+pub free_newest : IsFreeIndex with_versions newest_text (at 7 versions_table) newest
+unfolding everything fits_kind is_free_name begins same_name value_cmp Ieee.lt Ieee.is_nan
+free_newest = record { text = refl; name = refl; owner = refl; own = refl; free = refl; few = refl; narrow = refl; key_narrow = refl; fit = refl; any = refl }
+
 -- these are all
-pub all_made : with_versions ≡ host_schema
+pub all_made : with_newest ≡ host_schema
 unfolding everything
 all_made = refl

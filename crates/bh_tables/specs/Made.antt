@@ -1,7 +1,7 @@
--- The schema as its tables are made, one after another.
+-- The schema as its tables are made, one after another, and then its index.
 use Rattle.sqlite.specs.Schema.{Schema}
-use Rattle.sqlite.specs.Change.{created}
-use Rattle.bh_tables.specs.Schema.{no_schema, host_table, tenants_table, keys_table, buckets_table, versions_table}
+use Rattle.sqlite.specs.Change.{created, indexed}
+use Rattle.bh_tables.specs.Schema.{no_schema, host_table, tenants_table, keys_table, buckets_table, versions_table, at, newest}
 
 abbrev pub with_host : Schema
 with_host = created no_schema host_table
@@ -17,3 +17,6 @@ with_buckets = created with_keys buckets_table
 
 abbrev pub with_versions : Schema
 with_versions = created with_buckets versions_table
+
+abbrev pub with_newest : Schema
+with_newest = indexed with_versions (at 7 versions_table) newest

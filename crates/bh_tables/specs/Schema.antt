@@ -1,4 +1,4 @@
--- The schema of a host as a value: five tables, each as its CREATE text defines it.
+-- The schema of a host as a value: five tables and an index, each as its CREATE text defines it.
 use Rattle.std.specs.Prelude.{ℕ, true, false, [], ◌∷◌, List, map, Some, None, codes, pos}
 use Rattle.sqlite.specs.Collation.TheVariants.{Binary}
 use Rattle.sqlite.specs.declared.types.Value.TheVariants.{Null, Int, Text as Words}
@@ -94,6 +94,10 @@ at tree t = record t { tree = tree }
 abbrev pub auto : Octets → ℕ → ℕ → List ℕ → Index
 auto name tree owner columns = record { name = name; tree = tree; table = owner; columns = columns; order = plain; is_unique = true }
 
+-- versions by bucket and key, the newest first. The order has a digit to base 8 for each column, the lowest for the first; 1 is DESC
+abbrev pub newest : Index
+newest = record { name = codes "newest"; tree = 0; table = 7; columns = 1 ∷ 3 ∷ 4 ∷ 2 ∷ []; order = record { digits = 0o1000 }; is_unique = false }
+
 abbrev pub no_schema : Schema
 no_schema = record { tables = []; indexes = []; views = [] }
 
@@ -102,6 +106,6 @@ host_schema = record {
   tables = at 0 host_table ∷ at 1 tenants_table ∷ at 3 keys_table ∷ at 5 buckets_table ∷ at 7 versions_table ∷ [];
   indexes = auto (codes "sqlite_autoindex_tenants_1") 2 1 (1 ∷ []) ∷ auto (codes "sqlite_autoindex_keys_1") 4 3 (1 ∷ 2 ∷ [])
       ∷ auto (codes "sqlite_autoindex_buckets_1") 6 5 (1 ∷ 2 ∷ []) ∷ auto (codes "sqlite_autoindex_versions_1") 8 7 (1 ∷ 2 ∷ [])
-      ∷ auto (codes "sqlite_autoindex_versions_2") 9 7 (1 ∷ 3 ∷ 4 ∷ 5 ∷ []) ∷ [];
+      ∷ auto (codes "sqlite_autoindex_versions_2") 9 7 (1 ∷ 3 ∷ 4 ∷ 5 ∷ []) ∷ record newest { tree = 10 } ∷ [];
   views = [];
 }

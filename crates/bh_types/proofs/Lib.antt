@@ -1,4 +1,5 @@
 pub mod Ascii
+pub mod Numerals
 pub mod Days
 pub mod IdLemmas
 pub mod RefusalLemmas

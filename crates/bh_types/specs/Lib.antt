@@ -12,3 +12,4 @@ pub mod BucketStates
 pub mod Refusals
 pub mod Refusing
 pub mod Rejections
+pub mod Tokens

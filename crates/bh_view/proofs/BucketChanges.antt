@@ -14,7 +14,7 @@ use Rattle.bh_tables.specs.Typed.{TenantRow, BucketRow, VersionRow, Tables}
 use Rattle.bh_tables.specs.Shown.{is_bucket}
 use Rattle.bh_view.specs.Grouped.{first}
 use Rattle.bh_view.specs.View.{mode_of, rows_of, bucket_shown, buckets_of, view, latest_of, named, in_bucket}
-use Rattle.bh_view.specs.Sound.{AreBuckets, AreVersions, AreSound, IsSound}
+use Rattle.bh_view.specs.Sound.{IsPlain, AreBuckets, AreVersions, AreSound, IsSound}
 use Rattle.bh_view.specs.Becomes.{Becomes}
 use Rattle.bh_view.proofs.Keys.{octets}
 use Rattle.bh_view.proofs.FilterLemmas.{none_some, same_Some, none_mapped, push_other, delete_other, update_other, first_updated}
@@ -42,9 +42,9 @@ bucket_fresh tables t s is b none =
 
 -- a bucket with a new name has no versions
 unversioned_grown : (latest : ℕ) (tenants : List TenantRow) (buckets : List BucketRow) (versions : List VersionRow) → AreVersions latest tenants buckets versions → (new : BucketRow) → named new.bucket buckets ≡ []
-    → (b : Octets) (r : BucketRow) → first (named b (buckets ++ new ∷ [])) ≡ Some r → mode_of r.state ≡ Unversioned → AllByRecursion (λ v. v.id ≡ 0) (in_bucket b versions)
-unversioned_grown latest tenants buckets versions all new fresh b r there zero = elim (bytes_eq new.bucket b) as (λ h. bytes_eq new.bucket b ≡ h → AllByRecursion (λ v. v.id ≡ 0) (in_bucket b versions)) [
-  | true ↦ λ e. subst (AllByRecursion (λ v. v.id ≡ 0)) (sym (all.owned b (ap first (ap (λ z. named z buckets) (sym ((octets.decides new.bucket b).0 e)) ∙ fresh)))) tt
+    → (b : Octets) (r : BucketRow) → first (named b (buckets ++ new ∷ [])) ≡ Some r → mode_of r.state ≡ Unversioned → AllByRecursion IsPlain (in_bucket b versions)
+unversioned_grown latest tenants buckets versions all new fresh b r there zero = elim (bytes_eq new.bucket b) as (λ h. bytes_eq new.bucket b ≡ h → AllByRecursion IsPlain (in_bucket b versions)) [
+  | true ↦ λ e. subst (AllByRecursion IsPlain) (sym (all.owned b (ap first (ap (λ z. named z buckets) (sym ((octets.decides new.bucket b).0 e)) ∙ fresh)))) tt
   | false ↦ λ e. all.unversioned b r (ap first (sym (push_other (λ x. bytes_eq x.bucket b) buckets new e)) ∙ there) zero
 ] refl
 
@@ -86,9 +86,9 @@ module _ (old new : Tables) (t : Octets) (s : State) (sound : IsSound old) (is :
   -- ---- taken out
 
   module _ (b : Octets) (empty : in_bucket b (rows_of t old).versions ≡ []) where
-    unversioned_left : (q : Octets) (r : BucketRow) → first (named q (delete_where (λ (x : BucketRow). bytes_eq x.bucket b) (rows_of t old).buckets)) ≡ Some r → mode_of r.state ≡ Unversioned → AllByRecursion (λ v. v.id ≡ 0) (in_bucket q (rows_of t old).versions)
-    unversioned_left q r there zero = elim (bytes_eq b q) as (λ h. bytes_eq b q ≡ h → AllByRecursion (λ v. v.id ≡ 0) (in_bucket q (rows_of t old).versions)) [
-      | true ↦ λ e. subst (λ z. AllByRecursion (λ v. v.id ≡ 0) (in_bucket z (rows_of t old).versions)) ((octets.decides b q).0 e) (subst (AllByRecursion (λ v. v.id ≡ 0)) (sym empty) tt)
+    unversioned_left : (q : Octets) (r : BucketRow) → first (named q (delete_where (λ (x : BucketRow). bytes_eq x.bucket b) (rows_of t old).buckets)) ≡ Some r → mode_of r.state ≡ Unversioned → AllByRecursion IsPlain (in_bucket q (rows_of t old).versions)
+    unversioned_left q r there zero = elim (bytes_eq b q) as (λ h. bytes_eq b q ≡ h → AllByRecursion IsPlain (in_bucket q (rows_of t old).versions)) [
+      | true ↦ λ e. subst (λ z. AllByRecursion IsPlain (in_bucket z (rows_of t old).versions)) ((octets.decides b q).0 e) (subst (AllByRecursion IsPlain) (sym empty) tt)
       | false ↦ λ e. (sound.tenants t).versions.unversioned q r (ap first (sym (delete_other (λ x. bytes_eq x.bucket q) (λ x. bytes_eq x.bucket b) (rows_of t old).buckets (λ x here. is_other octets x.bucket b (apart_from b q x.bucket e here)))) ∙ there) zero
     ] refl
 
@@ -116,8 +116,8 @@ module _ (old new : Tables) (t : Octets) (s : State) (sound : IsSound old) (is :
     there_before : get (buckets_of (rows_of t old)) b ≡ Some B
     there_before = ap (λ (x : State). get x.buckets b) (own_row old t s is).2 ∙ at
 
-    unversioned_set : (q : Octets) (r : BucketRow) → first (named q (update_where is_it with_state (rows_of t old).buckets)) ≡ Some r → mode_of r.state ≡ Unversioned → AllByRecursion (λ v. v.id ≡ 0) (in_bucket q (rows_of t old).versions)
-    unversioned_set q r there zero = elim (bytes_eq b q) as (λ h. bytes_eq b q ≡ h → AllByRecursion (λ v. v.id ≡ 0) (in_bucket q (rows_of t old).versions)) [
+    unversioned_set : (q : Octets) (r : BucketRow) → first (named q (update_where is_it with_state (rows_of t old).buckets)) ≡ Some r → mode_of r.state ≡ Unversioned → AllByRecursion IsPlain (in_bucket q (rows_of t old).versions)
+    unversioned_set q r there zero = elim (bytes_eq b q) as (λ h. bytes_eq b q ≡ h → AllByRecursion IsPlain (in_bucket q (rows_of t old).versions)) [
       | true ↦ λ e.
           let row = bucket_row (rows_of t old) b B there_before in
           let set = first_updated is_it with_state (λ x. refl) (rows_of t old).buckets row.0 row.1 in

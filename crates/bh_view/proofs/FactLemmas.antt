@@ -2,7 +2,7 @@
 use Rattle.std.proofs.Common.{◌≡◌, ◌≤◌, Bool, true, false, true≢false, cond, not, List, [], ◌∷◌, ◌++◌, length, suc, map, Some, None, refl, sym, ap, ◌∙◌, subst, arith, Ordering, le_trans}
 use Rattle.std.specs.List.{AllByRecursion}
 use Rattle.sqlite_keyed.specs.Lists.{delete_where, update_where}
-use Rattle.sqlite_keyed.proofs.ListLemmas.{all-append}
+use Rattle.sqlite_keyed.proofs.ListLemmas.{all-append, all_weaker}
 use Rattle.bh_view.specs.Grouped.{IsKey, first, matching, HasUnique, Refers}
 use Rattle.bh_view.proofs.FilterLemmas.{push_here, push_other, filter_swap, delete_other, update_here, none_some, same_Some, length-filter-le}
 use Rattle.bh_view.proofs.GroupedLemmas.{is_itself, is_other}
@@ -87,3 +87,25 @@ module _ {K T : Type 0} {R : K → K → Ordering} {is : K → K → Bool} (k : 
         none_there : (l : List T) → first (update_where t f l) ≡ None → first l ≡ None
         none_there [] h = refl
         none_there (x ∷ xs) h = absurd (none_some (sym h))
+
+module _ {K T : Type 0} {R : K → K → Ordering} {is : K → K → Bool} (k : IsKey R is) (key : T → K) where
+  -- no two rows of one key: each is the first with its key
+  pub each_first : (rows : List T) → HasUnique is key rows → AllByRecursion (λ r. first (matching is key (key r) rows) ≡ Some r) rows
+  each_first [] one = tt
+  each_first (r ∷ rs) one = (
+    ap (λ b. first (cond b (r ∷ matching is key (key r) rs) (matching is key (key r) rs))) (is_itself k (key r)),
+    all_weaker _ _ later rs (each_first rs (λ q. fewer q (one q))),
+  )
+    where
+      fewer : (q : K) → length (matching is key q (r ∷ rs)) ≤ 1 → length (matching is key q rs) ≤ 1
+      fewer q = elim (is (key r) q) as (λ b. length (cond b (r ∷ matching is key q rs) (matching is key q rs)) ≤ 1 → length (matching is key q rs) ≤ 1) [ true ↦ λ h. omega (arith, h) | false ↦ λ h. h ]
+
+      two : (x : T) (l : List T) → length (r ∷ l) ≤ 1 → first l ≡ Some x → first (r ∷ l) ≡ Some x
+      two x [] h there = absurd (none_some there)
+      two x (y ∷ l) h there = absurd (omega (arith, h))
+
+      later : (x : T) → first (matching is key (key x) rs) ≡ Some x → first (matching is key (key x) (r ∷ rs)) ≡ Some x
+      later x there = elim (is (key r) (key x)) as (λ b. length (cond b (r ∷ matching is key (key x) rs) (matching is key (key x) rs)) ≤ 1 → first (cond b (r ∷ matching is key (key x) rs) (matching is key (key x) rs)) ≡ Some x) [
+        | true ↦ λ h. two x (matching is key (key x) rs) h there
+        | false ↦ λ h. there
+      ] (one (key x))

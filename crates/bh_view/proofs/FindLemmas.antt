@@ -156,7 +156,7 @@ module _ (tables : Tables) (t : Octets) where
       null_found plain =
           let mine : List VersionRow = at_key k (in_bucket b (rows_of t tables).versions) in
           let bucket = bucket_row (rows_of t tables) b B here in
-          let all : at_id 0 mine ≡ mine = filter_all (λ v. same_number v.id 0) mine (all-filter _ _ _ (all_weaker _ (λ v. same_number v.id 0 ≡ true) (λ v e. (numbers.decides v.id 0).1 e) _
+          let all : at_id 0 mine ≡ mine = filter_all (λ v. same_number v.id 0) mine (all-filter _ _ _ (all_weaker _ (λ v. same_number v.id 0 ≡ true) (λ v plain. (numbers.decides v.id 0).1 plain.null) _
           ((sound.tenants t).versions.unversioned b bucket.0 bucket.1 (ap (λ (x : Bucket). x.mode) bucket.2 ∙ plain)))) in
           let short : length mine ≤ 1 = subst (λ l. length l ≤ 1) all ((sound.tenants t).versions.one_id b k 0) in
           listed_rows ∙ ap (map entry_of) (sorted_single newer mine short) ∙ as_option entry_of mine short

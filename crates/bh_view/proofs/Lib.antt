@@ -19,6 +19,8 @@ pub mod BucketListing
 pub mod VersionChanges
 pub mod PutLemmas
 pub mod FindLemmas
+pub mod WantedLemmas
+pub mod DeleteLemmas
 pub mod RowLemmas
 pub mod PurgeLemmas
 pub mod UsedLemmas

@@ -1,5 +1,5 @@
--- An object put: the counters go on, the version `null` that it replaces is taken out, and its row is added.
-use Rattle.std.proofs.Common.{◌≡◌, ℕ, zero, suc, ◌&&◌, is_ok, ◌<◌, ◌≤◌, ◌+◌, Bool, true, false, true≢false, cond, List, [], ◌∷◌, ◌++◌, Some, Result, Ok, Err, IsTrue, filter, unwrap_or, refl, sym, ap, ◌∙◌, subst, arith, leb-true}
+-- A new version or delete marker: the counters go on, the entry `null` that it replaces is taken out, and its row is added.
+use Rattle.std.proofs.Common.{◌≡◌, length, ℕ, zero, suc, ◌&&◌, is_ok, ◌<◌, ◌≤◌, ◌+◌, Bool, true, false, true≢false, cond, List, [], ◌∷◌, ◌++◌, Some, Result, Ok, Err, IsTrue, filter, unwrap_or, refl, sym, ap, ◌∙◌, subst, arith, leb-true}
 use Rattle.std.specs.Str.{IsUtf8}
 use Rattle.std.specs.List.{AllByRecursion}
 use Rattle.std.specs.FinMap.{get}
@@ -14,18 +14,18 @@ use Rattle.bh_types.specs.declared.bucket_state.BucketState.TheVariants.{Unversi
 use Rattle.bh_types.specs.declared.id.VersionId.{VersionId}
 use Rattle.bh_types.specs.declared.id.VersionId.TheVariants.{Null, Numbered}
 use Rattle.bh_model.specs.FinMaps.{non_empty}
-use Rattle.bh_model.specs.State.{Octets, Content.Body, Entry, Bucket, State}
+use Rattle.bh_model.specs.State.{Octets, Content, Content.Marker, Content.Body, Entry, Bucket, State, content_size}
 use Rattle.bh_types.specs.Checksums.{checksum_text}
 use Rattle.bh_model.specs.Counting.{counts, with_counts, can_give, after_entry}
-use Rattle.bh_model.specs.Entries.{without, added}
+use Rattle.bh_model.specs.Entries.{without, added, deleted_current}
 use Rattle.bh_model.specs.Operations.{with_bucket, with_entries, with_object, listed}
 use Rattle.bh_tables.specs.Typed.{TenantRow, VersionRow, Tables}
 use Rattle.bh_tables.specs.Shown.{is_tenant, is_version}
 use Rattle.bh_view.specs.Grouped.{same_number}
-use Rattle.bh_view.specs.View.{rows_of, id_of, view, latest_of}
-use Rattle.bh_view.specs.Sound.{IsVersionRow, IsBelow, IsSound}
+use Rattle.bh_view.specs.View.{rows_of, id_of, entry_of, view, latest_of}
+use Rattle.bh_view.specs.Sound.{IsVersionRow, IsBelow, IsPlain, IsSound}
 use Rattle.bh_view.specs.Becomes.{Becomes}
-use Rattle.bh_view.specs.Put.{object_row, row_number, counters_row, rows_left}
+use Rattle.bh_view.specs.Put.{marker_number, checksum_in, bytes_in, entry_row, row_number, counters_row, rows_left}
 use Rattle.bh_view.proofs.Keys.{octets, numbers}
 use Rattle.bh_view.proofs.FilterLemmas.{delete_all}
 use Rattle.bh_view.proofs.FactLemmas.{all_first}
@@ -57,7 +57,7 @@ was_given true x c h = (refl, ap (value_or x) h)
 was_given false x c h = absurd (true≢false (sym (ap is_ok h)))
 
 -- an id that is not 0 is a number
-numbered_id : (n : ℕ) → 1 ≤ n → id_of n ≡ Numbered n
+pub numbered_id : (n : ℕ) → 1 ≤ n → id_of n ≡ Numbered n
 numbered_id zero low = absurd (omega arith)
 numbered_id (suc n) low = refl
 
@@ -77,7 +77,7 @@ module _ (tables : Tables) (t : Octets) (s : State) (sound : IsSound tables) (is
       let row = own_row tables t s is in
       subst (λ (x : State). AreCounters x.next_version x.next_upload x.next_entry) row.2 (all_first _ _ row.0 row.1 (sound.tenants t).tenants.each).counters
 
-  below_next : AllByRecursion (λ v. (v.seq < s.next_entry) × (v.id < s.next_version)) (rows_of t tables).versions
+  pub below_next : AllByRecursion (λ v. (v.seq < s.next_entry) × (v.id < s.next_version)) (rows_of t tables).versions
   below_next =
       let row = own_row tables t s is in
       let given : AllByRecursion (λ v. IsBelow v row.0) (rows_of t tables).versions = (subst (AllByRecursion (λ (r : TenantRow). AllByRecursion (λ v. IsBelow v r) (rows_of t tables).versions)) (own_rows tables t s sound is) (sound.tenants t).versions.given).0 in
@@ -91,67 +91,100 @@ module _ (tables : Tables) (t : Octets) (s : State) (sound : IsSound tables) (is
   pub older : AllByRecursion (λ v. v.seq < s.next_entry) (rows_of t tables).versions
   older = all_weaker _ _ (λ v less. less.0) _ below_next
 
+-- ---- the columns of an entry
+
+marker_small : (c : Content) → marker_number c ≤ 1
+marker_small Marker = omega arith
+marker_small (Body bytes checksum) = omega arith
+
+marker_bare : (c : Content) → marker_number c ≡ 1 → (bytes_in c ≡ []) × (checksum_in c ≡ [])
+marker_bare Marker one = (refl, refl)
+marker_bare (Body bytes checksum) one = absurd (omega (arith, one))
+
+content_sized : (c : Content) → content_size c ≡ length (bytes_in c)
+content_sized Marker = refl
+content_sized (Body bytes checksum) = refl
+
+abbrev entry : VersionId → ℕ → Content → Entry
+entry id moment content = record { id = id; moment = moment; content = content }
+
+entry_shown : (t b k : Octets) (seq id moment : ℕ) (c : Content) → entry_of (entry_row t b k seq id moment c) ≡ entry (id_of id) moment c
+entry_shown t b k seq id moment Marker = refl
+entry_shown t b k seq id moment (Body bytes checksum) = refl
+
 -- ---- the put
 
 module _ (old new : Tables) (t : Octets) (s : State) (sound : IsSound old) (is : view old t ≡ Some s) (b k : Octets) (B : Bucket) (at : get s.buckets b ≡ Some B)
-    (moment : ℕ) (bytes : Octets) (early : moment ≤ latest_of old) (good : IsTrue (is_object_key k)) (text : IsUtf8 k) where
-  row_good : (seq id : ℕ) (tables : Tables) → latest_of tables ≡ latest_of old → IsVersionRow (latest_of tables) (object_row t b k seq id moment bytes)
-  row_good seq id tables same = record { key = good; text = text; marker = omega arith; bare = λ one. absurd (omega (arith, one)); stamp = subst (λ n. moment ≤ n) (sym same) early; size = refl }
+    (moment : ℕ) (early : moment ≤ latest_of old) (good : IsTrue (is_object_key k)) (text : IsUtf8 k) where
+  module _ (content : Content) (fits : B.mode ≡ Unversioned → marker_number content ≡ 0) where
+    row_good : (seq id : ℕ) (tables : Tables) → latest_of tables ≡ latest_of old → IsVersionRow (latest_of tables) (entry_row t b k seq id moment content)
+    row_good seq id tables same = record { key = good; text = text; marker = marker_small content; bare = marker_bare content; stamp = subst (λ n. moment ≤ n) (sym same) early; size = content_sized content }
 
-  abbrev entry : VersionId → Entry
-  entry id = record { id = id; moment = moment; content = Body bytes (checksum_text bytes) }
+    -- the entry `null` is replaced
+    put_replacing : can_give s.next_entry ≡ true
+        → new ≡ record old { tenants = update_where (is_tenant t) (λ r. record r { next_entry = s.next_entry + 1 }) old.tenants; versions = delete_where (is_version t b k 0) old.versions ++ entry_row t b k s.next_entry 0 moment content ∷ [] }
+        → Becomes t (Some (with_bucket b (with_entries k (entry Null moment content ∷ without Null (listed k B)) B) (record s { next_entry = s.next_entry + 1 }))) old new
+    put_replacing room e =
+        let one : Tables = record old { tenants = update_where (is_tenant t) (λ r. record r { next_entry = s.next_entry + 1 }) old.tenants } in
+        let two : Tables = record one { versions = delete_where (is_version t b k 0) old.versions } in
+        let s1 : State = record s { next_entry = s.next_entry + 1 } in
+        let B1 = with_entries k (without Null (listed k B)) B in
+        let first = next_entry_set old one t s sound is (s.next_entry + 1) (omega arith) (omega (arith, leb-true _ _ room)) refl in
+        let second = version_removed one two t s1 first.sound first.shown b k 0 B at refl in
+        let third = version_added two new (with_bucket b B1 s1) (entry_row t b k s.next_entry 0 moment content) B1 second.sound second.shown (get_here octets s.buckets b (Some B1))
+        (row_good s.next_entry 0 two (second.latest ∙ first.latest)) (omega arith) (omega (arith, (counters_good old t s sound is).0.0))
+        (subst (AllByRecursion (λ x. x.seq < s.next_entry)) (sym (mine_deleted (λ (x : VersionRow). x.tenant) t _ old.versions)) (all-filter _ _ _ (older old t s sound is))) (delete_all (is_version t b k 0) old.versions) (λ plain. record { null = refl; body = fits plain }) e in
+        subst (λ (x : State). Becomes t (Some x) old new)
+        (bucket_again b B1 _ s1 ∙ ap (λ x. with_bucket b x s1)
+        (ap (λ (x : Entry). with_entries k (x ∷ listed k B1) B1) (entry_shown t b k s.next_entry 0 moment content)
+        ∙ ap (λ l. with_entries k (entry Null moment content ∷ l) B1) (listed_here k (without Null (listed k B)) B)
+        ∙ entries_again k (without Null (listed k B)) (entry Null moment content ∷ without Null (listed k B)) B))
+        (becomes_then t _ _ old two new (becomes_then t _ _ old one two first second) third)
 
-  -- the version `null` is replaced
-  put_replacing : can_give s.next_entry ≡ true
-      → new ≡ record old { tenants = update_where (is_tenant t) (λ r. record r { next_entry = s.next_entry + 1 }) old.tenants; versions = delete_where (is_version t b k 0) old.versions ++ object_row t b k s.next_entry 0 moment bytes ∷ [] }
-      → Becomes t (Some (with_bucket b (with_entries k (entry Null ∷ without Null (listed k B)) B) (record s { next_entry = s.next_entry + 1 }))) old new
-  put_replacing room e =
-      let one : Tables = record old { tenants = update_where (is_tenant t) (λ r. record r { next_entry = s.next_entry + 1 }) old.tenants } in
-      let two : Tables = record one { versions = delete_where (is_version t b k 0) old.versions } in
-      let s1 : State = record s { next_entry = s.next_entry + 1 } in
-      let B1 = with_entries k (without Null (listed k B)) B in
-      let first = next_entry_set old one t s sound is (s.next_entry + 1) (omega arith) (omega (arith, leb-true _ _ room)) refl in
-      let second = version_removed one two t s1 first.sound first.shown b k 0 B at refl in
-      let third = version_added two new (with_bucket b B1 s1) (object_row t b k s.next_entry 0 moment bytes) B1 second.sound second.shown (get_here octets s.buckets b (Some B1))
-      (row_good s.next_entry 0 two (second.latest ∙ first.latest)) (omega arith) (omega (arith, (counters_good old t s sound is).0.0))
-      (subst (AllByRecursion (λ x. x.seq < s.next_entry)) (sym (mine_deleted (λ (x : VersionRow). x.tenant) t _ old.versions)) (all-filter _ _ _ (older old t s sound is))) (delete_all (is_version t b k 0) old.versions) (λ _. refl) e in
-      subst (λ (x : State). Becomes t (Some x) old new)
-      (bucket_again b B1 _ s1 ∙ ap (λ x. with_bucket b x s1) (ap (λ l. with_entries k (entry Null ∷ l) B1) (listed_here k (without Null (listed k B)) B) ∙ entries_again k (without Null (listed k B)) (entry Null ∷ without Null (listed k B)) B))
-      (becomes_then t _ _ old two new (becomes_then t _ _ old one two first second) third)
+    -- a numbered entry is added
+    put_numbered : (B.mode ≡ Unversioned → ⊥) → can_give s.next_version ≡ true → can_give s.next_entry ≡ true
+        → new ≡ record old { tenants = update_where (is_tenant t) (λ r. record r { next_version = s.next_version + 1; next_entry = s.next_entry + 1 }) old.tenants; versions = old.versions ++ entry_row t b k s.next_entry s.next_version moment content ∷ [] }
+        → Becomes t (Some (with_bucket b (with_entries k (entry (Numbered s.next_version) moment content ∷ listed k B) B) (record s { next_version = s.next_version + 1; next_entry = s.next_entry + 1 }))) old new
+    put_numbered versioned version room e =
+        let one : Tables = record old { tenants = update_where (is_tenant t) (λ r. record r { next_version = s.next_version + 1; next_entry = s.next_entry + 1 }) old.tenants } in
+        let s1 : State = record s { next_version = s.next_version + 1; next_entry = s.next_entry + 1 } in
+        let first = numbers_set old one t s sound is (s.next_version + 1) (s.next_entry + 1) (omega arith) (omega (arith, leb-true _ _ version)) (omega arith) (omega (arith, leb-true _ _ room)) refl in
+        let second = version_added one new s1 (entry_row t b k s.next_entry s.next_version moment content) B first.sound first.shown at
+        (row_good s.next_entry s.next_version one first.latest) (omega arith) (omega arith) (older old t s sound is) (next_fresh old t s sound is b k) (λ plain. absurd (versioned plain)) e in
+        subst (λ (x : Entry). Becomes t (Some (with_bucket b (with_entries k (x ∷ listed k B) B) s1)) old new)
+        (entry_shown t b k s.next_entry s.next_version moment content ∙ ap (λ id. entry id moment content) (numbered_id s.next_version (counters_good old t s sound is).0.0))
+        (becomes_then t _ _ old one new first second)
 
-  -- a numbered version is added
-  put_numbered : (B.mode ≡ Unversioned → ⊥) → can_give s.next_version ≡ true → can_give s.next_entry ≡ true
-      → new ≡ record old { tenants = update_where (is_tenant t) (λ r. record r { next_version = s.next_version + 1; next_entry = s.next_entry + 1 }) old.tenants; versions = old.versions ++ object_row t b k s.next_entry s.next_version moment bytes ∷ [] }
-      → Becomes t (Some (with_bucket b (with_entries k (entry (Numbered s.next_version) ∷ listed k B) B) (record s { next_version = s.next_version + 1; next_entry = s.next_entry + 1 }))) old new
-  put_numbered versioned version room e =
-      let one : Tables = record old { tenants = update_where (is_tenant t) (λ r. record r { next_version = s.next_version + 1; next_entry = s.next_entry + 1 }) old.tenants } in
-      let s1 : State = record s { next_version = s.next_version + 1; next_entry = s.next_entry + 1 } in
-      let first = numbers_set old one t s sound is (s.next_version + 1) (s.next_entry + 1) (omega arith) (omega (arith, leb-true _ _ version)) (omega arith) (omega (arith, leb-true _ _ room)) refl in
-      let second = version_added one new s1 (object_row t b k s.next_entry s.next_version moment bytes) B first.sound first.shown at
-      (row_good s.next_entry s.next_version one first.latest) (omega arith) (omega arith) (older old t s sound is) (next_fresh old t s sound is b k) (λ plain. absurd (versioned plain)) e in
-      subst (λ id. Becomes t (Some (with_bucket b (with_entries k (entry id ∷ listed k B) B) s1)) old new) (numbered_id s.next_version (counters_good old t s sound is).0.0)
-      (becomes_then t _ _ old one new first second)
+    -- the entries that the machine makes, in a bucket of any state
+    put_in : (mode : BucketState) (c : Counts) → B.mode ≡ mode → after_entry mode (counts s) ≡ Ok c
+        → new ≡ record old { tenants = update_where (is_tenant t) (counters_row mode c) old.tenants; versions = rows_left mode t b k old.versions ++ entry_row t b k s.next_entry (row_number mode s.next_version) moment content ∷ [] }
+        → Becomes t (Some (with_bucket b (with_entries k (added mode s.next_version moment content (listed k B)) B) (with_counts c s))) old new
+    put_in Unversioned c its given e =
+        let g = was_given (can_give s.next_entry) _ c given in
+        subst (λ (x : Counts). Becomes t (Some (with_bucket b (with_entries k (entry Null moment content ∷ without Null (listed k B)) B) (with_counts x s))) old new) g.1
+        (put_replacing g.0 (e ∙ ap (λ (x : Counts). record old { tenants = update_where (is_tenant t) (λ r. record r { next_entry = x.entry }) old.tenants; versions = delete_where (is_version t b k 0) old.versions ++ entry_row t b k s.next_entry 0 moment content ∷ [] }) (sym g.1)))
+    put_in Enabled c its given e =
+        let g = was_given (can_give s.next_version && can_give s.next_entry) _ c given in
+        let both = and_parts _ _ g.0 in
+        subst (λ (x : Counts). Becomes t (Some (with_bucket b (with_entries k (entry (Numbered s.next_version) moment content ∷ listed k B) B) (with_counts x s))) old new) g.1
+        (put_numbered (λ plain. enabled (sym plain ∙ its)) both.0 both.1 (e ∙ ap (λ (x : Counts). record old { tenants = update_where (is_tenant t) (λ r. record r { next_version = x.version; next_entry = x.entry }) old.tenants; versions = old.versions ++ entry_row t b k s.next_entry s.next_version moment content ∷ [] }) (sym g.1)))
+    put_in Suspended c its given e =
+        let g = was_given (can_give s.next_entry) _ c given in
+        subst (λ (x : Counts). Becomes t (Some (with_bucket b (with_entries k (entry Null moment content ∷ without Null (listed k B)) B) (with_counts x s))) old new) g.1
+        (put_replacing g.0 (e ∙ ap (λ (x : Counts). record old { tenants = update_where (is_tenant t) (λ r. record r { next_entry = x.entry }) old.tenants; versions = delete_where (is_version t b k 0) old.versions ++ entry_row t b k s.next_entry 0 moment content ∷ [] }) (sym g.1)))
 
-  -- the entries that the machine makes
-  put_in : (mode : BucketState) (c : Counts) → B.mode ≡ mode → after_entry mode (counts s) ≡ Ok c
-      → new ≡ record old { tenants = update_where (is_tenant t) (counters_row mode c) old.tenants; versions = rows_left mode t b k old.versions ++ object_row t b k s.next_entry (row_number mode s.next_version) moment bytes ∷ [] }
-      → Becomes t (Some (with_bucket b (with_entries k (added mode s.next_version moment (Body bytes (checksum_text bytes)) (listed k B)) B) (with_counts c s))) old new
-  put_in Unversioned c its given e =
-      let g = was_given (can_give s.next_entry) _ c given in
-      subst (λ (x : Counts). Becomes t (Some (with_bucket b (with_entries k (entry Null ∷ without Null (listed k B)) B) (with_counts x s))) old new) g.1
-      (put_replacing g.0 (e ∙ ap (λ (x : Counts). record old { tenants = update_where (is_tenant t) (λ r. record r { next_entry = x.entry }) old.tenants; versions = delete_where (is_version t b k 0) old.versions ++ object_row t b k s.next_entry 0 moment bytes ∷ [] }) (sym g.1)))
-  put_in Enabled c its given e =
-      let g = was_given (can_give s.next_version && can_give s.next_entry) _ c given in
-      let both = and_parts _ _ g.0 in
-      subst (λ (x : Counts). Becomes t (Some (with_bucket b (with_entries k (entry (Numbered s.next_version) ∷ listed k B) B) (with_counts x s))) old new) g.1
-      (put_numbered (λ plain. enabled (sym plain ∙ its)) both.0 both.1 (e ∙ ap (λ (x : Counts). record old { tenants = update_where (is_tenant t) (λ r. record r { next_version = x.version; next_entry = x.entry }) old.tenants; versions = old.versions ++ object_row t b k s.next_entry s.next_version moment bytes ∷ [] }) (sym g.1)))
-  put_in Suspended c its given e =
-      let g = was_given (can_give s.next_entry) _ c given in
-      subst (λ (x : Counts). Becomes t (Some (with_bucket b (with_entries k (entry Null ∷ without Null (listed k B)) B) (with_counts x s))) old new) g.1
-      (put_replacing g.0 (e ∙ ap (λ (x : Counts). record old { tenants = update_where (is_tenant t) (λ r. record r { next_entry = x.entry }) old.tenants; versions = delete_where (is_version t b k 0) old.versions ++ object_row t b k s.next_entry 0 moment bytes ∷ [] }) (sym g.1)))
+  -- the tables with a new entry
+  abbrev with_row : BucketState → Counts → Content → Tables
+  with_row mode c content = record old { tenants = update_where (is_tenant t) (counters_row mode c) old.tenants; versions = rows_left mode t b k old.versions ++ entry_row t b k s.next_entry (row_number mode s.next_version) moment content ∷ [] }
 
-  -- the object is put, in a bucket of any state: the machine's state then
-  pub object_put : (mode : BucketState) (c : Counts) → B.mode ≡ mode → after_entry mode (counts s) ≡ Ok c
-      → new ≡ record old { tenants = update_where (is_tenant t) (counters_row mode c) old.tenants; versions = rows_left mode t b k old.versions ++ object_row t b k s.next_entry (row_number mode s.next_version) moment bytes ∷ [] }
+  -- an object is put: the machine's state then
+  pub object_put : (bytes : Octets) (c : Counts) → after_entry B.mode (counts s) ≡ Ok c → new ≡ with_row B.mode c (Body bytes (checksum_text bytes))
       → Becomes t (Some (with_bucket b (with_object moment k s.next_version bytes B) (with_counts c s))) old new
-  object_put mode c its given e = subst (λ m. Becomes t (Some (with_bucket b (with_entries k (added m s.next_version moment (Body bytes (checksum_text bytes)) (listed k B)) B) (with_counts c s))) old new) (sym its) (put_in mode c its given e)
+  object_put bytes c given e = put_in (Body bytes (checksum_text bytes)) (λ _. refl) B.mode c refl given e
+
+  -- a delete marker is made, where versions are or were numbered
+  pub marker_put : (mode : BucketState) (c : Counts) → B.mode ≡ mode → (mode ≡ Unversioned → ⊥) → after_entry mode (counts s) ≡ Ok c → new ≡ with_row mode c Marker
+      → Becomes t (Some (with_bucket b (with_entries k (deleted_current mode s.next_version moment (listed k B)) B) (with_counts c s))) old new
+  marker_put Unversioned c its versioned given e = absurd (versioned refl)
+  marker_put Enabled c its versioned given e = put_in Marker (λ plain. absurd (true≢false (ap is_plain (sym plain ∙ its)))) Enabled c its given e
+  marker_put Suspended c its versioned given e = put_in Marker (λ plain. absurd (true≢false (ap is_plain (sym plain ∙ its)))) Suspended c its given e

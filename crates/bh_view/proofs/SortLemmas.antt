@@ -27,6 +27,10 @@ module _ {X : Type 0} (cmp : X → X → Ordering) where
   all-insert_sorted P new (x ∷ xs) h all =
       elim (is_gt (cmp new x)) as (λ b. AllByRecursion P (cond b (x ∷ insert_sorted cmp new xs) (new ∷ x ∷ xs))) [ true ↦ (all.0, all-insert_sorted P new xs h all.1) | false ↦ (h, all) ]
 
+  pub all-sort_by : (P : X → Type 0) (xs : List X) → AllByRecursion P xs → AllByRecursion P (sort_by cmp xs)
+  all-sort_by P [] all = tt
+  all-sort_by P (x ∷ xs) all = all-insert_sorted P x (sort_by cmp xs) all.0 (all-sort_by P xs all.1)
+
   in_front : (new : X) (ys : List X) → AllByRecursion (AtMost new) ys → insert_sorted cmp new ys ≡ new ∷ ys
   in_front new [] all = refl
   in_front new (y ∷ ys) all = ap (λ b. cond b (y ∷ insert_sorted cmp new ys) (new ∷ y ∷ ys)) all.0

@@ -16,7 +16,7 @@ use Rattle.bh_tables.specs.Typed.{TenantRow, BucketRow, VersionRow, Tables}
 use Rattle.bh_tables.specs.Shown.{is_version}
 use Rattle.bh_view.specs.Grouped.{first, same_number, matching, HasUnique}
 use Rattle.bh_view.specs.View.{at_key, named, rows_of, id_of, mode_of, entry_of, buckets_of, view, latest_of, in_bucket}
-use Rattle.bh_view.specs.Sound.{IsVersionRow, IsBelow, AreVersions, IsSound}
+use Rattle.bh_view.specs.Sound.{IsVersionRow, IsBelow, IsPlain, AreVersions, IsSound}
 use Rattle.bh_view.specs.Becomes.{Becomes}
 use Rattle.bh_view.proofs.Keys.{octets, numbers}
 use Rattle.bh_view.proofs.FilterLemmas.{none_some, same_Some, push_here, push_other, filter_swap, filter_both}
@@ -57,7 +57,7 @@ module _ (latest : ℕ) (tenants : List TenantRow) (buckets : List BucketRow) (v
     one_id = λ b k. subst (HasUnique same_number (λ (v : VersionRow). v.id)) (sym (ap (at_key k) (filter_swap (λ v. bytes_eq v.bucket b) (λ v. not (test v)) versions) ∙ filter_swap (λ v. bytes_eq v.okey k) (λ v. not (test v)) (in_bucket b versions)))
         (unique_deleted numbers (λ (v : VersionRow). v.id) (at_key k (in_bucket b versions)) test (all.one_id b k));
     owned = refers_deleted octets (λ (r : BucketRow). r.bucket) (λ (v : VersionRow). v.bucket) buckets versions test all.owned;
-    unversioned = λ b r there none. subst (AllByRecursion (λ (v : VersionRow). v.id ≡ 0)) (sym (filter_swap (λ v. bytes_eq v.bucket b) (λ v. not (test v)) versions)) (all-filter _ _ _ (all.unversioned b r there none));
+    unversioned = λ b r there none. subst (AllByRecursion IsPlain) (sym (filter_swap (λ v. bytes_eq v.bucket b) (λ v. not (test v)) versions)) (all-filter _ _ _ (all.unversioned b r there none));
     given = all_weaker _ _ (λ r below. all-filter (λ v. IsBelow v r) _ versions below) tenants all.given;
   }
 
@@ -73,16 +73,16 @@ module _ (latest : ℕ) (tenants : List TenantRow) (buckets : List BucketRow) (v
     | false ↦ λ apart. subst (λ l. HasUnique same_number (λ (v : VersionRow). v.id) (at_key k l)) (sym (push_other (λ x. bytes_eq x.bucket b) versions v apart)) (all.one_id b k)
   ] refl
 
-  unversioned_more : (v : VersionRow) → ((r : BucketRow) → first (named v.bucket buckets) ≡ Some r → mode_of r.state ≡ Unversioned → v.id ≡ 0)
-      → (b : Octets) (r : BucketRow) → first (named b buckets) ≡ Some r → mode_of r.state ≡ Unversioned → AllByRecursion (λ (v : VersionRow). v.id ≡ 0) (in_bucket b (versions ++ v ∷ []))
-  unversioned_more v plain b r there none = elim (bytes_eq v.bucket b) as (λ h. bytes_eq v.bucket b ≡ h → AllByRecursion (λ (v : VersionRow). v.id ≡ 0) (in_bucket b (versions ++ v ∷ []))) [
-    | true ↦ λ here. subst (AllByRecursion (λ (v : VersionRow). v.id ≡ 0)) (sym (push_here (λ x. bytes_eq x.bucket b) versions v here))
+  unversioned_more : (v : VersionRow) → ((r : BucketRow) → first (named v.bucket buckets) ≡ Some r → mode_of r.state ≡ Unversioned → IsPlain v)
+      → (b : Octets) (r : BucketRow) → first (named b buckets) ≡ Some r → mode_of r.state ≡ Unversioned → AllByRecursion IsPlain (in_bucket b (versions ++ v ∷ []))
+  unversioned_more v plain b r there none = elim (bytes_eq v.bucket b) as (λ h. bytes_eq v.bucket b ≡ h → AllByRecursion IsPlain (in_bucket b (versions ++ v ∷ []))) [
+    | true ↦ λ here. subst (AllByRecursion IsPlain) (sym (push_here (λ x. bytes_eq x.bucket b) versions v here))
         (all_pushed _ _ v (all.unversioned b r there none) (plain r (ap (λ z. first (named z buckets)) ((octets.decides v.bucket b).0 here) ∙ there) none))
-    | false ↦ λ apart. subst (AllByRecursion (λ (v : VersionRow). v.id ≡ 0)) (sym (push_other (λ x. bytes_eq x.bucket b) versions v apart)) (all.unversioned b r there none)
+    | false ↦ λ apart. subst (AllByRecursion IsPlain) (sym (push_other (λ x. bytes_eq x.bucket b) versions v apart)) (all.unversioned b r there none)
   ] refl
 
   versions_more : (v : VersionRow) → IsVersionRow latest v → AllByRecursion (λ x. x.seq < v.seq) versions → at_id v.id (at_key v.okey (in_bucket v.bucket versions)) ≡ []
-      → (first (named v.bucket buckets) ≡ None → ⊥) → ((r : BucketRow) → first (named v.bucket buckets) ≡ Some r → mode_of r.state ≡ Unversioned → v.id ≡ 0) → AllByRecursion (IsBelow v) tenants → AreVersions latest tenants buckets (versions ++ v ∷ [])
+      → (first (named v.bucket buckets) ≡ None → ⊥) → ((r : BucketRow) → first (named v.bucket buckets) ≡ Some r → mode_of r.state ≡ Unversioned → IsPlain v) → AllByRecursion (IsBelow v) tenants → AreVersions latest tenants buckets (versions ++ v ∷ [])
   versions_more v good older fresh has plain below = record {
     each = all_pushed _ versions v all.each good;
     one_seq = unique_pushed numbers (λ (v : VersionRow). v.seq) versions v all.one_seq (filter_none _ versions (all_weaker _ (λ x. same_number x.seq v.seq ≡ false) (λ x less. is_other numbers x.seq v.seq (λ e. absurd (omega (arith, less, e)))) versions older));
@@ -121,7 +121,7 @@ module _ (old new : Tables) (t : Octets) (s : State) (sound : IsSound old) (is :
       (versions_left (latest_of old) mine.tenants mine.buckets mine.versions (sound.tenants t).versions test)
 
 pub version_added : (old new : Tables) (s : State) (v : VersionRow) (B : Bucket) → IsSound old → view old v.tenant ≡ Some s → get s.buckets v.bucket ≡ Some B
-    → IsVersionRow (latest_of old) v → v.seq < s.next_entry → v.id < s.next_version → AllByRecursion (λ x. x.seq < v.seq) (rows_of v.tenant old).versions → filter (is_version v.tenant v.bucket v.okey v.id) old.versions ≡ [] → (B.mode ≡ Unversioned → v.id ≡ 0)
+    → IsVersionRow (latest_of old) v → v.seq < s.next_entry → v.id < s.next_version → AllByRecursion (λ x. x.seq < v.seq) (rows_of v.tenant old).versions → filter (is_version v.tenant v.bucket v.okey v.id) old.versions ≡ [] → (B.mode ≡ Unversioned → IsPlain v)
     → new ≡ record old { versions = old.versions ++ v ∷ [] } → Becomes v.tenant (Some (with_bucket v.bucket (with_entries v.okey (entry_of v ∷ listed v.okey B) B) s)) old new
 version_added old new s v B sound is at good entry version older fresh plain =
     let t = v.tenant in

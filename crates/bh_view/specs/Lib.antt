@@ -3,4 +3,5 @@ pub mod View
 pub mod Sound
 pub mod Becomes
 pub mod Put
+pub mod Wanted
 pub mod Laws

@@ -79,15 +79,20 @@ pub record IsBelow (v : VersionRow) (r : TenantRow) : Type 0 where
   pub seq : v.seq < r.next_entry
   pub id : v.id < r.next_version
 
--- no two rows of one number, no two of a key with one id, none without its bucket, and only `null` where the bucket
--- never had versions
+-- a version `null`, and no delete marker
+pub record IsPlain (v : VersionRow) : Type 0 where
+  pub null : v.id ≡ 0
+  pub body : v.marker ≡ 0
+
+-- no two rows of one number, no two of a key with one id, none without its bucket, and only versions `null` where the
+-- bucket never had versions
 pub record AreVersions (latest : ℕ) (tenants : List TenantRow) (buckets : List BucketRow) (versions : List VersionRow) : Type 0 where
   pub each : AllByRecursion (IsVersionRow latest) versions
   pub one_seq : HasUnique same_number (λ (v : VersionRow). v.seq) versions
   pub one_id : (bucket okey : Octets) → HasUnique same_number (λ (v : VersionRow). v.id) (at_key okey (in_bucket bucket versions))
   pub owned : Refers bytes_eq (λ (r : BucketRow). r.bucket) buckets (λ (v : VersionRow). v.bucket) versions
   pub unversioned : (bucket : Octets) (r : BucketRow) → first (named bucket buckets) ≡ Some r → mode_of r.state ≡ Unversioned
-      → AllByRecursion (λ v. v.id ≡ 0) (in_bucket bucket versions)
+      → AllByRecursion IsPlain (in_bucket bucket versions)
   pub given : AllByRecursion (λ (r : TenantRow). AllByRecursion (λ v. IsBelow v r) versions) tenants
 
 -- the rows of one tenant, of which no moment is after the last stamp

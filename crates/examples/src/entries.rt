@@ -1,7 +1,7 @@
 //! The entries of one key.
 
 use crate::answer::{Answer, Fault};
-use crate::parts;
+use crate::decisions;
 use crate::words::{four, number, state_of, wanted_of};
 use bh_model::entries::{Content, Entry, add, delete, lookup};
 use bh_types::bucket_state::BucketState;
@@ -11,7 +11,7 @@ use std::alloc::{AllocError, Global};
 pub fn answer(alloc: Global, call: &str, input: &str) -> Answer {
     match call {
         "history" => history(alloc, input),
-        _ => parts::answer(alloc, call, input),
+        _ => decisions::answer(alloc, call, input),
     }
 }
 

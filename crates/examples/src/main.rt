@@ -3,6 +3,8 @@
 
 mod answer;
 mod checksums;
+mod command_line;
+mod decisions;
 mod documents;
 mod entries;
 mod escapes;

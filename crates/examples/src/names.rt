@@ -1,7 +1,7 @@
-//! Names, keys and ids.
+//! Names, keys and ids, and words of the command line.
 
 use crate::answer::{Answer, text, text_or_none};
-use crate::plain;
+use crate::{command_line, plain};
 use crate::words::wanted_text;
 use bh_types::bucket::BucketName;
 use bh_types::id::{UploadId, VersionId};
@@ -25,6 +25,8 @@ fn id_answer(alloc: Global, call: &str, input: &str) -> Answer {
     match call {
         "version-id" => version_id(alloc, input),
         "upload-id" => upload_id(alloc, input),
+        "words" => command_line::words(alloc, input),
+        "words-text" => command_line::words_text(alloc, input),
         _ => plain::answer(alloc, call, input),
     }
 }

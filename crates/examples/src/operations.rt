@@ -22,7 +22,7 @@ pub fn answer(alloc: Global, call: &str, input: &str) -> Answer {
 
 /// The methods of a target.
 fn allow(alloc: Global, input: &str) -> Answer {
-    let allow = allow_of(alloc, input.as_bytes())?;
+    let allow = allow_of(input.as_bytes());
     text_or_none(alloc, allow.map(|allow| allow.as_str()))
 }
 

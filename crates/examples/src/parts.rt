@@ -2,7 +2,7 @@
 
 use crate::answer::{Answer, Fault, refused, yes_or_no};
 use crate::checksums;
-use crate::words::{four, number, small, state_of, three};
+use crate::words::{number, numbers, small, state_of, three, two};
 use bh_model::counting::after_entry;
 use bh_model::entries::Content;
 use bh_model::parts::{Part, complete};
@@ -114,20 +114,22 @@ fn uploads_left(alloc: Global, input: &str) -> Answer {
     Ok(purged(uploads, days, now).len().to_string(alloc)?)
 }
 
+/// The counters for versions, uploads and entries.
+pub fn counters_of(text: &str) -> Result<Counters, Fault> {
+    let [version, upload, entry] = numbers::<3>(text)?;
+    Counters::new(version, upload, entry).ok_or(Fault::Form)
+}
+
 /// A bucket's state and the counters before a new entry: those after it.
 fn counted(alloc: Global, input: &str) -> Answer {
-    let (state, version, upload, entry) = four(input, ' ')?;
-    let state = state_of(state)?;
-    let counters = Counters::new(number(version)?, number(upload)?, number(entry)?).ok_or(
-        Fault::Form,
-    )?;
-    match after_entry(state, counters) {
+    let (state, counters) = two(input, ' ')?;
+    match after_entry(state_of(state)?, counters_of(counters)?) {
         Ok(after) => counters_text(alloc, after),
         Err(refusal) => crate::answer::refusal(alloc, refusal),
     }
 }
 
-fn counters_text(alloc: Global, counters: Counters) -> Answer {
+pub fn counters_text(alloc: Global, counters: Counters) -> Answer {
     let version = counters.version;
     let upload = counters.upload;
     let entry = counters.entry;

@@ -3,10 +3,10 @@
 use crate::answer::{Answer, Fault, text, text_or_none, yes_or_no};
 use crate::responses;
 use crate::words::{number, numbers, state_text};
-use bh_types::limits::{Limits, Tuning, is_quota};
-use bh_types::moment::{Moment, abort_moment, moment_text};
 use bh_types::bucket_state::BucketState;
 use bh_types::counters::Counters;
+use bh_types::limits::{Limits, Tuning, is_quota};
+use bh_types::moment::{Moment, abort_moment, moment_text};
 use bh_types::refusal::Refusal;
 use std::alloc::Global;
 

@@ -1,9 +1,9 @@
 //! The words of a row's input.
 
 use crate::answer::Fault;
+use bh_types::bucket_state::BucketState;
 use bh_types::id::VersionId;
 use bh_types::moment::Moment;
-use bh_types::bucket_state::BucketState;
 use bh_types::wanted::Wanted;
 use std::alloc::{AllocError, Global};
 

@@ -3,12 +3,32 @@ use Rattle.sqlite.specs.Held.{state}
 use Rattle.bh_view.specs.View.{view}
 use Rattle.bh_schema.specs.Working.{tables_at}
 use Rattle.bh_objects.proofs.Working.{no_call}
-use Rattle.bh_dispatch.proofs.Steps.{creates_bucket, puts_object, gets_object, not_done}
+use Rattle.bh_dispatch.proofs.Steps.{lists_buckets, creates_bucket, heads_bucket, deletes_bucket, tells_versioning, sets_versioning, puts_object, gets_object, heads_object, deletes_object, not_done}
 use Rattle.bh_dispatch.proofs.operations.operate.Goals as goal
+
+pub returns-in-ListBuckets-clause-carries : goal.returns-in-ListBuckets-clause-carries
+returns-in-ListBuckets-clause-carries g c clean =
+    rw (c.in-ListBuckets.is, lists_buckets c.args.at c.args.body.now) (c.list_buckets.ensures.carries clean)
 
 pub returns-in-CreateBucket-clause-carries : goal.returns-in-CreateBucket-clause-carries
 returns-in-CreateBucket-clause-carries g c clean =
     rw (c.in-CreateBucket.is, creates_bucket c.args.at c.args.body.now c.in-CreateBucket.bucket) (c.create_bucket.ensures.carries clean)
+
+pub returns-in-HeadBucket-clause-carries : goal.returns-in-HeadBucket-clause-carries
+returns-in-HeadBucket-clause-carries g c clean =
+    rw (c.in-HeadBucket.is, heads_bucket c.args.at c.args.body.now c.in-HeadBucket.bucket) (c.head_bucket.ensures.carries clean)
+
+pub returns-in-DeleteBucket-clause-carries : goal.returns-in-DeleteBucket-clause-carries
+returns-in-DeleteBucket-clause-carries g c clean =
+    rw (c.in-DeleteBucket.is, deletes_bucket c.args.at c.args.body.now c.in-DeleteBucket.bucket) (c.delete_bucket.ensures.carries clean)
+
+pub returns-in-GetBucketVersioning-clause-carries : goal.returns-in-GetBucketVersioning-clause-carries
+returns-in-GetBucketVersioning-clause-carries g c clean =
+    rw (c.in-GetBucketVersioning.is, tells_versioning c.args.at c.args.body.now c.in-GetBucketVersioning.bucket) (c.versioning.ensures.carries clean)
+
+pub returns-in-PutBucketVersioning-clause-carries : goal.returns-in-PutBucketVersioning-clause-carries
+returns-in-PutBucketVersioning-clause-carries g c clean =
+    rw (c.in-PutBucketVersioning.is, sets_versioning c.args.at c.args.body.now c.in-PutBucketVersioning.bucket) (c.set_versioning.ensures.carries clean)
 
 pub returns-in-PutObject-clause-carries : goal.returns-in-PutObject-clause-carries
 returns-in-PutObject-clause-carries g c clean =
@@ -18,6 +38,14 @@ pub returns-in-GetObject-clause-carries : goal.returns-in-GetObject-clause-carri
 returns-in-GetObject-clause-carries g c clean =
     rw (c.in-GetObject.is, gets_object c.args.at c.args.body.now c.in-GetObject.object c.in-GetObject.version c.in-GetObject.range) (c.get_object.ensures.carries clean)
 
+pub returns-in-HeadObject-clause-carries : goal.returns-in-HeadObject-clause-carries
+returns-in-HeadObject-clause-carries g c clean =
+    rw (c.in-HeadObject.is, heads_object c.args.at c.args.body.now c.in-HeadObject.object c.in-HeadObject.version) (c.head_object.ensures.carries clean)
+
+pub returns-in-DeleteObject-clause-carries : goal.returns-in-DeleteObject-clause-carries
+returns-in-DeleteObject-clause-carries g c clean =
+    rw (c.in-DeleteObject.is, deletes_object c.args.at c.args.body.now c.in-DeleteObject.object c.in-DeleteObject.version) (c.delete_object.ensures.carries clean)
+
 pub returns-in_default : goal.returns-in_default
 returns-in_default g c =
     let s = state g.S.Store c.args.connection.now in
@@ -26,5 +54,5 @@ returns-in_default g c =
       within = no_call s (λ clean. (c.requires.working clean).inside);
       opens = λ intact up. up;
       working = λ clean. record { is = c.requires.working clean; limits = refl };
-      carries = λ clean. (not_done c.args.at c.args.body.now (view (tables_at s) c.args.tenant.now) c.args.operation.now no.not-CreateBucket no.not-PutObject no.not-GetObject, refl);
+      carries = λ clean. (not_done c.args.at c.args.body.now (view (tables_at s) c.args.tenant.now) c.args.operation.now no.not-ListBuckets no.not-CreateBucket no.not-HeadBucket no.not-DeleteBucket no.not-GetBucketVersioning no.not-PutBucketVersioning no.not-PutObject no.not-GetObject no.not-HeadObject no.not-DeleteObject, refl);
     })

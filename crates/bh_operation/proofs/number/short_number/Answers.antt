@@ -4,4 +4,4 @@ use Rattle.bh_operation.proofs.number.short_number.Goals as goal
 
 pub unreachable-requires : goal.unreachable-requires
 unreachable-requires c =
-    ten_digits c.args.text.now (sym c.is_number.ensures ∙ c.if-not-is_number.false) c.if-text-gt10.false c.in-None.ensures.none
+    ten_digits c.as_bytes-digits.result.now (sym c.is_number.ensures ∙ c.if-not-is_number.false) c.if-digits-gt10.false c.in-None.ensures.none

@@ -1,0 +1,4 @@
+pub mod AskedRanges
+pub mod Laws
+pub mod Places
+pub mod Plans

@@ -1,0 +1,160 @@
+-- DeleteObject: what was read, and the rows that were written, are the machine's step.
+use Rattle.std.proofs.Common.{◌≡◌, ◌≢◌, ℕ, zero, suc, ◌<◌, ◌≤◌, ◌^◌, Bool, true, false, not, ◌&&◌, true≢false, List, find, Option, Some, None, option_map, Result, Ok, Err, refl, sym, ap, ◌∙◌, subst}
+use Rattle.std.specs.FinMap.{get}
+use Rattle.std.proofs.lemmas.Bool.{and_parts}
+use Rattle.sqlite_keyed.specs.Lists.{delete_where}
+use Rattle.bh_types.specs.Counts.{Counts}
+use Rattle.bh_types.specs.Outcomes.{◌>>=◌}
+use Rattle.bh_types.specs.declared.bucket_state.BucketState.{BucketState}
+use Rattle.bh_types.specs.declared.bucket_state.BucketState.TheVariants.{Unversioned, Enabled, Suspended}
+use Rattle.bh_types.specs.declared.id.VersionId.{VersionId}
+use Rattle.bh_types.specs.declared.refusal.Refusal.{Refusal}
+use Rattle.bh_types.specs.declared.wanted.Wanted.{Wanted}
+use Rattle.bh_types.specs.declared.wanted.Wanted.TheVariants.{Current, Named, Unknown}
+use Rattle.bh_model.specs.State.{Octets, Content.Marker, Entry, State, Bucket}
+use Rattle.bh_model.specs.Counting.{counts, with_counts, after_entry, after_delete}
+use Rattle.bh_model.specs.Entries.{is_version as is_object, has_id, new_id, deleted}
+use Rattle.bh_model.specs.Operations.{Answer, Outcome, Removed, id_told, listed, with_bucket, with_entries, removed, removed_named, delete_object}
+use Rattle.bh_tables.specs.Typed.{Tables, VersionRow}
+use Rattle.bh_tables.specs.Shown.{is_version}
+use Rattle.bh_view.specs.Becomes.{Becomes}
+use Rattle.bh_view.specs.View.{view, latest_of, limits_in, entry_of, content_of, id_of}
+use Rattle.bh_view.specs.Sound.{IsSound}
+use Rattle.bh_view.specs.Wanted.{wanted_row}
+use Rattle.bh_view.proofs.Keys.{numbers}
+use Rattle.bh_view.proofs.FilterLemmas.{first_passes}
+use Rattle.bh_view.proofs.FindLemmas.{first_find}
+use Rattle.bh_view.proofs.PutLemmas.{marker_put}
+use Rattle.bh_view.proofs.VersionChanges.{version_removed}
+use Rattle.bh_view.proofs.WantedLemmas.{named_row, named_entry, no_row}
+use Rattle.bh_view.proofs.DeleteLemmas.{entries_same, nothing_removed, null_removed}
+use Rattle.bh_storage.specs.Calls.{GivesStep}
+use Rattle.bh_objects.specs.Found.{mode_in, numbers_in, IsKeyText, with_entry}
+use Rattle.bh_objects.proofs.Putting.{HasBucket, has_bucket, no_bucket, has_numbers, no_numbers}
+
+module _ (b k : Octets) (at : ℕ) (wanted : Wanted) where
+  -- what the machine makes of a bucket that is there, in this state
+  abbrev made : State → Bucket → BucketState → Result Counts Refusal → Result Outcome Refusal
+  made s B mode r = r >>= (λ c. Ok (removed mode wanted s.next_version (listed k B), Some (with_bucket b (with_entries k (deleted mode wanted s.next_version at (listed k B)) B) (with_counts c s))))
+
+  delete_in : (v : Option State) (s : State) (B : Bucket) → v ≡ Some s → get s.buckets b ≡ Some B → delete_object at b k wanted v ≡ made s B B.mode (after_delete B.mode wanted (counts s))
+  delete_in v s B is there = rw (is, there) refl
+
+  delete_at : (v : Option State) (mode : BucketState) (h : HasBucket b v mode) → delete_object at b k wanted v ≡ made h.state h.bucket mode (after_delete mode wanted (counts h.state))
+  delete_at v mode h = delete_in v h.state h.bucket h.added h.there ∙ ap (λ m. made h.state h.bucket m (after_delete m wanted (counts h.state))) h.its
+
+  pub deletes_nowhere : (v : Option State) (r : Refusal) → mode_in b v ≡ Err r → delete_object at b k wanted v ≡ Err r
+  deletes_nowhere v r none = rw (no_bucket b v r none) refl
+
+-- what a step leaves, and what stays of the tables
+abbrev pub Steps : Octets → Octets → Octets → ℕ → Wanted → Answer → Tables → Tables → Type 0
+Steps t b k at wanted answer old new = GivesStep t (delete_object at b k wanted) answer old new × IsSound new × (limits_in new ≡ limits_in old)
+
+steps : (t b k : Octets) (at : ℕ) (wanted : Wanted) (answer : Answer) (old new : Tables) (s : State) → Becomes t (Some s) old new → delete_object at b k wanted (view old t) ≡ Ok (answer, Some s) → Steps t b k at wanted answer old new
+steps t b k at wanted answer old new s change is = (record { gives = is ∙ ap (λ v. Ok (answer, v)) (sym change.shown); others = change.others; latest = change.latest }, change.sound, change.limits)
+
+-- a step that changes nothing
+stays : (t b k : Octets) (at : ℕ) (wanted : Wanted) (answer : Answer) (old new : Tables) (s : State) → new ≡ old → view old t ≡ Some s → delete_object at b k wanted (view old t) ≡ Ok (answer, Some s) → GivesStep t (delete_object at b k wanted) answer old new
+stays t b k at wanted answer old new s same is gives = record {
+  gives = gives ∙ ap (λ v. Ok (answer, v)) (sym is ∙ ap (λ (x : Tables). view x t) (sym same));
+  others = λ u apart. ap (λ (x : Tables). view x u) same;
+  latest = ap latest_of same;
+}
+
+-- ---- a delete marker
+
+versioned_counts : (mode : BucketState) → mode ≢ Unversioned → (c : Counts) → after_delete mode Current c ≡ after_entry mode c
+versioned_counts Unversioned apart c = absurd (apart refl)
+versioned_counts Enabled apart c = refl
+versioned_counts Suspended apart c = refl
+
+versioned_answer : (mode : BucketState) → mode ≢ Unversioned → (next : ℕ) (l : List Entry) → removed mode Current next l ≡ Removed (Some (new_id mode next)) true
+versioned_answer Unversioned apart next l = absurd (apart refl)
+versioned_answer Enabled apart next l = refl
+versioned_answer Suspended apart next l = refl
+
+module _ (v : Option State) (b k : Octets) (at : ℕ) (mode : BucketState) (apart : mode ≢ Unversioned) (found : mode_in b v ≡ Ok mode) where
+  pub marks_no_numbers : (r : Refusal) → numbers_in mode v ≡ Err r → delete_object at b k Current v ≡ Err r
+  marks_no_numbers r none =
+      let h = has_bucket b v mode found in
+      delete_at b k at Current v mode h ∙ ap (made b k at Current h.state h.bucket mode) (versioned_counts mode apart (counts h.state) ∙ no_numbers v h.state mode r h.added none)
+
+module _ (old new : Tables) (t b k : Octets) (at : ℕ) (sound : IsSound old) where
+  pub marks : (mode : BucketState) (c after : Counts) → mode ≢ Unversioned → at ≤ latest_of old → IsKeyText k → mode_in b (view old t) ≡ Ok mode → numbers_in mode (view old t) ≡ Ok (c, after)
+      → new ≡ with_entry mode c after t b k at Marker old → Steps t b k at Current (Removed (Some (new_id mode c.version)) true) old new
+  marks mode c after apart early key found read e =
+      let h = has_bucket b (view old t) mode found in
+      let given = has_numbers (view old t) h.state mode c after h.added read in
+      let change = marker_put old new t h.state sound h.added b k h.bucket h.there at early key.key key.valid mode after h.its apart given.1 (e ∙ ap (λ (x : Counts). with_entry mode x after t b k at Marker old) (sym given.0)) in
+      subst (λ (x : Counts). Steps t b k at Current (Removed (Some (new_id mode x.version)) true) old new) given.0
+      (steps t b k at Current _ old new _ change (delete_at b k at Current (view old t) mode h ∙ ap (made b k at Current h.state h.bucket mode) (versioned_counts mode apart (counts h.state) ∙ given.1)
+      ∙ ap (λ a. Ok (a, Some (with_bucket b (with_entries k (deleted mode Current h.state.next_version at (listed k h.bucket)) h.bucket) (with_counts after h.state)))) (versioned_answer mode apart h.state.next_version (listed k h.bucket))))
+
+  -- ---- the version `null`, where versions were never kept
+
+  pub deletes_null : mode_in b (view old t) ≡ Ok Unversioned → new ≡ record old { versions = delete_where (is_version t b k 0) old.versions } → Steps t b k at Current (Removed None false) old new
+  deletes_null found e =
+      let h = has_bucket b (view old t) Unversioned found in
+      steps t b k at Current _ old new _ (null_removed old t h.state h.added b k h.bucket h.there new sound h.its e) (delete_at b k at Current (view old t) Unversioned h)
+
+  -- ---- by an id
+
+  module _ (mode : BucketState) (found : mode_in b (view old t) ≡ Ok mode) where
+    abbrev bucket : HasBucket b (view old t) mode
+    bucket = has_bucket b (view old t) mode found
+
+    named_counts : (m : BucketState) (id : VersionId) (c : Counts) → after_delete m (Named id) c ≡ Ok c
+    named_counts Unversioned id c = refl
+    named_counts Enabled id c = refl
+    named_counts Suspended id c = refl
+
+    unknown_counts : (m : BucketState) (c : Counts) → after_delete m Unknown c ≡ Ok c
+    unknown_counts Unversioned c = refl
+    unknown_counts Enabled c = refl
+    unknown_counts Suspended c = refl
+
+    named_at : (id : VersionId) → delete_object at b k (Named id) (view old t)
+        ≡ Ok (removed_named mode (option_map entry_of (wanted_row t b k (Named id) old.versions)), Some (with_bucket b (with_entries k (deleted mode (Named id) bucket.state.next_version at (listed k bucket.bucket)) bucket.bucket) bucket.state))
+    named_at id = delete_at b k at (Named id) (view old t) mode bucket ∙ ap (made b k at (Named id) bucket.state bucket.bucket mode) (named_counts mode id (counts bucket.state))
+        ∙ ap (λ o. Ok (removed_named mode o, Some (with_bucket b (with_entries k (deleted mode (Named id) bucket.state.next_version at (listed k bucket.bucket)) bucket.bucket) bucket.state)))
+        (named_entry old t sound b k bucket.state bucket.added bucket.bucket bucket.there id)
+
+    -- an id that is not there
+    pub deletes_nothing : (id : VersionId) → wanted_row t b k (Named id) old.versions ≡ None → new ≡ old → GivesStep t (delete_object at b k (Named id)) (Removed None false) old new
+    deletes_nothing id none same =
+        let missing : find (has_id id) (listed k bucket.bucket) ≡ None = named_entry old t sound b k bucket.state bucket.added bucket.bucket bucket.there id ∙ ap (option_map entry_of) none in
+        stays t b k at (Named id) _ old new bucket.state same bucket.added (named_at id ∙ ap (λ o. Ok (removed_named mode (option_map entry_of o), Some (with_bucket b (with_entries k (deleted mode (Named id) bucket.state.next_version at (listed k bucket.bucket)) bucket.bucket) bucket.state))) none
+        ∙ ap (λ (s : State). Ok (Removed None false, Some s)) (nothing_removed old t bucket.state bucket.added b k bucket.bucket bucket.there id missing))
+
+    pub deletes_no_number : (id : VersionId) → ((n : ℕ) → n < 2 ^ 62 → id_of n ≢ id) → new ≡ old → GivesStep t (delete_object at b k (Named id)) (Removed None false) old new
+    deletes_no_number id none = deletes_nothing id (no_row old t sound b k id none)
+
+    pub deletes_unknown : new ≡ old → GivesStep t (delete_object at b k Unknown) (Removed None false) old new
+    deletes_unknown same = stays t b k at Unknown _ old new bucket.state same bucket.added (delete_at b k at Unknown (view old t) mode bucket ∙ ap (made b k at Unknown bucket.state bucket.bucket mode) (unknown_counts mode (counts bucket.state))
+        ∙ ap (λ (s : State). Ok (Removed None false, Some s)) (entries_same old t bucket.state bucket.added b k bucket.bucket bucket.there))
+
+    -- an entry that is there
+    module _ (id : VersionId) (n : ℕ) (number : id_of n ≡ id) where
+      numbered_row : wanted_row t b k (Named id) old.versions ≡ find (is_version t b k n) old.versions
+      numbered_row = ap (λ x. wanted_row t b k (Named x) old.versions) (sym number) ∙ named_row t b k n old.versions
+
+      pub deletes_absent : find (is_version t b k n) old.versions ≡ None → new ≡ old → GivesStep t (delete_object at b k (Named id)) (Removed None false) old new
+      deletes_absent none = deletes_nothing id (numbered_row ∙ none)
+
+      row_id : (row : VersionRow) → find (is_version t b k n) old.versions ≡ Some row → id_of row.id ≡ id
+      row_id row there =
+          let passes = first_passes (is_version t b k n) old.versions row (first_find (is_version t b k n) old.versions ∙ there) in
+          ap id_of ((numbers.decides row.id n).0 (and_parts _ _ (and_parts _ _ (and_parts _ _ passes).1).1).1) ∙ number
+
+      told : (row : VersionRow) → id_of row.id ≡ id → (marker : Bool) → (m : ℕ) → row.marker ≡ m → marker ≡ not (is_object (record { id = id_of row.id; moment = row.stamp; content = content_of m row }))
+          → removed_named mode (Some (entry_of row)) ≡ Removed (id_told mode id) marker
+      told row is marker m its right = (λ i. Removed (id_told mode (is i)) (not (is_object (record { id = id_of row.id; moment = row.stamp; content = content_of (its i) row })))) ∙ ap (λ a. Removed (id_told mode id) a) (sym right)
+
+      pub deletes_entry : (row : VersionRow) (marker : Bool) → find (is_version t b k n) old.versions ≡ Some row → marker ≡ not (is_object (entry_of row)) → new ≡ record old { versions = delete_where (is_version t b k n) old.versions }
+          → Steps t b k at (Named id) (Removed (id_told mode id) marker) old new
+      deletes_entry row marker there right e =
+          let change = version_removed old new t bucket.state sound bucket.added b k n bucket.bucket bucket.there e in
+          subst (λ (x : VersionId). Steps t b k at (Named x) (Removed (id_told mode id) marker) old new) number
+          (steps t b k at (Named (id_of n)) _ old new _ change (named_at (id_of n)
+          ∙ ap (λ o. Ok (removed_named mode (option_map entry_of o), Some (with_bucket b (with_entries k (deleted mode (Named (id_of n)) bucket.state.next_version at (listed k bucket.bucket)) bucket.bucket) bucket.state))) (named_row t b k n old.versions ∙ there)
+          ∙ ap (λ a. Ok (a, Some (with_bucket b (with_entries k (deleted mode (Named (id_of n)) bucket.state.next_version at (listed k bucket.bucket)) bucket.bucket) bucket.state))) (told row (row_id row there) marker row.marker refl right)))
