@@ -4,4 +4,4 @@ pub mod Creating
 pub mod Putting
 pub mod Getting
 pub mod Deleting
-pub mod Ids
+pub mod IdNumbers

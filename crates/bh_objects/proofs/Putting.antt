@@ -1,9 +1,9 @@
 -- PutObject: what was read, and the rows that were written, are the machine's step.
-use Rattle.std.proofs.Common.{◌≡◌, ℕ, ◌≤◌, true, false, is_ok, true≢false, Option, Some, None, option_map, ok_or, Result, Ok, Err, refl, sym, ap, ◌∙◌, subst}
+use Rattle.std.proofs.Common.{◌≡◌, ℕ, ◌≤◌, Bool, true, false, is_ok, true≢false, Option, Some, None, option_map, ok_or, Result, Ok, Err, refl, sym, ap, ◌∙◌, subst}
 use Rattle.std.specs.FinMap.{get}
 use Rattle.std.specs.Result.{result_map_both}
 use Rattle.bh_types.specs.Counts.{Counts}
-use Rattle.bh_types.specs.Outcomes.{◌>>=◌}
+use Rattle.bh_types.specs.Outcomes.{◌>>=◌, require}
 use Rattle.bh_types.specs.declared.bucket_state.BucketState.{BucketState}
 use Rattle.bh_types.specs.declared.refusal.Refusal.{Refusal}
 use Rattle.bh_types.specs.declared.refusal.Refusal.TheVariants.{NoSuchBucket, BadDigest}
@@ -18,7 +18,7 @@ use Rattle.bh_view.specs.View.{view, latest_of, limits_in}
 use Rattle.bh_view.specs.Sound.{IsSound}
 use Rattle.bh_view.proofs.PutLemmas.{object_put}
 use Rattle.bh_storage.specs.Calls.{GivesStep}
-use Rattle.bh_objects.specs.Found.{mode_in, numbers_in, IsKeyText, with_entry}
+use Rattle.bh_objects.specs.Found.{mode_in, numbers_in, sum_given, IsKeyText, with_entry}
 
 -- the tenant's bucket of a name, whose state was read
 pub record HasBucket (name : Octets) (v : Option State) (mode : BucketState) : Type 0 where
@@ -67,6 +67,14 @@ no_numbers v s mode r is e = go (after_entry mode (counts s)) refl (ap (numbers_
     go : (x : Result Counts Refusal) → after_entry mode (counts s) ≡ x → (x >>= (λ a. Ok (counts s, a))) ≡ Err r → after_entry mode (counts s) ≡ Err r
     go (Ok a) given e = absurd (true≢false (ap is_ok e))
     go (Err q) given e = given ∙ ap (λ y. Err (err_value y r)) e
+
+-- the sum that was given, if one was, is right
+pub sum_right : (given : Option Octets) (bytes text : Octets) → sum_given given bytes ≡ Ok text → is_checksum given bytes ≡ true
+sum_right given bytes text e = go (is_checksum given bytes) e
+  where
+    go : (right : Bool) → (require right BadDigest >>= (λ _. Ok (checksum_text bytes))) ≡ Ok text → right ≡ true
+    go true e = refl
+    go false e = absurd (true≢false (sym (ap is_ok e)))
 
 module _ (v : Option State) (b k : Octets) (at : ℕ) (bytes : Octets) (given : Option Octets) where
   pub puts_nowhere : (r : Refusal) → mode_in b v ≡ Err r → put_object at b k bytes given v ≡ Err r
