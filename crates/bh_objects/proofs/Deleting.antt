@@ -3,6 +3,7 @@ use Rattle.std.proofs.Common.{◌≡◌, ◌≢◌, ℕ, zero, suc, ◌<◌, ◌
 use Rattle.std.specs.FinMap.{get}
 use Rattle.std.proofs.lemmas.Bool.{and_parts}
 use Rattle.sqlite_keyed.specs.Lists.{delete_where}
+use Rattle.sqlite_typed.specs.Tests.{bytes_eq}
 use Rattle.bh_types.specs.Counts.{Counts}
 use Rattle.bh_types.specs.Outcomes.{◌>>=◌}
 use Rattle.bh_types.specs.declared.bucket_state.BucketState.{BucketState}
@@ -18,6 +19,7 @@ use Rattle.bh_model.specs.Operations.{Answer, Outcome, Removed, id_told, listed,
 use Rattle.bh_tables.specs.Typed.{Tables, VersionRow}
 use Rattle.bh_tables.specs.Shown.{is_version}
 use Rattle.bh_view.specs.Becomes.{Becomes}
+use Rattle.bh_view.specs.Grouped.{same_number}
 use Rattle.bh_view.specs.View.{view, latest_of, limits_in, entry_of, content_of, id_of}
 use Rattle.bh_view.specs.Sound.{IsSound}
 use Rattle.bh_view.specs.Wanted.{wanted_row}
@@ -145,7 +147,9 @@ module _ (old new : Tables) (t b k : Octets) (at : ℕ) (sound : IsSound old) wh
       row_id : (row : VersionRow) → find (is_version t b k n) old.versions ≡ Some row → id_of row.id ≡ id
       row_id row there =
           let passes = first_passes (is_version t b k n) old.versions row (first_find (is_version t b k n) old.versions ∙ there) in
-          ap id_of ((numbers.decides row.id n).0 (and_parts _ _ (and_parts _ _ (and_parts _ _ passes).1).1).1) ∙ number
+          let in_bucket = and_parts (bytes_eq row.tenant t) (bytes_eq row.bucket b && (bytes_eq row.okey k && same_number row.id n)) passes in
+          let in_key = and_parts (bytes_eq row.bucket b) (bytes_eq row.okey k && same_number row.id n) in_bucket.1 in
+          ap id_of ((numbers.decides row.id n).0 (and_parts (bytes_eq row.okey k) (same_number row.id n) in_key.1).1) ∙ number
 
       told : (row : VersionRow) → id_of row.id ≡ id → (marker : Bool) → (m : ℕ) → row.marker ≡ m → marker ≡ not (is_object (record { id = id_of row.id; moment = row.stamp; content = content_of m row }))
           → removed_named mode (Some (entry_of row)) ≡ Removed (id_told mode id) marker

@@ -56,7 +56,7 @@ no_bucket name v r e = go (tenant_bucket name v) e
 pub has_numbers : (v : Option State) (s : State) (mode : BucketState) (before after : Counts) → v ≡ Some s → numbers_in mode v ≡ Ok (before, after) → (counts s ≡ before) × (after_entry mode (counts s) ≡ Ok after)
 has_numbers v s mode before after is e = go (after_entry mode (counts s)) refl (ap (numbers_in mode) (sym is) ∙ e)
   where
-    go : (x : Result Counts Refusal) → after_entry mode (counts s) ≡ x → (x >>= (λ a. Ok (counts s, a))) ≡ Ok (before, after) → (counts s ≡ before) × (after_entry mode (counts s) ≡ Ok after)
+    go : (x : Result Counts Refusal) → after_entry mode (counts s) ≡ x → ◌>>=◌ {B = Counts × Counts} x (λ a. Ok (counts s, a)) ≡ Ok (before, after) → (counts s ≡ before) × (after_entry mode (counts s) ≡ Ok after)
     go (Ok a) given e = (ap (λ r. (ok_value r (before, after)).0) e, given ∙ ap (λ r. Ok ((ok_value r (before, after)).1)) e)
     go (Err q) given e = absurd (true≢false (sym (ap is_ok e)))
 
@@ -64,7 +64,7 @@ has_numbers v s mode before after is e = go (after_entry mode (counts s)) refl (
 pub no_numbers : (v : Option State) (s : State) (mode : BucketState) (r : Refusal) → v ≡ Some s → numbers_in mode v ≡ Err r → after_entry mode (counts s) ≡ Err r
 no_numbers v s mode r is e = go (after_entry mode (counts s)) refl (ap (numbers_in mode) (sym is) ∙ e)
   where
-    go : (x : Result Counts Refusal) → after_entry mode (counts s) ≡ x → (x >>= (λ a. Ok (counts s, a))) ≡ Err r → after_entry mode (counts s) ≡ Err r
+    go : (x : Result Counts Refusal) → after_entry mode (counts s) ≡ x → ◌>>=◌ {B = Counts × Counts} x (λ a. Ok (counts s, a)) ≡ Err r → after_entry mode (counts s) ≡ Err r
     go (Ok a) given e = absurd (true≢false (ap is_ok e))
     go (Err q) given e = given ∙ ap (λ y. Err (err_value y r)) e
 
