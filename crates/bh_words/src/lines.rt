@@ -1,0 +1,75 @@
+use bh_types::limits::{Limits, Tuning};
+
+/// Where an access key's secret is.
+#[derive(Drop)]
+pub enum SecretGiven {
+    /// The word itself.
+    Word(String),
+    /// The first line of standard input: the word was `-`.
+    StandardInput,
+}
+
+/// What a command line asks for: a subcommand and its options.
+///
+/// Names, secrets and quotas are as they were given: whether they are in their ranges is the host's
+/// to say. A moment `at` is a reading of the clock in seconds since 1970; without one, it is the
+/// machine's clock that is read.
+#[derive(Drop)]
+pub enum Line {
+    /// Events from standard input, applied to a new host in memory.
+    Script { limits: Limits, tuning: Tuning },
+    /// A new host in a file.
+    Init { file: String, limits: Limits },
+    /// A tenant with a quota in bytes.
+    TenantAdd {
+        file: String,
+        tenant: String,
+        quota: u64,
+        at: Option<u64>,
+    },
+    /// Another quota for a tenant, in bytes.
+    Quota {
+        file: String,
+        tenant: String,
+        quota: u64,
+        at: Option<u64>,
+    },
+    /// An access key of a tenant.
+    KeyAdd {
+        file: String,
+        tenant: String,
+        name: String,
+        secret: SecretGiven,
+        at: Option<u64>,
+    },
+    /// An access key of a tenant goes.
+    KeyRemove {
+        file: String,
+        tenant: String,
+        name: String,
+        at: Option<u64>,
+    },
+    /// How many bytes a tenant uses.
+    Usage {
+        file: String,
+        tenant: String,
+        at: Option<u64>,
+    },
+    /// How many blocks are stored, and what refers to them.
+    Report { file: String, at: Option<u64> },
+    /// At most `limit` stale uploads and unreferenced blocks go.
+    Sweep {
+        file: String,
+        limit: u32,
+        at: Option<u64>,
+    },
+    /// `count` connections on a port of 127.0.0.1 are served, each read and written within `timeout`
+    /// seconds.
+    Serve {
+        file: String,
+        port: u16,
+        count: u64,
+        timeout: u64,
+        tuning: Tuning,
+    },
+}
