@@ -53,8 +53,8 @@ pub fn create<S: Alter + Drop, D: Digester + Drop>(
     ensures refused { IfErr result (λ e. e.refusal ≡ refusal.NotAHostFile
         → (e.connection ≡ connection) × ¬ IsEmpty (state S.Store connection)) }
     ensures failed { IfErr result (λ e. e.refusal ≢ refusal.NotAHostFile → (e.refusal ≡ refusal.Unavailable)
-        × IsEmpty (state S.Store connection) × Follows (state S.Store connection) (state S.Store e.connection)
-        × (IsClean (state S.Store e.connection)
+        × IsEmpty (state S.Store connection) × KeepsDisk (state S.Store connection) (state S.Store e.connection)
+        × (IsStateClean (state S.Store e.connection)
         → standing (state S.Store e.connection) ≡ taken_back (standing (state S.Store connection)))) }
     ensures cause { IfErr result (λ e. (e.refusal ≡ refusal.Unavailable) ↔ IsSome e.cause) }
     ensures trouble { IfErr result (λ e. IfSome e.cause (λ cause. IsIntact (state S.Store e.connection)
