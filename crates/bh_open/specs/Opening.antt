@@ -1,5 +1,5 @@
 -- What an open finds in a database.
-use Rattle.std.specs.Prelude.{◌≡◌, false, List, [], ◌∷◌, Option, Some, None}
+use Rattle.std.specs.Prelude.{◌≡◌, false, List, [], ◌∷◌, Option, MatchOption}
 use Rattle.sqlite.specs.Order.{Row}
 use Rattle.sqlite.specs.Effect.{Database}
 use Rattle.sqlite.specs.State.{State}
@@ -26,10 +26,9 @@ shown_row h = number h.version ∷ number h.min_part ∷ number h.max_body ∷ [
 
 -- ---- the calls of an open
 
--- what was read tells a host's row in the database, or that it has none
-abbrev pub Reads : Database → Option HostLimits → Type 0
-Reads db None = (limits : HostLimits) → ¬ IsRowOf limits (tables_in db).host
-Reads db (Some limits) = IsRowOf limits (tables_in db).host
+-- what was read of these rows: the limits of a host of this version, or that they are none's
+abbrev pub Reads : List HostRow → Option HostLimits → Type 0
+Reads rows found = MatchOption found ((limits : HostLimits) → ¬ IsRowOf limits rows) (λ limits. IsRowOf limits rows)
 
 -- no transaction is open, and what stands was committed
 pub record IsSettled (s : State) : Type 0 where

@@ -1,4 +1,4 @@
-ghost use Rattle.std.specs.Prelude.{◌≡◌, ◌≢◌, ◌↔◌, true, false, None, IsTrue, IsSome, IfSome, IfOk, IfErr, MatchOption};
+ghost use Rattle.std.specs.Prelude.{◌≡◌, ◌≢◌, ◌↔◌, true, false, None, IsTrue, IsSome, IfSome, IfOk, IfErr};
 ghost use Rattle.sqlite.specs.Held.{state};
 ghost use Rattle.bh_types.specs.Limits.{HostLimits};
 ghost use Rattle.bh_types.specs.declared.refusal.Refusal.TheVariants as refusal;
@@ -7,10 +7,10 @@ ghost use Rattle.bh_tables.specs.Schema.{host_schema};
 ghost use Rattle.bh_tables.specs.Typed.{IsHost};
 ghost use Rattle.bh_view.specs.Sound.{IsSound};
 ghost use Rattle.bh_storage.specs.Calls.{IsAtRest};
-ghost use Rattle.bh_schema.specs.Connections.{IsIntact, IsOpen, IsClean, stands};
+ghost use Rattle.bh_schema.specs.Connections.{IsIntact, IsOpen, IsClean, stands, tables};
 ghost use Rattle.bh_schema.specs.Layer.{taken_back, KeepsDisk, LeavesNothingNew};
 ghost use Rattle.bh_schema.specs.Storage.{seen_in};
-ghost use Rattle.bh_open.specs.Opening.{IsHostOf, IsRowOf, IsSettled, IsKept, Reads};
+ghost use Rattle.bh_open.specs.Opening.{IsHostOf, IsSettled, IsKept, Reads};
 
 use crate::row::{host_rows, limits_in};
 use crate::tables::is_hosts;
@@ -40,7 +40,7 @@ fn read_host<S: Alter>(connection: &mut Connection<S>) -> Result<Option<Limits>,
     requires schema { (stands S.Store connection.old).now.schema ≡ host_schema }
     ensures kept { IsKept (state S.Store connection.old) (state S.Store connection.new) }
     ensures read { IfOk result (λ found. IsClean S.Store connection.new → IsHost (stands S.Store connection.old).now
-        → Reads (stands S.Store connection.old).now found) }
+        → Reads (tables S.Store connection.old).host found) }
     ensures trouble { IfErr result (λ e. IsIntact S.Store connection.new → (stands S.Store connection.old).limit ≡ None
         → (stands S.Store connection.old).inside ≡ false → IsHost (stands S.Store connection.old).now → is_trouble e ≡ true) }
 {
@@ -58,7 +58,7 @@ fn find_host<S: Alter>(
     ensures settled { IfOk result (λ found. IsSettled (state S.Store connection.old)) }
     ensures schema { IfOk result (λ found. IsSome found → (stands S.Store connection.old).now.schema ≡ host_schema) }
     ensures read { IfOk result (λ found. IsClean S.Store connection.new → IsHost (stands S.Store connection.old).now
-        → Reads (stands S.Store connection.old).now found) }
+        → Reads (tables S.Store connection.old).host found) }
     ensures trouble { IfErr result (λ e. IsIntact S.Store connection.new → (stands S.Store connection.old).limit ≡ None
         → (stands S.Store connection.old).inside ≡ false → IsHost (stands S.Store connection.old).now → is_trouble e ≡ true) }
 {
@@ -110,22 +110,24 @@ pub fn open_host<S: Alter + Drop, D: Digester + Drop>(
     let mut connection = connection;
     let found = find_host(alloc, &mut connection);
     take_back(&mut connection);
-    let (refusal, cause) = match found {
-        Ok(Some(limits)) => {
-            return Ok(Host {
-                connection,
-                digester,
-                limits,
-                tuning,
-            });
-        }
-        Ok(None) => (Refusal::NotAHostFile, None),
-        Err(error) => (Refusal::Unavailable, Some(error)),
-    };
-    Err(OpenError {
-        refusal,
-        cause,
-        connection,
-        digester,
-    })
+    match found {
+        Ok(Some(limits)) => Ok(Host {
+            connection,
+            digester,
+            limits,
+            tuning,
+        }),
+        Ok(None) => Err(OpenError {
+            refusal: Refusal::NotAHostFile,
+            cause: None,
+            connection,
+            digester,
+        }),
+        Err(error) => Err(OpenError {
+            refusal: Refusal::Unavailable,
+            cause: Some(error),
+            connection,
+            digester,
+        }),
+    }
 }

@@ -1,39 +1,46 @@
-ghost use Rattle.std.specs.Prelude.{◌≡◌, true, map, None, IfOk, IfErr, OnOk, MatchOption};
+ghost use Rattle.std.specs.Prelude.{◌≡◌, true, map, [], ◌∷◌, None, IfOk, IfErr, OnOk};
 ghost use Rattle.sqlite.specs.Held.{state};
 ghost use Rattle.bh_rows.specs.Means.{is_trouble};
-ghost use Rattle.bh_types.specs.Limits.{HostLimits};
 ghost use Rattle.bh_tables.specs.Schema.{host_schema};
 ghost use Rattle.bh_tables.specs.Typed.{HostRow as Stored, IsHost};
 ghost use Rattle.bh_schema.specs.Connections.{IsClean, stands, tables, StaysWithin, WasOpen, ChangesNothing, IsTrouble};
-ghost use Rattle.bh_open.specs.Opening.{shown_row, IsRowOf};
+ghost use Rattle.bh_open.specs.Opening.{shown_row, Reads};
 
 use bh_types::limits::Limits;
 use sqlite::{Alter, Connection, Error, Row};
 
-/// The limits in the host's row, unless it is of another version or out of range.
-fn read_limits(row: &Row) -> Result<Option<Limits>, Error>
-    ensures read { IfOk result (λ found. (h : Stored) → row.now ≡ shown_row h
-        → MatchOption found ((limits : HostLimits) → ¬ IsRowOf limits (h ∷ [])) (λ limits. IsRowOf limits (h ∷ []))) }
-    ensures trouble { IfErr result (λ e. (h : Stored) → row.now ≡ shown_row h → is_trouble e ≡ true) }
+#[tactic(auto, using(crate::proofs::Rows::other_version, crate::proofs::Rows::out_of_range, crate::proofs::Rows::in_range))]
+/// The limits, if the version is this one and they are in their ranges.
+fn limits_of(version: u64, min_part: u64, max_body: u64) -> Option<Limits>
+    ensures { (h : Stored) → h.version ≡ version → h.min_part ≡ min_part → h.max_body ≡ max_body → Reads (h ∷ []) result }
 {
-    let version: u64 = row.get(0)?;
-    let min_part: u64 = row.get(1)?;
-    let max_body: u64 = row.get(2)?;
-    if version != 0 {
-        return Ok(None);
+    if version == 0 {
+        Limits::new(min_part, max_body)
+    } else {
+        None
     }
-    Ok(Limits::new(min_part, max_body))
 }
 
+/// The limits in the host's row, if it is of this version and they are in their ranges.
+fn read_limits(row: &Row) -> Result<Option<Limits>, Error>
+    ensures read { IfOk result (λ found. (h : Stored) → row.now ≡ shown_row h → Reads (h ∷ []) found) }
+    ensures trouble { IfErr result (λ e. (h : Stored) → row.now ≡ shown_row h → is_trouble e ≡ true) }
+{
+    Ok(limits_of(row.get(0)?, row.get(1)?, row.get(2)?))
+}
+
+#[tactic(auto, using(crate::proofs::Rows::not_sole))]
 /// The limits of a host, if these rows are the one row of a host of this version.
 pub fn limits_in(rows: &[Row]) -> Result<Option<Limits>, Error>
-    ensures read { IfOk result (λ found. (hosts : _) → rows.now ≡ map shown_row hosts
-        → MatchOption found ((limits : HostLimits) → ¬ IsRowOf limits hosts) (λ limits. IsRowOf limits hosts)) }
+    ensures read { IfOk result (λ found. (hosts : _) → rows.now ≡ map shown_row hosts → Reads hosts found) }
     ensures trouble { IfErr result (λ e. (hosts : _) → rows.now ≡ map shown_row hosts → is_trouble e ≡ true) }
 {
-    match rows {
-        [row] => read_limits(row),
-        _ => Ok(None),
+    if rows.len() != 1 {
+        return Ok(None);
+    }
+    match rows.first() {
+        Some(row) => read_limits(row),
+        None => Ok(None),
     }
 }
 
