@@ -1,5 +1,10 @@
+ghost use Rattle.std.specs.Prelude.{◌≡◌, ◌↔◌, ◌⊎◌, IsTrue};
+ghost use Rattle.clap.specs.Words.{kind_of};
+ghost use Rattle.clap.specs.declared.error.kind.ErrorKind.TheVariants as kind;
+
 use clap::Error;
 use clap::error::ErrorKind;
+use std::alloc::AllocError;
 use std::fmt;
 
 /// Why words are no line: a mistake in them, a request for help, or want of memory.
@@ -12,7 +17,10 @@ pub struct LineFault {
 
 impl LineFault {
     /// Whether the text is a help text: the words asked for one, or named no subcommand.
-    pub fn is_help(&self) -> bool {
+    pub fn is_help(&self) -> bool
+        ensures { IsTrue result ↔ ((kind_of self.now.error ≡ kind.DisplayHelp)
+            ⊎ (kind_of self.now.error ≡ kind.DisplayHelpOnMissingArgumentOrSubcommand)) }
+    {
         matches!(
             self.error.kind(),
             ErrorKind::DisplayHelp | ErrorKind::DisplayHelpOnMissingArgumentOrSubcommand
@@ -20,7 +28,9 @@ impl LineFault {
     }
 
     /// Whether memory ran out, so that nothing is known of the words.
-    pub fn is_memory(&self) -> bool {
+    pub fn is_memory(&self) -> bool
+        ensures { IsTrue result ↔ (kind_of self.now.error ≡ kind.OutOfMemory) }
+    {
         self.error.kind() == ErrorKind::OutOfMemory
     }
 }
@@ -28,5 +38,29 @@ impl LineFault {
 impl fmt::Display for LineFault {
     fn fmt<W: fmt::Write>(&self, f: &mut fmt::Formatter<W>) -> fmt::Result {
         self.error.fmt(f)
+    }
+}
+
+impl From<Error> for LineFault {
+    ghost use Rattle.std.specs.Prelude.{◌≡◌};
+
+    ghost from_gives = { λ error fault. fault.error ≡ error };
+
+    fn from(error: Error) -> LineFault {
+        LineFault { error }
+    }
+}
+
+impl From<AllocError> for LineFault {
+    ghost use Rattle.std.specs.Prelude.{◌≡◌};
+    ghost use Rattle.clap.specs.Words.{kind_of};
+    ghost use Rattle.clap.specs.declared.error.kind.ErrorKind.TheVariants.{OutOfMemory};
+
+    ghost from_gives = { λ _ fault. kind_of fault.error ≡ OutOfMemory };
+
+    fn from(error: AllocError) -> LineFault {
+        LineFault {
+            error: Error::from(error),
+        }
     }
 }

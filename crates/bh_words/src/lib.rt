@@ -1,8 +1,15 @@
 //! The words of the command line.
 #![tactic(auto)]
 
+mod command;
 mod fault;
+mod given;
 mod lines;
+mod options;
+mod read;
+mod readings;
+mod subcommands;
 
 pub use fault::LineFault;
 pub use lines::{Line, SecretGiven};
+pub use read::read_words;

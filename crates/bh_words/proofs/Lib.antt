@@ -1,0 +1,4 @@
+mod Commands
+mod Numbers
+mod Rows
+mod Texts

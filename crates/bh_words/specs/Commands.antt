@@ -1,0 +1,60 @@
+-- The program's subcommands, as `clap` describes them.
+use Rattle.std.specs.Prelude.{List, [], ◌∷◌, codes, map, fold, true, false}
+use Rattle.clap.specs.Words.{App, Shape, Text, with_rule, with_subcommand}
+use Rattle.clap.specs.Simple.{new_shape}
+use Rattle.bh_words.specs.Options.{rule}
+use Rattle.bh_words.specs.declared.options.OptionName.{OptionName}
+use Rattle.bh_words.specs.declared.options.OptionName.TheVariants.{File, Tenant, Name, Secret, Quota, At, Limit, Port, Count, Timeout, MinPart, MaxBody, BlockSize, CacheBlocks}
+use Rattle.bh_words.specs.declared.subcommands.Subcommand.{Subcommand}
+use Rattle.bh_words.specs.declared.subcommands.Subcommand.TheVariants as subcommand
+
+abbrev pub word : Subcommand → Text
+word subcommand.Script = codes "script"
+word subcommand.Init = codes "init"
+word subcommand.TenantAdd = codes "tenant-add"
+word subcommand.Quota = codes "quota"
+word subcommand.KeyAdd = codes "key-add"
+word subcommand.KeyRemove = codes "key-remove"
+word subcommand.Usage = codes "usage"
+word subcommand.Report = codes "report"
+word subcommand.Sweep = codes "sweep"
+word subcommand.Serve = codes "serve"
+
+-- each subcommand's options
+abbrev pub options : Subcommand → List OptionName
+options subcommand.Script = BlockSize ∷ MinPart ∷ MaxBody ∷ CacheBlocks ∷ []
+options subcommand.Init = File ∷ MinPart ∷ MaxBody ∷ []
+options subcommand.TenantAdd = File ∷ Tenant ∷ Quota ∷ At ∷ []
+options subcommand.Quota = File ∷ Tenant ∷ Quota ∷ At ∷ []
+options subcommand.KeyAdd = File ∷ Tenant ∷ Name ∷ Secret ∷ At ∷ []
+options subcommand.KeyRemove = File ∷ Tenant ∷ Name ∷ At ∷ []
+options subcommand.Usage = File ∷ Tenant ∷ At ∷ []
+options subcommand.Report = File ∷ At ∷ []
+options subcommand.Sweep = File ∷ Limit ∷ At ∷ []
+options subcommand.Serve = File ∷ Port ∷ Count ∷ Timeout ∷ BlockSize ∷ CacheBlocks ∷ []
+
+abbrev pub subcommands : List Subcommand
+subcommands = subcommand.Script ∷ subcommand.Init ∷ subcommand.TenantAdd ∷ subcommand.Quota ∷ subcommand.KeyAdd
+    ∷ subcommand.KeyRemove ∷ subcommand.Usage ∷ subcommand.Report ∷ subcommand.Sweep ∷ subcommand.Serve ∷ []
+
+-- a command of these options
+abbrev pub shape : Text → List OptionName → Shape
+shape name chosen = record (new_shape name) { rules = map rule chosen }
+
+-- a command with one more option each, and with one more subcommand each
+abbrev pub with_options : App → List OptionName → App
+with_options = fold (λ a o. with_rule a (rule o))
+
+abbrev pub with_subcommands : App → List Subcommand → App
+with_subcommands = fold (λ a s. with_subcommand a (shape (word s) (options s)))
+
+-- the program's command: one of the subcommands has to be named, and without any word it shows its help
+abbrev pub the_command : App
+the_command = record {
+  top = record (new_shape (codes "bucketd")) {
+    is_leaf = false;
+    arg_required_else_help = true;
+    subcommand_required = true;
+  };
+  subs = map (λ s. shape (word s) (options s)) subcommands;
+}

@@ -1,0 +1,45 @@
+-- What a command line asks for, as contracts see it.
+use Rattle.std.specs.Prelude.{ℕ, List, Option}
+use Rattle.std.specs.String.{string_bytes}
+use Rattle.bh_types.specs.Limits.{HostLimits, HostTuning}
+use Rattle.bh_words.specs.declared.lines.Line.{Line}
+use Rattle.bh_words.specs.declared.lines.Line.TheVariants as line
+use Rattle.bh_words.specs.declared.lines.SecretGiven.{SecretGiven}
+use Rattle.bh_words.specs.declared.lines.SecretGiven.TheVariants as given
+
+abbrev pub Octets : Type 0
+Octets = List ℕ
+
+-- a secret as a word, or on standard input
+pub data Secret : Type 0 where
+  Written : (secret : Octets) → Secret
+  FromInput : Secret
+
+-- a subcommand with its values; `at` is the reading of the clock, where one was given
+pub data Told : Type 0 where
+  Script : (limits : HostLimits) (tuning : HostTuning) → Told
+  Init : (file : Octets) (limits : HostLimits) → Told
+  TenantAdd : (file : Octets) (tenant : Octets) (quota : ℕ) (at : Option ℕ) → Told
+  Quota : (file : Octets) (tenant : Octets) (quota : ℕ) (at : Option ℕ) → Told
+  KeyAdd : (file : Octets) (tenant : Octets) (name : Octets) (secret : Secret) (at : Option ℕ) → Told
+  KeyRemove : (file : Octets) (tenant : Octets) (name : Octets) (at : Option ℕ) → Told
+  Usage : (file : Octets) (tenant : Octets) (at : Option ℕ) → Told
+  Report : (file : Octets) (at : Option ℕ) → Told
+  Sweep : (file : Octets) (limit : ℕ) (at : Option ℕ) → Told
+  Serve : (file : Octets) (port : ℕ) (count : ℕ) (timeout : ℕ) (tuning : HostTuning) → Told
+
+abbrev pub secret : SecretGiven → Secret
+secret (given.Word text) = Written (string_bytes text)
+secret given.StandardInput = FromInput
+
+abbrev pub told : Line → Told
+told (line.Script limits tuning) = Script limits tuning
+told (line.Init file limits) = Init (string_bytes file) limits
+told (line.TenantAdd file tenant quota at) = TenantAdd (string_bytes file) (string_bytes tenant) quota at
+told (line.Quota file tenant quota at) = Quota (string_bytes file) (string_bytes tenant) quota at
+told (line.KeyAdd file tenant name s at) = KeyAdd (string_bytes file) (string_bytes tenant) (string_bytes name) (secret s) at
+told (line.KeyRemove file tenant name at) = KeyRemove (string_bytes file) (string_bytes tenant) (string_bytes name) at
+told (line.Usage file tenant at) = Usage (string_bytes file) (string_bytes tenant) at
+told (line.Report file at) = Report (string_bytes file) at
+told (line.Sweep file limit at) = Sweep (string_bytes file) limit at
+told (line.Serve file port count timeout tuning) = Serve (string_bytes file) port count timeout tuning

@@ -1,0 +1,64 @@
+-- The options of the subcommands, as `clap` describes them: each has one value.
+use Rattle.std.specs.Prelude.{ℕ, ◌-◌, ◌^◌, List, [], ◌∷◌, codes, decimal, true, Option, Some, None}
+use Rattle.clap.specs.Words.{Rule, Text, new_rule}
+use Rattle.clap.specs.declared.builder.value_parser.ValueParser.{ValueParser}
+use Rattle.clap.specs.declared.builder.value_parser.ValueParser.TheVariants.{Unsigned}
+use Rattle.bh_types.specs.Limits.{default_limits, default_tuning}
+use Rattle.bh_words.specs.declared.options.OptionName.{OptionName}
+use Rattle.bh_words.specs.declared.options.OptionName.TheVariants.{File, Tenant, Name, Secret, Quota, At, Limit, Port, Count, Timeout, MinPart, MaxBody, BlockSize, CacheBlocks}
+
+-- an option is written `--word value` or `--word=value`
+abbrev pub word : OptionName → Text
+word File = codes "file"
+word Tenant = codes "tenant"
+word Name = codes "name"
+word Secret = codes "secret"
+word Quota = codes "quota"
+word At = codes "at"
+word Limit = codes "limit"
+word Port = codes "port"
+word Count = codes "count"
+word Timeout = codes "timeout"
+word MinPart = codes "min-part"
+word MaxBody = codes "max-body"
+word BlockSize = codes "block-size"
+word CacheBlocks = codes "cache-blocks"
+
+abbrev pub described : OptionName → Rule
+described o = record (new_rule (word o)) { long = Some (word o) }
+
+-- the option may not be missing
+abbrev pub required : Rule → Rule
+required a = record a { required = true }
+
+-- the value is any text
+abbrev pub text : OptionName → Rule
+text o = required (described o)
+
+-- the value is a number from `least` to `most` in decimal digits
+abbrev pub number : OptionName → ℕ → ℕ → Rule
+number o least most = record (described o) { parser = Some (Unsigned least most) }
+
+-- a missing option has this value
+abbrev pub preset : ℕ → Rule → Rule
+preset value a = record a { defaults = decimal value ∷ [] }
+
+-- the greatest number of 64 bits
+abbrev pub greatest : ℕ
+greatest = 2 ^ 64 - 1
+
+abbrev pub rule : OptionName → Rule
+rule File = text File
+rule Tenant = text Tenant
+rule Name = text Name
+rule Secret = text Secret
+rule Quota = required (number Quota 0 greatest)
+rule At = number At 0 greatest
+rule Limit = required (number Limit 0 4_294_967_295)
+rule Port = required (number Port 0 65_535)
+rule Count = required (number Count 0 greatest)
+rule Timeout = preset 30 (number Timeout 1 3_600)
+rule MinPart = preset default_limits.min_part (number MinPart 0 (2 ^ 30))
+rule MaxBody = preset default_limits.max_body (number MaxBody 1 (2 ^ 30))
+rule BlockSize = preset default_tuning.block_size (number BlockSize 1 1_048_576)
+rule CacheBlocks = preset default_tuning.cache_blocks (number CacheBlocks 0 65_536)

@@ -1,0 +1,184 @@
+-- The line that the matches of a command line tell.
+use Rattle.std.specs.Prelude.{◌≡◌, ℕ, ◌^◌, ◌&&◌, List, codes, find, nat_le, nat_lt, Option, Some, None, Result, Ok, Err, if◌then◌else◌}
+use Rattle.std.specs.Str.{bytes_eq}
+use Rattle.std.specs.Str.Parse.{digits_value, without_leading_plus}
+use Rattle.clap.specs.Words.{Kinds, Row, Text, fault_of, first_of, found_of, rows_of, subcommand_of}
+use Rattle.clap.specs.ValueTests.{is_numeral}
+use Rattle.clap.specs.declared.parser.matches.ArgMatches.{ArgMatches}
+use Rattle.bh_types.specs.Limits.{HostLimits, HostTuning}
+use Rattle.bh_words.specs.Commands.{subcommands, the_command}
+use Rattle.bh_words.specs.Commands as commands
+use Rattle.bh_words.specs.Lines.{Secret, Written, FromInput, Told}
+use Rattle.bh_words.specs.Lines as line
+use Rattle.bh_words.specs.Options.{word}
+use Rattle.bh_words.specs.declared.given.GivenError.{GivenError}
+use Rattle.bh_words.specs.declared.given.GivenError.TheVariants.{NotGiven, OutOfMemory}
+use Rattle.bh_words.specs.declared.options.OptionName.{OptionName}
+use Rattle.bh_words.specs.declared.options.OptionName.TheVariants as option
+use Rattle.bh_words.specs.declared.subcommands.Subcommand.{Subcommand}
+use Rattle.bh_words.specs.declared.subcommands.Subcommand.TheVariants as subcommand
+
+infixl 10 ◌>>=◌
+abbrev pub ◌>>=◌ : {A B : Type 0} → Option A → (A → Option B) → Option B
+None >>= f = None
+(Some a) >>= f = f a
+
+-- what a function returned, seen by view, is the answer, unless memory ran out
+abbrev pub Gives : {X Y : Type 0} → (X → Y) → Result X GivenError → Option Y → Type 0
+Gives view (Ok x) answer = answer ≡ Some (view x)
+Gives view (Err NotGiven) answer = answer ≡ None
+Gives view (Err OutOfMemory) answer = Unit {0}
+
+-- what was found for the options of a subcommand
+abbrev pub rows_in : ArgMatches → List Row
+rows_in m = rows_of (found_of m)
+
+-- ---- the value of an option
+
+abbrev pub text_at : OptionName → List Row → Option Text
+text_at o rows = first_of (word o) rows
+
+-- decimal digits of a number of so many bits, after a plus or none
+abbrev pub number_of : ℕ → Text → Option ℕ
+number_of bits text =
+    let digits = without_leading_plus text in
+    if is_numeral digits && nat_lt (digits_value 10 digits) (2 ^ bits) then Some (digits_value 10 digits) else None
+
+abbrev pub number_at : ℕ → OptionName → List Row → Option ℕ
+number_at bits o rows = text_at o rows >>= number_of bits
+
+-- `-` stands for standard input
+abbrev pub secret_of : Text → Secret
+secret_of text = if bytes_eq text (codes "-") then FromInput else Written text
+
+abbrev pub secret_at : List Row → Option Secret
+secret_at rows = do
+  text ← text_at option.Secret rows
+  Some (secret_of text)
+
+abbrev pub at : List Row → Option ℕ
+at rows = number_at 64 option.At rows
+
+abbrev pub limits_of : ℕ → ℕ → Option HostLimits
+limits_of min_part max_body =
+    if nat_le min_part (2 ^ 30) && (nat_le 1 max_body && nat_le max_body (2 ^ 30))
+    then Some (record { min_part = min_part; max_body = max_body }) else None
+
+abbrev pub tuning_of : ℕ → ℕ → Option HostTuning
+tuning_of block_size cache_blocks =
+    if nat_le 1 block_size && (nat_le block_size 1_048_576 && nat_le cache_blocks 65_536)
+    then Some (record { block_size = block_size; cache_blocks = cache_blocks }) else None
+
+unfoldable pub limits_at : List Row → Option HostLimits
+limits_at rows = do
+  min_part ← number_at 64 option.MinPart rows
+  max_body ← number_at 64 option.MaxBody rows
+  limits_of min_part max_body
+
+unfoldable pub tuning_at : List Row → Option HostTuning
+tuning_at rows = do
+  block_size ← number_at 64 option.BlockSize rows
+  cache_blocks ← number_at 64 option.CacheBlocks rows
+  tuning_of block_size cache_blocks
+
+-- ---- the subcommands
+
+abbrev pub script : List Row → Option Told
+script rows = do
+  limits ← limits_at rows
+  tuning ← tuning_at rows
+  Some (line.Script limits tuning)
+
+abbrev pub init : List Row → Option Told
+init rows = do
+  file ← text_at option.File rows
+  limits ← limits_at rows
+  Some (line.Init file limits)
+
+abbrev pub tenant_add : List Row → Option Told
+tenant_add rows = do
+  file ← text_at option.File rows
+  tenant ← text_at option.Tenant rows
+  quota ← number_at 64 option.Quota rows
+  Some (line.TenantAdd file tenant quota (at rows))
+
+abbrev pub quota : List Row → Option Told
+quota rows = do
+  file ← text_at option.File rows
+  tenant ← text_at option.Tenant rows
+  quota ← number_at 64 option.Quota rows
+  Some (line.Quota file tenant quota (at rows))
+
+abbrev pub key_add : List Row → Option Told
+key_add rows = do
+  file ← text_at option.File rows
+  tenant ← text_at option.Tenant rows
+  name ← text_at option.Name rows
+  secret ← secret_at rows
+  Some (line.KeyAdd file tenant name secret (at rows))
+
+abbrev pub key_remove : List Row → Option Told
+key_remove rows = do
+  file ← text_at option.File rows
+  tenant ← text_at option.Tenant rows
+  name ← text_at option.Name rows
+  Some (line.KeyRemove file tenant name (at rows))
+
+abbrev pub usage : List Row → Option Told
+usage rows = do
+  file ← text_at option.File rows
+  tenant ← text_at option.Tenant rows
+  Some (line.Usage file tenant (at rows))
+
+abbrev pub report : List Row → Option Told
+report rows = do
+  file ← text_at option.File rows
+  Some (line.Report file (at rows))
+
+abbrev pub sweep : List Row → Option Told
+sweep rows = do
+  file ← text_at option.File rows
+  limit ← number_at 32 option.Limit rows
+  Some (line.Sweep file limit (at rows))
+
+abbrev pub serve : List Row → Option Told
+serve rows = do
+  file ← text_at option.File rows
+  port ← number_at 16 option.Port rows
+  count ← number_at 64 option.Count rows
+  timeout ← number_at 64 option.Timeout rows
+  tuning ← tuning_at rows
+  Some (line.Serve file port count timeout tuning)
+
+abbrev pub told_at : Subcommand → List Row → Option Told
+told_at subcommand.Script = script
+told_at subcommand.Init = init
+told_at subcommand.TenantAdd = tenant_add
+told_at subcommand.Quota = quota
+told_at subcommand.KeyAdd = key_add
+told_at subcommand.KeyRemove = key_remove
+told_at subcommand.Usage = usage
+told_at subcommand.Report = report
+told_at subcommand.Sweep = sweep
+told_at subcommand.Serve = serve
+
+abbrev pub subcommand_named : Text → Option Subcommand
+subcommand_named name = find (λ s. bytes_eq (commands.word s) name) subcommands
+
+-- the line that a subcommand's name and matches tell
+abbrev pub told_in : Text × List Row → Option Told
+told_in met = do
+  subcommand ← subcommand_named met.0
+  told_at subcommand met.1
+
+-- the line that the matches of a subcommand tell
+abbrev pub told_of : Option (Text × List Row) → Option Told
+told_of met = met >>= told_in
+
+-- the line that words tell, by `clap`'s matches for the program's command
+unfoldable pub told_by : List Text → Option Told
+told_by words = told_of (subcommand_of the_command words)
+
+-- what `clap` refuses in words, by the kinds of its first fault; none where it takes them
+unfoldable pub faults_of : List Text → Kinds
+faults_of words = fault_of the_command words

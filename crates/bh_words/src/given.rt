@@ -1,0 +1,173 @@
+//! The values that `clap` found for the options of a subcommand.
+ghost use Rattle.std.specs.Prelude.{◌≡◌, IfOk, option_map};
+ghost use Rattle.std.specs.String.{string_bytes};
+ghost use Rattle.bh_words.specs.Lines as lines;
+ghost use Rattle.bh_words.specs.Readings as spec;
+ghost use Rattle.bh_words.specs.declared.options.OptionName.TheVariants as option;
+
+use crate::lines::SecretGiven;
+use crate::options::OptionName;
+use bh_types::limits::{Limits, Tuning};
+use clap::ArgMatches;
+use std::alloc::{AllocError, Global};
+
+/// Why an option has no value.
+#[derive(Clone, Copy)]
+pub(crate) enum GivenError {
+    /// There is none, or it is out of its range.
+    NotGiven,
+    /// Memory ran out.
+    OutOfMemory,
+}
+
+impl From<AllocError> for GivenError {
+    ghost use Rattle.std.specs.Prelude.{◌≡◌};
+    ghost use Rattle.bh_words.specs.declared.given.GivenError.TheVariants.{OutOfMemory};
+
+    ghost from_gives = { λ _ e. e ≡ OutOfMemory };
+
+    fn from(_error: AllocError) -> GivenError {
+        GivenError::OutOfMemory
+    }
+}
+
+/// The text of an option, if it has one.
+#[tactic(auto, using(crate::proofs::Rows::first_text))]
+fn written<'a>(given: &ArgMatches<'a>, option: OptionName) -> Option<&'a str>
+    ensures { option_map (λ s. s.now) result ≡ spec.text_at option (spec.rows_in given.now) }
+{
+    given.get_str(option.word())
+}
+
+/// The text of an option.
+pub(crate) fn text(
+    alloc: Global,
+    given: &ArgMatches<'_>,
+    option: OptionName,
+) -> Result<String, GivenError>
+    ensures { spec.Gives string_bytes result (spec.text_at option (spec.rows_in given.now)) }
+{
+    match written(given, option) {
+        Some(text) => Ok(String::from_str(alloc, text)?),
+        None => Err(GivenError::NotGiven),
+    }
+}
+
+/// The secret of a key.
+pub(crate) fn secret(alloc: Global, given: &ArgMatches<'_>) -> Result<SecretGiven, GivenError>
+    ensures { spec.Gives lines.secret result (spec.secret_at (spec.rows_in given.now)) }
+{
+    match written(given, OptionName::Secret) {
+        Some(text) => Ok(secret_of(alloc, text)?),
+        None => Err(GivenError::NotGiven),
+    }
+}
+
+fn secret_of(alloc: Global, text: &str) -> Result<SecretGiven, AllocError>
+    ensures { IfOk result (λ secret. lines.secret secret ≡ spec.secret_of text.now) }
+{
+    if text == "-" {
+        return Ok(SecretGiven::StandardInput);
+    }
+    Ok(SecretGiven::Word(String::from_str(alloc, text)?))
+}
+
+/// The number of an option, if it has one.
+pub(crate) fn number(given: &ArgMatches<'_>, option: OptionName) -> Option<u64>
+    ensures { result ≡ spec.number_at 64 option (spec.rows_in given.now) }
+{
+    match written(given, option) {
+        Some(text) => number_of(text),
+        None => None,
+    }
+}
+
+#[tactic(auto, using(crate::proofs::Numbers::number_parsed))]
+fn number_of(text: &str) -> Option<u64>
+    ensures { result ≡ spec.number_of 64 text.now }
+{
+    text.parse::<u64>().ok()
+}
+
+/// The reading of the clock, if one was given.
+pub(crate) fn at(given: &ArgMatches<'_>) -> Option<u64>
+    ensures { result ≡ spec.at (spec.rows_in given.now) }
+{
+    number(given, OptionName::At)
+}
+
+/// How many uploads and blocks may go.
+pub(crate) fn limit(given: &ArgMatches<'_>) -> Option<u32>
+    ensures { result ≡ spec.number_at 32 option.Limit (spec.rows_in given.now) }
+{
+    match written(given, OptionName::Limit) {
+        Some(text) => limit_of(text),
+        None => None,
+    }
+}
+
+#[tactic(auto, using(crate::proofs::Numbers::number_parsed))]
+fn limit_of(text: &str) -> Option<u32>
+    ensures { result ≡ spec.number_of 32 text.now }
+{
+    text.parse::<u32>().ok()
+}
+
+/// The port.
+pub(crate) fn port(given: &ArgMatches<'_>) -> Option<u16>
+    ensures { result ≡ spec.number_at 16 option.Port (spec.rows_in given.now) }
+{
+    match written(given, OptionName::Port) {
+        Some(text) => port_of(text),
+        None => None,
+    }
+}
+
+#[tactic(auto, using(crate::proofs::Numbers::number_parsed))]
+fn port_of(text: &str) -> Option<u16>
+    ensures { result ≡ spec.number_of 16 text.now }
+{
+    text.parse::<u16>().ok()
+}
+
+/// The limits of a new host.
+#[tactic(auto, unfolding(crate::specs::Readings::limits_at))]
+pub(crate) fn limits(given: &ArgMatches<'_>) -> Option<Limits>
+    ensures { result ≡ spec.limits_at (spec.rows_in given.now) }
+{
+    let min_part = number(given, OptionName::MinPart)?;
+    let max_body = number(given, OptionName::MaxBody)?;
+    limits_of(min_part, max_body)
+}
+
+fn limits_of(min_part: u64, max_body: u64) -> Option<Limits>
+    ensures { result ≡ spec.limits_of min_part max_body }
+{
+    Limits::new(min_part, max_body)
+}
+
+/// What a process is set to.
+#[tactic(auto, unfolding(crate::specs::Readings::tuning_at))]
+pub(crate) fn tuning(given: &ArgMatches<'_>) -> Option<Tuning>
+    ensures { result ≡ spec.tuning_at (spec.rows_in given.now) }
+{
+    let block_size = number(given, OptionName::BlockSize)?;
+    let cache_blocks = number(given, OptionName::CacheBlocks)?;
+    tuning_of(block_size, cache_blocks)
+}
+
+fn tuning_of(block_size: u64, cache_blocks: u64) -> Option<Tuning>
+    ensures { result ≡ spec.tuning_of block_size cache_blocks }
+{
+    Tuning::new(block_size, cache_blocks)
+}
+
+/// The value, or that there is none.
+pub(crate) fn needed<T>(value: Option<T>) -> Result<T, GivenError>
+    ensures { spec.Gives (λ x. x) result value }
+{
+    match value {
+        Some(value) => Ok(value),
+        None => Err(GivenError::NotGiven),
+    }
+}

@@ -1,0 +1,115 @@
+//! The options of the subcommands, and what each takes.
+ghost use Rattle.std.specs.Prelude.{◌≡◌, false};
+ghost use Rattle.clap.specs.Words.{rule_of};
+ghost use Rattle.bh_words.specs.Options as spec;
+
+use clap::Arg;
+use clap::builder::ValueParser;
+use std::alloc::Global;
+
+/// An option of a subcommand.
+#[derive(Clone, Copy)]
+pub(crate) enum OptionName {
+    File,
+    Tenant,
+    Name,
+    Secret,
+    Quota,
+    At,
+    Limit,
+    Port,
+    Count,
+    Timeout,
+    MinPart,
+    MaxBody,
+    BlockSize,
+    CacheBlocks,
+}
+
+impl OptionName {
+    /// The word that follows `--`.
+    pub(crate) fn word<'a>(self) -> &'a str
+        ensures { result.now ≡ spec.word self }
+    {
+        match self {
+            OptionName::File => "file",
+            OptionName::Tenant => "tenant",
+            OptionName::Name => "name",
+            OptionName::Secret => "secret",
+            OptionName::Quota => "quota",
+            OptionName::At => "at",
+            OptionName::Limit => "limit",
+            OptionName::Port => "port",
+            OptionName::Count => "count",
+            OptionName::Timeout => "timeout",
+            OptionName::MinPart => "min-part",
+            OptionName::MaxBody => "max-body",
+            OptionName::BlockSize => "block-size",
+            OptionName::CacheBlocks => "cache-blocks",
+        }
+    }
+
+    fn help<'a>(self) -> &'a str {
+        match self {
+            OptionName::File => "The host's file",
+            OptionName::Tenant => "The tenant's name: 1 to 32 of a to z, 0 to 9",
+            OptionName::Name => "The key's name: 1 to 32 of a to z, 0 to 9",
+            OptionName::Secret => "The key's secret: 8 to 64 printable ASCII characters; - reads it from standard input",
+            OptionName::Quota => "How many bytes the tenant may use: 0 to 2^60",
+            OptionName::At => "The clock's reading, in seconds since 1970; without it the machine's clock is read",
+            OptionName::Limit => "How many uploads and blocks may go: 0 to 2^32 - 1",
+            OptionName::Port => "The port on 127.0.0.1",
+            OptionName::Count => "How many connections are served",
+            OptionName::Timeout => "The seconds that a read or a write may take: 1 to 3,600",
+            OptionName::MinPart => "The least bytes of a part that isn't the last: 0 to 2^30",
+            OptionName::MaxBody => "The most bytes of a body: 1 to 2^30",
+            OptionName::BlockSize => "The bytes of a block: 1 to 1,048,576",
+            OptionName::CacheBlocks => "How many blocks stay in memory: 0 to 65,536",
+        }
+    }
+
+    /// The option as `clap` is told of it.
+    pub(crate) fn arg<'a>(self, alloc: Global) -> Arg<'a>
+        ensures rule { rule_of result ≡ spec.rule self }
+        ensures local { result.global ≡ false }
+    {
+        match self {
+            OptionName::File | OptionName::Tenant | OptionName::Name | OptionName::Secret => {
+                self.text(alloc)
+            }
+            OptionName::Quota => self.number(alloc, 0, u64::MAX).required(true),
+            OptionName::At => self.number(alloc, 0, u64::MAX),
+            OptionName::Limit => self.number(alloc, 0, 4_294_967_295).required(true),
+            OptionName::Port => self.number(alloc, 0, 65_535).required(true),
+            OptionName::Count => self.number(alloc, 0, u64::MAX).required(true),
+            OptionName::Timeout => self.number(alloc, 1, 3_600).default_value("30"),
+            OptionName::MinPart => self.number(alloc, 0, 1 << 30).default_value("5242880"),
+            OptionName::MaxBody => self.number(alloc, 1, 1 << 30).default_value("16777216"),
+            OptionName::BlockSize => self.number(alloc, 1, 1_048_576).default_value("65536"),
+            OptionName::CacheBlocks => self.number(alloc, 0, 65_536).default_value("0"),
+        }
+    }
+
+    // An option that may not be missing, with any text.
+    fn text<'a>(self, alloc: Global) -> Arg<'a>
+        ensures rule { rule_of result ≡ spec.text self }
+        ensures local { result.global ≡ false }
+    {
+        self.described(alloc).required(true)
+    }
+
+    // An option with a number from `least` to `most`.
+    fn number<'a>(self, alloc: Global, least: u64, most: u64) -> Arg<'a>
+        ensures rule { rule_of result ≡ spec.number self least most }
+        ensures local { result.global ≡ false }
+    {
+        self.described(alloc).value_parser(ValueParser::unsigned(least, most))
+    }
+
+    fn described<'a>(self, alloc: Global) -> Arg<'a>
+        ensures rule { rule_of result ≡ spec.described self }
+        ensures local { result.global ≡ false }
+    {
+        Arg::new(alloc, self.word()).long(self.word()).help(self.help())
+    }
+}

@@ -1,0 +1,55 @@
+ghost use Rattle.std.specs.Prelude.{◌≡◌, ◌⊎◌, [], IfOk, IfErr, Some, None, map};
+ghost use Rattle.std.specs.String.{string_bytes};
+ghost use Rattle.clap.specs.Words.{FailsBy, HasKind, subcommand_of, subcommand_rows_of};
+ghost use Rattle.bh_words.specs.Commands.{the_command};
+ghost use Rattle.bh_words.specs.Lines.{told};
+ghost use Rattle.bh_words.specs.Readings as spec;
+
+use crate::command::the_command;
+use crate::fault::LineFault;
+use crate::given::GivenError;
+use crate::lines::Line;
+use crate::readings::line_in;
+use clap::error::ErrorKind;
+use clap::{ArgMatches, Error};
+use std::alloc::{AllocError, Global};
+
+/// The line that words tell. The first word is the program's name, as in `env::args`.
+///
+/// The fault is `clap`'s first one: an unknown subcommand or option, an option given twice, a
+/// required one that is missing, a word left over, a number that is none or out of its range; or its
+/// help, where the words ask for it or are none.
+pub fn read_words(alloc: Global, words: &[String]) -> Result<Line, LineFault>
+    ensures told { IfOk result (λ line. (spec.faults_of (map string_bytes words.now) ≡ [])
+        × (spec.told_by (map string_bytes words.now) ≡ Some (told line))) }
+    ensures refused { IfErr result (λ fault. HasKind (spec.faults_of (map string_bytes words.now)) fault.error
+        ⊎ (spec.told_by (map string_bytes words.now) ≡ None)) }
+{
+    let matches = matches_of(alloc, words)?;
+    match line_of(alloc, &matches) {
+        Ok(line) => Ok(line),
+        Err(GivenError::NotGiven) => Err(LineFault::from(AllocError)),
+        Err(GivenError::OutOfMemory) => Err(LineFault::from(AllocError)),
+    }
+}
+
+#[tactic(auto, unfolding(crate::specs::Readings::faults_of))]
+fn matches_of<'a>(alloc: Global, words: &'a [String]) -> Result<ArgMatches<'a>, Error>
+    ensures rows { IfOk result (λ m.
+        subcommand_rows_of m ≡ subcommand_of the_command (map string_bytes words.now)) }
+    ensures kinds { FailsBy (spec.faults_of (map string_bytes words.now)) result }
+{
+    let command = the_command(alloc)?;
+    command.try_get_matches_from(words)
+}
+
+// The line that the subcommand of the matches tells.
+#[tactic(auto, using(crate::proofs::Rows::rows_met))]
+fn line_of(alloc: Global, matches: &ArgMatches<'_>) -> Result<Line, GivenError>
+    ensures { spec.Gives told result (spec.told_of (subcommand_rows_of matches.now)) }
+{
+    match matches.subcommand() {
+        Some((name, given)) => line_in(alloc, name, given),
+        None => Err(GivenError::NotGiven),
+    }
+}

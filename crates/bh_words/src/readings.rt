@@ -1,0 +1,137 @@
+//! The line that each subcommand's values tell.
+ghost use Rattle.bh_words.specs.Lines.{told};
+ghost use Rattle.bh_words.specs.Readings as spec;
+
+use crate::given::{GivenError, at, limit, limits, needed, number, port, secret, text, tuning};
+use crate::lines::Line;
+use crate::options::OptionName;
+use crate::subcommands::Subcommand;
+use clap::ArgMatches;
+use std::alloc::Global;
+
+/// The line that a subcommand's name and values tell.
+pub(crate) fn line_in(
+    alloc: Global,
+    name: &str,
+    given: &ArgMatches<'_>,
+) -> Result<Line, GivenError>
+    ensures { spec.Gives told result (spec.told_in (name.now, spec.rows_in given.now)) }
+{
+    let subcommand = needed(Subcommand::named(name))?;
+    line_of(alloc, subcommand, given)
+}
+
+fn line_of(
+    alloc: Global,
+    subcommand: Subcommand,
+    given: &ArgMatches<'_>,
+) -> Result<Line, GivenError>
+    ensures { spec.Gives told result (spec.told_at subcommand (spec.rows_in given.now)) }
+{
+    match subcommand {
+        Subcommand::Script => script(given),
+        Subcommand::Init => init(alloc, given),
+        Subcommand::TenantAdd => tenant_add(alloc, given),
+        Subcommand::Quota => quota(alloc, given),
+        Subcommand::KeyAdd => key_add(alloc, given),
+        Subcommand::KeyRemove => key_remove(alloc, given),
+        Subcommand::Usage => usage(alloc, given),
+        Subcommand::Report => report(alloc, given),
+        Subcommand::Sweep => sweep(alloc, given),
+        Subcommand::Serve => serve(alloc, given),
+    }
+}
+
+fn script(given: &ArgMatches<'_>) -> Result<Line, GivenError>
+    ensures { spec.Gives told result (spec.script (spec.rows_in given.now)) }
+{
+    let limits = needed(limits(given))?;
+    let tuning = needed(tuning(given))?;
+    Ok(Line::Script { limits, tuning })
+}
+
+fn init(alloc: Global, given: &ArgMatches<'_>) -> Result<Line, GivenError>
+    ensures { spec.Gives told result (spec.init (spec.rows_in given.now)) }
+{
+    let file = text(alloc, given, OptionName::File)?;
+    let limits = needed(limits(given))?;
+    Ok(Line::Init { file, limits })
+}
+
+fn tenant_add(alloc: Global, given: &ArgMatches<'_>) -> Result<Line, GivenError>
+    ensures { spec.Gives told result (spec.tenant_add (spec.rows_in given.now)) }
+{
+    let file = text(alloc, given, OptionName::File)?;
+    let tenant = text(alloc, given, OptionName::Tenant)?;
+    let quota = needed(number(given, OptionName::Quota))?;
+    let at = at(given);
+    Ok(Line::TenantAdd { file, tenant, quota, at })
+}
+
+fn quota(alloc: Global, given: &ArgMatches<'_>) -> Result<Line, GivenError>
+    ensures { spec.Gives told result (spec.quota (spec.rows_in given.now)) }
+{
+    let file = text(alloc, given, OptionName::File)?;
+    let tenant = text(alloc, given, OptionName::Tenant)?;
+    let quota = needed(number(given, OptionName::Quota))?;
+    let at = at(given);
+    Ok(Line::Quota { file, tenant, quota, at })
+}
+
+fn key_add(alloc: Global, given: &ArgMatches<'_>) -> Result<Line, GivenError>
+    ensures { spec.Gives told result (spec.key_add (spec.rows_in given.now)) }
+{
+    let file = text(alloc, given, OptionName::File)?;
+    let tenant = text(alloc, given, OptionName::Tenant)?;
+    let name = text(alloc, given, OptionName::Name)?;
+    let secret = secret(alloc, given)?;
+    let at = at(given);
+    Ok(Line::KeyAdd { file, tenant, name, secret, at })
+}
+
+fn key_remove(alloc: Global, given: &ArgMatches<'_>) -> Result<Line, GivenError>
+    ensures { spec.Gives told result (spec.key_remove (spec.rows_in given.now)) }
+{
+    let file = text(alloc, given, OptionName::File)?;
+    let tenant = text(alloc, given, OptionName::Tenant)?;
+    let name = text(alloc, given, OptionName::Name)?;
+    let at = at(given);
+    Ok(Line::KeyRemove { file, tenant, name, at })
+}
+
+fn usage(alloc: Global, given: &ArgMatches<'_>) -> Result<Line, GivenError>
+    ensures { spec.Gives told result (spec.usage (spec.rows_in given.now)) }
+{
+    let file = text(alloc, given, OptionName::File)?;
+    let tenant = text(alloc, given, OptionName::Tenant)?;
+    let at = at(given);
+    Ok(Line::Usage { file, tenant, at })
+}
+
+fn report(alloc: Global, given: &ArgMatches<'_>) -> Result<Line, GivenError>
+    ensures { spec.Gives told result (spec.report (spec.rows_in given.now)) }
+{
+    let file = text(alloc, given, OptionName::File)?;
+    let at = at(given);
+    Ok(Line::Report { file, at })
+}
+
+fn sweep(alloc: Global, given: &ArgMatches<'_>) -> Result<Line, GivenError>
+    ensures { spec.Gives told result (spec.sweep (spec.rows_in given.now)) }
+{
+    let file = text(alloc, given, OptionName::File)?;
+    let limit = needed(limit(given))?;
+    let at = at(given);
+    Ok(Line::Sweep { file, limit, at })
+}
+
+fn serve(alloc: Global, given: &ArgMatches<'_>) -> Result<Line, GivenError>
+    ensures { spec.Gives told result (spec.serve (spec.rows_in given.now)) }
+{
+    let file = text(alloc, given, OptionName::File)?;
+    let port = needed(port(given))?;
+    let count = needed(number(given, OptionName::Count))?;
+    let timeout = needed(number(given, OptionName::Timeout))?;
+    let tuning = needed(tuning(given))?;
+    Ok(Line::Serve { file, port, count, timeout, tuning })
+}

@@ -1,0 +1,131 @@
+//! The subcommands, and their options.
+ghost use Rattle.std.specs.Prelude.{◌≡◌, find};
+ghost use Rattle.std.specs.Str.{bytes_eq};
+ghost use Rattle.bh_words.specs.Commands as spec;
+
+use crate::options::OptionName;
+
+/// A subcommand of the program.
+#[derive(Clone, Copy)]
+pub(crate) enum Subcommand {
+    Script,
+    Init,
+    TenantAdd,
+    Quota,
+    KeyAdd,
+    KeyRemove,
+    Usage,
+    Report,
+    Sweep,
+    Serve,
+}
+
+static SCRIPT: [OptionName; 4] = [
+    OptionName::BlockSize,
+    OptionName::MinPart,
+    OptionName::MaxBody,
+    OptionName::CacheBlocks,
+];
+static INIT: [OptionName; 3] = [OptionName::File, OptionName::MinPart, OptionName::MaxBody];
+static TENANT_QUOTA: [OptionName; 4] = [
+    OptionName::File,
+    OptionName::Tenant,
+    OptionName::Quota,
+    OptionName::At,
+];
+static KEY_ADD: [OptionName; 5] = [
+    OptionName::File,
+    OptionName::Tenant,
+    OptionName::Name,
+    OptionName::Secret,
+    OptionName::At,
+];
+static KEY_REMOVE: [OptionName; 4] = [
+    OptionName::File,
+    OptionName::Tenant,
+    OptionName::Name,
+    OptionName::At,
+];
+static USAGE: [OptionName; 3] = [OptionName::File, OptionName::Tenant, OptionName::At];
+static REPORT: [OptionName; 2] = [OptionName::File, OptionName::At];
+static SWEEP: [OptionName; 3] = [OptionName::File, OptionName::Limit, OptionName::At];
+static SERVE: [OptionName; 6] = [
+    OptionName::File,
+    OptionName::Port,
+    OptionName::Count,
+    OptionName::Timeout,
+    OptionName::BlockSize,
+    OptionName::CacheBlocks,
+];
+
+impl Subcommand {
+    /// The subcommand's name.
+    pub(crate) fn word<'a>(self) -> &'a str
+        ensures { result.now ≡ spec.word self }
+    {
+        match self {
+            Subcommand::Script => "script",
+            Subcommand::Init => "init",
+            Subcommand::TenantAdd => "tenant-add",
+            Subcommand::Quota => "quota",
+            Subcommand::KeyAdd => "key-add",
+            Subcommand::KeyRemove => "key-remove",
+            Subcommand::Usage => "usage",
+            Subcommand::Report => "report",
+            Subcommand::Sweep => "sweep",
+            Subcommand::Serve => "serve",
+        }
+    }
+
+    /// What it does, for the help.
+    pub(crate) fn about<'a>(self) -> &'a str {
+        match self {
+            Subcommand::Script => "Applies events from standard input to a new host in memory, and writes their answers",
+            Subcommand::Init => "Makes a host in a file",
+            Subcommand::TenantAdd => "Adds a tenant",
+            Subcommand::Quota => "Sets a tenant's quota",
+            Subcommand::KeyAdd => "Adds an access key to a tenant",
+            Subcommand::KeyRemove => "Removes an access key of a tenant",
+            Subcommand::Usage => "Says how many bytes a tenant uses",
+            Subcommand::Report => "Says how many blocks are stored",
+            Subcommand::Sweep => "Removes stale uploads and blocks that nothing refers to",
+            Subcommand::Serve => "Serves connections on a port",
+        }
+    }
+
+    /// Its options, in the order in which its help shows them.
+    pub(crate) fn options(self) -> &'static [OptionName]
+        ensures { result.now ≡ spec.options self }
+    {
+        match self {
+            Subcommand::Script => &SCRIPT,
+            Subcommand::Init => &INIT,
+            Subcommand::TenantAdd | Subcommand::Quota => &TENANT_QUOTA,
+            Subcommand::KeyAdd => &KEY_ADD,
+            Subcommand::KeyRemove => &KEY_REMOVE,
+            Subcommand::Usage => &USAGE,
+            Subcommand::Report => &REPORT,
+            Subcommand::Sweep => &SWEEP,
+            Subcommand::Serve => &SERVE,
+        }
+    }
+
+    /// The subcommand of this name.
+    pub(crate) fn named(name: &str) -> Option<Subcommand>
+        ensures { result ≡ find (λ s. bytes_eq (spec.word s) name.now) spec.subcommands }
+    {
+        match name {
+            "script" => Some(Subcommand::Script),
+            "init" => Some(Subcommand::Init),
+            "tenant-add" => Some(Subcommand::TenantAdd),
+            "quota" => Some(Subcommand::Quota),
+            "key-add" => Some(Subcommand::KeyAdd),
+            "key-remove" => Some(Subcommand::KeyRemove),
+            "usage" => Some(Subcommand::Usage),
+            "report" => Some(Subcommand::Report),
+            "sweep" => Some(Subcommand::Sweep),
+            "serve" => Some(Subcommand::Serve),
+            _ => None,
+        }
+    }
+}
