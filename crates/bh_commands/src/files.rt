@@ -1,11 +1,10 @@
 use crate::commands::{Done, apply_command, make_host, open_stored};
+use crate::fault::Fault;
 use crate::printed::Printed;
 use bh_event::event::Command;
 use bh_types::limits::Limits;
 use bh_types::refusal::Refusal;
-use sqlite::{Connection, Error, FileFrom, FileStore, Wary};
-use std::alloc::AllocError;
-use std::fmt;
+use sqlite::{Connection, FileFrom, FileStore, Wary};
 use std::fs;
 use std::io;
 use std::io::ErrorKind;
@@ -13,40 +12,6 @@ use std::time::{SystemTime, UNIX_EPOCH};
 
 /// The connection to a host's file. A crash may have left anything in what was being written.
 type FileConnection = Connection<FileStore<FileFrom<Wary>>>;
-
-/// What ends a subcommand outside of a refusal.
-#[derive(Drop)]
-pub enum Fault {
-    /// Memory was wanting.
-    Memory,
-    /// The file isn't opened as a database: it is none or was damaged, another process has it open, or the
-    /// system refuses it.
-    File(Error),
-    /// The file or the clock can't be read.
-    System(io::Error),
-}
-
-impl From<AllocError> for Fault {
-    fn from(_error: AllocError) -> Fault {
-        Fault::Memory
-    }
-}
-
-impl From<io::Error> for Fault {
-    fn from(error: io::Error) -> Fault {
-        Fault::System(error)
-    }
-}
-
-impl fmt::Display for Fault {
-    fn fmt<W: fmt::Write>(&self, f: &mut fmt::Formatter<W>) -> fmt::Result {
-        match self {
-            Fault::Memory => f.write_str("out of memory"),
-            Fault::File(error) => write!(f, "{error}"),
-            Fault::System(error) => write!(f, "{error}"),
-        }
-    }
-}
 
 /// Whether a path names nothing, or a file of no bytes. Such a file holds no host, and stays as it is.
 fn is_blank(rt: &HostRuntime, path: &str) -> io::Result<bool> {

@@ -1,10 +1,13 @@
-//! The subcommands of `bucketd` that act on a file, and what each prints.
+//! The subcommands of `bucketd`, and what each prints.
 #![tactic(auto)]
 
 mod commands;
+mod fault;
 mod files;
+mod input;
+mod lines;
 mod printed;
 
-pub use commands::{apply_command, make_host};
-pub use files::{Fault, file_command, init_file};
+pub use fault::Fault;
+pub use lines::carry_out;
 pub use printed::Printed;

@@ -9,9 +9,9 @@ use std::alloc::{AllocError, Global};
 /// What a subcommand writes on standard output, and the status that it ends with.
 #[derive(Drop)]
 pub struct Printed {
-    /// A line and its line feed.
+    /// A line and its line feed; of a script many lines.
     pub text: Vec<u8>,
-    /// 0, or 1 where the line is a refusal.
+    /// 0, or 1 where the line is a refusal, or a script's line tells no event.
     pub status: u8,
 }
 

@@ -1,5 +1,5 @@
 -- When a row is the one of a host of this version and these limits.
-use Rattle.std.proofs.Common.{◌≡◌, ◌≢◌, ℕ, List, [], ◌∷◌, length, map, slice_get, Some, refl, sym, ap, ◌∙◌, subst}
+use Rattle.std.proofs.Common.{arith, ◌≡◌, ◌≢◌, ℕ, List, [], ◌∷◌, length, map, slice_get, Some, refl, sym, ap, ◌∙◌, subst}
 use Rattle.sqlite.specs.Order.{Row}
 use Rattle.bh_types.specs.Limits.{HostLimits, AreLimits}
 use Rattle.bh_tables.specs.Typed.{HostRow, Tables}
@@ -29,7 +29,7 @@ pub sole : {P : Type 0} (hosts : List HostRow) (rows : List Row) (row : Row) →
     → ((h : HostRow) → hosts ≡ h ∷ [] → row ≡ shown_row h → P) → P
 sole [] rows row all one first use_it = absurd (cc)
 sole (h ∷ []) rows row all one first use_it = use_it h refl (let e = first ∙ ap (λ (l : List Row). slice_get l 0) all in cc)
-sole (h ∷ k ∷ hosts) rows row all one first use_it = let e = ap length (sym all) ∙ one in absurd (omega e)
+sole (h ∷ k ∷ hosts) rows row all one first use_it = let e = ap length (sym all) ∙ one in absurd (omega (arith, e))
 
 -- none or several are shown: no host has them
 pub not_sole : (hosts : List HostRow) (rows : List Row) → rows ≡ map shown_row hosts → length rows ≢ 1 → (limits : HostLimits) → ¬ IsRowOf limits hosts

@@ -111,18 +111,20 @@ pub fn open_host<S: Alter + Drop, D: Digester + Drop>(
     let found = find_host(alloc, &mut connection);
     take_back(&mut connection);
     match found {
-        Ok(Some(limits)) => Ok(Host {
-            connection,
-            digester,
-            limits,
-            tuning,
-        }),
-        Ok(None) => Err(OpenError {
-            refusal: Refusal::NotAHostFile,
-            cause: None,
-            connection,
-            digester,
-        }),
+        Ok(found) => match found {
+            Some(limits) => Ok(Host {
+                connection,
+                digester,
+                limits,
+                tuning,
+            }),
+            None => Err(OpenError {
+                refusal: Refusal::NotAHostFile,
+                cause: None,
+                connection,
+                digester,
+            }),
+        },
         Err(error) => Err(OpenError {
             refusal: Refusal::Unavailable,
             cause: Some(error),
