@@ -26,14 +26,7 @@ fn is_null(op: &Op) -> bool
 }
 
 /// Whether the expressions at two places, each read to a depth, are one.
-fn same_term(
-    left: &[Op],
-    depth: usize,
-    at: usize,
-    right: &[Op],
-    reach: usize,
-    place: usize,
-) -> bool
+fn same_term(left: &[Op], depth: usize, at: usize, right: &[Op], reach: usize, place: usize) -> bool
     ensures { IsTrue result ↔ (term_to left.now depth at ≡ term_to right.now reach place) }
 {
     let Some(op) = node(left, depth, at) else {
