@@ -57,7 +57,7 @@ pub has_numbers : (v : Option State) (s : State) (mode : BucketState) (before af
 has_numbers v s mode before after is e = go (after_entry mode (counts s)) refl (ap (numbers_in mode) (sym is) ∙ e)
   where
     go : (x : Result Counts Refusal) → after_entry mode (counts s) ≡ x → ◌>>=◌ {B = Counts × Counts} x (λ a. Ok (counts s, a)) ≡ Ok (before, after) → (counts s ≡ before) × (after_entry mode (counts s) ≡ Ok after)
-    go (Ok a) given e = (ap (λ r. (ok_value r (before, after)).0) e, given ∙ ap (λ r. Ok ((ok_value r (before, after)).1)) e)
+    go (Ok a) given e = (ap (λ r. (ok_value {X = Counts × Counts} r (before, after)).0) e, given ∙ ap (λ r. Ok ((ok_value {X = Counts × Counts} r (before, after)).1)) e)
     go (Err q) given e = absurd (true≢false (sym (ap is_ok e)))
 
 -- a counter has no number to give
