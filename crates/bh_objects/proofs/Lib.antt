@@ -4,4 +4,3 @@ pub mod Creating
 pub mod Putting
 pub mod Getting
 pub mod Deleting
-pub mod IdNumbers
