@@ -5,4 +5,5 @@ mod fill;
 mod host;
 mod tables;
 
+pub use fill::make;
 pub use host::{CreateError, create};

@@ -1,3 +1,2 @@
 pub mod Storing
 pub mod Steps
-pub mod Versioning

@@ -1,3 +1,4 @@
+pub mod AskedStates
 pub mod Bodies
 pub mod Floats
 pub mod Markers

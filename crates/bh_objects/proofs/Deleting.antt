@@ -3,6 +3,7 @@ use Rattle.std.proofs.Common.{◌≡◌, ◌≢◌, ℕ, zero, suc, ◌<◌, ◌
 use Rattle.std.specs.FinMap.{get}
 use Rattle.std.proofs.lemmas.Bool.{and_parts}
 use Rattle.sqlite_keyed.specs.Lists.{delete_where}
+use Rattle.sqlite_typed.specs.Tests.{bytes_eq}
 use Rattle.bh_types.specs.Counts.{Counts}
 use Rattle.bh_types.specs.Outcomes.{◌>>=◌}
 use Rattle.bh_types.specs.declared.bucket_state.BucketState.{BucketState}
@@ -13,11 +14,12 @@ use Rattle.bh_types.specs.declared.wanted.Wanted.{Wanted}
 use Rattle.bh_types.specs.declared.wanted.Wanted.TheVariants.{Current, Named, Unknown}
 use Rattle.bh_model.specs.State.{Octets, Content.Marker, Entry, State, Bucket}
 use Rattle.bh_model.specs.Counting.{counts, with_counts, after_entry, after_delete}
-use Rattle.bh_model.specs.Entries.{is_version as is_object, has_id, new_id, deleted}
+use Rattle.bh_model.specs.Entries.{is_body, is_version as is_object, has_id, new_id, deleted}
 use Rattle.bh_model.specs.Operations.{Answer, Outcome, Removed, id_told, listed, with_bucket, with_entries, removed, removed_named, delete_object}
 use Rattle.bh_tables.specs.Typed.{Tables, VersionRow}
 use Rattle.bh_tables.specs.Shown.{is_version}
 use Rattle.bh_view.specs.Becomes.{Becomes}
+use Rattle.bh_view.specs.Grouped.{same_number}
 use Rattle.bh_view.specs.View.{view, latest_of, limits_in, entry_of, content_of, id_of}
 use Rattle.bh_view.specs.Sound.{IsSound}
 use Rattle.bh_view.specs.Wanted.{wanted_row}
@@ -30,6 +32,7 @@ use Rattle.bh_view.proofs.WantedLemmas.{named_row, named_entry, no_row}
 use Rattle.bh_view.proofs.DeleteLemmas.{entries_same, nothing_removed, null_removed}
 use Rattle.bh_storage.specs.Calls.{GivesStep}
 use Rattle.bh_objects.specs.Found.{mode_in, numbers_in, IsKeyText, with_entry}
+use Rattle.bh_objects.specs.Answers.{is_marked}
 use Rattle.bh_objects.proofs.Putting.{HasBucket, has_bucket, no_bucket, has_numbers, no_numbers}
 
 module _ (b k : Octets) (at : ℕ) (wanted : Wanted) where
@@ -144,7 +147,9 @@ module _ (old new : Tables) (t b k : Octets) (at : ℕ) (sound : IsSound old) wh
       row_id : (row : VersionRow) → find (is_version t b k n) old.versions ≡ Some row → id_of row.id ≡ id
       row_id row there =
           let passes = first_passes (is_version t b k n) old.versions row (first_find (is_version t b k n) old.versions ∙ there) in
-          ap id_of ((numbers.decides row.id n).0 (and_parts _ _ (and_parts _ _ (and_parts _ _ passes).1).1).1) ∙ number
+          let in_bucket = and_parts (bytes_eq row.tenant t) (bytes_eq row.bucket b && (bytes_eq row.okey k && same_number row.id n)) passes in
+          let in_key = and_parts (bytes_eq row.bucket b) (bytes_eq row.okey k && same_number row.id n) in_bucket.1 in
+          ap id_of ((numbers.decides row.id n).0 (and_parts (bytes_eq row.okey k) (same_number row.id n) in_key.1).1) ∙ number
 
       told : (row : VersionRow) → id_of row.id ≡ id → (marker : Bool) → (m : ℕ) → row.marker ≡ m → marker ≡ not (is_object (record { id = id_of row.id; moment = row.stamp; content = content_of m row }))
           → removed_named mode (Some (entry_of row)) ≡ Removed (id_told mode id) marker
@@ -158,3 +163,11 @@ module _ (old new : Tables) (t b k : Octets) (at : ℕ) (sound : IsSound old) wh
           (steps t b k at (Named (id_of n)) _ old new _ change (named_at (id_of n)
           ∙ ap (λ o. Ok (removed_named mode (option_map entry_of o), Some (with_bucket b (with_entries k (deleted mode (Named (id_of n)) bucket.state.next_version at (listed k bucket.bucket)) bucket.bucket) bucket.state))) (named_row t b k n old.versions ∙ there)
           ∙ ap (λ a. Ok (a, Some (with_bucket b (with_entries k (deleted mode (Named (id_of n)) bucket.state.next_version at (listed k bucket.bucket)) bucket.bucket) bucket.state))) (told row (row_id row there) marker row.marker refl right)))
+
+-- the column `marker` says whether it is no object
+pub marked_object : (row : VersionRow) (m : ℕ) → m ≡ row.marker → is_marked m ≡ not (is_object (entry_of row))
+marked_object row m same = ap is_marked same ∙ go row.marker
+  where
+    go : (x : ℕ) → is_marked x ≡ not (is_body (content_of x row))
+    go zero = refl
+    go (suc x) = refl

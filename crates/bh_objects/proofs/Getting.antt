@@ -18,7 +18,10 @@ use Rattle.bh_model.specs.Operations.{Answer, Outcome, Head, Object, id_told, li
 use Rattle.bh_model.specs.declared.entries.LookupFault.{LookupFault}
 use Rattle.bh_tables.specs.Typed.{Tables, VersionRow}
 use Rattle.bh_tables.specs.Shown.{is_entry}
-use Rattle.bh_view.specs.View.{view, entry_of, content_of, id_of}
+use Rattle.bh_view.specs.View.{view, latest_of, entry_of, content_of, id_of}
+use Rattle.bh_storage.specs.Calls.{GivesStep, Carries, Decides}
+use Rattle.bh_storage.specs.declared.error.StepError.{StepError}
+use Rattle.bh_storage.specs.declared.error.StepError.TheVariants.{Refused, Failed}
 use Rattle.bh_view.specs.Sound.{IsSound}
 use Rattle.bh_view.specs.Wanted.{wanted_row, looked}
 use Rattle.bh_view.proofs.FilterLemmas.{none_some, same_Some}
@@ -155,3 +158,54 @@ module _ (tables : Tables) (t b k : Octets) (sound : IsSound tables) (mode : Buc
           let kept : cut plan its.row.bytes ≡ bytes = same_Some (sym (ap (option_map (λ v. cut plan (seen_bytes v))) entry) ∙ read) in
           planned_at ∙ ap (λ r. r >>= (λ p. Ok (Object (id_told mode (id_of head.id)) head.size p (cut p its.row.bytes) head.checksum, view tables t))) within
           ∙ ap (λ l. Ok (Object (id_told mode (id_of head.id)) head.size plan l head.checksum, view tables t)) kept
+
+-- ---- the calls, one after another
+
+abbrev pub as_object : RangePlan → Octets → Answer → Answer
+as_object plan bytes (Head id size checksum) = Object id size plan bytes checksum
+as_object plan bytes other = other
+
+module _ (old middle : Tables) (t b k : Octets) (sound : IsSound old) (mode : BucketState) (found : mode_in b (view old t) ≡ Ok mode) (wanted : Wanted) (one : middle ≡ old) where
+  abbrev Looked : Result SeenHead Rejection → Type 0
+  Looked r = head_looked wanted (option_map seen_head (wanted_row t b k wanted middle.versions)) ≡ r
+
+  looked_first : (r : Result SeenHead Rejection) → Looked r → head_looked wanted (option_map seen_head (wanted_row t b k wanted old.versions)) ≡ r
+  looked_first r e = ap (λ (x : Tables). head_looked wanted (option_map seen_head (wanted_row t b k wanted x.versions))) (sym one) ∙ e
+
+  pub heads : (new : Tables) (head : SeenHead) → Looked (Ok head) → new ≡ middle → GivesStep t (head_object b k wanted) (head_told mode head) old new
+  heads new head e two = record {
+    gives = head_is_told old t b k sound mode found wanted head (looked_first (Ok head) e) ∙ ap (λ (x : Tables). Ok (head_told mode head, view x t)) (sym (two ∙ one));
+    others = λ u apart. ap (λ (x : Tables). view x u) (two ∙ one);
+    latest = ap latest_of (two ∙ one);
+  }
+
+  pub heads_refused : (new : Tables) (x : Rejection) → Looked (Err x) → new ≡ middle → (head_object b k wanted (view old t) ≡ Err x) × (new ≡ old)
+  heads_refused new x e two = (head_is_refused old t b k sound mode found wanted x (looked_first (Err x) e), two ∙ one)
+
+  pub gets_refused : (range : Option Octets) (new : Tables) (x : Rejection) → Looked (Err x) → new ≡ middle → (get_object b k wanted range (view old t) ≡ Err x) × (new ≡ old)
+  gets_refused range new x e two = (get_is_refused old t b k sound mode found wanted x (looked_first (Err x) e) range, two ∙ one)
+
+  pub heads_failed : {X Y : Type 0} (view_head : X → SeenHead) (shows : Y → Answer) (new : Tables) (error : StepError Rejection)
+      → Decides view_head (head_looked wanted (option_map seen_head (wanted_row t b k wanted middle.versions))) middle new (Err error) → Carries shows t (head_object b k wanted) old new (Err error)
+  heads_failed view_head shows new (Refused x) d = heads_refused new x d.0 d.1
+  heads_failed view_head shows new (Failed trouble) d = tt
+
+  pub gets_failed : {X Y : Type 0} (view_head : X → SeenHead) (shows : Y → Answer) (range : Option Octets) (new : Tables) (error : StepError Rejection)
+      → Decides view_head (head_looked wanted (option_map seen_head (wanted_row t b k wanted middle.versions))) middle new (Err error) → Carries shows t (get_object b k wanted range) old new (Err error)
+  gets_failed view_head shows range new (Refused x) d = gets_refused range new x d.0 d.1
+  gets_failed view_head shows range new (Failed trouble) d = tt
+
+  module _ (last : Tables) (two : last ≡ middle) (range : Option Octets) (head : SeenHead) (e : Looked (Ok head)) where
+    pub gets_out_of_range : (x : Rejection) → planned range head.size ≡ Err x → (get_object b k wanted range (view old t) ≡ Err x) × (last ≡ old)
+    gets_out_of_range x out = (range_is_refused old t b k sound mode found wanted head (looked_first (Ok head) e) range x out, two ∙ one)
+
+    pub gets : (new : Tables) (plan : RangePlan) (bytes : Octets) → planned range head.size ≡ Ok plan → option_map (λ v. cut plan (seen_bytes v)) (find (is_entry t head.seq) last.versions) ≡ Some bytes → new ≡ last
+        → GivesStep t (get_object b k wanted range) (as_object plan bytes (head_told mode head)) old new
+    gets new plan bytes within read three =
+        let same : new ≡ old = three ∙ two ∙ one in
+        let first : option_map (λ v. cut plan (seen_bytes v)) (find (is_entry t head.seq) old.versions) ≡ Some bytes = ap (λ (x : Tables). option_map (λ v. cut plan (seen_bytes v)) (find (is_entry t head.seq) x.versions)) (sym (two ∙ one)) ∙ read in
+        record {
+          gives = object_is_told old t b k sound mode found wanted head (looked_first (Ok head) e) range plan bytes within first ∙ ap (λ (x : Tables). Ok (as_object plan bytes (head_told mode head), view x t)) (sym same);
+          others = λ u apart. ap (λ (x : Tables). view x u) same;
+          latest = ap latest_of same;
+        }

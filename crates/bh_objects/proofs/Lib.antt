@@ -5,4 +5,4 @@ pub mod Putting
 pub mod BucketSteps
 pub mod Getting
 pub mod Deleting
-pub mod Ids
+pub mod IdNumbers

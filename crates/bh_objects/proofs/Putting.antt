@@ -1,9 +1,9 @@
 -- PutObject: what was read, and the rows that were written, are the machine's step.
-use Rattle.std.proofs.Common.{◌≡◌, ℕ, ◌≤◌, true, false, is_ok, true≢false, Option, Some, None, option_map, ok_or, Result, Ok, Err, refl, sym, ap, ◌∙◌, subst}
+use Rattle.std.proofs.Common.{◌≡◌, ℕ, ◌≤◌, Bool, true, false, is_ok, true≢false, Option, Some, None, option_map, ok_or, Result, Ok, Err, refl, sym, ap, ◌∙◌, subst}
 use Rattle.std.specs.FinMap.{get}
 use Rattle.std.specs.Result.{result_map_both}
 use Rattle.bh_types.specs.Counts.{Counts}
-use Rattle.bh_types.specs.Outcomes.{◌>>=◌}
+use Rattle.bh_types.specs.Outcomes.{◌>>=◌, require}
 use Rattle.bh_types.specs.declared.bucket_state.BucketState.{BucketState}
 use Rattle.bh_types.specs.declared.refusal.Refusal.{Refusal}
 use Rattle.bh_types.specs.declared.refusal.Refusal.TheVariants.{NoSuchBucket, BadDigest}
@@ -18,7 +18,7 @@ use Rattle.bh_view.specs.View.{view, latest_of, limits_in}
 use Rattle.bh_view.specs.Sound.{IsSound}
 use Rattle.bh_view.proofs.PutLemmas.{object_put}
 use Rattle.bh_storage.specs.Calls.{GivesStep}
-use Rattle.bh_objects.specs.Found.{mode_in, numbers_in, IsKeyText, with_entry}
+use Rattle.bh_objects.specs.Found.{mode_in, numbers_in, sum_given, IsKeyText, with_entry}
 
 -- the tenant's bucket of a name, whose state was read
 pub record HasBucket (name : Octets) (v : Option State) (mode : BucketState) : Type 0 where
@@ -56,7 +56,7 @@ no_bucket name v r e = go (tenant_bucket name v) e
 pub has_numbers : (v : Option State) (s : State) (mode : BucketState) (before after : Counts) → v ≡ Some s → numbers_in mode v ≡ Ok (before, after) → (counts s ≡ before) × (after_entry mode (counts s) ≡ Ok after)
 has_numbers v s mode before after is e = go (after_entry mode (counts s)) refl (ap (numbers_in mode) (sym is) ∙ e)
   where
-    go : (x : Result Counts Refusal) → after_entry mode (counts s) ≡ x → (x >>= (λ a. Ok (counts s, a))) ≡ Ok (before, after) → (counts s ≡ before) × (after_entry mode (counts s) ≡ Ok after)
+    go : (x : Result Counts Refusal) → after_entry mode (counts s) ≡ x → ◌>>=◌ {B = Counts × Counts} x (λ a. Ok (counts s, a)) ≡ Ok (before, after) → (counts s ≡ before) × (after_entry mode (counts s) ≡ Ok after)
     go (Ok a) given e = (ap (λ r. (ok_value r (before, after)).0) e, given ∙ ap (λ r. Ok ((ok_value r (before, after)).1)) e)
     go (Err q) given e = absurd (true≢false (sym (ap is_ok e)))
 
@@ -64,9 +64,17 @@ has_numbers v s mode before after is e = go (after_entry mode (counts s)) refl (
 pub no_numbers : (v : Option State) (s : State) (mode : BucketState) (r : Refusal) → v ≡ Some s → numbers_in mode v ≡ Err r → after_entry mode (counts s) ≡ Err r
 no_numbers v s mode r is e = go (after_entry mode (counts s)) refl (ap (numbers_in mode) (sym is) ∙ e)
   where
-    go : (x : Result Counts Refusal) → after_entry mode (counts s) ≡ x → (x >>= (λ a. Ok (counts s, a))) ≡ Err r → after_entry mode (counts s) ≡ Err r
+    go : (x : Result Counts Refusal) → after_entry mode (counts s) ≡ x → ◌>>=◌ {B = Counts × Counts} x (λ a. Ok (counts s, a)) ≡ Err r → after_entry mode (counts s) ≡ Err r
     go (Ok a) given e = absurd (true≢false (ap is_ok e))
     go (Err q) given e = given ∙ ap (λ y. Err (err_value y r)) e
+
+-- the sum that was given, if one was, is right
+pub sum_right : (given : Option Octets) (bytes text : Octets) → sum_given given bytes ≡ Ok text → is_checksum given bytes ≡ true
+sum_right given bytes text e = go (is_checksum given bytes) e
+  where
+    go : (right : Bool) → (require right BadDigest >>= (λ _. Ok (checksum_text bytes))) ≡ Ok text → right ≡ true
+    go true e = refl
+    go false e = absurd (true≢false (sym (ap is_ok e)))
 
 module _ (v : Option State) (b k : Octets) (at : ℕ) (bytes : Octets) (given : Option Octets) where
   pub puts_nowhere : (r : Refusal) → mode_in b v ≡ Err r → put_object at b k bytes given v ≡ Err r

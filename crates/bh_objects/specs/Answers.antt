@@ -1,5 +1,5 @@
 -- What is answered of the rows that were found.
-use Rattle.std.specs.Prelude.{ℕ, zero, suc, Option, Some, None, Result, Ok, Err}
+use Rattle.std.specs.Prelude.{ℕ, zero, suc, Bool, true, false, Option, Some, None, Result, Ok, Err}
 use Rattle.bh_types.specs.Rejections.{plain}
 use Rattle.bh_types.specs.declared.bucket_state.BucketState.{BucketState}
 use Rattle.bh_types.specs.declared.wanted.Wanted.{Wanted}
@@ -34,3 +34,8 @@ head_looked wanted (Some head) = head_opened wanted head.marker head
 
 abbrev pub head_told : BucketState → SeenHead → Answer
 head_told mode head = Head (id_told mode (id_of head.id)) head.size head.checksum
+
+-- the column `marker`
+abbrev pub is_marked : ℕ → Bool
+is_marked zero = false
+is_marked (suc n) = true

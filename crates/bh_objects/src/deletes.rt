@@ -8,10 +8,11 @@ ghost use Rattle.bh_view.specs.View.{view, latest_of, id_of};
 ghost use Rattle.bh_schema.specs.Connections.{IsClean, tables, StaysWithin, StaysOpen};
 ghost use Rattle.bh_schema.specs.Working.{Works, StillWorks};
 ghost use Rattle.bh_objects.specs.Found.{mode_in};
+ghost use Rattle.bh_objects.specs.Answers.{is_marked};
 
 use crate::heads::numbered_head;
 use crate::ids::{number_of, told_id};
-use crate::reads::{bucket_state, new_numbers};
+use crate::reads::{Numbers, bucket_state, new_numbers};
 use crate::writes::{drop_entry, write_marker};
 use bh_model::entries::new_id;
 use bh_storage::answer::RemovedEntry;
@@ -36,6 +37,16 @@ fn nothing_told() -> RemovedEntry
     }
 }
 
+/// Whether the column `marker` says that an entry is a delete marker.
+fn is_marker(marker: u64) -> bool
+    ensures { result ≡ is_marked marker }
+{
+    match marker {
+        0 => false,
+        _ => true,
+    }
+}
+
 /// A delete marker is made, in a bucket that has or had versions: CounterExhausted.
 fn make_marker<S: Alter>(
     connection: &mut Connection<S>,
@@ -57,9 +68,10 @@ fn make_marker<S: Alter>(
         (tables S.Store connection.old) (tables S.Store connection.new) result }
 {
     let numbers = new_numbers(connection, tenant, mode)?;
-    write_marker(connection, tenant, bucket, key, at, mode, numbers)?;
+    let Numbers { before, after } = numbers;
+    write_marker(connection, tenant, bucket, key, at, mode, before, after)?;
     Ok(RemovedEntry {
-        id: Some(new_id(mode, numbers.before.version)),
+        id: Some(new_id(mode, before.version)),
         marker: true,
     })
 }
@@ -109,14 +121,16 @@ fn delete_numbered<S: Alter>(
         (tables S.Store connection.old) (tables S.Store connection.new) result }
 {
     let found = numbered_head(connection, tenant, bucket, key, number)?;
-    let Some(head) = found else {
-        return Ok(nothing_told());
-    };
-    drop_entry(connection, tenant, bucket, key, number)?;
-    Ok(RemovedEntry {
-        id: told_id(mode, id),
-        marker: head.marker != 0,
-    })
+    match found {
+        None => Ok(nothing_told()),
+        Some(head) => {
+            drop_entry(connection, tenant, bucket, key, number)?;
+            Ok(RemovedEntry {
+                id: told_id(mode, id),
+                marker: is_marker(head.marker),
+            })
+        }
+    }
 }
 
 /// A delete without an id.

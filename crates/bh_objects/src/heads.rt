@@ -220,6 +220,8 @@ pub fn head_object<S: Alter>(
         (tables S.Store connection.old) (tables S.Store connection.new) result }
 {
     let mode = bucket_state(connection, tenant, bucket)?;
-    let head = wanted_head(connection, tenant, bucket, key, wanted)?;
-    Ok(told_head(mode, head))
+    match wanted_head(connection, tenant, bucket, key, wanted) {
+        Ok(head) => Ok(told_head(mode, head)),
+        Err(error) => Err(error),
+    }
 }

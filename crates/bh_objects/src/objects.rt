@@ -1,6 +1,7 @@
-ghost use Rattle.std.specs.Prelude.{◌≡◌, ◌≤◌};
+ghost use Rattle.std.specs.Prelude.{◌≡◌, ◌≤◌, IfOk};
 ghost use Rattle.std.specs.Option.{option_copied};
 ghost use Rattle.std.specs.String.{string_bytes};
+ghost use Rattle.bh_types.specs.Checksums.{checksum_text};
 ghost use Rattle.bh_model.specs.Operations as machine;
 ghost use Rattle.bh_storage.specs.Answers.{stored_answer};
 ghost use Rattle.bh_storage.specs.Calls.{Unless, Carries};
@@ -10,7 +11,7 @@ ghost use Rattle.bh_schema.specs.Working.{Works, StillWorks};
 ghost use Rattle.bh_objects.specs.Found.{Answers, sum_given};
 
 use crate::ids::told_id;
-use crate::reads::{bucket_state, new_numbers};
+use crate::reads::{Numbers, bucket_state, new_numbers};
 use crate::writes::{NewObject, write_object};
 use bh_model::entries::new_id;
 use bh_storage::answer::StoredVersion;
@@ -26,7 +27,8 @@ fn checked_sum(
     bytes: &[u8],
     given: Option<&[u8]>,
 ) -> Result<String, StepError<Refusal>>
-    ensures { Answers string_bytes (sum_given (option_copied given.entry) bytes.now) result }
+    ensures answers { Answers string_bytes (sum_given (option_copied given.entry) bytes.now) result }
+    ensures text { IfOk result (λ text. string_bytes text ≡ checksum_text bytes.now) }
 {
     let checksum = checksum_of(alloc, bytes)?;
     let Some(text) = given else {
@@ -60,9 +62,10 @@ pub fn put_object<S: Alter>(
     let mode = bucket_state(connection, object.tenant, object.bucket)?;
     let checksum = checked_sum(alloc, object.bytes, given)?;
     let numbers = new_numbers(connection, object.tenant, mode)?;
-    write_object(connection, object, mode, numbers, checksum.as_str())?;
+    let Numbers { before, after } = numbers;
+    write_object(connection, object, mode, before, after, checksum.as_str())?;
     Ok(StoredVersion {
-        id: told_id(mode, new_id(mode, numbers.before.version)),
+        id: told_id(mode, new_id(mode, before.version)),
         checksum,
     })
 }

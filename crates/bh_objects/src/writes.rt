@@ -1,5 +1,6 @@
-ghost use Rattle.std.specs.Prelude.{◌<◌, ◌^◌, OnOk};
+ghost use Rattle.std.specs.Prelude.{◌≡◌, ◌<◌, ◌^◌, OnOk};
 ghost use Rattle.sqlite_keyed.specs.Lists.{update_where, delete_where};
+ghost use Rattle.bh_types.specs.Checksums.{checksum_text};
 ghost use Rattle.bh_model.specs.State.{Content.Marker, Content.Body};
 ghost use Rattle.bh_tables.specs.Shown.{is_tenant, is_version};
 ghost use Rattle.bh_view.specs.Put.{counters_row, rows_left};
@@ -7,7 +8,6 @@ ghost use Rattle.bh_schema.specs.Connections.{InTransaction, StaysWithin, StaysO
 ghost use Rattle.bh_objects.specs.Found.{IsKeyText, with_way, with_row, with_entry};
 
 use crate::ids::row_number;
-use crate::reads::Numbers;
 use bh_schema::rows;
 use bh_schema::rows::versions::{NewMarker, NewVersion};
 use bh_schema::trouble::trouble_of;
@@ -161,11 +161,12 @@ fn add_object<S: Alter>(
     checksum: &str,
 ) -> Result<(), Trouble>
     requires inside { InTransaction S.Store connection.old }
+    requires checksum { checksum.now ≡ checksum_text object.now.bytes.now }
     ensures within { StaysWithin S.Store connection.old connection.new }
     ensures opens { OnOk result (StaysOpen S.Store connection.old connection.new) }
     ensures holds { OnOk result (Becomes S.Store connection.old connection.new
         (with_row mode counters object.now.tenant.now object.now.bucket.now object.now.key.now object.now.at
-        (Body object.now.bytes.now checksum.now))) }
+        (Body object.now.bytes.now (checksum_text object.now.bytes.now)))) }
     ensures key { IsKeyText object.now.key.now }
 {
     let version = NewVersion {
@@ -190,20 +191,21 @@ pub fn write_object<S: Alter>(
     connection: &mut Connection<S>,
     object: &NewObject<'_>,
     mode: BucketState,
-    numbers: Numbers,
+    before: Counters,
+    after: Counters,
     checksum: &str,
 ) -> Result<(), Trouble>
     requires inside { InTransaction S.Store connection.old }
+    requires checksum { checksum.now ≡ checksum_text object.now.bytes.now }
     ensures within { StaysWithin S.Store connection.old connection.new }
     ensures opens { OnOk result (StaysOpen S.Store connection.old connection.new) }
     ensures holds { OnOk result (Becomes S.Store connection.old connection.new
-        (with_entry mode numbers.before numbers.after object.now.tenant.now object.now.bucket.now object.now.key.now
-        object.now.at (Body object.now.bytes.now checksum.now))) }
+        (with_entry mode before after object.now.tenant.now object.now.bucket.now object.now.key.now
+        object.now.at (Body object.now.bytes.now (checksum_text object.now.bytes.now)))) }
     ensures key { OnOk result (IsKeyText object.now.key.now) }
 {
-    let after = numbers.after;
     make_way(connection, object.tenant, object.bucket, object.key, mode, after)?;
-    add_object(connection, object, mode, numbers.before, checksum)
+    add_object(connection, object, mode, before, checksum)
 }
 
 fn add_marker<S: Alter>(
@@ -245,15 +247,16 @@ pub fn write_marker<S: Alter>(
     key: &ObjectKey,
     at: Moment,
     mode: BucketState,
-    numbers: Numbers,
+    before: Counters,
+    after: Counters,
 ) -> Result<(), Trouble>
     requires inside { InTransaction S.Store connection.old }
     ensures within { StaysWithin S.Store connection.old connection.new }
     ensures opens { OnOk result (StaysOpen S.Store connection.old connection.new) }
     ensures holds { OnOk result (Becomes S.Store connection.old connection.new
-        (with_entry mode numbers.before numbers.after tenant.now bucket.now key.now at Marker)) }
+        (with_entry mode before after tenant.now bucket.now key.now at Marker)) }
     ensures key { OnOk result (IsKeyText key.now) }
 {
-    make_way(connection, tenant, bucket, key, mode, numbers.after)?;
-    add_marker(connection, tenant, bucket, key, at, mode, numbers.before)
+    make_way(connection, tenant, bucket, key, mode, after)?;
+    add_marker(connection, tenant, bucket, key, at, mode, before)
 }

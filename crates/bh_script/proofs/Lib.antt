@@ -1,3 +1,2 @@
 mod Telling
-mod Memory
 mod Replies

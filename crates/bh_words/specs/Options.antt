@@ -1,7 +1,6 @@
 -- The options of the subcommands, as `clap` describes them: each has one value.
-use Rattle.std.specs.Prelude.{ℕ, ◌-◌, ◌^◌, List, [], ◌∷◌, codes, decimal, true, Option, Some, None}
+use Rattle.std.specs.Prelude.{ℕ, ◌-◌, ◌^◌, [], ◌∷◌, codes, decimal, true, Some}
 use Rattle.clap.specs.Words.{Rule, Text, new_rule}
-use Rattle.clap.specs.declared.builder.value_parser.ValueParser.{ValueParser}
 use Rattle.clap.specs.declared.builder.value_parser.ValueParser.TheVariants.{Unsigned}
 use Rattle.bh_types.specs.Limits.{default_limits, default_tuning}
 use Rattle.bh_words.specs.declared.options.OptionName.{OptionName}

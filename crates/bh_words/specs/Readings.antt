@@ -8,7 +8,7 @@ use Rattle.clap.specs.declared.parser.matches.ArgMatches.{ArgMatches}
 use Rattle.bh_types.specs.Limits.{HostLimits, HostTuning}
 use Rattle.bh_words.specs.Commands.{subcommands, the_command}
 use Rattle.bh_words.specs.Commands as commands
-use Rattle.bh_words.specs.Lines.{Secret, Written, FromInput, Told}
+use Rattle.bh_words.specs.Lines.{Secret, Written, FromInput, CommandLine}
 use Rattle.bh_words.specs.Lines as line
 use Rattle.bh_words.specs.Options.{word}
 use Rattle.bh_words.specs.declared.given.GivenError.{GivenError}
@@ -83,33 +83,33 @@ tuning_at rows = do
 
 -- ---- the subcommands
 
-abbrev pub script : List Row → Option Told
+abbrev pub script : List Row → Option CommandLine
 script rows = do
   limits ← limits_at rows
   tuning ← tuning_at rows
   Some (line.Script limits tuning)
 
-abbrev pub init : List Row → Option Told
+abbrev pub init : List Row → Option CommandLine
 init rows = do
   file ← text_at option.File rows
   limits ← limits_at rows
   Some (line.Init file limits)
 
-abbrev pub tenant_add : List Row → Option Told
+abbrev pub tenant_add : List Row → Option CommandLine
 tenant_add rows = do
   file ← text_at option.File rows
   tenant ← text_at option.Tenant rows
   quota ← number_at 64 option.Quota rows
   Some (line.TenantAdd file tenant quota (at rows))
 
-abbrev pub quota : List Row → Option Told
+abbrev pub quota : List Row → Option CommandLine
 quota rows = do
   file ← text_at option.File rows
   tenant ← text_at option.Tenant rows
   quota ← number_at 64 option.Quota rows
   Some (line.Quota file tenant quota (at rows))
 
-abbrev pub key_add : List Row → Option Told
+abbrev pub key_add : List Row → Option CommandLine
 key_add rows = do
   file ← text_at option.File rows
   tenant ← text_at option.Tenant rows
@@ -117,31 +117,31 @@ key_add rows = do
   secret ← secret_at rows
   Some (line.KeyAdd file tenant name secret (at rows))
 
-abbrev pub key_remove : List Row → Option Told
+abbrev pub key_remove : List Row → Option CommandLine
 key_remove rows = do
   file ← text_at option.File rows
   tenant ← text_at option.Tenant rows
   name ← text_at option.Name rows
   Some (line.KeyRemove file tenant name (at rows))
 
-abbrev pub usage : List Row → Option Told
+abbrev pub usage : List Row → Option CommandLine
 usage rows = do
   file ← text_at option.File rows
   tenant ← text_at option.Tenant rows
   Some (line.Usage file tenant (at rows))
 
-abbrev pub report : List Row → Option Told
+abbrev pub report : List Row → Option CommandLine
 report rows = do
   file ← text_at option.File rows
   Some (line.Report file (at rows))
 
-abbrev pub sweep : List Row → Option Told
+abbrev pub sweep : List Row → Option CommandLine
 sweep rows = do
   file ← text_at option.File rows
   limit ← number_at 32 option.Limit rows
   Some (line.Sweep file limit (at rows))
 
-abbrev pub serve : List Row → Option Told
+abbrev pub serve : List Row → Option CommandLine
 serve rows = do
   file ← text_at option.File rows
   port ← number_at 16 option.Port rows
@@ -150,34 +150,34 @@ serve rows = do
   tuning ← tuning_at rows
   Some (line.Serve file port count timeout tuning)
 
-abbrev pub told_at : Subcommand → List Row → Option Told
-told_at subcommand.Script = script
-told_at subcommand.Init = init
-told_at subcommand.TenantAdd = tenant_add
-told_at subcommand.Quota = quota
-told_at subcommand.KeyAdd = key_add
-told_at subcommand.KeyRemove = key_remove
-told_at subcommand.Usage = usage
-told_at subcommand.Report = report
-told_at subcommand.Sweep = sweep
-told_at subcommand.Serve = serve
+abbrev pub line_at : Subcommand → List Row → Option CommandLine
+line_at subcommand.Script = script
+line_at subcommand.Init = init
+line_at subcommand.TenantAdd = tenant_add
+line_at subcommand.Quota = quota
+line_at subcommand.KeyAdd = key_add
+line_at subcommand.KeyRemove = key_remove
+line_at subcommand.Usage = usage
+line_at subcommand.Report = report
+line_at subcommand.Sweep = sweep
+line_at subcommand.Serve = serve
 
 abbrev pub subcommand_named : Text → Option Subcommand
 subcommand_named name = find (λ s. bytes_eq (commands.word s) name) subcommands
 
 -- the line that a subcommand's name and matches tell
-abbrev pub told_in : Text × List Row → Option Told
-told_in met = do
+abbrev pub line_in : Text × List Row → Option CommandLine
+line_in met = do
   subcommand ← subcommand_named met.0
-  told_at subcommand met.1
+  line_at subcommand met.1
 
 -- the line that the matches of a subcommand tell
-abbrev pub told_of : Option (Text × List Row) → Option Told
-told_of met = met >>= told_in
+abbrev pub line_of : Option (Text × List Row) → Option CommandLine
+line_of met = met >>= line_in
 
 -- the line that words tell, by `clap`'s matches for the program's command
-unfoldable pub told_by : List Text → Option Told
-told_by words = told_of (subcommand_of the_command words)
+unfoldable pub told_by : List Text → Option CommandLine
+told_by words = line_of (subcommand_of the_command words)
 
 -- what `clap` refuses in words, by the kinds of its first fault; none where it takes them
 unfoldable pub faults_of : List Text → Kinds

@@ -47,10 +47,7 @@ static SUBCOMMANDS: [Subcommand; 10] = [
     Subcommand::Serve,
 ];
 
-fn subcommand_command<'a>(
-    alloc: Global,
-    subcommand: Subcommand,
-) -> Result<Command<'a>, AllocError>
+fn subcommand_command<'a>(alloc: Global, subcommand: Subcommand) -> Result<Command<'a>, AllocError>
     ensures shape { IfOk result (λ c. shape_of c ≡ spec.shape (spec.word subcommand) (spec.options subcommand)) }
     ensures local { IfOk result (λ c. (fields_of c).has_globals ≡ false) }
 {

@@ -17,9 +17,15 @@ pub enum SecretGiven {
 #[derive(Drop)]
 pub enum Line {
     /// Events from standard input, applied to a new host in memory.
-    Script { limits: Limits, tuning: Tuning },
+    Script {
+        limits: Limits,
+        tuning: Tuning,
+    },
     /// A new host in a file.
-    Init { file: String, limits: Limits },
+    Init {
+        file: String,
+        limits: Limits,
+    },
     /// A tenant with a quota in bytes.
     TenantAdd {
         file: String,
@@ -56,7 +62,10 @@ pub enum Line {
         at: Option<u64>,
     },
     /// How many blocks are stored, and what refers to them.
-    Report { file: String, at: Option<u64> },
+    Report {
+        file: String,
+        at: Option<u64>,
+    },
     /// At most `limit` stale uploads and unreferenced blocks go.
     Sweep {
         file: String,

@@ -54,9 +54,11 @@ impl OptionName {
             OptionName::File => "The host's file",
             OptionName::Tenant => "The tenant's name: 1 to 32 of a to z, 0 to 9",
             OptionName::Name => "The key's name: 1 to 32 of a to z, 0 to 9",
-            OptionName::Secret => "The key's secret: 8 to 64 printable ASCII characters; - reads it from standard input",
+            OptionName::Secret =>
+                "The key's secret: 8 to 64 printable ASCII characters; - reads it from standard input",
             OptionName::Quota => "How many bytes the tenant may use: 0 to 2^60",
-            OptionName::At => "The clock's reading, in seconds since 1970; without it the machine's clock is read",
+            OptionName::At =>
+                "The clock's reading, in seconds since 1970; without it the machine's clock is read",
             OptionName::Limit => "How many uploads and blocks may go: 0 to 2^32 - 1",
             OptionName::Port => "The port on 127.0.0.1",
             OptionName::Count => "How many connections are served",
@@ -103,13 +105,16 @@ impl OptionName {
         ensures rule { rule_of result ≡ spec.number self least most }
         ensures local { result.global ≡ false }
     {
-        self.described(alloc).value_parser(ValueParser::unsigned(least, most))
+        self.described(alloc)
+            .value_parser(ValueParser::unsigned(least, most))
     }
 
     fn described<'a>(self, alloc: Global) -> Arg<'a>
         ensures rule { rule_of result ≡ spec.described self }
         ensures local { result.global ≡ false }
     {
-        Arg::new(alloc, self.word()).long(self.word()).help(self.help())
+        Arg::new(alloc, self.word())
+            .long(self.word())
+            .help(self.help())
     }
 }

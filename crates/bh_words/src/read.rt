@@ -2,7 +2,7 @@ ghost use Rattle.std.specs.Prelude.{◌≡◌, ◌⊎◌, [], IfOk, IfErr, Some,
 ghost use Rattle.std.specs.String.{string_bytes};
 ghost use Rattle.clap.specs.Words.{FailsBy, HasKind, subcommand_of, subcommand_rows_of};
 ghost use Rattle.bh_words.specs.Commands.{the_command};
-ghost use Rattle.bh_words.specs.Lines.{told};
+ghost use Rattle.bh_words.specs.Lines.{command_line};
 ghost use Rattle.bh_words.specs.Readings as spec;
 
 use crate::command::the_command;
@@ -21,7 +21,7 @@ use std::alloc::{AllocError, Global};
 /// help, where the words ask for it or are none.
 pub fn read_words(alloc: Global, words: &[String]) -> Result<Line, LineFault>
     ensures told { IfOk result (λ line. (spec.faults_of (map string_bytes words.now) ≡ [])
-        × (spec.told_by (map string_bytes words.now) ≡ Some (told line))) }
+        × (spec.told_by (map string_bytes words.now) ≡ Some (command_line line))) }
     ensures refused { IfErr result (λ fault. HasKind (spec.faults_of (map string_bytes words.now)) fault.error
         ⊎ (spec.told_by (map string_bytes words.now) ≡ None)) }
 {
@@ -36,7 +36,10 @@ pub fn read_words(alloc: Global, words: &[String]) -> Result<Line, LineFault>
 // The fault of words that were taken and yet tell no line.
 fn unread(alloc: Global) -> Result<Error, AllocError> {
     let mut command = the_command(alloc)?;
-    command.error(ErrorKind::ValueValidation, "a value is missing or out of its range")
+    command.error(
+        ErrorKind::ValueValidation,
+        "a value is missing or out of its range",
+    )
 }
 
 fn matches_of<'a>(alloc: Global, words: &'a [String]) -> Result<ArgMatches<'a>, Error>
@@ -51,7 +54,7 @@ fn matches_of<'a>(alloc: Global, words: &'a [String]) -> Result<ArgMatches<'a>, 
 // The line that the subcommand of the matches tells.
 #[tactic(auto, using(crate::proofs::Rows::rows_met))]
 fn line_of(alloc: Global, matches: &ArgMatches<'_>) -> Result<Line, GivenError>
-    ensures { spec.Gives told result (spec.told_of (subcommand_rows_of matches.now)) }
+    ensures { spec.Gives command_line result (spec.line_of (subcommand_rows_of matches.now)) }
 {
     match matches.subcommand() {
         Some((name, given)) => line_in(alloc, name, given),

@@ -1,5 +1,5 @@
 //! The line that each subcommand's values tell.
-ghost use Rattle.bh_words.specs.Lines.{told};
+ghost use Rattle.bh_words.specs.Lines.{command_line};
 ghost use Rattle.bh_words.specs.Readings as spec;
 
 use crate::given::{GivenError, at, limit, limits, needed, number, port, secret, text, tuning};
@@ -10,12 +10,8 @@ use clap::ArgMatches;
 use std::alloc::Global;
 
 /// The line that a subcommand's name and values tell.
-pub(crate) fn line_in(
-    alloc: Global,
-    name: &str,
-    given: &ArgMatches<'_>,
-) -> Result<Line, GivenError>
-    ensures { spec.Gives told result (spec.told_in (name.now, spec.rows_in given.now)) }
+pub(crate) fn line_in(alloc: Global, name: &str, given: &ArgMatches<'_>) -> Result<Line, GivenError>
+    ensures { spec.Gives command_line result (spec.line_in (name.now, spec.rows_in given.now)) }
 {
     let subcommand = needed(Subcommand::named(name))?;
     line_of(alloc, subcommand, given)
@@ -26,7 +22,7 @@ fn line_of(
     subcommand: Subcommand,
     given: &ArgMatches<'_>,
 ) -> Result<Line, GivenError>
-    ensures { spec.Gives told result (spec.told_at subcommand (spec.rows_in given.now)) }
+    ensures { spec.Gives command_line result (spec.line_at subcommand (spec.rows_in given.now)) }
 {
     match subcommand {
         Subcommand::Script => script(given),
@@ -43,7 +39,7 @@ fn line_of(
 }
 
 fn script(given: &ArgMatches<'_>) -> Result<Line, GivenError>
-    ensures { spec.Gives told result (spec.script (spec.rows_in given.now)) }
+    ensures { spec.Gives command_line result (spec.script (spec.rows_in given.now)) }
 {
     let limits = needed(limits(given))?;
     let tuning = needed(tuning(given))?;
@@ -51,7 +47,7 @@ fn script(given: &ArgMatches<'_>) -> Result<Line, GivenError>
 }
 
 fn init(alloc: Global, given: &ArgMatches<'_>) -> Result<Line, GivenError>
-    ensures { spec.Gives told result (spec.init (spec.rows_in given.now)) }
+    ensures { spec.Gives command_line result (spec.init (spec.rows_in given.now)) }
 {
     let file = text(alloc, given, OptionName::File)?;
     let limits = needed(limits(given))?;
@@ -59,48 +55,69 @@ fn init(alloc: Global, given: &ArgMatches<'_>) -> Result<Line, GivenError>
 }
 
 fn tenant_add(alloc: Global, given: &ArgMatches<'_>) -> Result<Line, GivenError>
-    ensures { spec.Gives told result (spec.tenant_add (spec.rows_in given.now)) }
+    ensures { spec.Gives command_line result (spec.tenant_add (spec.rows_in given.now)) }
 {
     let file = text(alloc, given, OptionName::File)?;
     let tenant = text(alloc, given, OptionName::Tenant)?;
     let quota = needed(number(given, OptionName::Quota))?;
     let at = at(given);
-    Ok(Line::TenantAdd { file, tenant, quota, at })
+    Ok(Line::TenantAdd {
+        file,
+        tenant,
+        quota,
+        at,
+    })
 }
 
 fn quota(alloc: Global, given: &ArgMatches<'_>) -> Result<Line, GivenError>
-    ensures { spec.Gives told result (spec.quota (spec.rows_in given.now)) }
+    ensures { spec.Gives command_line result (spec.quota (spec.rows_in given.now)) }
 {
     let file = text(alloc, given, OptionName::File)?;
     let tenant = text(alloc, given, OptionName::Tenant)?;
     let quota = needed(number(given, OptionName::Quota))?;
     let at = at(given);
-    Ok(Line::Quota { file, tenant, quota, at })
+    Ok(Line::Quota {
+        file,
+        tenant,
+        quota,
+        at,
+    })
 }
 
 fn key_add(alloc: Global, given: &ArgMatches<'_>) -> Result<Line, GivenError>
-    ensures { spec.Gives told result (spec.key_add (spec.rows_in given.now)) }
+    ensures { spec.Gives command_line result (spec.key_add (spec.rows_in given.now)) }
 {
     let file = text(alloc, given, OptionName::File)?;
     let tenant = text(alloc, given, OptionName::Tenant)?;
     let name = text(alloc, given, OptionName::Name)?;
     let secret = secret(alloc, given)?;
     let at = at(given);
-    Ok(Line::KeyAdd { file, tenant, name, secret, at })
+    Ok(Line::KeyAdd {
+        file,
+        tenant,
+        name,
+        secret,
+        at,
+    })
 }
 
 fn key_remove(alloc: Global, given: &ArgMatches<'_>) -> Result<Line, GivenError>
-    ensures { spec.Gives told result (spec.key_remove (spec.rows_in given.now)) }
+    ensures { spec.Gives command_line result (spec.key_remove (spec.rows_in given.now)) }
 {
     let file = text(alloc, given, OptionName::File)?;
     let tenant = text(alloc, given, OptionName::Tenant)?;
     let name = text(alloc, given, OptionName::Name)?;
     let at = at(given);
-    Ok(Line::KeyRemove { file, tenant, name, at })
+    Ok(Line::KeyRemove {
+        file,
+        tenant,
+        name,
+        at,
+    })
 }
 
 fn usage(alloc: Global, given: &ArgMatches<'_>) -> Result<Line, GivenError>
-    ensures { spec.Gives told result (spec.usage (spec.rows_in given.now)) }
+    ensures { spec.Gives command_line result (spec.usage (spec.rows_in given.now)) }
 {
     let file = text(alloc, given, OptionName::File)?;
     let tenant = text(alloc, given, OptionName::Tenant)?;
@@ -109,7 +126,7 @@ fn usage(alloc: Global, given: &ArgMatches<'_>) -> Result<Line, GivenError>
 }
 
 fn report(alloc: Global, given: &ArgMatches<'_>) -> Result<Line, GivenError>
-    ensures { spec.Gives told result (spec.report (spec.rows_in given.now)) }
+    ensures { spec.Gives command_line result (spec.report (spec.rows_in given.now)) }
 {
     let file = text(alloc, given, OptionName::File)?;
     let at = at(given);
@@ -117,7 +134,7 @@ fn report(alloc: Global, given: &ArgMatches<'_>) -> Result<Line, GivenError>
 }
 
 fn sweep(alloc: Global, given: &ArgMatches<'_>) -> Result<Line, GivenError>
-    ensures { spec.Gives told result (spec.sweep (spec.rows_in given.now)) }
+    ensures { spec.Gives command_line result (spec.sweep (spec.rows_in given.now)) }
 {
     let file = text(alloc, given, OptionName::File)?;
     let limit = needed(limit(given))?;
@@ -126,12 +143,18 @@ fn sweep(alloc: Global, given: &ArgMatches<'_>) -> Result<Line, GivenError>
 }
 
 fn serve(alloc: Global, given: &ArgMatches<'_>) -> Result<Line, GivenError>
-    ensures { spec.Gives told result (spec.serve (spec.rows_in given.now)) }
+    ensures { spec.Gives command_line result (spec.serve (spec.rows_in given.now)) }
 {
     let file = text(alloc, given, OptionName::File)?;
     let port = needed(port(given))?;
     let count = needed(number(given, OptionName::Count))?;
     let timeout = needed(number(given, OptionName::Timeout))?;
     let tuning = needed(tuning(given))?;
-    Ok(Line::Serve { file, port, count, timeout, tuning })
+    Ok(Line::Serve {
+        file,
+        port,
+        count,
+        timeout,
+        tuning,
+    })
 }

@@ -26,13 +26,16 @@ static SCRIPT: [OptionName; 4] = [
     OptionName::MaxBody,
     OptionName::CacheBlocks,
 ];
+
 static INIT: [OptionName; 3] = [OptionName::File, OptionName::MinPart, OptionName::MaxBody];
+
 static TENANT_QUOTA: [OptionName; 4] = [
     OptionName::File,
     OptionName::Tenant,
     OptionName::Quota,
     OptionName::At,
 ];
+
 static KEY_ADD: [OptionName; 5] = [
     OptionName::File,
     OptionName::Tenant,
@@ -40,15 +43,20 @@ static KEY_ADD: [OptionName; 5] = [
     OptionName::Secret,
     OptionName::At,
 ];
+
 static KEY_REMOVE: [OptionName; 4] = [
     OptionName::File,
     OptionName::Tenant,
     OptionName::Name,
     OptionName::At,
 ];
+
 static USAGE: [OptionName; 3] = [OptionName::File, OptionName::Tenant, OptionName::At];
+
 static REPORT: [OptionName; 2] = [OptionName::File, OptionName::At];
+
 static SWEEP: [OptionName; 3] = [OptionName::File, OptionName::Limit, OptionName::At];
+
 static SERVE: [OptionName; 6] = [
     OptionName::File,
     OptionName::Port,
@@ -80,7 +88,8 @@ impl Subcommand {
     /// What it does, for the help.
     pub(crate) fn about<'a>(self) -> &'a str {
         match self {
-            Subcommand::Script => "Applies events from standard input to a new host in memory, and writes their answers",
+            Subcommand::Script =>
+                "Applies events from standard input to a new host in memory, and writes their answers",
             Subcommand::Init => "Makes a host in a file",
             Subcommand::TenantAdd => "Adds a tenant",
             Subcommand::Quota => "Sets a tenant's quota",

@@ -137,7 +137,10 @@ fn limits_text(alloc: Global, limits: &Limits) -> Answer {
 }
 
 fn tuning_text(alloc: Global, tuning: &Tuning) -> Answer {
-    Ok(format!(in alloc; "block-size {} cache-blocks {}", tuning.block_size, tuning.cache_blocks)?)
+    Ok(format!(in alloc;
+        "block-size {} cache-blocks {}",
+        tuning.block_size, tuning.cache_blocks
+    )?)
 }
 
 fn secret_text(alloc: Global, secret: &SecretGiven) -> Answer {

@@ -1,8 +1,8 @@
 //! Names, keys and ids, and words of the command line.
 
 use crate::answer::{Answer, text, text_or_none};
-use crate::{command_line, plain};
 use crate::words::wanted_text;
+use crate::{command_line, plain};
 use bh_types::bucket::BucketName;
 use bh_types::id::{UploadId, VersionId};
 use bh_types::key::ObjectKey;

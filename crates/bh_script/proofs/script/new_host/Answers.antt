@@ -2,7 +2,7 @@ use Rattle.std.proofs.Common.{subst, sym, ◌∙◌}
 use Rattle.sqlite.specs.Held.{state}
 use Rattle.sqlite.specs.Steps.{over_memory}
 use Rattle.bh_create.specs.Creation.{IsNewHost}
-use Rattle.bh_script.proofs.Memory.{is_clean}
+use Rattle.bh_create.proofs.Memory.{is_clean}
 use Rattle.bh_script.proofs.script.new_host.Goals as goal
 
 pub returns-in-Ok-clause-limits : goal.returns-in-Ok-clause-limits

@@ -1,4 +1,4 @@
-use Rattle.bh_script.proofs.Memory.{is_intact}
+use Rattle.bh_create.proofs.Memory.{is_intact}
 use Rattle.bh_script.proofs.Replies.{ran_anew, made_first}
 use Rattle.bh_script.proofs.script.serve.Goals as goal
 

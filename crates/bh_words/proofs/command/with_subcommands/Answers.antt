@@ -1,4 +1,4 @@
-use Rattle.std.proofs.Common.{rules, ◌≡◌, ◌∙◌, ap, ap₂, sym, arith}
+use Rattle.std.proofs.Common.{◌∙◌, ap₂, sym}
 use Rattle.std.proofs.lemmas.List.Sums.{fold_more}
 use Rattle.clap.specs.Words.{with_subcommand}
 use Rattle.bh_words.proofs.command.with_subcommands.Goals as goal

@@ -1,5 +1,4 @@
-use Rattle.std.proofs.Common.{rules, ◌≡◌, refl}
-use Rattle.clap.specs.Words.{rule_of}
+use Rattle.std.proofs.Common.{rules}
 use Rattle.bh_words.proofs.Texts.{digits_30, digits_5242880, digits_16777216, digits_65536, digits_0}
 use Rattle.bh_words.proofs.options.OptionName.arg.Goals as goal
 

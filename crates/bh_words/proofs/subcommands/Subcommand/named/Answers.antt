@@ -1,6 +1,4 @@
-use Rattle.std.proofs.Common.{rules, ◌≡◌, find, refl}
-use Rattle.std.specs.Str.{bytes_eq}
-use Rattle.bh_words.specs.Commands as spec
+use Rattle.std.proofs.Common.{refl}
 use Rattle.bh_words.proofs.Texts.{unequal}
 use Rattle.bh_words.proofs.subcommands.Subcommand.named.Goals as goal
 

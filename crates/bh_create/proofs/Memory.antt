@@ -10,7 +10,7 @@ pub is_intact : (h : Held MemStore) → IsIntact (state over_memory h)
 unfolding IsIntact doubt
 is_intact h = refl
 
-is_open : (h : Held MemStore) → IsOpen (state over_memory h)
+pub is_open : (h : Held MemStore) → IsOpen (state over_memory h)
 unfolding IsOpen
 is_open h = refl
 

@@ -1,0 +1,55 @@
+use Rattle.std.proofs.Common.{◌≡◌, Option, Some, option_map, sym, ap, ◌∙◌, subst}
+use Rattle.sqlite.specs.Held.{state}
+use Rattle.sqlite_keyed.specs.Lists.{delete_where}
+use Rattle.bh_types.specs.declared.id.VersionId.{VersionId}
+use Rattle.bh_types.specs.declared.wanted.Wanted.TheVariants.{Named}
+use Rattle.bh_model.specs.Operations.{Answer, Removed, delete_object}
+use Rattle.bh_tables.specs.Typed.{Tables}
+use Rattle.bh_tables.specs.Shown.{is_version}
+use Rattle.bh_view.proofs.FilterLemmas.{none_mapped}
+use Rattle.bh_view.proofs.BucketLemmas.{row_of}
+use Rattle.bh_schema.specs.Rows.{SeenHead, seen_head}
+use Rattle.bh_schema.specs.Views.{head_seen}
+use Rattle.bh_schema.specs.Working.{tables_at}
+use Rattle.bh_storage.specs.Calls.{GivesStep}
+use Rattle.bh_objects.proofs.Working.{same_tables}
+use Rattle.bh_objects.proofs.Deleting.{Steps, deletes_absent, deletes_entry, marked_object}
+use Rattle.bh_objects.proofs.deletes.delete_numbered.Goals as goal
+
+pub returns-in-None-clause-carries : goal.returns-in-None-clause-carries
+returns-in-None-clause-carries g c clean =
+    let old = tables_at (state g.S.Store c.args.connection.now) in
+    let new = tables_at (state g.S.Store c.numbered_head.new.connection) in
+    let clean_old = c.in_ok-found.ensures.within.follows.clean clean in
+    subst (λ (a : Answer). GivesStep c.args.tenant.now (delete_object c.args.at c.args.bucket.now c.args.key.now (Named c.args.id)) a old new) (sym c.nothing_told.ensures)
+    (deletes_absent old new c.args.tenant.now c.args.bucket.now c.args.key.now c.args.at (c.requires.working clean_old).sound c.args.mode (c.requires.state clean_old) c.args.id c.args.number c.requires.number
+    (none_mapped seen_head _ (sym (c.in_ok-found.ensures.found clean) ∙ ap (option_map head_seen) c.in-None.is))
+    (same_tables (state g.S.Store c.args.connection.now) (state g.S.Store c.numbered_head.new.connection) (c.in_ok-found.ensures.same clean.intact)))
+
+pub returns-in_ok-drop_entry-in-Some-clause-working : goal.returns-in_ok-drop_entry-in-Some-clause-working
+returns-in_ok-drop_entry-in-Some-clause-working g c clean =
+    let old = tables_at (state g.S.Store c.args.connection.now) in
+    let new = tables_at (state g.S.Store c.drop_entry.new.connection) in
+    let clean_middle = c.in_ok-drop_entry-in-Some.ensures.within.follows.clean clean in
+    let clean_old = c.in_ok-found.ensures.within.follows.clean clean_middle in
+    let same = same_tables (state g.S.Store c.args.connection.now) (state g.S.Store c.numbered_head.new.connection) (c.in_ok-found.ensures.same clean_middle.intact) in
+    let row = row_of seen_head _ (head_seen c.in-Some.head) (sym (c.in_ok-found.ensures.found clean_middle) ∙ ap (option_map head_seen) c.in-Some.is) in
+    let done = subst (λ (id : Option VersionId). Steps c.args.tenant.now c.args.bucket.now c.args.key.now c.args.at (Named c.args.id) (Removed id c.is_marker.result) old new) (sym c.told_id.ensures)
+    (deletes_entry old new c.args.tenant.now c.args.bucket.now c.args.key.now c.args.at (c.requires.working clean_old).sound c.args.mode (c.requires.state clean_old) c.args.id c.args.number c.requires.number
+    row.0 c.is_marker.result row.1 (c.is_marker.ensures ∙ marked_object row.0 c.in-Some.head.marker (ap (λ (x : SeenHead). x.marker) (sym row.2)))
+    ((c.in_ok-drop_entry-in-Some.ensures.holds clean).is ∙ ap (λ (x : Tables). record x { versions = delete_where (is_version c.args.tenant.now c.args.bucket.now c.args.key.now c.args.number) x.versions }) same)) in
+    record { is = record { inside = (c.in_ok-drop_entry-in-Some.ensures.holds clean).within; sound = done.1 }; limits = done.2 }
+
+pub returns-in_ok-drop_entry-in-Some-clause-carries : goal.returns-in_ok-drop_entry-in-Some-clause-carries
+returns-in_ok-drop_entry-in-Some-clause-carries g c clean =
+    let old = tables_at (state g.S.Store c.args.connection.now) in
+    let new = tables_at (state g.S.Store c.drop_entry.new.connection) in
+    let clean_middle = c.in_ok-drop_entry-in-Some.ensures.within.follows.clean clean in
+    let clean_old = c.in_ok-found.ensures.within.follows.clean clean_middle in
+    let same = same_tables (state g.S.Store c.args.connection.now) (state g.S.Store c.numbered_head.new.connection) (c.in_ok-found.ensures.same clean_middle.intact) in
+    let row = row_of seen_head _ (head_seen c.in-Some.head) (sym (c.in_ok-found.ensures.found clean_middle) ∙ ap (option_map head_seen) c.in-Some.is) in
+    let done = subst (λ (id : Option VersionId). Steps c.args.tenant.now c.args.bucket.now c.args.key.now c.args.at (Named c.args.id) (Removed id c.is_marker.result) old new) (sym c.told_id.ensures)
+    (deletes_entry old new c.args.tenant.now c.args.bucket.now c.args.key.now c.args.at (c.requires.working clean_old).sound c.args.mode (c.requires.state clean_old) c.args.id c.args.number c.requires.number
+    row.0 c.is_marker.result row.1 (c.is_marker.ensures ∙ marked_object row.0 c.in-Some.head.marker (ap (λ (x : SeenHead). x.marker) (sym row.2)))
+    ((c.in_ok-drop_entry-in-Some.ensures.holds clean).is ∙ ap (λ (x : Tables). record x { versions = delete_where (is_version c.args.tenant.now c.args.bucket.now c.args.key.now c.args.number) x.versions }) same)) in
+    done.0

@@ -1,0 +1,19 @@
+use Rattle.std.proofs.Common.{◌≡◌, sym, subst}
+use Rattle.sqlite.specs.Held.{state}
+use Rattle.bh_types.specs.declared.wanted.Wanted.{Wanted}
+use Rattle.bh_types.specs.declared.wanted.Wanted.TheVariants.{Unknown}
+use Rattle.bh_model.specs.Operations.{Answer, delete_object}
+use Rattle.bh_schema.specs.Working.{tables_at}
+use Rattle.bh_storage.specs.Answers.{removed_answer}
+use Rattle.bh_storage.specs.Calls.{GivesStep}
+use Rattle.bh_objects.proofs.Deleting.{deletes_unknown}
+use Rattle.bh_objects.proofs.deletes.delete_object.Goals as goal
+
+pub returns-in-Unknown-clause-carries : goal.returns-in-Unknown-clause-carries
+returns-in-Unknown-clause-carries g c clean =
+    let old = tables_at (state g.S.Store c.args.connection.now) in
+    let new = tables_at (state g.S.Store c.bucket_state.new.connection) in
+    let one = c.in_ok-mode.ensures.decides clean in
+    subst (λ (w : Wanted). GivesStep c.args.tenant.now (delete_object c.args.at c.args.bucket.now c.args.key.now w) (removed_answer c.nothing_told.result) old new) (sym c.in-Unknown.is)
+    (subst (λ (a : Answer). GivesStep c.args.tenant.now (delete_object c.args.at c.args.bucket.now c.args.key.now Unknown) a old new) (sym c.nothing_told.ensures)
+    (deletes_unknown old new c.args.tenant.now c.args.bucket.now c.args.key.now c.args.at (c.requires.working (c.in_ok-mode.ensures.within.follows.clean clean)).sound c.in_ok-mode.mode one.0 one.1))

@@ -1,0 +1,45 @@
+use Rattle.std.proofs.Common.{◌≡◌, Err, sym, subst}
+use Rattle.std.proofs.lemmas.Result.{err_from_is_err_and}
+use Rattle.std.specs.Option.{option_copied}
+use Rattle.sqlite.specs.Held.{state}
+use Rattle.bh_model.specs.Operations.{Answer, get_object}
+use Rattle.bh_schema.specs.Views.{head_seen}
+use Rattle.bh_schema.specs.Working.{tables_at}
+use Rattle.bh_storage.specs.Answers.{found_answer}
+use Rattle.bh_storage.specs.Calls.{GivesStep}
+use Rattle.bh_objects.proofs.Working.{same_tables}
+use Rattle.bh_objects.proofs.Getting.{as_object, gets, gets_failed, gets_out_of_range}
+use Rattle.bh_objects.proofs.gets.get_object.Goals as goal
+
+pub returns-in_err-head-clause-carries : goal.returns-in_err-head-clause-carries
+returns-in_err-head-clause-carries g c clean =
+    let p = err_from_is_err_and c.from_residual-in_err-head.result c.from_residual-in_err-head.ensures.1 in
+    let clean_first = c.in_err-head.ensures.within.follows.clean clean in
+    let one = c.in_ok-mode.ensures.decides clean_first in
+    rw (p.1, p.2) (gets_failed (tables_at (state g.S.Store c.args.connection.now)) (tables_at (state g.S.Store c.bucket_state.new.connection)) c.args.tenant.now c.args.bucket.now c.args.key.now
+    (c.requires (c.in_ok-mode.ensures.within.follows.clean clean_first)).sound c.in_ok-mode.mode one.0 c.args.wanted one.1 head_seen found_answer (option_copied c.args.range) (tables_at (state g.S.Store c.wanted_head.new.connection)) c.in_err-head.field-0.0 (c.in_err-head.ensures.decides clean))
+
+pub returns-in_err-plan-clause-carries : goal.returns-in_err-plan-clause-carries
+returns-in_err-plan-clause-carries g c clean =
+    let p = err_from_is_err_and c.from_residual-in_err-plan.result c.from_residual-in_err-plan.ensures.1 in
+    let clean_first = c.in_ok-head.ensures.within.follows.clean clean in
+    let one = c.in_ok-mode.ensures.decides clean_first in
+    let two = c.in_ok-head.ensures.decides clean in
+    rw (p.1, p.2) (gets_out_of_range (tables_at (state g.S.Store c.args.connection.now)) (tables_at (state g.S.Store c.bucket_state.new.connection)) c.args.tenant.now c.args.bucket.now c.args.key.now
+    (c.requires (c.in_ok-mode.ensures.within.follows.clean clean_first)).sound c.in_ok-mode.mode one.0 c.args.wanted one.1 (tables_at (state g.S.Store c.wanted_head.new.connection)) two.1 (option_copied c.args.range) (head_seen c.in_ok-head.head) two.0
+    c.in_err-plan.field-0.0 (sym c.in_err-plan.ensures))
+
+pub returns-clause-carries : goal.returns-clause-carries
+returns-clause-carries g c clean =
+    let old = tables_at (state g.S.Store c.args.connection.now) in
+    let middle = tables_at (state g.S.Store c.bucket_state.new.connection) in
+    let last = tables_at (state g.S.Store c.wanted_head.new.connection) in
+    let new = tables_at (state g.S.Store c.planned_bytes.new.connection) in
+    let clean_last = c.in_ok-bytes.ensures.within.follows.clean clean in
+    let clean_first = c.in_ok-head.ensures.within.follows.clean clean_last in
+    let one = c.in_ok-mode.ensures.decides clean_first in
+    let two = c.in_ok-head.ensures.decides clean_last in
+    subst (λ (a : Answer). GivesStep c.args.tenant.now (get_object c.args.bucket.now c.args.key.now c.args.wanted (option_copied c.args.range)) (as_object c.in_ok-plan.plan c.in_ok-bytes.bytes.items a) old new) (sym c.told_head.ensures)
+    (gets old middle c.args.tenant.now c.args.bucket.now c.args.key.now (c.requires (c.in_ok-mode.ensures.within.follows.clean clean_first)).sound c.in_ok-mode.mode one.0 c.args.wanted one.1 last two.1 (option_copied c.args.range) (head_seen c.in_ok-head.head) two.0
+    new c.in_ok-plan.plan c.in_ok-bytes.bytes.items (sym c.in_ok-plan.ensures) (c.in_ok-bytes.ensures.found clean)
+    (same_tables (state g.S.Store c.wanted_head.new.connection) (state g.S.Store c.planned_bytes.new.connection) (c.in_ok-bytes.ensures.same clean.intact)))

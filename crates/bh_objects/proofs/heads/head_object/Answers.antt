@@ -1,0 +1,27 @@
+use Rattle.std.proofs.Common.{◌≡◌, sym, subst}
+use Rattle.sqlite.specs.Held.{state}
+use Rattle.bh_model.specs.Operations.{Answer, head_object}
+use Rattle.bh_schema.specs.Views.{head_seen}
+use Rattle.bh_schema.specs.Working.{tables_at}
+use Rattle.bh_storage.specs.Answers.{head_answer}
+use Rattle.bh_storage.specs.Calls.{GivesStep}
+use Rattle.bh_objects.proofs.Getting.{heads, heads_failed}
+use Rattle.bh_objects.proofs.heads.head_object.Goals as goal
+
+pub returns-in-Ok-clause-carries : goal.returns-in-Ok-clause-carries
+returns-in-Ok-clause-carries g c clean =
+    let old = tables_at (state g.S.Store c.args.connection.now) in
+    let middle = tables_at (state g.S.Store c.bucket_state.new.connection) in
+    let new = tables_at (state g.S.Store c.wanted_head.new.connection) in
+    let clean_first = c.in-Ok.ensures.within.follows.clean clean in
+    let one = c.in_ok-mode.ensures.decides clean_first in
+    let two = c.in-Ok.ensures.decides clean in
+    subst (λ (a : Answer). GivesStep c.args.tenant.now (head_object c.args.bucket.now c.args.key.now c.args.wanted) a old new) (sym c.told_head.ensures)
+    (heads old middle c.args.tenant.now c.args.bucket.now c.args.key.now (c.requires (c.in_ok-mode.ensures.within.follows.clean clean_first)).sound c.in_ok-mode.mode one.0 c.args.wanted one.1 new (head_seen c.in-Ok.head) two.0 two.1)
+
+pub returns-in-Err-clause-carries : goal.returns-in-Err-clause-carries
+returns-in-Err-clause-carries g c clean =
+    let clean_first = c.in-Err.ensures.within.follows.clean clean in
+    let one = c.in_ok-mode.ensures.decides clean_first in
+    heads_failed (tables_at (state g.S.Store c.args.connection.now)) (tables_at (state g.S.Store c.bucket_state.new.connection)) c.args.tenant.now c.args.bucket.now c.args.key.now
+    (c.requires (c.in_ok-mode.ensures.within.follows.clean clean_first)).sound c.in_ok-mode.mode one.0 c.args.wanted one.1 head_seen head_answer (tables_at (state g.S.Store c.wanted_head.new.connection)) c.in-Err.error (c.in-Err.ensures.decides clean)

@@ -1,0 +1,3 @@
+mod Texts
+mod Rows
+mod Steps

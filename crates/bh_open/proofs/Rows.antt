@@ -1,0 +1,36 @@
+-- When a row is the one of a host of this version and these limits.
+use Rattle.std.proofs.Common.{arith, ◌≡◌, ◌≢◌, ℕ, List, [], ◌∷◌, length, map, slice_get, Some, refl, sym, ap, ◌∙◌, subst}
+use Rattle.sqlite.specs.Order.{Row}
+use Rattle.bh_types.specs.Limits.{HostLimits, AreLimits}
+use Rattle.bh_tables.specs.Typed.{HostRow, Tables}
+use Rattle.bh_view.specs.View.{limits_in}
+use Rattle.bh_open.specs.Opening.{IsRowOf, shown_row}
+
+same_row : (limits : HostLimits) (h : HostRow) → (it : IsRowOf limits (h ∷ [])) → it.row ≡ h
+same_row limits h it = let e = it.alone in cc
+
+pub other_version : (h : HostRow) → ¬ (h.version ≡ 0) → (limits : HostLimits) → ¬ IsRowOf limits (h ∷ [])
+other_version h other limits it = other (ap (λ (r : HostRow). r.version) (sym (same_row limits h it)) ∙ it.version)
+
+pub out_of_range : (h : HostRow) → ¬ AreLimits h.min_part h.max_body → (limits : HostLimits) → ¬ IsRowOf limits (h ∷ [])
+out_of_range h out limits it = out (subst (λ (r : HostRow). AreLimits r.min_part r.max_body) (same_row limits h it) it.range)
+
+pub in_range : (h : HostRow) → h.version ≡ 0 → AreLimits h.min_part h.max_body → IsRowOf (record { min_part = h.min_part; max_body = h.max_body }) (h ∷ [])
+in_range h version range = record { row = h; alone = refl; version = version; range = range; limits_are = refl }
+
+pub limits_kept : (tables : Tables) (limits : HostLimits) → IsRowOf limits tables.host → limits_in tables ≡ limits
+unfolding limits_in
+limits_kept tables limits it = ap (λ l. limits_in (record tables { host = l })) it.alone ∙ sym it.limits_are
+
+-- ---- the rows that are read
+
+-- one row is shown: it is that of the one that is there
+pub sole : {P : Type 0} (hosts : List HostRow) (rows : List Row) (row : Row) → rows ≡ map shown_row hosts → length rows ≡ 1 → Some row ≡ slice_get rows 0
+    → ((h : HostRow) → hosts ≡ h ∷ [] → row ≡ shown_row h → P) → P
+sole [] rows row all one first use_it = absurd (cc)
+sole (h ∷ []) rows row all one first use_it = use_it h refl (let e = first ∙ ap (λ (l : List Row). slice_get l 0) all in cc)
+sole (h ∷ k ∷ hosts) rows row all one first use_it = let e = ap length (sym all) ∙ one in absurd (omega (arith, e))
+
+-- none or several are shown: no host has them
+pub not_sole : (hosts : List HostRow) (rows : List Row) → rows ≡ map shown_row hosts → length rows ≢ 1 → (limits : HostLimits) → ¬ IsRowOf limits hosts
+not_sole hosts rows all several limits it = several (ap length all ∙ ap (λ l. length (map shown_row l)) it.alone)

@@ -1,0 +1,42 @@
+-- What an open finds in a database.
+use Rattle.std.specs.Prelude.{◌≡◌, false, List, [], ◌∷◌, Option, MatchOption}
+use Rattle.sqlite.specs.Order.{Row}
+use Rattle.sqlite.specs.Effect.{Database}
+use Rattle.sqlite.specs.State.{State}
+use Rattle.bh_types.specs.Limits.{HostLimits, AreLimits}
+use Rattle.bh_tables.specs.Typed.{HostRow, IsHost, tables_in, number}
+use Rattle.bh_schema.specs.Layer.{standing, IsOpen, IsStateClean, KeepsDisk, LeavesNothingNew}
+
+-- the one row that a host of this version and these limits keeps of itself
+pub record IsRowOf (limits : HostLimits) (rows : List HostRow) : Type 0 where
+  pub row : HostRow
+  pub alone : rows ≡ row ∷ []
+  pub version : row.version ≡ 0
+  pub range : AreLimits row.min_part row.max_body
+  pub limits_are : limits ≡ record { min_part = row.min_part; max_body = row.max_body }
+
+-- a database of a host of this version and these limits
+pub record IsHostOf (limits : HostLimits) (db : Database) : Type 0 where
+  pub host : IsHost db
+  pub row : IsRowOf limits (tables_in db).host
+
+-- the columns that are read
+abbrev pub shown_row : HostRow → Row
+shown_row h = number h.version ∷ number h.min_part ∷ number h.max_body ∷ []
+
+-- ---- the calls of an open
+
+-- what was read of these rows: the limits of a host of this version, or that they are none's
+abbrev pub Reads : List HostRow → Option HostLimits → Type 0
+Reads rows found = MatchOption found ((limits : HostLimits) → ¬ IsRowOf limits rows) (λ limits. IsRowOf limits rows)
+
+-- no transaction is open, and what stands was committed
+pub record IsSettled (s : State) : Type 0 where
+  pub outside : (standing s).inside ≡ false
+  pub committed : IsOpen s → (standing s).now ≡ (standing s).kept
+
+-- nothing is committed
+pub record IsKept (old new : State) : Type 0 where
+  pub follows : KeepsDisk old new
+  pub kept : IsStateClean new → (standing new).kept ≡ (standing old).kept
+  pub survives : IsOpen old → LeavesNothingNew old new

@@ -1,0 +1,62 @@
+ghost use Rattle.std.specs.Prelude.{◌≡◌, true, map, [], ◌∷◌, None, IfOk, IfErr, OnOk};
+ghost use Rattle.sqlite.specs.Held.{state};
+ghost use Rattle.bh_rows.specs.Means.{is_trouble};
+ghost use Rattle.bh_tables.specs.Schema.{host_schema};
+ghost use Rattle.bh_tables.specs.Typed.{HostRow as Stored, IsHost};
+ghost use Rattle.bh_schema.specs.Connections.{IsClean, stands, tables, StaysWithin, WasOpen, ChangesNothing, IsTrouble};
+ghost use Rattle.bh_open.specs.Opening.{shown_row, Reads};
+
+use bh_types::limits::Limits;
+use sqlite::{Alter, Connection, Error, Row};
+
+#[tactic(auto, using(crate::proofs::Rows::other_version, crate::proofs::Rows::out_of_range, crate::proofs::Rows::in_range))]
+/// The limits, if the version is this one and they are in their ranges.
+fn limits_of(version: u64, min_part: u64, max_body: u64) -> Option<Limits>
+    ensures { (h : Stored) → h.version ≡ version → h.min_part ≡ min_part → h.max_body ≡ max_body → Reads (h ∷ []) result }
+{
+    if version == 0 {
+        Limits::new(min_part, max_body)
+    } else {
+        None
+    }
+}
+
+/// The limits in the host's row, if it is of this version and they are in their ranges.
+fn read_limits(row: &Row) -> Result<Option<Limits>, Error>
+    ensures read { IfOk result (λ found. (h : Stored) → row.now ≡ shown_row h → Reads (h ∷ []) found) }
+    ensures trouble { IfErr result (λ e. (h : Stored) → row.now ≡ shown_row h → is_trouble e ≡ true) }
+{
+    Ok(limits_of(row.get(0)?, row.get(1)?, row.get(2)?))
+}
+
+#[tactic(auto, using(crate::proofs::Rows::not_sole))]
+/// The limits of a host, if these rows are the one row of a host of this version.
+pub fn limits_in(rows: &[Row]) -> Result<Option<Limits>, Error>
+    ensures read { IfOk result (λ found. (hosts : _) → rows.now ≡ map shown_row hosts → Reads hosts found) }
+    ensures trouble { IfErr result (λ e. (hosts : _) → rows.now ≡ map shown_row hosts → is_trouble e ≡ true) }
+{
+    if rows.len() != 1 {
+        return Ok(None);
+    }
+    match rows.first() {
+        Some(row) => read_limits(row),
+        None => Ok(None),
+    }
+}
+
+/// The rows of the host's table, in a transaction over a host's schema.
+pub fn host_rows<S: Alter>(connection: &mut Connection<S>) -> Result<Vec<Row>, Error>
+    requires inside { IsClean S.Store connection.old → (stands S.Store connection.old).inside ≡ true }
+    requires schema { IsClean S.Store connection.old → (stands S.Store connection.old).now.schema ≡ host_schema }
+    ensures within { StaysWithin S.Store connection.old connection.new }
+    ensures opens { OnOk result (WasOpen S.Store connection.old connection.new) }
+    ensures same { OnOk result (ChangesNothing S.Store connection.old connection.new) }
+    ensures rows { IfOk result (λ rows. IsClean S.Store connection.new → IsHost (stands S.Store connection.old).now
+        → rows.items ≡ map shown_row (tables S.Store connection.old).host) }
+    ensures trouble { IfErr result (IsTrouble S.Store connection.old connection.new) }
+{
+    connection.query_all(
+        "SELECT version, min_part, max_body FROM host ORDER BY rowid",
+        &[],
+    )
+}

@@ -1,0 +1,31 @@
+ghost use Rattle.std.specs.Prelude.{◌≡◌, ◌↔◌, true, IsTrue, IfOk, IfErr};
+ghost use Rattle.sqlite.specs.Held.{state};
+ghost use Rattle.sqlite.specs.Steps.{over_memory};
+ghost use Rattle.bh_rows.specs.Means.{is_trouble};
+ghost use Rattle.bh_tables.specs.Schema.{host_schema};
+
+use bh_compare::same_schema;
+use bh_create::make;
+use bh_types::limits::Limits;
+use sqlite::{Connection, Error, MemStore};
+use sqlite_schema::schema::Schema;
+use std::alloc::Global;
+
+/// A new host's database in memory.
+fn new_tables(alloc: Global) -> Result<Connection<MemStore>, Error>
+    ensures schema { IfOk result (λ connection. (state over_memory connection).now.schema ≡ host_schema) }
+    ensures trouble { IfErr result (λ e. is_trouble e ≡ true) }
+{
+    let mut connection = Connection::open_in_memory(alloc)?;
+    make(&mut connection, Limits::default())?;
+    Ok(connection)
+}
+
+/// Whether a schema is that of a host's tables.
+pub fn is_hosts(alloc: Global, schema: &Schema) -> Result<bool, Error>
+    ensures is { IfOk result (λ is. IsTrue is ↔ (schema.now ≡ host_schema)) }
+    ensures trouble { IfErr result (λ e. is_trouble e ≡ true) }
+{
+    let connection = new_tables(alloc)?;
+    Ok(same_schema(schema, connection.schema()))
+}
