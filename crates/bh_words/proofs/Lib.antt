@@ -5,3 +5,4 @@ mod Rows
 mod Taken
 mod Texts
 mod Valued
+mod Whole
