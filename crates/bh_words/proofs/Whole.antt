@@ -9,6 +9,7 @@ use Rattle.clap.specs.Faults.{check_fault, defaults_fault, entered_fault, other_
 use Rattle.clap.specs.Kinds.{check_kinds, or_else}
 use Rattle.clap.specs.Lexer.{long_of, short_of}
 use Rattle.clap.specs.Simple.{App, Shape, argument_words, built, entered, label_of, names_of}
+use Rattle.clap.specs.Takes.{is_given}
 use Rattle.clap.specs.Walk.{Held, Names, Outcome, Row, Rule, Step, Text, Waiting, Walk, after_flag, after_step, answers_to, arg_by_index, done, finished, idle, long_or_other, next, nothing_held, option, plain, plain_word, positional, refused, rows_after, settled, short_or_plain, subcommand, subcommand_met, subcommand_or_other, to_positional, trailing, value, waits, walk, walk_from, walked, walked_from, word_met}
 use Rattle.bh_words.proofs.Leaves.{leaf-told}
 use Rattle.bh_words.proofs.Taken.{or_none, same_some}
@@ -136,3 +137,55 @@ found-told (x ∷ xs) test s all e = go (test x) refl (found-told xs test s all.
         let same = same_some x s (rw t at e) in
         (subst IsTold same all.0, subst (λ (y : Shape). test y ≡ true) same t)
     go false t rest = rest (rw t at e)
+
+-- ---- the whole line
+
+wants : (a c : Bool) → check_kinds a true c ≡ [] → false ≡ true
+wants true c e = cc
+wants false c e = cc
+
+must_enter : (rows : List Row) → check_fault (built the_command).top rows false ≡ [] → false ≡ true
+must_enter rows e =
+    let lacks = not ((built the_command).top.subcommand_negates_reqs && false) && list_any (λ (a : Rule). a.required && not (is_given a.id rows)) (built the_command).top.rules in
+    wants _ lacks e
+
+-- no call for help is met by a word that isn't `help`
+other_name : (p : Text) → bytes_eq p (codes "help") ≡ false → (bytes_eq (codes "help") p || false) ≡ true → false ≡ true
+other_name p apart same = go (bytes_eq (codes "help") p) refl
+  where
+    go : (b : Bool) → bytes_eq (codes "help") p ≡ b → false ≡ true
+    go true t = sym apart ∙ (bytes_eq-Decides p (codes "help")).1 (sym ((bytes_eq-Decides (codes "help") p).0 t))
+    go false t = rw t at same
+
+shape-told : (s : Shape) (p : Text × List Text) → IsTold s → NotHelp (Some p) → answers_to p.0 (label_of s) ≡ true → IsTaken s p.1
+    → is_some (line_in (s.name, rows_after s.rules [] p.1)) ≡ true
+unfolding IsTold NotHelp
+shape-told s p (inl told) apart met e = told p.1 e
+shape-told s p (inr help) apart met e = absurd (false≢true (other_name p.0 apart (rw (help.0, help.1) at met)))
+
+stop-told : (o : Option (Text × List Text)) (rows : List Row) → NotHelp o → entered_fault (built the_command) o ≡ []
+    → check_fault (built the_command).top rows (is_some (entered (built the_command) o)) ≡ []
+    → is_some (line_of (entered (built the_command) o)) ≡ true
+stop-told None rows apart e f = absurd (false≢true (must_enter rows f))
+stop-told (Some p) rows apart e f = go (find (λ s. answers_to p.0 (label_of s)) (built the_command).subs) refl
+  where
+    go : (o : Option Shape) → find (λ s. answers_to p.0 (label_of s)) (built the_command).subs ≡ o
+        → is_some (line_of (entered (built the_command) (Some p))) ≡ true
+    go None t =
+        let fault : check_fault (built the_command).top rows false ≡ [] = rw t at f in
+        absurd (false≢true (must_enter rows fault))
+    go (Some s) t =
+        let found = found-told (built the_command).subs (λ (s : Shape). answers_to p.0 (label_of s)) s subs_told t in
+        rw t (shape-told s p found.0 apart found.1 (rw t at e))
+
+pub told-taken : (words : List Text) → faults_of words ≡ [] → is_some (told_by words) ≡ true
+unfolding faults_of told_by NotHelp
+told-taken words e =
+    let b = built the_command in
+    let given = argument_words the_command words in
+    let w = walk b.top.rules (names_of b) nothing_held given in
+    let walks = or_none (walk_fault b.top (names_of b) (walk_from nothing_held) given) _ e in
+    let enters = or_none (entered_fault b w.stopped) _ walks.1 in
+    let settles = or_none (settle_fault b.top.rules b.top.args_override_self w.held) _ enters.1 in
+    let defaults = or_none (defaults_fault (settled b.top.rules w.held).rows b.top.rules) _ settles.1 in
+    stop-told w.stopped (finished b.top.rules w.held) (walk-keeps b.top (names_of b) (walk_from nothing_held) given refl tt walks.0) enters.0 defaults.1
