@@ -1,15 +1,13 @@
 -- Words that `clap` takes tell a line.
-use Rattle.std.proofs.Common.{◌≡◌, ◌∙◌, ◌++◌, ◌⊎◌, ◌≤◌, ◌^◌, ◌-◌, ℕ, Bool, true, false, List, [], ◌∷◌, Option, Some, None, inl, inr, refl, sym, subst, ap, arith, codes, map}
+use Rattle.std.proofs.Common.{◌≡◌, ◌++◌, ◌≤◌, ◌^◌, ◌-◌, ℕ, true, List, [], ◌∷◌, Some, inl, inr, refl, arith, codes, map}
 use Rattle.std.specs.Prelude.{is_some}
 use Rattle.std.proofs.lemmas.Bool.{le-leb}
-use Rattle.clap.specs.Simple.{Shape, built, filled_from, help_rule, help_shape}
+use Rattle.clap.specs.Simple.{Shape, filled_from, help_rule}
 use Rattle.clap.specs.Walk.{Row, Text, first_of, rows_after}
 use Rattle.bh_words.proofs.Valued.{IsLeaf, IsTaken, default-value, number_in, required-value}
-use Rattle.bh_words.specs.Commands.{options, shape, subcommands, the_command, word}
+use Rattle.bh_words.specs.Commands.{options, shape, word}
 use Rattle.bh_words.specs.Options.{rule}
-use Rattle.bh_words.specs.Options as option
 use Rattle.bh_words.specs.Readings.{limits_at, line_at, number_of, tuning_at}
-use Rattle.bh_words.specs.declared.options.OptionName.{OptionName}
 use Rattle.bh_words.specs.declared.subcommands.Subcommand.{Subcommand}
 use Rattle.bh_words.specs.declared.subcommands.Subcommand.TheVariants as subcommand
 

@@ -1,24 +1,23 @@
 -- Where `clap` takes the words after a subcommand, each option that it needs has a value.
-use Rattle.std.proofs.Common.{◌≡◌, ◌∙◌, ◌++◌, ◌⊎◌, ◌<◌, ◌≤◌, ◌^◌, ℕ, Bool, true, false, List, [], ◌∷◌, Option, Some, None, inl, inr, refl, sym, subst, ap, arith, length, codes, map, rules}
-use Rattle.std.specs.Prelude.{◌==◌, ◌&&◌, ◌||◌, find, fold, not, unwrap_or, slice_get, is_some, nat_le, nat_lt, if◌then◌else◌, option_and_then}
+use Rattle.std.proofs.Common.{◌≡◌, ◌∙◌, ◌<◌, ◌≤◌, ◌^◌, ℕ, Bool, true, false, List, [], ◌∷◌, Some, refl, sym, subst, ap, arith}
+use Rattle.std.specs.Prelude.{◌&&◌, fold, not, nat_le, nat_lt}
 use Rattle.std.specs.List.{list_any}
-use Rattle.std.specs.Option.{option_map_or}
 use Rattle.std.specs.Str.{bytes_eq}
 use Rattle.std.specs.Str.Parse.{digits_value, without_leading_plus}
-use Rattle.std.proofs.lemmas.Bool.{leb-true, le-leb, lt-ltb}
+use Rattle.std.proofs.lemmas.Bool.{leb-true, lt-ltb}
 use Rattle.std.proofs.lemmas.List.Folds.{list_any-append}
 use Rattle.std.proofs.lemmas.Slice.Eq.{bytes_eq-Decides}
 use Rattle.clap.proofs.WalkLemmas.{both}
-use Rattle.clap.specs.Faults.{check_fault, defaults_fault, level_fault, settle_fault, values_fault, walk_fault}
-use Rattle.clap.specs.Kinds.{check_kinds, value_kinds, values_kinds}
-use Rattle.clap.specs.Simple.{Shape, built, filled_from, help_rule, help_shape}
+use Rattle.clap.specs.Faults.{defaults_fault, level_fault, settle_fault, values_fault, walk_fault}
+use Rattle.clap.specs.Kinds.{check_kinds, values_kinds}
+use Rattle.clap.specs.Simple.{Shape}
 use Rattle.clap.specs.Takes.{is_given}
 use Rattle.clap.specs.ValueTests.{is_numeral, is_unsigned_in}
-use Rattle.clap.specs.Walk.{Row, Rule, Text, arg_by_id, default_rows, finished, first_of, has_row, is_empty, more_values, nothing_held, reading_by, rows_after, settled, walk, walk_from, walked, with_default, with_values}
+use Rattle.clap.specs.Walk.{Row, Rule, Text, arg_by_id, default_rows, first_of, has_row, is_empty, more_values, nothing_held, reading_by, rows_after, settled, walk, walk_from, with_default}
 use Rattle.clap.specs.declared.builder.value_parser.ValueParser.TheVariants.{Unsigned}
 use Rattle.clap.specs.declared.error.kind.ErrorKind.TheVariants.{ValueValidation}
 use Rattle.clap.specs.declared.parser.matches.ValueSource.TheVariants.{DefaultValue}
-use Rattle.bh_words.proofs.Taken.{AllFit, AreFine, Fits, IsFine, at_row-new, defaults-fit, or_none, same_some, settled-fits, walk-fits}
+use Rattle.bh_words.proofs.Taken.{AllFit, AreFine, at_row-new, defaults-fit, or_none, same_some, settled-fits, walk-fits}
 use Rattle.bh_words.specs.Readings.{number_of}
 
 -- ---- rows that have to be there
@@ -51,6 +50,7 @@ kept id rows a h = go (has_row a.id rows) refl
     values : (vs : List Text) → has_row a.id rows ≡ false → has_row id (default_rows a.id (reading_by a) vs rows) ≡ true
     values [] fresh = h
     values (v ∷ vs) fresh = rw (at_row-new a.id (more_values DefaultValue (v ∷ vs)) _ rows fresh, list_any-append (λ (r : Row). bytes_eq r.id id) rows _, h) refl
+
     go : (b : Bool) → has_row a.id rows ≡ b → has_row id (with_default rows a) ≡ true
     go true t = rw t h
     go false t = rw t (values a.defaults t)
@@ -68,9 +68,11 @@ default_row id rows (a ∷ rest) e = go (bytes_eq a.id id && not (is_empty a.def
     new : (vs : List Text) → not (is_empty vs) ≡ true → has_row a.id rows ≡ false → has_row a.id (default_rows a.id (reading_by a) vs rows) ≡ true
     new [] some fresh = cc
     new (v ∷ vs) some fresh = rw (at_row-new a.id (more_values DefaultValue (v ∷ vs)) _ rows fresh, list_any-append (λ (r : Row). bytes_eq r.id a.id) rows _, fresh, (bytes_eq-Decides a.id a.id).1 refl) refl
+
     here : not (is_empty a.defaults) ≡ true → (b : Bool) → has_row a.id rows ≡ b → has_row a.id (with_default rows a) ≡ true
     here some true t = rw t t
     here some false t = rw t (new a.defaults some t)
+
     go : (b : Bool) → (bytes_eq a.id id && not (is_empty a.defaults)) ≡ b
         → (list_any (λ a. bytes_eq a.id id && not (is_empty a.defaults)) rest ≡ true → has_row id (fold with_default (with_default rows a) rest) ≡ true)
         → has_row id (fold with_default (with_default rows a) rest) ≡ true
@@ -91,11 +93,13 @@ required_row id rows (a ∷ rest) e f = go (bytes_eq a.id id && a.required) refl
     given false t needed =
         let bad : true ≡ false = rw (needed, t) at e in
         cc
+
     others : (b : Bool) → (a.required && not (is_given a.id rows)) ≡ b → list_any (λ a. a.required && not (is_given a.id rows)) rest ≡ false
     others true t =
         let bad : true ≡ false = rw t at e in
         cc
     others false t = rw t at e
+
     go : (b : Bool) → (bytes_eq a.id id && a.required) ≡ b
         → (list_any (λ a. a.required && not (is_given a.id rows)) rest ≡ false → list_any (λ a. bytes_eq a.id id && a.required) rest ≡ true → has_row id rows ≡ true)
         → has_row id rows ≡ true

@@ -1,5 +1,5 @@
 -- Words in which `clap` finds no fault tell a line.
-use Rattle.std.proofs.Common.{◌≡◌, ◌∙◌, ◌⊎◌, ℕ, Bool, true, false, List, [], ◌∷◌, Option, Some, None, inl, inr, refl, sym, subst, ap, codes}
+use Rattle.std.proofs.Common.{◌≡◌, ◌∙◌, ◌⊎◌, ℕ, Bool, true, false, List, [], ◌∷◌, Option, Some, None, inl, inr, refl, sym, subst, codes}
 use Rattle.std.specs.Prelude.{◌&&◌, ◌||◌, find, fold, not, is_some, if◌then◌else◌}
 use Rattle.std.specs.List.{list_any}
 use Rattle.std.specs.Str.{bytes_eq}
@@ -8,7 +8,7 @@ use Rattle.std.proofs.lemmas.Slice.Eq.{bytes_eq-Decides}
 use Rattle.clap.specs.Faults.{check_fault, defaults_fault, entered_fault, other_fault, settle_fault, step_fault, turn_fault, walk_fault, word_fault}
 use Rattle.clap.specs.Kinds.{check_kinds, or_else}
 use Rattle.clap.specs.Lexer.{long_of, short_of}
-use Rattle.clap.specs.Simple.{App, Shape, argument_words, built, entered, label_of, names_of}
+use Rattle.clap.specs.Simple.{Shape, argument_words, built, entered, label_of, names_of}
 use Rattle.clap.specs.Takes.{is_given}
 use Rattle.clap.specs.Walk.{Held, Names, Outcome, Row, Rule, Step, Text, Waiting, Walk, after_flag, after_step, answers_to, arg_by_index, done, finished, idle, long_or_other, next, nothing_held, option, plain, plain_word, positional, refused, rows_after, settled, short_or_plain, subcommand, subcommand_met, subcommand_or_other, to_positional, trailing, value, waits, walk, walk_from, walked, walked_from, word_met}
 use Rattle.bh_words.proofs.Leaves.{leaf-told}
@@ -97,6 +97,7 @@ turn-keeps s names w word helps k e = go w.stopped k e
   where
     met : Held × Step
     met = word_met s.rules names w.is_trailing w.waiting w.position word w.held
+
     go : (o : Option (Text × List Text)) → NotHelp o
         → (if is_some o then [] else or_else (word_fault s names w.is_trailing w.waiting word w.held) (step_fault s w.position met.0 met.1)) ≡ []
         → NotHelp (walked_from s.rules names o w word).stopped
@@ -123,9 +124,31 @@ AllTold (s ∷ rest) = IsTold s × AllTold rest
 
 subs_told : AllTold (built the_command).subs
 unfolding AllTold IsTold
-subs_told = (inl (leaf-told chosen.Script), (inl (leaf-told chosen.Init), (inl (leaf-told chosen.TenantAdd), (inl (leaf-told chosen.Quota),
-  (inl (leaf-told chosen.KeyAdd), (inl (leaf-told chosen.KeyRemove), (inl (leaf-told chosen.Usage), (inl (leaf-told chosen.Report),
-  (inl (leaf-told chosen.Sweep), (inl (leaf-told chosen.Serve), (inr (refl, refl), tt)))))))))))
+subs_told = (
+  inl (leaf-told chosen.Script),
+  (
+    inl (leaf-told chosen.Init),
+    (
+      inl (leaf-told chosen.TenantAdd),
+      (
+        inl (leaf-told chosen.Quota),
+        (
+          inl (leaf-told chosen.KeyAdd),
+          (
+            inl (leaf-told chosen.KeyRemove),
+            (
+              inl (leaf-told chosen.Usage),
+              (
+                inl (leaf-told chosen.Report),
+                (inl (leaf-told chosen.Sweep), (inl (leaf-told chosen.Serve), (inr (refl, refl), tt))),
+              ),
+            ),
+          ),
+        ),
+      ),
+    ),
+  ),
+)
 
 found-told : (shapes : List Shape) (test : Shape → Bool) (s : Shape) → AllTold shapes → find test shapes ≡ Some s → IsTold s × (test s ≡ true)
 unfolding AllTold
