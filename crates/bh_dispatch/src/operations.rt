@@ -260,9 +260,7 @@ pub fn operate<S: Alter>(
             object,
             version,
             range,
-        } => {
-            get_object(connection, alloc, tenant, object, *version, bytes_of(range))
-        }
+        } => { get_object(connection, alloc, tenant, object, *version, bytes_of(range)) }
         Operation::HeadObject { object, version } => {
             head_object(connection, tenant, object, *version)
         }

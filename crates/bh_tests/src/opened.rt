@@ -15,15 +15,28 @@ fn opens_what_was_made(rt: HostRuntime) -> Result<(), Fail> {
     let Some(limits) = Limits::new(4, 1_000) else {
         return Err(Fail::from("no limits"));
     };
-    let Ok(made) = create(Connection::open_in_memory(alloc)?, Sha256Digester, limits, tuning) else {
+    let Ok(made) = create(
+        Connection::open_in_memory(alloc)?,
+        Sha256Digester,
+        limits,
+        tuning,
+    ) else {
         return Err(Fail::from("not made"));
     };
     let Ok(host) = open_host(alloc, made.into_connection(), Sha256Digester, tuning) else {
         return Err(Fail::from("not opened"));
     };
-    let Err(error) = open_host(alloc, Connection::open_in_memory(alloc)?, Sha256Digester, tuning) else {
+    let Err(error) = open_host(
+        alloc,
+        Connection::open_in_memory(alloc)?,
+        Sha256Digester,
+        tuning,
+    ) else {
         return Err(Fail::from("opened where nothing is"));
     };
-    assert_eq!(rt; (host.limits, error.refusal), (limits, Refusal::NotAHostFile));
+    assert_eq!(rt;
+        (host.limits, error.refusal),
+        (limits, Refusal::NotAHostFile)
+    );
     Ok(())
 }
