@@ -1,5 +1,5 @@
 -- The number that was read of a tenant is that of its state, and a greater one may stand in its place.
-use Rattle.std.proofs.Common.{◌≡◌, ℕ, ◌≤◌, find, Option, Some, None, option_map, IsTrue, refl, sym, ap, ◌∙◌, subst}
+use Rattle.std.proofs.Common.{◌≡◌, ℕ, ◌≤◌, find, Option, Some, None, option_map, refl, sym, ap, ◌∙◌, subst}
 use Rattle.sqlite.specs.State.{State}
 use Rattle.sqlite_keyed.specs.Lists.{update_where}
 use Rattle.bh_types.specs.Limits.{HostLimits}
@@ -7,19 +7,16 @@ use Rattle.bh_model.specs.State.{Octets, State as Machine}
 use Rattle.bh_tables.specs.Typed.{TenantRow, Tables, tables_in}
 use Rattle.bh_tables.specs.Shown.{is_tenant}
 use Rattle.bh_view.specs.Becomes.{Becomes}
-use Rattle.bh_view.specs.Sound.{IsSound}
-use Rattle.bh_view.specs.View.{rows_of, state_of, view, limits_in}
+use Rattle.bh_view.specs.View.{rows_of, state_of, view}
 use Rattle.bh_view.proofs.FindLemmas.{first_find, tenant_found}
 use Rattle.bh_view.proofs.TenantChanges.{next_entry_set}
-use Rattle.bh_storage.specs.Calls.{Seen, IsAtRest, IsWorking, Commits, TakesBack}
+use Rattle.bh_storage.specs.Calls.{IsWorking}
 use Rattle.bh_schema.specs.Layer.{standing, Holds}
 use Rattle.bh_schema.specs.Rows.{tenant_numbers}
 use Rattle.bh_schema.specs.Storage.{seen_in}
 use Rattle.bh_schema.specs.declared.rows.tenants.TenantNumbers.{TenantNumbers}
 use Rattle.bh_schema.proofs.Storing.{shows_in, holds_seen}
 use Rattle.bh_spent.specs.Raising.{MayRise, with_next_entry, Raises}
-
--- ---- rows
 
 abbrev pub with_entry : Octets → ℕ → Tables → Tables
 with_entry t n x = record x { tenants = update_where (is_tenant t) (λ r. record r { next_entry = n }) x.tenants }
@@ -52,25 +49,3 @@ module _ (l : HostLimits) (old new : State) (t : Octets) (found : Option TenantN
       go (Some x) (Some s) at e may =
           let same : s.next_entry ≡ x.next_entry = cc in
           next_entry_set (seen_in l old).now (seen_in l new).now t s working.sound at n (subst (λ m. m ≤ n) (sym same) may.0) may.1 is_new
-
--- ---- transactions
-
--- what was committed is at rest
-pub rests : (old mid new : Seen) → IsWorking mid → Commits mid new → new.limits ≡ mid.limits → IsAtRest new
-rests old mid new working done limits = record {
-  outside = done.outside;
-  committed = done.kept ∙ sym done.now;
-  sound = subst IsSound (sym done.now) working.sound;
-  limits = ap limits_in done.now ∙ working.limits ∙ sym limits;
-}
-
--- and so is what was taken back
-pub rests_back : (old mid new : Seen) → IsAtRest old → mid.kept ≡ old.kept → TakesBack mid new → new.limits ≡ old.limits → IsAtRest new
-rests_back old mid new rest kept back limits =
-    let is = back.now ∙ kept ∙ rest.committed in
-    record {
-      outside = back.outside;
-      committed = back.kept ∙ sym back.now;
-      sound = subst IsSound (sym is) rest.sound;
-      limits = ap limits_in is ∙ rest.limits ∙ sym limits;
-    }

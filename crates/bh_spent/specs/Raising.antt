@@ -1,5 +1,5 @@
 -- A tenant's counter of entries that goes on at once.
-use Rattle.std.specs.Prelude.{ℕ, ◌≤◌, ◌^◌, Option, None, Some, option_map, MatchOption}
+use Rattle.std.specs.Prelude.{ℕ, ◌≤◌, ◌^◌, Option, option_map, MatchOption}
 use Rattle.bh_model.specs.State.{Octets, State}
 use Rattle.bh_schema.specs.declared.rows.tenants.TenantNumbers.{TenantNumbers}
 use Rattle.bh_tables.specs.Typed.{Tables}

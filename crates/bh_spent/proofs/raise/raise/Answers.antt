@@ -1,7 +1,6 @@
 use Rattle.std.proofs.Common.{rules, refl}
 use Rattle.std.proofs.lemmas.Result.{IfOk-at_ok}
 use Rattle.sqlite.specs.Held.{state}
-use Rattle.bh_view.specs.Becomes.{Becomes}
 use Rattle.bh_schema.specs.Storage.{seen_in}
 use Rattle.bh_schema.proofs.Storing.{on_ok, both, parts, inside_of, holds_seen, keeps, AreBoth, asked_inside, wrote_within, wrote_before, wrote_first}
 use Rattle.bh_schema.proofs.TenantSteps.{works_of, holds_after}
