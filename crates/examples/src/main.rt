@@ -8,11 +8,13 @@ mod decisions;
 mod documents;
 mod entries;
 mod escapes;
+mod exhausted;
 mod names;
 mod operations;
 mod pages;
 mod parts;
 mod plain;
+mod replies;
 mod requests;
 mod responses;
 mod retried;
@@ -30,6 +32,7 @@ const USAGE: &str = "usage: examples WORD..
 
   tables NAME..     compares each row of tables/NAME.txt: a call, its input and what it is to give
   scripts NAME..    compares the answers to the events of scripts/NAME.in with scripts/NAME.out
+  exhausted         compares the answers of a tenant whose entries have no number left, likewise
   retried           answers the script of standard input, asking an event that found no memory once more
   help              prints this
   timed FILE COUNT  alone: applies the script of standard input to a new host in FILE, and times its last COUNT events
@@ -60,6 +63,7 @@ fn run(rt: &(impl Runtime + AllocGlobal), words: &[String]) -> io::Result<bool> 
             "tables" => kind = Kind::Table,
             "scripts" => kind = Kind::Script,
             "help" => print!(rt; "{USAGE}")?,
+            "exhausted" => is_well = exhausted::check(rt)? && is_well,
             "retried" => is_well = retried::retry(rt)? && is_well,
             name => is_well = check(rt, kind, name)? && is_well,
         }

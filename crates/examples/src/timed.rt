@@ -2,6 +2,7 @@
 
 ghost use Rattle.bh_storage.specs.Calls.{Clean, IsAtRest};
 
+use crate::replies::replies_text;
 use bh_create::create;
 use bh_dispatch::storage::HostStorage;
 use bh_event::event::Event;
@@ -67,13 +68,8 @@ fn serve<S: Alter + Drop>(
     Ok(Some(Served { first, last }))
 }
 
-/// Writes the replies, a line's end after each.
 fn write_replies(rt: &(impl Print + AllocGlobal), dones: &[Told]) -> io::Result<()> {
-    let mut text = Vec::new(rt.alloc());
-    for done in dones {
-        text.extend_from_slice(done.reply.bytes())?;
-        text.extend_from_slice(b"\n")?;
-    }
+    let text = replies_text(rt.alloc(), dones)?;
     io::writer(rt).write_all(text.as_slice())
 }
 
