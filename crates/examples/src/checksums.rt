@@ -3,7 +3,9 @@
 use crate::answer::{Answer, bytes, refused, text};
 use crate::documents;
 use crate::words::two;
-use bh_types::checksum::{checksum_of, checksum_of_digest, digest_of, joined_checksum, read_checksum};
+use bh_types::checksum::{
+    checksum_of, checksum_of_digest, digest_of, joined_checksum, read_checksum,
+};
 use bh_types::token::{read_token, token_text};
 use std::alloc::Global;
 
