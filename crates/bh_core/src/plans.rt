@@ -42,8 +42,9 @@ pub enum DeletePlan {
     },
 }
 
-/// What a put makes of a key in a bucket of this state, where `has_null` says whether the key has an entry
-/// `null`, as the S3 User Guide has it of versioning. [`Refusal::CounterExhausted`] where a counter that gives the new entry a number is used up.
+/// What a put makes of a key in a bucket of this state, as the S3 User Guide has it of versioning. `has_null` says
+/// whether the key has an entry `null`. [`Refusal::CounterExhausted`] where a counter that gives the new entry a
+/// number is used up.
 pub fn decide_put(
     state: BucketState,
     has_null: bool,

@@ -205,9 +205,8 @@ fn delete_object<S: Alter>(
         → Carries answer_view tenant.now (λ s. plainly (machine.delete_object at object.now.bucket object.now.key version s))
         (tables S.Store connection.old) (tables S.Store connection.new) result }
 {
-    let outcome =
-        deletes::delete_object(connection, tenant, at, &object.bucket, &object.key, version);
-    answers::removed(outcome)
+    let (bucket, key) = (&object.bucket, &object.key);
+    answers::removed(deletes::delete_object(connection, tenant, at, bucket, key, version))
 }
 
 fn bytes_of(bytes: &Option<Bytes>) -> Option<&[u8]>
@@ -261,9 +260,7 @@ pub fn operate<S: Alter>(
             object,
             version,
             range,
-        } => {
-            get_object(connection, alloc, tenant, object, *version, bytes_of(range))
-        }
+        } => { get_object(connection, alloc, tenant, object, *version, bytes_of(range)) }
         Operation::HeadObject { object, version } => {
             head_object(connection, tenant, object, *version)
         }

@@ -10,9 +10,9 @@ ghost use Rattle.bh_docs.specs.Documents as spec;
 ghost use Rattle.bh_docs.specs.Members.{shown_data, object_of as object_of_members};
 ghost use Rattle.bh_docs.specs.Shapes.{data_of};
 
-use bh_types::token::token_text;
 use bh_types::id::{UploadId, VersionId};
 use bh_types::moment::{Moment, moment_text};
+use bh_types::token::token_text;
 use serde_json::{Map, Value};
 use std::alloc::{AllocError, Global};
 

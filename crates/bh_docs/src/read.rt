@@ -8,10 +8,10 @@ ghost use Rattle.bh_docs.specs.Requests as spec;
 ghost use Rattle.bh_docs.specs.Shapes.{part_view};
 
 use crate::shape::{PartShape, complete_shape, lifecycle_shape, versioning_shape};
-use bh_types::error::RequestError;
 use bh_types::bucket_state::BucketState;
-use bh_types::wanted::Named;
+use bh_types::error::RequestError;
 use bh_types::refusal::Refusal;
+use bh_types::wanted::Named;
 use serde_json::Value;
 use std::alloc::{AllocError, Global};
 

@@ -8,9 +8,9 @@ ghost use Rattle.bh_docs.specs.Documents as spec;
 ghost use Rattle.bh_docs.specs.Requests.{versioning_of, lifecycle_of};
 
 use crate::document::{Listed, Shown, object_of, print, with_entries, with_member};
+use bh_types::bucket_state::BucketState;
 use bh_types::id::UploadId;
 use bh_types::moment::Moment;
-use bh_types::bucket_state::BucketState;
 use serde_json::{Value, json};
 use std::alloc::{AllocError, Global};
 

@@ -13,8 +13,8 @@ ghost use Rattle.bh_model.specs.Shown.{content_of, naming_of, parts_of, shown_pa
 use crate::entries::Content;
 use bh_types::checksum::checksum_of;
 use bh_types::error::RequestError;
-use bh_types::wanted::Named;
 use bh_types::refusal::Refusal;
+use bh_types::wanted::Named;
 use sha2::{Digest, Sha256};
 use std::alloc::{AllocError, Global};
 use std::marker::Model;

@@ -1,5 +1,5 @@
 -- DeleteObject: what was read, and the rows that were written, are the machine's step.
-use Rattle.std.proofs.Common.{◌≡◌, ◌≢◌, ℕ, zero, suc, ◌<◌, ◌≤◌, ◌^◌, Bool, true, false, not, ◌&&◌, true≢false, List, find, Option, Some, None, option_map, Result, Ok, Err, refl, sym, ap, ◌∙◌, subst}
+use Rattle.std.proofs.Common.{◌≡◌, ◌≢◌, ℕ, zero, suc, ◌<◌, ◌≤◌, ◌^◌, Bool, true, false, not, ◌&&◌, List, find, Option, Some, None, option_map, Result, Ok, refl, sym, ap, ◌∙◌, subst}
 use Rattle.std.specs.FinMap.{get}
 use Rattle.std.proofs.lemmas.Bool.{and_parts}
 use Rattle.sqlite_keyed.specs.Lists.{delete_where}
@@ -33,7 +33,7 @@ use Rattle.bh_view.proofs.DeleteLemmas.{entries_same, nothing_removed, null_remo
 use Rattle.bh_storage.specs.Calls.{GivesStep}
 use Rattle.bh_objects.specs.Found.{mode_in, numbers_in, IsKeyText, with_entry}
 use Rattle.bh_objects.specs.Answers.{is_marked}
-use Rattle.bh_objects.proofs.Putting.{HasBucket, has_bucket, no_bucket, has_numbers, no_numbers}
+use Rattle.bh_objects.proofs.Putting.{HasBucket, has_bucket, has_numbers}
 
 module _ (b k : Octets) (at : ℕ) (wanted : Wanted) where
   -- what the machine makes of a bucket that is there, in this state
@@ -45,9 +45,6 @@ module _ (b k : Octets) (at : ℕ) (wanted : Wanted) where
 
   delete_at : (v : Option State) (mode : BucketState) (h : HasBucket b v mode) → delete_object at b k wanted v ≡ made h.state h.bucket mode (after_delete mode wanted (counts h.state))
   delete_at v mode h = delete_in v h.state h.bucket h.added h.there ∙ ap (λ m. made h.state h.bucket m (after_delete m wanted (counts h.state))) h.its
-
-  pub deletes_nowhere : (v : Option State) (r : Refusal) → mode_in b v ≡ Err r → delete_object at b k wanted v ≡ Err r
-  deletes_nowhere v r none = rw (no_bucket b v r none) refl
 
 -- what a step leaves, and what stays of the tables
 abbrev pub Steps : Octets → Octets → Octets → ℕ → Wanted → Answer → Tables → Tables → Type 0
@@ -75,12 +72,6 @@ versioned_answer : (mode : BucketState) → mode ≢ Unversioned → (next : ℕ
 versioned_answer Unversioned apart next l = absurd (apart refl)
 versioned_answer Enabled apart next l = refl
 versioned_answer Suspended apart next l = refl
-
-module _ (v : Option State) (b k : Octets) (at : ℕ) (mode : BucketState) (apart : mode ≢ Unversioned) (found : mode_in b v ≡ Ok mode) where
-  pub marks_no_numbers : (r : Refusal) → numbers_in mode v ≡ Err r → delete_object at b k Current v ≡ Err r
-  marks_no_numbers r none =
-      let h = has_bucket b v mode found in
-      delete_at b k at Current v mode h ∙ ap (made b k at Current h.state h.bucket mode) (versioned_counts mode apart (counts h.state) ∙ no_numbers v h.state mode r h.added none)
 
 module _ (old new : Tables) (t b k : Octets) (at : ℕ) (sound : IsSound old) where
   pub marks : (mode : BucketState) (c after : Counts) → mode ≢ Unversioned → at ≤ latest_of old → IsKeyText k → mode_in b (view old t) ≡ Ok mode → numbers_in mode (view old t) ≡ Ok (c, after)

@@ -4,10 +4,8 @@ use Rattle.std.specs.Result.{result_map_both}
 use Rattle.std.specs.FinMap.{get}
 use Rattle.bh_types.specs.Outcomes.{◌>>=◌}
 use Rattle.bh_types.specs.Ranges.{cut}
-use Rattle.bh_types.specs.Rejections.{plain, plainly}
 use Rattle.bh_types.specs.declared.bucket_state.BucketState.{BucketState}
 use Rattle.bh_types.specs.declared.range.RangePlan.{RangePlan}
-use Rattle.bh_types.specs.declared.refusal.Refusal.{Refusal}
 use Rattle.bh_types.specs.declared.refusal.Refusal.TheVariants.{NoSuchKey, MethodNotAllowed}
 use Rattle.bh_types.specs.declared.rejection.Rejection.{Rejection}
 use Rattle.bh_types.specs.declared.wanted.Wanted.{Wanted}
@@ -29,7 +27,7 @@ use Rattle.bh_view.proofs.WantedLemmas.{lookup_row, wanted_good, wanted_entry}
 use Rattle.bh_schema.specs.Rows.{SeenHead, seen_head, seen_bytes}
 use Rattle.bh_objects.specs.Answers.{head_opened, head_looked, head_told}
 use Rattle.bh_objects.specs.Found.{mode_in}
-use Rattle.bh_objects.proofs.Putting.{has_bucket, no_bucket}
+use Rattle.bh_objects.proofs.Putting.{has_bucket}
 
 -- the version that a row is
 abbrev version_of : VersionRow → Version
@@ -83,13 +81,6 @@ head_refused (Named id) (Some row) away x e = go row.marker refl e
 
 version_in : (b k : Octets) (wanted : Wanted) (v : Option State) (s : State) (B : Bucket) → v ≡ Some s → get s.buckets b ≡ Some B → wanted_version b k wanted v ≡ (told (lookup wanted (listed k B)) >>= (λ x. Ok (B, x)))
 version_in b k wanted v s B is at = rw (is, at) refl
-
-module _ (b k : Octets) (wanted : Wanted) (range : Option Octets) (v : Option State) (r : Refusal) (none : mode_in b v ≡ Err r) where
-  pub heads_nowhere : head_object b k wanted v ≡ Err (plain r)
-  heads_nowhere = rw (no_bucket b v r none) refl
-
-  pub gets_nowhere : get_object b k wanted range v ≡ Err (plain r)
-  gets_nowhere = rw (no_bucket b v r none) refl
 
 module _ (tables : Tables) (t b k : Octets) (sound : IsSound tables) (mode : BucketState) (found : mode_in b (view tables t) ≡ Ok mode) (wanted : Wanted) where
   abbrev row_there : Option VersionRow

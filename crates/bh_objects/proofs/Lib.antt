@@ -5,4 +5,3 @@ pub mod Putting
 pub mod BucketSteps
 pub mod Getting
 pub mod Deleting
-pub mod IdNumbers

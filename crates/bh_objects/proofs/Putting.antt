@@ -11,7 +11,7 @@ use Rattle.bh_model.specs.State.{Octets, Content.Body, State, Bucket}
 use Rattle.bh_types.specs.Checksums.{checksum_text}
 use Rattle.bh_model.specs.Counting.{counts, after_entry}
 use Rattle.bh_model.specs.Entries.{new_id}
-use Rattle.bh_model.specs.Operations.{Stored, id_told, tenant_bucket, put_object}
+use Rattle.bh_model.specs.Operations.{Stored, id_told, put_object}
 use Rattle.bh_model.specs.Parts.{is_checksum}
 use Rattle.bh_tables.specs.Typed.{Tables}
 use Rattle.bh_view.specs.View.{view, latest_of, limits_in}
@@ -32,10 +32,6 @@ abbrev ok_value : {X : Type 0} → Result X Refusal → X → X
 ok_value (Ok x) other = x
 ok_value (Err e) other = other
 
-abbrev err_value : {X : Type 0} → Result X Refusal → Refusal → Refusal
-err_value (Ok x) other = other
-err_value (Err e) other = e
-
 pub has_bucket : (name : Octets) (v : Option State) (mode : BucketState) → mode_in name v ≡ Ok mode → HasBucket name v mode
 has_bucket name None mode e = absurd (true≢false (sym (ap is_ok e)))
 has_bucket name (Some s) mode e = go (get s.buckets name) refl e
@@ -44,29 +40,13 @@ has_bucket name (Some s) mode e = go (get s.buckets name) refl e
     go None is e = absurd (true≢false (sym (ap is_ok e)))
     go (Some b) is e = record { state = s; bucket = b; added = refl; there = is; its = ap (λ r. ok_value r mode) e }
 
--- a bucket that is not there
-pub no_bucket : (name : Octets) (v : Option State) (r : Refusal) → mode_in name v ≡ Err r → tenant_bucket name v ≡ Err r
-no_bucket name v r e = go (tenant_bucket name v) e
-  where
-    go : (x : Result (State × Bucket) Refusal) → result_map_both (λ f. f.1.mode) (λ refusal. refusal) x ≡ Err r → x ≡ Err r
-    go (Ok f) e = absurd (true≢false (ap is_ok e))
-    go (Err q) e = ap (λ y. Err (err_value y r)) e
-
 -- the numbers that were read of the tenant's counters
 pub has_numbers : (v : Option State) (s : State) (mode : BucketState) (before after : Counts) → v ≡ Some s → numbers_in mode v ≡ Ok (before, after) → (counts s ≡ before) × (after_entry mode (counts s) ≡ Ok after)
 has_numbers v s mode before after is e = go (after_entry mode (counts s)) refl (ap (numbers_in mode) (sym is) ∙ e)
   where
     go : (x : Result Counts Refusal) → after_entry mode (counts s) ≡ x → ◌>>=◌ {B = Counts × Counts} x (λ a. Ok (counts s, a)) ≡ Ok (before, after) → (counts s ≡ before) × (after_entry mode (counts s) ≡ Ok after)
-    go (Ok a) given e = (ap (λ r. (ok_value r (before, after)).0) e, given ∙ ap (λ r. Ok ((ok_value r (before, after)).1)) e)
+    go (Ok a) given e = (ap (λ r. (ok_value {X = Counts × Counts} r (before, after)).0) e, given ∙ ap (λ r. Ok ((ok_value {X = Counts × Counts} r (before, after)).1)) e)
     go (Err q) given e = absurd (true≢false (sym (ap is_ok e)))
-
--- a counter has no number to give
-pub no_numbers : (v : Option State) (s : State) (mode : BucketState) (r : Refusal) → v ≡ Some s → numbers_in mode v ≡ Err r → after_entry mode (counts s) ≡ Err r
-no_numbers v s mode r is e = go (after_entry mode (counts s)) refl (ap (numbers_in mode) (sym is) ∙ e)
-  where
-    go : (x : Result Counts Refusal) → after_entry mode (counts s) ≡ x → ◌>>=◌ {B = Counts × Counts} x (λ a. Ok (counts s, a)) ≡ Err r → after_entry mode (counts s) ≡ Err r
-    go (Ok a) given e = absurd (true≢false (ap is_ok e))
-    go (Err q) given e = given ∙ ap (λ y. Err (err_value y r)) e
 
 -- the sum that was given, if one was, is right
 pub sum_right : (given : Option Octets) (bytes text : Octets) → sum_given given bytes ≡ Ok text → is_checksum given bytes ≡ true
@@ -75,20 +55,6 @@ sum_right given bytes text e = go (is_checksum given bytes) e
     go : (right : Bool) → (require right BadDigest >>= (λ _. Ok (checksum_text bytes))) ≡ Ok text → right ≡ true
     go true e = refl
     go false e = absurd (true≢false (sym (ap is_ok e)))
-
-module _ (v : Option State) (b k : Octets) (at : ℕ) (bytes : Octets) (given : Option Octets) where
-  pub puts_nowhere : (r : Refusal) → mode_in b v ≡ Err r → put_object at b k bytes given v ≡ Err r
-  puts_nowhere r none = rw (no_bucket b v r none) refl
-
-  module _ (mode : BucketState) (found : mode_in b v ≡ Ok mode) where
-    pub puts_wrong_sum : is_checksum given bytes ≡ false → put_object at b k bytes given v ≡ Err BadDigest
-    puts_wrong_sum wrong = let h = has_bucket b v mode found in rw (h.added, h.there, wrong) refl
-
-    pub puts_no_numbers : (r : Refusal) → is_checksum given bytes ≡ true → numbers_in mode v ≡ Err r → put_object at b k bytes given v ≡ Err r
-    puts_no_numbers r right none =
-        let h = has_bucket b v mode found in
-        let no : after_entry h.bucket.mode (counts h.state) ≡ Err r = ap (λ m. after_entry m (counts h.state)) h.its ∙ no_numbers v h.state mode r h.added none in
-        rw (h.added, h.there, right, no) refl
 
 module _ (old new : Tables) (t b k : Octets) (at : ℕ) (bytes : Octets) (given : Option Octets) (after : Counts) (sound : IsSound old) (early : at ≤ latest_of old) (key : IsKeyText k) (right : is_checksum given bytes ≡ true) where
   abbrev Goes : BucketState → Counts → Type 0

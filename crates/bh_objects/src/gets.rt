@@ -73,10 +73,7 @@ fn cut_bytes(alloc: Global, plan: RangePlan, bytes: Vec<u8>) -> Result<Vec<u8>, 
             if last < first || last >= bytes.len() as u64 {
                 return Err(Trouble::Store);
             }
-            Ok(Vec::from_slice(
-                alloc,
-                &bytes[first as usize..last as usize + 1],
-            )?)
+            Ok(Vec::from_slice(alloc, &bytes[first as usize..last as usize + 1])?)
         }
     }
 }

@@ -70,13 +70,7 @@ pub fn numbered_head<S: Alter>(
         (find (is_version tenant.now bucket.now key.now number) (tables S.Store connection.old).versions)) }
 {
     let key = key.as_str().as_bytes();
-    match rows::versions::version_of_id(
-        connection,
-        tenant.as_str(),
-        bucket.as_str(),
-        key,
-        number,
-    ) {
+    match rows::versions::version_of_id(connection, tenant.as_str(), bucket.as_str(), key, number) {
         Ok(found) => Ok(found),
         Err(error) => Err(trouble_of(error)),
     }

@@ -9,9 +9,9 @@ use bh_schema::rows;
 use bh_schema::trouble::trouble_of;
 use bh_storage::error::{StepError, Trouble};
 use bh_types::bucket::BucketName;
-use bh_types::names::TenantName;
 use bh_types::bucket_state::BucketState;
 use bh_types::counters::Counters;
+use bh_types::names::TenantName;
 use bh_types::refusal::Refusal;
 use sqlite::{Alter, Connection};
 

@@ -13,11 +13,11 @@ use bh_schema::rows::versions::{NewMarker, NewVersion};
 use bh_schema::trouble::trouble_of;
 use bh_storage::error::Trouble;
 use bh_types::bucket::BucketName;
+use bh_types::bucket_state::BucketState;
+use bh_types::counters::Counters;
 use bh_types::key::ObjectKey;
 use bh_types::moment::Moment;
 use bh_types::names::TenantName;
-use bh_types::bucket_state::BucketState;
-use bh_types::counters::Counters;
 use sqlite::{Alter, Connection};
 
 /// An object that is sent whole.
@@ -204,7 +204,14 @@ pub fn write_object<S: Alter>(
         object.now.at (Body object.now.bytes.now (checksum_text object.now.bytes.now)))) }
     ensures key { OnOk result (IsKeyText object.now.key.now) }
 {
-    make_way(connection, object.tenant, object.bucket, object.key, mode, after)?;
+    make_way(
+        connection,
+        object.tenant,
+        object.bucket,
+        object.key,
+        mode,
+        after,
+    )?;
     add_object(connection, object, mode, before, checksum)
 }
 

@@ -20,8 +20,8 @@ use bh_types::bucket::BucketName;
 use bh_types::error::RequestError;
 use bh_types::id::UploadId;
 use bh_types::names::TenantName;
-use bh_types::wanted::Wanted;
 use bh_types::refusal::Refusal;
+use bh_types::wanted::Wanted;
 use std::alloc::Global;
 
 /// What an object is copied from.

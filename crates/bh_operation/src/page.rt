@@ -7,8 +7,8 @@ use crate::query::{Parameter, value_of};
 use crate::text::{Bytes, Text};
 use bh_types::error::RequestError;
 use bh_types::id::UploadId;
-use bh_types::wanted::Wanted;
 use bh_types::refusal::Refusal;
+use bh_types::wanted::Wanted;
 use std::alloc::{AllocError, Global};
 
 /// The names that a listing of a bucket asks for.

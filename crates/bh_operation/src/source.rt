@@ -8,8 +8,8 @@ use crate::target::{decode, path_of, place_of, split_at_slash, text_of};
 use crate::text::Text;
 use bh_http::fields::Given;
 use bh_types::error::RequestError;
-use bh_types::wanted::Wanted;
 use bh_types::refusal::Refusal;
+use bh_types::wanted::Wanted;
 use std::alloc::Global;
 
 /// What a copy source names, decoded.

@@ -30,7 +30,11 @@ impl<S: Alter + Drop, D: Digester + Drop> Host<S, D> {
         let Some(name) = &key.name else {
             return Err(StepError::Refused(Refusal::InvalidAccessKeyId));
         };
-        let found = or_trouble(find_secret(&mut self.connection, key.tenant.as_str(), name.as_str()))?;
+        let found = or_trouble(find_secret(
+            &mut self.connection,
+            key.tenant.as_str(),
+            name.as_str(),
+        ))?;
         let Some(known) = found else {
             return Err(StepError::Refused(Refusal::InvalidAccessKeyId));
         };

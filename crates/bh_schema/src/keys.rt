@@ -5,8 +5,8 @@ ghost use Rattle.bh_schema.specs.Storage.{IsClean, seen, Works, Keeps, StaysOpen
 use crate::host::{Digester, Host};
 use crate::rows::keys::{delete_key, insert_key};
 use crate::rows::known::{Known, find_key};
-use crate::trouble::or_trouble;
 use crate::texts::{are_names, are_texts};
+use crate::trouble::or_trouble;
 use bh_storage::error::StepError;
 use bh_types::refusal::Refusal;
 use sqlite::Alter;

@@ -7,6 +7,6 @@ pub mod host;
 mod keys;
 pub mod rows;
 mod tenants;
-pub mod trouble;
-mod transactions;
 mod texts;
+mod transactions;
+pub mod trouble;

@@ -4,8 +4,8 @@ ghost use Rattle.bh_schema.specs.Storage.{IsClean, seen, Works, Keeps, StaysOpen
 
 use crate::host::{Digester, Host};
 use crate::rows::tenants::{find_tenant, insert_tenant};
-use crate::trouble::or_trouble;
 use crate::texts::is_tenant;
+use crate::trouble::or_trouble;
 use bh_storage::error::StepError;
 use bh_types::limits::is_quota;
 use bh_types::refusal::Refusal;

@@ -8,6 +8,8 @@ mod events;
 #[cfg(test)]
 mod keys;
 #[cfg(test)]
+mod opened;
+#[cfg(test)]
 mod refused;
 #[cfg(test)]
 mod stamps;

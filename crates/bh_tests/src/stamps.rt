@@ -2,8 +2,7 @@
 use crate::events::tenant_add;
 use bh_create::create;
 use bh_dispatch::storage::HostStorage;
-use bh_host::Told;
-use bh_host::run;
+use bh_host::{Told, run};
 use bh_script::digester::Sha256Digester;
 use bh_types::limits::{Limits, Tuning};
 use sqlite::Connection;

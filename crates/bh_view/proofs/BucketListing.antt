@@ -4,14 +4,15 @@ use Rattle.std.specs.List.{list_any}
 use Rattle.std.specs.Option.{option_map_or}
 use Rattle.std.specs.FinMap.{FinMap, entries, len, empty, len-empty, empty_of_len, get}
 use Rattle.sqlite_keyed.specs.Lists.{sort_by, insert_sorted}
-use Rattle.sqlite_keyed.proofs.ListLemmas.{filter_none, none_from_any}
+use Rattle.sqlite_keyed.proofs.ListLemmas.{map-map, filter_none, none_from_any}
 use Rattle.sqlite_typed.specs.Tests.{bytes_eq}
 use Rattle.bh_model.specs.State.{Octets, Bucket, State}
-use Rattle.bh_model.specs.FinMaps.{non_empty}
+use Rattle.bh_model.specs.FinMaps.{is_empty, non_empty}
+use Rattle.bh_model.specs.Operations.{bucket_list}
 use Rattle.bh_tables.specs.Typed.{BucketRow, VersionRow, Tables}
 use Rattle.bh_tables.specs.Shown.{is_in_bucket, is_owned_bucket, by_bucket}
 use Rattle.bh_view.specs.Grouped.{first}
-use Rattle.bh_view.specs.View.{rows_of, in_bucket, newer, entries_of, objects_of, bucket_shown, buckets_of, view}
+use Rattle.bh_view.specs.View.{rows_of, in_bucket, entry_of, newer, entries_of, objects_of, bucket_shown, buckets_of, view}
 use Rattle.bh_view.specs.Sound.{IsSound}
 use Rattle.bh_view.proofs.Keys.{octets}
 use Rattle.bh_view.proofs.FilterLemmas.{none_some, filter_both}
@@ -29,29 +30,25 @@ listed_bucket e = (e.0, e.1.created)
 abbrev pub listed_row : BucketRow → Octets × ℕ
 listed_row r = (r.bucket, r.created)
 
-map_twice : {A B C : Type 0} (f : B → C) (g : A → B) (l : List A) → map f (map g l) ≡ map (λ x. f (g x)) l
-map_twice f g [] = refl
-map_twice f g (x ∷ xs) = ap (λ l. f (g x) ∷ l) (map_twice f g xs)
-
-pub buckets_listed : (tables : Tables) (t : Octets) → IsSound tables → option_map_or (λ (s : State). map listed_bucket (entries s.buckets)) (view tables t) [] ≡ map listed_row (sort_by by_bucket (filter (is_owned_bucket t) tables.buckets))
+pub buckets_listed : (tables : Tables) (t : Octets) → IsSound tables → option_map_or bucket_list (view tables t) [] ≡ map listed_row (sort_by by_bucket (filter (is_owned_bucket t) tables.buckets))
 buckets_listed tables t sound = go (view tables t) refl
   where
-    go : (o : Option State) → view tables t ≡ o → option_map_or (λ (s : State). map listed_bucket (entries s.buckets)) o [] ≡ map listed_row (sort_by by_bucket (filter (is_owned_bucket t) tables.buckets))
+    go : (o : Option State) → view tables t ≡ o → option_map_or bucket_list o [] ≡ map listed_row (sort_by by_bucket (filter (is_owned_bucket t) tables.buckets))
     go None is = ap (λ rows. map listed_row (sort_by by_bucket rows.buckets)) (sym (absent_rows tables t sound is))
     go (Some s) is =
         let mine = rows_of t tables in
         ap (λ (x : State). map listed_bucket (entries x.buckets)) (sym (own_row tables t s is).2)
         ∙ ap (map listed_bucket) (entries-keyed octets (λ (r : BucketRow). r.bucket) (bucket_shown mine) mine.buckets (sound.tenants t).buckets.one)
-        ∙ map_twice listed_bucket _ (sort_by by_bucket mine.buckets)
+        ∙ map-map listed_bucket _ (sort_by by_bucket mine.buckets)
 
 -- ---- an empty bucket
 
 some_entry : (v : VersionRow) (rows : List VersionRow) → is_some (non_empty (entries_of (v ∷ rows))) ≡ true
 some_entry v rows = go (sort_by newer rows)
   where
-    go : (l : List VersionRow) → is_some (non_empty (map Rattle.bh_view.specs.View.entry_of (insert_sorted newer v l))) ≡ true
+    go : (l : List VersionRow) → is_some (non_empty (map entry_of (insert_sorted newer v l))) ≡ true
     go [] = refl
-    go (x ∷ xs) = elim (is_gt (newer v x)) as (λ b. is_some (non_empty (map Rattle.bh_view.specs.View.entry_of (cond b (x ∷ insert_sorted newer v xs) (v ∷ x ∷ xs)))) ≡ true) [ true ↦ refl | false ↦ refl ]
+    go (x ∷ xs) = elim (is_gt (newer v x)) as (λ b. is_some (non_empty (map entry_of (cond b (x ∷ insert_sorted newer v xs) (v ∷ x ∷ xs)))) ≡ true) [ true ↦ refl | false ↦ refl ]
 
 -- the objects of rows are none just where there are no rows
 objects_none : (rows : List VersionRow) → rows ≡ [] → objects_of rows ≡ empty
@@ -60,12 +57,12 @@ objects_none = empty_of_no_rows octets (λ (v : VersionRow). v.okey) (λ _ l. no
 no_objects : (rows : List VersionRow) → objects_of rows ≡ empty → rows ≡ []
 no_objects = no_rows_of_empty octets (λ (v : VersionRow). v.okey) (λ _ l. non_empty (entries_of l)) (λ _. refl) (λ _ v l. some_entry v l)
 
-empty_len : {K X : Type 0} {R : K → K → Ordering} (m : FinMap R X) → m ≡ empty → (len m == 0) ≡ true
+empty_len : {K X : Type 0} {R : K → K → Ordering} (m : FinMap R X) → m ≡ empty → is_empty m ≡ true
 empty_len m e = ap (λ n. n == 0) (ap len e ∙ len-empty _ _)
 
-none_there : (rows : List VersionRow) → (len (objects_of rows) == 0) ≡ is_none (first rows)
+none_there : (rows : List VersionRow) → is_empty (objects_of rows) ≡ is_none (first rows)
 none_there [] = empty_len (objects_of []) (objects_none [] refl)
-none_there (v ∷ vs) = elim (len (objects_of (v ∷ vs)) == 0) as (λ b. (len (objects_of (v ∷ vs)) == 0) ≡ b → b ≡ false) [
+none_there (v ∷ vs) = elim (is_empty (objects_of (v ∷ vs))) as (λ b. is_empty (objects_of (v ∷ vs)) ≡ b → b ≡ false) [
   | true ↦ λ e. absurd (none_some (ap first (sym (no_objects (v ∷ vs) (empty_of_len _ (eqb-true _ _ e))))))
   | false ↦ λ e. refl
 ] refl
@@ -87,9 +84,9 @@ module _ (tables : Tables) (t b : Octets) where
     here = ap (λ (x : State). get x.buckets b) (own_row tables t s is).2 ∙ at
 
     -- a bucket has no objects just where no version or marker is in it
-    pub objects_empty : (len B.objects == 0) ≡ not (list_any (is_in_bucket t b) tables.versions)
-    objects_empty = ap (λ m. len m == 0) (sym (objects_shown (rows_of t tables) b B here)) ∙ none_there (in_bucket b (rows_of t tables).versions) ∙ ap (λ l. is_none (first l)) one_bucket ∙ first_any (is_in_bucket t b) tables.versions
+    pub objects_empty : is_empty B.objects ≡ not (list_any (is_in_bucket t b) tables.versions)
+    objects_empty = ap is_empty (sym (objects_shown (rows_of t tables) b B here)) ∙ none_there (in_bucket b (rows_of t tables).versions) ∙ ap (λ l. is_none (first l)) one_bucket ∙ first_any (is_in_bucket t b) tables.versions
 
     -- no table has uploads
-    pub uploads_empty : (len B.uploads == 0) ≡ true
+    pub uploads_empty : is_empty B.uploads ≡ true
     uploads_empty = empty_len B.uploads (ap (λ (x : Bucket). x.uploads) (sym (bucket_row (rows_of t tables) b B here).2))

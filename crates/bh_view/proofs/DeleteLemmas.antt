@@ -63,7 +63,7 @@ module _ (tables : Tables) (t : Octets) (s : State) (is : view tables t ≡ Some
   null_removed new sound plain e =
       let bucket = bucket_row (rows_of t tables) b B (ap (λ (x : State). get x.buckets b) (own_row tables t s is).2 ∙ at) in
       let all : AllByRecursion IsPlain (filter (is_version t b k 0) tables.versions) = subst (AllByRecursion IsPlain) (one_version t b k 0 tables.versions)
-          (all-filter _ _ _ (all-filter _ _ _ ((sound.tenants t).versions.unversioned b bucket.0 bucket.1 (ap (λ (x : Bucket). x.mode) bucket.2 ∙ plain)))) in
+      (all-filter _ _ _ (all-filter _ _ _ ((sound.tenants t).versions.unversioned b bucket.0 bucket.1 (ap (λ (x : Bucket). x.mode) bucket.2 ∙ plain)))) in
       let found = null_found tables t s is b k B at sound plain in
       subst (λ l. Becomes t (Some (with_bucket b (with_entries k l B) s)) tables new)
       (ap (without Null) found ∙ go (first (filter (is_version t b k 0) tables.versions)) (λ v there. (all_first IsPlain _ v there all).body) ∙ ap without_null_version (sym found))

@@ -1,4 +1,4 @@
-ghost use Rattle.std.specs.Prelude.{◌≡◌, ◌⊎◌, [], IfOk, IfErr, Some, None, map};
+ghost use Rattle.std.specs.Prelude.{◌≡◌, [], IfOk, IfErr, Some, map};
 ghost use Rattle.std.specs.String.{string_bytes};
 ghost use Rattle.clap.specs.Words.{FailsBy, HasKind, subcommand_of, subcommand_rows_of};
 ghost use Rattle.bh_words.specs.Commands.{the_command};
@@ -10,7 +10,6 @@ use crate::fault::LineFault;
 use crate::given::GivenError;
 use crate::lines::Line;
 use crate::readings::line_in;
-use clap::error::ErrorKind;
 use clap::{ArgMatches, Error};
 use std::alloc::{AllocError, Global};
 
@@ -22,24 +21,15 @@ use std::alloc::{AllocError, Global};
 pub fn read_words(alloc: Global, words: &[String]) -> Result<Line, LineFault>
     ensures told { IfOk result (λ line. (spec.faults_of (map string_bytes words.now) ≡ [])
         × (spec.told_by (map string_bytes words.now) ≡ Some (command_line line))) }
-    ensures refused { IfErr result (λ fault. HasKind (spec.faults_of (map string_bytes words.now)) fault.error
-        ⊎ (spec.told_by (map string_bytes words.now) ≡ None)) }
+    ensures refused { IfErr result (λ fault.
+        HasKind (spec.faults_of (map string_bytes words.now)) fault.error) }
 {
     let matches = matches_of(alloc, words)?;
     match line_of(alloc, &matches) {
         Ok(line) => Ok(line),
-        Err(GivenError::NotGiven) => Err(LineFault::from(unread(alloc)?)),
+        Err(GivenError::NotGiven) => unreachable!(),
         Err(GivenError::OutOfMemory) => Err(LineFault::from(AllocError)),
     }
-}
-
-// The fault of words that were taken and yet tell no line.
-fn unread(alloc: Global) -> Result<Error, AllocError> {
-    let mut command = the_command(alloc)?;
-    command.error(
-        ErrorKind::ValueValidation,
-        "a value is missing or out of its range",
-    )
 }
 
 fn matches_of<'a>(alloc: Global, words: &'a [String]) -> Result<ArgMatches<'a>, Error>

@@ -112,7 +112,8 @@ fn entry_text(alloc: Global, id: VersionId, seq: u64, null_goes: bool, after: Co
     Ok(format!(in alloc; "{id} at {seq} {null}, then {counters}")?)
 }
 
-/// A bucket's state, which version is wanted, whether `null` stands and whether the one of the id does, and the counters.
+/// A bucket's state, which version is wanted, whether `null` stands and whether the one of the id does, and the
+/// counters.
 fn delete(alloc: Global, input: &str) -> Answer {
     let (state, wanted, has_null, rest) = four(input, ' ')?;
     let (has_wanted, counters) = two(rest, ' ')?;

@@ -1,4 +1,4 @@
-use Rattle.std.proofs.Common.{refl}
+use Rattle.std.proofs.Common.{refl, sym}
 use Rattle.sqlite.specs.Held.{state}
 use Rattle.bh_view.specs.View.{view}
 use Rattle.bh_schema.specs.Working.{tables_at}
@@ -32,11 +32,11 @@ returns-in-PutBucketVersioning-clause-carries g c clean =
 
 pub returns-in-PutObject-clause-carries : goal.returns-in-PutObject-clause-carries
 returns-in-PutObject-clause-carries g c clean =
-    rw (c.in-PutObject.is, puts_object c.args.at c.args.body.now c.in-PutObject.object c.in-PutObject.checksum) (c.put_object.ensures.carries clean)
+    rw (c.in-PutObject.is, puts_object c.args.at c.args.body.now c.in-PutObject.object c.in-PutObject.checksum, sym c.bytes_of.ensures) (c.put_object.ensures.carries clean)
 
 pub returns-in-GetObject-clause-carries : goal.returns-in-GetObject-clause-carries
 returns-in-GetObject-clause-carries g c clean =
-    rw (c.in-GetObject.is, gets_object c.args.at c.args.body.now c.in-GetObject.object c.in-GetObject.version c.in-GetObject.range) (c.get_object.ensures.carries clean)
+    rw (c.in-GetObject.is, gets_object c.args.at c.args.body.now c.in-GetObject.object c.in-GetObject.version c.in-GetObject.range, sym c.bytes_of-in-GetObject.ensures) (c.get_object.ensures.carries clean)
 
 pub returns-in-HeadObject-clause-carries : goal.returns-in-HeadObject-clause-carries
 returns-in-HeadObject-clause-carries g c clean =

@@ -1,4 +1,4 @@
-use Rattle.std.proofs.Common.{◌≡◌, Option, sym, ap, ◌∙◌, subst}
+use Rattle.std.proofs.Common.{◌≡◌, sym, ap, ◌∙◌}
 use Rattle.std.specs.Option.{option_copied}
 use Rattle.std.specs.String.{string_bytes}
 use Rattle.sqlite.specs.Held.{state}

@@ -1,0 +1,138 @@
+-- Words that `clap` takes tell a line.
+use Rattle.std.proofs.Common.{◌≡◌, ◌++◌, ◌≤◌, ◌^◌, ◌-◌, ℕ, true, List, [], ◌∷◌, Some, inl, inr, refl, arith, codes, map}
+use Rattle.std.specs.Prelude.{is_some}
+use Rattle.std.proofs.lemmas.Bool.{le-leb}
+use Rattle.clap.specs.Simple.{Shape, filled_from, help_rule}
+use Rattle.clap.specs.Walk.{Row, Text, first_of, rows_after}
+use Rattle.bh_words.proofs.Valued.{IsLeaf, IsTaken, default-value, number_in, required-value}
+use Rattle.bh_words.specs.Commands.{options, shape, word}
+use Rattle.bh_words.specs.Options.{rule}
+use Rattle.bh_words.specs.Readings.{limits_at, line_at, number_of, tuning_at}
+use Rattle.bh_words.specs.declared.subcommands.Subcommand.{Subcommand}
+use Rattle.bh_words.specs.declared.subcommands.Subcommand.TheVariants as subcommand
+
+-- a subcommand as `clap` builds it
+abbrev pub leaf : Subcommand → Shape
+leaf s = record (shape (word s) (options s)) {
+  rules = filled_from 1 (map rule (options s) ++ help_rule ∷ []);
+  is_built = true;
+  disable_help_subcommand = true;
+}
+
+abbrev pub rows_of_words : Subcommand → List Text → List Row
+rows_of_words s words = rows_after (leaf s).rules [] words
+
+pub leaf-fine : (s : Subcommand) → IsLeaf (leaf s)
+leaf-fine subcommand.Script = record { fine = ((refl, inl (refl, refl), tt), ((refl, inl (refl, refl), tt), ((refl, inl (refl, refl), tt), ((refl, inl (refl, refl), tt), ((refl, inr refl, tt), tt))))); once = refl; negates = refl }
+leaf-fine subcommand.Init = record { fine = ((refl, inl (refl, refl), tt), ((refl, inl (refl, refl), tt), ((refl, inl (refl, refl), tt), ((refl, inr refl, tt), tt)))); once = refl; negates = refl }
+leaf-fine subcommand.TenantAdd = record { fine = ((refl, inl (refl, refl), tt), ((refl, inl (refl, refl), tt), ((refl, inl (refl, refl), tt), ((refl, inl (refl, refl), tt), ((refl, inr refl, tt), tt))))); once = refl; negates = refl }
+leaf-fine subcommand.Quota = record { fine = ((refl, inl (refl, refl), tt), ((refl, inl (refl, refl), tt), ((refl, inl (refl, refl), tt), ((refl, inl (refl, refl), tt), ((refl, inr refl, tt), tt))))); once = refl; negates = refl }
+leaf-fine subcommand.KeyAdd = record { fine = ((refl, inl (refl, refl), tt), ((refl, inl (refl, refl), tt), ((refl, inl (refl, refl), tt), ((refl, inl (refl, refl), tt), ((refl, inl (refl, refl), tt), ((refl, inr refl, tt), tt)))))); once = refl; negates = refl }
+leaf-fine subcommand.KeyRemove = record { fine = ((refl, inl (refl, refl), tt), ((refl, inl (refl, refl), tt), ((refl, inl (refl, refl), tt), ((refl, inl (refl, refl), tt), ((refl, inr refl, tt), tt))))); once = refl; negates = refl }
+leaf-fine subcommand.Usage = record { fine = ((refl, inl (refl, refl), tt), ((refl, inl (refl, refl), tt), ((refl, inl (refl, refl), tt), ((refl, inr refl, tt), tt)))); once = refl; negates = refl }
+leaf-fine subcommand.Report = record { fine = ((refl, inl (refl, refl), tt), ((refl, inl (refl, refl), tt), ((refl, inr refl, tt), tt))); once = refl; negates = refl }
+leaf-fine subcommand.Sweep = record { fine = ((refl, inl (refl, refl), tt), ((refl, inl (refl, refl), tt), ((refl, inl (refl, refl), tt), ((refl, inr refl, tt), tt)))); once = refl; negates = refl }
+leaf-fine subcommand.Serve = record { fine = ((refl, inl (refl, refl), tt), ((refl, inl (refl, refl), tt), ((refl, inl (refl, refl), tt), ((refl, inl (refl, refl), tt), ((refl, inl (refl, refl), tt), ((refl, inl (refl, refl), tt), ((refl, inr refl, tt), tt))))))); once = refl; negates = refl }
+
+limits-given : (rows : List Row) (v w : Text) (n m : ℕ) → first_of (codes "min-part") rows ≡ Some v → number_of 64 v ≡ Some n
+    → first_of (codes "max-body") rows ≡ Some w → number_of 64 w ≡ Some m → n ≤ 2 ^ 30 → 1 ≤ m → m ≤ 2 ^ 30
+    → limits_at rows ≡ Some (record { min_part = n; max_body = m })
+unfolding limits_at
+limits-given rows v w n m a b c d e f g = rw (a, b, c, d, le-leb n (2 ^ 30) e, le-leb 1 m f, le-leb m (2 ^ 30) g) refl
+
+tuning-given : (rows : List Row) (v w : Text) (n m : ℕ) → first_of (codes "block-size") rows ≡ Some v → number_of 64 v ≡ Some n
+    → first_of (codes "cache-blocks") rows ≡ Some w → number_of 64 w ≡ Some m → 1 ≤ n → n ≤ 1_048_576 → m ≤ 65_536
+    → tuning_at rows ≡ Some (record { block_size = n; cache_blocks = m })
+unfolding tuning_at
+tuning-given rows v w n m a b c d e f g = rw (a, b, c, d, le-leb 1 n e, le-leb n 1_048_576 f, le-leb m 65_536 g) refl
+
+pub leaf-told : (s : Subcommand) (words : List Text) → IsTaken (leaf s) words → is_some (line_at s (rows_of_words s words)) ≡ true
+leaf-told subcommand.Script words e =
+    let fine = leaf-fine subcommand.Script in
+    let s = leaf subcommand.Script in
+    let block_size = default-value s words (codes "block-size") _ fine e refl refl in
+    let block_size_n = number_in 64 1 1_048_576 block_size.0 (omega arith) block_size.2 in
+    let min_part = default-value s words (codes "min-part") _ fine e refl refl in
+    let min_part_n = number_in 64 0 (2 ^ 30) min_part.0 (omega arith) min_part.2 in
+    let max_body = default-value s words (codes "max-body") _ fine e refl refl in
+    let max_body_n = number_in 64 1 (2 ^ 30) max_body.0 (omega arith) max_body.2 in
+    let cache_blocks = default-value s words (codes "cache-blocks") _ fine e refl refl in
+    let cache_blocks_n = number_in 64 0 65_536 cache_blocks.0 (omega arith) cache_blocks.2 in
+    let limits = limits-given (rows_of_words subcommand.Script words) _ _ _ _ min_part.1 min_part_n.1 max_body.1 max_body_n.1 min_part_n.3 max_body_n.2 max_body_n.3 in
+    let tuning = tuning-given (rows_of_words subcommand.Script words) _ _ _ _ block_size.1 block_size_n.1 cache_blocks.1 cache_blocks_n.1 block_size_n.2 block_size_n.3 cache_blocks_n.3 in
+    rw (limits, tuning) refl
+leaf-told subcommand.Init words e =
+    let fine = leaf-fine subcommand.Init in
+    let s = leaf subcommand.Init in
+    let file = required-value s words (codes "file") _ fine e refl refl in
+    let min_part = default-value s words (codes "min-part") _ fine e refl refl in
+    let min_part_n = number_in 64 0 (2 ^ 30) min_part.0 (omega arith) min_part.2 in
+    let max_body = default-value s words (codes "max-body") _ fine e refl refl in
+    let max_body_n = number_in 64 1 (2 ^ 30) max_body.0 (omega arith) max_body.2 in
+    let limits = limits-given (rows_of_words subcommand.Init words) _ _ _ _ min_part.1 min_part_n.1 max_body.1 max_body_n.1 min_part_n.3 max_body_n.2 max_body_n.3 in
+    rw (file.1, limits) refl
+leaf-told subcommand.TenantAdd words e =
+    let fine = leaf-fine subcommand.TenantAdd in
+    let s = leaf subcommand.TenantAdd in
+    let file = required-value s words (codes "file") _ fine e refl refl in
+    let tenant = required-value s words (codes "tenant") _ fine e refl refl in
+    let quota = required-value s words (codes "quota") _ fine e refl refl in
+    let quota_n = number_in 64 0 (2 ^ 64 - 1) quota.0 (omega arith) quota.2 in
+    rw (file.1, tenant.1, quota.1, quota_n.1) refl
+leaf-told subcommand.Quota words e =
+    let fine = leaf-fine subcommand.Quota in
+    let s = leaf subcommand.Quota in
+    let file = required-value s words (codes "file") _ fine e refl refl in
+    let tenant = required-value s words (codes "tenant") _ fine e refl refl in
+    let quota = required-value s words (codes "quota") _ fine e refl refl in
+    let quota_n = number_in 64 0 (2 ^ 64 - 1) quota.0 (omega arith) quota.2 in
+    rw (file.1, tenant.1, quota.1, quota_n.1) refl
+leaf-told subcommand.KeyAdd words e =
+    let fine = leaf-fine subcommand.KeyAdd in
+    let s = leaf subcommand.KeyAdd in
+    let file = required-value s words (codes "file") _ fine e refl refl in
+    let tenant = required-value s words (codes "tenant") _ fine e refl refl in
+    let name = required-value s words (codes "name") _ fine e refl refl in
+    let secret = required-value s words (codes "secret") _ fine e refl refl in
+    rw (file.1, tenant.1, name.1, secret.1) refl
+leaf-told subcommand.KeyRemove words e =
+    let fine = leaf-fine subcommand.KeyRemove in
+    let s = leaf subcommand.KeyRemove in
+    let file = required-value s words (codes "file") _ fine e refl refl in
+    let tenant = required-value s words (codes "tenant") _ fine e refl refl in
+    let name = required-value s words (codes "name") _ fine e refl refl in
+    rw (file.1, tenant.1, name.1) refl
+leaf-told subcommand.Usage words e =
+    let fine = leaf-fine subcommand.Usage in
+    let s = leaf subcommand.Usage in
+    let file = required-value s words (codes "file") _ fine e refl refl in
+    let tenant = required-value s words (codes "tenant") _ fine e refl refl in
+    rw (file.1, tenant.1) refl
+leaf-told subcommand.Report words e =
+    let fine = leaf-fine subcommand.Report in
+    let s = leaf subcommand.Report in
+    let file = required-value s words (codes "file") _ fine e refl refl in
+    rw (file.1) refl
+leaf-told subcommand.Sweep words e =
+    let fine = leaf-fine subcommand.Sweep in
+    let s = leaf subcommand.Sweep in
+    let file = required-value s words (codes "file") _ fine e refl refl in
+    let limit = required-value s words (codes "limit") _ fine e refl refl in
+    let limit_n = number_in 32 0 4_294_967_295 limit.0 (omega arith) limit.2 in
+    rw (file.1, limit.1, limit_n.1) refl
+leaf-told subcommand.Serve words e =
+    let fine = leaf-fine subcommand.Serve in
+    let s = leaf subcommand.Serve in
+    let file = required-value s words (codes "file") _ fine e refl refl in
+    let port = required-value s words (codes "port") _ fine e refl refl in
+    let port_n = number_in 16 0 65_535 port.0 (omega arith) port.2 in
+    let count = required-value s words (codes "count") _ fine e refl refl in
+    let count_n = number_in 64 0 (2 ^ 64 - 1) count.0 (omega arith) count.2 in
+    let timeout = default-value s words (codes "timeout") _ fine e refl refl in
+    let timeout_n = number_in 64 1 3_600 timeout.0 (omega arith) timeout.2 in
+    let block_size = default-value s words (codes "block-size") _ fine e refl refl in
+    let block_size_n = number_in 64 1 1_048_576 block_size.0 (omega arith) block_size.2 in
+    let cache_blocks = default-value s words (codes "cache-blocks") _ fine e refl refl in
+    let cache_blocks_n = number_in 64 0 65_536 cache_blocks.0 (omega arith) cache_blocks.2 in
+    let tuning = tuning-given (rows_of_words subcommand.Serve words) _ _ _ _ block_size.1 block_size_n.1 cache_blocks.1 cache_blocks_n.1 block_size_n.2 block_size_n.3 cache_blocks_n.3 in
+    rw (file.1, port.1, port_n.1, count.1, count_n.1, timeout.1, timeout_n.1, tuning) refl
