@@ -25,11 +25,7 @@ use std::{fs, io};
 const NAME: &str = "counter-exhausted";
 
 /// What events are answered.
-fn answers<H: Storage>(
-    alloc: Global,
-    host: &mut H,
-    events: &[Event],
-) -> Result<Vec<u8>, AllocError>
+fn answers<H: Storage>(alloc: Global, host: &mut H, events: &[Event]) -> Result<Vec<u8>, AllocError>
     requires { Clean H.IsIntact H.IsOpen host.old → IsAtRest (H.seen host.old) }
     ensures { Clean H.IsIntact H.IsOpen host.new → IsAtRest (H.seen host.new) }
 {
@@ -92,7 +88,12 @@ pub fn check(rt: &(impl Files + Print + AllocGlobal)) -> io::Result<bool> {
     let last = events(rt, ".in")?;
     let expected = stored(rt, ".out")?;
     let connection = Connection::open_in_memory(alloc)?;
-    let answered = serve(alloc, connection, first.events.as_slice(), last.events.as_slice())?;
+    let answered = serve(
+        alloc,
+        connection,
+        first.events.as_slice(),
+        last.events.as_slice(),
+    )?;
     let is_well = match answered {
         Some(text) => text.as_slice() == expected.as_slice(),
         None => false,
