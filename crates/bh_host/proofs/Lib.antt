@@ -1,4 +1,4 @@
 mod Apart
 mod ToldApart
 mod Turning
-mod Running
+pub mod Running

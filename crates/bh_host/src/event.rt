@@ -26,14 +26,11 @@ use bh_storage::error::Trouble;
 use bh_storage::storage::Storage;
 use bh_types::access_key::AccessKeyId;
 use bh_types::error::RequestError;
-use bh_types::moment::Moment;
+use bh_types::moment::{LAST_READING, Moment};
 use bh_types::names::TenantName;
 use bh_types::refusal::Refusal;
 use bh_types::rejection::Rejection;
 use std::alloc::{AllocError, Global};
-
-/// The greatest reading of the clock that is served, in seconds since 1970.
-const LAST_READING: u64 = 250_000_000_000;
 
 /// What an event was answered, and its stamp: the moment at which it counts, or none where it changed nothing.
 #[derive(Drop)]

@@ -1,2 +1,3 @@
+pub mod ArrivingLemmas
 pub mod Readings
 pub mod Refused

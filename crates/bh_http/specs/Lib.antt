@@ -1,3 +1,4 @@
+pub mod Arriving
 pub mod Answers
 pub mod Credentials
 pub mod Fields

@@ -15,7 +15,7 @@ use std::alloc::{AllocError, Global};
 pub const MAX_FIELDS: usize = 64;
 
 /// The longest head, in bytes.
-const MAX_HEAD: usize = 16384;
+pub const MAX_HEAD: usize = 16384;
 
 /// A request head, with the last digit of its version HTTP/1.0 or HTTP/1.1.
 #[derive(Drop)]

@@ -2,6 +2,7 @@
 //! it is, and a response to its bytes.
 #![tactic(auto)]
 
+pub mod arriving;
 pub mod credentials;
 pub mod encode;
 pub mod fields;

@@ -1,0 +1,153 @@
+-- An event whose bytes were taken, as the event of all the bytes that the reader would give.
+use Rattle.std.proofs.Common.{◌≡◌, ℕ, ◌<◌, ◌≤◌, Bool, true, false, List, [], length, take, refl, sym, subst, arith, Option, Some, None, inl, inr, Result}
+use Rattle.std.specs.Prelude.{nat_lt, IfSome}
+use Rattle.std.specs.Io.KnownBytes.{Appends, Keeps}
+use Rattle.std.proofs.lemmas.Bool.Decides.{nat_tests}
+use Rattle.bh_types.specs.Limits.{HostLimits}
+use Rattle.bh_types.specs.declared.refusal.Refusal.{Refusal}
+use Rattle.bh_model.specs.Runs.{last_reading}
+use Rattle.bh_http.specs.Arriving.{HasExtent}
+use Rattle.bh_http.specs.Reading.{Reads}
+use Rattle.bh_http.specs.Views.{Taken}
+use Rattle.bh_tables.specs.Typed.{Tables}
+use Rattle.bh_view.specs.View.{limits_in}
+use Rattle.bh_storage.specs.Calls.{Seen, Clean, IsAtRest}
+use Rattle.bh_link.specs.Taking.{all_of, Took, TookAtMost}
+use Rattle.bh_link.proofs.TakingLemmas.{consumes_none}
+use Rattle.bh_host.specs.Replies.{clock_text, wanting_text}
+use Rattle.bh_host.specs.Runs.{Told}
+use Rattle.bh_host.specs.Turns.{Applied, WouldApply, fixed}
+use Rattle.bh_host.specs.declared.reply.Caller.TheVariants.{Request}
+use Rattle.bh_connection.specs.Connections.{request_at, Ends, EndsAs, IsApplied, CameTo}
+use Rattle.bh_connection.specs.declared.served.End.TheVariants.{ReadFailed}
+use Rattle.bh_connection.specs.declared.served.Served.{Served}
+
+-- what an event does is what it does with all bytes
+applied_all : (limits : HostLimits) (reading : ℕ) (given rest : Option (List ℕ)) (taken : List ℕ) (old new : Tables) (m : ℕ) (reply : List ℕ)
+    → limits_in old ≡ limits → Took limits given rest taken → Applied (request_at reading taken) old new (Some m) reply
+    → Applied (request_at reading (all_of given taken)) old new (Some m) reply
+applied_all limits reading given rest taken old new m reply same took (stamp, latest, (act, (answer, reads, is), turned)) =
+    let P : HostLimits → Type 0 = λ l. (a : Result Taken Refusal) → Reads l taken a → Reads l (all_of given taken) a in
+    (stamp, latest, (act, (answer, subst P (sym same) took.decided answer reads, is), turned))
+
+module _ {H : Type 0} (IsIntact IsOpen : H → Type 0) (seen : H → Seen) (left : H → Tables → Type 0) where
+  is_applied_all : (reading : ℕ) (given rest : Option (List ℕ)) (taken : List ℕ) (stamp : Option ℕ) (reply : List ℕ) (old new : H)
+      → (Clean IsIntact IsOpen old → IsAtRest (seen old)) → (IsIntact new → IsIntact old) → Took (seen old).limits given rest taken
+      → IsApplied IsIntact IsOpen seen left (request_at reading taken) (stamp, reply) old new
+      → IsApplied IsIntact IsOpen seen left (request_at reading (all_of given taken)) (stamp, reply) old new
+  is_applied_all reading given rest taken None reply old new ready still took did = record {
+    applied = did.applied;
+    told_apart = did.told_apart;
+    acknowledged = tt;
+    crash = λ intact x leaves. elim (did.crash intact x leaves) [
+      | inl before ↦ inl before
+      | inr (open, (m, text, would)) ↦
+          inr (open, (m, text, applied_all (seen old).limits reading given rest taken (seen old).now x m text (ready (still intact, open)).limits took would))
+    ];
+  }
+  is_applied_all reading given rest taken (Some m) reply old new ready still took did = record {
+    applied = λ intact.
+        let (open, opened, applied) = did.applied intact in
+        (open, opened, applied_all (seen old).limits reading given rest taken (seen old).now (seen new).now m reply (ready (still intact, open)).limits took applied);
+    told_apart = did.told_apart;
+    acknowledged = did.acknowledged;
+    crash = tt;
+  }
+
+  -- an event was applied
+  pub answered : (limits : HostLimits) (before after : Ends) (served : Served) (taken reply : List ℕ) (stamp : Option ℕ) (old new : H)
+      → (Clean IsIntact IsOpen old → IsAtRest (seen old)) → (IsIntact new → IsIntact old) → limits ≡ (seen old).limits
+      → Took limits before.left after.left taken → after.reader_failed ≡ false
+      → IsApplied IsIntact IsOpen seen left (request_at before.reading taken) (stamp, reply) old new
+      → served.stamp ≡ stamp → Appends before.held after.held (take served.sent reply) → EndsAs served.ended served.sent reply after.writer_failed
+      → CameTo IsIntact IsOpen seen left before after served old new
+  answered limits before after served taken reply stamp old new ready still same was going did is out ended =
+      let took : Took (seen old).limits before.left after.left taken = subst (λ l. Took l before.left after.left taken) same was in
+      record {
+        outcome = Some (all_of before.left taken, (stamp, reply));
+        came = record {
+          taken = taken;
+          consumed = took.consumed;
+          all = refl;
+          within = λ n extent. (let is_all = took.whole n extent in omega (arith, is_all));
+          whole = some_whole served.stamp took.whole;
+          stamp = sym is;
+          out = out;
+          ended = ended;
+          reader = going;
+        };
+        did = is_applied_all before.reading before.left after.left taken stamp reply old new ready still took did;
+      }
+    where
+      some_whole : (s : Option ℕ) {P : Type 0} → P → IfSome s (λ _. P)
+      some_whole None p = tt
+      some_whole (Some x) p = p
+
+  -- nothing was applied, and the fixed text was sent
+  pub answered_fixed : (limits : HostLimits) (before after : Ends) (served : Served) (taken reply : List ℕ) (old new : H) → limits ≡ (seen old).limits
+      → TookAtMost limits before.left after.left taken → after.reader_failed ≡ false → new ≡ old → reply ≡ fixed (request_at before.reading [])
+      → served.stamp ≡ None → Appends before.held after.held (take served.sent reply) → EndsAs served.ended served.sent reply after.writer_failed
+      → CameTo IsIntact IsOpen seen left before after served old new
+  answered_fixed limits before after served taken reply old new same was going stays told is out ended =
+      let took : TookAtMost (seen old).limits before.left after.left taken = subst (λ l. TookAtMost l before.left after.left taken) same was in
+      let all = all_of before.left taken in
+      let W : Option ℕ → Type 0 = λ s. IfSome s (λ _. (n : ℕ) → HasExtent (seen old).limits all n → length taken ≡ n) in
+      let D : H → Type 0 = λ x. IsApplied IsIntact IsOpen seen left (request_at before.reading all) (None, reply) old x in
+      let none : D old = record { applied = λ _ open. (open, refl); told_apart = λ _. told; acknowledged = tt; crash = λ _ x leaves. inl leaves } in
+      record {
+        outcome = Some (all, (None, reply));
+        came = record {
+          taken = taken;
+          consumed = took.consumed;
+          all = refl;
+          within = took.within;
+          whole = subst W (sym is) tt;
+          stamp = sym is;
+          out = out;
+          ended = ended;
+          reader = going;
+        };
+        did = subst D (sym stays) none;
+      }
+
+  -- the reader failed
+  pub broken : (limits : HostLimits) (before after : Ends) (served : Served) (taken : List ℕ) (old new : H) → limits ≡ (seen old).limits
+      → TookAtMost limits before.left after.left taken → after.reader_failed ≡ true → after.writer_failed ≡ false → after.held ≡ before.held → new ≡ old
+      → served.ended ≡ ReadFailed → served.stamp ≡ None → served.sent ≡ 0
+      → CameTo IsIntact IsOpen seen left before after served old new
+  broken limits before after served taken old new same was failed going kept stays ended stamp sent =
+      let took : TookAtMost (seen old).limits before.left after.left taken = subst (λ l. TookAtMost l before.left after.left taken) same was in
+      let K : Option (List ℕ) → Type 0 = λ h. Keeps before.held h in
+      record {
+        outcome = None;
+        came = record {
+          taken = taken;
+          consumed = took.consumed;
+          within = took.within;
+          ended = ended;
+          stamp = stamp;
+          sent = sent;
+          out = subst K (sym kept) (keeps_same before.held);
+          reader = failed;
+          writer = going;
+        };
+        did = stays;
+      }
+    where
+      keeps_same : (a : Option (List ℕ)) → Keeps a a
+      keeps_same None = tt
+      keeps_same (Some xs) = refl
+
+pub fixed_clock : (reading : ℕ) → last_reading < reading → clock_text Request ≡ fixed (request_at reading [])
+fixed_clock reading late =
+    let test : nat_lt last_reading reading ≡ true = grind (arith, nat_tests) in
+    rw test refl
+
+pub fixed_wanting : (reading : ℕ) → reading ≤ last_reading → wanting_text Request ≡ fixed (request_at reading [])
+fixed_wanting reading early =
+    let test : nat_lt last_reading reading ≡ false = grind (arith, nat_tests) in
+    rw test refl
+
+-- nothing was taken yet
+pub took_nothing : (limits : HostLimits) (given : Option (List ℕ)) → TookAtMost limits given given []
+took_nothing limits given = record { consumed = consumes_none given; within = λ n extent. omega arith }

@@ -1,0 +1,111 @@
+-- Connections after connections.
+use Rattle.std.proofs.Common.{◌≡◌, ℕ, ◌+◌, ◌<◌, List, [], ◌∷◌, ◌++◌, map, length, take, drop, set, get_or, refl, sym, ap, subst, ◌∙◌, arith, Option, Some, None, add-zero, append-nil}
+use Rattle.std.specs.List.{filter_map}
+use Rattle.std.specs.Option.{option_map}
+use Rattle.core.specs.List.{cons_option}
+use Rattle.std.proofs.lemmas.List.{map-append, take_more, take_more_set, get_or-drop, drop-set-lt, drop-drop}
+use Rattle.std.proofs.lemmas.List.Elements.{filter_map-append}
+use Rattle.bh_types.specs.Limits.{HostLimits}
+use Rattle.bh_event.specs.Events.{Arrival as Event}
+use Rattle.bh_tables.specs.Typed.{Tables}
+use Rattle.bh_storage.specs.Calls.{Seen}
+use Rattle.bh_host.specs.Runs.{Told, RanOn}
+use Rattle.bh_host.proofs.Running as running
+use Rattle.bh_connection.specs.Connections.{request_at, Ends, Outcome, Came, Did, DidSome, CameTo}
+use Rattle.bh_connection.specs.Each.{Row, EachCame, event_of, told_of, HasServed, RanSome}
+use Rattle.bh_connection.specs.declared.served.Served.{Served}
+
+each-append : (limits : HostLimits) (rows : List Row) (row : Row) → EachCame limits rows → Came limits row.before row.after row.served row.outcome → EachCame limits (rows ++ row ∷ [])
+each-append limits [] row all came = (came, tt)
+each-append limits (r ∷ rows) row (first, rest) came = (first, each-append limits rows row rest came)
+
+module _ {H : Type 0} (IsIntact IsOpen : H → Type 0) (seen : H → Seen) (left : H → Tables → Type 0) where
+  -- a run, and one connection more
+  ran_with : (events : List Event) (tolds : List Told) (reading : ℕ) (outcome : Outcome) (old mid new : H) → IsIntact new → RanOn IsOpen seen left events tolds old mid
+      → Did IsIntact IsOpen seen left reading outcome mid new
+      → RanOn IsOpen seen left (events ++ cons_option (option_map (λ o. request_at reading o.0) outcome) []) (tolds ++ cons_option (option_map (λ o. o.1) outcome) []) old new
+  ran_with events tolds reading None old mid new intact ran same =
+      let P : List Event → List Told → Type 0 = λ es ts. RanOn IsOpen seen left es ts old new in
+      let stays : RanOn IsOpen seen left events tolds old new = subst (λ x. RanOn IsOpen seen left events tolds old x) (sym same) ran in
+      subst (λ es. P es (tolds ++ [])) (sym (append-nil events)) (subst (P events) (sym (append-nil tolds)) stays)
+  ran_with events tolds reading (Some (request, (stamp, reply))) old mid new intact ran did =
+      running.ran_one IsOpen seen left events tolds (request_at reading request) stamp reply old mid new ran (did.applied intact) (did.told_apart intact) (IsIntact new) intact did.acknowledged did.crash
+
+  pub served_none : (old : H) → HasServed IsIntact IsOpen seen left [] [] [] old old
+  served_none old = ([], record { befores = refl; afters = refl; served = refl; each = tt; ran = λ _. running.ran_none IsOpen seen left old })
+
+  -- one more connection
+  served_more : (befores afters : List Ends) (serveds : List Served) (before after : Ends) (served : Served) (old mid new : H)
+      → (IsIntact new → IsIntact mid) → (seen mid).limits ≡ (seen old).limits → HasServed IsIntact IsOpen seen left befores afters serveds old mid
+      → CameTo IsIntact IsOpen seen left before after served mid new
+      → HasServed IsIntact IsOpen seen left (befores ++ before ∷ []) (afters ++ after ∷ []) (serveds ++ served ∷ []) old new
+  served_more befores afters serveds before after served old mid new still limits (rows, so_far) one =
+      let row : Row = record { before = before; after = after; served = served; outcome = one.outcome } in
+      let P : List Event → List Told → Type 0 = λ es ts. RanOn IsOpen seen left es ts old new in (
+        rows ++ row ∷ [],
+        record {
+          befores = map-append (λ (r : Row). r.before) rows (row ∷ []) ∙ ap (λ t. t ++ before ∷ []) so_far.befores;
+          afters = map-append (λ (r : Row). r.after) rows (row ∷ []) ∙ ap (λ t. t ++ after ∷ []) so_far.afters;
+          served = map-append (λ (r : Row). r.served) rows (row ∷ []) ∙ ap (λ t. t ++ served ∷ []) so_far.served;
+          each = each-append (seen old).limits rows row so_far.each (subst (λ l. Came l before after served one.outcome) limits one.came);
+          ran = λ intact. subst (λ es. P es (filter_map told_of (rows ++ row ∷ []))) (sym (filter_map-append event_of rows (row ∷ [])))
+              (subst (P (filter_map event_of rows ++ filter_map event_of (row ∷ []))) (sym (filter_map-append told_of rows (row ∷ [])))
+              (ran_with (filter_map event_of rows) (filter_map told_of rows) before.reading one.outcome old mid new intact (so_far.ran (still intact)) one.did));
+        },
+      )
+
+  -- one more of the slice
+  pub served_next : {A : Type 0} (ends : A → Ends) (firsts nows nexts : List A) (i : ℕ) (d was is : A) (serveds more : List Served) (served : Served) (old mid new : H)
+      → i < length firsts → i < length nows → was ≡ get_or firsts i d → nexts ≡ set nows i is → more ≡ serveds ++ served ∷ [] → (IsIntact new → IsIntact mid) → (seen mid).limits ≡ (seen old).limits
+      → HasServed IsIntact IsOpen seen left (map ends (take i firsts)) (map ends (take i nows)) serveds old mid
+      → CameTo IsIntact IsOpen seen left (ends was) (ends is) served mid new
+      → HasServed IsIntact IsOpen seen left (map ends (take (i + 1) firsts)) (map ends (take (i + 1) nexts)) more old new
+  served_next ends firsts nows nexts i d was is serveds more served old mid new lt lt2 at put same still limits so_far one =
+      let olds : map ends (take (i + 1) firsts) ≡ map ends (take i firsts) ++ ends was ∷ [] =
+      ap (map ends) (take_more firsts i d lt) ∙ map-append ends (take i firsts) (get_or firsts i d ∷ []) ∙ ap (λ a. map ends (take i firsts) ++ ends a ∷ []) (sym at) in
+      let news : map ends (take (i + 1) nexts) ≡ map ends (take i nows) ++ ends is ∷ [] =
+      ap (λ t. map ends (take (i + 1) t)) put ∙ ap (map ends) (take_more_set nows i is lt2) ∙ map-append ends (take i nows) (is ∷ []) in
+      let P : List Ends → List Ends → List Served → Type 0 = λ a b s. HasServed IsIntact IsOpen seen left a b s old new in
+      subst (λ a. P a (map ends (take (i + 1) nexts)) more) (sym olds)
+      (subst (λ b. P (map ends (take i firsts) ++ ends was ∷ []) b more) (sym news)
+      (subst (P (map ends (take i firsts) ++ ends was ∷ []) (map ends (take i nows) ++ ends is ∷ [])) (sym same)
+      (served_more (map ends (take i firsts)) (map ends (take i nows)) serveds (ends was) (ends is) served old mid new still limits so_far one)))
+
+  -- ---- some requests
+
+  pub ran_no_request : (old : H) → RanSome IsOpen seen left old old
+  ran_no_request old = ([], [], running.ran_none IsOpen seen left old)
+
+  pub ran_request : (old mid new : H) → IsIntact new → RanSome IsOpen seen left old mid → DidSome IsIntact IsOpen seen left mid new → RanSome IsOpen seen left old new
+  ran_request old mid new intact (requests, tolds, ran) (reading, None, same) = (requests, tolds, subst (λ x. RanOn IsOpen seen left (map (λ r. request_at r.0 r.1) requests) tolds old x) (sym same) ran)
+  ran_request old mid new intact (requests, tolds, ran) (reading, Some (request, (stamp, reply)), did) =
+      let arrived : ℕ × List ℕ → Event = λ r. request_at r.0 r.1 in
+      let all : map arrived (requests ++ (reading, request) ∷ []) ≡ map arrived requests ++ request_at reading request ∷ [] = map-append arrived requests ((reading, request) ∷ []) in (
+        requests ++ (reading, request) ∷ [],
+        tolds ++ (stamp, reply) ∷ [],
+        subst (λ es. RanOn IsOpen seen left es (tolds ++ (stamp, reply) ∷ []) old new) (sym all)
+        (ran_with (map arrived requests) tolds reading (Some (request, (stamp, reply))) old mid new intact ran did),
+      )
+
+  pub came_to_some : (before after : Ends) (served : Served) (old new : H) → CameTo IsIntact IsOpen seen left before after served old new → DidSome IsIntact IsOpen seen left old new
+  came_to_some before after served old new came = (before.reading, came.outcome, came.did)
+
+  pub no_connection : (old : H) → DidSome IsIntact IsOpen seen left old old
+  no_connection old = (0, None, refl)
+
+-- ---- the slice
+
+-- an element of the rest is as it came
+pub same_at : {A : Type 0} (nows firsts : List A) (i : ℕ) (d : A) → drop i nows ≡ drop i firsts → get_or nows i d ≡ get_or firsts i d
+same_at nows firsts i d same = sym (first nows i d) ∙ ap (λ t. get_or t 0 d) same ∙ first firsts i d
+  where
+    first : {A : Type 0} (l : List A) (i : ℕ) (d : A) → get_or (drop i l) 0 d ≡ get_or l i d
+    first l i d = get_or-drop i l 0 d ∙ ap (λ k. get_or l k d) (add-zero i)
+
+pub rest_next : {A : Type 0} (nows firsts : List A) (i : ℕ) (x : A) → drop i nows ≡ drop i firsts → drop (i + 1) (set nows i x) ≡ drop (i + 1) firsts
+rest_next nows firsts i x same =
+    let lt : i < i + 1 = omega arith in
+    drop-set-lt (i + 1) nows i x lt ∙ sym (drop-drop_one nows i) ∙ ap (drop 1) same ∙ drop-drop_one firsts i
+  where
+    drop-drop_one : {A : Type 0} (l : List A) (i : ℕ) → drop 1 (drop i l) ≡ drop (i + 1) l
+    drop-drop_one l i = drop-drop 1 i l

@@ -1,0 +1,52 @@
+use Rattle.std.proofs.Common.{◌<◌, List, [], length, refl, sym, subst, arith, rules, ◌∙◌}
+use Rattle.std.proofs.lemmas.List.Elements.{All-get_or}
+use Rattle.bh_connection.specs.Each.{IsGoing, HasServed, ends}
+use Rattle.bh_connection.specs.declared.served.Served.{Served}
+use Rattle.bh_connection.proofs.EachLemmas.{served_none, served_next, same_at, rest_next}
+use Rattle.bh_connection.proofs.each.serve_each.Goals as goal
+
+pub loop-index-init : goal.loop-index-init
+loop-index-init g c =
+    let old = c.args.host.now in
+    let P : List Served → Type 0 = λ s. HasServed g.H.Storage.IsIntact g.H.Storage.IsOpen g.H.Storage.seen g.H.Storage.left [] [] s old old in
+    record {
+      intact = λ h. h;
+      opened = λ h k. k;
+      ready = c.requires.rest;
+      limits = refl;
+      count = search rules;
+      room = search rules;
+      rest = refl;
+      served = subst P (sym c.in_ok-serveds.ensures.items) (served_none g.H.Storage.IsIntact g.H.Storage.IsOpen g.H.Storage.seen g.H.Storage.left old);
+    }
+
+pub serve_arrival-served-requires-clause-going : goal.serve_arrival-served-requires-clause-going
+serve_arrival-served-requires-clause-going g c =
+    let firsts = c.args.arrivals.now in
+    let nows = c.loop-index.arrivals in
+    let i = c.loop-index.index in
+    let d = c.index-arrivals-index.result in
+    let lt : i < length firsts = omega (arith, c.loop-index-test.true, c.loop-index.auto.arrivals) in
+    subst IsGoing (sym (same_at nows firsts i d c.loop-index.invariant.rest)) (All-get_or IsGoing firsts i d lt c.requires.going)
+
+pub loop-index-preserved : goal.loop-index-preserved
+loop-index-preserved g c =
+    let firsts = c.args.arrivals.now in
+    let nows = c.loop-index.arrivals in
+    let i = c.loop-index.index in
+    let d = c.index-arrivals-index.result in
+    let so_far = c.loop-index.invariant in
+    let one = c.serve_arrival-served.ensures in
+    let lt : i < length firsts = omega (arith, c.loop-index-test.true, c.loop-index.auto.arrivals) in
+    let lt2 : i < length nows = omega (arith, c.loop-index-test.true, c.loop-index.auto.arrivals) in
+    record {
+      intact = λ intact. so_far.intact (one.intact intact);
+      opened = λ intact opened. so_far.opened (one.intact intact) (one.opened intact opened);
+      ready = one.ready;
+      limits = one.limits ∙ so_far.limits;
+      count = search rules;
+      room = search rules;
+      rest = rest_next nows firsts i c.serve_arrival-served.new.arrival so_far.rest;
+      served = served_next g.H.Storage.IsIntact g.H.Storage.IsOpen g.H.Storage.seen g.H.Storage.left (ends g.R.Read.remaining g.W.Write.contents) firsts nows _ i d _ c.serve_arrival-served.new.arrival _ _ c.serve_arrival-served.result _ _ _
+          lt lt2 (same_at nows firsts i d so_far.rest) refl c.push_reserved.ensures.items one.intact so_far.limits so_far.served one.came_to;
+    }

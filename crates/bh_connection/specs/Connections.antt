@@ -1,0 +1,100 @@
+-- What becomes of a connection, and of the host by it.
+use Rattle.std.specs.Prelude.{◌≡◌, ◌⊎◌, ◌≤◌, ◌<◌, ℕ, Bool, true, false, List, length, take, Option, Some, None, IfSome, IfNone}
+use Rattle.std.specs.Io.KnownBytes.{Appends, Consumes, Keeps}
+use Rattle.bh_types.specs.Limits.{HostLimits}
+use Rattle.bh_event.specs.Events.{Arrival as Event, Requested}
+use Rattle.bh_http.specs.Arriving.{HasExtent}
+use Rattle.bh_tables.specs.Typed.{Tables}
+use Rattle.bh_storage.specs.Calls.{Seen}
+use Rattle.bh_host.specs.Runs.{Told}
+use Rattle.bh_host.specs.Turns.{AppliedTo, IsToldApart, WouldApply}
+use Rattle.bh_link.specs.Taking.{all_of}
+use Rattle.bh_link.specs.declared.link.Link.{Link}
+use Rattle.bh_connection.specs.declared.served.End.{End}
+use Rattle.bh_connection.specs.declared.served.End.TheVariants.{Whole, ReadFailed, WriteFailed}
+use Rattle.bh_connection.specs.declared.served.Served.{Served}
+
+-- a request at a reading of the clock
+abbrev pub request_at : ℕ → List ℕ → Event
+request_at reading bytes = record { reading = reading; message = Requested bytes }
+
+-- ---- its ends
+
+-- its reading, what is left of the reader's bytes, what the writer holds, and whether they failed
+pub record Ends : Type 0 where
+  pub reading : ℕ
+  pub left : Option (List ℕ)
+  pub held : Option (List ℕ)
+  pub reader_failed : Bool
+  pub writer_failed : Bool
+
+abbrev pub ends_of : {R W : Type 0} → (R → Option (List ℕ)) → (W → Option (List ℕ)) → ℕ → Link R → Link W → Ends
+ends_of remaining contents reading reader writer = record {
+  reading = reading;
+  left = remaining reader.inner;
+  held = contents writer.inner;
+  reader_failed = reader.failed;
+  writer_failed = writer.failed;
+}
+
+-- how many bytes of a reply went out, and whether the writer failed
+abbrev pub EndsAs : End → ℕ → List ℕ → Bool → Type 0
+EndsAs Whole sent reply failed = (sent ≡ length reply) × (failed ≡ false)
+EndsAs WriteFailed sent reply failed = (sent < length reply) × (failed ≡ true)
+EndsAs ReadFailed sent reply failed = ⊥
+
+-- the bytes of the request that it brought, with the stamp and the reply; none where its reader failed
+abbrev pub Outcome : Type 0
+Outcome = Option (List ℕ × Told)
+
+-- the reader failed: nothing is answered, and no byte after head and body of a request that is accepted was taken
+pub record IsBroken (limits : HostLimits) (before after : Ends) (served : Served) : Type 0 where
+  pub taken : List ℕ
+  pub consumed : Consumes before.left after.left taken
+  pub within : (n : ℕ) → HasExtent limits (all_of before.left taken) n → length taken ≤ n
+  pub ended : served.ended ≡ ReadFailed
+  pub stamp : served.stamp ≡ None
+  pub sent : served.sent ≡ 0
+  pub out : Keeps before.held after.held
+  pub reader : after.reader_failed ≡ true
+  pub writer : after.writer_failed ≡ false
+
+-- the request is all the bytes that the reader would give; the bytes out are the first ones of its reply
+pub record IsAnswered (limits : HostLimits) (before after : Ends) (served : Served) (request : List ℕ) (told : Told) : Type 0 where
+  pub taken : List ℕ
+  pub consumed : Consumes before.left after.left taken
+  pub all : request ≡ all_of before.left taken
+  -- no byte after head and body of a request that is accepted was taken, and with a stamp each byte of them was
+  pub within : (n : ℕ) → HasExtent limits request n → length taken ≤ n
+  pub whole : IfSome served.stamp (λ _. (n : ℕ) → HasExtent limits request n → length taken ≡ n)
+  pub stamp : told.0 ≡ served.stamp
+  pub out : Appends before.held after.held (take served.sent told.1)
+  pub ended : EndsAs served.ended served.sent told.1 after.writer_failed
+  pub reader : after.reader_failed ≡ false
+
+abbrev pub Came : HostLimits → Ends → Ends → Served → Outcome → Type 0
+Came limits before after served None = IsBroken limits before after served
+Came limits before after served (Some (request, told)) = IsAnswered limits before after served request told
+
+-- ---- its host
+
+-- an event was applied: what `bh_host::apply` promises of it
+pub record IsApplied {H : Type 0} (IsIntact IsOpen : H → Type 0) (seen : H → Seen) (left : H → Tables → Type 0) (event : Event) (told : Told) (old new : H) : Type 0 where
+  pub applied : IsIntact new → AppliedTo IsOpen seen event old new told.0 told.1
+  pub told_apart : IsIntact new → IsToldApart event told.0 told.1
+  pub acknowledged : IfSome told.0 (λ _. IsIntact new → (x : Tables) → left new x → x ≡ (seen new).now)
+  pub crash : IfNone told.0 (IsIntact new → (x : Tables) → left new x → left old x ⊎ (IsOpen old × WouldApply event (seen old).now x))
+
+-- where its reader failed the host stays
+abbrev pub Did : {H : Type 0} → (H → Type 0) → (H → Type 0) → (H → Seen) → (H → Tables → Type 0) → ℕ → Outcome → H → H → Type 0
+Did IsIntact IsOpen seen left reading None old new = new ≡ old
+Did IsIntact IsOpen seen left reading (Some (request, told)) old new = IsApplied IsIntact IsOpen seen left (request_at reading request) told old new
+
+pub record CameTo {H : Type 0} (IsIntact IsOpen : H → Type 0) (seen : H → Seen) (left : H → Tables → Type 0) (before after : Ends) (served : Served) (old new : H) : Type 0 where
+  pub outcome : Outcome
+  pub came : Came (seen old).limits before after served outcome
+  pub did : Did IsIntact IsOpen seen left before.reading outcome old new
+
+-- some connection came, or none
+abbrev pub DidSome : {H : Type 0} → (H → Type 0) → (H → Type 0) → (H → Seen) → (H → Tables → Type 0) → H → H → Type 0
+DidSome IsIntact IsOpen seen left old new = (reading : ℕ) × (outcome : Outcome) × Did IsIntact IsOpen seen left reading outcome old new

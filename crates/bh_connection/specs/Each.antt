@@ -1,0 +1,51 @@
+-- A list of connections, and what each tenant is told, as if it were alone.
+use Rattle.std.specs.Prelude.{◌≡◌, ℕ, false, List, [], ◌∷◌, map, filter_map, Option, option_map}
+use Rattle.bh_types.specs.Limits.{HostLimits}
+use Rattle.bh_event.specs.Events.{Arrival as Event}
+use Rattle.bh_tables.specs.Typed.{Tables}
+use Rattle.bh_storage.specs.Calls.{Seen}
+use Rattle.bh_host.specs.Runs.{Told, RanOn}
+use Rattle.bh_connection.specs.Connections.{request_at, Ends, ends_of, Outcome, Came}
+use Rattle.bh_connection.specs.declared.each.Arrival.{Arrival}
+use Rattle.bh_connection.specs.declared.served.Served.{Served}
+
+-- neither end has failed
+abbrev pub IsGoing : {R W : Type 0} → Arrival R W → Type 0
+IsGoing arrival = (arrival.reader.failed ≡ false) × (arrival.writer.failed ≡ false)
+
+abbrev pub ends : {R W : Type 0} → (R → Option (List ℕ)) → (W → Option (List ℕ)) → Arrival R W → Ends
+ends remaining contents arrival = ends_of remaining contents arrival.reading arrival.reader arrival.writer
+
+-- one connection: its ends before and after, what became of it, and the request that it brought, if it did
+pub record Row : Type 0 where
+  pub before : Ends
+  pub after : Ends
+  pub served : Served
+  pub outcome : Outcome
+
+abbrev pub EachCame : HostLimits → List Row → Type 0
+EachCame limits [] = Unit {0}
+EachCame limits (row ∷ rows) = Came limits row.before row.after row.served row.outcome × EachCame limits rows
+
+-- the events that connections brought, and what was told of them
+abbrev pub event_of : Row → Option Event
+event_of row = option_map (λ o. request_at row.before.reading o.0) row.outcome
+
+abbrev pub told_of : Row → Option Told
+told_of row = option_map (λ o. o.1) row.outcome
+
+-- connections were served in turn; those whose reader didn't fail are the events of a run
+pub record HasServedAs {H : Type 0} (IsIntact IsOpen : H → Type 0) (seen : H → Seen) (left : H → Tables → Type 0) (before after : List Ends) (serveds : List Served) (old new : H) (rows : List Row) : Type 0 where
+  pub befores : map (λ (row : Row). row.before) rows ≡ before
+  pub afters : map (λ (row : Row). row.after) rows ≡ after
+  pub served : map (λ (row : Row). row.served) rows ≡ serveds
+  pub each : EachCame (seen old).limits rows
+  pub ran : IsIntact new → RanOn IsOpen seen left (filter_map event_of rows) (filter_map told_of rows) old new
+
+abbrev pub HasServed : {H : Type 0} → (H → Type 0) → (H → Type 0) → (H → Seen) → (H → Tables → Type 0) → List Ends → List Ends → List Served → H → H → Type 0
+HasServed IsIntact IsOpen seen left before after serveds old new = (rows : List Row) × HasServedAs IsIntact IsOpen seen left before after serveds old new rows
+
+-- some requests came in turn, each at a reading of the clock, and no other event
+abbrev pub RanSome : {H : Type 0} → (H → Type 0) → (H → Seen) → (H → Tables → Type 0) → H → H → Type 0
+RanSome IsOpen seen left old new =
+    (requests : List (ℕ × List ℕ)) × (tolds : List Told) × RanOn IsOpen seen left (map (λ r. request_at r.0 r.1) requests) tolds old new

@@ -1,0 +1,94 @@
+ghost use Rattle.std.specs.Prelude.{◌≡◌, ◌<◌, take, false, None, IfSome};
+ghost use Rattle.std.specs.Io.KnownBytes.{Appends};
+ghost use Rattle.bh_model.specs.Runs.{last_reading};
+ghost use Rattle.bh_storage.specs.Calls.{Clean, IsAtRest};
+ghost use Rattle.bh_tables.specs.Typed.{Tables};
+ghost use Rattle.bh_host.specs.Replies.{reply_bytes, clock_text};
+ghost use Rattle.bh_host.specs.declared.reply.Caller.TheVariants.{Request};
+ghost use Rattle.bh_connection.specs.Connections.{ends_of, EndsAs, CameTo};
+
+use crate::served::{End, Served};
+use bh_event::event::Event;
+use bh_host::{Caller, Reply, Told, apply};
+use bh_link::link::Link;
+use bh_link::request::{TakeError, take_request};
+use bh_storage::storage::Storage;
+use bh_types::moment::LAST_READING;
+use std::alloc::Global;
+use std::io::{Read, Write};
+
+/// Serves one connection: takes its request, applies it, and writes the response.
+///
+/// A reading above 250,000,000,000 seconds is answered ClockOutOfRange, and nothing is read. Otherwise the head is read
+/// a byte at a time, and no byte after the body of a request that is accepted. What is done and answered is what
+/// [`apply`] does and answers at all the bytes that the reader would give.
+pub fn serve_connection<H: Storage, R: Read, W: Write>(
+    alloc: Global,
+    host: &mut H,
+    reading: u64,
+    reader: &mut Link<R>,
+    writer: &mut Link<W>,
+) -> Served
+    requires rest { Clean H.IsIntact H.IsOpen host.old → IsAtRest (H.seen host.old) }
+    requires reads { reader.old.failed ≡ false }
+    requires writes { writer.old.failed ≡ false }
+    ensures intact { H.IsIntact host.new → H.IsIntact host.old }
+    ensures opened { H.IsIntact host.new → H.IsOpen host.new → H.IsOpen host.old }
+    ensures ready { Clean H.IsIntact H.IsOpen host.new → IsAtRest (H.seen host.new) }
+    ensures limits { (H.seen host.new).limits ≡ (H.seen host.old).limits }
+    ensures came_to { CameTo H.IsIntact H.IsOpen H.seen H.left
+        (ends_of R.remaining W.contents reading reader.old writer.old)
+        (ends_of R.remaining W.contents reading reader.new writer.new) result host.old host.new }
+    ensures untouched { result.ended ≡ End.ReadFailed → host.new ≡ host.old }
+    ensures clock { last_reading < reading
+        → (result.stamp ≡ None) × (host.new ≡ host.old) × (reader.new ≡ reader.old)
+        × Appends (W.contents writer.old.inner) (W.contents writer.new.inner) (take result.sent (clock_text Request))
+        × EndsAs result.ended result.sent (clock_text Request) writer.new.failed }
+    ensures acknowledged { IfSome result.stamp (λ _. H.IsIntact host.new
+        → (x : Tables) → H.left host.new x → x ≡ (H.seen host.new).now) }
+{
+    if reading > LAST_READING {
+        return answer(writer, left_out(Reply::ClockOutOfRange(Caller::Request)));
+    }
+    match take_request(alloc, &host.limits(), reader) {
+        Ok(bytes) => {
+            let event = Event::Http { reading, bytes };
+            answer(writer, apply(alloc, host, &event))
+        }
+        Err(TakeError::OutOfMemory) => answer(writer, left_out(Reply::Wanting(Caller::Request))),
+        Err(TakeError::ReadFailed) => Served {
+            stamp: None,
+            sent: 0,
+            ended: End::ReadFailed,
+        },
+    }
+}
+
+/// What is answered where nothing was applied.
+fn left_out(reply: Reply) -> Told
+    ensures stamp { result.stamp ≡ None }
+    ensures reply { result.reply ≡ reply }
+{
+    Told { stamp: None, reply }
+}
+
+/// Writes a reply.
+fn answer<W: Write>(writer: &mut Link<W>, told: Told) -> Served
+    requires { writer.old.failed ≡ false }
+    ensures stamp { result.stamp ≡ told.stamp }
+    ensures out { Appends (W.contents writer.old.inner) (W.contents writer.new.inner) (take result.sent (reply_bytes told.reply)) }
+    ensures ended { EndsAs result.ended result.sent (reply_bytes told.reply) writer.new.failed }
+{
+    let bytes = told.reply.bytes();
+    let sent = writer.send(bytes);
+    let ended = if sent < bytes.len() {
+        End::WriteFailed
+    } else {
+        End::Whole
+    };
+    Served {
+        stamp: told.stamp,
+        sent: sent as u64,
+        ended,
+    }
+}

@@ -1,0 +1,71 @@
+ghost use Rattle.std.specs.Prelude.{◌≡◌, length, map, false, All, IfOk, OnErr};
+ghost use Rattle.bh_storage.specs.Calls.{Clean, IsAtRest};
+ghost use Rattle.bh_connection.specs.Connections.{CameTo};
+ghost use Rattle.bh_connection.specs.Each.{IsGoing, HasServed, ends};
+
+use crate::connection::serve_connection;
+use crate::served::Served;
+use bh_link::link::Link;
+use bh_storage::storage::Storage;
+use std::alloc::{AllocError, Global};
+use std::io::{Read, Write};
+
+/// A connection at a reading of the clock, in seconds since 1970.
+#[derive(Drop)]
+pub struct Arrival<R, W> {
+    pub reading: u64,
+    pub reader: Link<R>,
+    pub writer: Link<W>,
+}
+
+/// Serves connections in turn. To each tenant the answers are those of a machine that it has to itself, wherever any
+/// connection breaks. Its vector is taken first: where memory is wanting for it, nothing is read or applied.
+pub fn serve_each<H: Storage, R: Read, W: Write>(
+    alloc: Global,
+    host: &mut H,
+    arrivals: &mut [Arrival<R, W>],
+) -> Result<Vec<Served>, AllocError>
+    requires rest { Clean H.IsIntact H.IsOpen host.old → IsAtRest (H.seen host.old) }
+    requires going { All IsGoing arrivals.old }
+    ensures intact { H.IsIntact host.new → H.IsIntact host.old }
+    ensures opened { H.IsIntact host.new → H.IsOpen host.new → H.IsOpen host.old }
+    ensures ready { Clean H.IsIntact H.IsOpen host.new → IsAtRest (H.seen host.new) }
+    ensures limits { (H.seen host.new).limits ≡ (H.seen host.old).limits }
+    ensures served { IfOk result (λ serveds. HasServed H.IsIntact H.IsOpen H.seen H.left
+        (map (ends R.remaining W.contents) arrivals.old) (map (ends R.remaining W.contents) arrivals.new)
+        serveds.items host.old host.new) }
+    ensures count { IfOk result (λ serveds. length serveds.items ≡ length arrivals.old) }
+    ensures err { OnErr result ((host.new ≡ host.old) × (arrivals.new ≡ arrivals.old)) }
+{
+    let mut serveds = Vec::with_capacity(alloc, arrivals.len())?;
+    for index in 0..arrivals.len() {
+        let served = serve_arrival(alloc, host, &mut arrivals[index]);
+        serveds.push_reserved(served);
+    }
+    Ok(serveds)
+}
+
+/// Serves one connection.
+fn serve_arrival<H: Storage, R: Read, W: Write>(
+    alloc: Global,
+    host: &mut H,
+    arrival: &mut Arrival<R, W>,
+) -> Served
+    requires rest { Clean H.IsIntact H.IsOpen host.old → IsAtRest (H.seen host.old) }
+    requires going { IsGoing arrival.old }
+    ensures intact { H.IsIntact host.new → H.IsIntact host.old }
+    ensures opened { H.IsIntact host.new → H.IsOpen host.new → H.IsOpen host.old }
+    ensures ready { Clean H.IsIntact H.IsOpen host.new → IsAtRest (H.seen host.new) }
+    ensures limits { (H.seen host.new).limits ≡ (H.seen host.old).limits }
+    ensures came_to { CameTo H.IsIntact H.IsOpen H.seen H.left
+        (ends R.remaining W.contents arrival.old) (ends R.remaining W.contents arrival.new) result host.old host.new }
+{
+    let reading = arrival.reading;
+    serve_connection(
+        alloc,
+        host,
+        reading,
+        &mut arrival.reader,
+        &mut arrival.writer,
+    )
+}

@@ -1,0 +1,107 @@
+use Rattle.std.specs.Prelude.{◌&&◌}
+use Rattle.std.proofs.Common.{Bool, false, rules, ◌≡◌, ◌∷◌, ◌+◌, ℕ, List, [], ◌++◌, length, length-append, refl, sym, ap, subst, ◌∙◌, arith, Option}
+use Rattle.std.specs.List.{list_any}
+use Rattle.std.specs.Io.KnownBytes.{Consumes}
+use Rattle.bh_http.specs.Reading.{HasNoHead}
+use Rattle.bh_http.specs.declared.arriving.Arriving.TheVariants.{Body, Refused, NotYet}
+use Rattle.bh_http.specs.Arriving.{is_text, ends_blank, Says}
+use Rattle.bh_http.proofs.ArrivingLemmas.{no_head_of_none}
+use Rattle.bh_link.proofs.TakingLemmas.{consumes_none, consumes_kept, consumes_pushed, part_none, part_pushed, opens_pushed, opens_never, opens_limit, started_pushed, none_pushed, if_err}
+use Rattle.bh_link.proofs.request.take_head.Goals as goal
+use Rattle.bh_link.proofs.request.take_head.Goals.{then-may_end+in_ok-search+in-NotYet, else-may_end}
+
+none_consumed : (old : Option (List ℕ)) (items : List ℕ) → items ≡ [] → Consumes old old items
+none_consumed old items none = let P : List ℕ → Type 0 = λ t. Consumes old old t in subst P (sym none) (consumes_none old)
+
+no_head : (items : List ℕ) → items ≡ [] → HasNoHead items
+no_head items none = let P : List ℕ → Type 0 = λ t. HasNoHead t in subst P (sym none) no_head_of_none
+
+open_end : (r started : Bool) (seen next : List ℕ) → seen ≡ next → r ≡ (started && ends_blank seen) → r ≡ false → (started && ends_blank next) ≡ false
+open_end r started seen next same is no_end = ap (λ t. started && ends_blank t) (sym same) ∙ sym is ∙ no_end
+
+pub loop-count-init : goal.loop-count-init
+loop-count-init g c =
+    let none = c.new-bytes.ensures.items in
+    record {
+      going = c.requires;
+      count = ap length none;
+      consumed = none_consumed _ _ none;
+      none = no_head _ none;
+      started = ap (list_any is_text) (sym none);
+    }
+
+pub returns-in_err-byte-clause-within : goal.returns-in_err-byte-clause-within
+returns-in_err-byte-clause-within g c =
+    let so_far = c.loop-count.invariant in
+    if_err c.from_residual.result (c.loop-count.bytes.items, part_none c.args.limits.now _ _ _ (consumes_kept _ _ _ _ so_far.consumed c.in_err-byte.ensures.fault) so_far.none)
+
+pub returns-in_err-push-clause-within : goal.returns-in_err-push-clause-within
+returns-in_err-push-clause-within g c =
+    let so_far = c.loop-count.invariant in
+    let bytes = c.loop-count.bytes.items in
+    let byte = c.in-Some.byte in
+    let taken = rw c.in-Some.is at c.in_ok-byte.ensures.byte in
+    let consumed = consumes_pushed _ _ _ bytes (bytes ++ byte ∷ []) byte refl so_far.consumed taken in
+    if_err c.from_residual-in_err-push.result (bytes ++ byte ∷ [], part_pushed c.args.limits.now _ _ bytes (bytes ++ byte ∷ []) byte refl consumed so_far.none)
+
+pub returns-in_err-search-clause-within : goal.returns-in_err-search-clause-within
+returns-in_err-search-clause-within g c =
+    let so_far = c.loop-count.invariant in
+    let bytes = c.loop-count.bytes.items in
+    let byte = c.in-Some.byte in
+    let taken = rw c.in-Some.is at c.in_ok-byte.ensures.byte in
+    let consumed = consumes_pushed _ _ _ bytes c.push.new.bytes.items byte c.in_ok-push.ensures so_far.consumed taken in
+    if_err c.from_residual-in_err-search.result (c.push.new.bytes.items, part_pushed c.args.limits.now _ _ bytes c.push.new.bytes.items byte c.in_ok-push.ensures consumed so_far.none)
+
+pub returns-in-Body-clause-opens : goal.returns-in-Body-clause-opens
+returns-in-Body-clause-opens g c =
+    let so_far = c.loop-count.invariant in
+    let bytes = c.loop-count.bytes.items in
+    let byte = c.in-Some.byte in
+    let next = c.push.new.bytes.items in
+    let taken = rw c.in-Some.is at c.in_ok-byte.ensures.byte in
+    let consumed = consumes_pushed _ _ _ bytes next byte c.in_ok-push.ensures so_far.consumed taken in
+    let P : List ℕ → Type 0 = λ t. Says c.args.limits.now t (Body c.in-Body.body) in
+    let said = subst P c.as_slice-then-may_end.ensures.value (rw c.in-Body.is at c.in_ok-search.ensures) in
+    opens_pushed c.args.limits.now _ _ bytes next byte c.in-Body.body c.in_ok-push.ensures consumed so_far.none said
+
+pub returns-in-Refused-clause-opens : goal.returns-in-Refused-clause-opens
+returns-in-Refused-clause-opens g c =
+    let so_far = c.loop-count.invariant in
+    let bytes = c.loop-count.bytes.items in
+    let byte = c.in-Some.byte in
+    let next = c.push.new.bytes.items in
+    let taken = rw c.in-Some.is at c.in_ok-byte.ensures.byte in
+    let consumed = consumes_pushed _ _ _ bytes next byte c.in_ok-push.ensures so_far.consumed taken in
+    let P : List ℕ → Type 0 = λ t. Says c.args.limits.now t Refused in
+    let said = subst P c.as_slice-then-may_end.ensures.value (rw c.in-Refused.is at c.in_ok-search.ensures) in
+    opens_never c.args.limits.now _ _ next consumed said
+
+pub loop-count-preserved : goal.loop-count-preserved
+loop-count-preserved g c =
+    let so_far = c.loop-count.invariant in
+    let bytes = c.loop-count.bytes.items in
+    let byte = c.in-Some.byte in
+    let next = c.push.new.bytes.items in
+    let same = c.in_ok-push.ensures in
+    let taken = rw c.in-Some.is at c.in_ok-byte.ensures.byte in
+    let started = started_pushed bytes next byte c.loop-count.started c.has_started-started.result same so_far.started c.has_started-started.ensures in
+    let P : List ℕ → Type 0 = λ t. Says c.args.limits.now t NotYet in
+    let Q : List ℕ → Type 0 = λ t. HasNoHead t in
+    let none : HasNoHead next = elim c.if-may_end.branch [
+      | then-may_end+in_ok-search+in-NotYet w ↦ subst Q w.as_slice-then-may_end.ensures.value (rw w.in-NotYet.is at w.in_ok-search.ensures)
+      | else-may_end w ↦ none_pushed bytes next byte c.has_started-started.result same so_far.none started (open_end _ _ _ next c.as_slice.ensures.value c.may_end.ensures w.if-may_end.false)
+    ] in
+    record {
+      going = search rules;
+      count = ap length same ∙ length-append bytes (byte ∷ []) ∙ ap (λ n. n + 1) so_far.count;
+      consumed = consumes_pushed _ _ _ bytes next byte same so_far.consumed taken;
+      none = none;
+      started = started;
+    }
+
+pub returns-clause-opens : goal.returns-clause-opens
+returns-clause-opens g c =
+    let so_far = c.loop-count.invariant in
+    let full = c.loop-count-test.false in
+    opens_limit c.args.limits.now _ _ c.loop-count.bytes.items so_far.consumed so_far.none (omega (arith, so_far.count, full))

@@ -1,0 +1,48 @@
+-- What was taken from a reader that tells its bytes, or that does not.
+use Rattle.std.specs.Prelude.{◌≡◌, ◌≤◌, ◌⊎◌, ℕ, Bool, true, false, Ok, List, [], ◌∷◌, length, Option, Some, None, Result}
+use Rattle.std.specs.Io.KnownBytes.{Consumes, Keeps, IsAtEnd}
+use Rattle.bh_types.specs.Limits.{HostLimits}
+use Rattle.bh_types.specs.declared.refusal.Refusal.{Refusal}
+use Rattle.httparse.specs.Grammar.{RequestHead}
+use Rattle.bh_http.specs.Reading.{Reads, HasHead, HasNoHead, framing, parts_of}
+use Rattle.bh_http.specs.Views.{Taken}
+use Rattle.bh_http.specs.Arriving.{HasExtent, NeverAccepted}
+use Rattle.bh_link.specs.declared.request.TakeError.{TakeError}
+use Rattle.bh_link.specs.declared.request.TakeError.TheVariants.{ReadFailed, OutOfMemory}
+
+-- the next byte was taken, or the end is reached
+abbrev pub GivesByte : Option (List ℕ) → Option (List ℕ) → Option ℕ → Type 0
+GivesByte old new (Some byte) = Consumes old new (byte ∷ [])
+GivesByte old new None = Keeps old new × IsAtEnd new
+
+-- all the bytes that a reader would give, if it tells them; otherwise those that were taken from it
+abbrev pub all_of : Option (List ℕ) → List ℕ → List ℕ
+all_of None taken = taken
+all_of (Some all) taken = all
+
+-- a request was taken: what was taken is read as all bytes are, and of a request that is accepted it is head and body
+pub record Took (limits : HostLimits) (old new : Option (List ℕ)) (taken : List ℕ) : Type 0 where
+  pub consumed : Consumes old new taken
+  pub decided : (answer : Result Taken Refusal) → Reads limits taken answer → Reads limits (all_of old taken) answer
+  pub whole : (n : ℕ) → HasExtent limits (all_of old taken) n → length taken ≡ n
+
+-- no byte was taken after head and body of a request that is accepted
+pub record TookAtMost (limits : HostLimits) (old new : Option (List ℕ)) (taken : List ℕ) : Type 0 where
+  pub consumed : Consumes old new taken
+  pub within : (n : ℕ) → HasExtent limits (all_of old taken) n → length taken ≤ n
+
+-- these bytes are a head that announces a body of this size
+abbrev pub IsHead : HostLimits → List ℕ → ℕ → Type 0
+IsHead limits bytes size = (head : RequestHead) × HasHead bytes head [] × (framing limits (parts_of head) ≡ Ok size)
+
+-- what the bytes up to the end of a head came to: never a request that is accepted; all that there is, and no head; or a head
+abbrev pub CameTo : HostLimits → Option (List ℕ) → List ℕ → ℕ → Type 0
+CameTo limits new bytes body = (NeverAccepted limits bytes × (body ≡ 0)) ⊎ ((IsAtEnd new × (HasNoHead bytes × (body ≡ 0))) ⊎ IsHead limits bytes body)
+
+pub record Opens (limits : HostLimits) (old new : Option (List ℕ)) (bytes : List ℕ) (body : ℕ) : Type 0 where
+  pub consumed : Consumes old new bytes
+  pub came_to : CameTo limits new bytes body
+
+abbrev pub is_fault : TakeError → Bool
+is_fault ReadFailed = true
+is_fault OutOfMemory = false

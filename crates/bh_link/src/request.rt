@@ -1,0 +1,165 @@
+ghost use Rattle.std.specs.Prelude.{◌≡◌, ◌≤◌, ◌<◌, ◌∷◌, ◌||◌, ◌&&◌, ℕ, List, [], ◌++◌, length, false, true, IfOk, IfErr, OnOk, Option};
+ghost use Rattle.std.specs.Io.KnownBytes.{Consumes, IsAtEnd};
+ghost use Rattle.bh_types.specs.Limits.{HostLimits};
+ghost use Rattle.bh_http.specs.Arriving.{is_text as is_text_byte, ends_blank as is_blank_at_end};
+ghost use Rattle.bh_link.specs.Taking.{Took, TookAtMost, Opens, is_fault};
+
+use crate::link::{Link, ReadFault};
+use bh_http::arriving::{Arriving, MAX_HEAD, ends_blank, search};
+use bh_types::limits::Limits;
+use std::alloc::{AllocError, Global};
+use std::io::Read;
+
+/// How many bytes of a body are asked of a reader at once.
+const PIECE: usize = 4096;
+
+/// Why no request was taken.
+#[derive(Clone, Copy, Debug, PartialEq, Eq)]
+pub enum TakeError {
+    /// The reader failed.
+    ReadFailed,
+    /// A growth of memory was refused.
+    OutOfMemory,
+}
+
+impl From<ReadFault> for TakeError {
+    ghost use Rattle.std.specs.Prelude.{◌≡◌};
+    ghost use Rattle.bh_link.specs.declared.request.TakeError.TheVariants.{ReadFailed};
+
+    ghost from_gives = { λ _ e. e ≡ ReadFailed };
+
+    fn from(_fault: ReadFault) -> TakeError {
+        TakeError::ReadFailed
+    }
+}
+
+impl From<AllocError> for TakeError {
+    ghost use Rattle.std.specs.Prelude.{◌≡◌};
+    ghost use Rattle.bh_link.specs.declared.request.TakeError.TheVariants.{OutOfMemory};
+
+    ghost from_gives = { λ _ e. e ≡ OutOfMemory };
+
+    fn from(_error: AllocError) -> TakeError {
+        TakeError::OutOfMemory
+    }
+}
+
+/// The bytes up to the end of a head, and how many of a body are to be taken after them.
+#[derive(Drop)]
+struct Opening {
+    bytes: Vec<u8>,
+    body: u64,
+}
+
+/// Takes the bytes of a request: its head, a byte at a time, and its body. Where they are no request that is accepted,
+/// it takes as many as show so: up to the end of a head, 16,384 bytes, or all.
+pub fn take_request<R: Read>(
+    alloc: Global,
+    limits: &Limits,
+    reader: &mut Link<R>,
+) -> Result<Vec<u8>, TakeError>
+    requires { reader.old.failed ≡ false }
+    ensures took { IfOk result (λ bytes. Took limits.now (R.remaining reader.old.inner) (R.remaining reader.new.inner) bytes.items) }
+    ensures going { OnOk result (reader.new.failed ≡ false) }
+    ensures within { IfErr result (λ _. (taken : List ℕ) × TookAtMost limits.now (R.remaining reader.old.inner) (R.remaining reader.new.inner) taken) }
+    ensures failed { IfErr result (λ e. reader.new.failed ≡ is_fault e) }
+{
+    let opening = take_head(alloc, limits, reader)?;
+    take_body(reader, opening)
+}
+
+/// Takes the bytes up to the end of a head.
+fn take_head<R: Read>(
+    alloc: Global,
+    limits: &Limits,
+    reader: &mut Link<R>,
+) -> Result<Opening, TakeError>
+    requires { reader.old.failed ≡ false }
+    ensures opens { IfOk result (λ opening. Opens limits.now (R.remaining reader.old.inner) (R.remaining reader.new.inner) opening.bytes.items opening.body) }
+    ensures going { OnOk result (reader.new.failed ≡ false) }
+    ensures within { IfErr result (λ _. (taken : List ℕ) × TookAtMost limits.now (R.remaining reader.old.inner) (R.remaining reader.new.inner) taken) }
+    ensures failed { IfErr result (λ e. reader.new.failed ≡ is_fault e) }
+{
+    let mut bytes = Vec::new(alloc);
+    let mut started = false;
+    for count in 0..MAX_HEAD {
+        let Some(byte) = reader.next_byte()? else {
+            return Ok(Opening { bytes, body: 0 });
+        };
+        push(&mut bytes, byte)?;
+        started = has_started(started, byte);
+        if may_end(started, bytes.as_slice()) {
+            match search(alloc, limits, bytes.as_slice())? {
+                Arriving::NotYet => {}
+                Arriving::Body(body) => return Ok(Opening { bytes, body }),
+                Arriving::Refused => return Ok(Opening { bytes, body: 0 }),
+            }
+        }
+    }
+    Ok(Opening { bytes, body: 0 })
+}
+
+fn push(bytes: &mut Vec<u8>, byte: u8) -> Result<(), AllocError>
+    ensures { OnOk result (bytes.new.items ≡ bytes.old.items ++ byte ∷ []) }
+{
+    bytes.push(byte)?;
+    Ok(())
+}
+
+/// Whether a byte so far is in a line that is not empty.
+fn has_started(started: bool, byte: u8) -> bool
+    ensures { result ≡ (started || is_text_byte byte) }
+{
+    started || !(byte == b'\r' || byte == b'\n')
+}
+
+/// Whether a head may end here.
+fn may_end(started: bool, bytes: &[u8]) -> bool
+    ensures { result ≡ (started && is_blank_at_end bytes.now) }
+{
+    started && ends_blank(bytes)
+}
+
+/// Takes the body after a head. Where no body is to be taken, nothing is.
+fn take_body<R: Read>(reader: &mut Link<R>, opening: Opening) -> Result<Vec<u8>, TakeError>
+    requires { reader.old.failed ≡ false }
+    ensures took { (limits : HostLimits) (start : Option (List ℕ)) → Opens limits start (R.remaining reader.old.inner) opening.bytes.items opening.body → IfOk result (λ bytes. Took limits start (R.remaining reader.new.inner) bytes.items) }
+    ensures going { OnOk result (reader.new.failed ≡ false) }
+    ensures within { (limits : HostLimits) (start : Option (List ℕ)) → Opens limits start (R.remaining reader.old.inner) opening.bytes.items opening.body → IfErr result (λ _. (taken : List ℕ) × TookAtMost limits start (R.remaining reader.new.inner) taken) }
+    ensures failed { IfErr result (λ e. reader.new.failed ≡ is_fault e) }
+{
+    let mut bytes = opening.bytes;
+    let mut left = opening.body;
+    while left > 0 {
+        let count = take_piece(reader, &mut bytes, left)?;
+        if count == 0 {
+            return Ok(bytes);
+        }
+        left -= count;
+    }
+    Ok(bytes)
+}
+
+/// Takes some bytes, at most so many, to the end of those that are there; 0 at the end.
+fn take_piece<R: Read>(
+    reader: &mut Link<R>,
+    bytes: &mut Vec<u8>,
+    most: u64,
+) -> Result<u64, TakeError>
+    requires going { reader.old.failed ≡ false }
+    requires most { 0 < most }
+    ensures added { IfOk result (λ n. (n ≤ most) × ((n ≡ 0 → IsAtEnd (R.remaining reader.new.inner)) × ((piece : List ℕ) × (length piece ≡ n) × Consumes (R.remaining reader.old.inner) (R.remaining reader.new.inner) piece × (bytes.new.items ≡ bytes.old.items ++ piece)))) }
+    ensures going { OnOk result (reader.new.failed ≡ false) }
+    ensures within { IfErr result (λ _. (piece : List ℕ) × (length piece ≤ most) × Consumes (R.remaining reader.old.inner) (R.remaining reader.new.inner) piece) }
+    ensures failed { IfErr result (λ e. reader.new.failed ≡ is_fault e) }
+{
+    let mut room = [0u8; PIECE];
+    let size = if most < PIECE as u64 {
+        most as usize
+    } else {
+        PIECE
+    };
+    let count = reader.next_bytes(&mut room[..size])?;
+    bytes.extend_from_slice(&room[..count])?;
+    Ok(count as u64)
+}
