@@ -41,14 +41,14 @@ module _ {H : Type 0} (IsIntact IsOpen : H → Type 0) (seen : H → Seen) (left
     acknowledged = tt;
     crash = λ intact x leaves. elim (did.crash intact x leaves) [
       | inl before ↦ inl before
-      | inr (open, (m, text, would)) ↦
-          inr (open, (m, text, applied_all (seen old).limits reading given rest taken (seen old).now x m text (ready (still intact, open)).limits took would))
+      | inr (opened, (m, text, would)) ↦
+          inr (opened, (m, text, applied_all (seen old).limits reading given rest taken (seen old).now x m text (ready (still intact, opened)).limits took would))
     ];
   }
   is_applied_all reading given rest taken (Some m) reply old new ready still took did = record {
     applied = λ intact.
-        let (open, opened, applied) = did.applied intact in
-        (open, opened, applied_all (seen old).limits reading given rest taken (seen old).now (seen new).now m reply (ready (still intact, open)).limits took applied);
+        let (was, stays, applied) = did.applied intact in
+        (was, stays, applied_all (seen old).limits reading given rest taken (seen old).now (seen new).now m reply (ready (still intact, was)).limits took applied);
     told_apart = did.told_apart;
     acknowledged = did.acknowledged;
     crash = tt;
@@ -93,7 +93,7 @@ module _ {H : Type 0} (IsIntact IsOpen : H → Type 0) (seen : H → Seen) (left
       let all = all_of before.left taken in
       let W : Option ℕ → Type 0 = λ s. IfSome s (λ _. (n : ℕ) → HasExtent (seen old).limits all n → length taken ≡ n) in
       let D : H → Type 0 = λ x. IsApplied IsIntact IsOpen seen left (request_at before.reading all) (None, reply) old x in
-      let none : D old = record { applied = λ _ open. (open, refl); told_apart = λ _. told; acknowledged = tt; crash = λ _ x leaves. inl leaves } in
+      let none : D old = record { applied = λ _ opened. (opened, refl); told_apart = λ _. told; acknowledged = tt; crash = λ _ x leaves. inl leaves } in
       record {
         outcome = Some (all, (None, reply));
         came = record {

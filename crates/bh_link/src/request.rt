@@ -11,7 +11,7 @@ use std::alloc::{AllocError, Global};
 use std::io::Read;
 
 /// How many bytes of a body are asked of a reader at once.
-const PIECE: usize = 4096;
+const PIECE: usize = 16384;
 
 /// Why no request was taken.
 #[derive(Clone, Copy, Debug, PartialEq, Eq)]
