@@ -1,5 +1,5 @@
 -- Steps of the machine as operations, and refusals with what they tell.
-use Rattle.std.proofs.Common.{◌≡◌, ℕ, None, Option, Result, Ok, Err, refl, ap, sym, ◌∙◌}
+use Rattle.std.proofs.Common.{◌≡◌, ℕ, Option, Result, Ok, Err, refl, ap, sym, ◌∙◌}
 use Rattle.std.specs.Result.{result_map_both}
 use Rattle.bh_types.specs.Rejections.{plain, plainly}
 use Rattle.bh_types.specs.declared.refusal.Refusal.{Refusal}
@@ -15,7 +15,7 @@ use Rattle.bh_tables.specs.Typed.{Tables}
 use Rattle.bh_storage.specs.Answers.{answer_view}
 use Rattle.bh_storage.specs.declared.answer.Answer.{Answer as Told}
 use Rattle.bh_view.specs.View.{view}
-use Rattle.bh_storage.specs.Calls.{Unless, GivesStep, Carries}
+use Rattle.bh_storage.specs.Calls.{Unless, Carries}
 use Rattle.bh_storage.specs.Errors.{step_rejected}
 use Rattle.bh_storage.specs.declared.error.StepError.{StepError}
 use Rattle.bh_storage.specs.declared.error.StepError.TheVariants.{Refused, Failed}

@@ -14,10 +14,8 @@ use bh_types::rejection::Rejection;
 pub fn done(outcome: Result<(), StepError<Refusal>>) -> Result<Answer, StepError<Rejection>>
     ensures { result ≡ result_map_both (λ _. answer.Done) step_rejected outcome }
 {
-    match outcome {
-        Ok(()) => Ok(Answer::Done),
-        Err(error) => Err(StepError::from(error)),
-    }
+    outcome?;
+    Ok(Answer::Done)
 }
 
 pub fn removed(
@@ -25,10 +23,7 @@ pub fn removed(
 ) -> Result<Answer, StepError<Rejection>>
     ensures { result ≡ result_map_both answer.Removed step_rejected outcome }
 {
-    match outcome {
-        Ok(entry) => Ok(Answer::Removed(entry)),
-        Err(error) => Err(StepError::from(error)),
-    }
+    Ok(Answer::Removed(outcome?))
 }
 
 pub fn stored(
@@ -36,10 +31,7 @@ pub fn stored(
 ) -> Result<Answer, StepError<Rejection>>
     ensures { result ≡ result_map_both answer.Stored step_rejected outcome }
 {
-    match outcome {
-        Ok(version) => Ok(Answer::Stored(version)),
-        Err(error) => Err(StepError::from(error)),
-    }
+    Ok(Answer::Stored(outcome?))
 }
 
 pub fn listed(
@@ -47,10 +39,7 @@ pub fn listed(
 ) -> Result<Answer, StepError<Rejection>>
     ensures { result ≡ result_map_both answer.Buckets step_rejected outcome }
 {
-    match outcome {
-        Ok(buckets) => Ok(Answer::Buckets(buckets)),
-        Err(error) => Err(StepError::from(error)),
-    }
+    Ok(Answer::Buckets(outcome?))
 }
 
 pub fn versioning(
@@ -58,8 +47,5 @@ pub fn versioning(
 ) -> Result<Answer, StepError<Rejection>>
     ensures { result ≡ result_map_both answer.Versioning step_rejected outcome }
 {
-    match outcome {
-        Ok(state) => Ok(Answer::Versioning(state)),
-        Err(error) => Err(StepError::from(error)),
-    }
+    Ok(Answer::Versioning(outcome?))
 }

@@ -12,6 +12,12 @@ pub data Order : Type 0 where
   AddKey : (tenant : List ℕ) (name : List ℕ) (secret : List ℕ) → Order
   RemoveKey : (tenant : List ℕ) (name : List ℕ) → Order
 
+-- the tenant that an order names
+abbrev pub tenant_of : Order → List ℕ
+tenant_of (AddTenant tenant quota) = tenant
+tenant_of (AddKey tenant name secret) = tenant
+tenant_of (RemoveKey tenant name) = tenant
+
 -- the bytes of a request, or an order
 pub data Message : Type 0 where
   Requested : (bytes : List ℕ) → Message

@@ -1,5 +1,5 @@
 ghost use Rattle.std.specs.Prelude.{◌≡◌};
-ghost use Rattle.bh_event.specs.Events.{arrival};
+ghost use Rattle.bh_event.specs.Events.{arrival, order_of, tenant_of};
 
 /// What an operator orders. Names, secrets and quotas are as they were given: whether they are in
 /// their ranges is the host's to say.
@@ -21,6 +21,19 @@ pub enum Command {
         tenant: String,
         name: String,
     },
+}
+
+impl Command {
+    /// The tenant that it names.
+    pub fn tenant(&self) -> &str
+        ensures { result.now ≡ tenant_of (order_of self.now) }
+    {
+        match self {
+            Command::TenantAdd { tenant, .. } => tenant.as_str(),
+            Command::KeyAdd { tenant, .. } => tenant.as_str(),
+            Command::KeyRemove { tenant, .. } => tenant.as_str(),
+        }
+    }
 }
 
 /// What comes to a host, with the clock's reading in seconds since 1970.

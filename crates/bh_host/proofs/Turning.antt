@@ -3,14 +3,14 @@ use Rattle.std.proofs.Common.{◌≡◌, ℕ, List, Option, Some, None, Ok, Err,
 use Rattle.std.specs.Prelude.{option_map}
 use Rattle.std.proofs.lemmas.Bool.{cases_Bool}
 use Rattle.std.proofs.lemmas.Option.{same_Some}
-use Rattle.bh_event.specs.Events.{Order, Arrival, arrival}
+use Rattle.bh_event.specs.Events.{Order, tenant_of, Arrival, arrival}
 use Rattle.bh_event.specs.declared.event.Event.{Event}
 use Rattle.bh_event.specs.declared.event.Event.TheVariants.{Http}
 use Rattle.bh_http.specs.Credentials.{key_given}
 use Rattle.bh_http.specs.Reading.{Reads, ReadsError}
 use Rattle.bh_http.specs.Responses.{refusal_text}
 use Rattle.bh_http.specs.Views.{Taken}
-use Rattle.bh_machine.specs.Machine.{Act, Asked, Commanded, owner_of, tenant_of, requested, ordered, change, step}
+use Rattle.bh_machine.specs.Machine.{Act, Asked, Commanded, owner_of, requested, ordered, change, step}
 use Rattle.bh_machine.proofs.Nameless.{nameless}
 use Rattle.bh_model.specs.Operations.{Answer, Outcome, Done}
 use Rattle.bh_model.specs.Runs.{settled, purged_tenant}

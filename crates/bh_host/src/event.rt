@@ -7,7 +7,6 @@ ghost use Rattle.bh_machine.specs.Machine as machine;
 ghost use Rattle.bh_model.specs.Runs.{last_reading};
 ghost use Rattle.bh_storage.specs.Calls.{Clean, Within, IsAtRest, IsWorking};
 ghost use Rattle.bh_tables.specs.Typed.{Tables};
-ghost use Rattle.bh_types.specs.AccessKeys as keys;
 ghost use Rattle.bh_types.specs.Rejections.{plain};
 ghost use Rattle.bh_view.specs.View.{latest_of};
 ghost use Rattle.bh_host.specs.Replies.{clock_text, reply_bytes};
@@ -130,17 +129,7 @@ fn serve_request<H: Storage>(
 fn owner_of_command(alloc: Global, command: &Command) -> Result<Option<TenantName>, AllocError>
     ensures { IfOk result (λ owner. owner ≡ owner_of_act (Commanded (order_of command.now))) }
 {
-    match command {
-        Command::TenantAdd { tenant, .. } => tenant_named(alloc, tenant.as_str()),
-        Command::KeyAdd { tenant, .. } => tenant_named(alloc, tenant.as_str()),
-        Command::KeyRemove { tenant, .. } => tenant_named(alloc, tenant.as_str()),
-    }
-}
-
-fn tenant_named(alloc: Global, text: &str) -> Result<Option<TenantName>, AllocError>
-    ensures { IfOk result (λ tenant. tenant ≡ keys.tenant_named text.now) }
-{
-    TenantName::read(alloc, text)
+    TenantName::read(alloc, command.tenant())
 }
 
 /// An operator's command on a tenant, which need not have been added.

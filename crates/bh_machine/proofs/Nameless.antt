@@ -1,12 +1,12 @@
 -- An order that names no tenant.
 use Rattle.std.proofs.Common.{◌≡◌, false, Option, Some, None, Err, refl, rules, inl, inr}
 use Rattle.std.proofs.lemmas.Bool.{cases_Bool}
-use Rattle.bh_event.specs.Events.{Order, AddTenant, AddKey, RemoveKey}
+use Rattle.bh_event.specs.Events.{Order, AddTenant, AddKey, RemoveKey, tenant_of}
 use Rattle.bh_model.specs.State.{Octets}
 use Rattle.bh_types.specs.AccessKeys.{tenant_named}
 use Rattle.bh_types.specs.Names.{is_tenant_name}
 use Rattle.bh_types.specs.declared.refusal.Refusal.TheVariants.{InvalidName}
-use Rattle.bh_machine.specs.Machine.{tenant_of, ordered}
+use Rattle.bh_machine.specs.Machine.{ordered}
 
 none_is_none : {X : Type 0} (o : Option X) (x : X) → o ≡ None → o ≡ Some x → ⊥
 none_is_none o x none some = search rules

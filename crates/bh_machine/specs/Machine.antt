@@ -8,7 +8,7 @@ use Rattle.bh_types.specs.declared.refusal.Refusal.{Refusal}
 use Rattle.bh_types.specs.declared.refusal.Refusal.TheVariants.{InvalidAccessKeyId, NotImplemented}
 use Rattle.bh_types.specs.declared.rejection.Rejection.{Rejection}
 use Rattle.bh_docs.specs.Requests.{versioning_of}
-use Rattle.bh_event.specs.Events.{Order, AddTenant, AddKey, RemoveKey, Message, Requested, Ordered}
+use Rattle.bh_event.specs.Events.{Order, AddTenant, AddKey, RemoveKey, tenant_of, Message, Requested, Ordered}
 use Rattle.bh_http.specs.Credentials.{owner, key_given, secret_given}
 use Rattle.bh_http.specs.Reading.{Reads}
 use Rattle.bh_http.specs.Views.{Taken}
@@ -31,11 +31,6 @@ pub data Act : Type 0 where
 abbrev pub Acted : HostLimits → Message → Act → Type 0
 Acted limits (Requested bytes) act = (answer : Result Taken Refusal) × Reads limits bytes answer × (act ≡ Asked answer)
 Acted limits (Ordered order) act = act ≡ Commanded order
-
-abbrev pub tenant_of : Order → Octets
-tenant_of (AddTenant tenant quota) = tenant
-tenant_of (AddKey tenant name secret) = tenant
-tenant_of (RemoveKey tenant name) = tenant
 
 abbrev pub asker : Result Taken Refusal → Option Octets
 asker (Ok request) = owner request

@@ -13,7 +13,7 @@ use crate::reads::{bucket_state, require_free_name, require_tenant};
 use bh_docs::BucketEntry;
 use bh_schema::rows;
 use bh_schema::rows::buckets::ListedBucket;
-use bh_schema::trouble::trouble_of;
+use bh_schema::trouble::or_trouble;
 use bh_storage::answer::RemovedEntry;
 use bh_storage::error::{StepError, Trouble};
 use bh_types::bucket::BucketName;
@@ -43,10 +43,13 @@ pub fn create_bucket<S: Alter>(
 {
     require_tenant(connection, tenant)?;
     require_free_name(connection, tenant, bucket)?;
-    match rows::buckets::insert_bucket(connection, tenant.as_str(), bucket.as_str(), at.seconds()) {
-        Ok(_) => Ok(()),
-        Err(error) => Err(StepError::Failed(trouble_of(error))),
-    }
+    or_trouble(rows::buckets::insert_bucket(
+        connection,
+        tenant.as_str(),
+        bucket.as_str(),
+        at.seconds(),
+    ))?;
+    Ok(())
 }
 
 /// S3's HeadBucket: NoSuchBucket.
@@ -101,10 +104,8 @@ pub fn set_versioning<S: Alter>(
         (tables S.Store connection.old) (tables S.Store connection.new) result }
 {
     bucket_state(connection, tenant, bucket)?;
-    match rows::buckets::set_state(connection, tenant.as_str(), bucket.as_str(), state) {
-        Ok(_) => Ok(()),
-        Err(error) => Err(StepError::Failed(trouble_of(error))),
-    }
+    or_trouble(rows::buckets::set_state(connection, tenant.as_str(), bucket.as_str(), state))?;
+    Ok(())
 }
 
 /// Whether no version and no marker is in a tenant's bucket: BucketNotEmpty.
@@ -121,11 +122,14 @@ fn require_empty<S: Alter>(
         → Decides (λ _. tt) (emptiness tenant.now bucket.now (tables S.Store connection.old))
         (tables S.Store connection.old) (tables S.Store connection.new) result }
 {
-    match rows::versions::bucket_has_versions(connection, tenant.as_str(), bucket.as_str()) {
-        Ok(false) => Ok(()),
-        Ok(true) => Err(StepError::Refused(Refusal::BucketNotEmpty)),
-        Err(error) => Err(StepError::Failed(trouble_of(error))),
+    if or_trouble(rows::versions::bucket_has_versions(
+        connection,
+        tenant.as_str(),
+        bucket.as_str(),
+    ))? {
+        return Err(StepError::Refused(Refusal::BucketNotEmpty));
     }
+    Ok(())
 }
 
 /// S3's DeleteBucket: NoSuchBucket, BucketNotEmpty. A version or a delete marker keeps a bucket.
@@ -144,13 +148,11 @@ pub fn delete_bucket<S: Alter>(
 {
     bucket_state(connection, tenant, bucket)?;
     require_empty(connection, tenant, bucket)?;
-    match rows::buckets::delete_bucket(connection, tenant.as_str(), bucket.as_str()) {
-        Ok(_) => Ok(RemovedEntry {
-            id: None,
-            marker: false,
-        }),
-        Err(error) => Err(StepError::Failed(trouble_of(error))),
-    }
+    or_trouble(rows::buckets::delete_bucket(connection, tenant.as_str(), bucket.as_str()))?;
+    Ok(RemovedEntry {
+        id: None,
+        marker: false,
+    })
 }
 
 /// A bucket of a listing, as it is told. A moment that is none can't be read.
@@ -190,8 +192,6 @@ pub fn list_buckets<S: Alter>(
         → Carries (λ buckets. machine.Buckets (map bucket_view buckets.items)) tenant.now machine.list_buckets
         (tables S.Store connection.old) (tables S.Store connection.new) result }
 {
-    match rows::buckets::bucket_list(connection, alloc, tenant.as_str()) {
-        Ok(listed) => Ok(bucket_entries(alloc, &listed)?),
-        Err(error) => Err(StepError::Failed(trouble_of(error))),
-    }
+    let listed = or_trouble(rows::buckets::bucket_list(connection, alloc, tenant.as_str()))?;
+    Ok(bucket_entries(alloc, &listed)?)
 }

@@ -13,7 +13,7 @@ use crate::heads::{told_head, wanted_head};
 use crate::reads::bucket_state;
 use bh_core::ranges::range_of;
 use bh_schema::rows;
-use bh_schema::trouble::trouble_of;
+use bh_schema::trouble::or_trouble;
 use bh_storage::answer::FoundVersion;
 use bh_storage::error::{StepError, Trouble};
 use bh_types::bucket::BucketName;
@@ -56,10 +56,9 @@ fn version_bytes<S: Alter>(
     if seq >= COUNTER_END {
         return Err(Trouble::Store);
     }
-    match rows::versions::version_bytes(connection, tenant.as_str(), seq) {
-        Ok(Some(bytes)) => Ok(bytes),
-        Ok(None) => Err(Trouble::Store),
-        Err(error) => Err(trouble_of(error)),
+    match or_trouble(rows::versions::version_bytes(connection, tenant.as_str(), seq))? {
+        Some(bytes) => Ok(bytes),
+        None => Err(Trouble::Store),
     }
 }
 

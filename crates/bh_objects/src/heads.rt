@@ -17,7 +17,7 @@ use crate::ids::{id_of, number_of, told_id};
 use crate::reads::bucket_state;
 use bh_schema::rows;
 use bh_schema::rows::versions::VersionHead;
-use bh_schema::trouble::trouble_of;
+use bh_schema::trouble::or_trouble;
 use bh_storage::answer::ObjectHead;
 use bh_storage::error::{StepError, Trouble};
 use bh_types::bucket::BucketName;
@@ -46,10 +46,7 @@ fn newest_head<S: Alter>(
         (newest_at tenant.now bucket.now key.now (tables S.Store connection.old).versions)) }
 {
     let key = key.as_str().as_bytes();
-    match rows::versions::newest_version(connection, tenant.as_str(), bucket.as_str(), key) {
-        Ok(found) => Ok(found),
-        Err(error) => Err(trouble_of(error)),
-    }
+    or_trouble(rows::versions::newest_version(connection, tenant.as_str(), bucket.as_str(), key))
 }
 
 /// The version or delete marker of a key with this number in the column `id`, if there is one.
@@ -70,10 +67,13 @@ pub fn numbered_head<S: Alter>(
         (find (is_version tenant.now bucket.now key.now number) (tables S.Store connection.old).versions)) }
 {
     let key = key.as_str().as_bytes();
-    match rows::versions::version_of_id(connection, tenant.as_str(), bucket.as_str(), key, number) {
-        Ok(found) => Ok(found),
-        Err(error) => Err(trouble_of(error)),
-    }
+    or_trouble(rows::versions::version_of_id(
+        connection,
+        tenant.as_str(),
+        bucket.as_str(),
+        key,
+        number,
+    ))
 }
 
 /// The version or delete marker of a key with this id, if there is one.

@@ -6,7 +6,7 @@ ghost use Rattle.bh_objects.specs.Found.{mode_in, counts_in, numbers_in, tenant_
 
 use bh_model::counting::after_entry;
 use bh_schema::rows;
-use bh_schema::trouble::trouble_of;
+use bh_schema::trouble::or_trouble;
 use bh_storage::error::{StepError, Trouble};
 use bh_types::bucket::BucketName;
 use bh_types::bucket_state::BucketState;
@@ -29,13 +29,12 @@ pub fn bucket_state<S: Alter>(
         → Decides (λ mode. mode) (mode_in bucket.now (view (tables S.Store connection.old) tenant.now))
         (tables S.Store connection.old) (tables S.Store connection.new) result }
 {
-    match rows::buckets::find_bucket(connection, tenant.as_str(), bucket.as_str()) {
-        Ok(Some(numbers)) => match BucketState::from_number(numbers.state) {
+    match or_trouble(rows::buckets::find_bucket(connection, tenant.as_str(), bucket.as_str()))? {
+        Some(numbers) => match BucketState::from_number(numbers.state) {
             Some(mode) => Ok(mode),
             None => Err(StepError::Failed(Trouble::Store)),
         },
-        Ok(None) => Err(StepError::Refused(Refusal::NoSuchBucket)),
-        Err(error) => Err(StepError::Failed(trouble_of(error))),
+        None => Err(StepError::Refused(Refusal::NoSuchBucket)),
     }
 }
 
@@ -52,8 +51,8 @@ pub fn next_counters<S: Alter>(
         → Decides (λ counters. counters) (counts_in (view (tables S.Store connection.old) tenant.now))
         (tables S.Store connection.old) (tables S.Store connection.new) result }
 {
-    match rows::tenants::find_tenant(connection, tenant.as_str()) {
-        Ok(Some(numbers)) => {
+    match or_trouble(rows::tenants::find_tenant(connection, tenant.as_str()))? {
+        Some(numbers) => {
             match Counters::new(
                 numbers.next_version,
                 numbers.next_upload,
@@ -63,8 +62,7 @@ pub fn next_counters<S: Alter>(
                 None => Err(StepError::Failed(Trouble::Store)),
             }
         }
-        Ok(None) => Err(StepError::Refused(Refusal::NoSuchBucket)),
-        Err(error) => Err(StepError::Failed(trouble_of(error))),
+        None => Err(StepError::Refused(Refusal::NoSuchBucket)),
     }
 }
 
@@ -109,10 +107,9 @@ pub fn require_tenant<S: Alter>(
         → Decides (λ _. tt) (tenant_in (view (tables S.Store connection.old) tenant.now))
         (tables S.Store connection.old) (tables S.Store connection.new) result }
 {
-    match rows::tenants::find_tenant(connection, tenant.as_str()) {
-        Ok(Some(_)) => Ok(()),
-        Ok(None) => Err(StepError::Refused(Refusal::NoSuchTenant)),
-        Err(error) => Err(StepError::Failed(trouble_of(error))),
+    match or_trouble(rows::tenants::find_tenant(connection, tenant.as_str()))? {
+        Some(_) => Ok(()),
+        None => Err(StepError::Refused(Refusal::NoSuchTenant)),
     }
 }
 
@@ -130,9 +127,8 @@ pub fn require_free_name<S: Alter>(
         → Decides (λ _. tt) (name_free bucket.now (view (tables S.Store connection.old) tenant.now))
         (tables S.Store connection.old) (tables S.Store connection.new) result }
 {
-    match rows::buckets::find_bucket(connection, tenant.as_str(), bucket.as_str()) {
-        Ok(None) => Ok(()),
-        Ok(Some(_)) => Err(StepError::Refused(Refusal::BucketAlreadyOwnedByYou)),
-        Err(error) => Err(StepError::Failed(trouble_of(error))),
+    match or_trouble(rows::buckets::find_bucket(connection, tenant.as_str(), bucket.as_str()))? {
+        None => Ok(()),
+        Some(_) => Err(StepError::Refused(Refusal::BucketAlreadyOwnedByYou)),
     }
 }

@@ -10,7 +10,7 @@ ghost use Rattle.bh_objects.specs.Found.{IsKeyText, with_way, with_row, with_ent
 use crate::ids::row_number;
 use bh_schema::rows;
 use bh_schema::rows::versions::{NewMarker, NewVersion};
-use bh_schema::trouble::trouble_of;
+use bh_schema::trouble::or_trouble;
 use bh_storage::error::Trouble;
 use bh_types::bucket::BucketName;
 use bh_types::bucket_state::BucketState;
@@ -45,15 +45,15 @@ fn set_counters<S: Alter>(
         (λ rows. record rows { tenants = update_where (is_tenant tenant.now) (counters_row mode counters) rows.tenants })) }
 {
     match mode {
-        BucketState::Enabled => match rows::tenants::set_numbers(
-            connection,
-            tenant.as_str(),
-            counters.version,
-            counters.entry,
-        ) {
-            Ok(_) => Ok(()),
-            Err(error) => Err(trouble_of(error)),
-        },
+        BucketState::Enabled => {
+            or_trouble(rows::tenants::set_numbers(
+                connection,
+                tenant.as_str(),
+                counters.version,
+                counters.entry,
+            ))?;
+            Ok(())
+        }
         BucketState::Unversioned => set_next_entry(connection, tenant, counters.entry),
         BucketState::Suspended => set_next_entry(connection, tenant, counters.entry),
     }
@@ -74,10 +74,8 @@ fn set_next_entry<S: Alter>(
               update_where (is_tenant tenant.now) (λ t. record t { next_entry = entry }) rows.tenants;
         })) }
 {
-    match rows::tenants::set_next_entry(connection, tenant.as_str(), entry) {
-        Ok(_) => Ok(()),
-        Err(error) => Err(trouble_of(error)),
-    }
+    or_trouble(rows::tenants::set_next_entry(connection, tenant.as_str(), entry))?;
+    Ok(())
 }
 
 /// What a new entry in a bucket of this state replaces is taken away: the entry `null`, unless versions are
@@ -121,16 +119,14 @@ pub fn drop_entry<S: Alter>(
         })) }
 {
     let key = key.as_str().as_bytes();
-    match rows::versions::delete_version(
+    or_trouble(rows::versions::delete_version(
         connection,
         tenant.as_str(),
         bucket.as_str(),
         key,
         number,
-    ) {
-        Ok(_) => Ok(()),
-        Err(error) => Err(trouble_of(error)),
-    }
+    ))?;
+    Ok(())
 }
 
 /// Makes way for a new entry of a key in a bucket of this state: the tenant's counters go on, and what the
@@ -179,10 +175,8 @@ fn add_object<S: Alter>(
         checksum,
         bytes: object.bytes,
     };
-    match rows::versions::insert_version(connection, &version) {
-        Ok(_) => Ok(()),
-        Err(error) => Err(trouble_of(error)),
-    }
+    or_trouble(rows::versions::insert_version(connection, &version))?;
+    Ok(())
 }
 
 /// Puts an object into a bucket of this state, under the tenant's next numbers, with the text of its
@@ -239,10 +233,8 @@ fn add_marker<S: Alter>(
         id: row_number(mode, counters.version),
         stamp: at.seconds(),
     };
-    match rows::versions::insert_marker(connection, &marker) {
-        Ok(_) => Ok(()),
-        Err(error) => Err(trouble_of(error)),
-    }
+    or_trouble(rows::versions::insert_marker(connection, &marker))?;
+    Ok(())
 }
 
 /// Puts a delete marker in front of a key's entries in a bucket of this state, under the tenant's next

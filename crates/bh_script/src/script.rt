@@ -14,29 +14,10 @@ use bh_create::create;
 use bh_dispatch::storage::HostStorage;
 use bh_event::event::Event;
 use bh_host::{Told, run};
+use bh_storage::error::Trouble;
 use bh_types::limits::{Limits, Tuning};
 use sqlite::{Connection, MemStore};
 use std::alloc::{AllocError, Global};
-
-/// What ends a script outside of an event.
-#[derive(Clone, Copy, Debug, PartialEq, Eq)]
-pub enum Fault {
-    /// Memory was wanting.
-    Memory,
-    /// The host could not be made.
-    Store,
-}
-
-impl From<AllocError> for Fault {
-    ghost use Rattle.std.specs.Prelude.{◌≡◌};
-    ghost use Rattle.bh_script.specs.declared.script.Fault.TheVariants.{Memory};
-
-    ghost from_gives = { λ _ e. e ≡ Memory };
-
-    fn from(_error: AllocError) -> Fault {
-        Fault::Memory
-    }
-}
 
 /// What a script is answered.
 #[derive(Drop)]
@@ -49,7 +30,7 @@ pub struct Answered {
 
 /// Applies the events of a script, up to the first line that tells none, to a new host in memory, and tells what
 /// they were answered.
-pub fn answer_script(alloc: Global, bytes: &[u8]) -> Result<Answered, Fault>
+pub fn answer_script(alloc: Global, bytes: &[u8]) -> Result<Answered, Trouble>
     ensures text { IfOk result (λ answered. AnswersScript bytes.now answered.text.items) }
     ensures bad_line { IfOk result (λ answered. answered.bad_line ≡ bad_line_of bytes.now) }
 {
@@ -61,7 +42,7 @@ pub fn answer_script(alloc: Global, bytes: &[u8]) -> Result<Answered, Fault>
 }
 
 /// A new host in memory.
-fn new_host(alloc: Global) -> Result<HostStorage<MemStore, Sha256Digester>, Fault>
+fn new_host(alloc: Global) -> Result<HostStorage<MemStore, Sha256Digester>, Trouble>
     ensures limits { IfOk result (λ storage. storage.host.limits ≡ default_limits) }
     ensures made { IfOk result (λ storage. IsNewHost storage.host.limits (state over_memory storage.host.connection)) }
 {
@@ -73,12 +54,12 @@ fn new_host(alloc: Global) -> Result<HostStorage<MemStore, Sha256Digester>, Faul
         Tuning::default(),
     ) {
         Ok(host) => Ok(HostStorage { host }),
-        Err(_) => Err(Fault::Store),
+        Err(_) => Err(Trouble::Store),
     }
 }
 
 /// What a new host answers events.
-fn serve(alloc: Global, events: &[Event]) -> Result<Vec<Told>, Fault>
+fn serve(alloc: Global, events: &[Event]) -> Result<Vec<Told>, Trouble>
     ensures { IfOk result (λ dones. AnewRan (map arrival events.now) (map told dones.items)) }
 {
     let mut storage = new_host(alloc)?;

@@ -1,6 +1,6 @@
 ghost use Rattle.std.specs.Prelude.{◌≡◌, ◌⊎◌, ◌≤◌, IfOk, OnOk, OnErr};
-ghost use Rattle.bh_event.specs.Events.{order_of};
-ghost use Rattle.bh_machine.specs.Machine.{tenant_of, operated, ordered};
+ghost use Rattle.bh_event.specs.Events.{order_of, tenant_of};
+ghost use Rattle.bh_machine.specs.Machine.{operated, ordered};
 ghost use Rattle.bh_model.specs.Credentials as machine;
 ghost use Rattle.bh_model.specs.Operations.{Done};
 ghost use Rattle.bh_model.specs.Runs.{last_reading};

@@ -7,30 +7,31 @@ use Rattle.bh_view.specs.View.{view, limits_in}
 use Rattle.bh_schema.specs.Layer.{IsStateClean}
 use Rattle.bh_storage.specs.Calls.{GivesStep}
 use Rattle.bh_schema.specs.Working.{tables_at}
+use Rattle.bh_schema.proofs.Storing.{on_ok}
 use Rattle.bh_objects.specs.Found.{name_free}
 use Rattle.bh_objects.proofs.Creating.{creates}
 use Rattle.bh_objects.proofs.buckets.create_bucket.Given as given
 use Rattle.bh_objects.proofs.buckets.create_bucket.Goals as goal
 
-done : (g : given.Over) (c : goal.In-Ok g) → IsStateClean (state g.S.Store c.insert_bucket.new.connection)
+done : (g : given.Over) (c : goal.In_ok-or_trouble g) → IsStateClean (state g.S.Store c.insert_bucket.new.connection)
     → GivesStep c.args.tenant.now (create_bucket c.args.at c.args.bucket.now) Done (tables_at (state g.S.Store c.args.connection.now)) (tables_at (state g.S.Store c.insert_bucket.new.connection)) × IsSound (tables_at (state g.S.Store c.insert_bucket.new.connection))
     × (limits_in (tables_at (state g.S.Store c.insert_bucket.new.connection)) ≡ limits_in (tables_at (state g.S.Store c.args.connection.now)))
 done g c clean =
     let old = state g.S.Store c.args.connection.now in
     let middle = state g.S.Store c.require_free_name.new.connection in
-    let clean_middle = c.in-Ok.ensures.within.follows.clean clean in
+    let clean_middle = c.insert_bucket.ensures.within.follows.clean clean in
     let clean_first = c.in_ok-require_free_name.ensures.within.follows.clean clean_middle in
     let clean_old = c.in_ok-require_tenant.ensures.within.follows.clean clean_first in
     let one = c.in_ok-require_tenant.ensures.decides clean_first in
     let two = c.in_ok-require_free_name.ensures.decides clean_middle in
     let free : name_free c.args.bucket.now (view (tables_at old) c.args.tenant.now) ≡ Ok tt = ap (λ (x : Tables). name_free c.args.bucket.now (view x c.args.tenant.now)) (sym one.1) ∙ two.0 in
     let same : tables_at middle ≡ tables_at old = two.1 ∙ one.1 in
-    let is = rw (c.as_str.ensures.value, c.as_str-2.ensures.value, c.seconds.ensures.value) at (c.in-Ok.ensures.holds clean).is in
+    let is = rw (c.as_str.ensures.value, c.as_str-2.ensures.value, c.seconds.ensures.value) at (on_ok _ c.in_ok-or_trouble.ensures.ok c.insert_bucket.ensures.holds clean).is in
     creates (tables_at old) (tables_at (state g.S.Store c.insert_bucket.new.connection)) c.args.tenant.now c.args.at c.args.bucket.now (c.requires.working clean_old).sound (c.requires.early clean_old) c.as_str-2.ensures.valid one.0 free
     (is ∙ ap (λ (x : Tables). record x { buckets = x.buckets ++ record { tenant = c.args.tenant.now; bucket = c.args.bucket.now; created = c.args.at; state = 0; days = None } ∷ [] }) same)
 
-pub returns-in-Ok-clause-working : goal.returns-in-Ok-clause-working
-returns-in-Ok-clause-working g c clean = record { is = record { inside = (c.in-Ok.ensures.holds clean).within; sound = (done g c clean).1 }; limits = (done g c clean).2 }
+pub returns-clause-working : goal.returns-clause-working
+returns-clause-working g c clean = record { is = record { inside = (on_ok _ c.in_ok-or_trouble.ensures.ok c.insert_bucket.ensures.holds clean).within; sound = (done g c clean).1 }; limits = (done g c clean).2 }
 
-pub returns-in-Ok-clause-carries : goal.returns-in-Ok-clause-carries
-returns-in-Ok-clause-carries g c clean = (done g c clean).0
+pub returns-clause-carries : goal.returns-clause-carries
+returns-clause-carries g c clean = (done g c clean).0

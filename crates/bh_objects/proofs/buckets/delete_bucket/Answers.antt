@@ -10,33 +10,34 @@ use Rattle.bh_view.specs.View.{limits_in}
 use Rattle.bh_schema.specs.Layer.{IsStateClean}
 use Rattle.bh_storage.specs.Calls.{GivesStep}
 use Rattle.bh_schema.specs.Working.{tables_at}
+use Rattle.bh_schema.proofs.Storing.{on_ok}
 use Rattle.bh_objects.specs.Buckets.{emptiness}
 use Rattle.bh_objects.proofs.BucketSteps.{deletes, full_refused}
 use Rattle.bh_objects.proofs.buckets.delete_bucket.Given as given
 use Rattle.bh_objects.proofs.buckets.delete_bucket.Goals as goal
 
-done : (g : given.Over) (c : goal.In-Ok g) → IsStateClean (state g.S.Store c.delete_bucket.new.connection)
+done : (g : given.Over) (c : goal.In_ok-or_trouble g) → IsStateClean (state g.S.Store c.delete_bucket.new.connection)
     → GivesStep c.args.tenant.now (delete_bucket c.args.bucket.now) (Removed None false) (tables_at (state g.S.Store c.args.connection.now)) (tables_at (state g.S.Store c.delete_bucket.new.connection)) × IsSound (tables_at (state g.S.Store c.delete_bucket.new.connection))
     × (limits_in (tables_at (state g.S.Store c.delete_bucket.new.connection)) ≡ limits_in (tables_at (state g.S.Store c.args.connection.now)))
 done g c clean =
     let old = state g.S.Store c.args.connection.now in
     let t = c.args.tenant.now in
     let b = c.args.bucket.now in
-    let clean_middle = c.in-Ok.ensures.within.follows.clean clean in
+    let clean_middle = c.delete_bucket.ensures.within.follows.clean clean in
     let clean_first = c.in_ok-require_empty.ensures.within.follows.clean clean_middle in
     let clean_old = c.in_ok-bucket_state.ensures.within.follows.clean clean_first in
     let one = c.in_ok-bucket_state.ensures.decides clean_first in
     let two = c.in_ok-require_empty.ensures.decides clean_middle in
     let empty : emptiness t b (tables_at old) ≡ Ok tt = ap (emptiness t b) (sym one.1) ∙ two.0 in
-    let is = rw (c.as_str.ensures.value, c.as_str-2.ensures.value) at (c.in-Ok.ensures.holds clean).is in
+    let is = rw (c.as_str.ensures.value, c.as_str-2.ensures.value) at (on_ok _ c.in_ok-or_trouble.ensures.ok c.delete_bucket.ensures.holds clean).is in
     deletes (tables_at old) (tables_at (state g.S.Store c.delete_bucket.new.connection)) t b _ one.0 (c.requires.working clean_old).sound empty
     (is ∙ ap (λ (x : Tables). record x { buckets = delete_where (is_bucket t b) x.buckets }) (two.1 ∙ one.1))
 
-pub returns-in-Ok-clause-working : goal.returns-in-Ok-clause-working
-returns-in-Ok-clause-working g c clean = record { is = record { inside = (c.in-Ok.ensures.holds clean).within; sound = (done g c clean).1 }; limits = (done g c clean).2 }
+pub returns-clause-working : goal.returns-clause-working
+returns-clause-working g c clean = record { is = record { inside = (on_ok _ c.in_ok-or_trouble.ensures.ok c.delete_bucket.ensures.holds clean).within; sound = (done g c clean).1 }; limits = (done g c clean).2 }
 
-pub returns-in-Ok-clause-carries : goal.returns-in-Ok-clause-carries
-returns-in-Ok-clause-carries g c clean = (done g c clean).0
+pub returns-clause-carries : goal.returns-clause-carries
+returns-clause-carries g c clean = (done g c clean).0
 
 pub returns-in_err-require_empty-clause-carries : goal.returns-in_err-require_empty-clause-carries
 returns-in_err-require_empty-clause-carries g c clean =

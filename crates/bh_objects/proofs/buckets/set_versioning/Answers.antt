@@ -10,26 +10,27 @@ use Rattle.bh_view.specs.View.{limits_in}
 use Rattle.bh_schema.specs.Layer.{IsStateClean}
 use Rattle.bh_storage.specs.Calls.{GivesStep}
 use Rattle.bh_schema.specs.Working.{tables_at}
+use Rattle.bh_schema.proofs.Storing.{on_ok}
 use Rattle.bh_objects.proofs.BucketSteps.{sets_versioning}
 use Rattle.bh_objects.proofs.buckets.set_versioning.Given as given
 use Rattle.bh_objects.proofs.buckets.set_versioning.Goals as goal
 
-done : (g : given.Over) (c : goal.In-Ok g) → IsStateClean (state g.S.Store c.set_state.new.connection)
+done : (g : given.Over) (c : goal.In_ok-or_trouble g) → IsStateClean (state g.S.Store c.set_state.new.connection)
     → GivesStep c.args.tenant.now (put_versioning c.args.bucket.now c.args.state) Done (tables_at (state g.S.Store c.args.connection.now)) (tables_at (state g.S.Store c.set_state.new.connection)) × IsSound (tables_at (state g.S.Store c.set_state.new.connection))
     × (limits_in (tables_at (state g.S.Store c.set_state.new.connection)) ≡ limits_in (tables_at (state g.S.Store c.args.connection.now)))
 done g c clean =
     let old = state g.S.Store c.args.connection.now in
     let t = c.args.tenant.now in
     let b = c.args.bucket.now in
-    let clean_first = c.in-Ok.ensures.within.follows.clean clean in
+    let clean_first = c.set_state.ensures.within.follows.clean clean in
     let clean_old = c.in_ok-bucket_state.ensures.within.follows.clean clean_first in
     let one = c.in_ok-bucket_state.ensures.decides clean_first in
-    let is = rw (c.as_str.ensures.value, c.as_str-2.ensures.value) at (c.in-Ok.ensures.holds clean).is in
+    let is = rw (c.as_str.ensures.value, c.as_str-2.ensures.value) at (on_ok _ c.in_ok-or_trouble.ensures.ok c.set_state.ensures.holds clean).is in
     sets_versioning (tables_at old) (tables_at (state g.S.Store c.set_state.new.connection)) t b _ one.0 c.args.state c.requires.kept (c.requires.working clean_old).sound
     (is ∙ ap (λ (x : Tables). record x { buckets = update_where (is_bucket t b) (λ r. record r { state = state_number c.args.state }) x.buckets }) one.1)
 
-pub returns-in-Ok-clause-working : goal.returns-in-Ok-clause-working
-returns-in-Ok-clause-working g c clean = record { is = record { inside = (c.in-Ok.ensures.holds clean).within; sound = (done g c clean).1 }; limits = (done g c clean).2 }
+pub returns-clause-working : goal.returns-clause-working
+returns-clause-working g c clean = record { is = record { inside = (on_ok _ c.in_ok-or_trouble.ensures.ok c.set_state.ensures.holds clean).within; sound = (done g c clean).1 }; limits = (done g c clean).2 }
 
-pub returns-in-Ok-clause-carries : goal.returns-in-Ok-clause-carries
-returns-in-Ok-clause-carries g c clean = (done g c clean).0
+pub returns-clause-carries : goal.returns-clause-carries
+returns-clause-carries g c clean = (done g c clean).0

@@ -1,30 +1,20 @@
 use Rattle.std.proofs.Common.{sym, ◌∙◌}
+use Rattle.std.proofs.lemmas.Result.{IfOk-at_ok}
 use Rattle.sqlite.specs.Held.{state}
 use Rattle.bh_schema.specs.Working.{tables_at}
-use Rattle.bh_objects.proofs.Working.{asked_working, same_tables}
+use Rattle.bh_schema.proofs.Storing.{on_ok}
+use Rattle.bh_objects.proofs.Working.{same_tables}
 use Rattle.bh_objects.proofs.Found.{counts_read, no_counts}
 use Rattle.bh_objects.proofs.reads.next_counters.Goals as goal
 
-pub returns-in-Some-clause-working : goal.returns-in-Some-clause-working
-returns-in-Some-clause-working g c = asked_working (state g.S.Store c.args.connection.now) (state g.S.Store c.find_tenant.new.connection) c.requires c.in-Ok-Some.ensures.within c.in-Ok-Some.ensures.same
-
-pub returns-in-Some-clause-opens : goal.returns-in-Some-clause-opens
-returns-in-Some-clause-opens g c intact up = (c.in-Ok-Some.ensures.opens intact).1
-
-pub returns-in-Some-clause-decides : goal.returns-in-Some-clause-decides
-returns-in-Some-clause-decides g c clean =
+pub returns-in-Some-new-clause-decides : goal.returns-in-Some-new-clause-decides
+returns-in-Some-new-clause-decides g c clean =
     let old = state g.S.Store c.args.connection.now in
     let new = state g.S.Store c.find_tenant.new.connection in
-    (counts_read (tables_at old) c.args.tenant.now c.in-Ok-Some.numbers c.in-Some.counters (sym c.in-Ok-Some.field-0-is ∙ rw c.as_str.ensures.value at (c.in-Ok-Some.ensures.found clean)) c.in-Some.ensures.1, same_tables old new (c.in-Ok-Some.ensures.same clean.intact))
+    (counts_read (tables_at old) c.args.tenant.now c.in-Some.numbers c.in-Some-new.counters (sym c.in-Some.is ∙ rw c.as_str.ensures.value at (IfOk-at_ok _ c.in_ok-numbers.ensures.ok c.find_tenant.ensures.found clean)) c.in-Some-new.ensures.1, same_tables old new (on_ok _ c.in_ok-numbers.ensures.ok c.find_tenant.ensures.same clean.intact))
 
-pub returns-in-Ok-None-clause-working : goal.returns-in-Ok-None-clause-working
-returns-in-Ok-None-clause-working g c = asked_working (state g.S.Store c.args.connection.now) (state g.S.Store c.find_tenant.new.connection) c.requires c.in-Ok-None.ensures.within c.in-Ok-None.ensures.same
-
-pub returns-in-Ok-None-clause-opens : goal.returns-in-Ok-None-clause-opens
-returns-in-Ok-None-clause-opens g c intact up = (c.in-Ok-None.ensures.opens intact).1
-
-pub returns-in-Ok-None-clause-decides : goal.returns-in-Ok-None-clause-decides
-returns-in-Ok-None-clause-decides g c clean =
+pub returns-in-None-clause-decides : goal.returns-in-None-clause-decides
+returns-in-None-clause-decides g c clean =
     let old = state g.S.Store c.args.connection.now in
     let new = state g.S.Store c.find_tenant.new.connection in
-    (no_counts (tables_at old) c.args.tenant.now (sym c.in-Ok-None.field-0-is ∙ rw c.as_str.ensures.value at (c.in-Ok-None.ensures.found clean)), same_tables old new (c.in-Ok-None.ensures.same clean.intact))
+    (no_counts (tables_at old) c.args.tenant.now (sym c.in-None.is ∙ rw c.as_str.ensures.value at (IfOk-at_ok _ c.in_ok-numbers.ensures.ok c.find_tenant.ensures.found clean)), same_tables old new (on_ok _ c.in_ok-numbers.ensures.ok c.find_tenant.ensures.same clean.intact))
