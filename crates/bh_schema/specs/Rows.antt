@@ -4,9 +4,8 @@ use Rattle.std.specs.List.{list_any}
 use Rattle.sqlite_keyed.specs.Lists.{sort_by}
 use Rattle.bh_tables.specs.Schema.{Octets}
 use Rattle.bh_tables.specs.Typed.{HostRow, TenantRow, KeyRow, BucketRow, VersionRow, Tables}
-use Rattle.bh_tables.specs.Shown.{is_tenant, is_key, is_bucket, is_owned_bucket, by_bucket, is_entry, is_version, is_at}
+use Rattle.bh_tables.specs.Shown.{is_tenant, is_key, is_bucket, is_owned_bucket, by_bucket, is_entry, is_version, is_at, newer}
 use Rattle.bh_view.specs.Grouped.{first}
-use Rattle.bh_view.specs.View.{newer}
 use Rattle.bh_schema.specs.declared.rows.tenants.TenantNumbers.{TenantNumbers}
 use Rattle.bh_schema.specs.declared.rows.buckets.BucketNumbers.{BucketNumbers}
 

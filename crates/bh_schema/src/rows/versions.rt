@@ -3,10 +3,9 @@ ghost use Rattle.std.specs.List.{list_any};
 ghost use Rattle.std.specs.Str.{IsUtf8};
 ghost use Rattle.sqlite_keyed.specs.Lists.{delete_where, sort_by};
 ghost use Rattle.bh_tables.specs.Typed.{VersionRow as Stored};
-ghost use Rattle.bh_tables.specs.Shown.{is_version, is_at, is_in_bucket, is_entry, by_id, shown_version, shown_head, shown_bytes, shown_seq};
+ghost use Rattle.bh_tables.specs.Shown.{is_version, is_at, is_in_bucket, is_entry, by_id, shown_version, shown_head, shown_bytes, shown_seq, newer};
 ghost use Rattle.bh_rows.specs.Means.{is_trouble};
 ghost use Rattle.bh_schema.specs.Connections.{IsClean, tables, InTransaction, StaysWithin, WasOpen, StaysOpen, ChangesNothing, Becomes, IsTrouble, IsTroubleIf};
-ghost use Rattle.bh_view.specs.View.{newer};
 ghost use Rattle.bh_schema.specs.Rows.{seen_version, seen_head, seen_bytes, newest_at, IsNewVersion};
 ghost use Rattle.bh_schema.specs.Views.{version_seen, head_seen};
 
