@@ -1,5 +1,5 @@
 -- The text that asks for blocks that no reference names, by digest and ordinal and up to a limit.
-use Rattle.std.proofs.Common.{◌≡◌, inl, inr, ℕ, pos, codes, not, Bool, true, false, List, [], ◌∷◌, ◌||◌, map, map-id, filter, take, None, Ok, Err, Result, IfOk, IfErr, refl, sym, ap, ◌∙◌, int_cmp, Ordering}
+use Rattle.std.proofs.Common.{◌≡◌, inl, inr, ℕ, pos, codes, Bool, true, false, List, [], ◌∷◌, ◌||◌, map, map-id, filter, take, None, Ok, Err, Result, IfOk, IfErr, refl, sym, ap, ◌∙◌, int_cmp, Ordering}
 use Rattle.std.specs.List.{list_any, list_all}
 use Rattle.std.specs.Ordering.{ordering_then}
 use Rattle.std.proofs.lemmas.List.{take-map}

@@ -1,5 +1,5 @@
 -- A block stored, and blocks removed that no reference names: the bytes of all bodies stay, and the rows stay sound.
-use Rattle.std.proofs.Common.{◌≡◌, ℕ, suc, ◌≤◌, Bool, true, false, true≢false, cond, ◌&&◌, ◌||◌, not, List, [], ◌∷◌, ◌++◌, filter, find, length, refl, sym, ap, ◌∙◌, subst, Option, None, Some, option_map, arith}
+use Rattle.std.proofs.Common.{◌≡◌, ℕ, suc, ◌≤◌, Bool, true, false, true≢false, cond, ◌||◌, not, List, [], ◌∷◌, ◌++◌, filter, find, length, refl, sym, ap, ◌∙◌, subst, Option, None, Some, option_map, arith}
 use Rattle.std.specs.List.{AllByRecursion, list_any}
 use Rattle.std.specs.Option.{option_map_or}
 use Rattle.std.specs.Cmp.Derive.{both_true}
@@ -9,9 +9,9 @@ use Rattle.sqlite_keyed.proofs.ListLemmas.{all_both, all-filter, filter_none}
 use Rattle.sqlite_typed.specs.Tests.{bytes_eq}
 use Rattle.bh_model.specs.State.{Octets}
 use Rattle.bh_tables.specs.Typed.{BlockRow, RefRow, Tables}
-use Rattle.bh_tables.specs.Shown.{Name, same_name, block_name, ref_name, is_block, is_use, is_copy, has_digest, is_unreferenced}
+use Rattle.bh_tables.specs.Shown.{same_name, block_name, ref_name, is_block, is_use, is_copy, is_unreferenced}
 use Rattle.bh_view.specs.Grouped.{first, matching}
-use Rattle.bh_view.specs.View.{rows_of, view, latest_of, limits_in}
+use Rattle.bh_view.specs.View.{rows_of}
 use Rattle.bh_view.specs.Blocks.{row_at, whole, AreStored, AreDigests, free_ord, copy_in, ord_for, blocks_with, blocks_without}
 use Rattle.bh_view.specs.Sound.{AreSound, IsSound}
 use Rattle.bh_view.specs.Becomes.{KeepsBodies}

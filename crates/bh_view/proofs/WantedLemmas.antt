@@ -10,7 +10,7 @@ use Rattle.bh_types.specs.declared.id.VersionId.{VersionId}
 use Rattle.bh_types.specs.declared.id.VersionId.TheVariants.{Null, Numbered}
 use Rattle.bh_types.specs.declared.wanted.Wanted.{Wanted}
 use Rattle.bh_types.specs.declared.wanted.Wanted.TheVariants.{Current, Named, Unknown}
-use Rattle.bh_model.specs.State.{Octets, Entry, Bucket, State}
+use Rattle.bh_model.specs.State.{Octets, Bucket, State}
 use Rattle.bh_model.specs.Entries.{same_id, has_id, found_current, found_named, lookup}
 use Rattle.bh_model.specs.Operations.{listed}
 use Rattle.bh_tables.specs.Typed.{VersionRow, Tables}

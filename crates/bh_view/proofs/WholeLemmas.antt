@@ -1,14 +1,13 @@
 -- The bytes of bodies when a block comes or goes.
-use Rattle.std.proofs.Common.{◌≡◌, ℕ, Bool, true, false, true≢false, cond, List, [], ◌∷◌, ◌++◌, append-nil, flat_map, refl, sym, ap, ◌∙◌, subst, is_gt, Option, None, Some}
+use Rattle.std.proofs.Common.{◌≡◌, true, false, true≢false, List, [], ◌∷◌, ◌++◌, refl, sym, ap, ◌∙◌, subst, None}
 use Rattle.std.specs.List.{AllByRecursion}
 use Rattle.std.specs.Option.{option_map_or}
-use Rattle.std.proofs.lemmas.Grind.{flat_map-append}
-use Rattle.sqlite_keyed.specs.Lists.{delete_where, sort_by}
+use Rattle.sqlite_keyed.specs.Lists.{delete_where}
 use Rattle.sqlite_keyed.proofs.ListLemmas.{all-filter, all_weaker}
 use Rattle.bh_model.specs.State.{Octets}
 use Rattle.bh_view.specs.Grouped.{first, matching, Refers}
-use Rattle.bh_view.proofs.FilterLemmas.{push_here, push_other, delete_all, delete_other}
-use Rattle.bh_view.proofs.GroupedLemmas.{is_itself, is_other}
+use Rattle.bh_view.proofs.FilterLemmas.{push_other, delete_other}
+use Rattle.bh_view.proofs.GroupedLemmas.{is_other}
 use Rattle.bh_tables.specs.Typed.{BlockRow, RefRow}
 use Rattle.bh_tables.specs.Shown.{Name, same_name, block_name, ref_name, by_place}
 use Rattle.bh_view.specs.Blocks.{block_at, placed, whole}
