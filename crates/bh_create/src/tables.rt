@@ -2,7 +2,7 @@ ghost use Rattle.std.specs.Prelude.{◌≡◌, true, IfErr};
 ghost use Rattle.sqlite.specs.Held.{state};
 ghost use Rattle.bh_rows.specs.Means.{is_trouble};
 ghost use Rattle.bh_tables.specs.Schema.{no_schema};
-ghost use Rattle.bh_tables.specs.Made.{with_host, with_tenants, with_keys, with_buckets, with_versions, with_newest};
+ghost use Rattle.bh_tables.specs.Made.{with_host, with_tenants, with_keys, with_buckets, with_versions, with_blocks, with_refs, with_newest, with_refs_by_block};
 ghost use Rattle.bh_schema.specs.Layer.{IsIntact, IsStateClean};
 ghost use Rattle.bh_create.specs.Creation.{IsMaking, Makes};
 
@@ -63,13 +63,46 @@ fn create_versions<S: Alter>(connection: &mut Connection<S>) -> Result<usize, Er
     )
 }
 
-fn create_newest<S: Alter>(connection: &mut Connection<S>) -> Result<usize, Error>
+fn create_blocks<S: Alter>(connection: &mut Connection<S>) -> Result<usize, Error>
     requires { IsStateClean (state S.Store connection.old) → IsMaking with_versions (state S.Store connection.old) }
+    ensures makes { Makes with_blocks (state S.Store connection.old) (state S.Store connection.new) result }
+    ensures trouble { IfErr result (λ e. IsIntact (state S.Store connection.new) → is_trouble e ≡ true) }
+{
+    connection.execute(
+        "CREATE TABLE blocks (digest BLOB NOT NULL, ord INTEGER NOT NULL CHECK (ord >= 0), bytes BLOB NOT NULL, PRIMARY KEY (digest, ord)) STRICT",
+        &[],
+    )
+}
+
+fn create_refs<S: Alter>(connection: &mut Connection<S>) -> Result<usize, Error>
+    requires { IsStateClean (state S.Store connection.old) → IsMaking with_blocks (state S.Store connection.old) }
+    ensures makes { Makes with_refs (state S.Store connection.old) (state S.Store connection.new) result }
+    ensures trouble { IfErr result (λ e. IsIntact (state S.Store connection.new) → is_trouble e ≡ true) }
+{
+    connection.execute(
+        "CREATE TABLE refs (tenant TEXT NOT NULL, body INTEGER NOT NULL CHECK (body >= 0), place INTEGER NOT NULL CHECK (place >= 0), digest BLOB NOT NULL, ord INTEGER NOT NULL CHECK (ord >= 0), PRIMARY KEY (tenant, body, place), FOREIGN KEY (digest, ord) REFERENCES blocks ON DELETE RESTRICT) STRICT",
+        &[],
+    )
+}
+
+fn create_newest<S: Alter>(connection: &mut Connection<S>) -> Result<usize, Error>
+    requires { IsStateClean (state S.Store connection.old) → IsMaking with_refs (state S.Store connection.old) }
     ensures makes { Makes with_newest (state S.Store connection.old) (state S.Store connection.new) result }
     ensures trouble { IfErr result (λ e. IsIntact (state S.Store connection.new) → is_trouble e ≡ true) }
 {
     connection.execute(
         "CREATE INDEX newest ON versions (tenant, bucket, okey, seq DESC)",
+        &[],
+    )
+}
+
+fn create_refs_by_block<S: Alter>(connection: &mut Connection<S>) -> Result<usize, Error>
+    requires { IsStateClean (state S.Store connection.old) → IsMaking with_newest (state S.Store connection.old) }
+    ensures makes { Makes with_refs_by_block (state S.Store connection.old) (state S.Store connection.new) result }
+    ensures trouble { IfErr result (λ e. IsIntact (state S.Store connection.new) → is_trouble e ≡ true) }
+{
+    connection.execute(
+        "CREATE INDEX refs_by_block ON refs (digest, ord)",
         &[],
     )
 }
@@ -86,21 +119,32 @@ fn create_accounts<S: Alter>(connection: &mut Connection<S>) -> Result<usize, Er
 
 fn create_objects<S: Alter>(connection: &mut Connection<S>) -> Result<usize, Error>
     requires { IsStateClean (state S.Store connection.old) → IsMaking with_keys (state S.Store connection.old) }
-    ensures makes { Makes with_newest (state S.Store connection.old) (state S.Store connection.new) result }
+    ensures makes { Makes with_refs (state S.Store connection.old) (state S.Store connection.new) result }
     ensures trouble { IfErr result (λ e. IsIntact (state S.Store connection.new) → is_trouble e ≡ true) }
 {
     create_buckets(connection)?;
     create_versions(connection)?;
-    create_newest(connection)
+    create_blocks(connection)?;
+    create_refs(connection)
 }
 
-/// Makes the tables of a host and their index, with no row.
+fn create_indexes<S: Alter>(connection: &mut Connection<S>) -> Result<usize, Error>
+    requires { IsStateClean (state S.Store connection.old) → IsMaking with_refs (state S.Store connection.old) }
+    ensures makes { Makes with_refs_by_block (state S.Store connection.old) (state S.Store connection.new) result }
+    ensures trouble { IfErr result (λ e. IsIntact (state S.Store connection.new) → is_trouble e ≡ true) }
+{
+    create_newest(connection)?;
+    create_refs_by_block(connection)
+}
+
+/// Makes the tables of a host and their indexes, with no row.
 pub fn create_tables<S: Alter>(connection: &mut Connection<S>) -> Result<(), Error>
     requires { IsStateClean (state S.Store connection.old) → IsMaking no_schema (state S.Store connection.old) }
-    ensures makes { Makes with_newest (state S.Store connection.old) (state S.Store connection.new) result }
+    ensures makes { Makes with_refs_by_block (state S.Store connection.old) (state S.Store connection.new) result }
     ensures trouble { IfErr result (λ e. IsIntact (state S.Store connection.new) → is_trouble e ≡ true) }
 {
     create_accounts(connection)?;
     create_objects(connection)?;
+    create_indexes(connection)?;
     Ok(())
 }

@@ -206,6 +206,17 @@ module _ {T : Type 0} (o : T → T → Ordering) where
   sorted_same [] up = refl
   sorted_same (x ∷ xs) up = ap (insert_sorted by_entry x) (sorted_same xs up.1) ∙ inserted_same x _ (all_sorted _ xs up.0)
 
+-- the rows that pass, sorted with their rowids, show the typed rows sorted
+pub sorted_typed : {T : Type 0} (form : Form T) (rows : List Row) → AreRows form rows → (o : T → T → Ordering) (m : T → Bool) (view : T → Row)
+    → map (λ (e : Entry T). view e.1) (sort_by (by_entry o) (filter (λ (e : Entry T). m e.1) (entries form rows))) ≡ map view (sort_by o (filter m (typed form rows)))
+sorted_typed {T} form rows held o m view =
+    let db : Trees = λ _. rows in
+    let source : Source db (inner 0 end) (Entry T) = last_table db 0 (put form) (λ e. e.0) (entries form rows) (stored form rows held) (keyed form rows held) (at_end db) in
+    let hits = filter (λ (e : Entry T). m e.1) (entries form rows) in
+    let sorted : sort_by (by_entry o) hits ≡ sort_by (λ a b. o a.1 b.1) hits = sorted_same o hits (ascending-filter _ (λ e. m e.1) _ source.rises) in
+    let plain : map (λ (e : Entry T). e.1) hits ≡ filter m (typed form rows) = picked form m (λ x. x) rows ∙ map-id _ in
+    ap (map (λ (e : Entry T). view e.1)) sorted ∙ sym (map-map view (λ (e : Entry T). e.1) _) ∙ ap (map view) (sym (sort_by-map o (λ (e : Entry T). e.1) hits) ∙ ap (sort_by o) plain)
+
 module _ {T : Type 0} (form : Form T) (tree : ℕ) (db : Trees) (held : AreRows form (db tree)) (test show : List Term) (order : List (Term × Key)) (limit : Term) (params : Row)
     (m : T → Bool) (tests : (id : ℤ) (x : T) → list_all (holds (params ∷ (Int id ∷ form.encode x) ∷ [])) test ≡ m x)
     (view : T → Row) (shows : (id : ℤ) (x : T) → eval_all show (params ∷ (Int id ∷ form.encode x) ∷ []) ≡ view x)
@@ -216,12 +227,9 @@ module _ {T : Type 0} (form : Form T) (tree : ℕ) (db : Trees) (held : AreRows 
   sorted_page rows h =
       let q = scan tree test show order limit in
       let source : Source db (inner tree end) (Entry T) = last_table db tree (put form) (λ e. e.0) (entries form (db tree)) (stored form (db tree) held) (keyed form (db tree) held) (at_end db) in
-      let hits = filter (λ (e : Entry T). m e.1) (entries form (db tree)) in
-      let sorted : sort_by (by_entry o) hits ≡ sort_by (λ a b. o a.1 b.1) hits = sorted_same o hits (ascending-filter _ (λ e. m e.1) _ source.rises) in
-      let plain : map (λ (e : Entry T). e.1) hits ≡ filter m (typed form (db tree)) = picked form m (λ x. x) (db tree) ∙ map-id _ in
       sym (map-id rows)
       ∙ answer_sorted q db params source (λ e. m e.1) (λ e. tests e.0 e.1) (λ r. r) (λ e. view e.1) (λ e. shows e.0 e.1) refl refl (by_entry o) (λ a b less. no_tie_after (o a.1 b.1) (no_tie less)) is rows h
-      ∙ ap (page q params) (ap (map (λ (e : Entry T). view e.1)) sorted ∙ sym (map-map view (λ (e : Entry T). e.1) _) ∙ ap (map view) (sym (sort_by-map o (λ (e : Entry T). e.1) hits) ∙ ap (sort_by o) plain))
+      ∙ ap (page q params) (sorted_typed form (db tree) held o m view)
 
 -- the same, from what `query_all` says
 module _ {T : Type 0} (form : Form T) (sql : List ℕ) (schema : Schema) (tree : ℕ) (test show : List Term) (order : List (Term × Key)) (limit : Term) (names : List (List ℕ)) (parameters : ℕ)

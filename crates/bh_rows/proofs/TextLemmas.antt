@@ -1,7 +1,7 @@
 -- What a program's text does, from its record: what it leaves or shows, how it may end, and that trouble is its only other error.
-use Rattle.std.proofs.Common.{◌≡◌, inl, inr, ℕ, ◌<◌, ◌^◌, ℤ, pos, List, [], ◌∷◌, ◌++◌, ◌||◌, length, map, filter, not, ◌&&◌, Bool, true, false, None, Some, slice_get, Ok, Err, Result, OnOk, IfOk, IfErr, IsTrue, sum_by, refl, sym, ap, subst, ◌∙◌}
+use Rattle.std.proofs.Common.{◌≡◌, inl, inr, ℕ, ◌<◌, ◌^◌, pos, List, [], ◌∷◌, ◌++◌, ◌||◌, length, map, filter, not, ◌&&◌, Bool, true, false, None, Some, slice_get, Ok, Err, Result, OnOk, IfOk, IfErr, IsTrue, sum_by, refl, sym, ap, subst, ◌∙◌}
 use Rattle.std.specs.declared.cmp.Ordering.{Ordering}
-use Rattle.std.specs.List.{list_any, list_all}
+use Rattle.std.specs.List.{list_any}
 use Rattle.std.proofs.lemmas.Bool.{cases_Bool}
 use Rattle.sqlite.specs.declared.types.Value.TheVariants.{Null, Int}
 use Rattle.sqlite.specs.Order.{Row}
@@ -18,7 +18,7 @@ use Rattle.sqlite.specs.declared.error.Error.{Error}
 use Rattle.sqlite_sql.specs.Aggregate.{count}
 use Rattle.sqlite_keyed.specs.Lists.{update_where, delete_where, sort_by}
 use Rattle.sqlite_schema.specs.declared.schema.Constraint.TheVariants.{Unique, ForeignKey}
-use Rattle.sqlite_schema.specs.Rules.{guards, clashes, has_parent, references_fit}
+use Rattle.sqlite_schema.specs.Rules.{guards, clashes, references_fit}
 use Rattle.sqlite_rules.specs.Keys.{are_unique}
 use Rattle.sqlite_rules.specs.Lists.{Has}
 use Rattle.sqlite_rules.proofs.ListLemmas.{all_has, test_from, has_got, has_kept}

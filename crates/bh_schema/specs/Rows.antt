@@ -4,9 +4,8 @@ use Rattle.std.specs.List.{list_any}
 use Rattle.sqlite_keyed.specs.Lists.{sort_by}
 use Rattle.bh_tables.specs.Schema.{Octets}
 use Rattle.bh_tables.specs.Typed.{HostRow, TenantRow, KeyRow, BucketRow, VersionRow, Tables}
-use Rattle.bh_tables.specs.Shown.{is_tenant, is_key, is_bucket, is_owned_bucket, by_bucket, is_entry, is_version, is_at}
+use Rattle.bh_tables.specs.Shown.{is_tenant, is_key, is_bucket, is_owned_bucket, by_bucket, is_entry, is_version, is_at, newer}
 use Rattle.bh_view.specs.Grouped.{first}
-use Rattle.bh_view.specs.View.{newer}
 use Rattle.bh_schema.specs.declared.rows.tenants.TenantNumbers.{TenantNumbers}
 use Rattle.bh_schema.specs.declared.rows.buckets.BucketNumbers.{BucketNumbers}
 
@@ -33,19 +32,7 @@ listed_buckets tenant tables = sort_by by_bucket (filter (is_owned_bucket tenant
 abbrev pub entry_in : BucketRow → Octets × ℕ
 entry_in b = (b.bucket, b.created)
 
--- the columns of a version that are read
-pub record SeenVersion : Type 0 where
-  pub seq : ℕ
-  pub marker : ℕ
-  pub stamp : ℕ
-  pub size : ℕ
-  pub checksum : Octets
-  pub bytes : Octets
-
-abbrev pub seen_version : VersionRow → SeenVersion
-seen_version v = record { seq = v.seq; marker = v.marker; stamp = v.stamp; size = v.size; checksum = v.checksum; bytes = v.bytes }
-
--- a version without its bytes
+-- the columns of a version but its bytes
 pub record SeenHead : Type 0 where
   pub seq : ℕ
   pub id : ℕ

@@ -1,4 +1,4 @@
--- The CREATE texts of tables and of the index, one after another, and that nothing stands against them.
+-- The CREATE texts of tables and of indexes, one after another, and that nothing stands against them.
 use Rattle.std.proofs.Common.{◌≡◌, codes, refl}
 use Rattle.sqlite.specs.Listing.{understood}
 use Rattle.sqlite_tied.specs.Compute.{everything}
@@ -9,8 +9,8 @@ use Rattle.bh_rows.proofs.CreateLemmas.{Makes}
 use Rattle.bh_rows.proofs.CreateErrors.{IsFree}
 use Rattle.bh_rows.specs.Index.{Indexes}
 use Rattle.bh_rows.proofs.IndexErrors.{IsFreeIndex}
-use Rattle.bh_tables.specs.Schema.{Octets, no_schema, host_schema, host_table, tenants_table, keys_table, buckets_table, versions_table, at, newest}
-use Rattle.bh_tables.specs.Made.{with_host, with_tenants, with_keys, with_buckets, with_versions, with_newest}
+use Rattle.bh_tables.specs.Schema.{Octets, no_schema, host_schema, host_table, tenants_table, keys_table, buckets_table, versions_table, blocks_table, refs_table, at, newest, refs_by_block}
+use Rattle.bh_tables.specs.Made.{with_host, with_tenants, with_keys, with_buckets, with_versions, with_blocks, with_refs, with_newest, with_refs_by_block}
 
 abbrev host_text : Octets
 host_text = codes "CREATE TABLE host (id INTEGER PRIMARY KEY CHECK (id = 1), version INTEGER NOT NULL CHECK (version >= 0), latest INTEGER NOT NULL CHECK (latest >= 0), min_part INTEGER NOT NULL CHECK (min_part >= 0), max_body INTEGER NOT NULL CHECK (max_body >= 0)) STRICT"
@@ -67,18 +67,51 @@ pub free_versions : IsFree with_buckets versions_text versions_table
 unfolding everything fits_kind is_free_name begins same_name value_cmp Ieee.lt Ieee.is_nan
 free_versions = record { text = refl; name = refl; own = refl; free = refl; keys_free = refl; few = refl; narrow = refl; keys_narrow = refl; formed = refl; fit = refl }
 
+abbrev blocks_text : Octets
+blocks_text = codes "CREATE TABLE blocks (digest BLOB NOT NULL, ord INTEGER NOT NULL CHECK (ord >= 0), bytes BLOB NOT NULL, PRIMARY KEY (digest, ord)) STRICT"
+
+pub makes_blocks : Makes with_versions blocks_text blocks_table
+unfolding understood everything
+makes_blocks = record { means = record { is = refl; plain = (refl, refl); unlisted = refl; whole = refl; given = refl }; text = refl; defined = refl; uncounted = refl }
+
+pub free_blocks : IsFree with_versions blocks_text blocks_table
+unfolding everything fits_kind is_free_name begins same_name value_cmp Ieee.lt Ieee.is_nan
+free_blocks = record { text = refl; name = refl; own = refl; free = refl; keys_free = refl; few = refl; narrow = refl; keys_narrow = refl; formed = refl; fit = refl }
+
+abbrev refs_text : Octets
+refs_text = codes "CREATE TABLE refs (tenant TEXT NOT NULL, body INTEGER NOT NULL CHECK (body >= 0), place INTEGER NOT NULL CHECK (place >= 0), digest BLOB NOT NULL, ord INTEGER NOT NULL CHECK (ord >= 0), PRIMARY KEY (tenant, body, place), FOREIGN KEY (digest, ord) REFERENCES blocks ON DELETE RESTRICT) STRICT"
+
+pub makes_refs : Makes with_blocks refs_text refs_table
+unfolding understood everything
+makes_refs = record { means = record { is = refl; plain = (refl, refl); unlisted = refl; whole = refl; given = refl }; text = refl; defined = refl; uncounted = refl }
+
+pub free_refs : IsFree with_blocks refs_text refs_table
+unfolding everything fits_kind is_free_name begins same_name value_cmp Ieee.lt Ieee.is_nan
+free_refs = record { text = refl; name = refl; own = refl; free = refl; keys_free = refl; few = refl; narrow = refl; keys_narrow = refl; formed = refl; fit = refl }
+
 abbrev newest_text : Octets
 newest_text = codes "CREATE INDEX newest ON versions (tenant, bucket, okey, seq DESC)"
 
-pub makes_newest : Indexes with_versions newest_text 4 (at 7 versions_table) newest
+pub makes_newest : Indexes with_refs newest_text 4 (at 7 versions_table) newest
 unfolding understood everything
 makes_newest = record { means = record { is = refl; plain = (refl, refl); unlisted = refl; whole = refl; given = refl }; text = refl; is_table = refl; defined = refl }
 
-pub free_newest : IsFreeIndex with_versions newest_text (at 7 versions_table) newest
+pub free_newest : IsFreeIndex with_refs newest_text (at 7 versions_table) newest
 unfolding everything fits_kind is_free_name begins same_name value_cmp Ieee.lt Ieee.is_nan
 free_newest = record { text = refl; name = refl; owner = refl; own = refl; free = refl; few = refl; narrow = refl; key_narrow = refl; fit = refl; any = refl }
 
+abbrev refs_by_block_text : Octets
+refs_by_block_text = codes "CREATE INDEX refs_by_block ON refs (digest, ord)"
+
+pub makes_refs_by_block : Indexes with_newest refs_by_block_text 6 (at 12 refs_table) refs_by_block
+unfolding understood everything
+makes_refs_by_block = record { means = record { is = refl; plain = (refl, refl); unlisted = refl; whole = refl; given = refl }; text = refl; is_table = refl; defined = refl }
+
+pub free_refs_by_block : IsFreeIndex with_newest refs_by_block_text (at 12 refs_table) refs_by_block
+unfolding everything fits_kind is_free_name begins same_name value_cmp Ieee.lt Ieee.is_nan
+free_refs_by_block = record { text = refl; name = refl; owner = refl; own = refl; free = refl; few = refl; narrow = refl; key_narrow = refl; fit = refl; any = refl }
+
 -- these are all
-pub all_made : with_newest ≡ host_schema
+pub all_made : with_refs_by_block ≡ host_schema
 unfolding everything
 all_made = refl

@@ -12,4 +12,6 @@ pub mod TenantTexts
 pub mod KeyTexts
 pub mod BucketTexts
 pub mod VersionTexts
+pub mod BlockTexts
+pub mod UnreferencedText
 pub mod HostTests

@@ -10,9 +10,9 @@ use Rattle.sqlite_trees.specs.Tree.{with_tree}
 use Rattle.bh_rows.specs.Form.{Form, AreRows, Entry, put, entries, typed}
 use Rattle.bh_rows.specs.Keys.{AreUnused}
 use Rattle.bh_rows.specs.Texts.{IsOrderly, IsTableOf, Leaves}
-use Rattle.bh_tables.specs.Schema.{host_schema, host_table, tenants_table, keys_table, buckets_table, versions_table, at}
-use Rattle.bh_tables.specs.Typed.{HostRow, TenantRow, KeyRow, BucketRow, VersionRow, host_form, tenant_form, key_form, bucket_form, version_form, Tables, tables, tables_in, tables_of, Raw, raw, AreHeld, IsHost}
-use Rattle.bh_tables.proofs.Kept.{host_kept, tenant_kept, key_kept, bucket_kept, version_kept}
+use Rattle.bh_tables.specs.Schema.{host_schema, host_table, tenants_table, keys_table, buckets_table, versions_table, blocks_table, refs_table, at}
+use Rattle.bh_tables.specs.Typed.{HostRow, TenantRow, KeyRow, BucketRow, VersionRow, BlockRow, RefRow, host_form, tenant_form, key_form, bucket_form, version_form, block_form, ref_form, Tables, tables, tables_in, tables_of, Raw, raw, AreHeld, IsHost}
+use Rattle.bh_tables.proofs.Kept.{host_kept, tenant_kept, key_kept, bucket_kept, version_kept, block_kept, ref_kept}
 use Rattle.bh_tables.proofs.RawLemmas.{raw_changed}
 
 pub orderly : IsOrderly host_schema
@@ -69,7 +69,7 @@ host = record {
   put = λ r l. record r { host = l };
   put_is = λ db l. refl;
   put_reads = λ r l. refl;
-  put_held = λ r l h it. record { host = it; tenants = h.tenants; keys = h.keys; buckets = h.buckets; versions = h.versions };
+  put_held = λ r l h it. record { host = it; tenants = h.tenants; keys = h.keys; buckets = h.buckets; versions = h.versions; blocks = h.blocks; refs = h.refs };
 }
 
 pub tenants_is : IsTableOf tenant_form host_schema 1 (at 1 tenants_table)
@@ -89,7 +89,7 @@ tenants = record {
   put = λ r l. record r { tenants = l };
   put_is = λ db l. refl;
   put_reads = λ r l. refl;
-  put_held = λ r l h it. record { host = h.host; tenants = it; keys = h.keys; buckets = h.buckets; versions = h.versions };
+  put_held = λ r l h it. record { host = h.host; tenants = it; keys = h.keys; buckets = h.buckets; versions = h.versions; blocks = h.blocks; refs = h.refs };
 }
 
 pub keys_is : IsTableOf key_form host_schema 2 (at 3 keys_table)
@@ -109,7 +109,7 @@ keys = record {
   put = λ r l. record r { keys = l };
   put_is = λ db l. refl;
   put_reads = λ r l. refl;
-  put_held = λ r l h it. record { host = h.host; tenants = h.tenants; keys = it; buckets = h.buckets; versions = h.versions };
+  put_held = λ r l h it. record { host = h.host; tenants = h.tenants; keys = it; buckets = h.buckets; versions = h.versions; blocks = h.blocks; refs = h.refs };
 }
 
 pub buckets_is : IsTableOf bucket_form host_schema 3 (at 5 buckets_table)
@@ -129,7 +129,7 @@ buckets = record {
   put = λ r l. record r { buckets = l };
   put_is = λ db l. refl;
   put_reads = λ r l. refl;
-  put_held = λ r l h it. record { host = h.host; tenants = h.tenants; keys = h.keys; buckets = it; versions = h.versions };
+  put_held = λ r l h it. record { host = h.host; tenants = h.tenants; keys = h.keys; buckets = it; versions = h.versions; blocks = h.blocks; refs = h.refs };
 }
 
 pub versions_is : IsTableOf version_form host_schema 4 (at 7 versions_table)
@@ -149,5 +149,45 @@ versions = record {
   put = λ r l. record r { versions = l };
   put_is = λ db l. refl;
   put_reads = λ r l. refl;
-  put_held = λ r l h it. record { host = h.host; tenants = h.tenants; keys = h.keys; buckets = h.buckets; versions = it };
+  put_held = λ r l h it. record { host = h.host; tenants = h.tenants; keys = h.keys; buckets = h.buckets; versions = it; blocks = h.blocks; refs = h.refs };
+}
+
+pub blocks_is : IsTableOf block_form host_schema 5 (at 10 blocks_table)
+unfolding everything
+blocks_is = record { is_table = refl; plain = refl; low = refl; kept = block_kept; fit = refl }
+
+abbrev pub blocks : Place BlockRow
+blocks = record {
+  form = block_form;
+  number = 5;
+  table = at 10 blocks_table;
+  is = blocks_is;
+  rows = λ t. t.blocks;
+  set = λ t l. record t { blocks = l };
+  rows_are = λ db. refl;
+  held = λ db is. is.held.blocks;
+  put = λ r l. record r { blocks = l };
+  put_is = λ db l. refl;
+  put_reads = λ r l. refl;
+  put_held = λ r l h it. record { host = h.host; tenants = h.tenants; keys = h.keys; buckets = h.buckets; versions = h.versions; blocks = it; refs = h.refs };
+}
+
+pub refs_is : IsTableOf ref_form host_schema 6 (at 12 refs_table)
+unfolding everything
+refs_is = record { is_table = refl; plain = refl; low = refl; kept = ref_kept; fit = refl }
+
+abbrev pub refs : Place RefRow
+refs = record {
+  form = ref_form;
+  number = 6;
+  table = at 12 refs_table;
+  is = refs_is;
+  rows = λ t. t.refs;
+  set = λ t l. record t { refs = l };
+  rows_are = λ db. refl;
+  held = λ db is. is.held.refs;
+  put = λ r l. record r { refs = l };
+  put_is = λ db l. refl;
+  put_reads = λ r l. refl;
+  put_held = λ r l h it. record { host = h.host; tenants = h.tenants; keys = h.keys; buckets = h.buckets; versions = h.versions; blocks = h.blocks; refs = it };
 }

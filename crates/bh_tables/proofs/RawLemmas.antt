@@ -18,4 +18,6 @@ module _ (tree : ℕ) (db next : Trees) where
     keys = at 3 h.1.1.0 i;
     buckets = at 5 h.1.1.1.0 i;
     versions = at 7 h.1.1.1.1.0 i;
+    blocks = at 10 h.1.1.1.1.1.0 i;
+    refs = at 12 h.1.1.1.1.1.1.0 i;
   }

@@ -24,7 +24,7 @@ use Rattle.bh_rows.proofs.FormLemmas.{any_typed}
 use Rattle.bh_rows.proofs.ScanLemmas.{then_assoc}
 use Rattle.bh_tables.specs.Schema.{Octets, host_schema, versions_table, at}
 use Rattle.bh_tables.specs.Typed.{VersionRow, version_form, bucket_form, number, IsHost, tables_in}
-use Rattle.bh_tables.specs.Shown.{is_version, is_at, is_in_bucket, is_entry, is_bucket, is_marked_right, by_age, by_id, shown_version, shown_head, shown_bytes, shown_seq}
+use Rattle.bh_tables.specs.Shown.{is_version, is_at, is_in_bucket, is_entry, is_bucket, is_marked_right, newer, by_id, shown_head, shown_bytes, shown_seq}
 use Rattle.bh_tables.proofs.Checked.{version_checked}
 use Rattle.bh_tables.proofs.Terms.{is, one_row}
 
@@ -56,21 +56,6 @@ versions_unused db rows = tt
 
 -- ---- the texts
 
-pub version_shown : (tenant bucket okey : Octets) (version : ℕ)
-    → SelectText version_form host_schema 7 (codes "SELECT seq, marker, stamp, size, sum, bytes FROM versions WHERE tenant = ?1 AND bucket = ?2 AND okey = ?3 AND id = ?4 ORDER BY rowid") (Text tenant ∷ Text bucket ∷ Blob okey ∷ number version ∷ [])
-    (is_version tenant bucket okey version) shown_version no_limit
-unfolding understood everything
-version_shown tenant bucket okey version = record {
-  test = is 1 0 ∷ is 3 1 ∷ is 4 2 ∷ is 5 3 ∷ [];
-  show = col 1 2 ∷ col 1 6 ∷ col 1 7 ∷ col 1 8 ∷ col 1 9 ∷ col 1 10 ∷ [];
-  names = codes "seq" ∷ codes "marker" ∷ codes "stamp" ∷ codes "size" ∷ codes "sum" ∷ codes "bytes" ∷ [];
-  means = record { is = refl; plain = (refl, refl); unlisted = refl; whole = refl; given = refl };
-  low = refl;
-  accepts = refl;
-  tests = λ id v. then_term (at_texts false Eq v.tenant tenant) (then_term (at_texts false Eq v.bucket bucket) (then_term (at_blobs false Eq v.okey okey) (last_term (at_ints false Eq (pos v.id) (pos version)))));
-  shows = λ id v. refl;
-}
-
 pub head_shown : (tenant bucket okey : Octets) (version : ℕ)
     → SelectText version_form host_schema 7 (codes "SELECT seq, id, marker, stamp, size, sum FROM versions WHERE tenant = ?1 AND bucket = ?2 AND okey = ?3 AND id = ?4 ORDER BY rowid") (Text tenant ∷ Text bucket ∷ Blob okey ∷ number version ∷ [])
     (is_version tenant bucket okey version) shown_head no_limit
@@ -88,7 +73,7 @@ head_shown tenant bucket okey version = record {
 
 pub newest_shown : (tenant bucket okey : Octets)
     → SortedText version_form host_schema 7 (codes "SELECT seq, id, marker, stamp, size, sum FROM versions WHERE tenant = ?1 AND bucket = ?2 AND okey = ?3 ORDER BY seq DESC, rowid LIMIT 1") (Text tenant ∷ Text bucket ∷ Blob okey ∷ [])
-    (is_at tenant bucket okey) shown_head by_age one_row
+    (is_at tenant bucket okey) shown_head newer one_row
 unfolding understood everything
 newest_shown tenant bucket okey = record {
   test = is 1 0 ∷ is 3 1 ∷ is 4 2 ∷ [];

@@ -1,7 +1,7 @@
--- The schema as its tables are made, one after another, and then its index.
+-- The schema as its tables are made, one after another, and then its indexes.
 use Rattle.sqlite.specs.Schema.{Schema}
 use Rattle.sqlite.specs.Change.{created, indexed}
-use Rattle.bh_tables.specs.Schema.{no_schema, host_table, tenants_table, keys_table, buckets_table, versions_table, at, newest}
+use Rattle.bh_tables.specs.Schema.{no_schema, host_table, tenants_table, keys_table, buckets_table, versions_table, blocks_table, refs_table, at, newest, refs_by_block}
 
 abbrev pub with_host : Schema
 with_host = created no_schema host_table
@@ -18,5 +18,14 @@ with_buckets = created with_keys buckets_table
 abbrev pub with_versions : Schema
 with_versions = created with_buckets versions_table
 
+abbrev pub with_blocks : Schema
+with_blocks = created with_versions blocks_table
+
+abbrev pub with_refs : Schema
+with_refs = created with_blocks refs_table
+
 abbrev pub with_newest : Schema
-with_newest = indexed with_versions (at 7 versions_table) newest
+with_newest = indexed with_refs (at 7 versions_table) newest
+
+abbrev pub with_refs_by_block : Schema
+with_refs_by_block = indexed with_newest (at 12 refs_table) refs_by_block

@@ -1,4 +1,4 @@
--- The schema of a host as a value: five tables and an index, each as its CREATE text defines it.
+-- The schema of a host as a value: seven tables and two indexes, each as its CREATE text defines it.
 use Rattle.std.specs.Prelude.{ℕ, true, false, [], ◌∷◌, List, map, Some, None, codes, pos}
 use Rattle.sqlite.specs.Collation.TheVariants.{Binary}
 use Rattle.sqlite.specs.declared.types.Value.TheVariants.{Null, Int, Text as Words}
@@ -84,6 +84,15 @@ versions_table = table (codes "versions")
     (1 ∷ 2 ∷ []) ((1 ∷ 3 ∷ 4 ∷ 5 ∷ []) ∷ []) (refers (1 ∷ 3 ∷ []) (codes "buckets") ∷ [])
     (is_natural 2 ∷ is_natural 5 ∷ is_natural 6 ∷ is_natural 7 ∷ is_natural 8 ∷ op2 Or (op2 (Compare Eq Binary) (col 1 6) (lit (Int (pos 0)))) (op2 And (op2 (Compare Eq Binary) (col 1 8) (lit (Int (pos 0)))) (op2 (Compare Eq Binary) (col 1 9) (lit (Words [])))) ∷ [])
 
+-- blocks of bytes, shared by all tenants: those of one digest differ by the ordinal
+abbrev pub blocks_table : Table
+blocks_table = table (codes "blocks") (given (codes "digest") Blob ∷ given (codes "ord") Integer ∷ given (codes "bytes") Blob ∷ []) (1 ∷ 2 ∷ []) [] [] (is_natural 2 ∷ [])
+
+-- the block at each place of a body, which is an entry number of the tenant
+abbrev pub refs_table : Table
+refs_table = table (codes "refs") (given (codes "tenant") Text ∷ given (codes "body") Integer ∷ given (codes "place") Integer ∷ given (codes "digest") Blob ∷ given (codes "ord") Integer ∷ [])
+    (1 ∷ 2 ∷ 3 ∷ []) [] (refers (4 ∷ 5 ∷ []) (codes "blocks") ∷ []) (is_natural 2 ∷ is_natural 3 ∷ is_natural 5 ∷ [])
+
 -- ---- the schema of them all
 
 -- the table, kept in this tree
@@ -98,14 +107,19 @@ auto name tree owner columns = record { name = name; tree = tree; table = owner;
 abbrev pub newest : Index
 newest = record { name = codes "newest"; tree = 0; table = 7; columns = 1 ∷ 3 ∷ 4 ∷ 2 ∷ []; order = record { digits = 0o1000 }; is_unique = false }
 
+-- references by the block that they name
+abbrev pub refs_by_block : Index
+refs_by_block = record { name = codes "refs_by_block"; tree = 0; table = 12; columns = 4 ∷ 5 ∷ []; order = record { digits = 0 }; is_unique = false }
+
 abbrev pub no_schema : Schema
 no_schema = record { tables = []; indexes = []; views = [] }
 
 abbrev pub host_schema : Schema
 host_schema = record {
-  tables = at 0 host_table ∷ at 1 tenants_table ∷ at 3 keys_table ∷ at 5 buckets_table ∷ at 7 versions_table ∷ [];
+  tables = at 0 host_table ∷ at 1 tenants_table ∷ at 3 keys_table ∷ at 5 buckets_table ∷ at 7 versions_table ∷ at 10 blocks_table ∷ at 12 refs_table ∷ [];
   indexes = auto (codes "sqlite_autoindex_tenants_1") 2 1 (1 ∷ []) ∷ auto (codes "sqlite_autoindex_keys_1") 4 3 (1 ∷ 2 ∷ [])
       ∷ auto (codes "sqlite_autoindex_buckets_1") 6 5 (1 ∷ 2 ∷ []) ∷ auto (codes "sqlite_autoindex_versions_1") 8 7 (1 ∷ 2 ∷ [])
-      ∷ auto (codes "sqlite_autoindex_versions_2") 9 7 (1 ∷ 3 ∷ 4 ∷ 5 ∷ []) ∷ record newest { tree = 10 } ∷ [];
+      ∷ auto (codes "sqlite_autoindex_versions_2") 9 7 (1 ∷ 3 ∷ 4 ∷ 5 ∷ []) ∷ auto (codes "sqlite_autoindex_blocks_1") 11 10 (1 ∷ 2 ∷ [])
+      ∷ auto (codes "sqlite_autoindex_refs_1") 13 12 (1 ∷ 2 ∷ 3 ∷ []) ∷ record newest { tree = 14 } ∷ record refs_by_block { tree = 15 } ∷ [];
   views = [];
 }

@@ -1,13 +1,15 @@
 -- Which rows a text finds, and what it shows of each.
-use Rattle.std.specs.Prelude.{ℕ, Bool, ◌&&◌, ◌||◌, pos, [], ◌∷◌}
+use Rattle.std.specs.Prelude.{ℕ, Bool, ◌&&◌, ◌||◌, not, pos, List, [], ◌∷◌, filter, take}
+use Rattle.std.specs.List.{list_any}
 use Rattle.std.specs.Ordering.{int_eq, int_cmp, ordering_then}
 use Rattle.std.specs.declared.cmp.Ordering.{Ordering}
 use Rattle.sqlite.specs.declared.types.Value.TheVariants.{Text, Blob}
 use Rattle.sqlite.specs.Order.{Row}
+use Rattle.sqlite_keyed.specs.Lists.{sort_by}
 use Rattle.sqlite_typed.specs.Columns.{or_null}
 use Rattle.sqlite_typed.specs.Tests.{bytes_eq, bytes_cmp}
 use Rattle.bh_tables.specs.Schema.{Octets}
-use Rattle.bh_tables.specs.Typed.{HostRow, TenantRow, KeyRow, BucketRow, VersionRow, number}
+use Rattle.bh_tables.specs.Typed.{HostRow, TenantRow, KeyRow, BucketRow, VersionRow, BlockRow, RefRow, number}
 
 -- ---- the row of a primary key, or of the unique key of versions
 
@@ -37,8 +39,8 @@ abbrev pub is_in_bucket : Octets → Octets → VersionRow → Bool
 is_in_bucket tenant bucket v = bytes_eq v.tenant tenant && bytes_eq v.bucket bucket
 
 -- the greatest `seq` first
-abbrev pub by_age : VersionRow → VersionRow → Ordering
-by_age a b = int_cmp (pos b.seq) (pos a.seq)
+abbrev pub newer : VersionRow → VersionRow → Ordering
+newer a b = int_cmp (pos b.seq) (pos a.seq)
 
 -- the order of the index on keys and ids
 abbrev pub by_id : VersionRow → VersionRow → Ordering
@@ -47,6 +49,59 @@ by_id a b = ordering_then (bytes_cmp a.okey b.okey) (int_cmp (pos a.id) (pos b.i
 -- a marker has size 0 and an empty checksum
 abbrev pub is_marked_right : VersionRow → Bool
 is_marked_right v = int_eq (pos v.marker) (pos 0) || (int_eq (pos v.size) (pos 0) && bytes_eq v.checksum [])
+
+-- ---- blocks and references
+
+-- of a block its digest and ordinal, of a body its tenant and entry number
+abbrev pub Name : Type 0
+Name = Octets × ℕ
+
+-- SQL's `=` at both columns
+abbrev pub same_name : Name → Name → Bool
+same_name a b = bytes_eq a.0 b.0 && int_eq (pos a.1) (pos b.1)
+
+abbrev pub block_name : BlockRow → Name
+block_name b = (b.digest, b.ord)
+
+-- the block that a reference names
+abbrev pub ref_name : RefRow → Name
+ref_name r = (r.digest, r.ord)
+
+-- the body that a reference is of
+abbrev pub body_name : RefRow → Name
+body_name r = (r.tenant, r.body)
+
+-- the block of this name
+abbrev pub is_block : Name → BlockRow → Bool
+is_block q b = same_name (block_name b) q
+
+-- a reference to the block of this name
+abbrev pub is_use : Name → RefRow → Bool
+is_use q r = same_name (ref_name r) q
+
+-- a block of this digest
+abbrev pub has_digest : Octets → BlockRow → Bool
+has_digest digest b = bytes_eq b.digest digest
+
+-- the block of this digest that holds these bytes
+abbrev pub is_copy : Octets → Octets → BlockRow → Bool
+is_copy digest bytes b = bytes_eq b.digest digest && bytes_eq b.bytes bytes
+
+abbrev pub is_unreferenced : List RefRow → BlockRow → Bool
+is_unreferenced refs b = not (list_any (is_use (block_name b)) refs)
+
+abbrev pub by_place : RefRow → RefRow → Ordering
+by_place a b = int_cmp (pos a.place) (pos b.place)
+
+abbrev pub by_ord : BlockRow → BlockRow → Ordering
+by_ord a b = int_cmp (pos a.ord) (pos b.ord)
+
+abbrev pub by_name : BlockRow → BlockRow → Ordering
+by_name a b = ordering_then (bytes_cmp a.digest b.digest) (int_cmp (pos a.ord) (pos b.ord))
+
+-- at most so many blocks that no reference names, by digest and ordinal
+abbrev pub unreferenced : ℕ → List RefRow → List BlockRow → List BlockRow
+unreferenced limit refs blocks = take limit (sort_by by_name (filter (is_unreferenced refs) blocks))
 
 -- ---- the rows of a listing
 
@@ -76,9 +131,6 @@ shown_bucket b = number b.created ∷ number b.state ∷ or_null number b.days �
 abbrev pub shown_entry : BucketRow → Row
 shown_entry b = Text b.bucket ∷ number b.created ∷ []
 
-abbrev pub shown_version : VersionRow → Row
-shown_version v = number v.seq ∷ number v.marker ∷ number v.stamp ∷ number v.size ∷ Text v.checksum ∷ Blob v.bytes ∷ []
-
 -- a version without its bytes
 abbrev pub shown_head : VersionRow → Row
 shown_head v = number v.seq ∷ number v.id ∷ number v.marker ∷ number v.stamp ∷ number v.size ∷ Text v.checksum ∷ []
@@ -88,3 +140,9 @@ shown_bytes v = Blob v.bytes ∷ []
 
 abbrev pub shown_seq : VersionRow → Row
 shown_seq v = number v.seq ∷ []
+
+abbrev pub shown_ord : BlockRow → Row
+shown_ord b = number b.ord ∷ []
+
+abbrev pub shown_name : BlockRow → Row
+shown_name b = Blob b.digest ∷ number b.ord ∷ []

@@ -139,6 +139,45 @@ version_of r = record {
 abbrev pub version_form : Form VersionRow
 version_form = record { encode = version_columns; decode = version_of; back = λ _ x. refl }
 
+-- ---- blocks of bytes, shared by all tenants
+
+pub record BlockRow : Type 0 where
+  -- of the bytes
+  pub digest : Octets
+  -- rows of one digest differ by it
+  pub ord : ℕ
+  pub bytes : Octets
+
+abbrev pub block_columns : BlockRow → Row
+block_columns b = Blob b.digest ∷ number b.ord ∷ Blob b.bytes ∷ []
+
+abbrev pub block_of : Row → BlockRow
+block_of r = record { digest = bytes_of (column r 1); ord = column_number (column r 2); bytes = bytes_of (column r 3) }
+
+abbrev pub block_form : Form BlockRow
+block_form = record { encode = block_columns; decode = block_of; back = λ _ x. refl }
+
+-- ---- references of a body to its blocks
+
+pub record RefRow : Type 0 where
+  pub tenant : Octets
+  -- an entry number of the tenant
+  pub body : ℕ
+  -- counted from 0
+  pub place : ℕ
+  -- of the block at this place
+  pub digest : Octets
+  pub ord : ℕ
+
+abbrev pub ref_columns : RefRow → Row
+ref_columns r = Text r.tenant ∷ number r.body ∷ number r.place ∷ Blob r.digest ∷ number r.ord ∷ []
+
+abbrev pub ref_of : Row → RefRow
+ref_of r = record { tenant = bytes_of (column r 1); body = column_number (column r 2); place = column_number (column r 3); digest = bytes_of (column r 4); ord = column_number (column r 5) }
+
+abbrev pub ref_form : Form RefRow
+ref_form = record { encode = ref_columns; decode = ref_of; back = λ _ x. refl }
+
 -- ---- all tables
 
 pub record Tables : Type 0 where
@@ -147,9 +186,11 @@ pub record Tables : Type 0 where
   pub keys : List KeyRow
   pub buckets : List BucketRow
   pub versions : List VersionRow
+  pub blocks : List BlockRow
+  pub refs : List RefRow
 
 abbrev pub no_rows : Tables
-no_rows = record { host = []; tenants = []; keys = []; buckets = []; versions = [] }
+no_rows = record { host = []; tenants = []; keys = []; buckets = []; versions = []; blocks = []; refs = [] }
 
 -- the rows as they are stored
 pub record Raw : Type 0 where
@@ -158,12 +199,22 @@ pub record Raw : Type 0 where
   pub keys : List Row
   pub buckets : List Row
   pub versions : List Row
+  pub blocks : List Row
+  pub refs : List Row
 
 abbrev pub raw : Trees → Raw
-raw db = record { host = db 0; tenants = db 1; keys = db 3; buckets = db 5; versions = db 7 }
+raw db = record { host = db 0; tenants = db 1; keys = db 3; buckets = db 5; versions = db 7; blocks = db 10; refs = db 12 }
 
 abbrev pub tables_of : Raw → Tables
-tables_of r = record { host = typed host_form r.host; tenants = typed tenant_form r.tenants; keys = typed key_form r.keys; buckets = typed bucket_form r.buckets; versions = typed version_form r.versions }
+tables_of r = record {
+  host = typed host_form r.host;
+  tenants = typed tenant_form r.tenants;
+  keys = typed key_form r.keys;
+  buckets = typed bucket_form r.buckets;
+  versions = typed version_form r.versions;
+  blocks = typed block_form r.blocks;
+  refs = typed ref_form r.refs;
+}
 
 -- each stored row is the columns of a typed row
 pub record AreHeld (r : Raw) : Type 0 where
@@ -172,6 +223,8 @@ pub record AreHeld (r : Raw) : Type 0 where
   pub keys : AreRows key_form r.keys
   pub buckets : AreRows bucket_form r.buckets
   pub versions : AreRows version_form r.versions
+  pub blocks : AreRows block_form r.blocks
+  pub refs : AreRows ref_form r.refs
 
 -- what a database has in its tables, and a state of the store in those of the database that it sees
 abbrev pub tables_in : Database → Tables

@@ -60,7 +60,7 @@ bucket_added old new t s b at sound is none good early e =
     let here = mine_pushed own old.buckets r in
     let no_versions = all.versions.owned b (ap first fresh) in
     subst (Becomes t (Some (with_bucket b (new_bucket at) s)) old) (sym e)
-    (becomes t _ old after sound refl (λ u apart i. record (rows_of u old) { buckets = others_pushed own old.buckets r u apart i })
+    (becomes t _ old after sound refl refl refl (λ u apart i. record (rows_of u old) { buckets = others_pushed own old.buckets r u apart i })
     (buckets_shown mine s (sym (view_is old t) ∙ is) (rows_of t after) (λ m. insert m b (new_bucket at)) refl refl
     (ap (λ l. buckets_of (record mine { buckets = l })) here ∙ bucket_pushed mine r fresh no_versions))
     (subst (λ l. AreSound (latest_of old) (record mine { buckets = l })) (sym here) (record {
@@ -79,7 +79,7 @@ module _ (old new : Tables) (t : Octets) (s : State) (sound : IsSound old) (is :
       let all = sound.tenants t in
       let after : Tables = record old { buckets = rows } in
       subst (Becomes t (Some (record s { buckets = change s.buckets })) old) (sym e)
-      (becomes t _ old after sound refl (λ u apart i. record (rows_of u old) { buckets = others u apart i })
+      (becomes t _ old after sound refl refl refl (λ u apart i. record (rows_of u old) { buckets = others u apart i })
       (buckets_shown (rows_of t old) s (sym (view_is old t) ∙ is) (rows_of t after) change refl refl (ap (λ l. buckets_of (record (rows_of t old) { buckets = l })) here ∙ shows))
       (subst (λ l. AreSound (latest_of old) (record (rows_of t old) { buckets = l })) (sym here) (record { tenants = all.tenants; keys = all.keys; buckets = good; versions = fit })))
 

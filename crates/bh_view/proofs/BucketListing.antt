@@ -10,9 +10,9 @@ use Rattle.bh_model.specs.State.{Octets, Bucket, State}
 use Rattle.bh_model.specs.FinMaps.{is_empty, non_empty}
 use Rattle.bh_model.specs.Operations.{bucket_list}
 use Rattle.bh_tables.specs.Typed.{BucketRow, VersionRow, Tables}
-use Rattle.bh_tables.specs.Shown.{is_in_bucket, is_owned_bucket, by_bucket}
+use Rattle.bh_tables.specs.Shown.{is_in_bucket, is_owned_bucket, by_bucket, newer}
 use Rattle.bh_view.specs.Grouped.{first}
-use Rattle.bh_view.specs.View.{rows_of, in_bucket, entry_of, newer, entries_of, objects_of, bucket_shown, buckets_of, view}
+use Rattle.bh_view.specs.View.{rows_of, in_bucket, entry_of, entries_of, objects_of, bucket_shown, buckets_of, view}
 use Rattle.bh_view.specs.Sound.{IsSound}
 use Rattle.bh_view.proofs.Keys.{octets}
 use Rattle.bh_view.proofs.FilterLemmas.{none_some, filter_both}

@@ -14,9 +14,9 @@ use Rattle.bh_model.specs.Credentials.{secret_of}
 use Rattle.bh_model.specs.Entries.{has_id, not_found, opened, found_named, lookup}
 use Rattle.bh_model.specs.Operations.{listed}
 use Rattle.bh_tables.specs.Typed.{TenantRow, KeyRow, BucketRow, VersionRow, Tables}
-use Rattle.bh_tables.specs.Shown.{is_tenant, is_key, is_bucket, is_version, is_entry}
+use Rattle.bh_tables.specs.Shown.{is_tenant, is_key, is_bucket, is_version, is_entry, newer}
 use Rattle.bh_view.specs.Grouped.{first, matching, same_number}
-use Rattle.bh_view.specs.View.{rows_of, id_of, content_of, entry_of, newer, entries_of, bucket_shown, buckets_of, state_of, view, in_bucket, named, at_key}
+use Rattle.bh_view.specs.View.{rows_of, id_of, content_of, entry_of, entries_of, bucket_shown, buckets_of, state_of, view, in_bucket, named, at_key}
 use Rattle.bh_view.specs.Sound.{IsSound}
 use Rattle.bh_view.proofs.Keys.{octets, numbers}
 use Rattle.bh_view.proofs.FilterLemmas.{none_some, none_mapped, delete_all, filter_both}

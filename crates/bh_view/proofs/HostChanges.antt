@@ -48,6 +48,7 @@ stamped old new n sound up top e =
       sound = record {
         host = record { row = record row { latest = n }; alone = alone; good = record { version = sound.host.good.version; latest = top; limits = sound.host.good.limits } };
         tenants = λ t. subst (λ m. AreSound m (rows_of t old)) (sym latest) (sound_later (latest_of old) n up (rows_of t old) (sound.tenants t));
+        stored = sound.stored;
       };
     })
 
@@ -74,6 +75,7 @@ created tables min_part max_body limits e =
           buckets = record { each = tt; one = λ q. omega arith; owned = λ gone. refl };
           versions = record { each = tt; one_seq = λ q. omega arith; one_id = λ b k q. omega arith; owned = λ q gone. refl; unversioned = λ b r none. absurd (none_some none); given = tt };
         };
+        stored = record { one = λ q. omega arith; once = λ q. omega arith; named = λ q gone. refl };
       },
       latest_is (new_host min_part max_body) row refl,
       λ t. view_is (new_host min_part max_body) t,

@@ -25,3 +25,7 @@ pub mod RowLemmas
 pub mod PurgeLemmas
 pub mod UsedLemmas
 pub mod JoinLemmas
+pub mod NameLemmas
+pub mod OrdinalLemmas
+pub mod WholeLemmas
+pub mod BlockChanges

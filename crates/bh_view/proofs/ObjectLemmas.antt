@@ -13,7 +13,8 @@ use Rattle.sqlite_keyed.proofs.SortLemmas.{IsPermutation-sort_by}
 use Rattle.bh_model.specs.FinMaps.{non_empty, set_at, total}
 use Rattle.bh_model.specs.State.{Octets, Entry, entry_size}
 use Rattle.bh_tables.specs.Typed.{VersionRow}
-use Rattle.bh_view.specs.View.{at_key, entry_of, newer, entries_of, objects_of}
+use Rattle.bh_tables.specs.Shown.{newer}
+use Rattle.bh_view.specs.View.{at_key, entry_of, entries_of, objects_of}
 use Rattle.bh_view.proofs.Keys.{octets}
 use Rattle.bh_view.proofs.FilterLemmas.{push_here, push_other, delete_other, delete_mine}
 use Rattle.bh_view.proofs.SortLemmas.{sort_by_push, sort_by-filter}

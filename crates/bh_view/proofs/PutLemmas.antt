@@ -23,7 +23,7 @@ use Rattle.bh_tables.specs.Typed.{TenantRow, VersionRow, Tables}
 use Rattle.bh_tables.specs.Shown.{is_tenant, is_version}
 use Rattle.bh_view.specs.Grouped.{same_number}
 use Rattle.bh_view.specs.View.{rows_of, id_of, entry_of, view, latest_of}
-use Rattle.bh_view.specs.Sound.{IsVersionRow, IsBelow, IsPlain, IsSound}
+use Rattle.bh_view.specs.Sound.{IsVersionRow, IsBelow, IsSound}
 use Rattle.bh_view.specs.Becomes.{Becomes}
 use Rattle.bh_view.specs.Put.{marker_number, checksum_in, bytes_in, entry_row, row_number, counters_row, rows_left}
 use Rattle.bh_view.proofs.Keys.{octets, numbers}

@@ -45,7 +45,7 @@ module _ (old new : Tables) (t : Octets) (s : State) (sound : IsSound old) (is :
       let after : Tables = record old { tenants = update_where (is_tenant t) f old.tenants } in
       let here = row_updated f keeps t old.tenants r one in
       subst (Becomes t (Some (change s)) old) (sym e)
-      (becomes t (Some (change s)) old after sound refl (λ u apart i. record (rows_of u old) { tenants = others_updated own t (is_tenant t) (within_own own t) f keeps old.tenants u apart i })
+      (becomes t (Some (change s)) old after sound refl refl refl (λ u apart i. record (rows_of u old) { tenants = others_updated own t (is_tenant t) (within_own own t) f keeps old.tenants u apart i })
       (ap (λ l. option_map (state_of mine) (first l)) here ∙ ap Some (same r ∙ ap change row.2))
       (subst (λ l. AreSound (latest_of old) (record mine { tenants = l })) (sym here) (record {
         tenants = record { each = (fine.0, tt); one = omega arith };
@@ -106,7 +106,7 @@ tenant_added old new t quota sound is name few e =
     let none = absent_rows old t sound is in
     let here : rows_of t after ≡ record { tenants = r ∷ []; keys = []; buckets = []; versions = [] } = λ i. record (none i) { tenants = (mine_pushed own old.tenants r ∙ ap (λ m. m.tenants ++ r ∷ []) none) i } in
     subst (Becomes t (Some (new_tenant quota)) old) (sym e)
-    (becomes t (Some (new_tenant quota)) old after sound refl (λ u apart i. record (rows_of u old) { tenants = others_pushed own old.tenants r u apart i })
+    (becomes t (Some (new_tenant quota)) old after sound refl refl refl (λ u apart i. record (rows_of u old) { tenants = others_pushed own old.tenants r u apart i })
     (ap state_shown here)
     (subst (AreSound (latest_of old)) (sym here) (record {
       tenants = record { each = (record { name = name; quota = few; counters = ((omega arith, omega arith), (omega arith, omega arith), (omega arith, omega arith)) }, tt); one = omega arith };

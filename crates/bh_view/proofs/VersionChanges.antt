@@ -103,7 +103,7 @@ module _ (old new : Tables) (t : Octets) (s : State) (sound : IsSound old) (is :
       let all = sound.tenants t in
       let after : Tables = record old { versions = versions } in
       subst (Becomes t (Some (with_bucket b B s)) old) (sym e)
-      (becomes t _ old after sound refl (λ u apart i. record (rows_of u old) { versions = others u apart i })
+      (becomes t _ old after sound refl refl refl (λ u apart i. record (rows_of u old) { versions = others u apart i })
       (buckets_shown (rows_of t old) s (sym (view_is old t) ∙ is) (rows_of t after) (λ m. insert m b B) refl refl (ap (λ l. buckets_of (record (rows_of t old) { versions = l })) here ∙ shows))
       (record { tenants = all.tenants; keys = all.keys; buckets = all.buckets; versions = subst (AreVersions (latest_of old) (rows_of t old).tenants (rows_of t old).buckets) (sym here) good }))
 

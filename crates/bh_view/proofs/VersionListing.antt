@@ -6,7 +6,8 @@ use Rattle.sqlite_keyed.specs.Lists.{sort_by}
 use Rattle.sqlite_typed.specs.Tests.{bytes_cmp}
 use Rattle.bh_model.specs.State.{Octets, Entry}
 use Rattle.bh_tables.specs.Typed.{VersionRow}
-use Rattle.bh_view.specs.View.{entry_of, newer, objects_of}
+use Rattle.bh_tables.specs.Shown.{newer}
+use Rattle.bh_view.specs.View.{entry_of, objects_of}
 use Rattle.bh_view.proofs.Keys.{octets}
 use Rattle.bh_view.proofs.ObjectLemmas.{newer_total}
 use Rattle.bh_view.proofs.GroupListingLemmas.{flat, flat_entries}

@@ -1,11 +1,12 @@
 -- What a tenant's rows show, and what a change of one tenant's rows is to all of them.
-use Rattle.std.proofs.Common.{◌≡◌, ◌≢◌, true, false, true≢false, List, [], ◌∷◌, Option, Some, option_map, refl, sym, ap, ◌∙◌, subst}
+use Rattle.std.proofs.Common.{◌≡◌, ◌≢◌, true, false, true≢false, List, [], ◌∷◌, Option, Some, option_map, refl, sym, ap, ◌∙◌, subst, subst₂}
 use Rattle.std.specs.FinMap.{FinMap}
 use Rattle.sqlite_typed.specs.Tests.{bytes_eq}
 use Rattle.bh_model.specs.State.{Octets, octets_cmp, Bucket, State}
 use Rattle.bh_tables.specs.Typed.{TenantRow, KeyRow, Tables}
 use Rattle.bh_view.specs.Grouped.{first}
 use Rattle.bh_view.specs.View.{TenantRows, rows_of, keys_of, buckets_of, state_of, state_shown, view, latest_of, limits_in}
+use Rattle.bh_view.specs.Blocks.{AreStored}
 use Rattle.bh_view.specs.Sound.{IsHostTable, AreSound, IsSound}
 use Rattle.bh_view.specs.Becomes.{Becomes}
 use Rattle.bh_view.proofs.Keys.{octets}
@@ -40,9 +41,9 @@ pub own_rows : (tables : Tables) (t : Octets) (s : State) → IsSound tables →
 own_rows tables t s sound is = single _ (sound.tenants t).tenants.one _ (own_row tables t s is).1
 
 -- rows of one tenant change, and the others' stay
-pub becomes : (t : Octets) (state : Option State) (old new : Tables) → IsSound old → new.host ≡ old.host → ((u : Octets) → u ≢ t → rows_of u new ≡ rows_of u old)
+pub becomes : (t : Octets) (state : Option State) (old new : Tables) → IsSound old → new.host ≡ old.host → new.blocks ≡ old.blocks → new.refs ≡ old.refs → ((u : Octets) → u ≢ t → rows_of u new ≡ rows_of u old)
     → state_shown (rows_of t new) ≡ state → AreSound (latest_of old) (rows_of t new) → Becomes t state old new
-becomes t state old new sound host others here good =
+becomes t state old new sound host blocks refs others here good =
     let latest = same_latest old new host in
     record {
       shown = view_is new t ∙ here;
@@ -55,6 +56,7 @@ becomes t state old new sound host others here good =
           | true ↦ λ e. subst (λ n. AreSound n (rows_of u new)) (sym latest) (subst (λ z. AreSound (latest_of old) (rows_of z new)) (sym ((octets.decides u t).0 e)) good)
           | false ↦ λ e. subst (λ n. AreSound n (rows_of u new)) (sym latest) (subst (AreSound (latest_of old)) (sym (others u (λ h. absurd (true≢false (sym ((octets.decides u t).1 h) ∙ e))))) (sound.tenants u))
         ] refl;
+        stored = subst₂ AreStored (sym refs) (sym blocks) sound.stored;
       };
     }
 

@@ -10,13 +10,13 @@ use Rattle.bh_types.specs.declared.id.VersionId.{VersionId}
 use Rattle.bh_types.specs.declared.id.VersionId.TheVariants.{Null, Numbered}
 use Rattle.bh_types.specs.declared.wanted.Wanted.{Wanted}
 use Rattle.bh_types.specs.declared.wanted.Wanted.TheVariants.{Current, Named, Unknown}
-use Rattle.bh_model.specs.State.{Octets, Entry, Bucket, State}
+use Rattle.bh_model.specs.State.{Octets, Bucket, State}
 use Rattle.bh_model.specs.Entries.{same_id, has_id, found_current, found_named, lookup}
 use Rattle.bh_model.specs.Operations.{listed}
 use Rattle.bh_tables.specs.Typed.{VersionRow, Tables}
-use Rattle.bh_tables.specs.Shown.{is_version, is_at, is_entry}
+use Rattle.bh_tables.specs.Shown.{is_version, is_at, is_entry, newer}
 use Rattle.bh_view.specs.Grouped.{first, same_number}
-use Rattle.bh_view.specs.View.{TenantRows, rows_of, id_of, entry_of, newer, view, latest_of}
+use Rattle.bh_view.specs.View.{TenantRows, rows_of, id_of, entry_of, view, latest_of}
 use Rattle.bh_view.specs.Sound.{IsVersionRow, IsSound}
 use Rattle.bh_view.specs.Wanted.{has_row_id, wanted_row, newest_looked, looked}
 use Rattle.bh_view.proofs.Keys.{numbers}

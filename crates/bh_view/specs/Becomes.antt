@@ -3,6 +3,7 @@ use Rattle.std.specs.Prelude.{◌≡◌, ◌≢◌, ℕ, Option}
 use Rattle.bh_model.specs.State.{Octets, State}
 use Rattle.bh_tables.specs.Typed.{Tables}
 use Rattle.bh_view.specs.View.{view, latest_of, limits_in}
+use Rattle.bh_view.specs.Blocks.{whole, AreDigests}
 use Rattle.bh_view.specs.Sound.{IsSound}
 
 -- this tenant's state becomes that one; the other tenants' states, the last stamp and the limits stay
@@ -18,4 +19,14 @@ pub record IsStamped (stamp : ℕ) (old new : Tables) : Type 0 where
   pub latest : latest_of new ≡ stamp
   pub limits : limits_in new ≡ limits_in old
   pub views : (u : Octets) → view new u ≡ view old u
+  pub sound : IsSound new
+
+-- blocks come or go: the bytes of all bodies, all tenants' states, the last stamp and the limits stay, and each block
+-- has the digest of its bytes
+pub record KeepsBodies (digest : Octets → Octets) (old new : Tables) : Type 0 where
+  pub bodies : whole new.refs new.blocks ≡ whole old.refs old.blocks
+  pub digests : AreDigests digest new.blocks
+  pub latest : latest_of new ≡ latest_of old
+  pub limits : limits_in new ≡ limits_in old
+  pub views : (t : Octets) → view new t ≡ view old t
   pub sound : IsSound new

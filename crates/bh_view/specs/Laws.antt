@@ -1,8 +1,12 @@
--- What shows that the definitions are the intended ones: a tenant's state is of its own rows, and a new host is sound.
-use Rattle.std.specs.Prelude.{◌≡◌, ℕ, [], ◌∷◌, None}
+-- What shows that the definitions are the intended ones: a tenant's state is of its own rows, a new host is sound, and a
+-- block takes the least ordinal that is free.
+use Rattle.std.specs.Prelude.{◌≡◌, ℕ, List, [], ◌∷◌, None}
 use Rattle.bh_types.specs.Limits.{AreLimits}
 use Rattle.bh_model.specs.State.{Octets}
-use Rattle.bh_tables.specs.Typed.{Tables}
+use Rattle.bh_tables.specs.Typed.{BlockRow, Tables}
+use Rattle.bh_tables.specs.Shown.{same_name, block_name}
+use Rattle.bh_view.specs.Grouped.{HasUnique}
+use Rattle.bh_view.specs.Blocks.{free_ord, IsLeastFree}
 use Rattle.bh_view.specs.View.{rows_of, view, latest_of, limits_in}
 use Rattle.bh_view.specs.Sound.{IsSound}
 
@@ -18,6 +22,8 @@ new_host min_part max_body = record {
   keys = [];
   buckets = [];
   versions = [];
+  blocks = [];
+  refs = [];
 }
 
 -- a new host is sound; no tenant is there, and the limits are those that it was made with
@@ -25,3 +31,8 @@ abbrev pub NewHostIsSound : Type 0
 NewHostIsSound = (min_part max_body : ℕ) → AreLimits min_part max_body
     → IsSound (new_host min_part max_body) × (latest_of (new_host min_part max_body) ≡ 0) × ((t : Octets) → view (new_host min_part max_body) t ≡ None)
     × (limits_in (new_host min_part max_body) ≡ record { min_part = min_part; max_body = max_body })
+
+-- where no two blocks have one name, no block has the ordinal that a new one of the digest takes, and each less one is
+-- some block's
+abbrev pub FreeIsLeast : Type 0
+FreeIsLeast = (digest : Octets) (blocks : List BlockRow) → HasUnique same_name block_name blocks → IsLeastFree digest blocks (free_ord digest blocks)

@@ -1,4 +1,5 @@
 pub mod Grouped
+pub mod Blocks
 pub mod View
 pub mod Sound
 pub mod Becomes

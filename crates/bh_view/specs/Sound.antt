@@ -11,6 +11,7 @@ use Rattle.bh_model.specs.State.{Octets}
 use Rattle.bh_model.specs.Runs.{last_reading}
 use Rattle.bh_tables.specs.Typed.{HostRow, TenantRow, KeyRow, BucketRow, VersionRow, Tables}
 use Rattle.bh_view.specs.Grouped.{first, same_number, HasUnique, Refers}
+use Rattle.bh_view.specs.Blocks.{AreStored}
 use Rattle.bh_view.specs.View.{TenantRows, rows_of, named, in_bucket, at_key, mode_of, latest_of}
 
 -- ---- the row of the host
@@ -107,3 +108,4 @@ pub record AreSound (latest : ℕ) (rows : TenantRows) : Type 0 where
 pub record IsSound (tables : Tables) : Type 0 where
   pub host : IsHostTable tables.host
   pub tenants : (t : Octets) → AreSound (latest_of tables) (rows_of t tables)
+  pub stored : AreStored tables.refs tables.blocks

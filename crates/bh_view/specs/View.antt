@@ -1,8 +1,6 @@
 -- One tenant's rows in the tables, and the state of the private machine that they show.
-use Rattle.std.specs.Prelude.{ℕ, zero, suc, pos, List, map, Option, option_map}
+use Rattle.std.specs.Prelude.{ℕ, zero, suc, List, map, Option, option_map}
 use Rattle.std.specs.Option.{option_map_or}
-use Rattle.std.specs.Ordering.{int_cmp}
-use Rattle.std.specs.declared.cmp.Ordering.{Ordering}
 use Rattle.std.specs.FinMap.{FinMap, empty}
 use Rattle.sqlite_keyed.specs.Lists.{sort_by}
 use Rattle.sqlite_typed.specs.Tests.{bytes_eq}
@@ -13,6 +11,7 @@ use Rattle.bh_types.specs.declared.bucket_state.BucketState.{BucketState}
 use Rattle.bh_types.specs.declared.bucket_state.BucketState.TheVariants.{Unversioned, Enabled, Suspended}
 use Rattle.bh_model.specs.State.{Octets, octets_cmp, Content, Content.Marker, Content.Body, Entry, Bucket, State}
 use Rattle.bh_tables.specs.Typed.{HostRow, TenantRow, KeyRow, BucketRow, VersionRow, Tables}
+use Rattle.bh_tables.specs.Shown.{newer}
 use Rattle.bh_model.specs.FinMaps.{non_empty}
 use Rattle.bh_view.specs.Grouped.{first, matching, grouped, keyed}
 
@@ -73,10 +72,6 @@ content_of (suc n) r = Marker
 
 abbrev pub entry_of : VersionRow → Entry
 entry_of r = record { id = id_of r.id; moment = r.stamp; content = content_of r.marker r }
-
--- the greatest `seq` first
-abbrev pub newer : VersionRow → VersionRow → Ordering
-newer a b = int_cmp (pos b.seq) (pos a.seq)
 
 abbrev pub entries_of : List VersionRow → List Entry
 entries_of rows = map entry_of (sort_by newer rows)

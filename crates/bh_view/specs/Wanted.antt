@@ -11,9 +11,9 @@ use Rattle.bh_model.specs.State.{Octets}
 use Rattle.bh_model.specs.Entries.{Version, same_id, not_found, opened, found_named}
 use Rattle.bh_model.specs.declared.entries.LookupFault.{LookupFault}
 use Rattle.bh_tables.specs.Typed.{VersionRow}
-use Rattle.bh_tables.specs.Shown.{is_at}
+use Rattle.bh_tables.specs.Shown.{is_at, newer}
 use Rattle.bh_view.specs.Grouped.{first}
-use Rattle.bh_view.specs.View.{id_of, content_of, entry_of, newer}
+use Rattle.bh_view.specs.View.{id_of, content_of, entry_of}
 
 -- of a key, with an id
 abbrev pub has_row_id : Octets → Octets → Octets → VersionId → VersionRow → Bool

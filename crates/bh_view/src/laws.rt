@@ -1,5 +1,5 @@
 //! Laws of the definitions, each the contract of a function that does nothing.
-ghost use Rattle.bh_view.specs.Laws.{ViewsStandAlone, NewHostIsSound};
+ghost use Rattle.bh_view.specs.Laws.{ViewsStandAlone, NewHostIsSound, FreeIsLeast};
 
 /// A tenant's state depends on that tenant's rows alone.
 pub fn views_stand_alone()
@@ -9,4 +9,9 @@ pub fn views_stand_alone()
 /// The tables of a new host are sound and show no tenant; its last stamp is 0.
 pub fn new_host_is_sound()
     ensures { NewHostIsSound }
+{}
+
+/// A block takes the least ordinal that is free among those of its digest.
+pub fn free_is_least()
+    ensures { FreeIsLeast }
 {}

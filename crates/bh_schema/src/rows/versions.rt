@@ -3,33 +3,15 @@ ghost use Rattle.std.specs.List.{list_any};
 ghost use Rattle.std.specs.Str.{IsUtf8};
 ghost use Rattle.sqlite_keyed.specs.Lists.{delete_where, sort_by};
 ghost use Rattle.bh_tables.specs.Typed.{VersionRow as Stored};
-ghost use Rattle.bh_tables.specs.Shown.{is_version, is_at, is_in_bucket, is_entry, by_id, shown_version, shown_head, shown_bytes, shown_seq};
+ghost use Rattle.bh_tables.specs.Shown.{is_version, is_at, is_in_bucket, is_entry, by_id, shown_head, shown_bytes, shown_seq, newer};
 ghost use Rattle.bh_rows.specs.Means.{is_trouble};
 ghost use Rattle.bh_schema.specs.Connections.{IsClean, tables, InTransaction, StaysWithin, WasOpen, StaysOpen, ChangesNothing, Becomes, IsTrouble, IsTroubleIf};
-ghost use Rattle.bh_view.specs.View.{newer};
-ghost use Rattle.bh_schema.specs.Rows.{seen_version, seen_head, seen_bytes, newest_at, IsNewVersion};
-ghost use Rattle.bh_schema.specs.Views.{version_seen, head_seen};
+ghost use Rattle.bh_schema.specs.Rows.{seen_head, seen_bytes, newest_at, IsNewVersion};
+ghost use Rattle.bh_schema.specs.Views.{head_seen};
 
 use crate::rows::number::number;
 use sqlite::types::ToSql;
 use sqlite::{Alter, Connection, Error, Row};
-
-/// What is kept of a version or a marker.
-#[derive(Drop)]
-pub struct VersionColumns {
-    /// Its entry number, which orders the versions of a key.
-    pub seq: u64,
-    /// 1 for a delete marker, 0 for a version.
-    pub marker: u64,
-    /// When it was made, in seconds since 1970.
-    pub stamp: u64,
-    /// Bytes.
-    pub size: u64,
-    /// The text of its checksum, empty for a marker.
-    pub checksum: String,
-    /// The object, empty for a marker.
-    pub bytes: Vec<u8>,
-}
 
 /// What is kept of a version or a marker beside its bytes.
 #[derive(Drop)]
@@ -76,69 +58,6 @@ pub struct NewMarker<'a> {
     pub id: u64,
     /// When it is made, in seconds since 1970.
     pub stamp: u64,
-}
-
-fn read_version(row: &Row) -> Result<VersionColumns, Error>
-    ensures read { IfOk result (λ version. (v : Stored) → row.now ≡ shown_version v → version_seen version ≡ seen_version v) }
-    ensures trouble { IfErr result (λ e. (v : Stored) → row.now ≡ shown_version v → IsUtf8 v.checksum → is_trouble e ≡ true) }
-{
-    Ok(VersionColumns {
-        seq: row.get(0)?,
-        marker: row.get(1)?,
-        stamp: row.get(2)?,
-        size: row.get(3)?,
-        checksum: row.get(4)?,
-        bytes: row.get(5)?,
-    })
-}
-
-fn version_rows<S: Alter>(
-    connection: &mut Connection<S>,
-    tenant: &str,
-    bucket: &str,
-    okey: &[u8],
-    id: u64,
-) -> Result<Vec<Row>, Error>
-    requires inside { InTransaction S.Store connection.old }
-    requires small { id < 2 ^ 63 }
-    ensures within { StaysWithin S.Store connection.old connection.new }
-    ensures opens { OnOk result (WasOpen S.Store connection.old connection.new) }
-    ensures same { OnOk result (ChangesNothing S.Store connection.old connection.new) }
-    ensures rows { IfOk result (λ rows. IsClean S.Store connection.new
-        → rows.items ≡ map shown_version (filter (is_version tenant.now bucket.now okey.now id) (tables S.Store connection.old).versions)) }
-    ensures trouble { IfErr result (IsTrouble S.Store connection.old connection.new) }
-{
-    connection.query_all(
-        "SELECT seq, marker, stamp, size, sum, bytes FROM versions WHERE tenant = ?1 AND bucket = ?2 AND okey = ?3 AND id = ?4 ORDER BY rowid",
-        &[tenant.to_sql(), bucket.to_sql(), okey.to_sql(), number(id)],
-    )
-}
-
-/// The version or marker of a key with this id, if there is one; 0 is `null`.
-pub fn find_version<S: Alter>(
-    connection: &mut Connection<S>,
-    tenant: &str,
-    bucket: &str,
-    okey: &[u8],
-    id: u64,
-) -> Result<Option<VersionColumns>, Error>
-    requires inside { InTransaction S.Store connection.old }
-    requires small { id < 2 ^ 63 }
-    ensures within { StaysWithin S.Store connection.old connection.new }
-    ensures opens { OnOk result (WasOpen S.Store connection.old connection.new) }
-    ensures same { OnOk result (ChangesNothing S.Store connection.old connection.new) }
-    ensures found { IfOk result (λ found. IsClean S.Store connection.new
-        → option_map version_seen found ≡ option_map seen_version
-        (find (is_version tenant.now bucket.now okey.now id) (tables S.Store connection.old).versions)) }
-    ensures trouble { IfErr result (IsTroubleIf S.Store connection.old connection.new
-        ((v : Stored) → find (is_version tenant.now bucket.now okey.now id) (tables S.Store connection.old).versions ≡ Some v
-        → IsUtf8 v.checksum)) }
-{
-    let rows = version_rows(connection, tenant, bucket, okey, id)?;
-    match rows.first() {
-        None => Ok(None),
-        Some(row) => Ok(Some(read_version(row)?)),
-    }
 }
 
 fn read_head(row: &Row) -> Result<VersionHead, Error>

@@ -1,0 +1,8 @@
+//! Blocks of bytes that all tenants share, over a host's SQL tables. Equal bytes are stored once, and nothing is
+//! assumed of the digest function: where digests are equal, the bytes are compared.
+#![tactic(auto)]
+
+pub mod blocks;
+pub mod digester;
+pub mod removal;
+mod rows;

@@ -1,0 +1,69 @@
+ghost use Rattle.std.specs.Prelude.{◌≡◌, List, map, length, true, IfOk, IfErr, OnOk};
+ghost use Rattle.std.specs.List.{AllByRecursion};
+ghost use Rattle.sqlite_keyed.specs.Lists.{delete_where};
+ghost use Rattle.bh_tables.specs.Schema.{Octets};
+ghost use Rattle.bh_tables.specs.Typed.{BlockRow};
+ghost use Rattle.bh_tables.specs.Shown.{block_name, is_block, is_unreferenced, shown_name, unreferenced};
+ghost use Rattle.bh_view.specs.Blocks.{blocks_without, AreDigests};
+ghost use Rattle.bh_view.specs.Sound.{IsSound};
+ghost use Rattle.bh_view.specs.Becomes.{KeepsBodies};
+ghost use Rattle.bh_schema.specs.Connections.{IsClean, tables, InTransaction, StaysWithin, WasOpen, StaysOpen, Becomes, IsTrouble, IsTroubleIf};
+
+use crate::rows::{delete_block, read_name, unreferenced_rows};
+use sqlite::{Alter, Connection, Error, Row};
+
+/// Takes the block away that a row names.
+fn remove_named<S: Alter>(connection: &mut Connection<S>, row: &Row) -> Result<(), Error>
+    requires inside { InTransaction S.Store connection.old }
+    ensures within { StaysWithin S.Store connection.old connection.new }
+    ensures opens { OnOk result (StaysOpen S.Store connection.old connection.new) }
+    ensures inside { OnOk result (InTransaction S.Store connection.new) }
+    ensures removed { OnOk result ((b : BlockRow) → row.now ≡ shown_name b → Becomes S.Store connection.old connection.new
+        (λ rows. record rows { blocks = delete_where (is_block (block_name b)) rows.blocks })) }
+    ensures trouble { IfErr result (λ e. (b : BlockRow) → row.now ≡ shown_name b → IsTroubleIf S.Store connection.old connection.new
+        (is_unreferenced (tables S.Store connection.old).refs b ≡ true) e) }
+{
+    let name = read_name(row)?;
+    delete_block(connection, &name.digest, name.ord)?;
+    Ok(())
+}
+
+/// Takes the blocks away that rows name.
+fn remove_all<S: Alter>(connection: &mut Connection<S>, rows: &[Row]) -> Result<(), Error>
+    requires inside { InTransaction S.Store connection.old }
+    ensures within { StaysWithin S.Store connection.old connection.new }
+    ensures opens { OnOk result (StaysOpen S.Store connection.old connection.new) }
+    ensures removed { OnOk result ((gone : List BlockRow) → rows.now ≡ map shown_name gone
+        → Becomes S.Store connection.old connection.new (λ rows. record rows { blocks = blocks_without gone rows.blocks })) }
+    ensures trouble { IfErr result (λ e. (gone : List BlockRow) → rows.now ≡ map shown_name gone
+        → IsTroubleIf S.Store connection.old connection.new
+        (AllByRecursion (λ b. is_unreferenced (tables S.Store connection.old).refs b ≡ true) gone) e) }
+{
+    for row in rows {
+        remove_named(connection, row)?;
+    }
+    Ok(())
+}
+
+/// Takes the first blocks away, by digest and ordinal, that no reference names, at most `limit` of them, and tells
+/// how many. After an error the transaction is to be taken back.
+pub fn remove_unreferenced<S: Alter>(
+    connection: &mut Connection<S>,
+    limit: u32,
+) -> Result<usize, Error>
+    requires inside { InTransaction S.Store connection.old }
+    ensures within { StaysWithin S.Store connection.old connection.new }
+    ensures opens { OnOk result (WasOpen S.Store connection.old connection.new) }
+    ensures count { IfOk result (λ count. IsClean S.Store connection.new
+        → count ≡ length (unreferenced limit (tables S.Store connection.old).refs (tables S.Store connection.old).blocks)) }
+    ensures removed { OnOk result (Becomes S.Store connection.old connection.new
+        (λ rows. record rows { blocks = blocks_without (unreferenced limit rows.refs rows.blocks) rows.blocks })) }
+    ensures keeps { (digest : Octets → Octets) → OnOk result (IsClean S.Store connection.new
+        → IsSound (tables S.Store connection.old) → AreDigests digest (tables S.Store connection.old).blocks
+        → KeepsBodies digest (tables S.Store connection.old) (tables S.Store connection.new)) }
+    ensures trouble { IfErr result (IsTrouble S.Store connection.old connection.new) }
+{
+    let rows = unreferenced_rows(connection, u64::from(limit))?;
+    remove_all(connection, &rows)?;
+    Ok(rows.len())
+}

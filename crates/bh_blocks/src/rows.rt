@@ -1,0 +1,158 @@
+//! The SQL texts over blocks, one call for each, and what is read of their rows.
+
+ghost use Rattle.std.specs.Prelude.{◌≡◌, ◌++◌, ◌∷◌, [], ◌<◌, ◌^◌, true, false, None, map, filter, IfOk, IfErr, OnOk};
+ghost use Rattle.std.specs.List.{list_any};
+ghost use Rattle.sqlite_keyed.specs.Lists.{delete_where, sort_by};
+ghost use Rattle.bh_rows.specs.Means.{is_trouble};
+ghost use Rattle.bh_tables.specs.Typed.{BlockRow as Stored};
+ghost use Rattle.bh_tables.specs.Shown.{block_name, is_copy, is_block, is_use, has_digest, by_ord, shown_ord, shown_name, unreferenced};
+ghost use Rattle.bh_schema.specs.Connections.{IsClean, tables, InTransaction, StaysWithin, WasOpen, StaysOpen, ChangesNothing, Becomes, IsTrouble, IsTroubleIf};
+ghost use Rattle.bh_blocks.specs.Named.{stored_name};
+
+use bh_schema::rows::number::number;
+use sqlite::types::ToSql;
+use sqlite::{Alter, Connection, Error, ErrorCode, Row};
+
+/// What a row of blocks has of its name.
+#[derive(Drop)]
+pub struct StoredName {
+    pub digest: Vec<u8>,
+    pub ord: u64,
+}
+
+/// An ordinal that a column can hold.
+pub fn in_range(ord: u64) -> Result<u64, Error>
+    ensures same { IfOk result (λ n. n ≡ ord) }
+    ensures small { IfOk result (λ n. n < 2 ^ 63) }
+    ensures trouble { IfErr result (λ e. is_trouble e ≡ true) }
+{
+    if ord < 0x8000_0000_0000_0000 {
+        Ok(ord)
+    } else {
+        Err(Error::SqliteFailure(ErrorCode::TooBig))
+    }
+}
+
+pub fn read_ord(row: &Row) -> Result<u64, Error>
+    ensures read { IfOk result (λ ord. (b : Stored) → row.now ≡ shown_ord b → ord ≡ b.ord) }
+    ensures small { IfOk result (λ ord. ord < 2 ^ 63) }
+    ensures trouble { IfErr result (λ e. (b : Stored) → row.now ≡ shown_ord b → is_trouble e ≡ true) }
+{
+    let ord: u64 = row.get(0)?;
+    in_range(ord)
+}
+
+pub fn read_name(row: &Row) -> Result<StoredName, Error>
+    ensures read { IfOk result (λ name. (b : Stored) → row.now ≡ shown_name b → stored_name name ≡ block_name b) }
+    ensures small { IfOk result (λ name. name.ord < 2 ^ 63) }
+    ensures trouble { IfErr result (λ e. (b : Stored) → row.now ≡ shown_name b → is_trouble e ≡ true) }
+{
+    let ord: u64 = row.get(1)?;
+    Ok(StoredName {
+        digest: row.get(0)?,
+        ord: in_range(ord)?,
+    })
+}
+
+pub fn copy_rows<S: Alter>(
+    connection: &mut Connection<S>,
+    digest: &[u8],
+    bytes: &[u8],
+) -> Result<Vec<Row>, Error>
+    requires inside { InTransaction S.Store connection.old }
+    ensures within { StaysWithin S.Store connection.old connection.new }
+    ensures opens { OnOk result (WasOpen S.Store connection.old connection.new) }
+    ensures same { OnOk result (ChangesNothing S.Store connection.old connection.new) }
+    ensures rows { IfOk result (λ rows. IsClean S.Store connection.new
+        → rows.items ≡ map shown_ord (filter (is_copy digest.now bytes.now) (tables S.Store connection.old).blocks)) }
+    ensures trouble { IfErr result (IsTrouble S.Store connection.old connection.new) }
+{
+    connection.query_all(
+        "SELECT ord FROM blocks WHERE digest = ?1 AND bytes = ?2 ORDER BY rowid",
+        &[digest.to_sql(), bytes.to_sql()],
+    )
+}
+
+pub fn ord_rows<S: Alter>(
+    connection: &mut Connection<S>,
+    digest: &[u8],
+) -> Result<Vec<Row>, Error>
+    requires inside { InTransaction S.Store connection.old }
+    ensures within { StaysWithin S.Store connection.old connection.new }
+    ensures opens { OnOk result (WasOpen S.Store connection.old connection.new) }
+    ensures same { OnOk result (ChangesNothing S.Store connection.old connection.new) }
+    ensures rows { IfOk result (λ rows. IsClean S.Store connection.new
+        → rows.items ≡ map shown_ord (sort_by by_ord (filter (has_digest digest.now) (tables S.Store connection.old).blocks))) }
+    ensures trouble { IfErr result (IsTrouble S.Store connection.old connection.new) }
+{
+    connection.query_all(
+        "SELECT ord FROM blocks WHERE digest = ?1 ORDER BY ord, rowid",
+        &[digest.to_sql()],
+    )
+}
+
+pub fn unreferenced_rows<S: Alter>(
+    connection: &mut Connection<S>,
+    limit: u64,
+) -> Result<Vec<Row>, Error>
+    requires inside { InTransaction S.Store connection.old }
+    requires small { limit < 2 ^ 63 }
+    ensures within { StaysWithin S.Store connection.old connection.new }
+    ensures opens { OnOk result (WasOpen S.Store connection.old connection.new) }
+    ensures same { OnOk result (ChangesNothing S.Store connection.old connection.new) }
+    ensures rows { IfOk result (λ rows. IsClean S.Store connection.new
+        → rows.items ≡ map shown_name (unreferenced limit (tables S.Store connection.old).refs (tables S.Store connection.old).blocks)) }
+    ensures trouble { IfErr result (IsTrouble S.Store connection.old connection.new) }
+{
+    connection.query_all(
+        "SELECT digest, ord FROM blocks WHERE NOT EXISTS (SELECT 1 FROM refs WHERE refs.digest = blocks.digest AND refs.ord = blocks.ord) ORDER BY digest, ord, rowid LIMIT ?1",
+        &[number(limit)],
+    )
+}
+
+/// Adds a block.
+pub fn insert_block<S: Alter>(
+    connection: &mut Connection<S>,
+    digest: &[u8],
+    ord: u64,
+    bytes: &[u8],
+) -> Result<usize, Error>
+    requires inside { InTransaction S.Store connection.old }
+    requires small { ord < 2 ^ 63 }
+    ensures within { StaysWithin S.Store connection.old connection.new }
+    ensures opens { OnOk result (StaysOpen S.Store connection.old connection.new) }
+    ensures holds { OnOk result (Becomes S.Store connection.old connection.new
+        (λ rows. record rows { blocks = rows.blocks ++ record { digest = digest.now; ord = ord; bytes = bytes.now } ∷ [] })) }
+    ensures trouble { IfErr result (IsTroubleIf S.Store connection.old connection.new
+        (list_any (is_block (digest.now, ord)) (tables S.Store connection.old).blocks ≡ false)) }
+{
+    // Asked for what it ensures: the rows obey the schema.
+    let _schema = connection.schema();
+    connection.execute(
+        "INSERT INTO blocks (digest, ord, bytes) VALUES (?1, ?2, ?3)",
+        &[digest.to_sql(), number(ord), bytes.to_sql()],
+    )
+}
+
+/// Takes a block away. A block that a reference names is refused.
+pub fn delete_block<S: Alter>(
+    connection: &mut Connection<S>,
+    digest: &[u8],
+    ord: u64,
+) -> Result<usize, Error>
+    requires inside { InTransaction S.Store connection.old }
+    requires small { ord < 2 ^ 63 }
+    ensures within { StaysWithin S.Store connection.old connection.new }
+    ensures opens { OnOk result (StaysOpen S.Store connection.old connection.new) }
+    ensures holds { OnOk result (Becomes S.Store connection.old connection.new
+        (λ rows. record rows { blocks = delete_where (is_block (digest.now, ord)) rows.blocks })) }
+    ensures trouble { IfErr result (IsTroubleIf S.Store connection.old connection.new
+        (list_any (is_use (digest.now, ord)) (tables S.Store connection.old).refs ≡ false)) }
+{
+    // Asked for what it ensures: the rows obey the schema.
+    let _schema = connection.schema();
+    connection.execute(
+        "DELETE FROM blocks WHERE digest = ?1 AND ord = ?2",
+        &[digest.to_sql(), number(ord)],
+    )
+}

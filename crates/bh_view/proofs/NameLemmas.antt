@@ -1,0 +1,78 @@
+-- Names of blocks and of bodies as keys, and lists that the lemmas on blocks need.
+use Rattle.std.proofs.Common.{◌≡◌, Bool, true, false, cond, List, [], ◌∷◌, ◌++◌, filter, flat_map, refl, sym, ap, ap₂, ◌∙◌, Ordering, Less, Equal, Greater, is_gt, Decides, None, nat_cmp}
+use Rattle.std.specs.List.{AllByRecursion}
+use Rattle.std.specs.Ordering.{ordering_then}
+use Rattle.std.specs.Cmp.Derive.{both_true}
+use Rattle.std.proofs.lemmas.Bool.{and_parts}
+use Rattle.std.proofs.lemmas.Cmp.{on_total, then_total}
+use Rattle.sqlite_keyed.specs.Lists.{insert_sorted, sort_by}
+use Rattle.bh_model.specs.State.{octets_cmp}
+use Rattle.bh_view.specs.Grouped.{IsKey, first, matching, Refers}
+use Rattle.bh_view.proofs.FilterLemmas.{none_some}
+use Rattle.bh_view.proofs.GroupedLemmas.{is_itself}
+use Rattle.bh_view.proofs.Keys.{octets, numbers}
+use Rattle.bh_tables.specs.Shown.{Name, same_name}
+
+-- ---- names
+
+pub name_Decides : (x y : Name) → Decides (same_name x y) (x ≡ y)
+name_Decides x y = (
+  λ h. let p = and_parts _ _ h in λ i. ((octets.decides x.0 y.0).0 p.0 i, (numbers.decides x.1 y.1).0 p.1 i),
+  λ e. both_true ((octets.decides x.0 y.0).1 (ap (λ (n : Name). n.0) e)) ((numbers.decides x.1 y.1).1 (ap (λ (n : Name). n.1) e)),
+)
+
+abbrev pub name_cmp : Name → Name → Ordering
+name_cmp a b = ordering_then (octets_cmp a.0 b.0) (nat_cmp a.1 b.1)
+
+both_equal : (a b : Ordering) → ordering_then a b ≡ Equal → (a ≡ Equal) × (b ≡ Equal)
+both_equal Less b h = absurd (cc)
+both_equal Equal b h = (refl, h)
+both_equal Greater b h = absurd (cc)
+
+pub names : IsKey name_cmp same_name
+names = record {
+  total = then_total (on_total (λ (n : Name). n.0) octets.total) (on_total (λ (n : Name). n.1) numbers.total);
+  same = λ x y h. let p = both_equal _ _ h in λ i. (octets.same x.0 y.0 p.0 i, numbers.same x.1 y.1 p.1 i);
+  decides = name_Decides;
+}
+
+-- ---- lists
+
+pub flat_map_agree : {A B : Type 0} (f g : A → List B) (xs : List A) → AllByRecursion (λ x. f x ≡ g x) xs → flat_map f xs ≡ flat_map g xs
+flat_map_agree f g [] all = refl
+flat_map_agree f g (x ∷ xs) all = ap₂ ◌++◌ all.0 (flat_map_agree f g xs all.1)
+
+module _ {X : Type 0} (p : X → Bool) where
+  pub none_pass : (xs : List X) → filter p xs ≡ [] → AllByRecursion (λ x. p x ≡ false) xs
+  none_pass [] h = tt
+  none_pass (x ∷ xs) h =
+      elim (p x) as (λ b. p x ≡ b → cond b (x ∷ filter p xs) (filter p xs) ≡ [] → AllByRecursion (λ x. p x ≡ false) (x ∷ xs)) [
+        | true ↦ λ e some. absurd (none_some (sym (ap first some)))
+        | false ↦ λ e rest. (e, none_pass xs rest)
+      ] refl h
+
+module _ {X : Type 0} (cmp : X → X → Ordering) where
+  all-uninserted : (P : X → Type 0) (new : X) (xs : List X) → AllByRecursion P (insert_sorted cmp new xs) → P new × AllByRecursion P xs
+  all-uninserted P new [] all = (all.0, tt)
+  all-uninserted P new (x ∷ xs) all = elim (is_gt (cmp new x)) as (λ b. AllByRecursion P (cond b (x ∷ insert_sorted cmp new xs) (new ∷ x ∷ xs)) → P new × AllByRecursion P (x ∷ xs)) [
+    | true ↦ λ all. let rest = all-uninserted P new xs all.1 in (rest.0, (all.0, rest.1))
+    | false ↦ λ all. (all.0, all.1)
+  ] all
+
+  pub all-unsorted : (P : X → Type 0) (xs : List X) → AllByRecursion P (sort_by cmp xs) → AllByRecursion P xs
+  all-unsorted P [] all = tt
+  all-unsorted P (x ∷ xs) all = let rest = all-uninserted P x (sort_by cmp xs) all in (rest.0, all-unsorted P xs rest.1)
+
+-- ---- references
+
+-- each child names a parent
+pub refers_each : {K T U : Type 0} {R : K → K → Ordering} {is : K → K → Bool} (k : IsKey R is) (key : T → K) (parents : List T) (child : U → K) (children : List U) → Refers is key parents child children
+    → AllByRecursion (λ c. first (matching is key (child c) parents) ≡ None → ⊥) children
+refers_each k key parents child [] refers = tt
+refers_each {is = is} k key parents child (c ∷ cs) refers = (
+  λ none. none_some (sym (ap (λ b. first (cond b (c ∷ matching is child (child c) cs) (matching is child (child c) cs))) (sym (is_itself k (child c))) ∙ ap first (refers (child c) none))),
+  refers_each k key parents child cs (λ q none. elim (is (child c) q) as (λ b. cond b (c ∷ matching is child q cs) (matching is child q cs) ≡ [] → matching is child q cs ≡ []) [
+    | true ↦ λ some. absurd (none_some (sym (ap first some)))
+    | false ↦ λ h. h
+  ] (refers q none)),
+)
