@@ -1,4 +1,3 @@
 pub mod Digits
-pub mod IdLemmas
 pub mod Refused
 pub mod Texts

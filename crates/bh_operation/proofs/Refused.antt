@@ -9,6 +9,7 @@ use Rattle.bh_types.specs.declared.wanted.Wanted.TheVariants.{Current}
 use Rattle.bh_types.specs.declared.refusal.Refusal.{Refusal}
 use Rattle.bh_types.specs.declared.refusal.Refusal.TheVariants.{AccessDenied, InvalidBucketName, KeyTooLong, InvalidArgument, NotImplemented}
 use Rattle.bh_http.specs.Fields.{Occurrence, Missing, Once, Repeated, field_named}
+use Rattle.bh_types.specs.Ids.{upload_of}
 use Rattle.bh_types.specs.Digits.{is_number}
 use Rattle.bh_operation.specs.Actions.{method_of, bucket_action, object_action}
 use Rattle.bh_operation.specs.Addresses.{is_colon, own_part, bucket_name, object_key, bucket_named, object_named}
@@ -16,7 +17,7 @@ use Rattle.bh_operation.specs.Headers.{has_lock_field, supported, at_most_once, 
 use Rattle.bh_types.specs.Tokens as tokens
 use Rattle.hex.specs.Hex.{decode_of}
 use Rattle.hex.specs.declared.error.FromHexError.{FromHexError}
-use Rattle.bh_operation.specs.Numbers.{or_invalid_argument, short_number, page_size, part_marker, part_number, upload_of}
+use Rattle.bh_operation.specs.Numbers.{or_invalid_argument, short_number, page_size, part_marker, part_number}
 use Rattle.bh_operation.specs.Operations.{Octets, Fields, at_name, host_operation, list_objects, list_versions, list_uploads, bucket_operation, put_object, copy_object, upload_part, list_parts, object_operation, operation_at, operation}
 use Rattle.bh_operation.specs.Pages.{page_in, key_page, upload_page, part_page, is_second, second_version, token_from, token_of, version_marker_from, version_marker, upload_marker_from, upload_marker}
 use Rattle.bh_operation.specs.Queries.{value_of, is_given, is_unsupported, is_repeated, parameters_of, given_once, parameters_in, count_selectors, selected}

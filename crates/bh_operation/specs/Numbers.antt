@@ -1,13 +1,9 @@
 -- The numbers and ids that parameters give.
-use Rattle.std.specs.Prelude.{ℕ, ◌^◌, ◌&&◌, min, nat_le, nat_lt, List, length, codes, Option, Some, None, option_map, option_and_then, if◌then◌else◌, Result, Ok, Err}
-use Rattle.std.specs.Int.{w64, from_be_bytes}
-use Rattle.std.specs.Str.{bytes_eq}
+use Rattle.std.specs.Prelude.{ℕ, ◌^◌, ◌&&◌, min, nat_le, nat_lt, List, length, Option, Some, None, if◌then◌else◌, Result, Ok, Err}
 use Rattle.std.specs.Str.Parse.{digits_value}
-use Rattle.hex.specs.Hex.{decode_sized, decode_of}
-use Rattle.bh_types.specs.Ids.{number_text}
+use Rattle.bh_types.specs.Ids.{version_of}
 use Rattle.bh_types.specs.Digits.{is_number}
 use Rattle.bh_types.specs.Outcomes.{◌>>=◌}
-use Rattle.bh_types.specs.declared.id.UploadId.{UploadId}
 use Rattle.bh_types.specs.declared.id.VersionId.{VersionId}
 use Rattle.bh_types.specs.declared.id.VersionId.TheVariants.{Null, Numbered}
 use Rattle.bh_types.specs.declared.wanted.Wanted.{Wanted}
@@ -46,23 +42,6 @@ part_number (Some text) =
     if is_number text && nat_le 1 (digits_value 10 text) && nat_le (digits_value 10 text) 10000
     then Ok (digits_value 10 text)
     else Err InvalidArgument
-
-abbrev pub ok_of : {A E : Type 0} → Result A E → Option A
-ok_of (Ok x) = Some x
-ok_of (Err e) = None
-
--- the number whose text this is, if it is one's: 16 lower hexadecimal digits
-abbrev pub if_text_of : List ℕ → ℕ → Option ℕ
-if_text_of text n = if bytes_eq (number_text n) text then Some n else None
-
-abbrev pub number_written : List ℕ → Option ℕ
-number_written text = option_and_then (λ bytes. if_text_of text (from_be_bytes w64 bytes)) (ok_of (decode_sized text 8))
-
-abbrev pub upload_of : List ℕ → Option UploadId
-upload_of text = option_map (λ n. record { number = n }) (number_written text)
-
-abbrev pub version_of : List ℕ → Option VersionId
-version_of text = if bytes_eq text (codes "null") then Some Null else option_map Numbered (number_written text)
 
 -- the version that an id speaks of; the numbers of versions begin at 1 and are below 2^63
 abbrev pub named_version : Option VersionId → Wanted

@@ -1,6 +1,7 @@
 -- The operation that a request asks for, or its first refusal.
 use Rattle.std.specs.Prelude.{ℕ, List, codes, Option, Some, None, option_and_then, Result, Ok, Err}
 use Rattle.bh_types.specs.Outcomes.{◌>>=◌}
+use Rattle.bh_types.specs.Ids.{upload_of}
 use Rattle.bh_types.specs.declared.id.UploadId.{UploadId}
 use Rattle.bh_types.specs.declared.wanted.Wanted.{Wanted}
 use Rattle.bh_types.specs.declared.refusal.Refusal.{Refusal}
@@ -9,7 +10,7 @@ use Rattle.bh_http.specs.Views.{Taken}
 use Rattle.bh_operation.specs.Actions.{method_of, bucket_action, object_action}
 use Rattle.bh_operation.specs.Addresses.{bucket_named, object_named}
 use Rattle.bh_operation.specs.Headers.{supported, checksum_in, copy_source, range_in, stands}
-use Rattle.bh_operation.specs.Numbers.{part_number, upload_of, wanted}
+use Rattle.bh_operation.specs.Numbers.{part_number, wanted}
 use Rattle.bh_operation.specs.Pages.{key_page, part_page, upload_page, second_version, token_of, version_marker, upload_marker}
 use Rattle.bh_operation.specs.Queries.{parameters_in, selected, value_of, is_given}
 use Rattle.bh_operation.specs.Sources.{source_in}

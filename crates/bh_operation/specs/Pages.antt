@@ -1,11 +1,12 @@
 -- Which page of a listing the parameters ask for.
 use Rattle.std.specs.Prelude.{ℕ, Bool, false, List, [], codes, Option, Some, None, unwrap_or, if◌then◌else◌, Result, Ok, Err}
 use Rattle.std.specs.Str.{bytes_eq}
+use Rattle.bh_types.specs.Ids.{upload_of}
 use Rattle.bh_types.specs.Outcomes.{◌>>=◌}
 use Rattle.bh_types.specs.declared.refusal.Refusal.{Refusal}
 use Rattle.bh_types.specs.declared.refusal.Refusal.TheVariants.{InvalidArgument}
 use Rattle.bh_types.specs.Tokens as tokens
-use Rattle.bh_operation.specs.Numbers.{or_invalid_argument, page_size, part_marker, upload_of, wanted}
+use Rattle.bh_operation.specs.Numbers.{or_invalid_argument, page_size, part_marker, wanted}
 use Rattle.bh_operation.specs.Queries.{value_of}
 use Rattle.bh_operation.specs.declared.page.Page.{Page}
 use Rattle.bh_operation.specs.declared.page.PartPage.{PartPage}

@@ -7,7 +7,7 @@ ghost use Rattle.bh_operation.specs.Numbers as spec;
 use crate::text::Bytes;
 use bh_types::digits::{is_number, number_of};
 use bh_types::error::RequestError;
-use bh_types::id::{UploadId, VersionId};
+use bh_types::id::VersionId;
 use bh_types::refusal::Refusal;
 use bh_types::token::read_token;
 use bh_types::wanted::Wanted;
@@ -80,19 +80,6 @@ pub fn token_in(alloc: Global, text: &str) -> Result<Bytes, RequestError>
     Ok(Bytes::new(read_token(alloc, text)?))
 }
 
-/// The upload that a text is the id of, if it is an id.
-pub fn upload_of(text: &str) -> Option<UploadId>
-    ensures { result ≡ spec.upload_of text.now }
-{
-    UploadId::read(text)
-}
-
-fn version_of(text: &str) -> Option<VersionId>
-    ensures { result ≡ spec.version_of text.now }
-{
-    VersionId::read(text)
-}
-
 /// The version that a request speaks of by the text of an id, or by none. No version has a number that is 0, or
 /// is 2^63 or more.
 #[tactic(auto, unfolding(crate::specs::Numbers::wanted))]
@@ -102,7 +89,7 @@ pub fn wanted(text: Option<&str>) -> Wanted
     let Some(text) = text else {
         return Wanted::Current;
     };
-    match version_of(text) {
+    match VersionId::read(text) {
         Some(VersionId::Numbered(n)) if n == 0 || n >= 1 << 63 => Wanted::Unknown,
         Some(id) => Wanted::Named(id),
         None => Wanted::Unknown,

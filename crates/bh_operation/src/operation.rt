@@ -6,7 +6,7 @@ ghost use Rattle.bh_operation.specs.Operations as spec;
 use crate::action::{BucketAction, Method, ObjectAction, bucket_action, method_of, object_action};
 use crate::address::{ObjectName, bucket_named, object_named};
 use crate::headers::{checksum_in, copy_source, range_in, stands, supported};
-use crate::number::{part_number, upload_of, wanted};
+use crate::number::{part_number, wanted};
 use crate::page::{
     Page, PartPage, UploadMarker, VersionMarker, page_in, part_page, second_version, token_of,
     upload_marker, upload_page, version_marker,
@@ -144,7 +144,7 @@ fn version_in(parameters: &[Parameter]) -> Wanted
 fn upload_in(parameters: &[Parameter]) -> Option<UploadId>
     ensures { result ≡ spec.upload_in parameters.now }
 {
-    value_of("uploadId", parameters).and_then(upload_of)
+    value_of("uploadId", parameters).and_then(UploadId::read)
 }
 
 /// The operation of a method and a selector on the host itself.

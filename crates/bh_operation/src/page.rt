@@ -2,7 +2,7 @@ ghost use Rattle.std.specs.Prelude.{◌≡◌, IfOk};
 ghost use Rattle.bh_types.specs.Outcomes.{Gives};
 ghost use Rattle.bh_operation.specs.Pages as spec;
 
-use crate::number::{page_size, part_marker, token_in, upload_of, wanted};
+use crate::number::{page_size, part_marker, token_in, wanted};
 use crate::query::{Parameter, value_of};
 use crate::text::{Bytes, Text};
 use bh_types::error::RequestError;
@@ -153,7 +153,7 @@ pub(crate) fn upload_marker(
     };
     let upload = match value_of("upload-id-marker", parameters) {
         None => None,
-        Some(id) => Some(upload_of(id).ok_or(Refusal::InvalidArgument)?),
+        Some(id) => Some(UploadId::read(id).ok_or(Refusal::InvalidArgument)?),
     };
     Ok(Some(UploadMarker {
         key: Text::copy_of(alloc, key)?,

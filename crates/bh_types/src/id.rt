@@ -1,6 +1,6 @@
 ghost use Rattle.std.specs.Prelude.{◌≡◌, ℕ, ◌^◌, ◌<◌, ◌≢◌, ◌↔◌, List, IsTrue, IfOk, IfSome, IfNone};
 ghost use Rattle.std.specs.String.{string_bytes};
-ghost use Rattle.bh_types.specs.Ids.{number_text, version_text, upload_text};
+ghost use Rattle.bh_types.specs.Ids.{number_text, number_of, version_text, version_of, upload_text, upload_of};
 ghost use Rattle.bh_types.specs.declared.id.VersionId.{VersionId as Version};
 ghost use Rattle.bh_types.specs.declared.id.UploadId.{UploadId as Upload};
 
@@ -27,6 +27,7 @@ pub struct UploadId {
 impl VersionId {
     /// The id that a text is, or `None` where it is none. Takes no memory.
     pub fn read(text: &str) -> Option<VersionId>
+        ensures is { result ≡ version_of text.now }
         ensures value { IfSome result (λ id. version_text id ≡ text.now) }
         ensures none { IfNone result ((id : Version) → text.now ≢ version_text id) }
     {
@@ -53,6 +54,7 @@ impl VersionId {
 impl UploadId {
     /// The id that a text is, or `None` where it is none. Takes no memory.
     pub fn read(text: &str) -> Option<UploadId>
+        ensures is { result ≡ upload_of text.now }
         ensures value { IfSome result (λ id. upload_text id ≡ text.now) }
         ensures none { IfNone result ((id : Upload) → text.now ≢ upload_text id) }
     {
@@ -72,6 +74,7 @@ impl UploadId {
 
 /// The number that 16 lower hexadecimal digits are, or `None` where the text is not that.
 fn read_number(text: &str) -> Option<u64>
+    ensures is { result ≡ number_of text.now }
     ensures value { IfSome result (λ n. number_text n ≡ text.now) }
     ensures none { IfNone result ((n : ℕ) → text.now ≢ number_text n) }
 {
