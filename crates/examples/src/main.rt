@@ -4,8 +4,10 @@
 mod answer;
 mod checksums;
 mod command_line;
+mod connections;
 mod decisions;
 mod documents;
+mod ends;
 mod entries;
 mod escapes;
 mod exhausted;
@@ -20,10 +22,12 @@ mod responses;
 mod retried;
 mod scripts;
 mod shown;
+mod sockets;
 mod table;
 mod timed;
 mod words;
 
+use std::net::{Net, TcpListener, TcpStream};
 use std::process::ExitCode;
 use std::rt::Runtime;
 use std::{env, io};
@@ -32,6 +36,9 @@ const USAGE: &str = "usage: examples WORD..
 
   tables NAME..     compares each row of tables/NAME.txt: a call, its input and what it is to give
   scripts NAME..    compares the answers to the events of scripts/NAME.in with scripts/NAME.out
+  connections NAME..  the same, but the operator's commands come first, and then the requests over connections in
+                    memory, each cut as its line of scripts/NAME.cuts says, where there is such a file
+  sockets NAME..    the same as scripts, but the requests come over sockets of 127.0.0.1
   exhausted         compares the answers of a tenant whose entries have no number left, likewise
   retried           answers the script of standard input, asking an event that found no memory once more
   help              prints this
@@ -45,23 +52,36 @@ Tables and scripts lie below the folder in which it runs.
 enum Kind {
     Table,
     Script,
+    Connections,
+    Sockets,
 }
 
-fn check(rt: &(impl Runtime + AllocGlobal), kind: Kind, name: &str) -> io::Result<bool> {
+fn check<R: Runtime + Net<Stream = TcpStream, Listener = TcpListener> + AllocGlobal>(
+    rt: &R,
+    kind: Kind,
+    name: &str,
+) -> io::Result<bool> {
     match kind {
         Kind::Table => table::check_table(rt, name),
         Kind::Script => scripts::check_script(rt, name),
+        Kind::Connections => connections::check(rt, name),
+        Kind::Sockets => sockets::check(rt, name),
     }
 }
 
 /// Does what the words say, one after another, and tells whether all was as expected.
-fn run(rt: &(impl Runtime + AllocGlobal), words: &[String]) -> io::Result<bool> {
+fn run<R: Runtime + Net<Stream = TcpStream, Listener = TcpListener> + AllocGlobal>(
+    rt: &R,
+    words: &[String],
+) -> io::Result<bool> {
     let mut kind = Kind::Table;
     let mut is_well = true;
     for word in words {
         match word.as_str() {
             "tables" => kind = Kind::Table,
             "scripts" => kind = Kind::Script,
+            "connections" => kind = Kind::Connections,
+            "sockets" => kind = Kind::Sockets,
             "help" => print!(rt; "{USAGE}")?,
             "exhausted" => is_well = exhausted::check(rt)? && is_well,
             "retried" => is_well = retried::retry(rt)? && is_well,

@@ -1,0 +1,147 @@
+//! Stored scripts whose requests come over connections in memory.
+
+ghost use Rattle.std.specs.Prelude.{All, IfOk};
+ghost use Rattle.bh_storage.specs.Calls.{Clean, IsAtRest};
+ghost use Rattle.bh_connection.specs.Each.{IsGoing};
+
+use crate::ends::{Last, Narrow, cut_of, reader};
+use bh_connection::{Arrival, End, Served, serve_each};
+use bh_create::create;
+use bh_dispatch::storage::HostStorage;
+use bh_event::event::Event;
+use bh_host::apply;
+use bh_link::link::Link;
+use bh_script::digester::Sha256Digester;
+use bh_script::input::read_script;
+use bh_storage::storage::Storage;
+use bh_types::limits::{Limits, Tuning};
+use sqlite::Connection;
+use std::alloc::{AllocError, Global};
+use std::io::{Chain, ErrorKind, Write};
+use std::rt::Files;
+use std::{fs, io};
+
+type Request<'a> = Arrival<Chain<&'a [u8], Last>, Narrow>;
+
+/// The connection that brings an event, if it is a request.
+fn request<'a>(alloc: Global, event: &'a Event, cut: &str) -> Option<Request<'a>>
+    ensures { IfSome result IsGoing }
+{
+    let cut = cut_of(cut);
+    match event {
+        Event::Http { reading, bytes } => Some(Arrival {
+            reading: *reading,
+            reader: Link::new(reader(bytes.as_slice(), cut.reads)),
+            writer: Link::new(Narrow::new(alloc, cut.writes)),
+        }),
+        Event::Operator { .. } => None,
+    }
+}
+
+/// The connections that bring the requests of a script, each cut as its line says.
+fn requests<'a>(
+    alloc: Global,
+    events: &'a [Event],
+    cuts: &str,
+) -> Result<Vec<Request<'a>>, AllocError>
+    ensures { IfOk result (λ arrivals. All IsGoing arrivals.items) }
+{
+    let mut arrivals = Vec::new(alloc);
+    let mut lines = cuts.lines();
+    for event in events {
+        if let Some(arrival) = request(alloc, event, lines.next().unwrap_or("")) {
+            arrivals.push(arrival)?;
+        }
+    }
+    Ok(arrivals)
+}
+
+/// What an operator's commands are answered, a line's end after each.
+fn order<H: Storage>(
+    alloc: Global,
+    host: &mut H,
+    events: &[Event],
+    text: &mut Vec<u8>,
+) -> Result<(), AllocError>
+    requires { Clean H.IsIntact H.IsOpen host.old → IsAtRest (H.seen host.old) }
+    ensures { Clean H.IsIntact H.IsOpen host.new → IsAtRest (H.seen host.new) }
+{
+    for event in events {
+        if let Event::Operator { .. } = event {
+            let told = apply(alloc, host, event);
+            text.extend_from_slice(told.reply.bytes())?;
+            text.push(b'\n')?;
+        }
+    }
+    Ok(())
+}
+
+/// The bytes that went out, how the connection ended where it was cut off, and how many bytes stayed unread.
+fn tell(alloc: Global, served: Served, arrival: Request<'_>, text: &mut Vec<u8>) -> io::Result<()> {
+    let unread = arrival.reader.into_inner().into_inner().0.len();
+    text.extend_from_slice(arrival.writer.into_inner().held.as_slice())?;
+    if served.ended != End::Whole {
+        text.write_all(format!(in alloc; "[{:?}, {} sent]", served.ended, served.sent)?.as_bytes())?;
+    }
+    if unread > 0 {
+        text.write_all(format!(in alloc; "[{unread} unread]")?.as_bytes())?;
+    }
+    text.push(b'\n')?;
+    Ok(())
+}
+
+/// What a script is answered whose operator's commands come first, and its requests over connections.
+fn answers<H: Storage>(
+    alloc: Global,
+    host: &mut H,
+    events: &[Event],
+    cuts: &str,
+) -> io::Result<Vec<u8>>
+    requires { Clean H.IsIntact H.IsOpen host.old → IsAtRest (H.seen host.old) }
+{
+    let mut text = Vec::new(alloc);
+    order(alloc, host, events, &mut text)?;
+    let mut arrivals = requests(alloc, events, cuts)?;
+    let serveds = serve_each(alloc, host, arrivals.as_mut_slice())?;
+    for (served, arrival) in serveds.into_iter().zip(arrivals) {
+        tell(alloc, served, arrival, &mut text)?;
+    }
+    Ok(text)
+}
+
+/// A file of the scripts, or nothing where it isn't there.
+fn stored(rt: &(impl Files + AllocGlobal), name: &str, ending: &str) -> io::Result<String> {
+    match fs::read_to_string(rt, format!(in rt.alloc(); "scripts/{name}{ending}")?) {
+        Err(e) if e.kind() == ErrorKind::NotFound => Ok(String::new(rt.alloc())),
+        found => found,
+    }
+}
+
+fn answered(alloc: Global, events: &[Event], cuts: &str) -> io::Result<Vec<u8>> {
+    let connection = Connection::open_in_memory(alloc)?;
+    match create(
+        connection,
+        Sha256Digester,
+        Limits::default(),
+        Tuning::default(),
+    ) {
+        Ok(host) => answers(alloc, &mut HostStorage { host }, events, cuts),
+        Err(_) => Ok(Vec::new(alloc)),
+    }
+}
+
+/// Whether a stored script whose requests come over connections is answered with what is expected, byte for byte.
+pub fn check(rt: &(impl Files + Print + AllocGlobal), name: &str) -> io::Result<bool> {
+    let script = stored(rt, name, ".in")?;
+    let cuts = stored(rt, name, ".cuts")?;
+    let expected = stored(rt, name, ".out")?;
+    let events = read_script(rt.alloc(), script.as_bytes())?.events;
+    let text = answered(rt.alloc(), events.as_slice(), cuts.as_str())?;
+    if text.as_slice() == expected.as_bytes() {
+        println!(rt; "{name} over connections: as expected")?;
+        return Ok(true);
+    }
+    println!(rt; "{name} over connections: other bytes")?;
+    io::writer(rt).write_all(text.as_slice())?;
+    Ok(false)
+}
