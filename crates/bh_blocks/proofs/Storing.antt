@@ -27,7 +27,7 @@ module _ (digest : Octets → Octets) (c : Octets) (old : Tables) where
 
   -- a row that holds the bytes was found
   pub copy_there : (found : Octets) → found ≡ digest c → (n : ℕ) → Some n ≡ option_map (λ (b : BlockRow). b.ord) (copy_in found c old.blocks)
-      → ((found, n) ≡ (digest c, ord_for (digest c) c old.blocks)) × (old ≡ record old { blocks = blocks_with (digest c) c old.blocks })
+      → (◌≡◌ {A = Name} (found, n) (digest c, ord_for (digest c) c old.blocks)) × (old ≡ record old { blocks = blocks_with (digest c) c old.blocks })
   copy_there found e n some = let it = go (copy_in (digest c) c old.blocks) (some ∙ ap (λ d. option_map (λ (b : BlockRow). b.ord) (copy_in d c old.blocks)) e) in ((λ i. (e i, it.0 i)), it.1)
     where
       go : (o : Option BlockRow) → Some n ≡ option_map (λ (b : BlockRow). b.ord) o
@@ -37,7 +37,7 @@ module _ (digest : Octets → Octets) (c : Octets) (old : Tables) where
 
   -- no row does
   pub copy_missing : (found : Octets) → found ≡ digest c → (mid : Tables) → mid ≡ old → None ≡ option_map (λ (b : BlockRow). b.ord) (copy_in found c old.blocks)
-      → ((found, free_ord found mid.blocks) ≡ (digest c, ord_for (digest c) c old.blocks))
+      → (◌≡◌ {A = Name} (found, free_ord found mid.blocks) (digest c, ord_for (digest c) c old.blocks))
       × (record mid { blocks = mid.blocks ++ record { digest = found; ord = free_ord found mid.blocks; bytes = c } ∷ [] } ≡ record old { blocks = blocks_with (digest c) c old.blocks })
   copy_missing found e mid same none =
       let it = go (copy_in (digest c) c old.blocks) (none ∙ ap (λ d. option_map (λ (b : BlockRow). b.ord) (copy_in d c old.blocks)) e) in (
