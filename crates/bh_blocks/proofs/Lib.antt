@@ -1,1 +1,3 @@
 pub mod Loops
+pub mod Storing
+pub mod Removing

@@ -1,4 +1,4 @@
-ghost use Rattle.std.specs.Prelude.{◌≡◌, ◌++◌, ◌∷◌, [], ◌<◌, ◌^◌, List, None, Some, true, map, option_map, IfOk, IfErr, OnOk};
+ghost use Rattle.std.specs.Prelude.{◌≡◌, ◌++◌, ◌∷◌, [], ◌<◌, ◌^◌, List, None, Some, true, map, option_map, IfSome, IfOk, IfErr, OnOk};
 ghost use Rattle.bh_rows.specs.Means.{is_trouble};
 ghost use Rattle.bh_tables.specs.Typed.{BlockRow};
 ghost use Rattle.bh_tables.specs.Shown.{shown_ord};
@@ -33,6 +33,7 @@ fn find_copy<S: Alter>(
     ensures same { OnOk result (ChangesNothing S.Store connection.old connection.new) }
     ensures found { IfOk result (λ found. IsClean S.Store connection.new
         → found ≡ option_map (λ (b : BlockRow). b.ord) (copy_in digest.now bytes.now (tables S.Store connection.old).blocks)) }
+    ensures small { IfOk result (λ found. IfSome found (λ ord. ord < 2 ^ 63)) }
     ensures trouble { IfErr result (IsTrouble S.Store connection.old connection.new) }
 {
     let rows = copy_rows(connection, digest, bytes)?;

@@ -7,7 +7,7 @@ ghost use Rattle.bh_tables.specs.Shown.{block_name, is_block, is_unreferenced, s
 ghost use Rattle.bh_view.specs.Blocks.{blocks_without, AreDigests};
 ghost use Rattle.bh_view.specs.Sound.{IsSound};
 ghost use Rattle.bh_view.specs.Becomes.{KeepsBodies};
-ghost use Rattle.bh_schema.specs.Connections.{IsClean, tables, InTransaction, StaysWithin, WasOpen, StaysOpen, Becomes, IsTrouble, IsTroubleIf};
+ghost use Rattle.bh_schema.specs.Connections.{IsOpen, IsClean, tables, InTransaction, StaysWithin, WasOpen, StaysOpen, Becomes, IsTrouble, IsTroubleIf};
 
 use crate::rows::{delete_block, read_name, unreferenced_rows};
 use sqlite::{Alter, Connection, Error, Row};
@@ -37,7 +37,7 @@ fn remove_all<S: Alter>(connection: &mut Connection<S>, rows: &[Row]) -> Result<
         → Becomes S.Store connection.old connection.new (λ rows. record rows { blocks = blocks_without gone rows.blocks })) }
     ensures trouble { IfErr result (λ e. (gone : List BlockRow) → rows.now ≡ map shown_name gone
         → IsTroubleIf S.Store connection.old connection.new
-        (AllByRecursion (λ b. is_unreferenced (tables S.Store connection.old).refs b ≡ true) gone) e) }
+        (IsOpen S.Store connection.old × AllByRecursion (λ b. is_unreferenced (tables S.Store connection.old).refs b ≡ true) gone) e) }
 {
     for row in rows {
         remove_named(connection, row)?;

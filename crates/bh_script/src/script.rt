@@ -8,8 +8,8 @@ ghost use Rattle.bh_types.specs.Limits.{default_limits};
 ghost use Rattle.bh_script.specs.Lines.{bad_line_of};
 ghost use Rattle.bh_script.specs.Answers.{AnewRan, AnswersScript, replies_text, bad_line_text, answer_text};
 
-use crate::digester::Sha256Digester;
 use crate::input::{BadLine, read_script};
+use bh_blocks::digester::Sha256Digester;
 use bh_create::create;
 use bh_dispatch::storage::HostStorage;
 use bh_event::event::Event;

@@ -3,7 +3,7 @@ use bh_create::create;
 use bh_dispatch::storage::HostStorage;
 use bh_event::event::Event;
 use bh_host::run;
-use bh_script::digester::Sha256Digester;
+use bh_blocks::digester::Sha256Digester;
 use bh_script::input::read_script;
 use bh_types::limits::{Limits, Tuning};
 use sqlite::Connection;

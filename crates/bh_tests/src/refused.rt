@@ -4,7 +4,7 @@ use bh_create::create;
 use bh_dispatch::storage::HostStorage;
 use bh_event::event::{Command, Event};
 use bh_host::run;
-use bh_script::digester::Sha256Digester;
+use bh_blocks::digester::Sha256Digester;
 use bh_types::limits::{Limits, Tuning};
 use sqlite::{Alter, Connection, Row};
 use std::alloc::{AllocError, Global};

@@ -3,7 +3,7 @@ use crate::events::tenant_add;
 use bh_create::create;
 use bh_dispatch::storage::HostStorage;
 use bh_host::{Told, run};
-use bh_script::digester::Sha256Digester;
+use bh_blocks::digester::Sha256Digester;
 use bh_types::limits::{Limits, Tuning};
 use sqlite::Connection;
 use std::alloc::{AllocError, Global};

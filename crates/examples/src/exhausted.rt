@@ -10,7 +10,7 @@ use bh_dispatch::storage::HostStorage;
 use bh_event::event::Event;
 use bh_host::run;
 use bh_schema::host::{Digester, Host};
-use bh_script::digester::Sha256Digester;
+use bh_blocks::digester::Sha256Digester;
 use bh_script::input::{Script, read_script};
 use bh_spent::raise_entries;
 use bh_storage::storage::Storage;
