@@ -1,4 +1,4 @@
-ghost use Rattle.std.specs.Prelude.{◌≡◌, ◌≢◌, ◌≤◌, ◌<◌, ◌^◌, None, Ok, false};
+ghost use Rattle.std.specs.Prelude.{ℕ, ◌≡◌, ◌≢◌, ◌≤◌, ◌<◌, ◌^◌, None, Ok, false};
 ghost use Rattle.bh_types.specs.declared.bucket_state.BucketState.TheVariants.{Unversioned};
 ghost use Rattle.bh_types.specs.declared.wanted.Wanted.TheVariants.{Current, Named};
 ghost use Rattle.bh_model.specs.Operations as machine;
@@ -68,8 +68,8 @@ fn make_marker<S: Alter>(
         (tables S.Store connection.old) (tables S.Store connection.new) result }
 {
     let numbers = new_numbers(connection, tenant, mode)?;
-    let Numbers { before, after } = numbers;
-    write_marker(connection, tenant, bucket, key, at, mode, before, after)?;
+    let Numbers { before, .. } = numbers;
+    write_marker(connection, tenant, bucket, key, at, mode, numbers)?;
     Ok(RemovedEntry {
         id: Some(new_id(mode, before.version)),
         marker: true,
@@ -102,7 +102,6 @@ fn delete_null<S: Alter>(
 fn delete_numbered<S: Alter>(
     connection: &mut Connection<S>,
     tenant: &TenantName,
-    at: Moment,
     bucket: &BucketName,
     key: &ObjectKey,
     mode: BucketState,
@@ -116,7 +115,7 @@ fn delete_numbered<S: Alter>(
     ensures within { StaysWithin S.Store connection.old connection.new }
     ensures opens { Unless result (StaysOpen S.Store connection.old connection.new) }
     ensures working { Unless result (StillWorks S.Store connection.old connection.new) }
-    ensures carries { IsClean S.Store connection.new
+    ensures carries { (at : ℕ) → IsClean S.Store connection.new
         → Carries removed_answer tenant.now (machine.delete_object at bucket.now key.now (Named id))
         (tables S.Store connection.old) (tables S.Store connection.new) result }
 {
@@ -179,7 +178,7 @@ fn delete_named<S: Alter>(
         (tables S.Store connection.old) (tables S.Store connection.new) result }
 {
     match number_of(id) {
-        Some(number) => delete_numbered(connection, tenant, at, bucket, key, mode, id, number),
+        Some(number) => delete_numbered(connection, tenant, bucket, key, mode, id, number),
         None => Ok(nothing_told()),
     }
 }

@@ -62,8 +62,8 @@ pub fn put_object<S: Alter>(
     let mode = bucket_state(connection, object.tenant, object.bucket)?;
     let checksum = checked_sum(alloc, object.bytes, given)?;
     let numbers = new_numbers(connection, object.tenant, mode)?;
-    let Numbers { before, after } = numbers;
-    write_object(connection, object, mode, before, after, checksum.as_str())?;
+    let Numbers { before, .. } = numbers;
+    write_object(connection, object, mode, numbers, checksum.as_str())?;
     Ok(StoredVersion {
         id: told_id(mode, new_id(mode, before.version)),
         checksum,

@@ -8,6 +8,7 @@ ghost use Rattle.bh_schema.specs.Connections.{InTransaction, StaysWithin, StaysO
 ghost use Rattle.bh_objects.specs.Found.{IsKeyText, with_way, with_row, with_entry};
 
 use crate::ids::row_number;
+use crate::reads::Numbers;
 use bh_schema::rows;
 use bh_schema::rows::versions::{NewMarker, NewVersion};
 use bh_schema::trouble::or_trouble;
@@ -185,8 +186,7 @@ pub fn write_object<S: Alter>(
     connection: &mut Connection<S>,
     object: &NewObject<'_>,
     mode: BucketState,
-    before: Counters,
-    after: Counters,
+    numbers: Numbers,
     checksum: &str,
 ) -> Result<(), Trouble>
     requires inside { InTransaction S.Store connection.old }
@@ -194,7 +194,7 @@ pub fn write_object<S: Alter>(
     ensures within { StaysWithin S.Store connection.old connection.new }
     ensures opens { OnOk result (StaysOpen S.Store connection.old connection.new) }
     ensures holds { OnOk result (Becomes S.Store connection.old connection.new
-        (with_entry mode before after object.now.tenant.now object.now.bucket.now object.now.key.now
+        (with_entry mode numbers.before numbers.after object.now.tenant.now object.now.bucket.now object.now.key.now
         object.now.at (Body object.now.bytes.now (checksum_text object.now.bytes.now)))) }
     ensures key { OnOk result (IsKeyText object.now.key.now) }
 {
@@ -204,9 +204,9 @@ pub fn write_object<S: Alter>(
         object.bucket,
         object.key,
         mode,
-        after,
+        numbers.after,
     )?;
-    add_object(connection, object, mode, before, checksum)
+    add_object(connection, object, mode, numbers.before, checksum)
 }
 
 fn add_marker<S: Alter>(
@@ -246,16 +246,15 @@ pub fn write_marker<S: Alter>(
     key: &ObjectKey,
     at: Moment,
     mode: BucketState,
-    before: Counters,
-    after: Counters,
+    numbers: Numbers,
 ) -> Result<(), Trouble>
     requires inside { InTransaction S.Store connection.old }
     ensures within { StaysWithin S.Store connection.old connection.new }
     ensures opens { OnOk result (StaysOpen S.Store connection.old connection.new) }
     ensures holds { OnOk result (Becomes S.Store connection.old connection.new
-        (with_entry mode before after tenant.now bucket.now key.now at Marker)) }
+        (with_entry mode numbers.before numbers.after tenant.now bucket.now key.now at Marker)) }
     ensures key { OnOk result (IsKeyText key.now) }
 {
-    make_way(connection, tenant, bucket, key, mode, after)?;
-    add_marker(connection, tenant, bucket, key, at, mode, before)
+    make_way(connection, tenant, bucket, key, mode, numbers.after)?;
+    add_marker(connection, tenant, bucket, key, at, mode, numbers.before)
 }

@@ -17,12 +17,12 @@ use Rattle.bh_objects.proofs.Deleting.{Steps, deletes_absent, deletes_entry, mar
 use Rattle.bh_objects.proofs.deletes.delete_numbered.Goals as goal
 
 pub returns-in-None-clause-carries : goal.returns-in-None-clause-carries
-returns-in-None-clause-carries g c clean =
+returns-in-None-clause-carries g c at clean =
     let old = tables_at (state g.S.Store c.args.connection.now) in
     let new = tables_at (state g.S.Store c.numbered_head.new.connection) in
     let clean_old = c.in_ok-found.ensures.within.follows.clean clean in
-    subst (λ (a : Answer). GivesStep c.args.tenant.now (delete_object c.args.at c.args.bucket.now c.args.key.now (Named c.args.id)) a old new) (sym c.nothing_told.ensures)
-    (deletes_absent old new c.args.tenant.now c.args.bucket.now c.args.key.now c.args.at (c.requires.working clean_old).sound c.args.mode (c.requires.state clean_old) c.args.id c.args.number c.requires.number
+    subst (λ (a : Answer). GivesStep c.args.tenant.now (delete_object at c.args.bucket.now c.args.key.now (Named c.args.id)) a old new) (sym c.nothing_told.ensures)
+    (deletes_absent old new c.args.tenant.now c.args.bucket.now c.args.key.now at (c.requires.working clean_old).sound c.args.mode (c.requires.state clean_old) c.args.id c.args.number c.requires.number
     (none_mapped seen_head _ (sym (c.in_ok-found.ensures.found clean) ∙ ap (option_map head_seen) c.in-None.is))
     (same_tables (state g.S.Store c.args.connection.now) (state g.S.Store c.numbered_head.new.connection) (c.in_ok-found.ensures.same clean.intact)))
 
@@ -34,22 +34,22 @@ returns-in_ok-drop_entry-in-Some-clause-working g c clean =
     let clean_old = c.in_ok-found.ensures.within.follows.clean clean_middle in
     let same = same_tables (state g.S.Store c.args.connection.now) (state g.S.Store c.numbered_head.new.connection) (c.in_ok-found.ensures.same clean_middle.intact) in
     let row = row_of seen_head _ (head_seen c.in-Some.head) (sym (c.in_ok-found.ensures.found clean_middle) ∙ ap (option_map head_seen) c.in-Some.is) in
-    let done = subst (λ (id : Option VersionId). Steps c.args.tenant.now c.args.bucket.now c.args.key.now c.args.at (Named c.args.id) (Removed id c.is_marker.result) old new) (sym c.told_id.ensures)
-    (deletes_entry old new c.args.tenant.now c.args.bucket.now c.args.key.now c.args.at (c.requires.working clean_old).sound c.args.mode (c.requires.state clean_old) c.args.id c.args.number c.requires.number
+    let done = subst (λ (id : Option VersionId). Steps c.args.tenant.now c.args.bucket.now c.args.key.now 0 (Named c.args.id) (Removed id c.is_marker.result) old new) (sym c.told_id.ensures)
+    (deletes_entry old new c.args.tenant.now c.args.bucket.now c.args.key.now 0 (c.requires.working clean_old).sound c.args.mode (c.requires.state clean_old) c.args.id c.args.number c.requires.number
     row.0 c.is_marker.result row.1 (c.is_marker.ensures ∙ marked_object row.0 c.in-Some.head.marker (ap (λ (x : SeenHead). x.marker) (sym row.2)))
     ((c.in_ok-drop_entry-in-Some.ensures.holds clean).is ∙ ap (λ (x : Tables). record x { versions = delete_where (is_version c.args.tenant.now c.args.bucket.now c.args.key.now c.args.number) x.versions }) same)) in
     record { is = record { inside = (c.in_ok-drop_entry-in-Some.ensures.holds clean).within; sound = done.1 }; limits = done.2 }
 
 pub returns-in_ok-drop_entry-in-Some-clause-carries : goal.returns-in_ok-drop_entry-in-Some-clause-carries
-returns-in_ok-drop_entry-in-Some-clause-carries g c clean =
+returns-in_ok-drop_entry-in-Some-clause-carries g c at clean =
     let old = tables_at (state g.S.Store c.args.connection.now) in
     let new = tables_at (state g.S.Store c.drop_entry.new.connection) in
     let clean_middle = c.in_ok-drop_entry-in-Some.ensures.within.follows.clean clean in
     let clean_old = c.in_ok-found.ensures.within.follows.clean clean_middle in
     let same = same_tables (state g.S.Store c.args.connection.now) (state g.S.Store c.numbered_head.new.connection) (c.in_ok-found.ensures.same clean_middle.intact) in
     let row = row_of seen_head _ (head_seen c.in-Some.head) (sym (c.in_ok-found.ensures.found clean_middle) ∙ ap (option_map head_seen) c.in-Some.is) in
-    let done = subst (λ (id : Option VersionId). Steps c.args.tenant.now c.args.bucket.now c.args.key.now c.args.at (Named c.args.id) (Removed id c.is_marker.result) old new) (sym c.told_id.ensures)
-    (deletes_entry old new c.args.tenant.now c.args.bucket.now c.args.key.now c.args.at (c.requires.working clean_old).sound c.args.mode (c.requires.state clean_old) c.args.id c.args.number c.requires.number
+    let done = subst (λ (id : Option VersionId). Steps c.args.tenant.now c.args.bucket.now c.args.key.now at (Named c.args.id) (Removed id c.is_marker.result) old new) (sym c.told_id.ensures)
+    (deletes_entry old new c.args.tenant.now c.args.bucket.now c.args.key.now at (c.requires.working clean_old).sound c.args.mode (c.requires.state clean_old) c.args.id c.args.number c.requires.number
     row.0 c.is_marker.result row.1 (c.is_marker.ensures ∙ marked_object row.0 c.in-Some.head.marker (ap (λ (x : SeenHead). x.marker) (sym row.2)))
     ((c.in_ok-drop_entry-in-Some.ensures.holds clean).is ∙ ap (λ (x : Tables). record x { versions = delete_where (is_version c.args.tenant.now c.args.bucket.now c.args.key.now c.args.number) x.versions }) same)) in
     done.0
