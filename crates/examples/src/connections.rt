@@ -38,7 +38,7 @@ fn request<'a>(alloc: Global, event: &'a Event, cut: &str) -> Option<Request<'a>
     }
 }
 
-/// The connections that bring the requests of a script, each cut as its line says.
+/// The connections that bring the requests of a script, each cut as the line of the same number says.
 fn requests<'a>(
     alloc: Global,
     events: &'a [Event],

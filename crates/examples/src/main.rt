@@ -36,7 +36,7 @@ const USAGE: &str = "usage: examples WORD..
 
   tables NAME..     compares each row of tables/NAME.txt: a call, its input and what it is to give
   scripts NAME..    compares the answers to the events of scripts/NAME.in with scripts/NAME.out
-  connections NAME..  the same, but the operator's commands come first, and then the requests over connections in
+  connections NAME..  the same, but the operator's commands come first, and then the requests, over connections in
                     memory, each cut as its line of scripts/NAME.cuts says, where there is such a file
   sockets NAME..    the same as scripts, but the requests come over sockets of 127.0.0.1
   exhausted         compares the answers of a tenant whose entries have no number left, likewise
