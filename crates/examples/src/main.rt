@@ -2,9 +2,11 @@
 #![tactic(auto)]
 
 mod answer;
+mod blocks;
 mod checksums;
 mod command_line;
 mod decisions;
+mod digesters;
 mod documents;
 mod entries;
 mod escapes;
