@@ -1,6 +1,7 @@
 //! The entries of one key.
 
 use crate::answer::{Answer, Fault};
+use crate::blocks;
 use crate::decisions;
 use crate::words::{four, number, state_of, wanted_of};
 use bh_model::entries::{Content, Entry, add, delete, lookup};
@@ -11,6 +12,7 @@ use std::alloc::{AllocError, Global};
 pub fn answer(alloc: Global, call: &str, input: &str) -> Answer {
     match call {
         "history" => history(alloc, input),
+        "blocks" => blocks::answer(alloc, input),
         _ => decisions::answer(alloc, call, input),
     }
 }

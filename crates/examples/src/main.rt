@@ -2,10 +2,12 @@
 #![tactic(auto)]
 
 mod answer;
+mod blocks;
 mod checksums;
 mod command_line;
 mod connections;
 mod decisions;
+mod digesters;
 mod documents;
 mod ends;
 mod entries;
