@@ -1,40 +1,18 @@
+//! An operator's command on a host.
+
+ghost use Rattle.std.specs.Prelude.{IfOk};
+ghost use Rattle.bh_event.specs.Events.{order_of};
+ghost use Rattle.bh_schema.specs.Storage.{IsClean, seen};
+ghost use Rattle.bh_storage.specs.Calls.{IsAtRest};
+ghost use Rattle.bh_commands.specs.Commands.{ordered_at, IsApplied};
+
 use crate::printed::Printed;
-use bh_create::create;
 use bh_dispatch::storage::HostStorage;
 use bh_event::event::{Command, Event};
 use bh_host::apply;
-use bh_open::open_host;
-use bh_schema::host::Host;
 use bh_script::digester::Sha256Digester;
-use bh_types::limits::{Limits, Tuning};
-use sqlite::{Alter, Connection};
+use sqlite::Alter;
 use std::alloc::{AllocError, Global};
-
-/// A subcommand's print, and the connection that it is done with.
-pub type Done<S> = (Result<Printed, AllocError>, Connection<S>);
-
-/// Makes a host in an empty database: `host`, or the refusal `NotAHostFile` or `Unavailable`.
-pub fn make_host<S: Alter + Drop>(
-    alloc: Global,
-    connection: Connection<S>,
-    limits: Limits,
-) -> Done<S> {
-    match create(connection, Sha256Digester, limits, Tuning::default()) {
-        Ok(host) => (Printed::line(alloc, b"host"), host.into_connection()),
-        Err(error) => (Printed::refusal(alloc, error.refusal), error.connection),
-    }
-}
-
-/// Opens the host of a database: itself, or what its refusal prints.
-pub fn open_stored<S: Alter + Drop>(
-    alloc: Global,
-    connection: Connection<S>,
-) -> Result<HostStorage<S, Sha256Digester>, Done<S>> {
-    match open_host(alloc, connection, Sha256Digester, Tuning::default()) {
-        Ok(host) => Ok(HostStorage { host }),
-        Err(error) => Err((Printed::refusal(alloc, error.refusal), error.connection)),
-    }
-}
 
 /// Applies an operator's command at a reading of the clock, in seconds since 1970, and prints its reply.
 pub fn apply_command<S: Alter + Drop>(
@@ -42,8 +20,15 @@ pub fn apply_command<S: Alter + Drop>(
     storage: &mut HostStorage<S, Sha256Digester>,
     reading: u64,
     command: Command,
-) -> Result<Printed, AllocError> {
+) -> Result<Printed, AllocError>
+    requires { IsClean S.Store storage.old.host → IsAtRest (seen S.Store storage.old.host) }
+    ensures ready { IsClean S.Store storage.new.host → IsAtRest (seen S.Store storage.new.host) }
+    ensures opened { IsClean S.Store storage.new.host → IsClean S.Store storage.old.host }
+    ensures applied { IfOk result (λ printed.
+        IsApplied S.Store (ordered_at reading (order_of command)) storage.old.host storage.new.host printed) }
+{
     let event = Event::Operator { reading, command };
     let told = apply(alloc, storage, &event);
-    Printed::reply(alloc, &told.reply)
+    let printed = Printed::reply(alloc, &told.reply)?;
+    Ok(printed)
 }

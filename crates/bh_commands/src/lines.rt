@@ -1,10 +1,12 @@
 use crate::fault::Fault;
-use crate::files::{file_command, init_file};
+use crate::files::{file_command, finish, init_file};
 use crate::input::{answer_input, read_secret};
 use crate::printed::Printed;
 use bh_event::event::Command;
+use bh_types::limits::Limits;
 use bh_types::refusal::Refusal;
 use bh_words::{Line, SecretGiven};
+use sqlite::Wary;
 
 /// Does what a command line asks for, and gives what is printed of it.
 ///
@@ -13,13 +15,13 @@ use bh_words::{Line, SecretGiven};
 pub fn carry_out(rt: &HostRuntime, line: Line) -> Result<Printed, Fault> {
     match line {
         Line::Script { limits, tuning } => answer_input(rt, limits, tuning),
-        Line::Init { file, limits } => init_file(rt, file.as_str(), limits),
+        Line::Init { file, limits } => make_in(rt, file.as_str(), limits),
         Line::TenantAdd {
             file,
             tenant,
             quota,
             at,
-        } => file_command(rt, file.as_str(), at, Command::TenantAdd { tenant, quota }),
+        } => command_on(rt, file.as_str(), at, Command::TenantAdd { tenant, quota }),
         Line::KeyAdd {
             file,
             tenant,
@@ -33,14 +35,14 @@ pub fn carry_out(rt: &HostRuntime, line: Line) -> Result<Printed, Fault> {
                 name,
                 secret,
             };
-            file_command(rt, file.as_str(), at, command)
+            command_on(rt, file.as_str(), at, command)
         }
         Line::KeyRemove {
             file,
             tenant,
             name,
             at,
-        } => file_command(rt, file.as_str(), at, Command::KeyRemove { tenant, name }),
+        } => command_on(rt, file.as_str(), at, Command::KeyRemove { tenant, name }),
         Line::Quota { .. }
         | Line::Usage { .. }
         | Line::Report { .. }
@@ -55,4 +57,19 @@ fn secret_of(rt: &HostRuntime, given: SecretGiven) -> Result<String, Fault> {
         SecretGiven::Word(word) => Ok(word),
         SecretGiven::StandardInput => read_secret(rt),
     }
+}
+
+/// Makes a host in a file. A crash may have left anything in what was being written.
+fn make_in(rt: &HostRuntime, path: &str, limits: Limits) -> Result<Printed, Fault> {
+    Ok(finish(init_file(rt, path, Wary, limits)?))
+}
+
+/// Applies a command to the host of a file, of whose contents nothing is said.
+fn command_on(
+    rt: &HostRuntime,
+    path: &str,
+    at: Option<u64>,
+    command: Command,
+) -> Result<Printed, Fault> {
+    Ok(finish(file_command(rt, path, Wary, at, command)?))
 }

@@ -1,5 +1,6 @@
-ghost use Rattle.std.specs.Prelude.{◌≡◌, codes, IfOk};
+ghost use Rattle.std.specs.Prelude.{◌≡◌, IfOk};
 ghost use Rattle.bh_host.specs.Replies.{reply_bytes};
+ghost use Rattle.bh_commands.specs.Commands.{IsLine, IsRefusal};
 ghost use Rattle.bh_commands.specs.Printing as spec;
 
 use bh_host::Reply;
@@ -36,8 +37,7 @@ fn line_of(alloc: Global, line: &[u8]) -> Result<Vec<u8>, AllocError>
 impl Printed {
     /// A line that isn't a refusal, or is.
     pub fn line(alloc: Global, line: &[u8]) -> Result<Printed, AllocError>
-        ensures text { IfOk result (λ printed. printed.text.items ≡ spec.line_of line.now) }
-        ensures status { IfOk result (λ printed. printed.status ≡ spec.status_of line.now) }
+        ensures { IfOk result (IsLine line.now) }
     {
         let text = line_of(alloc, line)?;
         let status = if is_refusal(line) { 1 } else { 0 };
@@ -46,16 +46,14 @@ impl Printed {
 
     /// A reply to an operator.
     pub fn reply(alloc: Global, reply: &Reply) -> Result<Printed, AllocError>
-        ensures text { IfOk result (λ printed. printed.text.items ≡ spec.line_of (reply_bytes reply.now)) }
-        ensures status { IfOk result (λ printed. printed.status ≡ spec.status_of (reply_bytes reply.now)) }
+        ensures { IfOk result (IsLine (reply_bytes reply.now)) }
     {
         Printed::line(alloc, reply.bytes())
     }
 
     /// A refusal: its number and its code.
     pub fn refusal(alloc: Global, refusal: Refusal) -> Result<Printed, AllocError>
-        ensures text { IfOk result (λ printed. printed.text.items ≡ spec.refused_line refusal) }
-        ensures status { IfOk result (λ printed. printed.status ≡ 1) }
+        ensures { IfOk result (IsRefusal refusal) }
     {
         let number = refusal.number();
         let code = refusal.code();
