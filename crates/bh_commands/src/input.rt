@@ -1,8 +1,16 @@
+//! Subcommands that read standard input.
+
+ghost use Rattle.std.specs.Prelude.{◌≡◌, IfOk};
+ghost use Rattle.std.specs.String.{string_bytes};
+ghost use Rattle.bh_commands.specs.Input as spec;
+
 use crate::fault::Fault;
 use crate::printed::Printed;
 use bh_script::input::{BadLine, read_all};
 use bh_script::script::answer_script;
 use bh_types::limits::{Limits, Tuning};
+use bh_words::SecretGiven;
+use std::alloc::{AllocError, Global};
 use std::io;
 
 /// All bytes of standard input.
@@ -39,16 +47,37 @@ pub fn answer_input(
     })
 }
 
-/// The first line of standard input, without its end; of bytes that aren't UTF-8 (RFC 3629) an empty one, which
-/// is no secret.
-pub fn read_secret(rt: &(impl Input + AllocGlobal)) -> Result<String, Fault> {
-    let bytes = read_input(rt)?;
-    let line = match bytes.as_slice().split(|b| *b == b'\n').next() {
-        Some(line) => Vec::from_slice(rt.alloc(), line)?,
-        None => Vec::new(rt.alloc()),
-    };
-    match String::from_utf8(line) {
+/// The first line of some bytes, without its line feed.
+fn first_line(alloc: Global, bytes: &[u8]) -> Result<Vec<u8>, AllocError>
+    ensures { IfOk result (λ line. line.items ≡ spec.first_line bytes.now) }
+{
+    bytes
+        .iter()
+        .copied()
+        .take_while(|b| *b != b'\n')
+        .collect(alloc)
+}
+
+/// The secret that some bytes tell: their first line. Of one that isn't UTF-8 (RFC 3629) it is empty, which is no
+/// secret.
+fn secret_in(alloc: Global, bytes: &[u8]) -> Result<String, AllocError>
+    ensures { IfOk result (λ secret. spec.IsSecretIn bytes.now (string_bytes secret)) }
+{
+    match String::from_utf8(first_line(alloc, bytes)?) {
         Ok(secret) => Ok(secret),
-        Err(_) => Ok(String::new(rt.alloc())),
+        Err(_) => Ok(String::new(alloc)),
+    }
+}
+
+/// The secret of a command line: itself, or what standard input tells.
+pub fn secret_of(rt: &(impl Input + AllocGlobal), given: SecretGiven) -> Result<String, Fault>
+    ensures { IfOk result (spec.IsSecretGiven given) }
+{
+    match given {
+        SecretGiven::Word(word) => Ok(word),
+        SecretGiven::StandardInput => {
+            let bytes = read_input(rt)?;
+            Ok(secret_in(rt.alloc(), bytes.as_slice())?)
+        }
     }
 }

@@ -1,11 +1,11 @@
 use crate::fault::Fault;
 use crate::files::{file_command, finish, init_file};
-use crate::input::{answer_input, read_secret};
+use crate::input::{answer_input, secret_of};
 use crate::printed::Printed;
 use bh_event::event::Command;
 use bh_types::limits::Limits;
 use bh_types::refusal::Refusal;
-use bh_words::{Line, SecretGiven};
+use bh_words::Line;
 use sqlite::Wary;
 
 /// Does what a command line asks for, and gives what is printed of it.
@@ -29,6 +29,7 @@ pub fn carry_out(rt: &HostRuntime, line: Line) -> Result<Printed, Fault> {
             secret,
             at,
         } => {
+            // Before a file is opened, so that no other process waits for it.
             let secret = secret_of(rt, secret)?;
             let command = Command::KeyAdd {
                 tenant,
@@ -48,14 +49,6 @@ pub fn carry_out(rt: &HostRuntime, line: Line) -> Result<Printed, Fault> {
         | Line::Report { .. }
         | Line::Sweep { .. }
         | Line::Serve { .. } => Ok(Printed::refusal(rt.alloc(), Refusal::NotImplemented)?),
-    }
-}
-
-/// The secret that was given. Standard input is read before a file is opened, so that no one waits for it.
-fn secret_of(rt: &HostRuntime, given: SecretGiven) -> Result<String, Fault> {
-    match given {
-        SecretGiven::Word(word) => Ok(word),
-        SecretGiven::StandardInput => read_secret(rt),
     }
 }
 
