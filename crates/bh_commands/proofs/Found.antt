@@ -1,5 +1,5 @@
 -- What files held when they were opened, and that empty ones hold no host.
-use Rattle.std.proofs.Common.{◌≡◌, ℕ, ◌<◌, List, [], ◌∷◌, length, ap, sym, subst, ◌∙◌, arith, inl, inr, refl, filter}
+use Rattle.std.proofs.Common.{◌≡◌, [], ap, sym, subst, arith, inl, inr, filter}
 use Rattle.std.specs.List.{AllZip}
 use Rattle.sqlite_wal.specs.Recovery.{Image}
 use Rattle.sqlite_trees.specs.Tree.{Trees}
@@ -12,10 +12,8 @@ use Rattle.sqlite.specs.State.{State}
 use Rattle.bh_types.specs.Limits.{HostLimits}
 use Rattle.bh_tables.specs.Hosts.{tables_shown}
 use Rattle.bh_tables.specs.Schema.{host_schema}
-use Rattle.bh_tables.specs.Typed.{Tables}
 use Rattle.bh_schema.specs.Layer.{standing, IsIntact, IsOpen, IsStateClean, KeepsDisk}
 use Rattle.bh_schema.specs.Storage.{seen_in}
-use Rattle.bh_view.specs.Sound.{IsSound}
 use Rattle.bh_commands.specs.Files.{AreTablesIn, HoldsSoundHost, IsOpenedOn}
 
 -- ---- no file, or an empty one

@@ -1,5 +1,5 @@
 -- What the line of a command tells.
-use Rattle.std.proofs.Common.{◌≡◌, ℕ, nat_lt, true, false, List, Option, Some, None, IfSome, refl, sym, ap, ◌∙◌, arith, if◌then◌else◌}
+use Rattle.std.proofs.Common.{◌≡◌, ℕ, nat_lt, true, false, List, Option, Some, None, IfSome, refl, ap, ◌∙◌, arith, if◌then◌else◌}
 use Rattle.std.specs.Fmt.{digits}
 use Rattle.sqlite_trees.specs.declared.store.Store.{Ghosts}
 use Rattle.sqlite_wal.specs.Recovery.{Image}

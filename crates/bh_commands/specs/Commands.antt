@@ -6,7 +6,6 @@ use Rattle.sqlite.specs.Held.{state}
 use Rattle.bh_types.specs.Limits.{HostLimits}
 use Rattle.bh_types.specs.declared.refusal.Refusal.{Refusal}
 use Rattle.bh_event.specs.Events.{Arrival, Order, Ordered}
-use Rattle.bh_storage.specs.Calls.{LeavesNothingNew}
 use Rattle.bh_tables.specs.Typed.{Tables}
 use Rattle.bh_schema.specs.declared.host.Host.{Host}
 use Rattle.bh_schema.specs.Storage.{IsClean, IsIntact, IsOpen, seen, left}

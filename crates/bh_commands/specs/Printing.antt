@@ -1,5 +1,5 @@
 -- What a subcommand prints, and its status.
-use Rattle.std.specs.Prelude.{ℕ, Bool, false, nat_le, ◌&&◌, List, [], ◌∷◌, ◌++◌, codes, if◌then◌else◌}
+use Rattle.std.specs.Prelude.{ℕ, Bool, false, nat_le, ◌&&◌, List, [], ◌∷◌, ◌++◌, if◌then◌else◌}
 use Rattle.bh_types.specs.declared.refusal.Refusal.{Refusal}
 use Rattle.bh_http.specs.Responses.{refusal_text}
 
