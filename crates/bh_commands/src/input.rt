@@ -1,0 +1,83 @@
+//! Subcommands that read standard input.
+
+ghost use Rattle.std.specs.Prelude.{◌≡◌, IfOk};
+ghost use Rattle.std.specs.String.{string_bytes};
+ghost use Rattle.bh_commands.specs.Input as spec;
+
+use crate::fault::Fault;
+use crate::printed::Printed;
+use bh_script::input::{BadLine, read_all};
+use bh_script::script::answer_script;
+use bh_types::limits::{Limits, Tuning};
+use bh_words::SecretGiven;
+use std::alloc::{AllocError, Global};
+use std::io;
+
+/// All bytes of standard input.
+fn read_input(rt: &(impl Input + AllocGlobal)) -> Result<Vec<u8>, Fault> {
+    match read_all(rt.alloc(), &mut rt.reader())? {
+        Some(bytes) => Ok(bytes),
+        None => Err(Fault::LongInput),
+    }
+}
+
+/// Says on standard error why a line told no event. The status is then 1.
+fn tell_bad_line(rt: &impl Eprint, bad_line: Option<BadLine>) -> io::Result<u8> {
+    let Some(BadLine { number, flaw }) = bad_line else {
+        return Ok(0);
+    };
+    eprintln!(rt; "line {number}: {}", flaw.text())?;
+    Ok(1)
+}
+
+/// Answers the script of standard input, by a new host in memory.
+pub fn answer_input(
+    rt: &(impl Input + Eprint + AllocGlobal),
+    limits: Limits,
+    tuning: Tuning,
+) -> Result<Printed, Fault> {
+    let bytes = read_input(rt)?;
+    let Ok(answered) = answer_script(rt.alloc(), bytes.as_slice(), limits, tuning) else {
+        return Err(Fault::Memory);
+    };
+    let status = tell_bad_line(rt, answered.bad_line)?;
+    Ok(Printed {
+        text: answered.text,
+        status,
+    })
+}
+
+/// The first line of some bytes, without its line feed.
+fn first_line(alloc: Global, bytes: &[u8]) -> Result<Vec<u8>, AllocError>
+    ensures { IfOk result (λ line. line.items ≡ spec.first_line bytes.now) }
+{
+    bytes
+        .iter()
+        .copied()
+        .take_while(|b| *b != b'\n')
+        .collect(alloc)
+}
+
+/// The secret that some bytes tell: their first line. Of one that isn't UTF-8 (RFC 3629) it is empty, which is no
+/// secret.
+fn secret_in(alloc: Global, bytes: &[u8]) -> Result<String, AllocError>
+    ensures { IfOk result (λ secret. spec.IsSecretIn bytes.now (string_bytes secret)) }
+{
+    match String::from_utf8(first_line(alloc, bytes)?) {
+        Ok(secret) => Ok(secret),
+        Err(_) => Ok(String::new(alloc)),
+    }
+}
+
+/// The secret of a command line: itself, or what standard input tells.
+pub fn secret_of(rt: &(impl Input + AllocGlobal), given: SecretGiven) -> Result<String, Fault>
+    ensures { IfOk result (spec.IsSecretGiven given) }
+{
+    match given {
+        SecretGiven::Word(word) => Ok(word),
+        SecretGiven::StandardInput => {
+            let bytes = read_input(rt)?;
+            Ok(secret_in(rt.alloc(), bytes.as_slice())?)
+        }
+    }
+}
