@@ -73,10 +73,7 @@ pub fn copy_rows<S: Alter>(
     )
 }
 
-pub fn ord_rows<S: Alter>(
-    connection: &mut Connection<S>,
-    digest: &[u8],
-) -> Result<Vec<Row>, Error>
+pub fn ord_rows<S: Alter>(connection: &mut Connection<S>, digest: &[u8]) -> Result<Vec<Row>, Error>
     requires inside { InTransaction S.Store connection.old }
     ensures within { StaysWithin S.Store connection.old connection.new }
     ensures opens { OnOk result (WasOpen S.Store connection.old connection.new) }

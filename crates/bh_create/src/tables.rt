@@ -101,10 +101,7 @@ fn create_refs_by_block<S: Alter>(connection: &mut Connection<S>) -> Result<usiz
     ensures makes { Makes with_refs_by_block (state S.Store connection.old) (state S.Store connection.new) result }
     ensures trouble { IfErr result (λ e. IsIntact (state S.Store connection.new) → is_trouble e ≡ true) }
 {
-    connection.execute(
-        "CREATE INDEX refs_by_block ON refs (digest, ord)",
-        &[],
-    )
+    connection.execute("CREATE INDEX refs_by_block ON refs (digest, ord)", &[])
 }
 
 fn create_accounts<S: Alter>(connection: &mut Connection<S>) -> Result<usize, Error>

@@ -1,6 +1,6 @@
 //! The making of a host.
-use bh_create::{CreateError, create};
 use bh_blocks::digester::Sha256Digester;
+use bh_create::{CreateError, create};
 use bh_types::limits::{Limits, Tuning};
 use bh_types::refusal::Refusal;
 use sqlite::Connection;

@@ -1,9 +1,9 @@
 //! The rows of a tenant and its access key.
+use bh_blocks::digester::Sha256Digester;
 use bh_create::create;
 use bh_dispatch::storage::HostStorage;
 use bh_event::event::Event;
 use bh_host::run;
-use bh_blocks::digester::Sha256Digester;
 use bh_script::input::read_script;
 use bh_types::limits::{Limits, Tuning};
 use sqlite::Connection;

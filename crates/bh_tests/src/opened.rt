@@ -1,7 +1,7 @@
 //! The opening of a host that was made before.
+use bh_blocks::digester::Sha256Digester;
 use bh_create::create;
 use bh_open::open_host;
-use bh_blocks::digester::Sha256Digester;
 use bh_types::limits::{Limits, Tuning};
 use bh_types::refusal::Refusal;
 use sqlite::Connection;

@@ -1,10 +1,10 @@
 //! What refused requests answer, and that they leave all rows but the last stamp.
 use crate::events::tenant_add;
+use bh_blocks::digester::Sha256Digester;
 use bh_create::create;
 use bh_dispatch::storage::HostStorage;
 use bh_event::event::{Command, Event};
 use bh_host::run;
-use bh_blocks::digester::Sha256Digester;
 use bh_types::limits::{Limits, Tuning};
 use sqlite::{Alter, Connection, Row};
 use std::alloc::{AllocError, Global};

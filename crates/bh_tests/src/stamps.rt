@@ -1,9 +1,9 @@
 //! The stamps of events, whatever the clock reads.
 use crate::events::tenant_add;
+use bh_blocks::digester::Sha256Digester;
 use bh_create::create;
 use bh_dispatch::storage::HostStorage;
 use bh_host::{Told, run};
-use bh_blocks::digester::Sha256Digester;
 use bh_types::limits::{Limits, Tuning};
 use sqlite::Connection;
 use std::alloc::{AllocError, Global};

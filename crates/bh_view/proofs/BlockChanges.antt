@@ -166,9 +166,9 @@ pub without_next : (b : BlockRow) (gone blocks : List BlockRow) → blocks_witho
 without_next b gone [] = refl
 without_next b gone (x ∷ xs) = elim (is_block (block_name b) x) as (λ t. is_block (block_name b) x ≡ t → cond (not (t || list_any (λ g. is_block (block_name g) x) gone)) (x ∷ blocks_without (b ∷ gone) xs) (blocks_without (b ∷ gone) xs)
     ≡ blocks_without gone (cond (not t) (x ∷ delete_where (is_block (block_name b)) xs) (delete_where (is_block (block_name b)) xs))) [
-  | true ↦ λ e. without_next b gone xs
-  | false ↦ λ e. ap (λ l. cond (not (list_any (λ g. is_block (block_name g) x) gone)) (x ∷ l) l) (without_next b gone xs)
-] refl
+      | true ↦ λ e. without_next b gone xs
+      | false ↦ λ e. ap (λ l. cond (not (list_any (λ g. is_block (block_name g) x) gone)) (x ∷ l) l) (without_next b gone xs)
+    ] refl
 
 pub without_none : (blocks : List BlockRow) → blocks_without [] blocks ≡ blocks
 without_none [] = refl

@@ -33,5 +33,5 @@ block_added refs blocks b refers fresh = whole_agree refs (blocks ++ b ∷ []) b
 pub block_removed : (refs : List RefRow) (blocks : List BlockRow) (at : Name) → matching same_name ref_name at refs ≡ [] → whole refs (delete_where (λ b. same_name (block_name b) at) blocks) ≡ whole refs blocks
 block_removed refs blocks at unused = whole_agree refs (delete_where (λ b. same_name (block_name b) at) blocks) blocks (all_weaker (λ (r : RefRow). same_name (ref_name r) at ≡ false) (λ r. piece (delete_where (λ b. same_name (block_name b) at) blocks) r ≡ piece blocks r) (λ r other.
     ap (λ l. option_map_or (λ (x : BlockRow). x.bytes) (first l) []) (delete_other (λ x. same_name (block_name x) (ref_name r)) (λ b. same_name (block_name b) at) blocks
-      (λ x here. is_other names (block_name x) at (λ there. true≢false (sym ((names.decides (ref_name r) at).1 (sym ((names.decides (block_name x) (ref_name r)).0 here) ∙ there)) ∙ other)))))
-  refs (none_pass _ refs unused))
+    (λ x here. is_other names (block_name x) at (λ there. true≢false (sym ((names.decides (ref_name r) at).1 (sym ((names.decides (block_name x) (ref_name r)).0 here) ∙ there)) ∙ other)))))
+    refs (none_pass _ refs unused))

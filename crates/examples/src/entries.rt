@@ -1,9 +1,8 @@
 //! The entries of one key.
 
 use crate::answer::{Answer, Fault};
-use crate::blocks;
-use crate::decisions;
 use crate::words::{four, number, state_of, wanted_of};
+use crate::{blocks, decisions};
 use bh_model::entries::{Content, Entry, add, delete, lookup};
 use bh_types::bucket_state::BucketState;
 use bh_types::wanted::Wanted;

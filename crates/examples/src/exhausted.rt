@@ -5,12 +5,12 @@ ghost use Rattle.bh_storage.specs.Calls.{Clean, IsAtRest};
 ghost use Rattle.bh_schema.specs.Storage.{IsClean, seen};
 
 use crate::replies::replies_text;
+use bh_blocks::digester::Sha256Digester;
 use bh_create::create;
 use bh_dispatch::storage::HostStorage;
 use bh_event::event::Event;
 use bh_host::run;
 use bh_schema::host::{Digester, Host};
-use bh_blocks::digester::Sha256Digester;
 use bh_script::input::{Script, read_script};
 use bh_spent::raise_entries;
 use bh_storage::storage::Storage;

@@ -6,11 +6,11 @@
 
 ghost use Rattle.bh_storage.specs.Calls.{Clean, IsAtRest};
 
+use bh_blocks::digester::Sha256Digester;
 use bh_create::create;
 use bh_dispatch::storage::HostStorage;
 use bh_event::event::Event;
 use bh_host::{Told, apply};
-use bh_blocks::digester::Sha256Digester;
 use bh_script::input::{read_all, read_script};
 use bh_storage::storage::Storage;
 use bh_types::limits::{Limits, Tuning};

@@ -17,4 +17,4 @@ returns-in_err-insert_block-clause-trouble g c = handed_on _ _ _ c.from_residual
     let before = then.within.follows.intact intact in
     let clean : IsStateClean mid = record { intact = before; is_open = (first.opens before).1 } in
     ap is_trouble same ∙ then.trouble intact (first.within.follows.limit ∙ unlimited)
-        (unused (tables_at old) (tables_at mid) c.args.digest c.in_ok-ord.ord sound (ap (λ (x : Standing). tables_in x.now) (first.same before)) (first.free clean)))
+    (unused (tables_at old) (tables_at mid) c.args.digest c.in_ok-ord.ord sound (ap (λ (x : Standing). tables_in x.now) (first.same before)) (first.free clean)))

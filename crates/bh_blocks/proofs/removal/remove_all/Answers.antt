@@ -20,7 +20,7 @@ returns-in_err-remove_named-clause-trouble g c = handed_on _ _ _ c.from_residual
     let refs = ap (λ (t : Tables). t.refs) (inv.left clean gone is) in
     let it = at_row shown_name gone c.args.rows.now c.loop-row.row-index c.row-item.result c.loop-row-test.true c.row-item.is is in
     ap is_trouble same ∙ step.trouble it.0 it.1 intact (inv.within.follows.limit ∙ unlimited)
-        (ap (λ r. is_unreferenced r it.0) refs ∙ all_at_drop (λ (b : BlockRow). is_unreferenced (tables_at (state g.S.Store c.args.connection.now)).refs b ≡ true) c.loop-row.row-index gone it.0 (drop (c.loop-row.row-index + 1) gone) were.1 it.2))
+    (ap (λ r. is_unreferenced r it.0) refs ∙ all_at_drop (λ (b : BlockRow). is_unreferenced (tables_at (state g.S.Store c.args.connection.now)).refs b ≡ true) c.loop-row.row-index gone it.0 (drop (c.loop-row.row-index + 1) gone) were.1 it.2))
 
 pub loop-row-preserved : goal.loop-row-preserved
 loop-row-preserved g c =

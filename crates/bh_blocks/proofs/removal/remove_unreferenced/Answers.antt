@@ -23,7 +23,7 @@ returns-in_err-remove_all-clause-trouble g c = handed_on _ _ _ c.from_residual-i
     let refs = ap (λ (x : Standing). (tables_in x.now).refs) (first.same before) in
     let gone = unreferenced c.args.limit old.refs old.blocks in
     ap is_trouble same ∙ then.trouble gone (c.deref.ensures.value ∙ first.rows clean) intact (first.within.follows.limit ∙ unlimited)
-        (up, subst (λ r. AllByRecursion (λ (b : BlockRow). is_unreferenced r b ≡ true) gone) (sym refs) (unreferenced_are c.args.limit old.refs old.blocks)))
+    (up, subst (λ r. AllByRecursion (λ (b : BlockRow). is_unreferenced r b ≡ true) gone) (sym refs) (unreferenced_are c.args.limit old.refs old.blocks)))
 
 pub returns-clause-keeps : goal.returns-clause-keeps
 returns-clause-keeps g c digest clean sound digests =
@@ -34,4 +34,4 @@ returns-clause-keeps g c digest clean sound digests =
     let same : tables_at (state g.S.Store c.unreferenced_rows.new.connection) ≡ old = ap (λ (x : Standing). tables_in x.now) (first.same was.intact) in
     let gone = unreferenced c.args.limit old.refs old.blocks in
     subst (KeepsBodies digest old) (sym ((then.removed gone (c.deref.ensures.value ∙ first.rows was) clean).is ∙ ap (left gone) same))
-        (blocks_removed digest old gone (unreferenced_are c.args.limit old.refs old.blocks) sound digests)
+    (blocks_removed digest old gone (unreferenced_are c.args.limit old.refs old.blocks) sound digests)
