@@ -29,4 +29,3 @@ pub record Took (asked : Asked) (old : Reading) (lines : List Line) (new : Readi
   pub added : seen new.gathering ≡ rows_added asked (seen old.gathering) (map seen_line lines)
   pub ends : ended ≡ (nat_lt asked.max (length new.gathering.entries.items) || nat_lt (length lines) old.count)
   pub on : ended ≡ false → GoesOn asked (seen new.gathering) new.from.items
-  pub count : ended ≡ false → IsCount new.count

@@ -5,7 +5,7 @@ ghost use Rattle.bh_pages.specs.Gathered.{nothing_gathered, start_of};
 ghost use Rattle.bh_pages.specs.Seen.{seen, token_of};
 ghost use Rattle.bh_pages.specs.Reading.{IsCount, GoesOn, AreUnder, Took};
 
-use crate::gathering::{Asked, Gathering, Line};
+use crate::gathering::{Asked, Gathering, Line, Listed};
 use std::alloc::{AllocError, Global};
 
 /// How far the reading of a page has come.
@@ -64,7 +64,8 @@ impl Reading {
     /// Takes in the rows that were read. Whether the page has all that it takes, or no rows are left. An error says
     /// that memory ran out.
     pub fn take(&mut self, alloc: Global, asked: &Asked<'_>, lines: &[Line]) -> Result<bool, AllocError>
-        ensures { AreUnder asked.now lines.now → IfOk result (Took asked.now self.old lines.now self.new) }
+        ensures took { AreUnder asked.now lines.now → IfOk result (Took asked.now self.old lines.now self.new) }
+        ensures count { OnOk result (IsCount self.old.count → IsCount self.new.count) }
     {
         let before = self.gathering.entries.len();
         self.gathering.add_all(alloc, asked, lines)?;
@@ -75,5 +76,13 @@ impl Reading {
         self.from = past_last(alloc, asked, &self.gathering)?;
         self.count = next_count(listed.saturating_sub(before));
         Ok(false)
+    }
+
+    /// The entries that it found.
+    pub fn into_entries(self) -> Vec<Listed>
+        ensures { result ≡ self.gathering.entries }
+    {
+        let gathering = self.gathering;
+        gathering.entries
     }
 }

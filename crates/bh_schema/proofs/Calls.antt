@@ -18,7 +18,7 @@ use Rattle.bh_tables.proofs.Statements as statement
 use Rattle.bh_schema.specs.Layer.{Standing, standing, IsIntact, IsOpen, IsStateClean, Leaves, IsInside, Holds, KeepsDisk, LeavesNothingNew, IsStandingSettled, StateWithin, Unwinds}
 use Rattle.bh_schema.proofs.TurnLemmas.{follows, unwinds}
 
-ready : (old : State) → (IsStateClean old → IsInside (standing old)) → IsReady old
+pub ready : (old : State) → (IsStateClean old → IsInside (standing old)) → IsReady old
 unfolding standing IsIntact IsOpen
 ready old inside clean up = (inside (record { intact = clean; is_open = up })).host
 
@@ -174,7 +174,7 @@ pub record Question {X : Type 0} (old new : State) (rows_in : X → List Row) (s
   pub rows : IfOk result (λ x. IsStateClean new → rows_in x ≡ shown (tables_in (standing old).now))
   pub trouble : IfErr result (λ e. IsIntact new → (standing old).limit ≡ None → is_trouble e ≡ true)
 
-question : {X : Type 0} (old new : State) (rows_in : X → List Row) (shown : Tables → List Row) (result : Result X Error) → (IsStateClean old → IsInside (standing old)) → Shows old new rows_in shown result → Question old new rows_in shown result
+pub question : {X : Type 0} (old new : State) (rows_in : X → List Row) (shown : Tables → List Row) (result : Result X Error) → (IsStateClean old → IsInside (standing old)) → Shows old new rows_in shown result → Question old new rows_in shown result
 unfolding standing
 question old new rows_in shown result inside it = record {
   within = asks_within old new (λ c. (inside c).inside) result it.asks;

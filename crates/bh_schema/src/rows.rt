@@ -4,7 +4,7 @@ pub mod buckets;
 pub mod host;
 pub mod keys;
 pub mod known;
-mod number;
+pub mod number;
 pub mod tenants;
 pub mod transactions;
 pub mod versions;
