@@ -1,10 +1,12 @@
 pub mod FinMaps
 pub mod State
+pub mod Pages
 pub mod Counting
 pub mod Entries
 pub mod Parts
 pub mod Credentials
 pub mod Operations
+pub mod Listings
 pub mod Runs
 pub mod Laws
 pub mod Shown

@@ -1,0 +1,7 @@
+//! S3's listings of a bucket over a host's SQL tables, by seeks.
+#![tactic(auto)]
+
+mod lines;
+pub mod objects;
+mod rows;
+mod told;

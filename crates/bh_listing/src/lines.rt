@@ -1,0 +1,61 @@
+//! The rows of a listing as they are read.
+
+ghost use Rattle.std.specs.Prelude.{◌≡◌, ◌<◌, ◌^◌, map, IfOk, OnOk};
+ghost use Rattle.bh_tables.specs.Typed.{VersionRow};
+ghost use Rattle.bh_pages.specs.Seen.{seen_line};
+ghost use Rattle.bh_schema.specs.Connections.{IsClean, tables, InTransaction, StaysWithin, StaysOpen, ChangesNothing};
+ghost use Rattle.bh_listing.specs.Rows.{shown_listed, row_shown, listed_rows};
+
+use crate::rows::version_rows;
+use bh_pages::gathering::Line;
+use bh_schema::trouble::or_trouble;
+use bh_storage::error::Trouble;
+use sqlite::{Alter, Connection, Error, Row};
+use std::alloc::Global;
+
+fn read_line(row: &Row) -> Result<Line, Error>
+    ensures { IfOk result (λ line. (v : VersionRow) → row.now ≡ shown_listed v → seen_line line ≡ row_shown v) }
+{
+    Ok(Line {
+        key: row.get(0)?,
+        marker: row.get(1)?,
+        stamp: row.get(2)?,
+        size: row.get(3)?,
+        checksum: row.get(4)?,
+    })
+}
+
+fn read_lines(alloc: Global, rows: &[Row]) -> Result<Vec<Line>, Error>
+    ensures { IfOk result (λ lines. (vs : _) → rows.now ≡ map shown_listed vs → map seen_line lines.items ≡ map row_shown vs) }
+{
+    let mut lines = Vec::with_capacity(alloc, rows.len())?;
+    for row in rows {
+        let line = read_line(row)?;
+        lines.push(line)?;
+    }
+    Ok(lines)
+}
+
+/// The first versions and delete markers of a bucket with a key from one text on and before another, at most as many
+/// as this, in the order of a listing.
+pub fn version_lines<S: Alter>(
+    connection: &mut Connection<S>,
+    alloc: Global,
+    tenant: &str,
+    bucket: &str,
+    from: &[u8],
+    upto: &[u8],
+    count: u64,
+) -> Result<Vec<Line>, Trouble>
+    requires inside { InTransaction S.Store connection.old }
+    requires small { count < 2 ^ 63 }
+    ensures within { StaysWithin S.Store connection.old connection.new }
+    ensures opens { OnOk result (StaysOpen S.Store connection.old connection.new) }
+    ensures same { OnOk result (ChangesNothing S.Store connection.old connection.new) }
+    ensures lines { IfOk result (λ lines. IsClean S.Store connection.new
+        → map seen_line lines.items ≡ map row_shown
+        (listed_rows tenant.now bucket.now from.now upto.now count (tables S.Store connection.old).versions)) }
+{
+    let rows = or_trouble(version_rows(connection, tenant, bucket, from, upto, count))?;
+    or_trouble(read_lines(alloc, &rows))
+}

@@ -1,0 +1,83 @@
+//! The objects of a bucket, a page at a time.
+
+ghost use Rattle.std.specs.Prelude.{◌≡◌, suc, map, take, IfOk, OnOk};
+ghost use Rattle.bh_schema.specs.Connections.{IsClean, tables, StaysWithin, StaysOpen, ChangesNothing};
+ghost use Rattle.bh_schema.specs.Working.{Works, StillWorks};
+ghost use Rattle.bh_model.specs.Listings.{objects_listed};
+ghost use Rattle.bh_storage.specs.Calls.{Unless, Decides};
+ghost use Rattle.bh_view.specs.View.{view};
+ghost use Rattle.bh_pages.specs.Seen.{seen_entry, token_of};
+ghost use Rattle.bh_listing.specs.Rows.{row_shown, bucket_rows, entries_of};
+ghost use Rattle.bh_listing.specs.Told.{asked_view, page_view};
+
+use crate::lines::version_lines;
+use crate::told::told_objects;
+use bh_docs::ObjectsPage;
+use bh_objects::reads::bucket_state;
+use bh_pages::gathering::{Asked, Listed, past};
+use bh_pages::reading::Reading;
+use bh_storage::error::{StepError, Trouble};
+use bh_types::bucket::BucketName;
+use bh_types::names::TenantName;
+use bh_types::refusal::Refusal;
+use sqlite::{Alter, Connection};
+use std::alloc::Global;
+
+/// What a page of a bucket's objects takes, and one entry more, if there is one.
+fn gather_objects<S: Alter>(
+    connection: &mut Connection<S>,
+    alloc: Global,
+    tenant: &str,
+    bucket: &str,
+    asked: &Asked<'_>,
+) -> Result<Vec<Listed>, Trouble>
+    requires working { Works S.Store connection.old }
+    ensures within { StaysWithin S.Store connection.old connection.new }
+    ensures opens { OnOk result (StaysOpen S.Store connection.old connection.new) }
+    ensures same { OnOk result (ChangesNothing S.Store connection.old connection.new) }
+    ensures gathered { IfOk result (λ entries. IsClean S.Store connection.new
+        → map seen_entry entries.items ≡ take (suc asked.now.max)
+        (entries_of asked.now.prefix.now asked.now.delimiter.now (token_of asked.now)
+        (map row_shown (bucket_rows tenant.now bucket.now asked.now.prefix.now (tables S.Store connection.old).versions)))) }
+{
+    let upto = past(alloc, asked.prefix, 255)?;
+    let mut reading = Reading::begin(alloc, asked)?;
+    'reading: for _ in 0..u64::MAX {
+        let lines = version_lines(
+            connection,
+            alloc,
+            tenant,
+            bucket,
+            reading.from.as_slice(),
+            upto.as_slice(),
+            reading.count,
+        )?;
+        if reading.take(alloc, asked, lines.as_slice())? {
+            return Ok(reading.into_entries());
+        }
+    }
+    // So many rows there are not.
+    Err(Trouble::Store)
+}
+
+/// S3's ListObjectsV2, a page of a bucket's objects: NoSuchBucket.
+pub fn list_objects<S: Alter>(
+    connection: &mut Connection<S>,
+    alloc: Global,
+    tenant: &TenantName,
+    bucket: &BucketName,
+    asked: &Asked<'_>,
+) -> Result<ObjectsPage, StepError<Refusal>>
+    requires working { Works S.Store connection.old }
+    ensures within { StaysWithin S.Store connection.old connection.new }
+    ensures opens { Unless result (StaysOpen S.Store connection.old connection.new) }
+    ensures working { Unless result (StillWorks S.Store connection.old connection.new) }
+    ensures decides { IsClean S.Store connection.new
+        → Decides page_view (objects_listed bucket.now (asked_view asked.now) (token_of asked.now)
+        (view (tables S.Store connection.old) tenant.now))
+        (tables S.Store connection.old) (tables S.Store connection.new) result }
+{
+    bucket_state(connection, tenant, bucket)?;
+    let entries = gather_objects(connection, alloc, tenant.as_str(), bucket.as_str(), asked)?;
+    Ok(told_objects(alloc, bucket.as_str(), asked, &entries)?)
+}

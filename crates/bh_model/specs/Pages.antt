@@ -1,0 +1,153 @@
+-- Pages of a listing: keys under a prefix, where the keys that share a part up to a delimiter stand as one name.
+use Rattle.std.specs.Prelude.{ℕ, Bool, true, false, ◌==◌, ◌&&◌, nat_lt, List, [], ◌∷◌, ◌++◌, length, map, flat_map, take, drop, Option, Some, None, option_map, if◌then◌else◌}
+use Rattle.std.specs.List.{filter, filter_map}
+use Rattle.std.specs.Ordering.{is_eq, is_lt, is_le}
+use Rattle.bh_model.specs.State.{Octets, octets_cmp, Content, Content.Marker, Content.Body, Entry}
+
+abbrev pub same : Octets → Octets → Bool
+same a b = is_eq (octets_cmp a b)
+
+abbrev pub is_before : Octets → Octets → Bool
+is_before a b = is_lt (octets_cmp a b)
+
+abbrev pub is_upto : Octets → Octets → Bool
+is_upto a b = is_le (octets_cmp a b)
+
+-- ---- names
+
+-- whether the second text begins with the first
+abbrev pub begins : Octets → Octets → Bool
+begins [] key = true
+begins (b ∷ bs) [] = false
+begins (b ∷ bs) (c ∷ cs) = b == c && begins bs cs
+
+-- a text up to and including the first occurrence of a delimiter, if it occurs
+abbrev pub cut : Octets → Octets → Option Octets
+cut delimiter [] = None
+cut delimiter (b ∷ bs) = if begins delimiter (b ∷ bs) then Some delimiter else option_map (λ n. b ∷ n) (cut delimiter bs)
+
+-- the name that a key is rolled up under: the part up to and including the first delimiter after the prefix.
+-- An empty delimiter rolls up nothing
+abbrev pub rolled : Octets → Octets → Octets → Option Octets
+rolled prefix [] key = None
+rolled prefix (d ∷ ds) key = option_map (λ n. prefix ++ n) (cut (d ∷ ds) (drop (length prefix) key))
+
+-- ---- entries
+
+-- an entry of a listing: an item under its own key, or a rolled-up name for all items under it
+pub data Listed (T : Type 0) : Type 0 where
+  Single : T → Listed T
+  Common : Octets → Listed T
+
+abbrev pub is_name : Octets → Option Octets → Bool
+is_name name None = false
+is_name name (Some other) = same other name
+
+module _ {T : Type 0} where
+  abbrev pub as_listed : T → Option Octets → Listed T
+  as_listed x None = Single x
+  as_listed x (Some name) = Common name
+
+  -- its name
+  abbrev pub name_of : (T → Octets) → Listed T → Octets
+  name_of key (Single x) = key x
+  name_of key (Common name) = name
+
+  -- a rolled-up name that follows itself is one entry; `last` is the one that was listed last, if nothing came since
+  abbrev pub joined : Option Octets → List (Listed T) → List (Listed T)
+  joined last [] = []
+  joined last (Single x ∷ es) = Single x ∷ joined None es
+  joined last (Common name ∷ es) = if is_name name last then joined last es else Common name ∷ joined (Some name) es
+
+  module _ (prefix delimiter : Octets) (key : T → Octets) where
+    abbrev pub entry_of : T → Listed T
+    entry_of x = as_listed x (rolled prefix delimiter (key x))
+
+    -- of items in the order of their keys, the entries that a marker lets through
+    abbrev pub entries_after : (Listed T → Bool) → List T → List (Listed T)
+    entries_after passes items = joined None (filter passes (map entry_of (filter (λ x. begins prefix (key x)) items)))
+
+-- ---- a page
+
+-- which page is asked for: the keys under a prefix, rolled up at a delimiter, `max` entries at most
+pub record Asked : Type 0 where
+  pub prefix : Octets
+  pub delimiter : Octets
+  pub max : ℕ
+
+pub record Paged (E : Type 0) : Type 0 where
+  pub shown : List E
+  -- the last of them, where some are left over; the next page begins after it
+  pub next : Option E
+
+module _ {E : Type 0} where
+  abbrev pub last_of : List E → Option E
+  last_of [] = None
+  last_of (x ∷ []) = Some x
+  last_of (x ∷ y ∷ l) = last_of (y ∷ l)
+
+  -- the first `max` entries. A page of none is not truncated
+  abbrev pub paged : ℕ → List E → Paged E
+  paged max entries = record { shown = take max entries; next = if nat_lt max (length entries) then last_of (take max entries) else None }
+
+-- the names greater than the marker, if there is one
+abbrev pub after_name : {T : Type 0} → (T → Octets) → Option Octets → Listed T → Bool
+after_name key None e = true
+after_name key (Some marker) e = is_before marker (name_of key e)
+
+-- ---- ListObjectsV2: the keys whose newest entry is no delete marker
+-- Amazon S3 API Reference, ListObjectsV2; Amazon S3 User Guide, "Organizing objects using prefixes"
+
+-- an object; its moment is in seconds since 1970
+pub record ObjectItem : Type 0 where
+  pub key : Octets
+  pub moment : ℕ
+  -- in bytes
+  pub size : ℕ
+  pub checksum : Octets
+
+abbrev pub object_of : Octets → ℕ → Content → Option ObjectItem
+object_of key moment Marker = None
+object_of key moment (Body bytes checksum) = Some (record { key = key; moment = moment; size = length bytes; checksum = checksum })
+
+abbrev pub current_object : Octets → List Entry → Option ObjectItem
+current_object key [] = None
+current_object key (newest ∷ older) = object_of key newest.moment newest.content
+
+abbrev pub objects_in : List (Octets × List Entry) → List ObjectItem
+objects_in keys = filter_map (λ k. current_object k.0 k.1) keys
+
+-- after the name that a token gives
+abbrev pub objects_page : Asked → Option Octets → List (Octets × List Entry) → Paged (Listed ObjectItem)
+objects_page asked token keys =
+    paged asked.max (entries_after asked.prefix asked.delimiter (λ o. o.key) (after_name (λ (o : ObjectItem). o.key) token) (objects_in keys))
+
+-- ---- what a page of objects tells
+
+-- CommonPrefixes and Contents, and the last name shown, where the page is truncated
+pub record ObjectsListed : Type 0 where
+  pub bucket : Octets
+  pub prefix : Octets
+  pub max : ℕ
+  pub prefixes : List Octets
+  pub objects : List ObjectItem
+  pub next : Option Octets
+
+module _ {T : Type 0} where
+  abbrev pub common_in : Listed T → List Octets
+  common_in (Single x) = []
+  common_in (Common name) = name ∷ []
+
+  abbrev pub single_in : Listed T → List T
+  single_in (Single x) = x ∷ []
+  single_in (Common name) = []
+
+abbrev pub objects_told : Octets → Asked → Paged (Listed ObjectItem) → ObjectsListed
+objects_told bucket asked page = record {
+  bucket = bucket;
+  prefix = asked.prefix;
+  max = asked.max;
+  prefixes = flat_map common_in page.shown;
+  objects = flat_map single_in page.shown;
+  next = option_map (name_of (λ (o : ObjectItem). o.key)) page.next;
+}

@@ -1,0 +1,23 @@
+-- Rows one after another.
+use Rattle.std.proofs.Common.{◌≡◌, ℕ, ◌+◌, ◌<◌, ◌≤◌, Bool, true, false, cond, List, [], ◌∷◌, length, map, drop, get_or, nat_lt, suc, refl, sym, ap, ◌∙◌, arith}
+use Rattle.std.proofs.Math.Seq.{drop-cons}
+use Rattle.std.proofs.Math.ListN.{drop_of_length-le}
+use Rattle.std.proofs.lemmas.Bool.Decides.{nat_tests}
+use Rattle.bh_model.specs.Pages.{ObjectItem}
+use Rattle.bh_pages.specs.Gathered.{Gathered}
+use Rattle.bh_pages.specs.Seen.{Shown, rows_added, row_added}
+use Rattle.bh_pages.specs.declared.gathering.Asked.{Asked}
+
+-- a full page stays
+pub rows_full : (asked : Asked) (g : Gathered ObjectItem) (rows : List Shown) → asked.max < length g.entries → rows_added asked g rows ≡ g
+rows_full asked g [] full = refl
+rows_full asked g (r ∷ rows) full = ap (λ t. cond t g (rows_added asked (row_added asked g r) rows)) (is asked.max (length g.entries) full)
+  where
+    is : (a b : ℕ) → a < b → nat_lt a b ≡ true
+    is a b h = grind (arith, nat_tests, h)
+
+pub rows_more : (asked : Asked) (g : Gathered ObjectItem) (r : Shown) (rows : List Shown) → length g.entries ≤ asked.max → rows_added asked g (r ∷ rows) ≡ rows_added asked (row_added asked g r) rows
+rows_more asked g r rows few = ap (λ t. cond t g (rows_added asked (row_added asked g r) rows)) (is asked.max (length g.entries) few)
+  where
+    is : (a b : ℕ) → b ≤ a → nat_lt a b ≡ false
+    is a b h = grind (arith, nat_tests, h)

@@ -1,0 +1,72 @@
+-- The pages that worked rows give, computed.
+use Rattle.std.proofs.Common.{◌≡◌, ℕ, codes, true, false, List, [], ◌∷◌, map, Option, Some, None, option_map, refl}
+use Rattle.bh_types.specs.declared.id.VersionId.TheVariants.{Null, Numbered}
+use Rattle.bh_model.specs.State.{Octets, Content.Marker, Content.Body, Entry}
+use Rattle.bh_model.specs.Pages.{Asked, Paged, Listed, ObjectItem, name_of, rolled, objects_page, objects_told}
+
+abbrev names : Paged (Listed ObjectItem) → List Octets × Option Octets
+names p = (map (name_of (λ o. o.key)) p.shown, option_map (name_of (λ (o : ObjectItem). o.key)) p.next)
+
+abbrev asked : (prefix delimiter : Octets) → ℕ → Asked
+asked prefix delimiter max = record { prefix = prefix; delimiter = delimiter; max = max }
+
+abbrev object : Octets → Octets × List Entry
+object key = (key, record { id = Null; moment = 0; content = Body [] [] } ∷ [])
+
+-- the key é, in UTF-8
+abbrev e_acute : Octets
+e_acute = 195 ∷ 169 ∷ []
+
+abbrev five : List (Octets × List Entry)
+five = object (codes "a") ∷ object (codes "a/1") ∷ object (codes "a/2") ∷ object (codes "b") ∷ object e_acute ∷ []
+
+first_page : names (objects_page (asked [] (codes "/") 2) None five) ≡ (codes "a" ∷ codes "a/" ∷ [], Some (codes "a/"))
+first_page = refl
+
+-- the rolled-up name isn't shown again
+second_page : names (objects_page (asked [] (codes "/") 2) (Some (codes "a/")) five) ≡ (codes "b" ∷ e_acute ∷ [], None)
+second_page = refl
+
+-- a marker within what is rolled up lets no more of it through
+within_page : names (objects_page (asked [] (codes "/") 2) (Some (codes "a/1")) five) ≡ (codes "b" ∷ e_acute ∷ [], None)
+within_page = refl
+
+under_prefix : names (objects_page (asked (codes "a/") (codes "/") 1) None five) ≡ (codes "a/1" ∷ [], Some (codes "a/1"))
+under_prefix = refl
+
+-- as many as there are: nothing is left over
+last_page : names (objects_page (asked [] [] 5) None five) ≡ (codes "a" ∷ codes "a/1" ∷ codes "a/2" ∷ codes "b" ∷ e_acute ∷ [], None)
+last_page = refl
+
+no_page : names (objects_page (asked [] (codes "/") 0) None five) ≡ ([], None)
+no_page = refl
+
+-- entries are counted and not rows
+third_entry : names (objects_page (asked [] (codes "/") 3) None five) ≡ (codes "a" ∷ codes "a/" ∷ codes "b" ∷ [], Some (codes "b"))
+third_entry = refl
+
+long_delimiter : rolled (codes "x") (codes "--") (codes "x-a--b--c") ≡ Some (codes "x-a--")
+long_delimiter = refl
+
+-- a delimiter within the prefix rolls up nothing
+delimiter_before : rolled (codes "a/") (codes "/") (codes "a/1") ≡ None
+delimiter_before = refl
+
+-- x was put and then deleted, y was put
+abbrev versions : List (Octets × List Entry)
+versions = (codes "x", record { id = Numbered 2; moment = 0; content = Marker } ∷ record { id = Numbered 1; moment = 0; content = Body (codes "a") [] } ∷ [])
+    ∷ (codes "y", record { id = Numbered 3; moment = 0; content = Body (codes "b") [] } ∷ []) ∷ []
+
+only_y : names (objects_page (asked [] [] 1000) None versions) ≡ (codes "y" ∷ [], None)
+only_y = refl
+
+-- a page's two lists
+told_apart : objects_told (codes "docs") (asked [] (codes "/") 2) (objects_page (asked [] (codes "/") 2) None five) ≡ record {
+  bucket = codes "docs";
+  prefix = [];
+  max = 2;
+  prefixes = codes "a/" ∷ [];
+  objects = record { key = codes "a"; moment = 0; size = 0; checksum = [] } ∷ [];
+  next = Some (codes "a/");
+}
+told_apart = refl

@@ -1,0 +1,226 @@
+//! A page that is gathered row by row.
+
+ghost use Rattle.std.specs.Prelude.{◌≡◌, ◌<◌, ◌≤◌, ◌^◌, true, false, Some, None, [], ◌∷◌, ◌++◌, map, length, IsTrue, OnOk, IfOk, option_map};
+ghost use Rattle.std.specs.List.{AllByRecursion};
+ghost use Rattle.bh_model.specs.Pages.{Listed.Single, Listed.Common, is_name, is_before, begins, after_name};
+ghost use Rattle.bh_pages.specs.Gathered.{with_entry, nothing_gathered, start_of};
+ghost use Rattle.bh_pages.specs.Seen.{seen, seen_line, seen_object, object_in, token_of, item_added, row_added, rows_added, read_on};
+
+use crate::names::name_end;
+use std::alloc::{AllocError, Global};
+use std::cmp::Ordering;
+
+/// Which page is asked for.
+pub struct Asked<'a> {
+    pub prefix: &'a [u8],
+    pub delimiter: &'a [u8],
+    /// The name that the page comes after.
+    pub after: Option<&'a [u8]>,
+    /// How many entries the page has at most.
+    pub max: u32,
+}
+
+/// A version or a delete marker of a key.
+#[derive(Drop)]
+pub struct Line {
+    pub key: Vec<u8>,
+    /// 0 for a version.
+    pub marker: u64,
+    pub stamp: u64,
+    pub size: u64,
+    pub checksum: String,
+}
+
+/// An object as a listing shows it.
+#[derive(Drop)]
+pub struct ObjectLine {
+    pub key: Vec<u8>,
+    pub stamp: u64,
+    pub size: u64,
+    pub checksum: String,
+}
+
+/// An object, or a rolled-up name.
+#[derive(Drop)]
+pub enum Listed {
+    Object(ObjectLine),
+    Common(Vec<u8>),
+}
+
+/// What a page has so far.
+#[derive(Drop)]
+pub struct Gathering {
+    /// The key of the row before.
+    pub key: Option<Vec<u8>>,
+    /// The rolled-up name that was listed last, if nothing was listed since.
+    pub name: Option<Vec<u8>>,
+    pub entries: Vec<Listed>,
+}
+
+/// Whether a text is this one.
+pub fn is_text(text: &Option<Vec<u8>>, other: &[u8]) -> bool
+    ensures { result ≡ is_name other.now (option_map (λ t. t.items) text.now) }
+{
+    match text {
+        None => false,
+        Some(text) => matches!(text.as_slice().cmp(other), Ordering::Equal),
+    }
+}
+
+/// A text with one byte more.
+pub fn past(alloc: Global, text: &[u8], byte: u8) -> Result<Vec<u8>, AllocError>
+    ensures { IfOk result (λ past. past.items ≡ text.now ++ byte ∷ []) }
+{
+    let mut past = Vec::from_slice(alloc, text)?;
+    past.push(byte)?;
+    Ok(past)
+}
+
+impl Asked<'_> {
+    /// Whether the page may list this name.
+    pub fn is_past(&self, name: &[u8]) -> bool
+        ensures { result ≡ after_name (λ n. n) (token_of self.now) (Common name.now) }
+    {
+        match self.after {
+            None => true,
+            Some(marker) => matches!(marker.cmp(name), Ordering::Less),
+        }
+    }
+}
+
+impl Asked<'_> {
+    /// Where reading begins.
+    pub fn start(&self, alloc: Global) -> Result<Vec<u8>, AllocError>
+        ensures { IfOk result (λ start. start.items ≡ start_of self.now.prefix.now (token_of self.now)) }
+    {
+        match self.after {
+            None => Vec::from_slice(alloc, self.prefix),
+            Some(marker) => {
+                if matches!(self.prefix.cmp(marker), Ordering::Greater) {
+                    Vec::from_slice(alloc, self.prefix)
+                } else {
+                    past(alloc, marker, 0)
+                }
+            }
+        }
+    }
+}
+
+impl Gathering {
+    pub fn new(alloc: Global) -> Gathering
+        ensures { seen result ≡ nothing_gathered }
+    {
+        Gathering {
+            key: None,
+            name: None,
+            entries: Vec::new(alloc),
+        }
+    }
+
+    /// Lists an object.
+    pub fn list_object(&mut self, object: ObjectLine) -> Result<(), AllocError>
+        ensures { OnOk result (seen self.new ≡ with_entry (seen self.old) (Single (seen_object object))) }
+    {
+        self.name = None;
+        self.entries.push(Listed::Object(object))?;
+        Ok(())
+    }
+
+    /// Lists a rolled-up name, unless it was the last.
+    pub fn list_name(&mut self, alloc: Global, name: &[u8]) -> Result<(), AllocError>
+        ensures { OnOk result (seen self.new ≡ with_entry (seen self.old) (Common name.now)) }
+    {
+        if is_text(&self.name, name) {
+            return Ok(());
+        }
+        self.name = Some(Vec::from_slice(alloc, name)?);
+        let listed = Vec::from_slice(alloc, name)?;
+        self.entries.push(Listed::Common(listed))?;
+        Ok(())
+    }
+
+    /// Lists an object of a key under the prefix, or the name that it is rolled up under, if the page may.
+    pub fn add_item(
+        &mut self,
+        alloc: Global,
+        asked: &Asked<'_>,
+        line: &Line,
+    ) -> Result<(), AllocError>
+        ensures { begins asked.now.prefix.now line.now.key.items ≡ true → OnOk result (seen self.new ≡ item_added asked.now (seen self.old) (Some (object_in line.now))) }
+    {
+        match name_end(asked.prefix, asked.delimiter, line.key.as_slice()) {
+            None => {
+                if !asked.is_past(line.key.as_slice()) {
+                    return Ok(());
+                }
+                self.list_object(ObjectLine {
+                    key: Vec::from_slice(alloc, line.key.as_slice())?,
+                    stamp: line.stamp,
+                    size: line.size,
+                    checksum: line.checksum.clone()?,
+                })
+            }
+            Some(end) => {
+                let name = &line.key[..end];
+                if !asked.is_past(name) {
+                    return Ok(());
+                }
+                self.list_name(alloc, name)
+            }
+        }
+    }
+
+    /// A row more, whose key is under the prefix.
+    pub fn add(&mut self, alloc: Global, asked: &Asked<'_>, line: &Line) -> Result<(), AllocError>
+        ensures { begins asked.now.prefix.now line.now.key.items ≡ true → OnOk result (seen self.new ≡ row_added asked.now (seen self.old) (seen_line line.now)) }
+    {
+        if is_text(&self.key, line.key.as_slice()) {
+            return Ok(());
+        }
+        self.key = Some(Vec::from_slice(alloc, line.key.as_slice())?);
+        if line.marker != 0 {
+            return Ok(());
+        }
+        self.add_item(alloc, asked, line)
+    }
+
+    /// The rows in turn, until there are more entries than the page takes.
+    pub fn add_all(
+        &mut self,
+        alloc: Global,
+        asked: &Asked<'_>,
+        lines: &[Line],
+    ) -> Result<(), AllocError>
+        ensures { AllByRecursion (λ l. begins asked.now.prefix.now l.key.items ≡ true) lines.now → OnOk result (seen self.new ≡ rows_added asked.now (seen self.old) (map seen_line lines.now)) }
+    {
+        for line in lines {
+            if self.entries.len() > asked.max as usize {
+                return Ok(());
+            }
+            self.add(alloc, asked, line)?;
+        }
+        Ok(())
+    }
+
+    /// Where to read on after the row before, which had this key.
+    pub fn place(
+        &self,
+        alloc: Global,
+        asked: &Asked<'_>,
+        key: &[u8],
+    ) -> Result<Vec<u8>, AllocError>
+        ensures { begins asked.now.prefix.now key.now ≡ true → IfOk result (λ place. place.items ≡ read_on asked.now (seen self.now) key.now) }
+    {
+        match name_end(asked.prefix, asked.delimiter, key) {
+            None => past(alloc, key, 0),
+            Some(end) => {
+                let name = &key[..end];
+                if is_text(&self.name, name) || !asked.is_past(name) {
+                    past(alloc, name, 255)
+                } else {
+                    past(alloc, key, 0)
+                }
+            }
+        }
+    }
+}

@@ -1,0 +1,6 @@
+//! Pages of listings.
+#![tactic(auto)]
+
+pub mod gathering;
+pub mod names;
+pub mod reading;
