@@ -83,7 +83,7 @@ module _ {H : Type 0} (IsIntact IsOpen : H → Type 0) (seen : H → Seen) (left
         requests ++ (reading, request) ∷ [],
         tolds ++ (stamp, reply) ∷ [],
         subst (λ es. RanOn IsOpen seen left es (tolds ++ (stamp, reply) ∷ []) old new) (sym all)
-        (ran_with (map arrived requests) tolds reading (Some (request, (stamp, reply))) old mid new intact ran did),
+            (ran_with (map arrived requests) tolds reading (Some (request, (stamp, reply))) old mid new intact ran did),
       )
 
   pub came_to_some : (before after : Ends) (served : Served) (old new : H) → CameTo IsIntact IsOpen seen left before after served old new → DidSome IsIntact IsOpen seen left old new

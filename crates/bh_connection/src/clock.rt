@@ -1,6 +1,5 @@
-use std::io;
 use std::io::ErrorKind;
-use std::time;
+use std::{io, time};
 
 /// The clock by which connections are served.
 pub trait Clock {

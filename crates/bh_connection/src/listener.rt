@@ -22,14 +22,11 @@ const CLOSING: u64 = 1;
 const LATE_READS: u32 = 1024;
 
 /// Serves so many connections on a port of 127.0.0.1, as [`serve_listener`] does.
-pub fn serve_port<N: Net<Stream = TcpStream, Listener = TcpListener> + AllocGlobal, H: Storage, C: Clock>(
-    net: &N,
-    host: &mut H,
-    clock: &C,
-    port: u16,
-    timeout: u64,
-    count: u64,
-) -> io::Result<()>
+pub fn serve_port<
+    N: Net<Stream = TcpStream, Listener = TcpListener> + AllocGlobal,
+    H: Storage,
+    C: Clock,
+>(net: &N, host: &mut H, clock: &C, port: u16, timeout: u64, count: u64) -> io::Result<()>
     requires { Clean H.IsIntact H.IsOpen host.old → IsAtRest (H.seen host.old) }
     ensures intact { H.IsIntact host.new → H.IsIntact host.old }
     ensures opened { H.IsIntact host.new → H.IsOpen host.new → H.IsOpen host.old }

@@ -59,9 +59,11 @@ pub fn take_request<R: Read>(
     reader: &mut Link<R>,
 ) -> Result<Vec<u8>, TakeError>
     requires { reader.old.failed ≡ false }
-    ensures took { IfOk result (λ bytes. Took limits.now (R.remaining reader.old.inner) (R.remaining reader.new.inner) bytes.items) }
+    ensures took { IfOk result (λ bytes.
+        Took limits.now (R.remaining reader.old.inner) (R.remaining reader.new.inner) bytes.items) }
     ensures going { OnOk result (reader.new.failed ≡ false) }
-    ensures within { IfErr result (λ _. (taken : List ℕ) × TookAtMost limits.now (R.remaining reader.old.inner) (R.remaining reader.new.inner) taken) }
+    ensures within { IfErr result (λ _. (taken : List ℕ)
+        × TookAtMost limits.now (R.remaining reader.old.inner) (R.remaining reader.new.inner) taken) }
     ensures failed { IfErr result (λ e. reader.new.failed ≡ is_fault e) }
 {
     let opening = take_head(alloc, limits, reader)?;
@@ -75,9 +77,11 @@ fn take_head<R: Read>(
     reader: &mut Link<R>,
 ) -> Result<Opening, TakeError>
     requires { reader.old.failed ≡ false }
-    ensures opens { IfOk result (λ opening. Opens limits.now (R.remaining reader.old.inner) (R.remaining reader.new.inner) opening.bytes.items opening.body) }
+    ensures opens { IfOk result (λ opening.
+        Opens limits.now (R.remaining reader.old.inner) (R.remaining reader.new.inner) opening.bytes.items opening.body) }
     ensures going { OnOk result (reader.new.failed ≡ false) }
-    ensures within { IfErr result (λ _. (taken : List ℕ) × TookAtMost limits.now (R.remaining reader.old.inner) (R.remaining reader.new.inner) taken) }
+    ensures within { IfErr result (λ _. (taken : List ℕ)
+        × TookAtMost limits.now (R.remaining reader.old.inner) (R.remaining reader.new.inner) taken) }
     ensures failed { IfErr result (λ e. reader.new.failed ≡ is_fault e) }
 {
     let mut bytes = Vec::new(alloc);
@@ -123,9 +127,13 @@ fn may_end(started: bool, bytes: &[u8]) -> bool
 /// Takes the body after a head. Where no body is to be taken, nothing is.
 fn take_body<R: Read>(reader: &mut Link<R>, opening: Opening) -> Result<Vec<u8>, TakeError>
     requires { reader.old.failed ≡ false }
-    ensures took { (limits : HostLimits) (start : Option (List ℕ)) → Opens limits start (R.remaining reader.old.inner) opening.bytes.items opening.body → IfOk result (λ bytes. Took limits start (R.remaining reader.new.inner) bytes.items) }
+    ensures took { (limits : HostLimits) (start : Option (List ℕ))
+        → Opens limits start (R.remaining reader.old.inner) opening.bytes.items opening.body
+        → IfOk result (λ bytes. Took limits start (R.remaining reader.new.inner) bytes.items) }
     ensures going { OnOk result (reader.new.failed ≡ false) }
-    ensures within { (limits : HostLimits) (start : Option (List ℕ)) → Opens limits start (R.remaining reader.old.inner) opening.bytes.items opening.body → IfErr result (λ _. (taken : List ℕ) × TookAtMost limits start (R.remaining reader.new.inner) taken) }
+    ensures within { (limits : HostLimits) (start : Option (List ℕ))
+        → Opens limits start (R.remaining reader.old.inner) opening.bytes.items opening.body
+        → IfErr result (λ _. (taken : List ℕ) × TookAtMost limits start (R.remaining reader.new.inner) taken) }
     ensures failed { IfErr result (λ e. reader.new.failed ≡ is_fault e) }
 {
     let mut bytes = opening.bytes;
@@ -148,9 +156,13 @@ fn take_piece<R: Read>(
 ) -> Result<u64, TakeError>
     requires going { reader.old.failed ≡ false }
     requires most { 0 < most }
-    ensures added { IfOk result (λ n. (n ≤ most) × ((n ≡ 0 → IsAtEnd (R.remaining reader.new.inner)) × ((piece : List ℕ) × (length piece ≡ n) × Consumes (R.remaining reader.old.inner) (R.remaining reader.new.inner) piece × (bytes.new.items ≡ bytes.old.items ++ piece)))) }
+    ensures added { IfOk result (λ n. (n ≤ most) × ((n ≡ 0 → IsAtEnd (R.remaining reader.new.inner))
+        × ((piece : List ℕ) × (length piece ≡ n)
+        × Consumes (R.remaining reader.old.inner) (R.remaining reader.new.inner) piece
+        × (bytes.new.items ≡ bytes.old.items ++ piece)))) }
     ensures going { OnOk result (reader.new.failed ≡ false) }
-    ensures within { IfErr result (λ _. (piece : List ℕ) × (length piece ≤ most) × Consumes (R.remaining reader.old.inner) (R.remaining reader.new.inner) piece) }
+    ensures within { IfErr result (λ _. (piece : List ℕ) × (length piece ≤ most)
+        × Consumes (R.remaining reader.old.inner) (R.remaining reader.new.inner) piece) }
     ensures failed { IfErr result (λ e. reader.new.failed ≡ is_fault e) }
 {
     let mut room = [0u8; PIECE];

@@ -1,6 +1,6 @@
 //! Stored scripts whose requests come over connections in memory.
 
-ghost use Rattle.std.specs.Prelude.{All, IfOk};
+ghost use Rattle.std.specs.Prelude.{All, IfOk, IfSome};
 ghost use Rattle.bh_storage.specs.Calls.{Clean, IsAtRest};
 ghost use Rattle.bh_connection.specs.Each.{IsGoing};
 
@@ -38,6 +38,22 @@ fn request<'a>(alloc: Global, event: &'a Event, cut: &str) -> Option<Request<'a>
     }
 }
 
+/// Adds the connection that brings an event, if it is a request.
+fn add<'a>(
+    alloc: Global,
+    arrivals: &mut Vec<Request<'a>>,
+    event: &'a Event,
+    cut: &str,
+) -> Result<(), AllocError>
+    requires { All IsGoing arrivals.old.items }
+    ensures { All IsGoing arrivals.new.items }
+{
+    if let Some(arrival) = request(alloc, event, cut) {
+        arrivals.push(arrival)?;
+    }
+    Ok(())
+}
+
 /// The connections that bring the requests of a script, each cut as the line of the same number says.
 fn requests<'a>(
     alloc: Global,
@@ -49,11 +65,27 @@ fn requests<'a>(
     let mut arrivals = Vec::new(alloc);
     let mut lines = cuts.lines();
     for event in events {
-        if let Some(arrival) = request(alloc, event, lines.next().unwrap_or("")) {
-            arrivals.push(arrival)?;
-        }
+        add(alloc, &mut arrivals, event, lines.next().unwrap_or(""))?;
     }
     Ok(arrivals)
+}
+
+/// Adds what an operator's command is answered, and a line's end; nothing of a request.
+fn order_one<H: Storage>(
+    alloc: Global,
+    host: &mut H,
+    event: &Event,
+    text: &mut Vec<u8>,
+) -> Result<(), AllocError>
+    requires { Clean H.IsIntact H.IsOpen host.old → IsAtRest (H.seen host.old) }
+    ensures { Clean H.IsIntact H.IsOpen host.new → IsAtRest (H.seen host.new) }
+{
+    if let Event::Operator { .. } = event {
+        let told = apply(alloc, host, event);
+        text.extend_from_slice(told.reply.bytes())?;
+        text.push(b'\n')?;
+    }
+    Ok(())
 }
 
 /// What an operator's commands are answered, a line's end after each.
@@ -67,11 +99,7 @@ fn order<H: Storage>(
     ensures { Clean H.IsIntact H.IsOpen host.new → IsAtRest (H.seen host.new) }
 {
     for event in events {
-        if let Event::Operator { .. } = event {
-            let told = apply(alloc, host, event);
-            text.extend_from_slice(told.reply.bytes())?;
-            text.push(b'\n')?;
-        }
+        order_one(alloc, host, event, text)?;
     }
     Ok(())
 }
@@ -81,7 +109,10 @@ fn tell(alloc: Global, served: Served, arrival: Request<'_>, text: &mut Vec<u8>)
     let unread = arrival.reader.into_inner().into_inner().0.len();
     text.extend_from_slice(arrival.writer.into_inner().held.as_slice())?;
     if served.ended != End::Whole {
-        text.write_all(format!(in alloc; "[{:?}, {} sent]", served.ended, served.sent)?.as_bytes())?;
+        text.write_all(format!(in alloc;
+            "[{:?}, {} sent]",
+            served.ended, served.sent
+        )?.as_bytes())?;
     }
     if unread > 0 {
         text.write_all(format!(in alloc; "[{unread} unread]")?.as_bytes())?;
