@@ -1,6 +1,6 @@
 //! Digest functions of which many bytes have one digest.
 
-ghost use Rattle.std.specs.Prelude.{◌≡◌, ℕ, List, length};
+ghost use Rattle.std.specs.Prelude.{◌≡◌, ◌%◌, length, replicate};
 
 use bh_schema::host::Digester;
 
