@@ -80,10 +80,10 @@ module _ (tables : Tables) (t b : Octets) (sound : IsSound tables) where
       let here : get (buckets_of (rows_of t tables)) b ≡ Some h.bucket = ap (λ (x : State). get x.buckets b) (own_row tables t h.state h.added).2 ∙ h.there in
       let whole = entries_of asked.prefix.now asked.delimiter.now (token_of asked) (map row_shown (bucket_rows t b asked.prefix.now tables.versions)) in
       let same : whole ≡ entries_after asked.prefix.now asked.delimiter.now (λ (o : ObjectItem). o.key) (after_name (λ (o : ObjectItem). o.key) (token_of asked)) (objects_in (entries h.bucket.objects)) =
-          entries_are t b asked.prefix.now asked.delimiter.now (token_of asked) tables.versions (small_keys tables sound) sizes (entries_apart (objects_of own))
-          ∙ ap (λ m. entries_after asked.prefix.now asked.delimiter.now (λ (o : ObjectItem). o.key) (after_name (λ (o : ObjectItem). o.key) (token_of asked)) (objects_in (entries m))) (objects_shown (rows_of t tables) b h.bucket here) in
+      entries_are t b asked.prefix.now asked.delimiter.now (token_of asked) tables.versions (small_keys tables sound) sizes (entries_apart (objects_of own))
+      ∙ ap (λ m. entries_after asked.prefix.now asked.delimiter.now (λ (o : ObjectItem). o.key) (after_name (λ (o : ObjectItem). o.key) (token_of asked)) (objects_in (entries m))) (objects_shown (rows_of t tables) b h.bucket here) in
       let told : objects_listed b (asked_view asked) (token_of asked) (view tables t) ≡ Ok (objects_told b (asked_view asked) (paged asked.max (entries_after asked.prefix.now asked.delimiter.now (λ (o : ObjectItem). o.key) (after_name (λ (o : ObjectItem). o.key) (token_of asked)) (objects_in (entries h.bucket.objects))))) =
-          told_in b (asked_view asked) (token_of asked) (view tables t) h.state h.bucket h.added h.there in
+      told_in b (asked_view asked) (token_of asked) (view tables t) h.state h.bucket h.added h.there in
       told ∙ ap (λ p. Ok (objects_told b (asked_view asked) p)) (ap (paged asked.max) (sym same) ∙ sym (paged_taken asked.max whole) ∙ ap (paged asked.max) (sym are))
 
   -- the same of what a call has at hand

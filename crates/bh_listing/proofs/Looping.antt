@@ -103,14 +103,16 @@ module _ (asked : Asked) (tenant bucket : Octets) (versions : List VersionRow) w
         next_page few all some key is =
             let size : length (take n (rows_from (λ (r : Shown). r.0) from shown_rows)) ≡ length lines = sym (ap length are_chunk) ∙ length-map lines seen_line in
             let step = chunk_next (λ (r : Shown). r.0) item_in asked.prefix.now asked.delimiter.now (λ (o : ObjectItem). o.key) (after_name (λ (o : ObjectItem). o.key) (token_of asked)) keyed shown_rows in_order fine asked.max whole g from n had.come had.short
-                (subst (λ (h : Gathered ObjectItem). length h.entries ≤ asked.max) (sym next_is) few) key (ap (λ (h : Gathered ObjectItem). h.key) next_is ∙ is) (λ none. some (none_left n (length lines) all (sym size ∙ none))) in
+            (subst (λ (h : Gathered ObjectItem). length h.entries ≤ asked.max) (sym next_is) few) key (ap (λ (h : Gathered ObjectItem). h.key) next_is ∙ is) (λ none. some (none_left n (length lines) all (sym size ∙ none))) in
             let under = chunk_key (λ (r : Shown). r.0) item_in asked.prefix.now asked.delimiter.now (λ (o : ObjectItem). o.key) (after_name (λ (o : ObjectItem). o.key) (token_of asked)) keyed shown_rows in_order fine asked.max whole g from n had.come had.short
-                (subst (λ (h : Gathered ObjectItem). length h.entries ≤ asked.max) (sym next_is) few) key (ap (λ (h : Gathered ObjectItem). h.key) next_is ∙ is) (λ none. some (none_left n (length lines) all (sym size ∙ none))) in
-            (under.0, record {
-              low = place_low (λ (r : Shown). r.0) item_in asked.prefix.now asked.delimiter.now (λ (o : ObjectItem). o.key) (after_name (λ (o : ObjectItem). o.key) (token_of asked)) keyed shown_rows in_order fine next key under.0 under.1;
-              short = up few;
-              come = subst (λ (h : Gathered ObjectItem). take (suc asked.max) whole ≡ take (suc asked.max) (h.entries ++ still_to_come asked h (rows_from (λ (r : Shown). r.0) (read_on asked h key) shown_rows))) next_is step;
-            })
+            (subst (λ (h : Gathered ObjectItem). length h.entries ≤ asked.max) (sym next_is) few) key (ap (λ (h : Gathered ObjectItem). h.key) next_is ∙ is) (λ none. some (none_left n (length lines) all (sym size ∙ none))) in (
+              under.0,
+              record {
+                low = place_low (λ (r : Shown). r.0) item_in asked.prefix.now asked.delimiter.now (λ (o : ObjectItem). o.key) (after_name (λ (o : ObjectItem). o.key) (token_of asked)) keyed shown_rows in_order fine next key under.0 under.1;
+                short = up few;
+                come = subst (λ (h : Gathered ObjectItem). take (suc asked.max) whole ≡ take (suc asked.max) (h.entries ++ still_to_come asked h (rows_from (λ (r : Shown). r.0) (read_on asked h key) shown_rows))) next_is step;
+              },
+            )
           where
             up : {m k : ℕ} → m ≤ k → m ≤ suc k
             up h = omega (arith, h)
@@ -144,7 +146,7 @@ module _ (asked : Asked) (tenant bucket : Octets) (versions : List VersionRow) (
     turn_ended is = go (nat_lt asked.max (length after.gathering.entries.items)) (nat_lt (length lines) before.count) refl refl (sym took.ends ∙ is)
       where
         go : (a b : Bool) → nat_lt asked.max (length after.gathering.entries.items) ≡ a → nat_lt (length lines) before.count ≡ b → (nat_lt asked.max (length after.gathering.entries.items) || nat_lt (length lines) before.count) ≡ true
-           → shown ≡ take (suc asked.max) (whole asked tenant bucket versions)
+            → shown ≡ take (suc asked.max) (whole asked tenant bucket versions)
         go true b is_a is_b h = full (past_nat _ _ is_a)
         go false true is_a is_b h = last (past_nat _ _ is_b)
         go false false is_a is_b h = absurd (true≢false (sym h ∙ ap (λ a. a || nat_lt (length lines) before.count) is_a ∙ is_b))
@@ -155,12 +157,13 @@ module _ (asked : Asked) (tenant bucket : Octets) (versions : List VersionRow) (
         let on = took.on is in
         let neither = both_not (nat_lt asked.max (length after.gathering.entries.items)) (nat_lt (length lines) before.count) (sym took.ends ∙ is) in
         let it = next_page asked tenant bucket versions small (seen before.gathering) before.from.items had before.count lines are (seen after.gathering) took.added
-            (subst (λ k. k ≤ asked.max) (sym (length-map after.gathering.entries.items seen_entry)) (upto_nat _ _ neither.0)) (upto_nat _ _ neither.1) (not_none before.count some.some) on.key on.last in
+        (subst (λ k. k ≤ asked.max) (sym (length-map after.gathering.entries.items seen_entry)) (upto_nat _ _ neither.0)) (upto_nat _ _ neither.1) (not_none before.count some.some) on.key on.last in
         subst (HasRead asked tenant bucket versions (seen after.gathering)) (sym (on.place it.0)) it.1
       where
         both_not : (a b : Bool) → (a || b) ≡ false → (a ≡ false) × (b ≡ false)
         both_not true b h = absurd (true≢false h)
         both_not false b h = (refl, h)
+
         not_none : (n : ℕ) → 1 ≤ n → n ≢ 0
         not_none n h e = omega (arith, h, e)
 

@@ -65,7 +65,8 @@ module _ (tenant bucket from upto : Octets) (count : ℕ) where
     where
       ready_at : IsReadyAt version_form host_schema 7 old
       ready_at clean up = let h = ready clean up in (h.schema, h.held.versions)
+
       go : (r : Result _ Error) → IfOk r (λ x. rows_in x ≡ take count (map shown_listed (sort_by version_order (filter (is_listed tenant bucket from upto) (tables old).versions))))
-         → IfOk r (λ x. rows_in x ≡ map shown_listed (listed_rows tenant bucket from upto count (tables old).versions))
+          → IfOk r (λ x. rows_in x ≡ map shown_listed (listed_rows tenant bucket from upto count (tables old).versions))
       go (Ok x) h = h ∙ take_map shown_listed count (sort_by version_order (filter (is_listed tenant bucket from upto) (tables old).versions))
       go (Err e) h = tt

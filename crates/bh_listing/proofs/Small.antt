@@ -42,12 +42,15 @@ small_char c top = one (nat_lt c 128) refl
   where
     four : AreSmall ((240 + c / 262144) ∷ (128 + c / 4096 % 64) ∷ (128 + c / 64 % 64) ∷ (128 + c % 64) ∷ [])
     four = (omega (arith, top), (later (c / 4096), (later (c / 64), (later c, tt))))
+
     three : (t : Bool) → nat_lt c 65536 ≡ t → AreSmall (cond t ((224 + c / 4096) ∷ (128 + c / 64 % 64) ∷ (128 + c % 64) ∷ []) ((240 + c / 262144) ∷ (128 + c / 4096 % 64) ∷ (128 + c / 64 % 64) ∷ (128 + c % 64) ∷ []))
     three true e = let h = low c 65536 e in (omega (arith, h), (later (c / 64), (later c, tt)))
     three false e = four
+
     two : (t : Bool) → nat_lt c 2048 ≡ t → AreSmall (cond t ((192 + c / 64) ∷ (128 + c % 64) ∷ []) (cond (nat_lt c 65536) ((224 + c / 4096) ∷ (128 + c / 64 % 64) ∷ (128 + c % 64) ∷ []) ((240 + c / 262144) ∷ (128 + c / 4096 % 64) ∷ (128 + c / 64 % 64) ∷ (128 + c % 64) ∷ [])))
     two true e = let h = low c 2048 e in (omega (arith, h), (later c, tt))
     two false e = three (nat_lt c 65536) refl
+
     one : (t : Bool) → nat_lt c 128 ≡ t → AreSmall (cond t (c ∷ []) (cond (nat_lt c 2048) ((192 + c / 64) ∷ (128 + c % 64) ∷ []) (cond (nat_lt c 65536) ((224 + c / 4096) ∷ (128 + c / 64 % 64) ∷ (128 + c % 64) ∷ []) ((240 + c / 262144) ∷ (128 + c / 4096 % 64) ∷ (128 + c / 64 % 64) ∷ (128 + c % 64) ∷ []))))
     one true e = let h = low c 128 e in (omega (arith, h), tt)
     one false e = two (nat_lt c 2048) refl

@@ -43,6 +43,7 @@ next_shown see l (suc n) x some lt is =
   where
     down : (n m : ℕ) → suc n < m → n < m
     down n m h = omega (arith, h)
+
     less : (n : ℕ) → suc n - 1 ≡ n
     less n = omega arith
 

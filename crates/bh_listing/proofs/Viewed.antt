@@ -70,9 +70,11 @@ module _ (tenant bucket prefix : Octets) where
       inside : begins prefix k ≡ true → (bytes_le prefix k && bytes_lt k (past_name prefix)) ≡ true
       inside h = ap (λ t. t && bytes_lt k (past_name prefix)) (upto_begun prefix k h)
           ∙ lt_of (bytes_cmp k (past_name prefix)) (ap is_le (sym (nat_list_cmp_total.antisymm (past_name prefix) k)) ∙ before_past_name prefix k h small)
+
       outside : (b : Bool) → (bytes_le prefix k && bytes_lt k (past_name prefix)) ≡ b → begins prefix k ≡ false → b ≡ false
       outside true e h = absurd (true≢false (sym (begins_between prefix k (both2 e).0 (not_upto_lt k (past_name prefix) (both2 e).1)) ∙ h))
       outside false e h = refl
+
       go : (b : Bool) → begins prefix k ≡ b → (bytes_le prefix k && bytes_lt k (past_name prefix)) ≡ b
       go true e = inside e
       go false e = outside (bytes_le prefix k && bytes_lt k (past_name prefix)) refl e
@@ -82,10 +84,10 @@ module _ (tenant bucket prefix : Octets) where
   filters_are (v ∷ l) small =
       let own = matching bytes_eq (λ (r : VersionRow). r.tenant) tenant l in
       let inner : (b : Bool) → cond (b && (bytes_le prefix v.okey && bytes_lt v.okey (past_name prefix))) (v ∷ filter listed l) (filter listed l) ≡ filter under (cond b (v ∷ in_bucket bucket own) (in_bucket bucket own)) =
-          λ b. elim b as (λ b. cond (b && (bytes_le prefix v.okey && bytes_lt v.okey (past_name prefix))) (v ∷ filter listed l) (filter listed l) ≡ filter under (cond b (v ∷ in_bucket bucket own) (in_bucket bucket own))) [
-            | true ↦ λ i. cond (range_is v.okey small.0 i) (v ∷ filters_are l small.1 i) (filters_are l small.1 i)
-            | false ↦ filters_are l small.1
-          ] in
+      λ b. elim b as (λ b. cond (b && (bytes_le prefix v.okey && bytes_lt v.okey (past_name prefix))) (v ∷ filter listed l) (filter listed l) ≡ filter under (cond b (v ∷ in_bucket bucket own) (in_bucket bucket own))) [
+        | true ↦ λ i. cond (range_is v.okey small.0 i) (v ∷ filters_are l small.1 i) (filters_are l small.1 i)
+        | false ↦ filters_are l small.1
+      ] in
       elim (bytes_eq v.tenant tenant) as (λ t. cond (t && (bytes_eq v.bucket bucket && (bytes_le prefix v.okey && bytes_lt v.okey (past_name prefix)))) (v ∷ filter listed l) (filter listed l)
       ≡ filter under (in_bucket bucket (cond t (v ∷ own) own))) [
         | true ↦ inner (bytes_eq v.bucket bucket)

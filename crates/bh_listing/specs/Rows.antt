@@ -42,4 +42,5 @@ AreSmallKeys versions = AllByRecursion (λ v. AllByRecursion (λ b. b < 255) v.o
 
 -- what a listing of objects may show of these rows, after a marker
 abbrev pub entries_of : Octets → Octets → Option Octets → List Shown → List (Listed ObjectItem)
-entries_of prefix delimiter token rows = to_come (λ (r : Shown). r.0) item_in prefix delimiter (λ o. o.key) (after_name (λ (o : ObjectItem). o.key) token) nothing_gathered rows
+entries_of prefix delimiter token rows =
+    to_come (λ (r : Shown). r.0) item_in prefix delimiter (λ o. o.key) (after_name (λ (o : ObjectItem). o.key) token) nothing_gathered rows

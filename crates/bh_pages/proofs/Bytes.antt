@@ -55,7 +55,7 @@ from_past_key (x ∷ k) [] h d = absurd (true≢false (sym h))
 from_past_key (x ∷ k) (y ∷ ys) h d = go (nat_cmp x y) h d (from_past_key k ys)
   where
     go : (o : Ordering) → is_le (ordering_then o (octets_cmp k ys)) ≡ true → is_eq (ordering_then o (octets_cmp k ys)) ≡ false → (is_upto k ys ≡ true → same k ys ≡ false → is_upto (past_key k) ys ≡ true)
-       → is_le (ordering_then o (octets_cmp (past_key k) ys)) ≡ true
+        → is_le (ordering_then o (octets_cmp (past_key k) ys)) ≡ true
     go Less h d more = refl
     go Equal h d more = more h d
     go Greater h d more = absurd (true≢false (sym h))
@@ -89,7 +89,7 @@ begins_between (a ∷ p) [] h n = absurd (true≢false (sym h))
 begins_between (a ∷ p) (b ∷ y) h n = go (nat_cmp a b) refl h n (begins_between p y)
   where
     go : (o : Ordering) → nat_cmp a b ≡ o → is_le (ordering_then o (octets_cmp p y)) ≡ true → is_le (ordering_then o (octets_cmp (past_name p) y)) ≡ false
-       → (is_upto p y ≡ true → is_upto (past_name p) y ≡ false → begins p y ≡ true) → ((a == b) && begins p y) ≡ true
+        → (is_upto p y ≡ true → is_upto (past_name p) y ≡ false → begins p y ≡ true) → ((a == b) && begins p y) ≡ true
     go Less e h n more = absurd (true≢false n)
     go Equal e h n more = ap (λ c. (a == c) && begins p y) (sym (ranked a b Equal (sym e))) ∙ ap (λ t. t && begins p y) (same_number a) ∙ more h n
     go Greater e h n more = absurd (true≢false (sym h))
@@ -151,6 +151,7 @@ cut_long d (b ∷ x) n h = go (begins d (b ∷ x)) h (cut d x) (cut_long d x)
       where
         le_up : length d ≤ length m → length d ≤ length (b ∷ m)
         le_up k = omega (arith, k)
+
     go : (t : Bool) → cond t (Some d) (option_map (λ (m : Octets). b ∷ m) (cut d x)) ≡ Some n → (o : Option Octets) → ((m : Octets) → cut d x ≡ Some m → length d ≤ length m) → length d ≤ length n
     go true h o more = subst (λ z. length d ≤ length z) (some_same h) (le_refl (length d))
     go false h o more = tail (cut d x) more h
@@ -163,6 +164,7 @@ cut_begins d (b ∷ x) n h = go (begins d (b ∷ x)) refl h (cut_begins d x)
     tail : (o : Option Octets) → ((m : Octets) → o ≡ Some m → begins m x ≡ true) → option_map (λ (m : Octets). b ∷ m) o ≡ Some n → begins n (b ∷ x) ≡ true
     tail None more h = absurd (none_some h)
     tail (Some m) more h = subst (λ z. begins z (b ∷ x) ≡ true) (some_same h) (ap (λ t. t && begins m x) (same_number b) ∙ more m refl)
+
     go : (t : Bool) → begins d (b ∷ x) ≡ t → cond t (Some d) (option_map (λ (m : Octets). b ∷ m) (cut d x)) ≡ Some n → ((m : Octets) → cut d x ≡ Some m → begins m x ≡ true) → begins n (b ∷ x) ≡ true
     go true e h more = subst (λ z. begins z (b ∷ x) ≡ true) (some_same h) e
     go false e h more = tail (cut d x) more h
@@ -175,6 +177,7 @@ cut_again c ds (b ∷ x) y n h k = go (begins (c ∷ ds) (b ∷ x)) refl h y k (
     whole : (y : Octets) → begins (c ∷ ds) y ≡ true → cut (c ∷ ds) y ≡ Some (c ∷ ds)
     whole [] k = absurd (true≢false (sym k))
     whole (e ∷ y) k = ap (λ t. cond t (Some (c ∷ ds)) (option_map (λ (m : Octets). e ∷ m) (cut (c ∷ ds) y))) k
+
     no_sooner : (m : Octets) → begins (c ∷ ds) (b ∷ x) ≡ false → cut (c ∷ ds) x ≡ Some m → (e : ℕ) (y : Octets) → b ≡ e → begins m y ≡ true → begins (c ∷ ds) (e ∷ y) ≡ false
     no_sooner m miss is e y alike k = elim (begins (c ∷ ds) (e ∷ y)) as (λ t. begins (c ∷ ds) (e ∷ y) ≡ t → t ≡ false) [
       | true ↦ λ h. absurd (true≢false (sym (ap (λ z. (c == z) && begins ds x) alike ∙ ap (λ t. t && begins ds x) (both h).0 ∙ begins_alike m ds x y (cut_begins (c ∷ ds) x m is) k (shorter (cut_long (c ∷ ds) x m is)) (both h).1) ∙ miss))
@@ -183,18 +186,21 @@ cut_again c ds (b ∷ x) y n h k = go (begins (c ∷ ds) (b ∷ x)) refl h y k (
       where
         shorter : length (c ∷ ds) ≤ length m → length ds ≤ length m
         shorter h = omega (arith, h)
+
     later : (m : Octets) → begins (c ∷ ds) (b ∷ x) ≡ false → cut (c ∷ ds) x ≡ Some m → (y : Octets) → begins (b ∷ m) y ≡ true → ((y n : Octets) → cut (c ∷ ds) x ≡ Some n → begins n y ≡ true → cut (c ∷ ds) y ≡ Some n) → cut (c ∷ ds) y ≡ Some (b ∷ m)
     later m miss is [] k more = absurd (true≢false (sym k))
     later m miss is (e ∷ y) k more =
         let alike : b ≡ e = eqb-true b e (both k).0 in
         ap (λ t. cond t (Some (c ∷ ds)) (option_map (λ (z : Octets). e ∷ z) (cut (c ∷ ds) y))) (no_sooner m miss is e y alike (both k).1)
         ∙ ap (option_map (λ (z : Octets). e ∷ z)) (more y m is (both k).1) ∙ ap (λ z. Some (z ∷ m)) (sym alike)
+
     tail : (o : Option Octets) → cut (c ∷ ds) x ≡ o → begins (c ∷ ds) (b ∷ x) ≡ false → option_map (λ (m : Octets). b ∷ m) o ≡ Some n → (y : Octets) → begins n y ≡ true
-         → ((y n : Octets) → cut (c ∷ ds) x ≡ Some n → begins n y ≡ true → cut (c ∷ ds) y ≡ Some n) → cut (c ∷ ds) y ≡ Some n
+        → ((y n : Octets) → cut (c ∷ ds) x ≡ Some n → begins n y ≡ true → cut (c ∷ ds) y ≡ Some n) → cut (c ∷ ds) y ≡ Some n
     tail None is miss h y k more = absurd (none_some h)
     tail (Some m) is miss h y k more = later m miss is y (subst (λ z. begins z y ≡ true) (sym (some_same h)) k) more ∙ h
+
     go : (t : Bool) → begins (c ∷ ds) (b ∷ x) ≡ t → cond t (Some (c ∷ ds)) (option_map (λ (m : Octets). b ∷ m) (cut (c ∷ ds) x)) ≡ Some n → (y : Octets) → begins n y ≡ true
-       → ((y n : Octets) → cut (c ∷ ds) x ≡ Some n → begins n y ≡ true → cut (c ∷ ds) y ≡ Some n) → cut (c ∷ ds) y ≡ Some n
+        → ((y n : Octets) → cut (c ∷ ds) x ≡ Some n → begins n y ≡ true → cut (c ∷ ds) y ≡ Some n) → cut (c ∷ ds) y ≡ Some n
     go true e h y k more = whole y (subst (λ z. begins z y ≡ true) (sym (some_same h)) k) ∙ h
     go false e h y k more = tail (cut (c ∷ ds) x) refl e h y k more
 

@@ -62,8 +62,10 @@ module _ {R T : Type 0} (row_key : R → Octets) (item : R → Option T) (prefix
     where
       by_key : is_upto prefix (past_key j) ≡ true
       by_key = upto_trans prefix j (past_key j) (upto_begun prefix j under) (upto_past_key j)
+
       by_name : (p : Octets) → rolled prefix delimiter j ≡ Some p → is_upto prefix (past_name p) ≡ true
       by_name p is = upto_trans prefix j (past_name p) (upto_begun prefix j under) (upto_other (past_name p) j (before_past_name p j (rolled_begins prefix delimiter j p under is) small))
+
       go : (o : Option Octets) → rolled prefix delimiter j ≡ o → is_upto prefix (place_past row_key item prefix delimiter item_key passes g j o) ≡ true
       go None is = by_key
       go (Some p) is = elim (is_name p g.name || not (passes (Common p))) as (λ t. is_upto prefix (cond t (past_name p) (past_key j)) ≡ true) [ true ↦ by_name p is | false ↦ by_key ]
@@ -103,6 +105,7 @@ module _ {R T : Type 0} (row_key : R → Octets) (item : R → Option T) (prefix
           where
             fits : (l : List R) (m : ℕ) → length (take m l) < m → length l ≤ m
             fits l m few = grind (arith, length-take)
+
         taken : (es : List (Listed T)) (m : ℕ) → length es ≤ m → take m es ≡ es
         taken es m h = take_all m es h
 
@@ -114,8 +117,9 @@ module _ {R T : Type 0} (row_key : R → Octets) (item : R → Option T) (prefix
       where
         chunk_in_order : InOrder row_key (rows_from row_key at0 rows)
         chunk_in_order = order_filter row_key (λ r. is_upto at0 (row_key r)) rows up
+
         first : (c : List R) → c ++ rest ≡ rows_from row_key at0 rows → (rowed max g c).key ≡ Some j → length c ≢ 0 → length (rowed max g c).entries ≤ max → InOrder row_key (rows_from row_key at0 rows)
-              → come (rowed max g c) rest ≡ come (rowed max g c) (rows_from row_key (place (rowed max g c) j) rows)
+            → come (rowed max g c) rest ≡ come (rowed max g c) (rows_from row_key (place (rowed max g c) j) rows)
         first [] split is some few order = absurd (some refl)
         first (r ∷ c) split is some few order =
             let ordered : InOrder row_key (r ∷ (c ++ rest)) = subst (InOrder row_key) (sym split) order in

@@ -39,9 +39,11 @@ module _ (prefix : Octets) where
       marker : (b : Bool) → filter object_has rest ≡ cond b other other
       marker true = more
       marker false = more
+
       body : (o : ObjectItem) → (b : Bool) → begins prefix o.key ≡ b → cond (begins prefix o.key) (o ∷ filter object_has rest) (filter object_has rest) ≡ cond b (o ∷ other) other
       body o true is = ap (λ t. cond t (o ∷ filter object_has rest) (filter object_has rest)) is ∙ ap (λ l. o ∷ l) more
       body o false is = ap (λ t. cond t (o ∷ filter object_has rest) (filter object_has rest)) is ∙ more
+
       go : (c : Content) → filter object_has (in_front (object_of k e.moment c) rest) ≡ cond b (in_front (object_of k e.moment c) other) other
       go Marker = marker b
       go (Body bytes checksum) = body _ b is
@@ -53,6 +55,7 @@ module _ (prefix : Octets) where
     where
       front : (l : List ObjectItem) → filter object_has (objects_in ((k, e ∷ es) ∷ keys)) ≡ filter object_has (in_front (object_of k e.moment e.content) (objects_in keys))
       front l = elim e.content as (λ c. filter object_has (in_front (object_of k e.moment c) (objects_in keys)) ≡ filter object_has (in_front (object_of k e.moment c) (objects_in keys))) [ Marker ↦ refl | Body bytes checksum ↦ refl ]
+
       back : (b : Bool) → cond b (in_front (object_of k e.moment e.content) (objects_in (filter has keys))) (objects_in (filter has keys)) ≡ objects_in (cond b ((k, e ∷ es) ∷ filter has keys) (filter has keys))
       back true = sym (elim e.content as (λ c. in_front (object_of k e.moment c) (objects_in (filter has keys)) ≡ in_front (object_of k e.moment c) (objects_in (filter has keys))) [ Marker ↦ refl | Body bytes checksum ↦ refl ])
       back false = refl

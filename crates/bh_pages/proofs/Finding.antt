@@ -27,6 +27,7 @@ begins_taken (c ∷ d) (b ∷ h) is = ap (λ z. (c == z) && begins d h) (heads i
   where
     heads : b ∷ take (length d) h ≡ c ∷ d → b ≡ c
     heads e = cc
+
     tails : b ∷ take (length d) h ≡ c ∷ d → take (length d) h ≡ d
     tails e = cc
 
@@ -76,9 +77,10 @@ module _ (c : ℕ) (ds : Octets) where
       first_here e None h = absurd (h 0 (omega arith) (omega arith) (here (b ∷ bs) e))
       first_here e (Some zero) h = ap (λ n. Some (take n (b ∷ bs))) (zero_plus (length d)) ∙ ap Some (OccursAt-part (b ∷ bs) d 0 h.1)
       first_here e (Some (suc k)) h = absurd (h.0.before 0 (omega arith) (omega arith) (here (b ∷ bs) e))
+
       later : begins d (b ∷ bs) ≡ false → (r : Option ℕ) → IsFirst (OccursAt (b ∷ bs) d) 0 (length (b ∷ bs) + 1) r
-            → ((s : Option ℕ) → IsFirst (OccursAt bs d) 0 (length bs + 1) s → option_map (λ k. take (k + length d) bs) s ≡ cut d bs)
-            → option_map (λ k. take (k + length d) (b ∷ bs)) r ≡ option_map (λ (n : Octets). b ∷ n) (cut d bs)
+          → ((s : Option ℕ) → IsFirst (OccursAt bs d) 0 (length bs + 1) s → option_map (λ k. take (k + length d) bs) s ≡ cut d bs)
+          → option_map (λ k. take (k + length d) (b ∷ bs)) r ≡ option_map (λ (n : Octets). b ∷ n) (cut d bs)
       later e None h more = ap (option_map (λ (n : Octets). b ∷ n)) (more None (λ k low high at. h (suc k) (omega arith) (up k high) (shift_up b bs k at)))
         where
           up : (k : ℕ) → k < length bs + 1 → suc k < length (b ∷ bs) + 1
@@ -89,11 +91,13 @@ module _ (c : ℕ) (ds : Octets) where
         where
           down : suc k < length (b ∷ bs) + 1 → k < length bs + 1
           down high = omega (arith, high)
+
           up : (j : ℕ) → j < k → suc j < suc k
           up j high = omega (arith, high)
+
       go : (t : Bool) → begins d (b ∷ bs) ≡ t → (r : Option ℕ) → IsFirst (OccursAt (b ∷ bs) d) 0 (length (b ∷ bs) + 1) r
-         → ((s : Option ℕ) → IsFirst (OccursAt bs d) 0 (length bs + 1) s → option_map (λ k. take (k + length d) bs) s ≡ cut d bs)
-         → option_map (λ k. take (k + length d) (b ∷ bs)) r ≡ cond t (Some d) (option_map (λ (n : Octets). b ∷ n) (cut d bs))
+          → ((s : Option ℕ) → IsFirst (OccursAt bs d) 0 (length bs + 1) s → option_map (λ k. take (k + length d) bs) s ≡ cut d bs)
+          → option_map (λ k. take (k + length d) (b ∷ bs)) r ≡ cond t (Some d) (option_map (λ (n : Octets). b ∷ n) (cut d bs))
       go true e r h more = first_here e r h
       go false e r h more = later e r h more
 

@@ -28,9 +28,9 @@ module _ {R T : Type 0} (row_key : R → Octets) (item : R → Option T) (prefix
   listing_step g (Single x) l = sym (append_assoc g.entries (Single x ∷ []) (joined None l))
   listing_step g (Common name) l = elim (is_name name g.name) as (λ t. g.entries ++ cond t (joined g.name l) (Common name ∷ joined (Some name) l)
       ≡ (cond t g (record g { name = Some name; entries = g.entries ++ Common name ∷ [] })).entries ++ joined (cond t g (record g { name = Some name; entries = g.entries ++ Common name ∷ [] })).name l) [
-    | true ↦ refl
-    | false ↦ sym (append_assoc g.entries (Common name ∷ []) (joined (Some name) l))
-  ]
+        | true ↦ refl
+        | false ↦ sym (append_assoc g.entries (Common name ∷ []) (joined (Some name) l))
+      ]
 
   entry_step : (g : Gathered T) (e : Listed T) (l : List (Listed T)) → g.entries ++ joined g.name (cond (passes e) (e ∷ l) l) ≡ (cond (passes e) (with_entry g e) g).entries ++ joined (cond (passes e) (with_entry g e) g).name l
   entry_step g e l = elim (passes e) as (λ t. g.entries ++ joined g.name (cond t (e ∷ l) l) ≡ (cond t (with_entry g e) g).entries ++ joined (cond t (with_entry g e) g).name l) [
@@ -93,7 +93,7 @@ module _ {R T : Type 0} (row_key : R → Octets) (item : R → Option T) (prefix
   past_rows k (r ∷ rows) up all = go (same k (row_key r)) refl (past_rows k rows up.1 all.1)
     where
       go : (t : Bool) → same k (row_key r) ≡ t → items_after row_key item (Some k) rows ≡ items_after row_key item (Some k) (from (past_key k) rows)
-         → items_after row_key item (Some k) (r ∷ rows) ≡ items_after row_key item (Some k) (from (past_key k) (r ∷ rows))
+          → items_after row_key item (Some k) (r ∷ rows) ≡ items_after row_key item (Some k) (from (past_key k) (r ∷ rows))
       go true e more =
           ap (λ t. cond t (items_after row_key item (Some k) rows) (in_front (item r) (items_after row_key item (Some (row_key r)) rows))) e
           ∙ more
@@ -133,12 +133,14 @@ module _ {R T : Type 0} (row_key : R → Octets) (item : R → Option T) (prefix
     where
       both_here : (key : Option Octets) (l : List R) → is_name (row_key r) key ≡ false → items_after row_key item key (r ∷ l) ≡ in_front (item r) (items_after row_key item (Some (row_key r)) l)
       both_here key l h = ap (λ t. cond t (items_after row_key item key l) (in_front (item r) (items_after row_key item (Some (row_key r)) l))) h
+
       shown : (o : Option T) → ((x : T) → o ≡ Some x → Skips name (entry x)) → (items : List T) → left name (in_front o items) ≡ left name items
       shown None skips items = refl
       shown (Some x) skips items = skips x refl (filter passes (map entry items))
+
       go : (t : Bool) → is_upto at (row_key r) ≡ t
-         → ((k0 k1 : Option Octets) → IsBelow at k0 → IsBelow at k1 → InOrder row_key rows → AreIdle at name rows → left name (items_after row_key item k0 rows) ≡ left name (items_after row_key item k1 (from at rows)))
-         → left name (items_after row_key item k0 (r ∷ rows)) ≡ left name (items_after row_key item k1 (from at (r ∷ rows)))
+          → ((k0 k1 : Option Octets) → IsBelow at k0 → IsBelow at k1 → InOrder row_key rows → AreIdle at name rows → left name (items_after row_key item k0 rows) ≡ left name (items_after row_key item k1 (from at rows)))
+          → left name (items_after row_key item k0 (r ∷ rows)) ≡ left name (items_after row_key item k1 (from at (r ∷ rows)))
       go true e more =
           ap (left name) (both_here k0 rows (other_key at k0 (row_key r) b0 e) ∙ sym (both_here k1 rows (other_key at k1 (row_key r) b1 e))
           ∙ ap (items_after row_key item k1) (sym (all_from at (r ∷ rows) (e, later at r rows e up.0))))
@@ -162,11 +164,13 @@ module _ {R T : Type 0} (row_key : R → Octets) (item : R → Option T) (prefix
 
     pub name_idle : (name : Option Octets) → IsDone name → (rows : List R) → AllByRecursion (λ r. is_upto k (row_key r) ≡ true) rows → AreIdle (past_name p) name rows
     name_idle name done [] all = tt
-    name_idle name done (r ∷ rows) all =
-        (λ before x has.
+    name_idle name done (r ∷ rows) all = (
+      λ before x has.
           let begun : begins p (row_key r) ≡ true = begins_between p (row_key r) (upto_trans p k (row_key r) (upto_begun p k (rolled_begins prefix delimiter k p under is)) all.0) before in
           let shown : entry x ≡ Common p = ap (λ z. as_listed x (rolled prefix delimiter z)) (keyed r x has) ∙ ap (as_listed x) (rolled_again prefix delimiter k p (row_key r) is begun) in
-          subst (Skips name) (sym shown) (done_skips name done), name_idle name done rows all.1)
+          subst (Skips name) (sym shown) (done_skips name done),
+      name_idle name done rows all.1,
+    )
 
   -- ---- rows until the page is full
 
@@ -196,6 +200,7 @@ module _ {R T : Type 0} (row_key : R → Octets) (item : R → Option T) (prefix
       named : (key : Option Octets) → is_name (row_key r) key ≡ true → key ≡ Some (row_key r)
       named None h = absurd (true≢false (sym h))
       named (Some j) h = ap Some (same_is j (row_key r) h)
+
       go : (t : Bool) → is_name (row_key r) g.key ≡ t → (cond t g (next (record g { key = Some (row_key r) }) (item r))).key ≡ Some (row_key r)
       go true e = named g.key e
       go false e = item_kept (record g { key = Some (row_key r) }) (item r)
@@ -212,8 +217,8 @@ module _ {R T : Type 0} (row_key : R → Octets) (item : R → Option T) (prefix
   rows_step max g (r ∷ chunk) rest short = go (nat_lt max (length g.entries)) refl (λ h. rows_step max (turn g r) chunk rest h)
     where
       go : (t : Bool) → nat_lt max (length g.entries) ≡ t
-         → (length (turn g r).entries ≤ suc max → (take (suc max) ((turn g r).entries ++ come (turn g r) (chunk ++ rest)) ≡ take (suc max) ((rowed max (turn g r) chunk).entries ++ come (rowed max (turn g r) chunk) rest)) × (length (rowed max (turn g r) chunk).entries ≤ suc max))
-         → (take (suc max) (g.entries ++ come g (r ∷ (chunk ++ rest))) ≡ take (suc max) ((cond t g (rowed max (turn g r) chunk)).entries ++ come (cond t g (rowed max (turn g r) chunk)) rest)) × (length (cond t g (rowed max (turn g r) chunk)).entries ≤ suc max)
+          → (length (turn g r).entries ≤ suc max → (take (suc max) ((turn g r).entries ++ come (turn g r) (chunk ++ rest)) ≡ take (suc max) ((rowed max (turn g r) chunk).entries ++ come (rowed max (turn g r) chunk) rest)) × (length (rowed max (turn g r) chunk).entries ≤ suc max))
+          → (take (suc max) (g.entries ++ come g (r ∷ (chunk ++ rest))) ≡ take (suc max) ((cond t g (rowed max (turn g r) chunk)).entries ++ come (cond t g (rowed max (turn g r) chunk)) rest)) × (length (cond t g (rowed max (turn g r) chunk)).entries ≤ suc max)
       go true e more = (full_page max g.entries _ _ (lt_of max (length g.entries) e) short, short)
         where
           lt_of : (a b : ℕ) → nat_lt a b ≡ true → a < b
@@ -233,8 +238,8 @@ module _ {R T : Type 0} (row_key : R → Octets) (item : R → Option T) (prefix
   rows_key max g k (r ∷ chunk) rest has up all few = go (nat_lt max (length g.entries)) refl few (λ h. rows_key max (turn g r) (row_key r) chunk rest (turned_key g r) up.1 up.0 h)
     where
       go : (t : Bool) → nat_lt max (length g.entries) ≡ t → length (cond t g (rowed max (turn g r) chunk)).entries ≤ max
-         → (length (rowed max (turn g r) chunk).entries ≤ max → (j : Octets) × ((rowed max (turn g r) chunk).key ≡ Some j) × (is_upto (row_key r) j ≡ true) × AllByRecursion (λ r. is_upto (row_key r) j ≡ true) chunk × AllByRecursion (λ r. is_upto j (row_key r) ≡ true) rest)
-         → (j : Octets) × ((cond t g (rowed max (turn g r) chunk)).key ≡ Some j) × (is_upto k j ≡ true) × (is_upto (row_key r) j ≡ true × AllByRecursion (λ r. is_upto (row_key r) j ≡ true) chunk) × AllByRecursion (λ r. is_upto j (row_key r) ≡ true) rest
+          → (length (rowed max (turn g r) chunk).entries ≤ max → (j : Octets) × ((rowed max (turn g r) chunk).key ≡ Some j) × (is_upto (row_key r) j ≡ true) × AllByRecursion (λ r. is_upto (row_key r) j ≡ true) chunk × AllByRecursion (λ r. is_upto j (row_key r) ≡ true) rest)
+          → (j : Octets) × ((cond t g (rowed max (turn g r) chunk)).key ≡ Some j) × (is_upto k j ≡ true) × (is_upto (row_key r) j ≡ true × AllByRecursion (λ r. is_upto (row_key r) j ≡ true) chunk) × AllByRecursion (λ r. is_upto j (row_key r) ≡ true) rest
       go true e few more = absurd (over max (length g.entries) e few)
         where
           over : (a b : ℕ) → nat_lt a b ≡ true → b ≤ a → ⊥
@@ -283,6 +288,7 @@ module _ {R T : Type 0} (row_key : R → Octets) (item : R → Option T) (prefix
           ap (λ k. left g.name (items_after row_key item k rest)) has ∙ ap (left g.name) (past_rows j rest up above)
           ∙ ap (λ k. left g.name (items_after row_key item k (from (past_key j) rest))) (sym has)
           ∙ ap (come g) (sym (left_over at0 (past_key j) j rows chunk rest split (upto_trans at0 j (past_key j) low (upto_past_key j)) (before_past_key j) below))
+
       by_name : (p : Octets) → rolled prefix delimiter j ≡ Some p → (is_name p g.name || not (passes (Common p))) ≡ true → come g rest ≡ come g (from (past_name p) rows)
       by_name p is done =
           let before : is_upto (past_name p) j ≡ false = before_past_name p j (rolled_begins prefix delimiter j p under is) small in
@@ -290,9 +296,11 @@ module _ {R T : Type 0} (row_key : R → Octets) (item : R → Option T) (prefix
           ∙ rows_skipped (past_name p) g.name rest (Some j) (Some j) before before up (name_idle keyed j p under is g.name (or_done keyed j p under is g.name done) rest above)
           ∙ ap (λ k. left g.name (items_after row_key item k (from (past_name p) rest))) (sym has)
           ∙ ap (come g) (sym (left_over at0 (past_name p) j rows chunk rest split (upto_trans at0 j (past_name p) low (upto_other (past_name p) j before)) before below))
+
       choice : (p : Octets) → rolled prefix delimiter j ≡ Some p → (t : Bool) → (is_name p g.name || not (passes (Common p))) ≡ t → come g rest ≡ come g (from (cond t (past_name p) (past_key j)) rows)
       choice p is true e = by_name p is e
       choice p is false e = by_key
+
       go : (o : Option Octets) → rolled prefix delimiter j ≡ o → come g rest ≡ come g (from (place_past row_key item prefix delimiter item_key passes g j o) rows)
       go None is = by_key
       go (Some p) is = choice p is (is_name p g.name || not (passes (Common p))) refl

@@ -23,9 +23,11 @@ not_past t y h = go (is_upto t y) refl
   where
     at_same : same t y ≡ true → is_upto y t ≡ true
     at_same e = subst (λ z. is_upto z t ≡ true) (same_is t y e) (upto_self t)
+
     further : is_upto t y ≡ true → (b : Bool) → same t y ≡ b → is_upto y t ≡ true
     further e true k = at_same k
     further e false k = absurd (true≢false (sym (from_past_key t y e k) ∙ h))
+
     go : (b : Bool) → is_upto t y ≡ b → is_upto y t ≡ true
     go true e = further e (same t y) refl
     go false e = upto_other t y e
@@ -43,11 +45,13 @@ module _ {R T : Type 0} (row_key : R → Octets) (item : R → Option T) (prefix
 
   idle : (rows : List R) → AllByRecursion (λ r. begins prefix (row_key r) ≡ true) rows → AreIdle row_key item prefix delimiter item_key passes (past_key t) None rows
   idle [] under = tt
-  idle (r ∷ rows) under =
-      (λ before x has.
+  idle (r ∷ rows) under = (
+    λ before x has.
         let at : item_key x ≡ row_key r = keyed r x has in
         not_passed row_key item prefix delimiter item_key passes None (entry_of prefix delimiter item_key x)
-        (not_after t _ (upto_trans _ (item_key x) t (name_low x (subst (λ z. begins prefix z ≡ true) (sym at) under.0)) (subst (λ z. is_upto z t ≡ true) (sym at) (not_past t (row_key r) before)))), idle rows under.1)
+        (not_after t _ (upto_trans _ (item_key x) t (name_low x (subst (λ z. begins prefix z ≡ true) (sym at) under.0)) (subst (λ z. is_upto z t ≡ true) (sym at) (not_past t (row_key r) before)))),
+    idle rows under.1,
+  )
 
   -- what is to come from the marker on is all
   pub start_step : (rows : List R) → InOrder row_key rows → AllByRecursion (λ r. begins prefix (row_key r) ≡ true) rows
@@ -65,9 +69,9 @@ module _ {R T : Type 0} (row_key : R → Octets) (item : R → Option T) (prefix
   start_any None = ap (to_come row_key item prefix delimiter item_key (after_name item_key None) nothing_gathered) (sym (all_from row_key item prefix delimiter item_key (after_name item_key None) prefix rows (above rows under)))
   start_any (Some t) = elim (is_upto prefix t) as (λ b. to_come row_key item prefix delimiter item_key (after_name item_key (Some t)) nothing_gathered rows
       ≡ to_come row_key item prefix delimiter item_key (after_name item_key (Some t)) nothing_gathered (rows_from row_key (cond b (past_key t) prefix) rows)) [
-    | true ↦ start_step row_key item prefix delimiter item_key t keyed rows up under
-    | false ↦ ap (to_come row_key item prefix delimiter item_key (after_name item_key (Some t)) nothing_gathered) (sym (all_from row_key item prefix delimiter item_key (after_name item_key (Some t)) prefix rows (above rows under)))
-  ]
+        | true ↦ start_step row_key item prefix delimiter item_key t keyed rows up under
+        | false ↦ ap (to_come row_key item prefix delimiter item_key (after_name item_key (Some t)) nothing_gathered) (sym (all_from row_key item prefix delimiter item_key (after_name item_key (Some t)) prefix rows (above rows under)))
+      ]
 
 pub start_low : (prefix : Octets) (token : Option Octets) → is_upto prefix (start_of prefix token) ≡ true
 start_low prefix None = upto_self prefix

@@ -42,16 +42,21 @@ abbrev pub token_of : Asked → Option Octets
 token_of asked = option_map (λ b. b.now) asked.after
 
 abbrev pub item_added : Asked → Gathered ObjectItem → Option ObjectItem → Gathered ObjectItem
-item_added asked = with_item (λ (r : Shown). r.0) item_in asked.prefix.now asked.delimiter.now (λ o. o.key) (after_name (λ (o : ObjectItem). o.key) (token_of asked))
+item_added asked = with_item (λ (r : Shown). r.0) item_in asked.prefix.now asked.delimiter.now (λ o. o.key)
+    (after_name (λ (o : ObjectItem). o.key) (token_of asked))
 
 abbrev pub row_added : Asked → Gathered ObjectItem → Shown → Gathered ObjectItem
-row_added asked = with_row (λ (r : Shown). r.0) item_in asked.prefix.now asked.delimiter.now (λ o. o.key) (after_name (λ (o : ObjectItem). o.key) (token_of asked))
+row_added asked = with_row (λ (r : Shown). r.0) item_in asked.prefix.now asked.delimiter.now (λ o. o.key)
+    (after_name (λ (o : ObjectItem). o.key) (token_of asked))
 
 abbrev pub rows_added : Asked → Gathered ObjectItem → List Shown → Gathered ObjectItem
-rows_added asked = with_rows (λ (r : Shown). r.0) item_in asked.prefix.now asked.delimiter.now (λ o. o.key) (after_name (λ (o : ObjectItem). o.key) (token_of asked)) asked.max
+rows_added asked = with_rows (λ (r : Shown). r.0) item_in asked.prefix.now asked.delimiter.now (λ o. o.key)
+    (after_name (λ (o : ObjectItem). o.key) (token_of asked)) asked.max
 
 abbrev pub still_to_come : Asked → Gathered ObjectItem → List Shown → List (Listed ObjectItem)
-still_to_come asked = to_come (λ (r : Shown). r.0) item_in asked.prefix.now asked.delimiter.now (λ o. o.key) (after_name (λ (o : ObjectItem). o.key) (token_of asked))
+still_to_come asked = to_come (λ (r : Shown). r.0) item_in asked.prefix.now asked.delimiter.now (λ o. o.key)
+    (after_name (λ (o : ObjectItem). o.key) (token_of asked))
 
 abbrev pub read_on : Asked → Gathered ObjectItem → Octets → Octets
-read_on asked = place_after (λ (r : Shown). r.0) item_in asked.prefix.now asked.delimiter.now (λ o. o.key) (after_name (λ (o : ObjectItem). o.key) (token_of asked))
+read_on asked = place_after (λ (r : Shown). r.0) item_in asked.prefix.now asked.delimiter.now (λ o. o.key)
+    (after_name (λ (o : ObjectItem). o.key) (token_of asked))

@@ -1,8 +1,8 @@
 //! A page that is gathered row by row.
 
-ghost use Rattle.std.specs.Prelude.{◌≡◌, ◌<◌, ◌≤◌, ◌^◌, true, false, Some, None, [], ◌∷◌, ◌++◌, map, length, IsTrue, OnOk, IfOk, option_map};
+ghost use Rattle.std.specs.Prelude.{◌≡◌, true, Some, [], ◌∷◌, ◌++◌, map, OnOk, IfOk, option_map};
 ghost use Rattle.std.specs.List.{AllByRecursion};
-ghost use Rattle.bh_model.specs.Pages.{Listed.Single, Listed.Common, is_name, is_before, begins, after_name};
+ghost use Rattle.bh_model.specs.Pages.{Listed.Single, Listed.Common, is_name, begins, after_name};
 ghost use Rattle.bh_pages.specs.Gathered.{with_entry, nothing_gathered, start_of};
 ghost use Rattle.bh_pages.specs.Seen.{seen, seen_line, seen_object, object_in, token_of, item_added, row_added, rows_added, read_on};
 
@@ -146,7 +146,8 @@ impl Gathering {
         asked: &Asked<'_>,
         line: &Line,
     ) -> Result<(), AllocError>
-        ensures { begins asked.now.prefix.now line.now.key.items ≡ true → OnOk result (seen self.new ≡ item_added asked.now (seen self.old) (Some (object_in line.now))) }
+        ensures { begins asked.now.prefix.now line.now.key.items ≡ true
+            → OnOk result (seen self.new ≡ item_added asked.now (seen self.old) (Some (object_in line.now))) }
     {
         match name_end(asked.prefix, asked.delimiter, line.key.as_slice()) {
             None => {
@@ -172,7 +173,8 @@ impl Gathering {
 
     /// A row more, whose key is under the prefix.
     pub fn add(&mut self, alloc: Global, asked: &Asked<'_>, line: &Line) -> Result<(), AllocError>
-        ensures { begins asked.now.prefix.now line.now.key.items ≡ true → OnOk result (seen self.new ≡ row_added asked.now (seen self.old) (seen_line line.now)) }
+        ensures { begins asked.now.prefix.now line.now.key.items ≡ true
+            → OnOk result (seen self.new ≡ row_added asked.now (seen self.old) (seen_line line.now)) }
     {
         if is_text(&self.key, line.key.as_slice()) {
             return Ok(());
@@ -191,7 +193,8 @@ impl Gathering {
         asked: &Asked<'_>,
         lines: &[Line],
     ) -> Result<(), AllocError>
-        ensures { AllByRecursion (λ l. begins asked.now.prefix.now l.key.items ≡ true) lines.now → OnOk result (seen self.new ≡ rows_added asked.now (seen self.old) (map seen_line lines.now)) }
+        ensures { AllByRecursion (λ l. begins asked.now.prefix.now l.key.items ≡ true) lines.now
+            → OnOk result (seen self.new ≡ rows_added asked.now (seen self.old) (map seen_line lines.now)) }
     {
         for line in lines {
             if self.entries.len() > asked.max as usize {
@@ -203,13 +206,9 @@ impl Gathering {
     }
 
     /// Where to read on after the row before, which had this key.
-    pub fn place(
-        &self,
-        alloc: Global,
-        asked: &Asked<'_>,
-        key: &[u8],
-    ) -> Result<Vec<u8>, AllocError>
-        ensures { begins asked.now.prefix.now key.now ≡ true → IfOk result (λ place. place.items ≡ read_on asked.now (seen self.now) key.now) }
+    pub fn place(&self, alloc: Global, asked: &Asked<'_>, key: &[u8]) -> Result<Vec<u8>, AllocError>
+        ensures { begins asked.now.prefix.now key.now ≡ true
+            → IfOk result (λ place. place.items ≡ read_on asked.now (seen self.now) key.now) }
     {
         match name_end(asked.prefix, asked.delimiter, key) {
             None => past(alloc, key, 0),

@@ -7,7 +7,8 @@ use memchr::memmem;
 
 /// Where the rolled-up name of a key under a prefix ends, if the delimiter occurs after the prefix.
 pub fn name_end(prefix: &[u8], delimiter: &[u8], key: &[u8]) -> Option<usize>
-    ensures name { begins prefix.now key.now ≡ true → option_map (λ n. take n key.now) result ≡ rolled prefix.now delimiter.now key.now }
+    ensures name { begins prefix.now key.now ≡ true
+        → option_map (λ n. take n key.now) result ≡ rolled prefix.now delimiter.now key.now }
     ensures within { IfSome result (λ n. n ≤ length key.now) }
 {
     if delimiter.is_empty() {

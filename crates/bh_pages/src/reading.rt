@@ -63,7 +63,12 @@ impl Reading {
 
     /// Takes in the rows that were read. Whether the page has all that it takes, or no rows are left. An error says
     /// that memory ran out.
-    pub fn take(&mut self, alloc: Global, asked: &Asked<'_>, lines: &[Line]) -> Result<bool, AllocError>
+    pub fn take(
+        &mut self,
+        alloc: Global,
+        asked: &Asked<'_>,
+        lines: &[Line],
+    ) -> Result<bool, AllocError>
         ensures took { AreUnder asked.now lines.now → IfOk result (Took asked.now self.old lines.now self.new) }
         ensures count { OnOk result (IsCount self.old.count → IsCount self.new.count) }
     {

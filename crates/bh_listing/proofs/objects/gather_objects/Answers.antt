@@ -56,8 +56,8 @@ returns-then-branch-clause-gathered g c = λ clean.
     let small = small_keys (tables_at old) (c.requires.working (c.reading.invariant.far.within.follows.clean before)).sound in
     let had = c.reading.invariant.read before in
     let are = lines_are c.args.asked.now c.args.tenant.now c.args.bucket.now (tables_at (state g.S.Store c.reading.connection)).versions (tables_at old).versions c.reading.reading.from.items c.as_slice.result.now c.in_ok-upto.upto.items c.as_slice-in-reading.result.now
-        c.in_ok-lines.lines.items c.as_slice-in-reading-2.result.now c.reading.reading.count c.as_slice.ensures.value c.as_slice-in-reading.ensures.value c.reading.invariant.upto c.as_slice-in-reading-2.ensures.value
-        (ap (λ (t : Tables). t.versions) (same_tables old (state g.S.Store c.reading.connection) (c.reading.invariant.far.same before.intact))) (c.in_ok-lines.ensures.lines clean) in
+    c.in_ok-lines.lines.items c.as_slice-in-reading-2.result.now c.reading.reading.count c.as_slice.ensures.value c.as_slice-in-reading.ensures.value c.reading.invariant.upto c.as_slice-in-reading-2.ensures.value
+    (ap (λ (t : Tables). t.versions) (same_tables old (state g.S.Store c.reading.connection) (c.reading.invariant.far.same before.intact))) (c.in_ok-lines.ensures.lines clean) in
     let took = c.in_ok-take.ensures.took (turn_under c.args.asked.now c.args.tenant.now c.args.bucket.now (tables_at old).versions small c.reading.reading had c.reading.invariant.count c.as_slice-in-reading-2.result.now are) in
     ap (λ v. map seen_entry v.items) c.into_entries.ensures
     ∙ turn_ended c.args.asked.now c.args.tenant.now c.args.bucket.now (tables_at old).versions small c.reading.reading had c.reading.invariant.count c.as_slice-in-reading-2.result.now are c.take.new.self c.in_ok-take.field-0 took c.if-branch.true
@@ -70,14 +70,14 @@ reading-preserved g c =
       upto = c.reading.invariant.upto;
       count = c.in_ok-take.ensures.count c.reading.invariant.count;
       read = λ clean.
-        let before = c.in_ok-lines.ensures.within.follows.clean clean in
-        let small = small_keys (tables_at old) (c.requires.working (c.reading.invariant.far.within.follows.clean before)).sound in
-        let had = c.reading.invariant.read before in
-        let are = lines_are c.args.asked.now c.args.tenant.now c.args.bucket.now (tables_at (state g.S.Store c.reading.connection)).versions (tables_at old).versions c.reading.reading.from.items c.as_slice.result.now c.in_ok-upto.upto.items c.as_slice-in-reading.result.now
-            c.in_ok-lines.lines.items c.as_slice-in-reading-2.result.now c.reading.reading.count c.as_slice.ensures.value c.as_slice-in-reading.ensures.value c.reading.invariant.upto c.as_slice-in-reading-2.ensures.value
-            (ap (λ (t : Tables). t.versions) (same_tables old (state g.S.Store c.reading.connection) (c.reading.invariant.far.same before.intact))) (c.in_ok-lines.ensures.lines clean) in
-        let took = c.in_ok-take.ensures.took (turn_under c.args.asked.now c.args.tenant.now c.args.bucket.now (tables_at old).versions small c.reading.reading had c.reading.invariant.count c.as_slice-in-reading-2.result.now are) in
-        turn_on c.args.asked.now c.args.tenant.now c.args.bucket.now (tables_at old).versions small c.reading.reading had c.reading.invariant.count c.as_slice-in-reading-2.result.now are c.take.new.self c.in_ok-take.field-0 took c.if-branch.false;
+          let before = c.in_ok-lines.ensures.within.follows.clean clean in
+          let small = small_keys (tables_at old) (c.requires.working (c.reading.invariant.far.within.follows.clean before)).sound in
+          let had = c.reading.invariant.read before in
+          let are = lines_are c.args.asked.now c.args.tenant.now c.args.bucket.now (tables_at (state g.S.Store c.reading.connection)).versions (tables_at old).versions c.reading.reading.from.items c.as_slice.result.now c.in_ok-upto.upto.items c.as_slice-in-reading.result.now
+          c.in_ok-lines.lines.items c.as_slice-in-reading-2.result.now c.reading.reading.count c.as_slice.ensures.value c.as_slice-in-reading.ensures.value c.reading.invariant.upto c.as_slice-in-reading-2.ensures.value
+          (ap (λ (t : Tables). t.versions) (same_tables old (state g.S.Store c.reading.connection) (c.reading.invariant.far.same before.intact))) (c.in_ok-lines.ensures.lines clean) in
+          let took = c.in_ok-take.ensures.took (turn_under c.args.asked.now c.args.tenant.now c.args.bucket.now (tables_at old).versions small c.reading.reading had c.reading.invariant.count c.as_slice-in-reading-2.result.now are) in
+          turn_on c.args.asked.now c.args.tenant.now c.args.bucket.now (tables_at old).versions small c.reading.reading had c.reading.invariant.count c.as_slice-in-reading-2.result.now are c.take.new.self c.in_ok-take.field-0 took c.if-branch.false;
     }
 
 pub returns-clause-within : goal.returns-clause-within
