@@ -2,7 +2,7 @@
 use Rattle.std.proofs.Common.{◌≡◌, ℕ, ◌+◌, ◌<◌, List, [], ◌∷◌, ◌++◌, length, get_or, take, map, sym, ap, ◌∙◌, subst}
 use Rattle.std.specs.List.{flat_map}
 use Rattle.std.proofs.lemmas.List.{append_assoc, flat_map_more, map_more}
-use Rattle.bh_types.specs.Limits.{HostLimits, default_limits}
+use Rattle.bh_types.specs.Limits.{HostLimits}
 use Rattle.bh_event.specs.Events.{Arrival}
 use Rattle.bh_storage.specs.Calls.{Seen}
 use Rattle.bh_tables.specs.Typed.{Tables}
@@ -14,13 +14,13 @@ use Rattle.bh_host.specs.declared.event.Told.{Told as ToldOf}
 use Rattle.bh_script.specs.Answers.{first_tables, AnewRan, reply_line, replies_text}
 
 -- what `run` says of a host with a new host's tables
-pub ran_anew : {H : Type 0} {IsOpen : H → Type 0} {seen : H → Seen} {left : H → Tables → Type 0} {events : List Arrival} {dones : List Told} {old new : H}
-    → (seen old).now ≡ first_tables → RanOn IsOpen seen left events dones old new → AnewRan events dones
+pub ran_anew : {H : Type 0} {IsOpen : H → Type 0} {seen : H → Seen} {left : H → Tables → Type 0} {limits : HostLimits} {events : List Arrival} {dones : List Told} {old new : H}
+    → (seen old).now ≡ first_tables limits → RanOn IsOpen seen left events dones old new → AnewRan limits events dones
 ran_anew {events = events} {dones = dones} same run = (run.end, subst (λ t. Ran events dones t run.end) same run.ran)
 
 -- the limits that a new host was made with are in its tables
-pub made_first : (limits : HostLimits) (made : Tables) → made ≡ new_host limits.min_part limits.max_body → limits ≡ default_limits → made ≡ first_tables
-made_first limits made is same = is ∙ ap (λ (l : HostLimits). new_host l.min_part l.max_body) same
+pub made_first : (limits given : HostLimits) (made : Tables) → made ≡ new_host limits.min_part limits.max_body → limits ≡ given → made ≡ first_tables given
+made_first limits given made is same = is ∙ ap (λ (l : HostLimits). new_host l.min_part l.max_body) same
 
 -- one more reply and its line feed
 pub reply_added : (text : List ℕ) (dones : List ToldOf) (count : ℕ) (done : ToldOf) → count < length dones → done ≡ get_or dones count done

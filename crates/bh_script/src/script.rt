@@ -4,7 +4,6 @@ ghost use Rattle.sqlite.specs.Steps.{over_memory};
 ghost use Rattle.bh_event.specs.Events.{arrival};
 ghost use Rattle.bh_host.specs.Answers.{told};
 ghost use Rattle.bh_create.specs.Creation.{IsNewHost};
-ghost use Rattle.bh_types.specs.Limits.{default_limits};
 ghost use Rattle.bh_script.specs.Lines.{bad_line_of};
 ghost use Rattle.bh_script.specs.Answers.{AnewRan, AnswersScript, replies_text, bad_line_text, answer_text};
 
@@ -47,41 +46,50 @@ pub struct Answered {
     pub bad_line: Option<BadLine>,
 }
 
-/// Applies the events of a script, up to the first line that tells none, to a new host in memory, and tells what
-/// they were answered.
-pub fn answer_script(alloc: Global, bytes: &[u8]) -> Result<Answered, Fault>
-    ensures text { IfOk result (λ answered. AnswersScript bytes.now answered.text.items) }
+/// Applies the events of a script, up to the first line that tells none, to a new host in memory with these
+/// limits, and tells what they were answered.
+pub fn answer_script(
+    alloc: Global,
+    bytes: &[u8],
+    limits: Limits,
+    tuning: Tuning,
+) -> Result<Answered, Fault>
+    ensures text { IfOk result (λ answered. AnswersScript limits bytes.now answered.text.items) }
     ensures bad_line { IfOk result (λ answered. answered.bad_line ≡ bad_line_of bytes.now) }
 {
     let script = read_script(alloc, bytes)?;
-    let dones = serve(alloc, script.events.as_slice())?;
+    let dones = serve(alloc, script.events.as_slice(), limits, tuning)?;
     let bad_line = script.bad_line;
     let text = answer_text(alloc, dones.as_slice(), bad_line)?;
     Ok(Answered { text, bad_line })
 }
 
 /// A new host in memory.
-fn new_host(alloc: Global) -> Result<HostStorage<MemStore, Sha256Digester>, Fault>
-    ensures limits { IfOk result (λ storage. storage.host.limits ≡ default_limits) }
+fn new_host(
+    alloc: Global,
+    limits: Limits,
+    tuning: Tuning,
+) -> Result<HostStorage<MemStore, Sha256Digester>, Fault>
+    ensures limits { IfOk result (λ storage. storage.host.limits ≡ limits) }
     ensures made { IfOk result (λ storage. IsNewHost storage.host.limits (state over_memory storage.host.connection)) }
 {
     let connection = Connection::open_in_memory(alloc)?;
-    match create(
-        connection,
-        Sha256Digester,
-        Limits::default(),
-        Tuning::default(),
-    ) {
+    match create(connection, Sha256Digester, limits, tuning) {
         Ok(host) => Ok(HostStorage { host }),
         Err(_) => Err(Fault::Store),
     }
 }
 
 /// What a new host answers events.
-fn serve(alloc: Global, events: &[Event]) -> Result<Vec<Told>, Fault>
-    ensures { IfOk result (λ dones. AnewRan (map arrival events.now) (map told dones.items)) }
+fn serve(
+    alloc: Global,
+    events: &[Event],
+    limits: Limits,
+    tuning: Tuning,
+) -> Result<Vec<Told>, Fault>
+    ensures { IfOk result (λ dones. AnewRan limits (map arrival events.now) (map told dones.items)) }
 {
-    let mut storage = new_host(alloc)?;
+    let mut storage = new_host(alloc, limits, tuning)?;
     Ok(run(alloc, &mut storage, events)?)
 }
 

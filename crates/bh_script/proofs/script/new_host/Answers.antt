@@ -1,4 +1,4 @@
-use Rattle.std.proofs.Common.{subst, sym, ◌∙◌}
+use Rattle.std.proofs.Common.{subst, sym}
 use Rattle.sqlite.specs.Held.{state}
 use Rattle.sqlite.specs.Steps.{over_memory}
 use Rattle.bh_create.specs.Creation.{IsNewHost}
@@ -6,7 +6,7 @@ use Rattle.bh_create.proofs.Memory.{is_clean}
 use Rattle.bh_script.proofs.script.new_host.Goals as goal
 
 pub returns-in-Ok-clause-limits : goal.returns-in-Ok-clause-limits
-returns-in-Ok-clause-limits c = c.in-Ok.ensures.given.0 ∙ c.default.ensures
+returns-in-Ok-clause-limits c = c.in-Ok.ensures.given.0
 
 pub returns-in-Ok-clause-made : goal.returns-in-Ok-clause-made
 returns-in-Ok-clause-made c =

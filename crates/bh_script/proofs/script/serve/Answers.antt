@@ -5,4 +5,4 @@ use Rattle.bh_script.proofs.script.serve.Goals as goal
 pub returns : goal.returns
 returns c =
     let made = c.in_ok-storage.ensures in
-    ran_anew (made_first _ _ made.made.tables made.limits) (c.in_ok-run.ensures.ran (is_intact c.run.new.host.host.connection))
+    ran_anew (made_first _ _ _ made.made.tables made.limits) (c.in_ok-run.ensures.ran (is_intact c.run.new.host.host.connection))

@@ -1,0 +1,20 @@
+use Rattle.std.proofs.Common.{sym, ◌∙◌}
+use Rattle.bh_event.specs.Events.{order_of}
+use Rattle.bh_host.specs.Replies.{reply_bytes}
+use Rattle.bh_commands.proofs.Printing.{kept_when_done}
+use Rattle.bh_commands.proofs.commands.apply_command.Goals as goal
+
+pub returns-clause-applied : goal.returns-clause-applied
+returns-clause-applied g c =
+    let told = c.apply-told in
+    let printed = c.in_ok-printed.ensures in
+    record {
+      stamp = told.result.stamp;
+      reply = reply_bytes told.result.reply;
+      applied = told.ensures.applied;
+      told_apart = told.ensures.told_apart;
+      line = printed;
+      kept = λ done intact.
+          kept_when_done c.args.reading (order_of c.args.command) told.result.stamp (reply_bytes told.result.reply) (told.ensures.told_apart intact) told.ensures.acknowledged
+          (sym printed.status ∙ done) intact;
+    }

@@ -1,0 +1,5 @@
+use Rattle.bh_commands.proofs.Found.{nothing_is_sound}
+use Rattle.bh_commands.proofs.lines.command_on.Goals as goal
+
+pub file_command-requires : goal.file_command-requires
+file_command-requires c = nothing_is_sound

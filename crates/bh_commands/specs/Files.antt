@@ -1,0 +1,28 @@
+-- What the files of a host held when they were opened.
+use Rattle.std.specs.Prelude.{◌≡◌}
+use Rattle.sqlite_wal.specs.Recovery.{Image}
+use Rattle.sqlite.specs.Effect.{Database, IsDatabase}
+use Rattle.sqlite.specs.Files.{AreFoundIn}
+use Rattle.sqlite.specs.Start.{FindsIn}
+use Rattle.sqlite.specs.State.{State, HasCleanDisk, IsLive, Opens}
+use Rattle.bh_tables.specs.Hosts.{tables_shown}
+use Rattle.bh_tables.specs.Schema.{host_schema}
+use Rattle.bh_tables.specs.Typed.{Tables}
+use Rattle.bh_view.specs.Sound.{IsSound}
+
+-- files with these contents hold a database of a host's schema, which shows these tables
+pub record AreTablesIn (image : Image) (tables : Tables) : Type 0 where
+  pub db : Database
+  pub found : AreFoundIn image db.trees
+  pub database : IsDatabase db
+  pub schema : db.schema ≡ host_schema
+  pub shown : tables ≡ tables_shown db
+
+-- what they hold of a host is sound
+abbrev pub HoldsSoundHost : Image → Type 0
+HoldsSoundHost image = (tables : Tables) → AreTablesIn image tables → IsSound tables
+
+-- a connection shows what they hold, if they returned what was written to them
+pub record IsOpenedOn (image : Image) (s : State) : Type 0 where
+  pub opened : HasCleanDisk s → Opens s × IsLive s
+  pub found : HasCleanDisk s → FindsIn image s

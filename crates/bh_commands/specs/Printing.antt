@@ -1,0 +1,21 @@
+-- What a subcommand prints, and its status.
+use Rattle.std.specs.Prelude.{ℕ, Bool, false, nat_le, ◌&&◌, List, [], ◌∷◌, ◌++◌, codes, if◌then◌else◌}
+use Rattle.bh_types.specs.declared.refusal.Refusal.{Refusal}
+use Rattle.bh_http.specs.Responses.{refusal_text}
+
+-- a line, and its line feed
+abbrev pub line_of : List ℕ → List ℕ
+line_of text = text ++ 10 ∷ []
+
+-- a refusal begins with its number; no other reply to an operator begins with a digit
+abbrev pub is_refusal : List ℕ → Bool
+is_refusal [] = false
+is_refusal (b ∷ text) = nat_le 48 b && nat_le b 57
+
+-- 1 where the reply is a refusal
+abbrev pub status_of : List ℕ → ℕ
+status_of text = if is_refusal text then 1 else 0
+
+-- what a refusal prints
+abbrev pub refused_line : Refusal → List ℕ
+refused_line refusal = line_of (refusal_text refusal)

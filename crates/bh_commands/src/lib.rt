@@ -1,0 +1,17 @@
+//! The subcommands of `bucketd`, and what each prints.
+#![tactic(auto)]
+
+mod commands;
+mod fault;
+mod files;
+mod input;
+mod lines;
+mod opening;
+mod printed;
+
+pub use commands::apply_command;
+pub use fault::Fault;
+pub use files::{Done, file_command, finish, init_file};
+pub use lines::carry_out;
+pub use opening::{FileConnection, FileHost, NoHost, open_file, open_stored_file};
+pub use printed::Printed;

@@ -1,0 +1,63 @@
+ghost use Rattle.std.specs.Prelude.{◌≡◌, IfOk};
+ghost use Rattle.bh_host.specs.Replies.{reply_bytes};
+ghost use Rattle.bh_commands.specs.Commands.{IsLine, IsRefusal};
+ghost use Rattle.bh_commands.specs.Printing as spec;
+
+use bh_host::Reply;
+use bh_types::refusal::Refusal;
+use std::alloc::{AllocError, Global};
+
+/// What a subcommand writes on standard output, and the status that it ends with.
+#[derive(Drop)]
+pub struct Printed {
+    /// A line and its line feed; of a script many lines.
+    pub text: Vec<u8>,
+    /// 0, or 1 where the line is a refusal, or a script's line tells no event.
+    pub status: u8,
+}
+
+/// Whether a line tells a refusal: it begins with the refusal's number.
+fn is_refusal(line: &[u8]) -> bool
+    ensures { result ≡ spec.is_refusal line.now }
+{
+    match line {
+        [first, ..] => b'0' <= *first && *first <= b'9',
+        [] => false,
+    }
+}
+
+fn line_of(alloc: Global, line: &[u8]) -> Result<Vec<u8>, AllocError>
+    ensures { IfOk result (λ text. text.items ≡ spec.line_of line.now) }
+{
+    let mut text = Vec::from_slice(alloc, line)?;
+    text.push(b'\n')?;
+    Ok(text)
+}
+
+impl Printed {
+    /// A line that isn't a refusal, or is.
+    pub fn line(alloc: Global, line: &[u8]) -> Result<Printed, AllocError>
+        ensures { IfOk result (IsLine line.now) }
+    {
+        let text = line_of(alloc, line)?;
+        let status = if is_refusal(line) { 1 } else { 0 };
+        Ok(Printed { text, status })
+    }
+
+    /// A reply to an operator.
+    pub fn reply(alloc: Global, reply: &Reply) -> Result<Printed, AllocError>
+        ensures { IfOk result (IsLine (reply_bytes reply.now)) }
+    {
+        Printed::line(alloc, reply.bytes())
+    }
+
+    /// A refusal: its number and its code.
+    pub fn refusal(alloc: Global, refusal: Refusal) -> Result<Printed, AllocError>
+        ensures { IfOk result (IsRefusal refusal) }
+    {
+        let number = refusal.number();
+        let code = refusal.code();
+        let text = format!(in alloc; "{number} {code}\n")?.into_bytes();
+        Ok(Printed { text, status: 1 })
+    }
+}
