@@ -9,8 +9,7 @@ use Rattle.bh_host.specs.Runs.{Told, Ran}
 use Rattle.bh_connection.specs.Connections.{request_at}
 use Rattle.bh_commands.specs.Files.{AreTablesIn}
 
--- requests came in turn, each at a reading of the clock, and were run over the tables that the files held
-pub record HasServed {S D : Type 0} (g : Ghosts S) (image : Image) (host : Host S D) : Type 0 where
-  pub requests : List (ℕ × List ℕ)
-  pub tolds : List Told
-  pub ran : IsClean g host → (old : Tables) × AreTablesIn image old × Ran (map (λ r. request_at r.0 r.1) requests) tolds old (seen g host).now
+-- some requests came in turn, each at a reading of the clock, and were run over the tables that the files held
+abbrev pub HasServed : {S D : Type 0} → Ghosts S → Image → Host S D → Type 0
+HasServed g image host = IsClean g host
+    → (old : Tables) × AreTablesIn image old × (requests : List (ℕ × List ℕ)) × (tolds : List Told) × Ran (map (λ r. request_at r.0 r.1) requests) tolds old (seen g host).now
