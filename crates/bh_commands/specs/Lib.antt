@@ -2,3 +2,4 @@ pub mod Commands
 pub mod Files
 pub mod Input
 pub mod Printing
+pub mod Serving

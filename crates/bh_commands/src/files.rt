@@ -34,7 +34,7 @@ pub struct Done<S: Alter + Drop> {
 pub type FileDone<S> = Done<FileStore<FileFrom<S>>>;
 
 /// What is printed where no host was found or made.
-fn without_host<S: Alter + Drop>(alloc: Global, refusal: Refusal) -> Result<Done<S>, AllocError>
+pub(crate) fn without_host<S: Alter + Drop>(alloc: Global, refusal: Refusal) -> Result<Done<S>, AllocError>
     ensures { IfOk result (λ done. (done.storage ≡ None) × IsRefusal refusal done.printed) }
 {
     Ok(Done {

@@ -8,6 +8,7 @@ mod input;
 mod lines;
 mod opening;
 mod printed;
+mod serve;
 
 pub use commands::apply_command;
 pub use fault::Fault;
@@ -15,3 +16,4 @@ pub use files::{Done, file_command, finish, init_file};
 pub use lines::carry_out;
 pub use opening::{FileConnection, FileHost, NoHost, open_file, open_stored_file};
 pub use printed::Printed;
+pub use serve::{Serving, serve_file};

@@ -2,8 +2,9 @@ use crate::fault::Fault;
 use crate::files::{file_command, finish, init_file};
 use crate::input::{answer_input, secret_of};
 use crate::printed::Printed;
+use crate::serve::{Serving, serve_file};
 use bh_event::event::Command;
-use bh_types::limits::Limits;
+use bh_types::limits::{Limits, Tuning};
 use bh_types::refusal::Refusal;
 use bh_words::Line;
 use sqlite::Wary;
@@ -44,11 +45,26 @@ pub fn carry_out(rt: &HostRuntime, line: Line) -> Result<Printed, Fault> {
             name,
             at,
         } => command_on(rt, file.as_str(), at, Command::KeyRemove { tenant, name }),
+        Line::Serve {
+            file,
+            port,
+            count,
+            timeout,
+            tuning,
+        } => serve_from(
+            rt,
+            file.as_str(),
+            tuning,
+            Serving {
+                port,
+                count,
+                timeout,
+            },
+        ),
         Line::Quota { .. }
         | Line::Usage { .. }
         | Line::Report { .. }
-        | Line::Sweep { .. }
-        | Line::Serve { .. } => Ok(Printed::refusal(rt.alloc(), Refusal::NotImplemented)?),
+        | Line::Sweep { .. } => Ok(Printed::refusal(rt.alloc(), Refusal::NotImplemented)?),
     }
 }
 
@@ -65,4 +81,14 @@ fn command_on(
     command: Command,
 ) -> Result<Printed, Fault> {
     Ok(finish(file_command(rt, path, Wary, at, command)?))
+}
+
+/// Serves the host of a file, of whose contents nothing is said.
+fn serve_from(
+    rt: &HostRuntime,
+    path: &str,
+    tuning: Tuning,
+    serving: Serving,
+) -> Result<Printed, Fault> {
+    Ok(finish(serve_file(rt, path, Wary, tuning, serving)?))
 }

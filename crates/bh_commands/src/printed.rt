@@ -44,6 +44,14 @@ impl Printed {
         Ok(Printed { text, status })
     }
 
+    /// Nothing.
+    pub fn nothing(alloc: Global) -> Printed {
+        Printed {
+            text: Vec::new(alloc),
+            status: 0,
+        }
+    }
+
     /// A reply to an operator.
     pub fn reply(alloc: Global, reply: &Reply) -> Result<Printed, AllocError>
         ensures { IfOk result (IsLine (reply_bytes reply.now)) }
