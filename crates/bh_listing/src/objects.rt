@@ -8,7 +8,8 @@ ghost use Rattle.bh_storage.specs.Calls.{Unless, Decides};
 ghost use Rattle.bh_view.specs.View.{view};
 ghost use Rattle.bh_pages.specs.Seen.{seen_entry, token_of};
 ghost use Rattle.bh_listing.specs.Rows.{row_shown, bucket_rows, entries_of};
-ghost use Rattle.bh_listing.specs.Told.{asked_view, page_view};
+ghost use Rattle.bh_docs.specs.Pages.{page_view};
+ghost use Rattle.bh_listing.specs.Told.{asked_view};
 
 use crate::lines::version_lines;
 use crate::told::told_objects;

@@ -2,7 +2,7 @@ use Rattle.std.proofs.Common.{◌≡◌, ap, sym, ◌∙◌}
 use Rattle.sqlite.specs.Held.{state}
 use Rattle.bh_schema.specs.Working.{tables_at}
 use Rattle.bh_objects.proofs.Working.{same_tables}
-use Rattle.bh_listing.specs.Told.{page_view}
+use Rattle.bh_docs.specs.Pages.{page_view}
 use Rattle.bh_listing.proofs.Answering.{list_is}
 use Rattle.bh_listing.proofs.objects.list_objects.Goals as goal
 
