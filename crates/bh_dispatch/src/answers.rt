@@ -55,8 +55,5 @@ pub fn objects(
 ) -> Result<Answer, StepError<Rejection>>
     ensures { result ≡ result_map_both answer.Objects step_rejected outcome }
 {
-    match outcome {
-        Ok(page) => Ok(Answer::Objects(page)),
-        Err(error) => Err(StepError::from(error)),
-    }
+    Ok(Answer::Objects(outcome?))
 }
