@@ -6,7 +6,9 @@ use Rattle.bh_types.specs.declared.refusal.Refusal.{Refusal}
 use Rattle.bh_types.specs.declared.refusal.Refusal.TheVariants.{NotImplemented}
 use Rattle.bh_model.specs.Operations.{Answer, Outcome, create_bucket, head_bucket, delete_bucket, list_buckets, get_versioning, put_object, get_object, head_object, delete_object}
 use Rattle.bh_model.specs.State.{Octets, State as Machine}
-use Rattle.bh_machine.specs.Machine.{set_versioning, operated}
+use Rattle.bh_model.specs.Listings.{list_objects}
+use Rattle.bh_machine.specs.Machine.{set_versioning, page_asked, operated}
+use Rattle.bh_operation.specs.declared.page.Page.{Page}
 use Rattle.bh_operation.specs.declared.address.ObjectName.{ObjectName}
 use Rattle.bh_operation.specs.declared.operation.Operation.{Operation}
 use Rattle.bh_operation.specs.declared.operation.Operation.TheVariants.{ListBuckets, Usage, CreateBucket, HeadBucket, DeleteBucket, ListObjectsV2, ListObjectVersions, ListMultipartUploads, GetBucketVersioning, PutBucketVersioning, GetLifecycle, PutLifecycle, DeleteLifecycle, PutObject, CopyObject, GetObject, HeadObject, DeleteObject, CreateMultipartUpload, UploadPart, ListParts, CompleteMultipartUpload, AbortMultipartUpload}
@@ -53,6 +55,10 @@ pub deletes_bucket : (at : ℕ) (body : Octets) (bucket : Octets) → operated a
 unfolding operated
 deletes_bucket at body bucket = refl
 
+pub lists_objects : (at : ℕ) (body : Octets) (bucket : Octets) (page : Page) (token : Option Octets) → operated at body (ListObjectsV2 bucket page token) ≡ (λ s. plainly (list_objects bucket (page_asked page) token s))
+unfolding operated
+lists_objects at body bucket page token = refl
+
 pub tells_versioning : (at : ℕ) (body : Octets) (bucket : Octets) → operated at body (GetBucketVersioning bucket) ≡ (λ s. plainly (get_versioning bucket s))
 unfolding operated
 tells_versioning at body bucket = refl
@@ -83,6 +89,7 @@ pub not_done : (at : ℕ) (body : Octets) (s : Option Machine) (operation : Oper
     → ((bucket : Octets) → operation ≡ CreateBucket bucket → ⊥)
     → ((bucket : Octets) → operation ≡ HeadBucket bucket → ⊥)
     → ((bucket : Octets) → operation ≡ DeleteBucket bucket → ⊥)
+    → ((bucket : Octets) (page : Page) (token : Option Octets) → operation ≡ ListObjectsV2 bucket page token → ⊥)
     → ((bucket : Octets) → operation ≡ GetBucketVersioning bucket → ⊥)
     → ((bucket : Octets) → operation ≡ PutBucketVersioning bucket → ⊥)
     → ((object : ObjectName) (checksum : Option Octets) → operation ≡ PutObject object checksum → ⊥)
@@ -91,26 +98,26 @@ pub not_done : (at : ℕ) (body : Octets) (s : Option Machine) (operation : Oper
     → ((object : ObjectName) (version : Wanted) → operation ≡ DeleteObject object version → ⊥)
     → operated at body operation s ≡ Err (plain NotImplemented)
 unfolding operated
-not_done at body s ListBuckets list create head delete ask set put get look remove = absurd (list refl)
-not_done at body s Usage list create head delete ask set put get look remove = refl
-not_done at body s (CreateBucket x) list create head delete ask set put get look remove = absurd (create x refl)
-not_done at body s (HeadBucket x) list create head delete ask set put get look remove = absurd (head x refl)
-not_done at body s (DeleteBucket x) list create head delete ask set put get look remove = absurd (delete x refl)
-not_done at body s (ListObjectsV2 x y z) list create head delete ask set put get look remove = refl
-not_done at body s (ListObjectVersions x y z) list create head delete ask set put get look remove = refl
-not_done at body s (ListMultipartUploads x y z) list create head delete ask set put get look remove = refl
-not_done at body s (GetBucketVersioning x) list create head delete ask set put get look remove = absurd (ask x refl)
-not_done at body s (PutBucketVersioning x) list create head delete ask set put get look remove = absurd (set x refl)
-not_done at body s (GetLifecycle x) list create head delete ask set put get look remove = refl
-not_done at body s (PutLifecycle x) list create head delete ask set put get look remove = refl
-not_done at body s (DeleteLifecycle x) list create head delete ask set put get look remove = refl
-not_done at body s (PutObject x y) list create head delete ask set put get look remove = absurd (put x y refl)
-not_done at body s (CopyObject x y) list create head delete ask set put get look remove = refl
-not_done at body s (GetObject x y z) list create head delete ask set put get look remove = absurd (get x y z refl)
-not_done at body s (HeadObject x y) list create head delete ask set put get look remove = absurd (look x y refl)
-not_done at body s (DeleteObject x y) list create head delete ask set put get look remove = absurd (remove x y refl)
-not_done at body s (CreateMultipartUpload x) list create head delete ask set put get look remove = refl
-not_done at body s (UploadPart x y z w) list create head delete ask set put get look remove = refl
-not_done at body s (ListParts x y z) list create head delete ask set put get look remove = refl
-not_done at body s (CompleteMultipartUpload x y) list create head delete ask set put get look remove = refl
-not_done at body s (AbortMultipartUpload x y) list create head delete ask set put get look remove = refl
+not_done at body s ListBuckets list create head delete keys ask set put get look remove = absurd (list refl)
+not_done at body s Usage list create head delete keys ask set put get look remove = refl
+not_done at body s (CreateBucket x) list create head delete keys ask set put get look remove = absurd (create x refl)
+not_done at body s (HeadBucket x) list create head delete keys ask set put get look remove = absurd (head x refl)
+not_done at body s (DeleteBucket x) list create head delete keys ask set put get look remove = absurd (delete x refl)
+not_done at body s (ListObjectsV2 x y z) list create head delete keys ask set put get look remove = absurd (keys x y z refl)
+not_done at body s (ListObjectVersions x y z) list create head delete keys ask set put get look remove = refl
+not_done at body s (ListMultipartUploads x y z) list create head delete keys ask set put get look remove = refl
+not_done at body s (GetBucketVersioning x) list create head delete keys ask set put get look remove = absurd (ask x refl)
+not_done at body s (PutBucketVersioning x) list create head delete keys ask set put get look remove = absurd (set x refl)
+not_done at body s (GetLifecycle x) list create head delete keys ask set put get look remove = refl
+not_done at body s (PutLifecycle x) list create head delete keys ask set put get look remove = refl
+not_done at body s (DeleteLifecycle x) list create head delete keys ask set put get look remove = refl
+not_done at body s (PutObject x y) list create head delete keys ask set put get look remove = absurd (put x y refl)
+not_done at body s (CopyObject x y) list create head delete keys ask set put get look remove = refl
+not_done at body s (GetObject x y z) list create head delete keys ask set put get look remove = absurd (get x y z refl)
+not_done at body s (HeadObject x y) list create head delete keys ask set put get look remove = absurd (look x y refl)
+not_done at body s (DeleteObject x y) list create head delete keys ask set put get look remove = absurd (remove x y refl)
+not_done at body s (CreateMultipartUpload x) list create head delete keys ask set put get look remove = refl
+not_done at body s (UploadPart x y z w) list create head delete keys ask set put get look remove = refl
+not_done at body s (ListParts x y z) list create head delete keys ask set put get look remove = refl
+not_done at body s (CompleteMultipartUpload x y) list create head delete keys ask set put get look remove = refl
+not_done at body s (AbortMultipartUpload x y) list create head delete keys ask set put get look remove = refl

@@ -4,7 +4,7 @@ ghost use Rattle.std.specs.Result.{result_map_both};
 ghost use Rattle.bh_storage.specs.Errors.{step_rejected};
 ghost use Rattle.bh_storage.specs.declared.answer.Answer.TheVariants as answer;
 
-use bh_docs::BucketEntry;
+use bh_docs::{BucketEntry, ObjectsPage};
 use bh_storage::answer::{Answer, RemovedEntry, StoredVersion};
 use bh_storage::error::StepError;
 use bh_types::bucket_state::BucketState;
@@ -48,4 +48,12 @@ pub fn versioning(
     ensures { result ≡ result_map_both answer.Versioning step_rejected outcome }
 {
     Ok(Answer::Versioning(outcome?))
+}
+
+pub fn objects(
+    outcome: Result<ObjectsPage, StepError<Refusal>>,
+) -> Result<Answer, StepError<Rejection>>
+    ensures { result ≡ result_map_both answer.Objects step_rejected outcome }
+{
+    Ok(Answer::Objects(outcome?))
 }

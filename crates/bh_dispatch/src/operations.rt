@@ -1,8 +1,9 @@
 ghost use Rattle.std.specs.Option.{option_copied};
 ghost use Rattle.std.specs.Prelude.{◌≡◌, ◌≤◌};
 ghost use Rattle.bh_types.specs.Rejections.{plainly};
-ghost use Rattle.bh_machine.specs.Machine.{set_versioning, operated};
+ghost use Rattle.bh_machine.specs.Machine.{set_versioning, page_asked, operated};
 ghost use Rattle.bh_model.specs.Operations as machine;
+ghost use Rattle.bh_model.specs.Listings.{list_objects};
 ghost use Rattle.bh_view.specs.View.{latest_of};
 ghost use Rattle.bh_storage.specs.Answers.{answer_view};
 ghost use Rattle.bh_storage.specs.Calls.{Unless, Carries};
@@ -15,9 +16,11 @@ use bh_objects::writes::NewObject;
 use bh_objects::{buckets, deletes, gets, heads, objects};
 use bh_operation::address::ObjectName;
 use bh_operation::operation::Operation;
+use bh_operation::page::Page;
 use bh_operation::text::Bytes;
+use bh_pages::gathering::Asked;
 use bh_storage::answer::Answer;
-use bh_storage::error::StepError;
+use bh_storage::error::{StepError, Trouble};
 use bh_types::bucket::BucketName;
 use bh_types::moment::Moment;
 use bh_types::names::TenantName;
@@ -218,6 +221,35 @@ fn bytes_of(bytes: &Option<Bytes>) -> Option<&[u8]>
     }
 }
 
+/// A page of a listing is of 1,000 entries at most, so its size fits.
+fn list_objects<S: Alter>(
+    connection: &mut Connection<S>,
+    alloc: Global,
+    tenant: &TenantName,
+    bucket: &BucketName,
+    page: &Page,
+    after: Option<&[u8]>,
+) -> Result<Answer, StepError<Rejection>>
+    requires { Works S.Store connection.old }
+    ensures within { StaysWithin S.Store connection.old connection.new }
+    ensures opens { Unless result (StaysOpen S.Store connection.old connection.new) }
+    ensures working { Unless result (StillWorks S.Store connection.old connection.new) }
+    ensures carries { IsClean S.Store connection.new
+        → Carries answer_view tenant.now (λ s. plainly (list_objects bucket.now (page_asked page.now) (option_copied after.entry) s))
+        (tables S.Store connection.old) (tables S.Store connection.new) result }
+{
+    let Ok(max) = u32::try_from(page.size) else {
+        return Err(StepError::Failed(Trouble::Store));
+    };
+    let asked = Asked {
+        prefix: page.prefix.as_str().as_bytes(),
+        delimiter: page.delimiter.as_str().as_bytes(),
+        after,
+        max,
+    };
+    answers::objects(bh_listing::objects::list_objects(connection, alloc, tenant, bucket, &asked))
+}
+
 /// Carries out an operation of a tenant, at a moment that is not after the last stamp: NotImplemented for those that
 /// the host doesn't do yet.
 pub fn operate<S: Alter>(
@@ -242,6 +274,11 @@ pub fn operate<S: Alter>(
         Operation::CreateBucket(bucket) => create_bucket(connection, tenant, at, bucket),
         Operation::HeadBucket(bucket) => head_bucket(connection, tenant, bucket),
         Operation::DeleteBucket(bucket) => delete_bucket(connection, tenant, bucket),
+        Operation::ListObjectsV2 {
+            bucket,
+            page,
+            token,
+        } => list_objects(connection, alloc, tenant, bucket, page, bytes_of(token)),
         Operation::GetBucketVersioning(bucket) => versioning(connection, tenant, bucket),
         Operation::PutBucketVersioning(bucket) => {
             set_versioning(connection, alloc, tenant, bucket, body)

@@ -6,9 +6,9 @@ use Rattle.serde_json.specs.View.{items_of}
 use Rattle.serde_json.specs.Written.{has_float, items_have_float, members_have_float}
 use Rattle.bh_types.specs.Ids.{upload_text, version_text}
 use Rattle.bh_docs.specs.Documents.{member_if, natural}
-use Rattle.bh_docs.specs.Pages.{prefix_data, object_data, version_data, version_members, upload_data, part_data, objects_data, versions_data, uploads_data, parts_data}
+use Rattle.bh_docs.specs.Pages.{prefix_data, common_data, item_data, version_data, version_members, upload_data, part_data, objects_data, versions_data, uploads_data, parts_data}
 use Rattle.bh_types.specs.Tokens.{token_text}
-use Rattle.bh_docs.specs.declared.objects.ObjectsPage.{ObjectsPage}
+use Rattle.bh_model.specs.Pages.{ObjectsListed}
 use Rattle.bh_docs.specs.declared.parts.PartsPage.{PartsPage}
 use Rattle.bh_docs.specs.declared.uploads.UploadsPage.{UploadsPage}
 use Rattle.bh_docs.specs.declared.versions.StoredObject.{StoredObject}
@@ -32,12 +32,12 @@ members_have_float-version_members : (v : VersionEntry) (o : Option StoredObject
 members_have_float-version_members v None = refl
 members_have_float-version_members v (Some o) = refl
 
-pub has_float-objects_data : (p : ObjectsPage) → has_float (objects_data p) ≡ false
+pub has_float-objects_data : (p : ObjectsListed) → has_float (objects_data p) ≡ false
 has_float-objects_data p =
     rw (
-      items_have_float-map prefix_data (λ a. refl) p.prefixes.items,
-      items_have_float-map object_data (λ a. refl) p.objects.items,
-      members_have_float-member_if (λ name. string (token_text (string_bytes name))) (λ a. refl) (codes "NextContinuationToken") p.next,
+      items_have_float-map common_data (λ a. refl) p.prefixes,
+      items_have_float-map item_data (λ a. refl) p.objects,
+      members_have_float-member_if (λ name. string (token_text name)) (λ a. refl) (codes "NextContinuationToken") p.next,
     ) refl
 
 pub has_float-parts_data : (p : PartsPage) → has_float (parts_data p) ≡ false

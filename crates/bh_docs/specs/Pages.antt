@@ -1,11 +1,13 @@
 -- The pages of listings as JSON data. A page says where the next one begins where it is truncated,
 -- and only there.
-use Rattle.std.specs.Prelude.{ℕ, ◌+◌, List, length, codes, true, false, is_some, Option, Some, None, option_map, option_and_then, string_bytes, String}
+use Rattle.std.specs.Prelude.{ℕ, ◌+◌, List, map, length, codes, true, false, is_some, Option, Some, None, option_map, option_and_then, string_bytes, String}
 use Rattle.std.specs.declared.alloc.Global.{Global}
 use Rattle.serde_json.specs.Data.{Data, boolean, string, object, Members, member, no_members}
 use Rattle.serde_json.specs.Written.{compact_text}
 use Rattle.bh_types.specs.Ids.{version_text, upload_text}
 use Rattle.bh_docs.specs.Documents.{natural, moment, array_of, member_if}
+use Rattle.bh_model.specs.State.{Octets}
+use Rattle.bh_model.specs.Pages.{ObjectItem, ObjectsListed}
 use Rattle.bh_types.specs.Tokens.{token_text}
 use Rattle.bh_docs.specs.declared.objects.ObjectEntry.{ObjectEntry}
 use Rattle.bh_docs.specs.declared.objects.ObjectsPage.{ObjectsPage}
@@ -26,43 +28,67 @@ prefix_data p = object (member (codes "Prefix") (string (string_bytes p.prefix))
 
 -- ---- ListObjectsV2
 
-abbrev pub object_data : ObjectEntry → Data
-object_data o =
-    object (member (codes "ChecksumSHA256") (string (string_bytes o.checksum))
-    (member (codes "Key") (string (string_bytes o.key))
-    (member (codes "LastModified") (moment o.modified)
+-- what contracts see of a page
+abbrev pub prefix_view : CommonPrefix → Octets
+prefix_view p = string_bytes p.prefix
+
+abbrev pub object_view : ObjectEntry → ObjectItem
+object_view o = record { key = string_bytes o.key; moment = o.modified; size = o.size; checksum = string_bytes o.checksum }
+
+abbrev pub page_view : ObjectsPage → ObjectsListed
+page_view p = record {
+  bucket = string_bytes p.bucket;
+  prefix = string_bytes p.prefix;
+  max = p.max;
+  prefixes = map prefix_view p.prefixes.items;
+  objects = map object_view p.objects.items;
+  next = option_map string_bytes p.next;
+}
+
+-- an object, as it is shown
+abbrev pub item_data : ObjectItem → Data
+item_data o =
+    object (member (codes "ChecksumSHA256") (string o.checksum)
+    (member (codes "Key") (string o.key)
+    (member (codes "LastModified") (moment o.moment)
     (member (codes "Size") (natural o.size) no_members))))
+
+abbrev pub object_data : ObjectEntry → Data
+object_data o = item_data (object_view o)
+
+abbrev pub common_data : Octets → Data
+common_data name = object (member (codes "Prefix") (string name) no_members)
 
 -- KeyCount counts both lists
 -- Amazon S3 API Reference, ListObjectsV2, as JSON
-abbrev pub objects_with : ObjectsPage → Option Data → Data
+abbrev pub objects_with : ObjectsListed → Option Data → Data
 objects_with p token =
-    object (member (codes "CommonPrefixes") (array_of prefix_data p.prefixes.items)
-    (member (codes "Contents") (array_of object_data p.objects.items)
+    object (member (codes "CommonPrefixes") (array_of common_data p.prefixes)
+    (member (codes "Contents") (array_of item_data p.objects)
     (member (codes "IsTruncated") (boolean (is_some p.next))
-    (member (codes "KeyCount") (natural (length p.prefixes.items + length p.objects.items))
+    (member (codes "KeyCount") (natural (length p.prefixes + length p.objects))
     (member (codes "MaxKeys") (natural p.max)
-    (member (codes "Name") (string (string_bytes p.bucket))
+    (member (codes "Name") (string p.bucket)
     (member_if (codes "NextContinuationToken") token
-    (member (codes "Prefix") (string (string_bytes p.prefix)) no_members))))))))
+    (member (codes "Prefix") (string p.prefix) no_members))))))))
 
 -- a page with neither lists nor token
-abbrev pub objects_plain : ObjectsPage → Data
+abbrev pub objects_plain : ObjectsListed → Data
 objects_plain p =
     object (member (codes "IsTruncated") (boolean (is_some p.next))
-    (member (codes "KeyCount") (natural (length p.prefixes.items + length p.objects.items))
+    (member (codes "KeyCount") (natural (length p.prefixes + length p.objects))
     (member (codes "MaxKeys") (natural p.max)
-    (member (codes "Name") (string (string_bytes p.bucket))
-    (member (codes "Prefix") (string (string_bytes p.prefix)) no_members)))))
+    (member (codes "Name") (string p.bucket)
+    (member (codes "Prefix") (string p.prefix) no_members)))))
 
 -- the token is that of the last name shown
-abbrev pub token_data : Option (String Global) → Option Data
-token_data next = option_map (λ name. string (token_text (string_bytes name))) next
+abbrev pub token_data : Option Octets → Option Data
+token_data next = option_map (λ name. string (token_text name)) next
 
-abbrev pub objects_data : ObjectsPage → Data
+abbrev pub objects_data : ObjectsListed → Data
 objects_data p = objects_with p (token_data p.next)
 
-abbrev pub objects_text : ObjectsPage → List ℕ
+abbrev pub objects_text : ObjectsListed → List ℕ
 objects_text p = compact_text (objects_data p)
 
 -- ---- ListObjectVersions

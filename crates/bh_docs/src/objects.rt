@@ -1,6 +1,6 @@
 //! Pages of ListObjectsV2.
 
-ghost use Rattle.std.specs.Prelude.{◌≡◌, ◌+◌, None, length, IfOk};
+ghost use Rattle.std.specs.Prelude.{◌≡◌, ◌+◌, None, length, option_map, IfOk};
 ghost use Rattle.std.specs.String.{string_bytes};
 ghost use Rattle.serde_json.specs.View.{view};
 ghost use Rattle.bh_docs.specs.Members.{shown_data};
@@ -56,14 +56,14 @@ pub struct ObjectsPage {
 /// The answer to ListObjectsV2 (Amazon S3 API Reference): compact JSON with its members in byte order. An error says that
 /// memory ran out.
 pub fn objects_document(alloc: Global, page: &ObjectsPage) -> Result<String, AllocError>
-    ensures { IfOk result (λ text. string_bytes text ≡ spec.objects_text page.now) }
+    ensures { IfOk result (λ text. string_bytes text ≡ spec.objects_text (spec.page_view page.now)) }
 {
     let document = objects_value(alloc, page)?;
     print(alloc, &document)
 }
 
 fn objects_value(alloc: Global, page: &ObjectsPage) -> Result<Value, AllocError>
-    ensures { IfOk result (λ value. view value ≡ spec.objects_data page.now) }
+    ensures { IfOk result (λ value. view value ≡ spec.objects_data (spec.page_view page.now)) }
 {
     let document = objects_without_token(alloc, page)?;
     with_shown(
@@ -75,7 +75,7 @@ fn objects_value(alloc: Global, page: &ObjectsPage) -> Result<Value, AllocError>
 }
 
 fn objects_without_token(alloc: Global, page: &ObjectsPage) -> Result<Value, AllocError>
-    ensures { IfOk result (λ value. view value ≡ spec.objects_with page.now None) }
+    ensures { IfOk result (λ value. view value ≡ spec.objects_with (spec.page_view page.now) None) }
 {
     let document = objects_without_lists(alloc, page)?;
     let document = with_entries(alloc, document, "CommonPrefixes", page.prefixes.as_slice())?;
@@ -83,7 +83,7 @@ fn objects_without_token(alloc: Global, page: &ObjectsPage) -> Result<Value, All
 }
 
 fn objects_without_lists(alloc: Global, page: &ObjectsPage) -> Result<Value, AllocError>
-    ensures { IfOk result (λ value. view value ≡ spec.objects_plain page.now) }
+    ensures { IfOk result (λ value. view value ≡ spec.objects_plain (spec.page_view page.now)) }
 {
     object_of(
         alloc,
@@ -104,7 +104,7 @@ fn entry_count(page: &ObjectsPage) -> u64
 }
 
 fn next_token(next: &Option<String>) -> Shown<'_>
-    ensures { shown_data result ≡ spec.token_data next.now }
+    ensures { shown_data result ≡ spec.token_data (option_map string_bytes next.now) }
 {
     match next {
         Some(name) => Shown::Token(name.as_str()),

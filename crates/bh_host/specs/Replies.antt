@@ -3,6 +3,7 @@ use Rattle.std.specs.Prelude.{ℕ, Bool, true, false, [], ◌++◌, length, code
 use Rattle.std.specs.Str.{bytes_eq}
 use Rattle.std.specs.Str.Lossy.{utf8_lossy}
 use Rattle.bh_docs.specs.Documents.{buckets_text, error_text, versioning_text}
+use Rattle.bh_docs.specs.Pages.{objects_text}
 use Rattle.bh_event.specs.Events.{Order, AddTenant, AddKey, RemoveKey, Message, Requested, Ordered}
 use Rattle.bh_http.specs.Answers.{bare, empty, with_document, refused, bare_refusal}
 use Rattle.bh_http.specs.Responses.{Sent, response_text, refusal_text}
@@ -12,7 +13,7 @@ use Rattle.bh_http.specs.declared.values.Allow.TheVariants.{Marker}
 use Rattle.bh_http.specs.declared.values.ContentRange.{ContentRange}
 use Rattle.bh_http.specs.declared.values.ContentRange.TheVariants.{Part as Satisfied, Unsatisfied}
 use Rattle.bh_http.specs.declared.values.ContentType.TheVariants.{OctetStream}
-use Rattle.bh_model.specs.Operations.{Answer, Done, Removed, Stored, Head, Object, Buckets, Versioning}
+use Rattle.bh_model.specs.Operations.{Answer, Done, Removed, Stored, Head, Object, Buckets, Versioning, Objects}
 use Rattle.bh_model.specs.State.{Octets}
 use Rattle.bh_operation.specs.Allowed.{allow_of}
 use Rattle.bh_operation.specs.Targets.{path_of}
@@ -69,6 +70,7 @@ response_to (Object id size plan bytes checksum) = record (head_response id size
 }
 response_to (Buckets buckets) = with_document 200 (buckets_text buckets)
 response_to (Versioning mode) = with_document 200 (versioning_text mode)
+response_to (Objects page) = with_document 200 (objects_text page)
 
 -- the methods that may be used: of a delete marker that was named, or of the target where the method was at fault
 abbrev pub allow_told : Octets → Refusal → Detail → Option Allow

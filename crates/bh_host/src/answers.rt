@@ -1,11 +1,12 @@
 ghost use Rattle.std.specs.Prelude.{◌≡◌, map, IfOk};
 ghost use Rattle.bh_docs.specs.Documents.{bucket_view};
+ghost use Rattle.bh_docs.specs.Pages.{page_view};
 ghost use Rattle.bh_http.specs.Answers.{response_view};
 ghost use Rattle.bh_host.specs.Replies as spec;
-ghost use Rattle.bh_model.specs.Operations.{Buckets, Versioning};
+ghost use Rattle.bh_model.specs.Operations.{Buckets, Versioning, Objects};
 ghost use Rattle.bh_storage.specs.Answers.{answer_view, removed_answer, stored_answer, head_answer, found_answer};
 
-use bh_docs::{BucketEntry, buckets_document, versioning_document};
+use bh_docs::{BucketEntry, ObjectsPage, buckets_document, objects_document, versioning_document};
 use bh_http::StatusCode;
 use bh_http::response::Response;
 use bh_http::values::{ContentRange, ContentType};
@@ -26,6 +27,7 @@ pub fn response_to(alloc: Global, answer: Answer) -> Result<Response, AllocError
         Answer::Found(version) => Ok(found(alloc, version)),
         Answer::Buckets(buckets) => listed(alloc, &buckets),
         Answer::Versioning(state) => versioning(alloc, state),
+        Answer::Objects(page) => objects(alloc, &page),
     }
 }
 
@@ -103,5 +105,12 @@ fn versioning(alloc: Global, state: BucketState) -> Result<Response, AllocError>
     ensures { IfOk result (λ response. response_view response ≡ spec.response_to (Versioning state)) }
 {
     let document = versioning_document(alloc, state)?;
+    Ok(Response::with_document(alloc, StatusCode::OK, document.into_bytes()))
+}
+
+fn objects(alloc: Global, page: &ObjectsPage) -> Result<Response, AllocError>
+    ensures { IfOk result (λ response. response_view response ≡ spec.response_to (Objects (page_view page.now))) }
+{
+    let document = objects_document(alloc, page)?;
     Ok(Response::with_document(alloc, StatusCode::OK, document.into_bytes()))
 }

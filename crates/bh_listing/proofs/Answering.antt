@@ -7,16 +7,19 @@ use Rattle.std.specs.Result.{result_map_both}
 use Rattle.sqlite_keyed.specs.Lists.{sort_by}
 use Rattle.sqlite_keyed.proofs.ListLemmas.{all-filter}
 use Rattle.sqlite_typed.specs.Tests.{bytes_eq}
+use Rattle.bh_types.specs.Outcomes.{◌>>=◌}
 use Rattle.bh_types.specs.declared.bucket_state.BucketState.{BucketState}
 use Rattle.bh_types.specs.declared.refusal.Refusal.{Refusal}
 use Rattle.bh_types.specs.declared.refusal.Refusal.TheVariants.{NoSuchBucket}
 use Rattle.bh_model.specs.State.{Octets, Bucket, State}
 use Rattle.bh_model.specs.Pages as model
 use Rattle.bh_model.specs.Pages.{objects_page, Listed, Paged, ObjectItem, ObjectsListed, last_of, paged, objects_told, objects_in, entries_after, after_name}
-use Rattle.bh_model.specs.Listings.{objects_listed}
+use Rattle.bh_model.specs.Listings.{objects_listed, list_objects}
+use Rattle.bh_model.specs.Operations.{Objects}
 use Rattle.bh_tables.specs.Typed.{VersionRow, Tables}
 use Rattle.bh_view.specs.Sound.{IsSound, IsVersionRow}
-use Rattle.bh_view.specs.View.{view, rows_of, in_bucket, objects_of, buckets_of}
+use Rattle.bh_storage.specs.Calls.{GivesStep}
+use Rattle.bh_view.specs.View.{view, latest_of, rows_of, in_bucket, objects_of, buckets_of}
 use Rattle.bh_view.proofs.BucketLemmas.{objects_shown}
 use Rattle.bh_view.proofs.SortLemmas.{all-sort_by}
 use Rattle.bh_view.proofs.ViewLemmas.{own_row}
@@ -93,3 +96,12 @@ module _ (tables : Tables) (t b : Octets) (sound : IsSound tables) where
   list_is mode found asked current tenant bucket name is_now is_t is_b is_name es slice is_slice gathered page told =
       lists mode found asked (map seen_entry es) (gathered ∙ (λ i. take (suc asked.max) (entries_of asked.prefix.now asked.delimiter.now (token_of asked) (map row_shown (bucket_rows (is_t i) (is_b i) asked.prefix.now ((is_now i).versions))))))
       ∙ ap (λ p. Ok p) (sym (told ∙ (λ i. objects_told (is_name i) (asked_view asked) (paged asked.max (map seen_entry (is_slice i))))))
+
+-- the machine's step, where no row changed
+pub list_step : (old new : Tables) (t b : Octets) (asked : model.Asked) (token : Option Octets) (page : ObjectsListed) → objects_listed b asked token (view old t) ≡ Ok page → new ≡ old
+    → GivesStep t (list_objects b asked token) (Objects page) old new
+list_step old new t b asked token page is same = record {
+  gives = ap (λ r. r >>= (λ (p : ObjectsListed). Ok (Objects p, view old t))) is ∙ ap (λ (x : Tables). Ok (Objects page, view x t)) (sym same);
+  others = λ u apart. ap (λ (x : Tables). view x u) same;
+  latest = ap latest_of same;
+}

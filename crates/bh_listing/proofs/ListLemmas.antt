@@ -9,7 +9,7 @@ use Rattle.sqlite_keyed.specs.Lists.{sort_by, insert_sorted}
 use Rattle.sqlite_typed.specs.Tests.{bytes_cmp, bytes_eq, bytes_le, bytes_lt}
 use Rattle.bh_model.specs.State.{Octets}
 use Rattle.bh_tables.specs.Typed.{VersionRow}
-use Rattle.bh_view.specs.View.{newer}
+use Rattle.bh_tables.specs.Shown.{newer}
 use Rattle.bh_view.proofs.ObjectLemmas.{newer_total}
 use Rattle.bh_view.proofs.SortLemmas.{AtMost, up-sort_by, sort_by-filter}
 use Rattle.bh_model.specs.Pages.{Listed, begins, is_upto, after_name, ObjectItem}

@@ -3,12 +3,13 @@
 ghost use Rattle.std.specs.Prelude.{◌≡◌, suc, map, take, IfOk, OnOk};
 ghost use Rattle.bh_schema.specs.Connections.{IsClean, tables, StaysWithin, StaysOpen, ChangesNothing};
 ghost use Rattle.bh_schema.specs.Working.{Works, StillWorks};
-ghost use Rattle.bh_model.specs.Listings.{objects_listed};
-ghost use Rattle.bh_storage.specs.Calls.{Unless, Decides};
-ghost use Rattle.bh_view.specs.View.{view};
+ghost use Rattle.bh_model.specs.Listings.{list_objects};
+ghost use Rattle.bh_model.specs.Operations.{Objects};
+ghost use Rattle.bh_storage.specs.Calls.{Unless, Carries};
 ghost use Rattle.bh_pages.specs.Seen.{seen_entry, token_of};
 ghost use Rattle.bh_listing.specs.Rows.{row_shown, bucket_rows, entries_of};
-ghost use Rattle.bh_listing.specs.Told.{asked_view, page_view};
+ghost use Rattle.bh_docs.specs.Pages.{page_view};
+ghost use Rattle.bh_listing.specs.Told.{asked_view};
 
 use crate::lines::version_lines;
 use crate::told::told_objects;
@@ -72,9 +73,8 @@ pub fn list_objects<S: Alter>(
     ensures within { StaysWithin S.Store connection.old connection.new }
     ensures opens { Unless result (StaysOpen S.Store connection.old connection.new) }
     ensures working { Unless result (StillWorks S.Store connection.old connection.new) }
-    ensures decides { IsClean S.Store connection.new
-        → Decides page_view (objects_listed bucket.now (asked_view asked.now) (token_of asked.now)
-        (view (tables S.Store connection.old) tenant.now))
+    ensures carries { IsClean S.Store connection.new
+        → Carries (λ page. Objects (page_view page)) tenant.now (list_objects bucket.now (asked_view asked.now) (token_of asked.now))
         (tables S.Store connection.old) (tables S.Store connection.new) result }
 {
     bucket_state(connection, tenant, bucket)?;

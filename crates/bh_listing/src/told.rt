@@ -4,7 +4,8 @@ ghost use Rattle.std.specs.Prelude.{◌≡◌, map, flat_map, option_map, take, 
 ghost use Rattle.std.specs.String.{string_bytes};
 ghost use Rattle.bh_model.specs.Pages.{ObjectItem, common_in, single_in, name_of, paged, objects_told};
 ghost use Rattle.bh_pages.specs.Seen.{seen_object, seen_entry};
-ghost use Rattle.bh_listing.specs.Told.{asked_view, prefix_view, object_view, page_view};
+ghost use Rattle.bh_docs.specs.Pages.{prefix_view, object_view, page_view};
+ghost use Rattle.bh_listing.specs.Told.{asked_view};
 
 use bh_docs::{CommonPrefix, ObjectEntry, ObjectsPage};
 use bh_pages::gathering::{Asked, Listed, ObjectLine};

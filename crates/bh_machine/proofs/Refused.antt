@@ -44,7 +44,8 @@ use Rattle.bh_operation.specs.Refused.{is_operation_refusal}
 use Rattle.bh_operation.specs.declared.operation.Operation.{Operation}
 use Rattle.bh_operation.specs.declared.operation.Operation.TheVariants as op
 use Rattle.bh_operation.proofs.Refused.{operation_only}
-use Rattle.bh_machine.specs.Machine.{Act, Acted, set_versioning, operated, requested, asked, ordered, change}
+use Rattle.bh_model.specs.Listings.{objects_listed, list_objects}
+use Rattle.bh_machine.specs.Machine.{Act, Acted, page_asked, set_versioning, operated, requested, asked, ordered, change}
 use Rattle.bh_machine.specs.Refused.{StepRefusals, is_step_refusal as may}
 
 abbrev Only : {X : Type 0} → Result X Refusal → Type 0
@@ -234,7 +235,8 @@ operated_only now body op.ListBuckets s = tt
 operated_only now body op.Usage s = refl
 operated_only now body (op.HeadBucket bucket) s = plainly_told (head_bucket bucket s) (bucket_only bucket s _ (λ f. tt))
 operated_only now body (op.DeleteBucket bucket) s = plainly_told (delete_bucket bucket s) (bucket_gone_only bucket s)
-operated_only now body (op.ListObjectsV2 bucket page token) s = refl
+operated_only now body (op.ListObjectsV2 bucket page token) s =
+    plainly_told (list_objects bucket (page_asked page) token s) (then_only may (objects_listed bucket (page_asked page) token s) _ (then_only may (tenant_bucket bucket s) _ (found_bucket bucket s) (λ _. tt)) (λ _. tt))
 operated_only now body (op.ListObjectVersions bucket page after) s = refl
 operated_only now body (op.ListMultipartUploads bucket page after) s = refl
 operated_only now body (op.GetBucketVersioning bucket) s = plainly_told (get_versioning bucket s) (bucket_only bucket s _ (λ f. tt))

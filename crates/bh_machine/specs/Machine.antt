@@ -13,12 +13,15 @@ use Rattle.bh_http.specs.Credentials.{owner, key_given, secret_given}
 use Rattle.bh_http.specs.Reading.{Reads}
 use Rattle.bh_http.specs.Views.{Taken}
 use Rattle.bh_model.specs.Credentials.{authenticate}
+use Rattle.bh_model.specs.Listings.{list_objects}
+use Rattle.bh_model.specs.Pages as pages
 use Rattle.bh_model.specs.Operations.{Answer, Outcome, add_tenant, add_key, remove_key, create_bucket, head_bucket, delete_bucket, list_buckets, get_versioning, put_versioning, put_object, get_object, head_object, delete_object}
 use Rattle.bh_model.specs.Runs as runs
 use Rattle.bh_model.specs.State.{Octets, State}
 use Rattle.bh_operation.specs.Operations.{operation}
+use Rattle.bh_operation.specs.declared.page.Page.{Page}
 use Rattle.bh_operation.specs.declared.operation.Operation.{Operation}
-use Rattle.bh_operation.specs.declared.operation.Operation.TheVariants.{ListBuckets, CreateBucket, HeadBucket, DeleteBucket, GetBucketVersioning, PutBucketVersioning, PutObject, GetObject, HeadObject, DeleteObject}
+use Rattle.bh_operation.specs.declared.operation.Operation.TheVariants.{ListBuckets, CreateBucket, HeadBucket, DeleteBucket, ListObjectsV2, GetBucketVersioning, PutBucketVersioning, PutObject, GetObject, HeadObject, DeleteObject}
 
 -- ---- acts
 
@@ -49,6 +52,10 @@ set_versioning bucket body s = do
   mode ← versioning_of body
   put_versioning bucket mode s
 
+-- the page that a request asks for
+abbrev pub page_asked : Page → pages.Asked
+page_asked page = record { prefix = page.prefix; delimiter = page.delimiter; max = page.size }
+
 -- an operation at a moment; those that the host doesn't carry out yet are refused. The document of a request is read
 -- before anything is looked at
 unfoldable pub operated : ℕ → Octets → Operation → Option State → Result Outcome Rejection
@@ -56,6 +63,7 @@ operated now body ListBuckets s = plainly (list_buckets s)
 operated now body (CreateBucket bucket) s = plainly (create_bucket now bucket s)
 operated now body (HeadBucket bucket) s = plainly (head_bucket bucket s)
 operated now body (DeleteBucket bucket) s = plainly (delete_bucket bucket s)
+operated now body (ListObjectsV2 bucket page token) s = plainly (list_objects bucket (page_asked page) token s)
 operated now body (GetBucketVersioning bucket) s = plainly (get_versioning bucket s)
 operated now body (PutBucketVersioning bucket) s = plainly (set_versioning bucket body s)
 operated now body (PutObject object checksum) s = plainly (put_object now object.bucket object.key body checksum s)

@@ -26,11 +26,13 @@ use Rattle.bh_types.specs.Ranges.{range_of, cut}
 use Rattle.bh_types.specs.Rejections.{plainly}
 use Rattle.bh_model.specs.Counting.{counts, with_counts, after_entry, after_delete}
 use Rattle.bh_model.specs.Entries.{Version, has_id, is_version, added, deleted, new_id, lookup}
+use Rattle.bh_model.specs.Pages.{ObjectsListed}
 use Rattle.bh_model.specs.Parts.{is_checksum}
 
 -- what is told where nothing is refused. An id is told where the bucket is or was versioned. `Removed` says whether a
 -- marker was made or taken out. `Head` and `Object` tell the whole object's size, `Object` with the bytes that its plan
--- names. Buckets are told with their moments, in the order of their names
+-- names. Buckets are told with their moments, in the order of their names,
+-- and `Objects` a page of a bucket's objects
 pub data Answer : Type 0 where
   Done : Answer
   Removed : (id : Option VersionId) (marker : Bool) → Answer
@@ -39,6 +41,7 @@ pub data Answer : Type 0 where
   Object : (id : Option VersionId) (size : ℕ) (plan : RangePlan) (bytes checksum : Octets) → Answer
   Buckets : (buckets : List (Octets × ℕ)) → Answer
   Versioning : (mode : BucketState) → Answer
+  Objects : (page : ObjectsListed) → Answer
 
 -- an answer, and the state afterwards
 abbrev pub Outcome : Type 0

@@ -2,9 +2,10 @@
 use Rattle.std.specs.Prelude.{map}
 use Rattle.std.specs.String.{string_bytes}
 use Rattle.bh_docs.specs.Documents.{bucket_view}
+use Rattle.bh_docs.specs.Pages.{page_view}
 use Rattle.bh_model.specs.Operations as model
 use Rattle.bh_storage.specs.declared.answer.Answer.{Answer}
-use Rattle.bh_storage.specs.declared.answer.Answer.TheVariants.{Done, Removed, Stored, Head, Found, Buckets, Versioning}
+use Rattle.bh_storage.specs.declared.answer.Answer.TheVariants.{Done, Removed, Stored, Head, Found, Buckets, Versioning, Objects}
 use Rattle.bh_storage.specs.declared.answer.RemovedEntry.{RemovedEntry}
 use Rattle.bh_storage.specs.declared.answer.StoredVersion.{StoredVersion}
 use Rattle.bh_storage.specs.declared.answer.ObjectHead.{ObjectHead}
@@ -30,3 +31,4 @@ answer_view (Head version) = head_answer version
 answer_view (Found version) = found_answer version
 answer_view (Buckets buckets) = model.Buckets (map bucket_view buckets.items)
 answer_view (Versioning state) = model.Versioning state
+answer_view (Objects page) = model.Objects (page_view page)

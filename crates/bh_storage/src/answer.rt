@@ -1,4 +1,4 @@
-use bh_docs::BucketEntry;
+use bh_docs::{BucketEntry, ObjectsPage};
 use bh_types::bucket_state::BucketState;
 use bh_types::id::VersionId;
 use bh_types::range::RangePlan;
@@ -15,6 +15,8 @@ pub enum Answer {
     /// The buckets of a tenant, by their names.
     Buckets(Vec<BucketEntry>),
     Versioning(BucketState),
+    /// A page of a bucket's objects.
+    Objects(ObjectsPage),
 }
 
 /// What a delete answers.

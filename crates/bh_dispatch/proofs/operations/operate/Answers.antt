@@ -3,7 +3,7 @@ use Rattle.sqlite.specs.Held.{state}
 use Rattle.bh_view.specs.View.{view}
 use Rattle.bh_schema.specs.Working.{tables_at}
 use Rattle.bh_objects.proofs.Working.{no_call}
-use Rattle.bh_dispatch.proofs.Steps.{lists_buckets, creates_bucket, heads_bucket, deletes_bucket, tells_versioning, sets_versioning, puts_object, gets_object, heads_object, deletes_object, not_done}
+use Rattle.bh_dispatch.proofs.Steps.{lists_buckets, creates_bucket, heads_bucket, deletes_bucket, lists_objects, tells_versioning, sets_versioning, puts_object, gets_object, heads_object, deletes_object, not_done}
 use Rattle.bh_dispatch.proofs.operations.operate.Goals as goal
 
 pub returns-in-ListBuckets-clause-carries : goal.returns-in-ListBuckets-clause-carries
@@ -21,6 +21,10 @@ returns-in-HeadBucket-clause-carries g c clean =
 pub returns-in-DeleteBucket-clause-carries : goal.returns-in-DeleteBucket-clause-carries
 returns-in-DeleteBucket-clause-carries g c clean =
     rw (c.in-DeleteBucket.is, deletes_bucket c.args.at c.args.body.now c.in-DeleteBucket.bucket) (c.delete_bucket.ensures.carries clean)
+
+pub returns-in-ListObjectsV2-clause-carries : goal.returns-in-ListObjectsV2-clause-carries
+returns-in-ListObjectsV2-clause-carries g c clean =
+    rw (c.in-ListObjectsV2.is, lists_objects c.args.at c.args.body.now c.in-ListObjectsV2.bucket c.in-ListObjectsV2.page c.in-ListObjectsV2.token, sym c.bytes_of.ensures) (c.list_objects.ensures.carries clean)
 
 pub returns-in-GetBucketVersioning-clause-carries : goal.returns-in-GetBucketVersioning-clause-carries
 returns-in-GetBucketVersioning-clause-carries g c clean =
@@ -54,5 +58,5 @@ returns-in_default g c =
       within = no_call s (λ clean. (c.requires.working clean).inside);
       opens = λ intact up. up;
       working = λ clean. record { is = c.requires.working clean; limits = refl };
-      carries = λ clean. (not_done c.args.at c.args.body.now (view (tables_at s) c.args.tenant.now) c.args.operation.now no.not-ListBuckets no.not-CreateBucket no.not-HeadBucket no.not-DeleteBucket no.not-GetBucketVersioning no.not-PutBucketVersioning no.not-PutObject no.not-GetObject no.not-HeadObject no.not-DeleteObject, refl);
+      carries = λ clean. (not_done c.args.at c.args.body.now (view (tables_at s) c.args.tenant.now) c.args.operation.now no.not-ListBuckets no.not-CreateBucket no.not-HeadBucket no.not-DeleteBucket no.not-ListObjectsV2 no.not-GetBucketVersioning no.not-PutBucketVersioning no.not-PutObject no.not-GetObject no.not-HeadObject no.not-DeleteObject, refl);
     })

@@ -2,19 +2,21 @@ use Rattle.std.proofs.Common.{◌≡◌, ap, sym, ◌∙◌}
 use Rattle.sqlite.specs.Held.{state}
 use Rattle.bh_schema.specs.Working.{tables_at}
 use Rattle.bh_objects.proofs.Working.{same_tables}
-use Rattle.bh_listing.specs.Told.{page_view}
-use Rattle.bh_listing.proofs.Answering.{list_is}
+use Rattle.bh_docs.specs.Pages.{page_view}
+use Rattle.bh_pages.specs.Seen.{token_of}
+use Rattle.bh_listing.specs.Told.{asked_view}
+use Rattle.bh_listing.proofs.Answering.{list_is, list_step}
 use Rattle.bh_listing.proofs.objects.list_objects.Goals as goal
 
-pub returns-clause-decides : goal.returns-clause-decides
-returns-clause-decides g c clean =
+pub returns-clause-carries : goal.returns-clause-carries
+returns-clause-carries g c clean =
     let old = state g.S.Store c.args.connection.now in
     let middle = state g.S.Store c.bucket_state.new.connection in
     let new = state g.S.Store c.gather_objects.new.connection in
     let before = c.in_ok-entries.ensures.within.follows.clean clean in
-    let one = c.in_ok-bucket_state.ensures.decides before in (
-      list_is (tables_at old) c.args.tenant.now c.args.bucket.now (c.requires.working (c.in_ok-bucket_state.ensures.within.follows.clean before)).sound c.in_ok-bucket_state.field-0 one.0 c.args.asked.now
-          (tables_at middle) c.as_str.result.now c.as_str-2.result.now c.as_str-3.result.now one.1 c.as_str.ensures.value c.as_str-2.ensures.value c.as_str-3.ensures.value c.in_ok-entries.entries.items c.deref.result.now c.deref.ensures.value
-          (c.in_ok-entries.ensures.gathered clean) (page_view c.in_ok-told_objects.field-0) c.in_ok-told_objects.ensures,
-      same_tables middle new (c.in_ok-entries.ensures.same clean.intact) ∙ one.1,
-    )
+    let one = c.in_ok-bucket_state.ensures.decides before in
+    list_step (tables_at old) (tables_at new) c.args.tenant.now c.args.bucket.now (asked_view c.args.asked.now) (token_of c.args.asked.now) (page_view c.in_ok-told_objects.field-0)
+    (list_is (tables_at old) c.args.tenant.now c.args.bucket.now (c.requires.working (c.in_ok-bucket_state.ensures.within.follows.clean before)).sound c.in_ok-bucket_state.field-0 one.0 c.args.asked.now
+        (tables_at middle) c.as_str.result.now c.as_str-2.result.now c.as_str-3.result.now one.1 c.as_str.ensures.value c.as_str-2.ensures.value c.as_str-3.ensures.value c.in_ok-entries.entries.items c.deref.result.now c.deref.ensures.value
+        (c.in_ok-entries.ensures.gathered clean) (page_view c.in_ok-told_objects.field-0) c.in_ok-told_objects.ensures)
+    (same_tables middle new (c.in_ok-entries.ensures.same clean.intact) ∙ one.1)

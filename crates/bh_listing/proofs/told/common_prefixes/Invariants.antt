@@ -1,7 +1,7 @@
 use Rattle.std.proofs.Common.{◌≡◌, map, take, flat_map}
 use Rattle.bh_model.specs.Pages.{common_in}
 use Rattle.bh_pages.specs.Seen.{seen_entry}
-use Rattle.bh_listing.specs.Told.{prefix_view}
+use Rattle.bh_docs.specs.Pages.{prefix_view}
 use Rattle.bh_listing.proofs.told.common_prefixes.Given as goal
 
 abbrev pub invariant-loop-entry : goal.invariant-loop-entry

@@ -1,7 +1,7 @@
 use Rattle.std.proofs.Common.{◌≡◌, map, take, flat_map}
 use Rattle.bh_model.specs.Pages.{single_in}
 use Rattle.bh_pages.specs.Seen.{seen_entry}
-use Rattle.bh_listing.specs.Told.{object_view}
+use Rattle.bh_docs.specs.Pages.{object_view}
 use Rattle.bh_listing.proofs.told.object_entries.Given as goal
 
 abbrev pub invariant-loop-entry : goal.invariant-loop-entry
