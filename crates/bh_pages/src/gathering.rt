@@ -11,6 +11,7 @@ use std::alloc::{AllocError, Global};
 use std::cmp::Ordering;
 
 /// Which page is asked for.
+#[derive(Drop)]
 pub struct Asked<'a> {
     pub prefix: &'a [u8],
     pub delimiter: &'a [u8],

@@ -36,7 +36,7 @@ returns-in-PutBucketVersioning-clause-carries g c clean =
 
 pub returns-in-PutObject-clause-carries : goal.returns-in-PutObject-clause-carries
 returns-in-PutObject-clause-carries g c clean =
-    rw (c.in-PutObject.is, puts_object c.args.at c.args.body.now c.in-PutObject.object c.in-PutObject.checksum, sym c.bytes_of.ensures) (c.put_object.ensures.carries clean)
+    rw (c.in-PutObject.is, puts_object c.args.at c.args.body.now c.in-PutObject.object c.in-PutObject.checksum, sym c.bytes_of-in-PutObject.ensures) (c.put_object.ensures.carries clean)
 
 pub returns-in-GetObject-clause-carries : goal.returns-in-GetObject-clause-carries
 returns-in-GetObject-clause-carries g c clean =
