@@ -7,10 +7,10 @@ ghost use Rattle.bh_storage.specs.Calls.{IsAtRest};
 ghost use Rattle.bh_commands.specs.Commands.{ordered_at, IsApplied};
 
 use crate::printed::Printed;
+use bh_blocks::digester::Sha256Digester;
 use bh_dispatch::storage::HostStorage;
 use bh_event::event::{Command, Event};
 use bh_host::apply;
-use bh_blocks::digester::Sha256Digester;
 use sqlite::Alter;
 use std::alloc::{AllocError, Global};
 

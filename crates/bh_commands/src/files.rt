@@ -11,10 +11,10 @@ use crate::commands::apply_command;
 use crate::fault::Fault;
 use crate::opening::{NoHost, open_file, open_stored_file};
 use crate::printed::Printed;
+use bh_blocks::digester::Sha256Digester;
 use bh_create::create;
 use bh_dispatch::storage::HostStorage;
 use bh_event::event::Command;
-use bh_blocks::digester::Sha256Digester;
 use bh_types::limits::{Limits, Tuning};
 use bh_types::refusal::Refusal;
 use sqlite::{Alter, FileFrom, FileStore, Start};
@@ -34,7 +34,10 @@ pub struct Done<S: Alter + Drop> {
 pub type FileDone<S> = Done<FileStore<FileFrom<S>>>;
 
 /// What is printed where no host was found or made.
-pub(crate) fn without_host<S: Alter + Drop>(alloc: Global, refusal: Refusal) -> Result<Done<S>, AllocError>
+pub(crate) fn without_host<S: Alter + Drop>(
+    alloc: Global,
+    refusal: Refusal,
+) -> Result<Done<S>, AllocError>
     ensures { IfOk result (λ done. (done.storage ≡ None) × IsRefusal refusal done.printed) }
 {
     Ok(Done {

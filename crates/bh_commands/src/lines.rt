@@ -61,10 +61,9 @@ pub fn carry_out(rt: &HostRuntime, line: Line) -> Result<Printed, Fault> {
                 timeout,
             },
         ),
-        Line::Quota { .. }
-        | Line::Usage { .. }
-        | Line::Report { .. }
-        | Line::Sweep { .. } => Ok(Printed::refusal(rt.alloc(), Refusal::NotImplemented)?),
+        Line::Quota { .. } | Line::Usage { .. } | Line::Report { .. } | Line::Sweep { .. } => Ok(
+            Printed::refusal(rt.alloc(), Refusal::NotImplemented)?,
+        ),
     }
 }
 

@@ -8,9 +8,9 @@ ghost use Rattle.bh_storage.specs.Calls.{IsAtRest};
 ghost use Rattle.bh_commands.specs.Files.{IsOpenedOn, AreTablesIn, HoldsSoundHost};
 
 use crate::fault::Fault;
+use bh_blocks::digester::Sha256Digester;
 use bh_dispatch::storage::HostStorage;
 use bh_open::open_host;
-use bh_blocks::digester::Sha256Digester;
 use bh_types::limits::Tuning;
 use bh_types::refusal::Refusal;
 use sqlite::{Connection, FileFrom, FileStore, Start};

@@ -17,6 +17,6 @@ returns-clause-carries g c clean =
     let one = c.in_ok-bucket_state.ensures.decides before in
     list_step (tables_at old) (tables_at new) c.args.tenant.now c.args.bucket.now (asked_view c.args.asked.now) (token_of c.args.asked.now) (page_view c.in_ok-told_objects.field-0)
     (list_is (tables_at old) c.args.tenant.now c.args.bucket.now (c.requires.working (c.in_ok-bucket_state.ensures.within.follows.clean before)).sound c.in_ok-bucket_state.field-0 one.0 c.args.asked.now
-        (tables_at middle) c.as_str.result.now c.as_str-2.result.now c.as_str-3.result.now one.1 c.as_str.ensures.value c.as_str-2.ensures.value c.as_str-3.ensures.value c.in_ok-entries.entries.items c.deref.result.now c.deref.ensures.value
-        (c.in_ok-entries.ensures.gathered clean) (page_view c.in_ok-told_objects.field-0) c.in_ok-told_objects.ensures)
+    (tables_at middle) c.as_str.result.now c.as_str-2.result.now c.as_str-3.result.now one.1 c.as_str.ensures.value c.as_str-2.ensures.value c.as_str-3.ensures.value c.in_ok-entries.entries.items c.deref.result.now c.deref.ensures.value
+    (c.in_ok-entries.ensures.gathered clean) (page_view c.in_ok-told_objects.field-0) c.in_ok-told_objects.ensures)
     (same_tables middle new (c.in_ok-entries.ensures.same clean.intact) ∙ one.1)
