@@ -5,13 +5,13 @@ ghost use Rattle.bh_storage.specs.Calls.{Clean, IsAtRest};
 ghost use Rattle.bh_connection.specs.Each.{IsGoing};
 
 use crate::ends::{Last, Narrow, cut_of, reader};
+use bh_blocks::digester::Sha256Digester;
 use bh_connection::{Arrival, End, Served, serve_each};
 use bh_create::create;
 use bh_dispatch::storage::HostStorage;
 use bh_event::event::Event;
 use bh_host::apply;
 use bh_link::link::Link;
-use bh_script::digester::Sha256Digester;
 use bh_script::input::read_script;
 use bh_storage::storage::Storage;
 use bh_types::limits::{Limits, Tuning};

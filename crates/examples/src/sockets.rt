@@ -2,12 +2,12 @@
 
 ghost use Rattle.bh_storage.specs.Calls.{Clean, IsAtRest};
 
+use bh_blocks::digester::Sha256Digester;
 use bh_connection::{Clock, serve_listener};
 use bh_create::create;
 use bh_dispatch::storage::HostStorage;
 use bh_event::event::Event;
 use bh_host::apply;
-use bh_script::digester::Sha256Digester;
 use bh_script::input::read_script;
 use bh_storage::storage::Storage;
 use bh_types::limits::{Limits, Tuning};
