@@ -45,7 +45,7 @@ def start_bucketd(program, folder):
         subprocess.run([program, words[0], "--file", file, *words[1:]], check=True, stdout=subprocess.DEVNULL)
     server = subprocess.Popen([program, "serve", "--file", file, "--port", str(port), "--count", str(1 << 30)])
     wait_for(port)
-    subprocess.run(["curl", "-s", "-X", "PUT", *FIELDS, f"http://127.0.0.1:{port}/plans"], check=True)
+    subprocess.run(["curl", "-s", "-X", "PUT", "-d", "", *FIELDS, f"http://127.0.0.1:{port}/plans"], check=True)
     return server, port
 
 
