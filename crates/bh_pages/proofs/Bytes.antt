@@ -1,14 +1,14 @@
 -- The order of texts, and those that begin with another.
-use Rattle.std.proofs.Common.{◌≡◌, ℕ, zero, suc, ◌<◌, ◌≤◌, Bool, true, false, true≢false, cond, ◌==◌, ◌&&◌, List, [], ◌∷◌, ◌++◌, length, drop, Option, Some, None, option_map, refl, sym, ap, subst, ◌∙◌, arith, Ordering, Less, Equal, Greater, nat_cmp, le_refl}
+use Rattle.std.proofs.Common.{◌≡◌, ℕ, zero, suc, ◌<◌, ◌≤◌, Bool, true, false, true≢false, cond, ◌==◌, ◌&&◌, [], ◌∷◌, ◌++◌, length, drop, Option, Some, None, option_map, refl, sym, ap, subst, ◌∙◌, arith, Ordering, Less, Equal, Greater, nat_cmp, le_refl}
 use Rattle.std.specs.List.{AllByRecursion}
-use Rattle.std.specs.Ordering.{is_eq, is_lt, is_le, is_gt, ordering_then, ordering_reverse}
+use Rattle.std.specs.Ordering.{is_eq, is_le, is_gt, ordering_then, ordering_reverse}
 use Rattle.std.specs.Cmp.{nat_cmp_is, Equal-is}
 use Rattle.std.specs.FinMap.{nat_cmp-IsAntisymmetric, slice_cmp-IsAntisymmetric}
 use Rattle.std.proofs.lemmas.Bool.Decides.{nat_tests}
 use Rattle.std.proofs.lemmas.Cmp.{ranked, upto, nat_list_cmp_total, tied_itself, nat_cmp_total}
 use Rattle.std.proofs.lemmas.Bool.{eqb-true}
 use Rattle.bh_model.specs.State.{Octets, octets_cmp}
-use Rattle.bh_model.specs.Pages.{same, is_before, is_upto, begins, cut, rolled}
+use Rattle.bh_model.specs.Pages.{same, is_upto, begins, cut, rolled}
 use Rattle.bh_pages.specs.Gathered.{past_key, past_name}
 
 not_gt : (o : Ordering) → is_le o ≡ true → is_gt o ≡ false

@@ -1,5 +1,5 @@
 -- A page that is gathered chunk by chunk, each read from the place where the one before leads.
-use Rattle.std.proofs.Common.{◌≡◌, ℕ, suc, ◌<◌, ◌≤◌, Bool, true, false, true≢false, cond, List, [], ◌∷◌, ◌++◌, length, map, take, drop, nat_lt, not, ◌||◌, Option, Some, None, refl, sym, ap, subst, ◌∙◌, ◌≢◌, arith}
+use Rattle.std.proofs.Common.{◌≡◌, ℕ, suc, ◌<◌, ◌≤◌, Bool, true, false, cond, List, [], ◌∷◌, ◌++◌, length, take, drop, nat_lt, not, ◌||◌, Option, Some, None, refl, sym, ap, subst, ◌∙◌, ◌≢◌, arith}
 use Rattle.std.specs.List.{filter, AllByRecursion}
 use Rattle.std.proofs.lemmas.List.{take-append-drop, length-take, take_all, append-nil}
 use Rattle.std.proofs.Math.ListN.{drop_of_length-le}
@@ -8,7 +8,7 @@ use Rattle.std.proofs.lemmas.Bool.Decides.{nat_tests}
 use Rattle.bh_model.specs.State.{Octets}
 use Rattle.bh_model.specs.Pages.{Listed, Listed.Common, is_name, is_upto, begins, rolled}
 use Rattle.bh_pages.specs.Gathered.{Gathered, with_row, with_rows, to_come, rows_from, place_after, place_past, past_key, past_name}
-use Rattle.bh_pages.proofs.Bytes.{upto_trans, upto_begun, upto_past_key, upto_other, before_past_name, rolled_begins, some_same, none_some}
+use Rattle.bh_pages.proofs.Bytes.{upto_trans, upto_begun, upto_past_key, upto_other, before_past_name, rolled_begins, some_same}
 use Rattle.bh_pages.proofs.Skipping.{InOrder, rows_step, rows_key, turned_key, place_step}
 
 module _ {R : Type 0} (row_key : R → Octets) where

@@ -1,9 +1,9 @@
 -- What is to come of a bucket's rows is what the definition lists.
 use Rattle.std.proofs.Common.{◌≡◌, Bool, true, false, cond, List, [], ◌∷◌, ◌++◌, map, Option, Some, None, refl, sym, ap, ◌∙◌}
-use Rattle.std.specs.List.{filter, AllByRecursion}
+use Rattle.std.specs.List.{filter}
 use Rattle.std.proofs.lemmas.List.Elements.{filter-append}
 use Rattle.bh_model.specs.State.{Octets, Content, Content.Marker, Content.Body, Entry}
-use Rattle.bh_model.specs.Pages.{Listed, begins, is_name, joined, entry_of, entries_after, after_name, ObjectItem, object_of, objects_in}
+use Rattle.bh_model.specs.Pages.{begins, joined, entry_of, entries_after, after_name, ObjectItem, object_of, objects_in}
 use Rattle.bh_pages.specs.Gathered.{nothing_gathered, to_come, in_front}
 use Rattle.bh_pages.specs.Seen.{Shown, item_in}
 use Rattle.bh_pages.proofs.Keyed.{shown_entry, rows_of, AreOthers, AreApart, objects_shown}

@@ -1,5 +1,5 @@
 -- The pages that worked rows give, computed.
-use Rattle.std.proofs.Common.{◌≡◌, ℕ, codes, true, false, List, [], ◌∷◌, map, Option, Some, None, option_map, refl}
+use Rattle.std.proofs.Common.{◌≡◌, ℕ, codes, List, [], ◌∷◌, map, Option, Some, None, option_map, refl}
 use Rattle.bh_types.specs.declared.id.VersionId.TheVariants.{Null, Numbered}
 use Rattle.bh_model.specs.State.{Octets, Content.Marker, Content.Body, Entry}
 use Rattle.bh_model.specs.Pages.{Asked, Paged, Listed, ObjectItem, name_of, rolled, objects_page, objects_told}

@@ -1,10 +1,10 @@
 -- The rows of a bucket's keys show the objects of a listing: the newest entry of each key decides.
-use Rattle.std.proofs.Common.{◌≡◌, Bool, true, false, true≢false, cond, List, [], ◌∷◌, ◌++◌, map, Option, Some, None, refl, sym, ap, ◌∙◌}
+use Rattle.std.proofs.Common.{◌≡◌, false, cond, List, [], ◌∷◌, ◌++◌, map, Option, Some, refl, ap, ◌∙◌}
 use Rattle.std.specs.List.{AllByRecursion}
 use Rattle.std.specs.Ordering.{is_eq}
 use Rattle.std.proofs.lemmas.Cmp.{tied_itself, nat_list_cmp_total}
-use Rattle.bh_model.specs.State.{Octets, Content, Content.Marker, Content.Body, Entry}
-use Rattle.bh_model.specs.Pages.{same, is_name, ObjectItem, object_of, current_object, objects_in}
+use Rattle.bh_model.specs.State.{Octets, Content.Marker, Content.Body, Entry}
+use Rattle.bh_model.specs.Pages.{is_name, ObjectItem, object_of, objects_in}
 use Rattle.bh_pages.specs.Gathered.{in_front, items_after}
 use Rattle.bh_pages.specs.Seen.{Shown, item_in}
 

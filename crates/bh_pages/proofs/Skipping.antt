@@ -1,14 +1,14 @@
 -- What is gathered row by row, and what is left out by reading on further behind, is a listing's entries.
-use Rattle.std.proofs.Common.{◌≡◌, ℕ, ◌<◌, ◌≤◌, Bool, true, false, true≢false, cond, List, [], ◌∷◌, ◌++◌, length, map, take, drop, suc, ◌⊎◌, inl, inr, nat_lt, not, ◌||◌, Option, Some, None, refl, sym, ap, subst, ◌∙◌, arith}
+use Rattle.std.proofs.Common.{◌≡◌, ℕ, ◌<◌, ◌≤◌, Bool, true, false, true≢false, cond, List, [], ◌∷◌, ◌++◌, length, map, take, suc, ◌⊎◌, inl, inr, nat_lt, not, ◌||◌, Option, Some, None, refl, sym, ap, subst, ◌∙◌, arith}
 use Rattle.std.specs.List.{filter, AllByRecursion}
-use Rattle.std.proofs.lemmas.List.{append_assoc, take-append-drop, length-append}
+use Rattle.std.proofs.lemmas.List.{append_assoc, length-append}
 use Rattle.std.proofs.Math.Seq.{take-append_seam}
 use Rattle.std.proofs.lemmas.Bool.Decides.{nat_tests}
 use Rattle.std.proofs.lemmas.List.Elements.{filter-append}
 use Rattle.bh_model.specs.State.{Octets}
 use Rattle.bh_model.specs.Pages.{Listed, Listed.Single, Listed.Common, is_name, is_upto, same, begins, rolled, as_listed, joined, entry_of}
 use Rattle.bh_pages.specs.Gathered.{Gathered, in_front, with_entry, with_item, with_row, items_after, to_come, rows_from, with_rows, place_past, place_after, past_key, past_name}
-use Rattle.bh_pages.proofs.Bytes.{upto_trans, upto_self, not_upto, from_past_key, past_key_above, begins_between, before_past_name, rolled_begins, rolled_again, upto_past_key, same_is, upto_begun, upto_other, before_past_key, some_same}
+use Rattle.bh_pages.proofs.Bytes.{upto_trans, upto_self, not_upto, from_past_key, past_key_above, begins_between, before_past_name, rolled_begins, rolled_again, upto_past_key, same_is, upto_begun, upto_other, before_past_key}
 
 -- in the order of their keys
 abbrev pub InOrder : {R : Type 0} → (R → Octets) → List R → Type 0

@@ -1,3 +1,4 @@
 pub mod Gathered
 pub mod Seen
 pub mod Reading
+pub mod Laws

@@ -2,5 +2,6 @@
 #![tactic(auto)]
 
 pub mod gathering;
+pub mod laws;
 pub mod names;
 pub mod reading;

@@ -1,6 +1,5 @@
-use Rattle.std.proofs.Common.{◌≡◌, ℕ, ◌+◌, ◌==◌, false, true, true≢false, None, Some, option_map, length, take, drop, List, sym, ap, ◌∙◌, subst, arith}
+use Rattle.std.proofs.Common.{◌+◌, None, Some, length, subst}
 use Rattle.memchr.specs.Find.{IsFirst, OccursAt}
-use Rattle.bh_model.specs.Pages.{rolled}
 use Rattle.bh_pages.proofs.Finding.{name_found, some_bytes, rest_is}
 use Rattle.bh_pages.proofs.names.name_end.Goals as goal
 
