@@ -1,5 +1,5 @@
 -- What a subcommand on a host did, and what it prints.
-use Rattle.std.specs.Prelude.{◌≡◌, ℕ, List, codes, Option, IfSome}
+use Rattle.std.specs.Prelude.{◌≡◌, ℕ, List, [], codes, Option, IfSome}
 use Rattle.sqlite_trees.specs.declared.store.Store.{Ghosts}
 use Rattle.sqlite_wal.specs.Recovery.{Image}
 use Rattle.sqlite.specs.Held.{state}
@@ -29,6 +29,11 @@ pub record IsLine (line : List ℕ) (printed : Printed) : Type 0 where
 pub record IsRefusal (refusal : Refusal) (printed : Printed) : Type 0 where
   pub text : printed.text.items ≡ refused_line refusal
   pub status : printed.status ≡ 1
+
+-- no byte, and status 0
+pub record IsNothing (printed : Printed) : Type 0 where
+  pub text : printed.text.items ≡ []
+  pub status : printed.status ≡ 0
 
 -- some refusal
 abbrev pub IsRefused : Printed → Type 0

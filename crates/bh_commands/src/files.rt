@@ -12,6 +12,7 @@ use crate::fault::Fault;
 use crate::opening::{NoHost, open_file, open_stored_file};
 use crate::printed::Printed;
 use bh_blocks::digester::Sha256Digester;
+use bh_connection::{Clock, MachineClock};
 use bh_create::create;
 use bh_dispatch::storage::HostStorage;
 use bh_event::event::Command;
@@ -20,7 +21,6 @@ use bh_types::refusal::Refusal;
 use sqlite::{Alter, FileFrom, FileStore, Start};
 use std::alloc::{AllocError, Global};
 use std::io;
-use std::time::{SystemTime, UNIX_EPOCH};
 
 /// What was done on a file.
 #[derive(Drop)]
@@ -53,11 +53,7 @@ fn reading_of(rt: &HostRuntime, at: Option<u64>) -> io::Result<u64>
     if let Some(reading) = at {
         return Ok(reading);
     }
-    let now = SystemTime::now(rt)?;
-    match now.duration_since(UNIX_EPOCH) {
-        Ok(since) => Ok(since.as_secs()),
-        Err(_) => Ok(0),
-    }
+    MachineClock(rt).seconds()
 }
 
 /// Makes a host in a file that isn't there or has no bytes, and prints `host`.

@@ -1,6 +1,6 @@
 ghost use Rattle.std.specs.Prelude.{◌≡◌, IfOk};
 ghost use Rattle.bh_host.specs.Replies.{reply_bytes};
-ghost use Rattle.bh_commands.specs.Commands.{IsLine, IsRefusal};
+ghost use Rattle.bh_commands.specs.Commands.{IsLine, IsNothing, IsRefusal};
 ghost use Rattle.bh_commands.specs.Printing as spec;
 
 use bh_host::Reply;
@@ -45,7 +45,9 @@ impl Printed {
     }
 
     /// Nothing.
-    pub fn nothing(alloc: Global) -> Printed {
+    pub fn nothing(alloc: Global) -> Printed
+        ensures { IsNothing result }
+    {
         Printed {
             text: Vec::new(alloc),
             status: 0,

@@ -4,7 +4,7 @@ ghost use Rattle.std.specs.Prelude.{IfOk, MatchOption};
 ghost use Rattle.sqlite.specs.Files.{over_files};
 ghost use Rattle.sqlite_wal.specs.Files.{image_at};
 ghost use Rattle.bh_commands.specs.Files.{HoldsSoundHost};
-ghost use Rattle.bh_commands.specs.Commands.{IsRefused};
+ghost use Rattle.bh_commands.specs.Commands.{IsNothing, IsRefused};
 ghost use Rattle.bh_commands.specs.Serving.{HasServed};
 
 use crate::fault::Fault;
@@ -33,7 +33,7 @@ pub fn serve_file<S: Start>(
 ) -> Result<FileDone<S>, Fault>
     requires { HoldsSoundHost (image_at S.Start) }
     ensures { IfOk result (λ done. MatchOption done.storage (IsRefused done.printed)
-        (λ storage. HasServed over_files (image_at S.Start) storage.host)) }
+        (λ storage. IsNothing done.printed × HasServed over_files (image_at S.Start) storage.host)) }
 {
     let mut storage = match open_stored_file(rt, path, start, tuning) {
         Ok(storage) => storage,

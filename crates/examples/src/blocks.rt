@@ -46,18 +46,19 @@ fn store<S: Alter, D: Digester>(
     }
 }
 
-/// `fill COUNT`: stores the numbers below COUNT as texts, and shows the last one's ordinal.
-fn fill<S: Alter, D: Digester>(
+/// `fill COUNT`: stores the numbers from 0 (`first`) to COUNT (`end`) as texts, and shows the last one's ordinal.
+pub fn fill<S: Alter, D: Digester>(
     alloc: Global,
     connection: &mut Connection<S>,
     digester: &D,
-    count: u64,
+    first: u64,
+    end: u64,
 ) -> Answer
     requires { InTransaction S.Store connection.old }
     ensures { OnOk result (InTransaction S.Store connection.new) }
 {
     let mut last = String::new(alloc);
-    for block in 0..count {
+    for block in first..end {
         let bytes = block.to_string(alloc)?;
         last = store(alloc, connection, digester, bytes.as_bytes())?;
     }
@@ -89,14 +90,14 @@ fn step<S: Alter, D: Digester>(
 {
     match text.split_once(' ') {
         Some(("store", bytes)) => store(alloc, connection, digester, bytes.as_bytes()),
-        Some(("fill", count)) => fill(alloc, connection, digester, number(count)?),
+        Some(("fill", count)) => fill(alloc, connection, digester, 0, number(count)?),
         Some(("remove", limit)) => remove(alloc, connection, number(limit)?),
         _ => Err(Fault::Form),
     }
 }
 
 /// Begins a transaction on a new host.
-fn begin_new<S: Alter>(connection: &mut Connection<S>, limits: Limits) -> Result<(), Fault>
+pub fn begin_new<S: Alter>(connection: &mut Connection<S>, limits: Limits) -> Result<(), Fault>
     requires { IsStateClean (state S.Store connection.old) → IsNewHost limits (state S.Store connection.old) }
     ensures { OnOk result (InTransaction S.Store connection.new) }
 {

@@ -3,6 +3,7 @@
 
 mod answer;
 mod blocks;
+mod blocks_timed;
 mod checksums;
 mod command_line;
 mod connections;
@@ -45,6 +46,7 @@ const USAGE: &str = "usage: examples WORD..
   retried           answers the script of standard input, asking an event that found no memory once more
   help              prints this
   timed FILE COUNT  alone: applies the script of standard input to a new host in FILE, and times its last COUNT events
+  blocks FILE ROWS  alone: stores ROWS blocks in a new host in FILE, and times 1000 that are stored and removed then
 
 Tables and scripts lie below the folder in which it runs.
 ";
@@ -93,14 +95,25 @@ fn run<R: Runtime + Net<Stream = TcpStream, Listener = TcpListener> + AllocGloba
     Ok(is_well)
 }
 
-/// The file and the number of events that are timed alone, if the words are these.
-fn timed_words(words: &[String]) -> Option<(&str, usize)> {
+/// The file and the number that stand after a word, if the words are these three.
+fn timed_words<'a>(words: &'a [String], word: &str) -> Option<(&'a str, u32)> {
     match words {
-        [first, path, count] if first.as_str() == "timed" => {
-            Some((path.as_str(), count.as_str().parse::<usize>().ok()?))
+        [first, path, count] if first.as_str() == word => {
+            Some((path.as_str(), count.as_str().parse::<u32>().ok()?))
         }
         _ => None,
     }
+}
+
+/// What is timed stands alone.
+fn run_or_time(rt: &HostRuntime, words: &[String]) -> io::Result<bool> {
+    if let Some((path, count)) = timed_words(words, "timed") {
+        return timed::time(rt, path, count as usize);
+    }
+    if let Some((path, rows)) = timed_words(words, "blocks") {
+        return blocks_timed::time(rt, path, u64::from(rows));
+    }
+    run(rt, words)
 }
 
 fn words_of(rt: &(impl Runtime + AllocGlobal)) -> io::Result<Vec<String>> {
@@ -117,9 +130,6 @@ fn main(rt: HostRuntime) -> io::Result<ExitCode> {
         print!(rt; "{USAGE}")?;
         return Ok(ExitCode::from(2));
     }
-    let is_well = match timed_words(words.as_slice()) {
-        Some((path, count)) => timed::time(&rt, path, count)?,
-        None => run(&rt, words.as_slice())?,
-    };
+    let is_well = run_or_time(&rt, words.as_slice())?;
     Ok(ExitCode::from(u8::from(!is_well)))
 }

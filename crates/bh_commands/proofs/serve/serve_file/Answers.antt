@@ -8,8 +8,11 @@ ran_to : (events : List Arrival) (tolds : List Told) (old end now : Tables) → 
 ran_to events tolds old end now same ran = subst (λ (x : Tables). Ran events tolds old x) (sym same) ran
 
 pub returns : goal.returns
-returns g c = λ clean.
-    let served = c.serve_port.ensures in
-    let found = c.in-Ok.ensures.found (served.intact clean.0, served.opened clean.0 clean.1) in
-    let (requests, tolds, ran) = served.ran clean.0 in
-    (_, found, requests, tolds, ran_to _ _ _ _ _ (ran.now clean.1) ran.ran)
+returns g c = (
+  c.nothing.ensures,
+  λ clean.
+      let served = c.serve_port.ensures in
+      let found = c.in-Ok.ensures.found (served.intact clean.0, served.opened clean.0 clean.1) in
+      let (requests, tolds, ran) = served.ran clean.0 in
+      (_, found, requests, tolds, ran_to _ _ _ _ _ (ran.now clean.1) ran.ran),
+)
