@@ -1,5 +1,5 @@
 //! How long a block takes among so many rows of a new host in a file: stored new, stored again, removed. Each is timed in a
-//! transaction of its own: in the one that added the rows, the store reads back and writes again what it had put aside.
+//! transaction of its own: in the one that added the rows, the time of a removal grows with them.
 
 ghost use Rattle.std.specs.Prelude.{OnOk};
 ghost use Rattle.bh_schema.specs.Connections.{InTransaction};
