@@ -3,9 +3,10 @@
 # what each crate cost, in seconds of a processor ('tools/gate-times COMMAND..' tells it of any run). wrong-bodies: tries the
 # wrong bodies that the gate leaves out (wrong-bodies/README.md); of one crate by CRATE=bh_docs. lint: the layout of all sources.
 # bench: the program's speed and memory; lookups: the time of lookups by key at 1,000 and 100,000 rows on a file; versions:
-# that of requests on many versions and keys; serving: puts and gets over sockets beside nginx; blocks: the time
-# of a block among 1,000 and 100,000 (all bench/README.md). memory: the stored run with each allocation refused in turn.
-.PHONY: demo try build test gate times wrong-bodies lint bench lookups versions serving blocks memory
+# that of requests on many versions and keys; serving: puts and gets over sockets beside nginx; bodies: those of small and
+# great bodies, new and known, and their memory; blocks: the time of a block among 1,000 and 100,000 (all bench/README.md).
+# memory: the stored run with each allocation refused in turn.
+.PHONY: demo try build test gate times wrong-bodies lint bench lookups versions serving bodies blocks memory
 
 demo:
 	@tools/bucketd <crates/bucketd/stdin
@@ -42,6 +43,9 @@ versions:
 
 serving:
 	@bench/serving.py
+
+bodies:
+	@bench/bodies.py
 
 blocks:
 	@bench/blocks.py

@@ -2,21 +2,23 @@
 use Rattle.std.proofs.Common.{◌≡◌, ℕ, zero, suc, List, [], ◌∷◌, filter, take, drop, Bool, true, false, cond, refl, sym, ap, ◌∙◌, subst}
 use Rattle.std.specs.List.{AllByRecursion}
 use Rattle.sqlite_keyed.specs.Lists.{delete_where}
-use Rattle.bh_tables.specs.Typed.{BlockRow, RefRow, Tables}
+use Rattle.bh_tables.specs.Typed.{BlockRow, RefRow, Tables, rebodied}
 use Rattle.bh_tables.specs.Shown.{block_name, is_block, is_unreferenced, unreferenced, by_name}
 use Rattle.bh_view.specs.Blocks.{blocks_without}
+use Rattle.bh_tables.proofs.ResolvedLemmas.{rebodied_twice}
 use Rattle.bh_view.proofs.BlockChanges.{without_next, without_none}
 use Rattle.bh_view.proofs.SortLemmas.{all-sort_by}
 
 -- the tables without some blocks
 abbrev pub left : List BlockRow → Tables → Tables
-left gone t = record t { blocks = blocks_without gone t.blocks }
+left gone t = rebodied t t.refs (blocks_without gone t.blocks)
 
-pub left_next : (b : BlockRow) (gone : List BlockRow) (old new : Tables) → new ≡ record old { blocks = delete_where (is_block (block_name b)) old.blocks } → left gone new ≡ left (b ∷ gone) old
-left_next b gone old new is = ap (left gone) is ∙ ap (λ l. record old { blocks = l }) (sym (without_next b gone old.blocks))
+pub left_next : (b : BlockRow) (gone : List BlockRow) (old new : Tables) → new ≡ rebodied old old.refs (delete_where (is_block (block_name b)) old.blocks) → left gone new ≡ left (b ∷ gone) old
+left_next b gone old new is = ap (left gone) is ∙ rebodied_twice old old.refs old.refs (blocks_without gone (delete_where (is_block (block_name b)) old.blocks)) (delete_where (is_block (block_name b)) old.blocks)
+    ∙ ap (rebodied old old.refs) (sym (without_next b gone old.blocks))
 
-pub left_none : (t : Tables) → left [] t ≡ t
-left_none t = ap (λ l. record t { blocks = l }) (without_none t.blocks)
+pub left_none : (t : Tables) → rebodied t t.refs t.blocks ≡ t → left [] t ≡ t
+left_none t own = ap (rebodied t t.refs) (without_none t.blocks) ∙ own
 
 -- ---- blocks that no reference names
 

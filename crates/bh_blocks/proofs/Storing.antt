@@ -4,14 +4,12 @@ use Rattle.std.specs.List.{list_any}
 use Rattle.std.specs.Option.{option_map_or}
 use Rattle.sqlite_keyed.proofs.ListLemmas.{any_from_none}
 use Rattle.bh_tables.specs.Schema.{Octets}
-use Rattle.bh_tables.specs.Typed.{BlockRow, Tables}
+use Rattle.bh_tables.specs.Typed.{BlockRow, Tables, rebodied}
 use Rattle.bh_tables.specs.Shown.{Name, is_block}
-use Rattle.bh_view.specs.Blocks.{AreDigests, row_at, free_ord, copy_in, ord_for, blocks_with}
+use Rattle.bh_view.specs.Blocks.{free_ord, copy_in, ord_for, blocks_with}
 use Rattle.bh_view.specs.Sound.{IsSound}
-use Rattle.bh_view.specs.Becomes.{KeepsBodies}
 use Rattle.bh_view.proofs.NameLemmas.{none_pass}
 use Rattle.bh_view.proofs.OrdinalLemmas.{free_ord_is_least}
-use Rattle.bh_view.proofs.BlockChanges.{block_kept, block_stored}
 
 -- no block has the free ordinal
 pub unused : (old mid : Tables) (digest : Octets) (n : ℕ) → IsSound old → mid ≡ old → n ≡ free_ord digest old.blocks → list_any (is_block (digest, n)) mid.blocks ≡ false
@@ -26,36 +24,29 @@ module _ (digest : Octets → Octets) (c : Octets) (old : Tables) where
   row = record { digest = digest c; ord = free_ord (digest c) old.blocks; bytes = c }
 
   -- a row that holds the bytes was found
-  pub copy_there : (found : Octets) → found ≡ digest c → (n : ℕ) → Some n ≡ option_map (λ (b : BlockRow). b.ord) (copy_in found c old.blocks)
-      → (◌≡◌ {A = Name} (found, n) (digest c, ord_for (digest c) c old.blocks)) × (old ≡ record old { blocks = blocks_with (digest c) c old.blocks })
-  copy_there found e n some = let it = go (copy_in (digest c) c old.blocks) (some ∙ ap (λ d. option_map (λ (b : BlockRow). b.ord) (copy_in d c old.blocks)) e) in ((λ i. (e i, it.0 i)), it.1)
+  pub copy_there : rebodied old old.refs old.blocks ≡ old → (found : Octets) → found ≡ digest c → (n : ℕ) → Some n ≡ option_map (λ (b : BlockRow). b.ord) (copy_in found c old.blocks)
+      → (◌≡◌ {A = Name} (found, n) (digest c, ord_for (digest c) c old.blocks)) × (old ≡ rebodied old old.refs (blocks_with (digest c) c old.blocks))
+  copy_there own found e n some = let it = go (copy_in (digest c) c old.blocks) (some ∙ ap (λ d. option_map (λ (b : BlockRow). b.ord) (copy_in d c old.blocks)) e) in ((λ i. (e i, it.0 i)), it.1)
     where
       go : (o : Option BlockRow) → Some n ≡ option_map (λ (b : BlockRow). b.ord) o
-          → (n ≡ option_map_or (λ (b : BlockRow). b.ord) o (free_ord (digest c) old.blocks)) × (old ≡ record old { blocks = option_map_or (λ _. old.blocks) o (old.blocks ++ row ∷ []) })
+          → (n ≡ option_map_or (λ (b : BlockRow). b.ord) o (free_ord (digest c) old.blocks)) × (old ≡ rebodied old old.refs (option_map_or (λ _. old.blocks) o (old.blocks ++ row ∷ [])))
       go None e = absurd (cc)
-      go (Some b) e = (cc, refl)
+      go (Some b) e = (cc, sym own)
 
   -- no row does
   pub copy_missing : (found : Octets) → found ≡ digest c → (mid : Tables) → mid ≡ old → None ≡ option_map (λ (b : BlockRow). b.ord) (copy_in found c old.blocks)
       → (◌≡◌ {A = Name} (found, free_ord found mid.blocks) (digest c, ord_for (digest c) c old.blocks))
-      × (record mid { blocks = mid.blocks ++ record { digest = found; ord = free_ord found mid.blocks; bytes = c } ∷ [] } ≡ record old { blocks = blocks_with (digest c) c old.blocks })
+      × (rebodied mid mid.refs (mid.blocks ++ record { digest = found; ord = free_ord found mid.blocks; bytes = c } ∷ []) ≡ rebodied old old.refs (blocks_with (digest c) c old.blocks))
   copy_missing found e mid same none =
       let it = go (copy_in (digest c) c old.blocks) (none ∙ ap (λ d. option_map (λ (b : BlockRow). b.ord) (copy_in d c old.blocks)) e) in (
         (λ i. (e i, free_ord (e i) (same i).blocks)) ∙ ap (λ n. (digest c, n)) it.0,
-        (λ i. record (same i) { blocks = (same i).blocks ++ record { digest = e i; ord = free_ord (e i) (same i).blocks; bytes = c } ∷ [] }) ∙ it.1,
+        (λ i. rebodied (same i) (same i).refs ((same i).blocks ++ record { digest = e i; ord = free_ord (e i) (same i).blocks; bytes = c } ∷ [])) ∙ it.1,
       )
     where
       go : (o : Option BlockRow) → None ≡ option_map (λ (b : BlockRow). b.ord) o
-          → (free_ord (digest c) old.blocks ≡ option_map_or (λ (b : BlockRow). b.ord) o (free_ord (digest c) old.blocks)) × (record old { blocks = old.blocks ++ row ∷ [] } ≡ record old { blocks = option_map_or (λ _. old.blocks) o (old.blocks ++ row ∷ []) })
+          → (free_ord (digest c) old.blocks ≡ option_map_or (λ (b : BlockRow). b.ord) o (free_ord (digest c) old.blocks)) × (rebodied old old.refs (old.blocks ++ row ∷ []) ≡ rebodied old old.refs (option_map_or (λ _. old.blocks) o (old.blocks ++ row ∷ [])))
       go None e = (refl, refl)
       go (Some b) e = absurd (cc)
-
-  module _ (new : Tables) (is : new ≡ record old { blocks = blocks_with (digest c) c old.blocks }) (sound : IsSound old) (digests : AreDigests digest old.blocks) where
-    pub held : (name : Name) → name ≡ (digest c, ord_for (digest c) c old.blocks) → option_map (λ (b : BlockRow). b.bytes) (row_at new.blocks name) ≡ Some c
-    held name called = (λ i. option_map (λ (b : BlockRow). b.bytes) (row_at (is i).blocks (called i))) ∙ (block_kept digest old.refs old.blocks sound.stored digests c).held
-
-    pub kept : KeepsBodies digest old new
-    kept = subst (KeepsBodies digest old) (sym is) (block_stored digest old c sound digests)
 
 -- what two clauses on a value say together
 pub with_both : {X E : Type 0} (r : Result X E) (P : X → Type 0) (Q : Type 0) (R : X → Type 0) → IfOk r P → OnOk r Q → ((x : X) → P x → Q → R x) → IfOk r R

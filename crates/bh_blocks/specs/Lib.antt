@@ -1,1 +1,3 @@
+pub mod Added
 pub mod Named
+pub mod Windows

@@ -1,6 +1,6 @@
 ghost use Rattle.std.specs.Prelude.{◌≡◌, ◌++◌, ◌∷◌, [], ◌<◌, ◌^◌, List, None, Some, true, map, option_map, IfSome, IfOk, IfErr, OnOk};
 ghost use Rattle.bh_rows.specs.Means.{is_trouble};
-ghost use Rattle.bh_tables.specs.Typed.{BlockRow};
+ghost use Rattle.bh_tables.specs.Typed.{BlockRow, rebodied};
 ghost use Rattle.bh_tables.specs.Shown.{shown_ord};
 ghost use Rattle.bh_view.specs.Blocks.{least, free_ord as the_free, copy_in, ord_for, blocks_with, row_at, AreDigests};
 ghost use Rattle.bh_view.specs.Sound.{IsSound};
@@ -90,7 +90,8 @@ fn add_block<S: Alter>(
     ensures name { IfOk result (λ name. IsClean S.Store connection.new
         → name_of name ≡ (digest, the_free digest (tables S.Store connection.old).blocks)) }
     ensures added { OnOk result (Becomes S.Store connection.old connection.new
-        (λ rows. record rows { blocks = rows.blocks ++ record { digest = digest; ord = the_free digest rows.blocks; bytes = bytes.now } ∷ [] })) }
+        (λ rows. rebodied rows rows.refs
+        (rows.blocks ++ record { digest = digest; ord = the_free digest rows.blocks; bytes = bytes.now } ∷ []))) }
     ensures trouble { IfErr result (IsTroubleIf S.Store connection.old connection.new (IsSound (tables S.Store connection.old))) }
 {
     let ord = free_ord(connection, &digest)?;
@@ -112,15 +113,15 @@ pub fn store_block<S: Alter, D: Digester>(
     ensures opens { OnOk result (WasOpen S.Store connection.old connection.new) }
     ensures small { IfOk result (λ name. name.ord < 2 ^ 63) }
     ensures name { IfOk result (λ name. IsClean S.Store connection.new → name_of name
-        ≡ (D.digest_of digester.now bytes.now, ord_for (D.digest_of digester.now bytes.now) bytes.now (tables S.Store connection.old).blocks)) }
+        ≡ (D.digest_of bytes.now, ord_for (D.digest_of bytes.now) bytes.now (tables S.Store connection.old).blocks)) }
     ensures stored { OnOk result (Becomes S.Store connection.old connection.new
-        (λ rows. record rows { blocks = blocks_with (D.digest_of digester.now bytes.now) bytes.now rows.blocks })) }
+        (λ rows. rebodied rows rows.refs (blocks_with (D.digest_of bytes.now) bytes.now rows.blocks))) }
     ensures held { IfOk result (λ name. IsClean S.Store connection.new
-        → IsSound (tables S.Store connection.old) → AreDigests (D.digest_of digester.now) (tables S.Store connection.old).blocks
+        → IsSound (tables S.Store connection.old) → AreDigests D.digest_of (tables S.Store connection.old).blocks
         → option_map (λ (b : BlockRow). b.bytes) (row_at (tables S.Store connection.new).blocks (name_of name)) ≡ Some bytes.now) }
     ensures keeps { OnOk result (IsClean S.Store connection.new
-        → IsSound (tables S.Store connection.old) → AreDigests (D.digest_of digester.now) (tables S.Store connection.old).blocks
-        → KeepsBodies (D.digest_of digester.now) (tables S.Store connection.old) (tables S.Store connection.new)) }
+        → IsSound (tables S.Store connection.old) → AreDigests D.digest_of (tables S.Store connection.old).blocks
+        → KeepsBodies D.digest_of (tables S.Store connection.old) (tables S.Store connection.new)) }
     ensures trouble { IfErr result (IsTroubleIf S.Store connection.old connection.new (IsSound (tables S.Store connection.old))) }
 {
     let digest = digester.digest(bytes);

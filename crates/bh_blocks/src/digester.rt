@@ -9,7 +9,7 @@ use sha2::{Digest, Sha256};
 pub struct Sha256Digester;
 
 impl Digester for Sha256Digester {
-    ghost digest_of = { λ _ bytes. sha256 bytes };
+    ghost digest_of = { sha256 };
 
     fn digest(&self, bytes: &[u8]) -> [u8; 32] {
         Sha256::digest(bytes)

@@ -2,7 +2,7 @@ ghost use Rattle.std.specs.Prelude.{◌≡◌, List, map, length, true, IfOk, If
 ghost use Rattle.std.specs.List.{AllByRecursion};
 ghost use Rattle.sqlite_keyed.specs.Lists.{delete_where};
 ghost use Rattle.bh_tables.specs.Schema.{Octets};
-ghost use Rattle.bh_tables.specs.Typed.{BlockRow};
+ghost use Rattle.bh_tables.specs.Typed.{BlockRow, rebodied};
 ghost use Rattle.bh_tables.specs.Shown.{block_name, is_block, is_unreferenced, shown_name, unreferenced};
 ghost use Rattle.bh_view.specs.Blocks.{blocks_without, AreDigests};
 ghost use Rattle.bh_view.specs.Sound.{IsSound};
@@ -19,7 +19,7 @@ fn remove_named<S: Alter>(connection: &mut Connection<S>, row: &Row) -> Result<(
     ensures opens { OnOk result (StaysOpen S.Store connection.old connection.new) }
     ensures inside { OnOk result (InTransaction S.Store connection.new) }
     ensures removed { OnOk result ((b : BlockRow) → row.now ≡ shown_name b → Becomes S.Store connection.old connection.new
-        (λ rows. record rows { blocks = delete_where (is_block (block_name b)) rows.blocks })) }
+        (λ rows. rebodied rows rows.refs (delete_where (is_block (block_name b)) rows.blocks))) }
     ensures trouble { IfErr result (λ e. (b : BlockRow) → row.now ≡ shown_name b → IsTroubleIf S.Store connection.old connection.new
         (is_unreferenced (tables S.Store connection.old).refs b ≡ true) e) }
 {
@@ -34,7 +34,7 @@ fn remove_all<S: Alter>(connection: &mut Connection<S>, rows: &[Row]) -> Result<
     ensures within { StaysWithin S.Store connection.old connection.new }
     ensures opens { OnOk result (StaysOpen S.Store connection.old connection.new) }
     ensures removed { OnOk result ((gone : List BlockRow) → rows.now ≡ map shown_name gone
-        → Becomes S.Store connection.old connection.new (λ rows. record rows { blocks = blocks_without gone rows.blocks })) }
+        → Becomes S.Store connection.old connection.new (λ rows. rebodied rows rows.refs (blocks_without gone rows.blocks))) }
     ensures trouble { IfErr result (λ e. (gone : List BlockRow) → rows.now ≡ map shown_name gone
         → IsTroubleIf S.Store connection.old connection.new
         (IsOpen S.Store connection.old × AllByRecursion (λ b. is_unreferenced (tables S.Store connection.old).refs b ≡ true) gone) e) }
@@ -57,7 +57,7 @@ pub fn remove_unreferenced<S: Alter>(
     ensures count { IfOk result (λ count. IsClean S.Store connection.new
         → count ≡ length (unreferenced limit (tables S.Store connection.old).refs (tables S.Store connection.old).blocks)) }
     ensures removed { OnOk result (Becomes S.Store connection.old connection.new
-        (λ rows. record rows { blocks = blocks_without (unreferenced limit rows.refs rows.blocks) rows.blocks })) }
+        (λ rows. rebodied rows rows.refs (blocks_without (unreferenced limit rows.refs rows.blocks) rows.blocks))) }
     ensures keeps { (digest : Octets → Octets) → OnOk result (IsClean S.Store connection.new
         → IsSound (tables S.Store connection.old) → AreDigests digest (tables S.Store connection.old).blocks
         → KeepsBodies digest (tables S.Store connection.old) (tables S.Store connection.new)) }

@@ -4,8 +4,8 @@ ghost use Rattle.std.specs.Prelude.{◌≡◌, ◌++◌, ◌∷◌, [], ◌<◌,
 ghost use Rattle.std.specs.List.{list_any};
 ghost use Rattle.sqlite_keyed.specs.Lists.{delete_where, sort_by};
 ghost use Rattle.bh_rows.specs.Means.{is_trouble};
-ghost use Rattle.bh_tables.specs.Typed.{BlockRow as Stored};
-ghost use Rattle.bh_tables.specs.Shown.{block_name, is_copy, is_block, is_use, has_digest, by_ord, shown_ord, shown_name, unreferenced};
+ghost use Rattle.bh_tables.specs.Typed.{BlockRow as Stored, rebodied};
+ghost use Rattle.bh_tables.specs.Shown.{block_name, is_copy, is_block, is_use, has_digest, by_ord, shown_ord, shown_name, shown_bytes, unreferenced};
 ghost use Rattle.bh_schema.specs.Connections.{IsClean, tables, InTransaction, StaysWithin, WasOpen, StaysOpen, ChangesNothing, Becomes, IsTrouble, IsTroubleIf};
 ghost use Rattle.bh_blocks.specs.Named.{stored_name};
 
@@ -88,6 +88,26 @@ pub fn ord_rows<S: Alter>(connection: &mut Connection<S>, digest: &[u8]) -> Resu
     )
 }
 
+pub fn bytes_rows<S: Alter>(
+    connection: &mut Connection<S>,
+    digest: &[u8],
+    ord: u64,
+) -> Result<Vec<Row>, Error>
+    requires inside { InTransaction S.Store connection.old }
+    requires small { ord < 2 ^ 63 }
+    ensures within { StaysWithin S.Store connection.old connection.new }
+    ensures opens { OnOk result (WasOpen S.Store connection.old connection.new) }
+    ensures same { OnOk result (ChangesNothing S.Store connection.old connection.new) }
+    ensures rows { IfOk result (λ rows. IsClean S.Store connection.new
+        → rows.items ≡ map shown_bytes (filter (is_block (digest.now, ord)) (tables S.Store connection.old).blocks)) }
+    ensures trouble { IfErr result (IsTrouble S.Store connection.old connection.new) }
+{
+    connection.query_all(
+        "SELECT bytes FROM blocks WHERE digest = ?1 AND ord = ?2 ORDER BY rowid",
+        &[digest.to_sql(), number(ord)],
+    )
+}
+
 pub fn unreferenced_rows<S: Alter>(
     connection: &mut Connection<S>,
     limit: u64,
@@ -119,7 +139,7 @@ pub fn insert_block<S: Alter>(
     ensures within { StaysWithin S.Store connection.old connection.new }
     ensures opens { OnOk result (StaysOpen S.Store connection.old connection.new) }
     ensures holds { OnOk result (Becomes S.Store connection.old connection.new
-        (λ rows. record rows { blocks = rows.blocks ++ record { digest = digest.now; ord = ord; bytes = bytes.now } ∷ [] })) }
+        (λ rows. rebodied rows rows.refs (rows.blocks ++ record { digest = digest.now; ord = ord; bytes = bytes.now } ∷ []))) }
     ensures trouble { IfErr result (IsTroubleIf S.Store connection.old connection.new
         (list_any (is_block (digest.now, ord)) (tables S.Store connection.old).blocks ≡ false)) }
 {
@@ -142,7 +162,7 @@ pub fn delete_block<S: Alter>(
     ensures within { StaysWithin S.Store connection.old connection.new }
     ensures opens { OnOk result (StaysOpen S.Store connection.old connection.new) }
     ensures holds { OnOk result (Becomes S.Store connection.old connection.new
-        (λ rows. record rows { blocks = delete_where (is_block (digest.now, ord)) rows.blocks })) }
+        (λ rows. rebodied rows rows.refs (delete_where (is_block (digest.now, ord)) rows.blocks))) }
     ensures trouble { IfErr result (IsTroubleIf S.Store connection.old connection.new
         (list_any (is_use (digest.now, ord)) (tables S.Store connection.old).refs ≡ false)) }
 {

@@ -5,10 +5,11 @@ use Rattle.sqlite.specs.Effect.{Database, IsDatabase}
 use Rattle.sqlite.specs.Files.{AreFoundIn}
 use Rattle.sqlite.specs.Start.{FindsIn}
 use Rattle.sqlite.specs.State.{State, HasCleanDisk, IsLive, Opens}
+use Rattle.sha2.specs.Sha256.{sha256}
 use Rattle.bh_tables.specs.Hosts.{tables_shown}
 use Rattle.bh_tables.specs.Schema.{host_schema}
 use Rattle.bh_tables.specs.Typed.{Tables}
-use Rattle.bh_view.specs.Sound.{IsSound}
+use Rattle.bh_view.specs.Bodies.{IsSoundHost}
 
 -- files with these contents hold a database of a host's schema, which shows these tables
 pub record AreTablesIn (image : Image) (tables : Tables) : Type 0 where
@@ -18,9 +19,9 @@ pub record AreTablesIn (image : Image) (tables : Tables) : Type 0 where
   pub schema : db.schema ≡ host_schema
   pub shown : tables ≡ tables_shown db
 
--- what they hold of a host is sound
+-- what they hold of a host is sound, its blocks named by SHA-256
 abbrev pub HoldsSoundHost : Image → Type 0
-HoldsSoundHost image = (tables : Tables) → AreTablesIn image tables → IsSound tables
+HoldsSoundHost image = (tables : Tables) → AreTablesIn image tables → IsSoundHost sha256 tables
 
 -- a connection shows what they hold, if they returned what was written to them
 pub record IsOpenedOn (image : Image) (s : State) : Type 0 where

@@ -2,6 +2,8 @@
 
 ghost use Rattle.std.specs.Prelude.{IfOk};
 ghost use Rattle.bh_event.specs.Events.{order_of};
+ghost use Rattle.sha2.specs.Sha256.{sha256};
+ghost use Rattle.bh_view.specs.Bodies.{IsSoundHost};
 ghost use Rattle.bh_schema.specs.Storage.{IsClean, seen};
 ghost use Rattle.bh_storage.specs.Calls.{IsAtRest};
 ghost use Rattle.bh_commands.specs.Commands.{ordered_at, IsApplied};
@@ -21,8 +23,8 @@ pub fn apply_command<S: Alter + Drop>(
     reading: u64,
     command: Command,
 ) -> Result<Printed, AllocError>
-    requires { IsClean S.Store storage.old.host → IsAtRest (seen S.Store storage.old.host) }
-    ensures ready { IsClean S.Store storage.new.host → IsAtRest (seen S.Store storage.new.host) }
+    requires { IsClean S.Store storage.old.host → IsAtRest (IsSoundHost sha256) (seen S.Store storage.old.host) }
+    ensures ready { IsClean S.Store storage.new.host → IsAtRest (IsSoundHost sha256) (seen S.Store storage.new.host) }
     ensures opened { IsClean S.Store storage.new.host → IsClean S.Store storage.old.host }
     ensures applied { IfOk result (λ printed.
         IsApplied S.Store (ordered_at reading (order_of command)) storage.old.host storage.new.host printed) }

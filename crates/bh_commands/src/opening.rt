@@ -3,6 +3,8 @@
 ghost use Rattle.std.specs.Prelude.{IfOk};
 ghost use Rattle.sqlite.specs.Files.{file_state, over_files};
 ghost use Rattle.sqlite_wal.specs.Files.{image_at};
+ghost use Rattle.sha2.specs.Sha256.{sha256};
+ghost use Rattle.bh_view.specs.Bodies.{IsSoundHost};
 ghost use Rattle.bh_schema.specs.Storage.{IsClean, seen};
 ghost use Rattle.bh_storage.specs.Calls.{IsAtRest};
 ghost use Rattle.bh_commands.specs.Files.{IsOpenedOn, AreTablesIn, HoldsSoundHost};
@@ -77,7 +79,7 @@ pub fn open_stored_file<S: Start>(
     tuning: Tuning,
 ) -> Result<FileHost<S>, NoHost>
     requires { HoldsSoundHost (image_at S.Start) }
-    ensures rest { IfOk result (λ storage. IsClean over_files storage.host → IsAtRest (seen over_files storage.host)) }
+    ensures rest { IfOk result (λ storage. IsClean over_files storage.host → IsAtRest (IsSoundHost sha256) (seen over_files storage.host)) }
     ensures found { IfOk result (λ storage. IsClean over_files storage.host
         → AreTablesIn (image_at S.Start) (seen over_files storage.host).now) }
 {

@@ -31,8 +31,8 @@ applied_all limits reading given rest taken old new m reply same took (stamp, la
     (stamp, latest, (act, (answer, subst P (sym same) took.decided answer reads, is), turned))
 
 module _ {H : Type 0} (IsIntact IsOpen : H → Type 0) (seen : H → Seen) (left : H → Tables → Type 0) where
-  is_applied_all : (reading : ℕ) (given rest : Option (List ℕ)) (taken : List ℕ) (stamp : Option ℕ) (reply : List ℕ) (old new : H)
-      → (Clean IsIntact IsOpen old → IsAtRest (seen old)) → (IsIntact new → IsIntact old) → Took (seen old).limits given rest taken
+  is_applied_all : {IsSound : Tables → Type 0} (reading : ℕ) (given rest : Option (List ℕ)) (taken : List ℕ) (stamp : Option ℕ) (reply : List ℕ) (old new : H)
+      → (Clean IsIntact IsOpen old → IsAtRest IsSound (seen old)) → (IsIntact new → IsIntact old) → Took (seen old).limits given rest taken
       → IsApplied IsIntact IsOpen seen left (request_at reading taken) (stamp, reply) old new
       → IsApplied IsIntact IsOpen seen left (request_at reading (all_of given taken)) (stamp, reply) old new
   is_applied_all reading given rest taken None reply old new ready still took did = record {
@@ -55,8 +55,8 @@ module _ {H : Type 0} (IsIntact IsOpen : H → Type 0) (seen : H → Seen) (left
   }
 
   -- an event was applied
-  pub answered : (limits : HostLimits) (before after : Ends) (served : Served) (taken reply : List ℕ) (stamp : Option ℕ) (old new : H)
-      → (Clean IsIntact IsOpen old → IsAtRest (seen old)) → (IsIntact new → IsIntact old) → limits ≡ (seen old).limits
+  pub answered : {IsSound : Tables → Type 0} (limits : HostLimits) (before after : Ends) (served : Served) (taken reply : List ℕ) (stamp : Option ℕ) (old new : H)
+      → (Clean IsIntact IsOpen old → IsAtRest IsSound (seen old)) → (IsIntact new → IsIntact old) → limits ≡ (seen old).limits
       → Took limits before.left after.left taken → after.reader_failed ≡ false
       → IsApplied IsIntact IsOpen seen left (request_at before.reading taken) (stamp, reply) old new
       → served.stamp ≡ stamp → Appends before.held after.held (take served.sent reply) → EndsAs served.ended served.sent reply after.writer_failed

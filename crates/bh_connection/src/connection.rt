@@ -29,12 +29,12 @@ pub fn serve_connection<H: Storage, R: Read, W: Write>(
     reader: &mut Link<R>,
     writer: &mut Link<W>,
 ) -> Served
-    requires rest { Clean H.IsIntact H.IsOpen host.old → IsAtRest (H.seen host.old) }
+    requires rest { Clean H.IsIntact H.IsOpen host.old → IsAtRest H.IsSound (H.seen host.old) }
     requires reads { reader.old.failed ≡ false }
     requires writes { writer.old.failed ≡ false }
     ensures intact { H.IsIntact host.new → H.IsIntact host.old }
     ensures opened { H.IsIntact host.new → H.IsOpen host.new → H.IsOpen host.old }
-    ensures ready { Clean H.IsIntact H.IsOpen host.new → IsAtRest (H.seen host.new) }
+    ensures ready { Clean H.IsIntact H.IsOpen host.new → IsAtRest H.IsSound (H.seen host.new) }
     ensures limits { (H.seen host.new).limits ≡ (H.seen host.old).limits }
     ensures came_to { CameTo H.IsIntact H.IsOpen H.seen H.left
         (ends_of R.remaining W.contents reading reader.old writer.old)

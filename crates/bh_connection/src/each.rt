@@ -25,11 +25,11 @@ pub fn serve_each<H: Storage, R: Read, W: Write>(
     host: &mut H,
     arrivals: &mut [Arrival<R, W>],
 ) -> Result<Vec<Served>, AllocError>
-    requires rest { Clean H.IsIntact H.IsOpen host.old → IsAtRest (H.seen host.old) }
+    requires rest { Clean H.IsIntact H.IsOpen host.old → IsAtRest H.IsSound (H.seen host.old) }
     requires going { All IsGoing arrivals.old }
     ensures intact { H.IsIntact host.new → H.IsIntact host.old }
     ensures opened { H.IsIntact host.new → H.IsOpen host.new → H.IsOpen host.old }
-    ensures ready { Clean H.IsIntact H.IsOpen host.new → IsAtRest (H.seen host.new) }
+    ensures ready { Clean H.IsIntact H.IsOpen host.new → IsAtRest H.IsSound (H.seen host.new) }
     ensures limits { (H.seen host.new).limits ≡ (H.seen host.old).limits }
     ensures served { IfOk result (λ serveds. HasServed H.IsIntact H.IsOpen H.seen H.left
         (map (ends R.remaining W.contents) arrivals.old) (map (ends R.remaining W.contents) arrivals.new)
@@ -51,11 +51,11 @@ fn serve_arrival<H: Storage, R: Read, W: Write>(
     host: &mut H,
     arrival: &mut Arrival<R, W>,
 ) -> Served
-    requires rest { Clean H.IsIntact H.IsOpen host.old → IsAtRest (H.seen host.old) }
+    requires rest { Clean H.IsIntact H.IsOpen host.old → IsAtRest H.IsSound (H.seen host.old) }
     requires going { IsGoing arrival.old }
     ensures intact { H.IsIntact host.new → H.IsIntact host.old }
     ensures opened { H.IsIntact host.new → H.IsOpen host.new → H.IsOpen host.old }
-    ensures ready { Clean H.IsIntact H.IsOpen host.new → IsAtRest (H.seen host.new) }
+    ensures ready { Clean H.IsIntact H.IsOpen host.new → IsAtRest H.IsSound (H.seen host.new) }
     ensures limits { (H.seen host.new).limits ≡ (H.seen host.old).limits }
     ensures came_to { CameTo H.IsIntact H.IsOpen H.seen H.left
         (ends R.remaining W.contents arrival.old) (ends R.remaining W.contents arrival.new) result host.old host.new }

@@ -27,10 +27,10 @@ pub fn serve_port<
     H: Storage,
     C: Clock,
 >(net: &N, host: &mut H, clock: &C, port: u16, timeout: u64, count: u64) -> io::Result<()>
-    requires { Clean H.IsIntact H.IsOpen host.old → IsAtRest (H.seen host.old) }
+    requires { Clean H.IsIntact H.IsOpen host.old → IsAtRest H.IsSound (H.seen host.old) }
     ensures intact { H.IsIntact host.new → H.IsIntact host.old }
     ensures opened { H.IsIntact host.new → H.IsOpen host.new → H.IsOpen host.old }
-    ensures ready { Clean H.IsIntact H.IsOpen host.new → IsAtRest (H.seen host.new) }
+    ensures ready { Clean H.IsIntact H.IsOpen host.new → IsAtRest H.IsSound (H.seen host.new) }
     ensures limits { (H.seen host.new).limits ≡ (H.seen host.old).limits }
     ensures ran { H.IsIntact host.new → RanSome H.IsOpen H.seen H.left host.old host.new }
 {
@@ -49,10 +49,10 @@ pub fn serve_listener<H: Storage, C: Clock>(
     timeout: u64,
     count: u64,
 ) -> io::Result<()>
-    requires { Clean H.IsIntact H.IsOpen host.old → IsAtRest (H.seen host.old) }
+    requires { Clean H.IsIntact H.IsOpen host.old → IsAtRest H.IsSound (H.seen host.old) }
     ensures intact { H.IsIntact host.new → H.IsIntact host.old }
     ensures opened { H.IsIntact host.new → H.IsOpen host.new → H.IsOpen host.old }
-    ensures ready { Clean H.IsIntact H.IsOpen host.new → IsAtRest (H.seen host.new) }
+    ensures ready { Clean H.IsIntact H.IsOpen host.new → IsAtRest H.IsSound (H.seen host.new) }
     ensures limits { (H.seen host.new).limits ≡ (H.seen host.old).limits }
     ensures ran { H.IsIntact host.new → RanSome H.IsOpen H.seen H.left host.old host.new }
 {
@@ -70,10 +70,10 @@ fn serve_next<H: Storage, C: Clock>(
     clock: &C,
     timeout: u64,
 ) -> io::Result<()>
-    requires { Clean H.IsIntact H.IsOpen host.old → IsAtRest (H.seen host.old) }
+    requires { Clean H.IsIntact H.IsOpen host.old → IsAtRest H.IsSound (H.seen host.old) }
     ensures intact { H.IsIntact host.new → H.IsIntact host.old }
     ensures opened { H.IsIntact host.new → H.IsOpen host.new → H.IsOpen host.old }
-    ensures ready { Clean H.IsIntact H.IsOpen host.new → IsAtRest (H.seen host.new) }
+    ensures ready { Clean H.IsIntact H.IsOpen host.new → IsAtRest H.IsSound (H.seen host.new) }
     ensures limits { (H.seen host.new).limits ≡ (H.seen host.old).limits }
     ensures did { DidSome H.IsIntact H.IsOpen H.seen H.left host.old host.new }
 {
@@ -102,10 +102,10 @@ fn serve_stream<H: Storage, C: Clock>(
     stream: &TcpStream,
     timeout: u64,
 )
-    requires { Clean H.IsIntact H.IsOpen host.old → IsAtRest (H.seen host.old) }
+    requires { Clean H.IsIntact H.IsOpen host.old → IsAtRest H.IsSound (H.seen host.old) }
     ensures intact { H.IsIntact host.new → H.IsIntact host.old }
     ensures opened { H.IsIntact host.new → H.IsOpen host.new → H.IsOpen host.old }
-    ensures ready { Clean H.IsIntact H.IsOpen host.new → IsAtRest (H.seen host.new) }
+    ensures ready { Clean H.IsIntact H.IsOpen host.new → IsAtRest H.IsSound (H.seen host.new) }
     ensures limits { (H.seen host.new).limits ≡ (H.seen host.old).limits }
     ensures did { DidSome H.IsIntact H.IsOpen H.seen H.left host.old host.new }
 {
@@ -126,10 +126,10 @@ fn serve_buffered<H: Storage, S: Read + Write + Copy + Drop>(
     reading: u64,
     stream: S,
 ) -> Served
-    requires { Clean H.IsIntact H.IsOpen host.old → IsAtRest (H.seen host.old) }
+    requires { Clean H.IsIntact H.IsOpen host.old → IsAtRest H.IsSound (H.seen host.old) }
     ensures intact { H.IsIntact host.new → H.IsIntact host.old }
     ensures opened { H.IsIntact host.new → H.IsOpen host.new → H.IsOpen host.old }
-    ensures ready { Clean H.IsIntact H.IsOpen host.new → IsAtRest (H.seen host.new) }
+    ensures ready { Clean H.IsIntact H.IsOpen host.new → IsAtRest H.IsSound (H.seen host.new) }
     ensures limits { (H.seen host.new).limits ≡ (H.seen host.old).limits }
     ensures did { DidSome H.IsIntact H.IsOpen H.seen H.left host.old host.new }
 {
@@ -147,10 +147,10 @@ fn serve_ends<H: Storage, R: Read + Drop, W: Write + Drop>(
     reader: R,
     writer: W,
 ) -> Served
-    requires { Clean H.IsIntact H.IsOpen host.old → IsAtRest (H.seen host.old) }
+    requires { Clean H.IsIntact H.IsOpen host.old → IsAtRest H.IsSound (H.seen host.old) }
     ensures intact { H.IsIntact host.new → H.IsIntact host.old }
     ensures opened { H.IsIntact host.new → H.IsOpen host.new → H.IsOpen host.old }
-    ensures ready { Clean H.IsIntact H.IsOpen host.new → IsAtRest (H.seen host.new) }
+    ensures ready { Clean H.IsIntact H.IsOpen host.new → IsAtRest H.IsSound (H.seen host.new) }
     ensures limits { (H.seen host.new).limits ≡ (H.seen host.old).limits }
     ensures did { DidSome H.IsIntact H.IsOpen H.seen H.left host.old host.new }
 {

@@ -25,7 +25,7 @@ position-map : {X Y : Type 0} (p : Y → Bool) (f : X → Y) (xs : List X) → p
 position-map p f xs = rw (prefix_len-map (λ y. not (p y)) f xs, length-map xs f) refl
 
 -- what stands at the first place that passes is the first element that passes
-at_position : {X : Type 0} (p : X → Bool) (xs : List X) → option_and_then (slice_get xs) (position p xs) ≡ find p xs
+pub at_position : {X : Type 0} (p : X → Bool) (xs : List X) → option_and_then (slice_get xs) (position p xs) ≡ find p xs
 at_position p xs = elim (cases_lt (position_or_len p xs) (length xs)) [
   | inl within ↦ rw (lt-ltb (position_or_len p xs) (length xs) within) (sym (find_at p xs))
   | inr past ↦ rw (le-ltb (position_or_len p xs) (length xs) past) (sym (find_at p xs ∙ slice_get_past xs (position_or_len p xs) past))

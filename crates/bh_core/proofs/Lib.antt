@@ -1,3 +1,5 @@
+pub mod Choosing
+pub mod Completing
 pub mod Cutting
 pub mod Finding
 pub mod Leaving

@@ -1,4 +1,5 @@
 pub mod AskedRanges
+pub mod Completions
 pub mod Laws
 pub mod Places
 pub mod Plans

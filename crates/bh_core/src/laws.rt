@@ -1,5 +1,6 @@
 //! Laws of the plans and of ranges, each the contract of a function that does nothing.
 ghost use Rattle.bh_core.specs.Laws.{PutLeaves, PutCounts, DeleteLeaves, DeleteCounts, RangesLieWithin, PartsAreCut, WrittenIsAsked};
+ghost use Rattle.bh_core.specs.Completions.{CompleteIsJoined};
 
 /// A put's plan leaves the entries that the private machine's put leaves.
 pub fn put_leaves()
@@ -34,4 +35,9 @@ pub fn parts_are_cut()
 /// A Range field that is written in decimal digits asks for the range that it was written for.
 pub fn written_is_asked()
     ensures { WrittenIsAsked }
+{}
+
+/// To complete an upload is to join the parts at the places that its rows give, and its refusals are theirs.
+pub fn complete_is_joined()
+    ensures { CompleteIsJoined }
 {}

@@ -7,6 +7,7 @@ use Rattle.bh_model.specs.State.{Octets}
 use Rattle.bh_rows.specs.Means.{IsBlank}
 use Rattle.bh_tables.specs.Schema.{no_schema}
 use Rattle.bh_tables.specs.Typed.{Tables}
+use Rattle.bh_view.specs.Bodies.{IsSoundHost}
 use Rattle.bh_view.specs.Laws.{new_host}
 use Rattle.bh_view.specs.View.{view, latest_of}
 use Rattle.bh_storage.specs.Calls.{IsAtRest}
@@ -19,7 +20,8 @@ IsEmpty s = s.now.schema ≡ no_schema
 
 -- a host with these limits was committed. It has no tenant, and has read no clock
 pub record IsNewHost (limits : HostLimits) (s : State) : Type 0 where
-  pub rest : IsAtRest (seen_in limits s)
+  -- however blocks are named
+  pub rest : (digest : Octets → Octets) → IsAtRest (IsSoundHost digest) (seen_in limits s)
   pub tables : (seen_in limits s).now ≡ new_host limits.min_part limits.max_body
   pub latest : latest_of (seen_in limits s).now ≡ 0
   pub vacant : (tenant : Octets) → view (seen_in limits s).now tenant ≡ None

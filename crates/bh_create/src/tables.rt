@@ -58,7 +58,7 @@ fn create_versions<S: Alter>(connection: &mut Connection<S>) -> Result<usize, Er
     ensures trouble { IfErr result (λ e. IsIntact (state S.Store connection.new) → is_trouble e ≡ true) }
 {
     connection.execute(
-        "CREATE TABLE versions (tenant TEXT NOT NULL, seq INTEGER NOT NULL CHECK (seq >= 0), bucket TEXT NOT NULL, okey BLOB NOT NULL, id INTEGER NOT NULL CHECK (id >= 0), marker INTEGER NOT NULL CHECK (marker >= 0), stamp INTEGER NOT NULL CHECK (stamp >= 0), size INTEGER NOT NULL CHECK (size >= 0), sum TEXT NOT NULL, bytes BLOB NOT NULL, PRIMARY KEY (tenant, seq), UNIQUE (tenant, bucket, okey, id), FOREIGN KEY (tenant, bucket) REFERENCES buckets ON DELETE RESTRICT, CHECK (marker = 0 OR (size = 0 AND sum = ''))) STRICT",
+        "CREATE TABLE versions (tenant TEXT NOT NULL, seq INTEGER NOT NULL CHECK (seq >= 0), bucket TEXT NOT NULL, okey BLOB NOT NULL, id INTEGER NOT NULL CHECK (id >= 0), marker INTEGER NOT NULL CHECK (marker >= 0), stamp INTEGER NOT NULL CHECK (stamp >= 0), size INTEGER NOT NULL CHECK (size >= 0), sum TEXT NOT NULL, PRIMARY KEY (tenant, seq), UNIQUE (tenant, bucket, okey, id), FOREIGN KEY (tenant, bucket) REFERENCES buckets ON DELETE RESTRICT, CHECK (marker = 0 OR (size = 0 AND sum = ''))) STRICT",
         &[],
     )
 }
@@ -80,7 +80,7 @@ fn create_refs<S: Alter>(connection: &mut Connection<S>) -> Result<usize, Error>
     ensures trouble { IfErr result (λ e. IsIntact (state S.Store connection.new) → is_trouble e ≡ true) }
 {
     connection.execute(
-        "CREATE TABLE refs (tenant TEXT NOT NULL, body INTEGER NOT NULL CHECK (body >= 0), place INTEGER NOT NULL CHECK (place >= 0), digest BLOB NOT NULL, ord INTEGER NOT NULL CHECK (ord >= 0), PRIMARY KEY (tenant, body, place), FOREIGN KEY (digest, ord) REFERENCES blocks ON DELETE RESTRICT) STRICT",
+        "CREATE TABLE refs (tenant TEXT NOT NULL, body INTEGER NOT NULL CHECK (body >= 0), place INTEGER NOT NULL CHECK (place >= 0), digest BLOB NOT NULL, ord INTEGER NOT NULL CHECK (ord >= 0), size INTEGER NOT NULL CHECK (size >= 0), PRIMARY KEY (tenant, body, place), FOREIGN KEY (digest, ord) REFERENCES blocks ON DELETE RESTRICT) STRICT",
         &[],
     )
 }

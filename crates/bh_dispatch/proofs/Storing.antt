@@ -5,7 +5,8 @@ use Rattle.sqlite_trees.specs.declared.store.Store.{Ghosts}
 use Rattle.bh_types.specs.Limits.{HostLimits}
 use Rattle.bh_model.specs.State.{Octets, State as Machine}
 use Rattle.bh_tables.specs.Typed.{Tables}
-use Rattle.bh_view.specs.Sound.{IsSound}
+use Rattle.bh_view.specs.Blocks.{AreDigests}
+use Rattle.bh_view.specs.Bodies.{IsSoundHost}
 use Rattle.bh_view.specs.View.{latest_of, limits_in}
 use Rattle.bh_view.proofs.PurgeLemmas.{view_purged}
 use Rattle.bh_storage.specs.declared.error.StepError.{StepError}
@@ -13,39 +14,49 @@ use Rattle.bh_storage.specs.declared.error.StepError.TheVariants.{Refused, Faile
 use Rattle.bh_storage.specs.Calls as calls
 use Rattle.bh_schema.specs.Layer.{IsStateClean}
 use Rattle.bh_schema.specs.Storage.{seen_in, IsIntact, IsOpen, seen, left, Keeps}
-use Rattle.bh_schema.specs.Working.{tables_at, IsWorking, StillWorking}
+use Rattle.bh_schema.specs.Working.{tables_at, IsWorking, StillWorking, StillWorkingBy}
 use Rattle.bh_schema.proofs.Storing.{AreBoth, both, inside_of, shows_in, holds_seen, same_limits}
 use Rattle.bh_dispatch.specs.declared.storage.HostStorage.{HostStorage}
 
-module _ (l : HostLimits) (s : State) where
-  pub seen_working : calls.IsWorking (seen_in l s) → IsWorking s
-  seen_working working = record { inside = inside_of l s working; sound = subst IsSound (shows_in l s working) working.sound }
+module _ (digest : Octets → Octets) (l : HostLimits) (s : State) where
+  abbrev pub IsAtWork : Type 0
+  IsAtWork = calls.IsWorking (IsSoundHost digest) (seen_in l s)
 
-  shown_now : IsWorking s → ((seen_in l s).now ≡ tables_at s) × ((seen_in l s).inside ≡ true)
-  shown_now working = holds_seen l (tables_at s) s (record { within = working.inside; is = refl })
+  host_seen : IsAtWork → IsSoundHost digest (tables_at s)
+  host_seen working = subst (IsSoundHost digest) (shows_in l s working) working.sound
 
-  pub early_seen : (at : ℕ) → calls.IsWorking (seen_in l s) → at ≤ latest_of (seen_in l s).now → at ≤ latest_of (tables_at s)
+  pub seen_working : IsAtWork → IsWorking s
+  seen_working working = let host = host_seen working in record { inside = inside_of l s working; sound = host.sound; bodies = host.bodies }
+
+  pub digests_seen : IsAtWork → AreDigests digest (tables_at s).blocks
+  digests_seen working = (host_seen working).digests
+
+  pub early_seen : (at : ℕ) → IsAtWork → at ≤ latest_of (seen_in l s).now → at ≤ latest_of (tables_at s)
   early_seen at working = subst (λ x. at ≤ latest_of x) (shows_in l s working)
+
+shown_now : (l : HostLimits) (s : State) → IsWorking s → ((seen_in l s).now ≡ tables_at s) × ((seen_in l s).inside ≡ true)
+shown_now l s working = holds_seen l (tables_at s) s (record { within = working.inside; is = refl })
 
 -- ---- a call on the connection
 
-module _ (l : HostLimits) (old new : State) where
-  working_seen : calls.IsWorking (seen_in l old) → StillWorking old new → calls.IsWorking (seen_in l new)
+module _ (digest : Octets → Octets) (l : HostLimits) (old new : State) where
+  working_seen : IsAtWork digest l old → StillWorkingBy digest old new → IsAtWork digest l new
   working_seen was still = record {
     inside = (shown_now l new still.is).1;
-    sound = subst IsSound (sym (shown_now l new still.is).0) still.is.sound;
+    sound = subst (IsSoundHost digest) (sym (shown_now l new still.is).0)
+        (record { sound = still.is.sound; bodies = still.is.bodies; digests = still.digests (digests_seen digest l old was) });
     limits = ap limits_in (shown_now l new still.is).0 ∙ still.limits ∙ sym (ap limits_in (shows_in l old was)) ∙ was.limits ∙ same_limits l new old;
   }
 
-  pub still_working : {X E : Type 0} (result : Result X (StepError E)) → (AreBoth new → calls.IsWorking (seen_in l old)) → calls.Unless result (IsStateClean new → StillWorking old new)
-      → calls.Unless result (AreBoth new → calls.IsWorking (seen_in l new))
+  pub still_working : {X E : Type 0} (result : Result X (StepError E)) → (AreBoth new → IsAtWork digest l old) → calls.Unless result (IsStateClean new → StillWorkingBy digest old new)
+      → calls.Unless result (AreBoth new → IsAtWork digest l new)
   still_working (Ok x) was h = λ clean. working_seen (was clean) (h (both clean))
   still_working (Err (Refused r)) was h = λ clean. working_seen (was clean) (h (both clean))
   still_working (Err (Failed trouble)) was h = tt
 
   -- the same step, of the tables that a storage shows
-  pub carried : {X Y E : Type 0} (shown : X → Y) (t : Octets) (step : Option Machine → Result (Y × Option Machine) E) (result : Result X (StepError E)) → calls.IsWorking (seen_in l old) → AreBoth new
-      → calls.Unless result (IsStateClean new → StillWorking old new) → calls.Carries shown t step (tables_at old) (tables_at new) result → calls.Carries shown t step (seen_in l old).now (seen_in l new).now result
+  pub carried : {X Y E : Type 0} (shown : X → Y) (t : Octets) (step : Option Machine → Result (Y × Option Machine) E) (result : Result X (StepError E)) → IsAtWork digest l old → AreBoth new
+      → calls.Unless result (IsStateClean new → StillWorkingBy digest old new) → calls.Carries shown t step (tables_at old) (tables_at new) result → calls.Carries shown t step (seen_in l old).now (seen_in l new).now result
   carried shown t step (Ok x) was clean working h = rw (shows_in l old was, (shown_now l new (working (both clean)).is).0) h
   carried shown t step (Err (Refused r)) was clean working h = rw (shows_in l old was, (shown_now l new (working (both clean)).is).0) h
   carried shown t step (Err (Failed trouble)) was clean working h = tt
@@ -66,3 +77,10 @@ stored g old new k = record { intact = k.intact; opened = k.opened; survives = k
 -- no table has uploads, so there is nothing to purge
 pub purges : (tables : Tables) (t : Octets) (at : ℕ) → calls.Purges t at tables tables
 purges tables t at = record { is = refl; own = sym (view_purged tables t at); others = λ u apart. refl; latest = refl }
+
+-- ---- a call whose promise holds of all functions holds of this one
+
+pub by_any : {X E : Type 0} (digest : Octets → Octets) (old new : State) (result : Result X (StepError E)) → calls.Unless result (IsStateClean new → StillWorking old new) → calls.Unless result (IsStateClean new → StillWorkingBy digest old new)
+by_any digest old new (Ok x) h = λ clean. h clean digest
+by_any digest old new (Err (Refused r)) h = λ clean. h clean digest
+by_any digest old new (Err (Failed trouble)) h = tt

@@ -4,8 +4,8 @@ ghost use Rattle.std.specs.Result.{result_map_both};
 ghost use Rattle.bh_storage.specs.Errors.{step_rejected};
 ghost use Rattle.bh_storage.specs.declared.answer.Answer.TheVariants as answer;
 
-use bh_docs::{BucketEntry, ObjectsPage};
-use bh_storage::answer::{Answer, RemovedEntry, StoredVersion};
+use bh_docs::{BucketEntry, ObjectsPage, VersionsPage};
+use bh_storage::answer::{Answer, CopiedVersion, RemovedEntry, StoredVersion};
 use bh_storage::error::StepError;
 use bh_types::bucket_state::BucketState;
 use bh_types::refusal::Refusal;
@@ -34,6 +34,14 @@ pub fn stored(
     Ok(Answer::Stored(outcome?))
 }
 
+pub fn copied(
+    outcome: Result<CopiedVersion, StepError<Refusal>>,
+) -> Result<Answer, StepError<Rejection>>
+    ensures { result ≡ result_map_both answer.Copied step_rejected outcome }
+{
+    Ok(Answer::Copied(outcome?))
+}
+
 pub fn listed(
     outcome: Result<Vec<BucketEntry>, StepError<Refusal>>,
 ) -> Result<Answer, StepError<Rejection>>
@@ -56,4 +64,12 @@ pub fn objects(
     ensures { result ≡ result_map_both answer.Objects step_rejected outcome }
 {
     Ok(Answer::Objects(outcome?))
+}
+
+pub fn versions(
+    outcome: Result<VersionsPage, StepError<Refusal>>,
+) -> Result<Answer, StepError<Rejection>>
+    ensures { result ≡ result_map_both answer.Versions step_rejected outcome }
+{
+    Ok(Answer::Versions(outcome?))
 }

@@ -1,24 +1,27 @@
 ghost use Rattle.std.specs.Option.{option_copied};
-ghost use Rattle.std.specs.Prelude.{◌≡◌, ◌≤◌};
+ghost use Rattle.std.specs.Prelude.{◌≡◌, ◌≤◌, option_map};
 ghost use Rattle.bh_types.specs.Rejections.{plainly};
-ghost use Rattle.bh_machine.specs.Machine.{set_versioning, page_asked, operated};
+ghost use Rattle.bh_machine.specs.Machine.{set_versioning, page_asked, place_asked, operated};
 ghost use Rattle.bh_model.specs.Operations as machine;
-ghost use Rattle.bh_model.specs.Listings.{list_objects};
+ghost use Rattle.bh_model.specs.Listings.{list_objects, list_versions};
+ghost use Rattle.bh_view.specs.Blocks.{AreDigests};
 ghost use Rattle.bh_view.specs.View.{latest_of};
 ghost use Rattle.bh_storage.specs.Answers.{answer_view};
 ghost use Rattle.bh_storage.specs.Calls.{Unless, Carries};
 ghost use Rattle.bh_schema.specs.Connections.{IsClean, tables, StaysWithin, StaysOpen};
-ghost use Rattle.bh_schema.specs.Working.{Works, StillWorks};
+ghost use Rattle.bh_schema.specs.Working.{Works, StillWorks, StillWorksBy};
 
 use crate::answers;
 use bh_docs::read_versioning;
+use bh_objects::copies::NewCopy;
 use bh_objects::writes::NewObject;
-use bh_objects::{buckets, deletes, gets, heads, objects};
+use bh_objects::{buckets, copies, deletes, gets, heads, objects};
 use bh_operation::address::ObjectName;
 use bh_operation::operation::Operation;
-use bh_operation::page::Page;
+use bh_operation::page::{Page, VersionMarker};
 use bh_operation::text::Bytes;
 use bh_pages::gathering::Asked;
+use bh_schema::host::Digester;
 use bh_storage::answer::Answer;
 use bh_storage::error::{StepError, Trouble};
 use bh_types::bucket::BucketName;
@@ -131,22 +134,43 @@ fn set_versioning<S: Alter>(
     answers::done(buckets::set_versioning(connection, tenant, bucket, state))
 }
 
-fn put_object<S: Alter>(
+fn put_object<S: Alter, D: Digester>(
     connection: &mut Connection<S>,
     alloc: Global,
+    digester: &D,
+    block_size: u64,
     object: &NewObject<'_>,
     given: Option<&[u8]>,
 ) -> Result<Answer, StepError<Rejection>>
     requires working { Works S.Store connection.old }
+    requires digests { IsClean S.Store connection.old → AreDigests D.digest_of (tables S.Store connection.old).blocks }
+    requires positive { 1 ≤ block_size }
     requires early { IsClean S.Store connection.old → object.now.at ≤ latest_of (tables S.Store connection.old) }
     ensures within { StaysWithin S.Store connection.old connection.new }
     ensures opens { Unless result (StaysOpen S.Store connection.old connection.new) }
-    ensures working { Unless result (StillWorks S.Store connection.old connection.new) }
+    ensures working { Unless result (StillWorksBy S.Store D.digest_of connection.old connection.new) }
     ensures carries { IsClean S.Store connection.new
         → Carries answer_view object.now.tenant.now (λ s. plainly (machine.put_object object.now.at object.now.bucket.now object.now.key.now object.now.bytes.now (option_copied given.entry) s))
         (tables S.Store connection.old) (tables S.Store connection.new) result }
 {
-    answers::stored(objects::put_object(connection, alloc, object, given))
+    answers::stored(objects::put_object(connection, alloc, digester, block_size, object, given))
+}
+
+fn copy_object<S: Alter>(
+    connection: &mut Connection<S>,
+    copy: &NewCopy<'_>,
+) -> Result<Answer, StepError<Rejection>>
+    requires working { Works S.Store connection.old }
+    requires early { IsClean S.Store connection.old → copy.now.at ≤ latest_of (tables S.Store connection.old) }
+    ensures within { StaysWithin S.Store connection.old connection.new }
+    ensures opens { Unless result (StaysOpen S.Store connection.old connection.new) }
+    ensures working { Unless result (StillWorks S.Store connection.old connection.new) }
+    ensures carries { IsClean S.Store connection.new
+        → Carries answer_view copy.now.tenant.now (λ s. plainly (machine.copy_object copy.now.at copy.now.bucket.now copy.now.key.now
+        copy.now.source_bucket.now copy.now.source_key.now copy.now.version s))
+        (tables S.Store connection.old) (tables S.Store connection.new) result }
+{
+    answers::copied(copies::copy_object(connection, copy))
 }
 
 fn get_object<S: Alter>(
@@ -250,21 +274,67 @@ fn list_objects<S: Alter>(
     answers::objects(bh_listing::objects::list_objects(connection, alloc, tenant, bucket, &asked))
 }
 
-/// Carries out an operation of a tenant, at a moment that is not after the last stamp: NotImplemented for those that
-/// the host doesn't do yet.
-pub fn operate<S: Alter>(
+/// The marker's key, and which version of it a page of versions comes after.
+fn place_of(after: &Option<VersionMarker>) -> (Option<&[u8]>, Wanted)
+    ensures { option_map (λ key. record { key = key; version = result.1 }) (option_copied result.0) ≡ option_map place_asked after.now }
+{
+    match after {
+        Some(marker) => (Some(marker.key.as_str().as_bytes()), marker.version),
+        None => (None, Wanted::Current),
+    }
+}
+
+/// A page of a listing is of 1,000 entries at most, so its size fits.
+fn list_versions<S: Alter>(
     connection: &mut Connection<S>,
     alloc: Global,
+    tenant: &TenantName,
+    bucket: &BucketName,
+    page: &Page,
+    after: &Option<VersionMarker>,
+) -> Result<Answer, StepError<Rejection>>
+    requires { Works S.Store connection.old }
+    ensures within { StaysWithin S.Store connection.old connection.new }
+    ensures opens { Unless result (StaysOpen S.Store connection.old connection.new) }
+    ensures working { Unless result (StillWorks S.Store connection.old connection.new) }
+    ensures carries { IsClean S.Store connection.new
+        → Carries answer_view tenant.now (λ s. plainly (list_versions bucket.now (page_asked page.now) (option_map place_asked after.now) s))
+        (tables S.Store connection.old) (tables S.Store connection.new) result }
+{
+    let Ok(max) = u32::try_from(page.size) else {
+        return Err(StepError::Failed(Trouble::Store));
+    };
+    let (key, version) = place_of(after);
+    let asked = Asked {
+        prefix: page.prefix.as_str().as_bytes(),
+        delimiter: page.delimiter.as_str().as_bytes(),
+        after: key,
+        max,
+    };
+    answers::versions(bh_listing::versions::list_versions(
+        connection, alloc, tenant, bucket, &asked, version,
+    ))
+}
+
+/// Carries out an operation of a tenant, at a moment that is not after the last stamp: NotImplemented for those that
+/// the host doesn't do yet. Bytes are stored in blocks of at most this size.
+pub fn operate<S: Alter, D: Digester>(
+    connection: &mut Connection<S>,
+    alloc: Global,
+    digester: &D,
+    block_size: u64,
     tenant: &TenantName,
     at: Moment,
     operation: &Operation,
     body: &[u8],
 ) -> Result<Answer, StepError<Rejection>>
     requires working { Works S.Store connection.old }
+    requires digests { IsClean S.Store connection.old → AreDigests D.digest_of (tables S.Store connection.old).blocks }
+    requires positive { 1 ≤ block_size }
     requires early { IsClean S.Store connection.old → at ≤ latest_of (tables S.Store connection.old) }
     ensures within { StaysWithin S.Store connection.old connection.new }
     ensures opens { Unless result (StaysOpen S.Store connection.old connection.new) }
-    ensures working { Unless result (StillWorks S.Store connection.old connection.new) }
+    ensures working { Unless result (StillWorksBy S.Store D.digest_of connection.old connection.new) }
     ensures carries { IsClean S.Store connection.new
         → Carries answer_view tenant.now (operated at body.now operation.now)
         (tables S.Store connection.old) (tables S.Store connection.new) result }
@@ -279,6 +349,11 @@ pub fn operate<S: Alter>(
             page,
             token,
         } => list_objects(connection, alloc, tenant, bucket, page, bytes_of(token)),
+        Operation::ListObjectVersions {
+            bucket,
+            page,
+            after,
+        } => list_versions(connection, alloc, tenant, bucket, page, after),
         Operation::GetBucketVersioning(bucket) => versioning(connection, tenant, bucket),
         Operation::PutBucketVersioning(bucket) => {
             set_versioning(connection, alloc, tenant, bucket, body)
@@ -291,7 +366,26 @@ pub fn operate<S: Alter>(
                 at,
                 bytes: body,
             };
-            put_object(connection, alloc, &object, bytes_of(checksum))
+            put_object(
+                connection,
+                alloc,
+                digester,
+                block_size,
+                &object,
+                bytes_of(checksum),
+            )
+        }
+        Operation::CopyObject { object, source } => {
+            let copy = NewCopy {
+                tenant,
+                bucket: &object.bucket,
+                key: &object.key,
+                at,
+                source_bucket: &source.object.bucket,
+                source_key: &source.object.key,
+                version: source.version,
+            };
+            copy_object(connection, &copy)
         }
         Operation::GetObject {
             object,

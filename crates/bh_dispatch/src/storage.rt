@@ -1,3 +1,5 @@
+ghost use Rattle.std.specs.Prelude.{◌≡◌, ◌≤◌};
+
 use crate::operations;
 use bh_event::event::Command;
 use bh_operation::operation::Operation;
@@ -6,13 +8,21 @@ use bh_storage::answer::Answer;
 use bh_storage::error::{StepError, Trouble};
 use bh_storage::storage::Storage;
 use bh_types::access_key::AccessKeyId;
-use bh_types::limits::Limits;
+use bh_types::limits::{Limits, Tuning};
 use bh_types::moment::Moment;
 use bh_types::names::TenantName;
 use bh_types::refusal::Refusal;
 use bh_types::rejection::Rejection;
 use sqlite::Alter;
 use std::alloc::Global;
+
+/// The size of the blocks that bytes are stored in.
+fn block_size_of(tuning: &Tuning) -> u64
+    ensures is { result ≡ tuning.now.block_size }
+    ensures positive { 1 ≤ result }
+{
+    tuning.block_size
+}
 
 /// A host as a storage of buckets and objects.
 #[derive(Drop)]
@@ -23,12 +33,15 @@ pub struct HostStorage<S: Alter + Drop, D: Digester + Drop> {
 
 impl<S: Alter + Drop, D: Digester + Drop> Storage for HostStorage<S, D> {
     ghost use Rattle.bh_schema.specs.Storage as storage;
+    ghost use Rattle.bh_view.specs.Bodies.{IsSoundHost};
 
     ghost seen = { λ h. storage.seen S.Store h.host };
 
     ghost IsIntact = { λ h. storage.IsIntact S.Store h.host };
 
     ghost IsOpen = { λ h. storage.IsOpen S.Store h.host };
+
+    ghost IsSound = { IsSoundHost D.digest_of };
 
     ghost left = { λ h. storage.left S.Store h.host };
 
@@ -74,9 +87,12 @@ impl<S: Alter + Drop, D: Digester + Drop> Storage for HostStorage<S, D> {
         operation: &Operation,
         body: &[u8],
     ) -> Result<Answer, StepError<Rejection>> {
+        let block_size = block_size_of(&self.host.tuning);
         operations::operate(
             &mut self.host.connection,
             alloc,
+            &self.host.digester,
+            block_size,
             tenant,
             at,
             operation,

@@ -8,12 +8,9 @@ use Rattle.bh_types.specs.Ids.{upload_text, version_text}
 use Rattle.bh_docs.specs.Documents.{member_if, natural}
 use Rattle.bh_docs.specs.Pages.{prefix_data, common_data, item_data, version_data, version_members, upload_data, part_data, objects_data, versions_data, uploads_data, parts_data}
 use Rattle.bh_types.specs.Tokens.{token_text}
-use Rattle.bh_model.specs.Pages.{ObjectsListed}
+use Rattle.bh_model.specs.Pages.{ObjectsListed, StoredItem, VersionItem, VersionsListed}
 use Rattle.bh_docs.specs.declared.parts.PartsPage.{PartsPage}
 use Rattle.bh_docs.specs.declared.uploads.UploadsPage.{UploadsPage}
-use Rattle.bh_docs.specs.declared.versions.StoredObject.{StoredObject}
-use Rattle.bh_docs.specs.declared.versions.VersionEntry.{VersionEntry}
-use Rattle.bh_docs.specs.declared.versions.VersionsPage.{VersionsPage}
 
 -- a list has no float if no entry has one
 pub items_have_float-map : {A : Type 0} (shown : A → Data) → ((a : A) → has_float (shown a) ≡ false)
@@ -28,7 +25,7 @@ members_have_float-member_if : {A : Type 0} (shown : A → Data) → ((a : A) �
 members_have_float-member_if shown plain name None rest = refl
 members_have_float-member_if shown plain name (Some a) rest = rw (plain a) refl
 
-members_have_float-version_members : (v : VersionEntry) (o : Option StoredObject) → members_have_float (version_members v o) ≡ false
+members_have_float-version_members : (v : VersionItem) (o : Option StoredItem) → members_have_float (version_members v o) ≡ false
 members_have_float-version_members v None = refl
 members_have_float-version_members v (Some o) = refl
 
@@ -56,11 +53,11 @@ has_float-uploads_data p =
       items_have_float-map upload_data (λ a. refl) p.uploads.items,
     ) refl
 
-pub has_float-versions_data : (p : VersionsPage) → has_float (versions_data p) ≡ false
+pub has_float-versions_data : (p : VersionsListed) → has_float (versions_data p) ≡ false
 has_float-versions_data p =
     rw (
-      items_have_float-map prefix_data (λ a. refl) p.prefixes.items,
-      members_have_float-member_if (λ n. string (string_bytes n.name)) (λ a. refl) (codes "NextKeyMarker") p.next,
+      items_have_float-map common_data (λ a. refl) p.prefixes,
+      members_have_float-member_if (λ n. string n.name) (λ a. refl) (codes "NextKeyMarker") p.next,
       members_have_float-member_if (λ id. string (version_text id)) (λ a. refl) (codes "NextVersionIdMarker") (option_and_then (λ n. n.id) p.next),
-      items_have_float-map version_data (λ v. members_have_float-version_members v v.object) p.versions.items,
+      items_have_float-map version_data (λ v. members_have_float-version_members v v.object) p.versions,
     ) refl

@@ -5,7 +5,7 @@ use Rattle.serde_json.specs.Data.{Data}
 use Rattle.bh_docs.specs.Documents.{with_member}
 use Rattle.bh_docs.specs.Pages.{uploads_with, versions_with}
 use Rattle.bh_docs.specs.declared.uploads.UploadsPage.{UploadsPage}
-use Rattle.bh_docs.specs.declared.versions.VersionsPage.{VersionsPage}
+use Rattle.bh_model.specs.Pages.{VersionsListed}
 
 pub with_member-uploads_with : (p : UploadsPage) (name id : Option Data)
     → with_member (codes "NextUploadIdMarker") id (with_member (codes "NextKeyMarker") name (uploads_with p None None)) ≡ uploads_with p name id
@@ -14,7 +14,7 @@ with_member-uploads_with p None (Some i) = refl
 with_member-uploads_with p (Some n) None = refl
 with_member-uploads_with p (Some n) (Some i) = refl
 
-pub with_member-versions_with : (p : VersionsPage) (name id : Option Data)
+pub with_member-versions_with : (p : VersionsListed) (name id : Option Data)
     → with_member (codes "NextVersionIdMarker") id (with_member (codes "NextKeyMarker") name (versions_with p None None)) ≡ versions_with p name id
 with_member-versions_with p None None = refl
 with_member-versions_with p None (Some i) = refl

@@ -7,7 +7,7 @@ use Rattle.serde_json.specs.Written.{compact_text}
 use Rattle.bh_types.specs.Ids.{version_text, upload_text}
 use Rattle.bh_docs.specs.Documents.{natural, moment, array_of, member_if}
 use Rattle.bh_model.specs.State.{Octets}
-use Rattle.bh_model.specs.Pages.{ObjectItem, ObjectsListed}
+use Rattle.bh_model.specs.Pages.{ObjectItem, ObjectsListed, StoredItem, VersionItem, VersionNext, VersionsListed}
 use Rattle.bh_types.specs.Tokens.{token_text}
 use Rattle.bh_docs.specs.declared.objects.ObjectEntry.{ObjectEntry}
 use Rattle.bh_docs.specs.declared.objects.ObjectsPage.{ObjectsPage}
@@ -93,56 +93,79 @@ objects_text p = compact_text (objects_data p)
 
 -- ---- ListObjectVersions
 
+-- what contracts see of a page
+abbrev pub stored_view : StoredObject → StoredItem
+stored_view o = record { size = o.size; checksum = string_bytes o.checksum }
+
+abbrev pub version_view : VersionEntry → VersionItem
+version_view v = record { key = string_bytes v.key; id = v.id; moment = v.modified; latest = v.latest; object = option_map stored_view v.object }
+
+abbrev pub next_view : VersionsNext → VersionNext
+next_view n = record { name = string_bytes n.name; id = n.id }
+
+abbrev pub versions_view : VersionsPage → VersionsListed
+versions_view p = record {
+  bucket = string_bytes p.bucket;
+  prefix = string_bytes p.prefix;
+  max = p.max;
+  prefixes = map prefix_view p.prefixes.items;
+  versions = map version_view p.versions.items;
+  next = option_map next_view p.next;
+}
+
 -- a version, or a delete marker where no object is stored
-abbrev pub version_end : VersionEntry → Members → Members
+abbrev pub version_end : VersionItem → Members → Members
 version_end v rest =
     member (codes "IsLatest") (boolean v.latest)
-    (member (codes "Key") (string (string_bytes v.key))
-    (member (codes "LastModified") (moment v.modified) rest))
+    (member (codes "Key") (string v.key)
+    (member (codes "LastModified") (moment v.moment) rest))
 
-abbrev pub version_id : VersionEntry → Members
+abbrev pub version_id : VersionItem → Members
 version_id v = member (codes "VersionId") (string (version_text v.id)) no_members
 
-abbrev pub version_members : VersionEntry → Option StoredObject → Members
+abbrev pub version_members : VersionItem → Option StoredItem → Members
 version_members v None = member (codes "DeleteMarker") (boolean true) (version_end v (version_id v))
 version_members v (Some o) =
-    member (codes "ChecksumSHA256") (string (string_bytes o.checksum))
+    member (codes "ChecksumSHA256") (string o.checksum)
     (member (codes "DeleteMarker") (boolean false)
     (version_end v (member (codes "Size") (natural o.size) (version_id v))))
 
-abbrev pub version_data : VersionEntry → Data
+abbrev pub version_data : VersionItem → Data
 version_data v = object (version_members v v.object)
 
+abbrev pub version_entry_data : VersionEntry → Data
+version_entry_data v = version_data (version_view v)
+
 -- Amazon S3 API Reference, ListObjectVersions, as JSON
-abbrev pub versions_with : VersionsPage → Option Data → Option Data → Data
+abbrev pub versions_with : VersionsListed → Option Data → Option Data → Data
 versions_with p name id =
-    object (member (codes "CommonPrefixes") (array_of prefix_data p.prefixes.items)
+    object (member (codes "CommonPrefixes") (array_of common_data p.prefixes)
     (member (codes "IsTruncated") (boolean (is_some p.next))
     (member (codes "MaxKeys") (natural p.max)
-    (member (codes "Name") (string (string_bytes p.bucket))
+    (member (codes "Name") (string p.bucket)
     (member_if (codes "NextKeyMarker") name
     (member_if (codes "NextVersionIdMarker") id
-    (member (codes "Prefix") (string (string_bytes p.prefix))
-    (member (codes "Versions") (array_of version_data p.versions.items) no_members))))))))
+    (member (codes "Prefix") (string p.prefix)
+    (member (codes "Versions") (array_of version_data p.versions) no_members))))))))
 
 -- a page with neither lists nor markers
-abbrev pub versions_plain : VersionsPage → Data
+abbrev pub versions_plain : VersionsListed → Data
 versions_plain p =
     object (member (codes "IsTruncated") (boolean (is_some p.next))
     (member (codes "MaxKeys") (natural p.max)
-    (member (codes "Name") (string (string_bytes p.bucket))
-    (member (codes "Prefix") (string (string_bytes p.prefix)) no_members))))
+    (member (codes "Name") (string p.bucket)
+    (member (codes "Prefix") (string p.prefix) no_members))))
 
-abbrev pub version_name_data : Option VersionsNext → Option Data
-version_name_data next = option_map (λ n. string (string_bytes n.name)) next
+abbrev pub version_name_data : Option VersionNext → Option Data
+version_name_data next = option_map (λ n. string n.name) next
 
-abbrev pub version_id_data : Option VersionsNext → Option Data
+abbrev pub version_id_data : Option VersionNext → Option Data
 version_id_data next = option_map (λ id. string (version_text id)) (option_and_then (λ n. n.id) next)
 
-abbrev pub versions_data : VersionsPage → Data
+abbrev pub versions_data : VersionsListed → Data
 versions_data p = versions_with p (version_name_data p.next) (version_id_data p.next)
 
-abbrev pub versions_text : VersionsPage → List ℕ
+abbrev pub versions_text : VersionsListed → List ℕ
 versions_text p = compact_text (versions_data p)
 
 -- ---- ListMultipartUploads

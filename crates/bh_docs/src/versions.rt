@@ -1,6 +1,6 @@
 //! Pages of ListObjectVersions.
 
-ghost use Rattle.std.specs.Prelude.{◌≡◌, Some, None, IfOk};
+ghost use Rattle.std.specs.Prelude.{◌≡◌, Some, None, option_map, IfOk};
 ghost use Rattle.std.specs.String.{string_bytes};
 ghost use Rattle.serde_json.specs.Data.{object};
 ghost use Rattle.serde_json.specs.View.{view};
@@ -35,9 +35,9 @@ pub struct VersionEntry {
 }
 
 impl Listed for VersionEntry {
-    ghost use Rattle.bh_docs.specs.Pages.{version_data};
+    ghost use Rattle.bh_docs.specs.Pages.{version_entry_data};
 
-    ghost shown = { version_data };
+    ghost shown = { version_entry_data };
 
     fn value(&self, alloc: Global) -> Result<Value, AllocError> {
         match &self.object {
@@ -52,7 +52,7 @@ fn version_value<'a>(
     version: &'a VersionEntry,
     stored: &'a StoredObject,
 ) -> Result<Value, AllocError>
-    ensures { IfOk result (λ value. view value ≡ object (spec.version_members version.now (Some stored.now))) }
+    ensures { IfOk result (λ value. view value ≡ object (spec.version_members (spec.version_view version.now) (Some (spec.stored_view stored.now)))) }
 {
     object_of(
         alloc,
@@ -69,7 +69,7 @@ fn version_value<'a>(
 }
 
 fn marker_value(alloc: Global, marker: &VersionEntry) -> Result<Value, AllocError>
-    ensures { IfOk result (λ value. view value ≡ object (spec.version_members marker.now None)) }
+    ensures { IfOk result (λ value. view value ≡ object (spec.version_members (spec.version_view marker.now) None)) }
 {
     object_of(
         alloc,
@@ -108,14 +108,14 @@ pub struct VersionsPage {
 /// The answer to ListObjectVersions (Amazon S3 API Reference): compact JSON with its members in byte order. An error says that
 /// memory ran out.
 pub fn versions_document(alloc: Global, page: &VersionsPage) -> Result<String, AllocError>
-    ensures { IfOk result (λ text. string_bytes text ≡ spec.versions_text page.now) }
+    ensures { IfOk result (λ text. string_bytes text ≡ spec.versions_text (spec.versions_view page.now)) }
 {
     let document = versions_value(alloc, page)?;
     print(alloc, &document)
 }
 
 fn versions_value(alloc: Global, page: &VersionsPage) -> Result<Value, AllocError>
-    ensures { IfOk result (λ value. view value ≡ spec.versions_data page.now) }
+    ensures { IfOk result (λ value. view value ≡ spec.versions_data (spec.versions_view page.now)) }
 {
     let document = versions_without_next(alloc, page)?;
     let document = with_shown(alloc, document, "NextKeyMarker", &next_name(&page.next))?;
@@ -123,7 +123,7 @@ fn versions_value(alloc: Global, page: &VersionsPage) -> Result<Value, AllocErro
 }
 
 fn versions_without_next(alloc: Global, page: &VersionsPage) -> Result<Value, AllocError>
-    ensures { IfOk result (λ value. view value ≡ spec.versions_with page.now None None) }
+    ensures { IfOk result (λ value. view value ≡ spec.versions_with (spec.versions_view page.now) None None) }
 {
     let document = versions_without_lists(alloc, page)?;
     let document = with_entries(alloc, document, "CommonPrefixes", page.prefixes.as_slice())?;
@@ -131,7 +131,7 @@ fn versions_without_next(alloc: Global, page: &VersionsPage) -> Result<Value, Al
 }
 
 fn versions_without_lists(alloc: Global, page: &VersionsPage) -> Result<Value, AllocError>
-    ensures { IfOk result (λ value. view value ≡ spec.versions_plain page.now) }
+    ensures { IfOk result (λ value. view value ≡ spec.versions_plain (spec.versions_view page.now)) }
 {
     object_of(
         alloc,
@@ -145,7 +145,7 @@ fn versions_without_lists(alloc: Global, page: &VersionsPage) -> Result<Value, A
 }
 
 fn next_name(next: &Option<VersionsNext>) -> Shown<'_>
-    ensures { shown_data result ≡ spec.version_name_data next.now }
+    ensures { shown_data result ≡ spec.version_name_data (option_map spec.next_view next.now) }
 {
     match next {
         Some(next) => Shown::Text(next.name.as_str()),
@@ -154,7 +154,7 @@ fn next_name(next: &Option<VersionsNext>) -> Shown<'_>
 }
 
 fn next_id(next: &Option<VersionsNext>) -> Shown<'_>
-    ensures { shown_data result ≡ spec.version_id_data next.now }
+    ensures { shown_data result ≡ spec.version_id_data (option_map spec.next_view next.now) }
 {
     match next {
         Some(VersionsNext { id: Some(id), .. }) => Shown::Version(*id),

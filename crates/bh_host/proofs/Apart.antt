@@ -7,7 +7,7 @@ use Rattle.bh_http.specs.declared.values.Allow.{Allow}
 use Rattle.bh_http.specs.declared.values.ContentRange.{ContentRange}
 use Rattle.bh_machine.specs.Refused.{is_step_refusal}
 use Rattle.bh_http.specs.Responses.{response_text, refusal_text}
-use Rattle.bh_model.specs.Operations.{Answer, Done, Removed, Stored, Head, Object, Buckets, Versioning, Objects}
+use Rattle.bh_model.specs.Operations.{Answer, Done, Removed, Stored, Copied, Head, Object, Buckets, Versioning, Objects, Versions}
 use Rattle.bh_model.specs.State.{Octets}
 use Rattle.bh_types.specs.declared.range.RangePlan.TheVariants.{Whole, Part}
 use Rattle.bh_types.specs.declared.refusal.Refusal.{Refusal}
@@ -32,6 +32,7 @@ pub answer_apart : (answer : Answer) (body : Octets) → is_fixed_response (resp
 unfolding digits
 answer_apart Done body = refl
 answer_apart (Stored id checksum) body = refl
+answer_apart (Copied id moment checksum) body = refl
 answer_apart (Removed id marker) body = refl
 answer_apart (Head id size checksum) body = refl
 answer_apart (Object id size Whole bytes checksum) body = refl
@@ -39,6 +40,7 @@ answer_apart (Object id size (Part first last) bytes checksum) body = refl
 answer_apart (Buckets buckets) body = refl
 answer_apart (Versioning mode) body = refl
 answer_apart (Objects page) body = refl
+answer_apart (Versions page) body = refl
 
 pub refused_apart : (refusal : Refusal) (document : Octets) (range : Option ContentRange) (allow : Option Allow) (marker : Bool) (body : Octets) → is_step_refusal refusal ≡ true
     → is_fixed_response (response_text (record (refused refusal document) { content_range = range; allow = allow; delete_marker = marker; body = body })) ≡ false

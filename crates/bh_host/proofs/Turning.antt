@@ -29,7 +29,9 @@ use Rattle.bh_types.specs.declared.error.RequestError.TheVariants as error
 use Rattle.bh_types.specs.declared.refusal.Refusal.{Refusal}
 use Rattle.bh_types.specs.declared.refusal.Refusal.TheVariants.{InvalidName}
 use Rattle.bh_types.specs.declared.rejection.Rejection.{Rejection}
+use Rattle.bh_view.specs.Becomes.{KeepsShared}
 use Rattle.bh_view.specs.View.{view, latest_of, limits_in, rows_purged}
+use Rattle.bh_view.proofs.SharedLemmas.{shared_none}
 use Rattle.bh_host.specs.Replies.{text}
 use Rattle.bh_host.specs.Turns.{TurnedFor, Turned, Turns, TurnsRequest, Tells, TellsOrder, TellsUnread, Applied}
 
@@ -46,7 +48,7 @@ within_then IsIntact IsOpen seen left a b c first opens next = record {
   limits = next.limits ∙ first.limits;
 }
 
-pub limits_stay : (old new : Seen) → IsWorking old → IsWorking new → new.limits ≡ old.limits → limits_in new.now ≡ limits_in old.now
+pub limits_stay : {IsSound : Tables → Type 0} (old new : Seen) → IsWorking IsSound old → IsWorking IsSound new → new.limits ≡ old.limits → limits_in new.now ≡ limits_in old.now
 limits_stay old new before after same = after.limits ∙ same ∙ sym before.limits
 
 pub if_ordered : {X Y : Type 0} (r : Result (Vec ℕ Global) Y) (order : Order) (outcome : Result X (StepError Refusal)) (P : Type 0) (Q : List ℕ → Type 0)
@@ -65,8 +67,8 @@ module _ (t : Octets) (m : ℕ) (act : Act) (old mid new : Tables) (reply : List
   changed result purges is = ap (settled (purged_tenant (view old t) m)) (ap (change m act) (sym purges.own) ∙ is)
 
   turned_done : (answer : Answer) → owner_of act ≡ Some t → Purges t m old mid → change m act (view mid t) ≡ Ok (answer, view new t)
-      → OthersSame t mid new → latest_of new ≡ latest_of mid → limits_in new ≡ limits_in old → reply ≡ text act (Ok answer) → Turned act m old new reply
-  turned_done answer owner purges is others latest limits told =
+      → OthersSame t mid new → latest_of new ≡ latest_of mid → KeepsShared mid new → limits_in new ≡ limits_in old → reply ≡ text act (Ok answer) → Turned act m old new reply
+  turned_done answer owner purges is others latest shared limits told =
       let stepped = changed (Ok (answer, view new t)) purges is in
       let P : Result Answer Rejection × Option State → Type 0 = λ s. IfErr s.0 (λ _. new ≡ rows_purged t m old) in
       let O : Option Octets → Type 0 = λ o. TurnedFor o m act old new reply in
@@ -79,6 +81,7 @@ module _ (t : Octets) (m : ℕ) (act : Act) (old mid new : Tables) (reply : List
         });
         latest = latest ∙ purges.latest;
         limits = limits;
+        shared = subst (λ (x : Tables). KeepsShared x new) purges.is shared;
       }
 
   turned_refused : (e : Rejection) → owner_of act ≡ Some t → Purges t m old mid → change m act (view mid t) ≡ Err e → new ≡ mid
@@ -96,6 +99,7 @@ module _ (t : Octets) (m : ℕ) (act : Act) (old mid new : Tables) (reply : List
         });
         latest = ap latest_of same ∙ purges.latest;
         limits = limits;
+        shared = shared_none old new (same ∙ purges.is);
       }
 
 owner_is : (r : Taken) (key : AccessKeyId) → key_given r ≡ Some key → owner_of (Asked (Ok r)) ≡ Some key.tenant
@@ -105,7 +109,7 @@ pub turned_request : {X : Type 0} (shown : X → Answer) (key : AccessKeyId) (m 
     → key_given r ≡ Some key → Purges key.tenant m old mid → Carries shown key.tenant (requested m r) mid new outcome → limits_in new ≡ limits_in old
     → Tells shown (Asked (Ok r)) outcome reply → Turned (Asked (Ok r)) m old new reply
 turned_request shown key m r old mid new (Ok x) reply is purges gives limits told =
-    turned_done key.tenant m (Asked (Ok r)) old mid new reply (shown x) (owner_is r key is) purges gives.gives gives.others gives.latest limits told
+    turned_done key.tenant m (Asked (Ok r)) old mid new reply (shown x) (owner_is r key is) purges gives.gives gives.others gives.latest gives.shared limits told
 turned_request shown key m r old mid new (Err (Refused e)) reply is purges gives limits told =
     turned_refused key.tenant m (Asked (Ok r)) old mid new reply e (owner_is r key is) purges gives.0 gives.1 limits told
 turned_request shown key m r old mid new (Err (Failed trouble)) reply is purges gives limits told = absurd told
@@ -128,7 +132,7 @@ turned_order t m order old mid new (Ok x) reply owner purges gives limits told =
     let is : tenant_of order ≡ t = named_is (tenant_of order) t owner in
     let G : Octets → Type 0 = λ u. ordered order (view mid u) ≡ Ok (Done, view new u) in
     let O : Octets → Type 0 = λ u. OthersSame u mid new in
-    turned_done t m (Commanded order) old mid new reply Done owner purges (ap plainly (subst G is gives.gives)) (subst O is gives.others) gives.latest limits told
+    turned_done t m (Commanded order) old mid new reply Done owner purges (ap plainly (subst G is gives.gives)) (subst O is gives.others) gives.latest gives.shared limits told
 turned_order t m order old mid new (Err (Refused r)) reply owner purges gives limits told =
     let is : tenant_of order ≡ t = named_is (tenant_of order) t owner in
     let G : Octets → Type 0 = λ u. ordered order (view mid u) ≡ Err r in
@@ -144,6 +148,7 @@ turned_stranger act at e old reply none is told =
       judged = subst O (sym none) (record { told = told ∙ ap (λ (o : Result Outcome Rejection). text act (settled None o).0) (sym is); same = refl });
       latest = refl;
       limits = refl;
+      shared = shared_none old old refl;
     }
 
 pub turned_nobody : (at : ℕ) (r : Taken) (e : Rejection) (old : Tables) (reply : List ℕ) → key_given r ≡ None → ((m : ℕ) → requested m r None ≡ Err e)

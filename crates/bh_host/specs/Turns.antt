@@ -17,6 +17,7 @@ use Rattle.bh_storage.specs.Calls.{Seen, OthersSame}
 use Rattle.bh_storage.specs.declared.error.StepError.{StepError}
 use Rattle.bh_storage.specs.declared.error.StepError.TheVariants.{Refused, Failed}
 use Rattle.bh_tables.specs.Typed.{Tables}
+use Rattle.bh_view.specs.Becomes.{KeepsShared}
 use Rattle.bh_view.specs.View.{view, latest_of, limits_in, with_latest, rows_purged}
 use Rattle.bh_host.specs.Replies.{text, caller_of, clock_text, wanting_text}
 
@@ -39,11 +40,12 @@ abbrev pub TurnedFor : Option Octets → ℕ → Act → Tables → Tables → L
 TurnedFor (Some t) m act stamped new reply = Owned t m act stamped new reply
 TurnedFor None m act stamped new reply = IsNobody m act stamped new reply
 
--- an act is judged by whose it is
+-- an act is judged by whose it is; what all tenants share is kept
 pub record Turned (act : Act) (m : ℕ) (stamped new : Tables) (reply : List ℕ) : Type 0 where
   pub judged : TurnedFor (owner_of act) m act stamped new reply
   pub latest : latest_of new ≡ latest_of stamped
   pub limits : limits_in new ≡ limits_in stamped
+  pub shared : KeepsShared stamped new
 
 abbrev pub Turns : HostLimits → Message → ℕ → Tables → Tables → List ℕ → Type 0
 Turns limits message m stamped new reply = (act : Act) × Acted limits message act × Turned act m stamped new reply

@@ -1,16 +1,21 @@
 ghost use Rattle.std.specs.Prelude.{◌≡◌, map, IfOk};
 ghost use Rattle.bh_docs.specs.Documents.{bucket_view};
-ghost use Rattle.bh_docs.specs.Pages.{page_view};
+ghost use Rattle.bh_docs.specs.Pages.{page_view, versions_view};
 ghost use Rattle.bh_http.specs.Answers.{response_view};
 ghost use Rattle.bh_host.specs.Replies as spec;
-ghost use Rattle.bh_model.specs.Operations.{Buckets, Versioning, Objects};
-ghost use Rattle.bh_storage.specs.Answers.{answer_view, removed_answer, stored_answer, head_answer, found_answer};
+ghost use Rattle.bh_model.specs.Operations.{Buckets, Versioning, Objects, Versions};
+ghost use Rattle.bh_storage.specs.Answers.{answer_view, removed_answer, stored_answer, copied_answer, head_answer, found_answer};
 
-use bh_docs::{BucketEntry, ObjectsPage, buckets_document, objects_document, versioning_document};
+use bh_docs::{
+    BucketEntry, ObjectsPage, VersionsPage, buckets_document, copied_document, objects_document,
+    versioning_document, versions_document,
+};
 use bh_http::StatusCode;
 use bh_http::response::Response;
 use bh_http::values::{ContentRange, ContentType};
-use bh_storage::answer::{Answer, FoundVersion, ObjectHead, RemovedEntry, StoredVersion};
+use bh_storage::answer::{
+    Answer, CopiedVersion, FoundVersion, ObjectHead, RemovedEntry, StoredVersion,
+};
 use bh_types::bucket_state::BucketState;
 use bh_types::range::RangePlan;
 use std::alloc::{AllocError, Global};
@@ -23,11 +28,13 @@ pub fn response_to(alloc: Global, answer: Answer) -> Result<Response, AllocError
         Answer::Done => Ok(Response::empty(alloc, StatusCode::OK)),
         Answer::Removed(entry) => Ok(removed(alloc, entry)),
         Answer::Stored(version) => Ok(stored(alloc, version)),
+        Answer::Copied(version) => copied(alloc, &version),
         Answer::Head(head) => Ok(headed(alloc, head)),
         Answer::Found(version) => Ok(found(alloc, version)),
         Answer::Buckets(buckets) => listed(alloc, &buckets),
         Answer::Versioning(state) => versioning(alloc, state),
         Answer::Objects(page) => objects(alloc, &page),
+        Answer::Versions(page) => versions(alloc, &page),
     }
 }
 
@@ -47,6 +54,15 @@ fn stored(alloc: Global, version: StoredVersion) -> Response
     response.checksum = Some(version.checksum);
     response.version_id = version.id;
     response
+}
+
+fn copied(alloc: Global, version: &CopiedVersion) -> Result<Response, AllocError>
+    ensures { IfOk result (λ response. response_view response ≡ spec.response_to (copied_answer version.now)) }
+{
+    let document = copied_document(alloc, &version.checksum, version.modified)?;
+    let mut response = Response::with_document(alloc, StatusCode::OK, document.into_bytes());
+    response.version_id = version.id;
+    Ok(response)
 }
 
 /// The head of an object, which no byte follows.
@@ -112,5 +128,12 @@ fn objects(alloc: Global, page: &ObjectsPage) -> Result<Response, AllocError>
     ensures { IfOk result (λ response. response_view response ≡ spec.response_to (Objects (page_view page.now))) }
 {
     let document = objects_document(alloc, page)?;
+    Ok(Response::with_document(alloc, StatusCode::OK, document.into_bytes()))
+}
+
+fn versions(alloc: Global, page: &VersionsPage) -> Result<Response, AllocError>
+    ensures { IfOk result (λ response. response_view response ≡ spec.response_to (Versions (versions_view page.now))) }
+{
+    let document = versions_document(alloc, page)?;
     Ok(Response::with_document(alloc, StatusCode::OK, document.into_bytes()))
 }

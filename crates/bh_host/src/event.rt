@@ -47,11 +47,11 @@ fn serve_tenant<H: Storage>(
     at: Moment,
 ) -> Result<Vec<u8>, Trouble>
     requires keyed { key_given (request_view request.now) ≡ Some key.now }
-    requires working { Clean H.IsIntact H.IsOpen host.old → IsWorking (H.seen host.old) }
+    requires working { Clean H.IsIntact H.IsOpen host.old → IsWorking H.IsSound (H.seen host.old) }
     requires early { Clean H.IsIntact H.IsOpen host.old → at ≤ latest_of (H.seen host.old).now }
     ensures within { Within H.IsIntact H.IsOpen H.seen H.left host.old host.new }
     ensures opens { OnOk result (H.IsOpen host.old → H.IsIntact host.new → H.IsOpen host.new) }
-    ensures working { OnOk result (Clean H.IsIntact H.IsOpen host.new → IsWorking (H.seen host.new)) }
+    ensures working { OnOk result (Clean H.IsIntact H.IsOpen host.new → IsWorking H.IsSound (H.seen host.new)) }
     ensures turned { IfOk result (λ bytes. Clean H.IsIntact H.IsOpen host.new
         → Turned (Asked (Ok (request_view request.now))) at (H.seen host.old).now (H.seen host.new).now bytes.items) }
 {
@@ -87,11 +87,11 @@ fn serve_read<H: Storage>(
     request: &Request,
     at: Moment,
 ) -> Result<Vec<u8>, Trouble>
-    requires working { Clean H.IsIntact H.IsOpen host.old → IsWorking (H.seen host.old) }
+    requires working { Clean H.IsIntact H.IsOpen host.old → IsWorking H.IsSound (H.seen host.old) }
     requires early { Clean H.IsIntact H.IsOpen host.old → at ≤ latest_of (H.seen host.old).now }
     ensures within { Within H.IsIntact H.IsOpen H.seen H.left host.old host.new }
     ensures opens { OnOk result (H.IsOpen host.old → H.IsIntact host.new → H.IsOpen host.new) }
-    ensures working { OnOk result (Clean H.IsIntact H.IsOpen host.new → IsWorking (H.seen host.new)) }
+    ensures working { OnOk result (Clean H.IsIntact H.IsOpen host.new → IsWorking H.IsSound (H.seen host.new)) }
     ensures turned { IfOk result (λ bytes. Clean H.IsIntact H.IsOpen host.new
         → Turned (Asked (Ok (request_view request.now))) at (H.seen host.old).now (H.seen host.new).now bytes.items) }
 {
@@ -111,11 +111,11 @@ fn serve_request<H: Storage>(
     bytes: &[u8],
     at: Moment,
 ) -> Result<Vec<u8>, Trouble>
-    requires working { Clean H.IsIntact H.IsOpen host.old → IsWorking (H.seen host.old) }
+    requires working { Clean H.IsIntact H.IsOpen host.old → IsWorking H.IsSound (H.seen host.old) }
     requires early { Clean H.IsIntact H.IsOpen host.old → at ≤ latest_of (H.seen host.old).now }
     ensures within { Within H.IsIntact H.IsOpen H.seen H.left host.old host.new }
     ensures opens { OnOk result (H.IsOpen host.old → H.IsIntact host.new → H.IsOpen host.new) }
-    ensures working { OnOk result (Clean H.IsIntact H.IsOpen host.new → IsWorking (H.seen host.new)) }
+    ensures working { OnOk result (Clean H.IsIntact H.IsOpen host.new → IsWorking H.IsSound (H.seen host.new)) }
     ensures turned { IfOk result (λ text. Clean H.IsIntact H.IsOpen host.new
         → TurnsRequest (H.seen host.old).limits bytes.now at (H.seen host.old).now (H.seen host.new).now text.items) }
 {
@@ -141,10 +141,10 @@ fn serve_named_command<H: Storage>(
     at: Moment,
 ) -> Result<Vec<u8>, Trouble>
     requires named { owner_of_act (Commanded (order_of command.now)) ≡ Some tenant.now }
-    requires working { Clean H.IsIntact H.IsOpen host.old → IsWorking (H.seen host.old) }
+    requires working { Clean H.IsIntact H.IsOpen host.old → IsWorking H.IsSound (H.seen host.old) }
     ensures within { Within H.IsIntact H.IsOpen H.seen H.left host.old host.new }
     ensures opens { OnOk result (H.IsOpen host.old → H.IsIntact host.new → H.IsOpen host.new) }
-    ensures working { OnOk result (Clean H.IsIntact H.IsOpen host.new → IsWorking (H.seen host.new)) }
+    ensures working { OnOk result (Clean H.IsIntact H.IsOpen host.new → IsWorking H.IsSound (H.seen host.new)) }
     ensures turned { IfOk result (λ bytes. Clean H.IsIntact H.IsOpen host.new
         → Turned (Commanded (order_of command.now)) at (H.seen host.old).now (H.seen host.new).now bytes.items) }
 {
@@ -160,10 +160,10 @@ fn serve_command<H: Storage>(
     command: &Command,
     at: Moment,
 ) -> Result<Vec<u8>, Trouble>
-    requires working { Clean H.IsIntact H.IsOpen host.old → IsWorking (H.seen host.old) }
+    requires working { Clean H.IsIntact H.IsOpen host.old → IsWorking H.IsSound (H.seen host.old) }
     ensures within { Within H.IsIntact H.IsOpen H.seen H.left host.old host.new }
     ensures opens { OnOk result (H.IsOpen host.old → H.IsIntact host.new → H.IsOpen host.new) }
-    ensures working { OnOk result (Clean H.IsIntact H.IsOpen host.new → IsWorking (H.seen host.new)) }
+    ensures working { OnOk result (Clean H.IsIntact H.IsOpen host.new → IsWorking H.IsSound (H.seen host.new)) }
     ensures turned { IfOk result (λ bytes. Clean H.IsIntact H.IsOpen host.new
         → Turned (Commanded (order_of command.now)) at (H.seen host.old).now (H.seen host.new).now bytes.items) }
 {
@@ -180,11 +180,11 @@ fn serve<H: Storage>(
     event: &Event,
     at: Moment,
 ) -> Result<Vec<u8>, Trouble>
-    requires working { Clean H.IsIntact H.IsOpen host.old → IsWorking (H.seen host.old) }
+    requires working { Clean H.IsIntact H.IsOpen host.old → IsWorking H.IsSound (H.seen host.old) }
     requires early { Clean H.IsIntact H.IsOpen host.old → at ≤ latest_of (H.seen host.old).now }
     ensures within { Within H.IsIntact H.IsOpen H.seen H.left host.old host.new }
     ensures opens { OnOk result (H.IsOpen host.old → H.IsIntact host.new → H.IsOpen host.new) }
-    ensures working { OnOk result (Clean H.IsIntact H.IsOpen host.new → IsWorking (H.seen host.new)) }
+    ensures working { OnOk result (Clean H.IsIntact H.IsOpen host.new → IsWorking H.IsSound (H.seen host.new)) }
     ensures turned { IfOk result (λ bytes. Clean H.IsIntact H.IsOpen host.new
         → Turns (H.seen host.old).limits (arrival event.now).message at (H.seen host.old).now (H.seen host.new).now bytes.items) }
 {
@@ -201,11 +201,11 @@ fn try_apply<H: Storage>(
     event: &Event,
 ) -> Result<(Moment, Vec<u8>), Trouble>
     requires in_range { (arrival event.now).reading ≤ last_reading }
-    requires rest { Clean H.IsIntact H.IsOpen host.old → IsAtRest (H.seen host.old) }
+    requires rest { Clean H.IsIntact H.IsOpen host.old → IsAtRest H.IsSound (H.seen host.old) }
     ensures intact { H.IsIntact host.new → H.IsIntact host.old }
     ensures opened { H.IsIntact host.new → H.IsOpen host.new → H.IsOpen host.old }
     ensures limits { (H.seen host.new).limits ≡ (H.seen host.old).limits }
-    ensures ready { OnOk result (Clean H.IsIntact H.IsOpen host.new → IsAtRest (H.seen host.new)) }
+    ensures ready { OnOk result (Clean H.IsIntact H.IsOpen host.new → IsAtRest H.IsSound (H.seen host.new)) }
     ensures applied { IfOk result (λ done. H.IsIntact host.new
         → AppliedTo H.IsOpen H.seen (arrival event.now) host.old host.new (Some done.0) done.1.items) }
     ensures survives { OnOk result (H.IsIntact host.new → (x : Tables) → H.left host.new x → x ≡ (H.seen host.new).now) }
@@ -240,10 +240,10 @@ fn caller_of(event: &Event) -> Caller
 /// All that is said of replies and of a crash holds also where the store reports faults; what is said of the tables
 /// holds while no fault has shut it.
 pub fn apply<H: Storage>(alloc: Global, host: &mut H, event: &Event) -> Told
-    requires { Clean H.IsIntact H.IsOpen host.old → IsAtRest (H.seen host.old) }
+    requires { Clean H.IsIntact H.IsOpen host.old → IsAtRest H.IsSound (H.seen host.old) }
     ensures intact { H.IsIntact host.new → H.IsIntact host.old }
     ensures opened { H.IsIntact host.new → H.IsOpen host.new → H.IsOpen host.old }
-    ensures ready { Clean H.IsIntact H.IsOpen host.new → IsAtRest (H.seen host.new) }
+    ensures ready { Clean H.IsIntact H.IsOpen host.new → IsAtRest H.IsSound (H.seen host.new) }
     ensures limits { (H.seen host.new).limits ≡ (H.seen host.old).limits }
     ensures applied { H.IsIntact host.new
         → AppliedTo H.IsOpen H.seen (arrival event.now) host.old host.new result.stamp (reply_bytes result.reply) }

@@ -20,10 +20,10 @@ pub fn run<H: Storage>(
     host: &mut H,
     events: &[Event],
 ) -> Result<Vec<Told>, AllocError>
-    requires { Clean H.IsIntact H.IsOpen host.old → IsAtRest (H.seen host.old) }
+    requires { Clean H.IsIntact H.IsOpen host.old → IsAtRest H.IsSound (H.seen host.old) }
     ensures intact { H.IsIntact host.new → H.IsIntact host.old }
     ensures opened { H.IsIntact host.new → H.IsOpen host.new → H.IsOpen host.old }
-    ensures ready { Clean H.IsIntact H.IsOpen host.new → IsAtRest (H.seen host.new) }
+    ensures ready { Clean H.IsIntact H.IsOpen host.new → IsAtRest H.IsSound (H.seen host.new) }
     ensures limits { (H.seen host.new).limits ≡ (H.seen host.old).limits }
     ensures ran { IfOk result (λ dones. H.IsIntact host.new
         → RanOn H.IsOpen H.seen H.left (map arrival events.now) (map told dones.items) host.old host.new) }

@@ -1,26 +1,24 @@
 -- What was gathered of a bucket's rows is the page that the machine lists.
-use Rattle.std.proofs.Common.{◌≡◌, ℕ, zero, suc, ◌<◌, ◌≤◌, nat_lt, Bool, true, false, cond, List, [], ◌∷◌, length, map, take, Option, Some, None, is_ok, true≢false, Result, Ok, Err, refl, sym, ap, ◌∙◌, arith, ok_or, option_map, option_and_then}
+use Rattle.std.proofs.Common.{◌≡◌, ℕ, zero, suc, ◌≤◌, nat_lt, Bool, true, false, cond, List, [], ◌∷◌, length, map, take, Option, Some, None, Ok, refl, sym, ap, ◌∙◌, arith}
 use Rattle.std.proofs.lemmas.Bool.Decides.{nat_tests}
 use Rattle.std.specs.List.{AllByRecursion}
 use Rattle.std.specs.FinMap.{entries, get}
-use Rattle.std.specs.Result.{result_map_both}
 use Rattle.sqlite_keyed.specs.Lists.{sort_by}
 use Rattle.sqlite_keyed.proofs.ListLemmas.{all-filter}
 use Rattle.sqlite_typed.specs.Tests.{bytes_eq}
 use Rattle.bh_types.specs.Outcomes.{◌>>=◌}
 use Rattle.bh_types.specs.declared.bucket_state.BucketState.{BucketState}
-use Rattle.bh_types.specs.declared.refusal.Refusal.{Refusal}
-use Rattle.bh_types.specs.declared.refusal.Refusal.TheVariants.{NoSuchBucket}
 use Rattle.bh_model.specs.State.{Octets, Bucket, State}
 use Rattle.bh_model.specs.Pages as model
 use Rattle.bh_model.specs.Pages.{objects_page, Listed, Paged, ObjectItem, ObjectsListed, last_of, paged, objects_told, objects_in, entries_after, after_name}
 use Rattle.bh_model.specs.Listings.{objects_listed, list_objects}
 use Rattle.bh_model.specs.Operations.{Objects}
 use Rattle.bh_tables.specs.Typed.{VersionRow, Tables}
-use Rattle.bh_view.specs.Sound.{IsSound, IsVersionRow}
+use Rattle.bh_view.specs.Sound.{IsSound}
 use Rattle.bh_storage.specs.Calls.{GivesStep}
 use Rattle.bh_view.specs.View.{view, latest_of, rows_of, in_bucket, objects_of, buckets_of}
 use Rattle.bh_view.proofs.BucketLemmas.{objects_shown}
+use Rattle.bh_view.proofs.SharedLemmas.{shared_none}
 use Rattle.bh_view.proofs.SortLemmas.{all-sort_by}
 use Rattle.bh_view.proofs.ViewLemmas.{own_row}
 use Rattle.bh_objects.specs.Found.{mode_in}
@@ -71,7 +69,7 @@ module _ (tables : Tables) (t b : Octets) (sound : IsSound tables) where
   abbrev own : List VersionRow
   own = in_bucket b (rows_of t tables).versions
 
-  sizes : AllByRecursion (λ (v : VersionRow). v.size ≡ length v.bytes) (sort_by version_order own)
+  pub sizes : AllByRecursion (λ (v : VersionRow). v.size ≡ length v.bytes) (sort_by version_order own)
   sizes = all-sort_by version_order (λ (v : VersionRow). v.size ≡ length v.bytes) own
       (all-filter (λ (v : VersionRow). v.size ≡ length v.bytes) (λ (v : VersionRow). bytes_eq v.bucket b) (rows_of t tables).versions (all_turned (λ v good. good.size) (rows_of t tables).versions (sound.tenants t).versions.each))
 
@@ -104,4 +102,5 @@ list_step old new t b asked token page is same = record {
   gives = ap (λ r. r >>= (λ (p : ObjectsListed). Ok (Objects p, view old t))) is ∙ ap (λ (x : Tables). Ok (Objects page, view x t)) (sym same);
   others = λ u apart. ap (λ (x : Tables). view x u) same;
   latest = ap latest_of same;
+  shared = shared_none old new same;
 }

@@ -1,8 +1,15 @@
 pub mod RowLemmas
 pub mod LineLemmas
+pub mod VersionTexts
+pub mod VersionViewed
+pub mod TellingVersions
 pub mod ListLemmas
 pub mod Small
 pub mod Looping
 pub mod Viewed
 pub mod Telling
 pub mod Answering
+pub mod VersionLooping
+pub mod VersionStarting
+pub mod Numbering
+pub mod VersionAnswering

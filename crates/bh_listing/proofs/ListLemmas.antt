@@ -1,20 +1,19 @@
 -- The rows of a bucket as a listing reads them.
-use Rattle.std.proofs.Common.{◌≡◌, ℕ, suc, ◌<◌, ◌≤◌, Bool, true, false, true≢false, cond, ◌&&◌, List, [], ◌∷◌, ◌++◌, length, map, take, filter, Option, Some, None, refl, sym, ap, subst, ◌∙◌, ◌≢◌, arith, Ordering, Less, Equal, Greater}
+use Rattle.std.proofs.Common.{◌≡◌, ℕ, ◌<◌, Bool, true, false, true≢false, cond, ◌&&◌, List, [], ◌∷◌, map, take, filter, refl, sym, ap, ◌∙◌, arith, Ordering, Less, Equal, Greater}
 use Rattle.std.specs.List.{AllByRecursion}
 use Rattle.std.specs.Ordering.{is_gt, is_lt, is_le, ordering_then, ordering_reverse}
 use Rattle.std.specs.Cmp.{IsTotalOrder}
 use Rattle.std.proofs.lemmas.Cmp.{nat_list_cmp_total, on_total, then_total}
 use Rattle.sqlite_trees.specs.Tree.{IsAscending}
 use Rattle.sqlite_keyed.specs.Lists.{sort_by, insert_sorted}
-use Rattle.sqlite_typed.specs.Tests.{bytes_cmp, bytes_eq, bytes_le, bytes_lt}
+use Rattle.sqlite_typed.specs.Tests.{bytes_cmp, bytes_eq, bytes_lt}
 use Rattle.bh_model.specs.State.{Octets}
 use Rattle.bh_tables.specs.Typed.{VersionRow}
-use Rattle.bh_tables.specs.Shown.{newer}
 use Rattle.bh_view.proofs.ObjectLemmas.{newer_total}
 use Rattle.bh_view.proofs.SortLemmas.{AtMost, up-sort_by, sort_by-filter}
-use Rattle.bh_model.specs.Pages.{Listed, begins, is_upto, after_name, ObjectItem}
+use Rattle.bh_model.specs.Pages.{begins, is_upto}
 use Rattle.bh_pages.specs.Gathered.{past_name, rows_from}
-use Rattle.bh_pages.specs.Seen.{Shown, item_of}
+use Rattle.bh_pages.specs.Seen.{Shown}
 use Rattle.bh_pages.proofs.Bytes.{upto_trans, begins_between}
 use Rattle.bh_pages.proofs.Skipping.{InOrder}
 use Rattle.bh_listing.proofs.RowLemmas.{take_map}

@@ -1,12 +1,12 @@
 -- What a listing has read after each chunk.
-use Rattle.std.proofs.Common.{◌≡◌, ℕ, zero, suc, ◌<◌, ◌≤◌, nat_lt, Bool, true, false, true≢false, ◌&&◌, ◌||◌, List, [], ◌∷◌, ◌++◌, length, map, take, Option, Some, None, option_map, refl, sym, ap, subst, ◌∙◌, ◌≢◌, arith}
+use Rattle.std.proofs.Common.{◌≡◌, ℕ, zero, suc, ◌<◌, ◌≤◌, nat_lt, Bool, true, false, true≢false, ◌||◌, List, [], ◌∷◌, ◌++◌, length, map, take, Option, Some, None, option_map, refl, sym, ap, subst, ◌∙◌, ◌≢◌, arith}
 use Rattle.std.proofs.lemmas.Bool.Decides.{nat_tests}
 use Rattle.std.proofs.lemmas.List.{length-map}
 use Rattle.std.specs.List.{AllByRecursion}
 use Rattle.bh_model.specs.State.{Octets}
 use Rattle.bh_tables.specs.Typed.{VersionRow}
-use Rattle.bh_model.specs.Pages.{Listed, begins, is_upto, after_name, rolled, ObjectItem}
-use Rattle.bh_pages.specs.Gathered.{Gathered, past_name, past_key, rows_from, place_past, start_of, nothing_gathered}
+use Rattle.bh_model.specs.Pages.{Listed, begins, is_upto, after_name, ObjectItem}
+use Rattle.bh_pages.specs.Gathered.{Gathered, past_name, rows_from, start_of, nothing_gathered}
 use Rattle.bh_pages.specs.Seen.{Shown, seen, seen_entry, seen_line, item_in, token_of, rows_added, still_to_come, read_on}
 use Rattle.sqlite.specs.State.{State}
 use Rattle.bh_schema.specs.Layer.{standing, IsIntact, IsOpen, IsStateClean, IsInside, StateWithin}
@@ -18,11 +18,11 @@ use Rattle.bh_pages.specs.declared.reading.Reading.{Reading}
 use Rattle.bh_pages.specs.declared.gathering.Asked.{Asked}
 use Rattle.bh_pages.specs.declared.gathering.Line.{Line}
 use Rattle.bh_pages.specs.declared.gathering.Gathering.{Gathering}
-use Rattle.bh_pages.proofs.Bytes.{upto_begun, upto_trans, upto_past_key, upto_other, before_past_name, rolled_begins, some_same, none_some, same_number}
+use Rattle.bh_pages.proofs.Bytes.{some_same, none_some}
 use Rattle.bh_pages.proofs.Skipping.{InOrder}
 use Rattle.bh_pages.proofs.Starting.{start_any, start_low}
 use Rattle.bh_pages.proofs.Chunks.{all_filter, chunk_full, chunk_last, chunk_next, chunk_key, place_low}
-use Rattle.bh_listing.specs.Rows.{listed_rows, shown_listed, row_shown, bucket_rows, entries_of, AreSmallKeys}
+use Rattle.bh_listing.specs.Rows.{listed_rows, row_shown, bucket_rows, entries_of, AreSmallKeys}
 use Rattle.bh_listing.proofs.ListLemmas.{rows_in_order, rows_fine, chunk_is}
 
 module _ (asked : Asked) (tenant bucket : Octets) (versions : List VersionRow) where

@@ -1,6 +1,5 @@
 -- The text that reads a chunk of a listing.
-use Rattle.std.proofs.Common.{◌≡◌, ℕ, ℤ, pos, codes, List, [], ◌∷◌, map, filter, take, refl, sym, ap, ◌∙◌, Result, IfOk, IfErr, Ordering, int_cmp, zero, suc, true, false, Ok, Err, Less, Equal, Greater}
-use Rattle.std.specs.Ordering.{ordering_then}
+use Rattle.std.proofs.Common.{◌≡◌, Bool, ℕ, pos, codes, List, [], ◌∷◌, map, filter, take, refl, sym, ap, ◌∙◌, Result, IfOk, IfErr, Ordering, int_cmp, zero, suc, true, false, Ok, Err}
 use Rattle.sqlite.specs.declared.types.Value.TheVariants.{Text, Blob}
 use Rattle.sqlite.specs.declared.error.Error.{Error}
 use Rattle.sqlite.specs.Order.{Row}
@@ -16,13 +15,16 @@ use Rattle.sqlite_tied.specs.Compute.{everything}
 use Rattle.sqlite_keyed.specs.Lists.{sort_by}
 use Rattle.sqlite_typed.specs.Tests.{bytes_cmp}
 use Rattle.sqlite_typed.proofs.TestLemmas.{at_texts, at_blobs, last_term, then_term, then_key, last_key}
-use Rattle.bh_rows.specs.Form.{put}
+use Rattle.bh_rows.specs.Form.{typed}
 use Rattle.bh_rows.specs.Scan.{by_rowid}
 use Rattle.bh_rows.specs.Texts.{IsReadyAt, SortedText}
 use Rattle.bh_rows.proofs.ScanLemmas.{then_assoc}
 use Rattle.bh_rows.proofs.TextLemmas as text
 use Rattle.bh_tables.specs.Schema.{Octets, host_schema}
-use Rattle.bh_tables.specs.Typed.{VersionRow, version_form, number, IsReady, tables}
+use Rattle.bh_tables.specs.Typed.{VersionColumns, version_form, number, IsReady, tables}
+use Rattle.bh_tables.specs.Bodies.{bare}
+use Rattle.bh_tables.proofs.Places.{versions}
+use Rattle.bh_tables.proofs.ResolvedLemmas.{seen_sorted}
 use Rattle.bh_tables.proofs.Terms.{is}
 use Rattle.bh_tables.proofs.Statements.{Shows}
 use Rattle.bh_listing.specs.Rows.{version_order, is_listed, shown_listed, listed_rows}
@@ -39,7 +41,16 @@ module _ (tenant bucket from upto : Octets) (count : ℕ) where
   abbrev params : Row
   params = Text tenant ∷ Text bucket ∷ Blob from ∷ Blob upto ∷ number count ∷ []
 
-  listed : SortedText version_form host_schema 7 listed_text params (is_listed tenant bucket from upto) shown_listed version_order (col 0 4)
+  abbrev passes : VersionColumns → Bool
+  passes c = is_listed tenant bucket from upto (bare c)
+
+  abbrev shows_it : VersionColumns → Row
+  shows_it c = shown_listed (bare c)
+
+  abbrev before : VersionColumns → VersionColumns → Ordering
+  before a b = version_order (bare a) (bare b)
+
+  listed : SortedText version_form host_schema 7 listed_text params passes shows_it before (col 0 4)
   unfolding understood everything
   listed = record {
     test = is 1 0 ∷ is 3 1 ∷ op2 (Compare Ge Binary) (col 1 4) (col 0 2) ∷ op2 (Compare Lt Binary) (col 1 4) (col 0 3) ∷ [];
@@ -59,14 +70,14 @@ module _ (tenant bucket from upto : Octets) (count : ℕ) where
       → (HasCleanDisk new → IfErr result (FailsToQuery listed_text params old new)) → Survives old new (CommitsShowing listed_text params old)
       → Shows old new rows_in (λ t. map shown_listed (listed_rows tenant bucket from upto count t.versions)) result
   listed_shown old new ready rows_in result ok err survives = record {
-    asks = text.sorted_asks version_form host_schema 7 old new ready_at listed_text params (is_listed tenant bucket from upto) shown_listed version_order (col 0 4) listed rows_in result ok err survives;
-    rows = λ clean. go result (text.select_sorted version_form host_schema 7 old new ready_at listed_text params (is_listed tenant bucket from upto) shown_listed version_order (col 0 4) listed rows_in result ok survives clean);
+    asks = text.sorted_asks version_form host_schema 7 old new ready_at listed_text params passes shows_it before (col 0 4) listed rows_in result ok err survives;
+    rows = λ clean. go result (text.select_sorted version_form host_schema 7 old new ready_at listed_text params passes shows_it before (col 0 4) listed rows_in result ok survives clean);
   }
     where
       ready_at : IsReadyAt version_form host_schema 7 old
       ready_at clean up = let h = ready clean up in (h.schema, h.held.versions)
 
-      go : (r : Result _ Error) → IfOk r (λ x. rows_in x ≡ take count (map shown_listed (sort_by version_order (filter (is_listed tenant bucket from upto) (tables old).versions))))
+      go : (r : Result _ Error) → IfOk r (λ x. rows_in x ≡ take count (map shows_it (sort_by before (filter passes (typed version_form (old.now.trees 7))))))
           → IfOk r (λ x. rows_in x ≡ map shown_listed (listed_rows tenant bucket from upto count (tables old).versions))
-      go (Ok x) h = h ∙ take_map shown_listed count (sort_by version_order (filter (is_listed tenant bucket from upto) (tables old).versions))
+      go (Ok x) h = h ∙ ap (λ cs. take count (map shows_it (sort_by before (filter passes cs)))) (versions.rows_are old.now) ∙ ap (take count) (seen_sorted passes (tables old).versions shows_it before) ∙ take_map shown_listed count (sort_by version_order (filter (is_listed tenant bucket from upto) (tables old).versions))
       go (Err e) h = tt

@@ -1,21 +1,20 @@
 -- What sound tables say of the rows of a listing: keys of UTF-8 have no byte of 255, sizes are lengths, and no key stands
 -- twice in a bucket's map.
-use Rattle.std.proofs.Common.{◌≡◌, ℕ, zero, suc, ◌+◌, ◌<◌, ◌≤◌, Bool, true, false, true≢false, cond, ◌&&◌, nat_lt, nat_le, List, [], ◌∷◌, ◌++◌, length, filter, ◌/◌, ◌%◌, Option, Some, None, refl, sym, ap, subst, ◌∙◌, arith, T, Ordering, Less, Equal, Greater}
+use Rattle.std.proofs.Common.{◌≡◌, ℕ, ◌+◌, ◌<◌, Bool, true, false, true≢false, cond, ◌&&◌, nat_lt, nat_le, List, [], ◌∷◌, ◌++◌, ◌/◌, ◌%◌, Some, refl, sym, subst, arith, T, Ordering, Less, Equal, Greater}
 use Rattle.std.proofs.lemmas.Bool.Decides.{nat_tests}
 use Rattle.std.specs.List.{AllByRecursion}
 use Rattle.std.specs.Char.{encode_utf8, IsScalar}
 use Rattle.std.specs.Str.{IsUtf8, encode_utf8_all, all_scalars}
 use Rattle.std.specs.FinMap.{FinMap, entries, entries_sorted}
 use Rattle.std.specs.FinMap.Entries.{is_sorted, below_all}
-use Rattle.std.specs.Ordering.{is_lt, is_eq, ordering_reverse}
-use Rattle.std.specs.Cmp.Lexicographic.{nat_list_cmp_total}
+use Rattle.std.specs.Ordering.{is_lt, is_eq}
 use Rattle.sqlite_typed.specs.Tests.{bytes_eq}
 use Rattle.bh_model.specs.State.{Octets, octets_cmp, Entry}
 use Rattle.bh_model.specs.Pages.{is_name}
 use Rattle.bh_tables.specs.Typed.{VersionRow, Tables}
 use Rattle.bh_view.specs.Grouped.{matching}
-use Rattle.bh_view.specs.Sound.{IsSound, IsVersionRow}
-use Rattle.bh_view.specs.View.{rows_of, latest_of, in_bucket}
+use Rattle.bh_view.specs.Sound.{IsSound}
+use Rattle.bh_view.specs.View.{rows_of}
 use Rattle.bh_view.proofs.Keys.{text_Decides}
 use Rattle.bh_pages.proofs.Keyed.{AreOthers, AreApart}
 use Rattle.bh_listing.specs.Rows.{AreSmallKeys}

@@ -1,8 +1,8 @@
 -- What a page tells of the entries that were gathered for it.
-use Rattle.std.proofs.Common.{◌≡◌, ◌≢◌, ℕ, zero, suc, ◌+◌, ◌-◌, ◌<◌, ◌≤◌, nat_lt, Bool, true, false, cond, List, [], ◌∷◌, length, map, flat_map, take, slice_index_or, Option, Some, None, option_map, refl, sym, ap, subst, ◌∙◌, arith}
+use Rattle.std.proofs.Common.{◌≡◌, ◌≢◌, ℕ, zero, suc, ◌-◌, ◌<◌, ◌≤◌, nat_lt, true, cond, List, [], ◌∷◌, length, map, flat_map, take, slice_index_or, Option, Some, None, option_map, sym, ap, subst, ◌∙◌, arith}
 use Rattle.std.proofs.lemmas.Bool.Decides.{nat_tests}
 use Rattle.bh_model.specs.State.{Octets}
-use Rattle.bh_model.specs.Pages.{Listed, ObjectItem, ObjectsListed, Paged, common_in, single_in, name_of, last_of, paged, objects_told}
+use Rattle.bh_model.specs.Pages.{ObjectItem, ObjectsListed, common_in, single_in, name_of, last_of, paged, objects_told}
 use Rattle.bh_pages.specs.declared.gathering.Asked.{Asked}
 use Rattle.bh_pages.specs.declared.gathering.Listed as program
 use Rattle.bh_pages.specs.Seen.{seen_entry}

@@ -1,5 +1,5 @@
 -- The rows that a listing reads are those of the bucket's map.
-use Rattle.std.proofs.Common.{◌≡◌, ℕ, zero, suc, ◌<◌, Bool, true, false, true≢false, cond, ◌&&◌, List, [], ◌∷◌, ◌++◌, length, map, filter, flat_map, Option, Some, None, refl, sym, ap, ◌∙◌, Ordering, Less, Equal, Greater}
+use Rattle.std.proofs.Common.{◌≡◌, ℕ, zero, suc, ◌<◌, Bool, true, false, true≢false, cond, ◌&&◌, List, [], ◌∷◌, ◌++◌, length, map, filter, Option, Some, refl, sym, ap, ◌∙◌, Ordering, Less, Equal, Greater}
 use Rattle.std.specs.List.{AllByRecursion}
 use Rattle.std.specs.FinMap.{entries}
 use Rattle.std.proofs.lemmas.List.{map-append}
@@ -64,7 +64,7 @@ module _ (tenant bucket prefix : Octets) where
   abbrev under : VersionRow → Bool
   under v = begins prefix v.okey
 
-  range_is : (k : Octets) → AllByRecursion (λ b. b < 255) k → (bytes_le prefix k && bytes_lt k (past_name prefix)) ≡ begins prefix k
+  pub range_is : (k : Octets) → AllByRecursion (λ b. b < 255) k → (bytes_le prefix k && bytes_lt k (past_name prefix)) ≡ begins prefix k
   range_is k small = go (begins prefix k) refl
     where
       inside : begins prefix k ≡ true → (bytes_le prefix k && bytes_lt k (past_name prefix)) ≡ true

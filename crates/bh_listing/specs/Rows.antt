@@ -1,5 +1,5 @@
 -- The rows of a bucket's versions in the order of a listing, and what is read of each.
-use Rattle.std.specs.Prelude.{ℕ, zero, suc, pos, Bool, ◌&&◌, ◌<◌, List, [], ◌∷◌, map, filter, take, Option}
+use Rattle.std.specs.Prelude.{ℕ, pos, Bool, ◌&&◌, ◌<◌, List, [], ◌∷◌, filter, take, Option}
 use Rattle.std.specs.List.{AllByRecursion}
 use Rattle.std.specs.Ordering.{ordering_then, int_cmp}
 use Rattle.std.specs.declared.cmp.Ordering.{Ordering}

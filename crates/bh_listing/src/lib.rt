@@ -5,3 +5,5 @@ mod lines;
 pub mod objects;
 mod rows;
 mod told;
+mod told_versions;
+pub mod versions;

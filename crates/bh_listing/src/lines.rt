@@ -4,10 +4,13 @@ ghost use Rattle.std.specs.Prelude.{◌≡◌, ◌<◌, ◌^◌, map, IfOk, OnOk
 ghost use Rattle.bh_tables.specs.Typed.{VersionRow};
 ghost use Rattle.bh_pages.specs.Seen.{seen_line};
 ghost use Rattle.bh_schema.specs.Connections.{IsClean, tables, InTransaction, StaysWithin, StaysOpen, ChangesNothing};
+ghost use Rattle.bh_pages.specs.Versions as versions;
 ghost use Rattle.bh_listing.specs.Rows.{shown_listed, row_shown, listed_rows};
+ghost use Rattle.bh_listing.specs.Versions.{shown_numbered, row_numbered, place_rows};
 
-use crate::rows::version_rows;
+use crate::rows::{numbered_rows, older_rows, version_rows};
 use bh_pages::gathering::Line;
+use bh_pages::versions::{Place, VersionLine};
 use bh_schema::trouble::or_trouble;
 use bh_storage::error::Trouble;
 use sqlite::{Alter, Connection, Error, Row};
@@ -58,4 +61,81 @@ pub fn version_lines<S: Alter>(
 {
     let rows = or_trouble(version_rows(connection, tenant, bucket, from, upto, count))?;
     or_trouble(read_lines(alloc, &rows))
+}
+
+fn read_version(row: &Row) -> Result<VersionLine, Error>
+    ensures { IfOk result (λ line. (v : VersionRow) → row.now ≡ shown_numbered v → versions.seen_line line ≡ row_numbered v) }
+{
+    Ok(VersionLine {
+        key: row.get(0)?,
+        seq: row.get(1)?,
+        id: row.get(2)?,
+        marker: row.get(3)?,
+        stamp: row.get(4)?,
+        size: row.get(5)?,
+        checksum: row.get(6)?,
+    })
+}
+
+fn read_versions(alloc: Global, rows: &[Row]) -> Result<Vec<VersionLine>, Error>
+    ensures { IfOk result (λ lines. (vs : _) → rows.now ≡ map shown_numbered vs → map versions.seen_line lines.items ≡ map row_numbered vs) }
+{
+    let mut lines = Vec::with_capacity(alloc, rows.len())?;
+    for row in rows {
+        let line = read_version(row)?;
+        lines.push(line)?;
+    }
+    Ok(lines)
+}
+
+fn rows_at<S: Alter>(
+    connection: &mut Connection<S>,
+    tenant: &str,
+    bucket: &str,
+    place: &Place,
+    upto: &[u8],
+    count: u64,
+) -> Result<Vec<Row>, Trouble>
+    requires inside { InTransaction S.Store connection.old }
+    requires small { count < 2 ^ 63 }
+    ensures within { StaysWithin S.Store connection.old connection.new }
+    ensures opens { OnOk result (StaysOpen S.Store connection.old connection.new) }
+    ensures same { OnOk result (ChangesNothing S.Store connection.old connection.new) }
+    ensures rows { IfOk result (λ rows. IsClean S.Store connection.new
+        → rows.items ≡ map shown_numbered
+        (place_rows tenant.now bucket.now place.now.key.items place.now.older upto.now count (tables S.Store connection.old).versions)) }
+{
+    let key = place.key.as_slice();
+    match place.older {
+        None => or_trouble(numbered_rows(connection, tenant, bucket, key, upto, count)),
+        Some(seq) if seq < 1 << 63 => {
+            or_trouble(older_rows(connection, tenant, bucket, key, seq, count))
+        }
+        // No entry has so great a number.
+        Some(_) => Err(Trouble::Store),
+    }
+}
+
+/// The first versions and delete markers of a bucket at a place, with a key before a text, at most as many as this, in
+/// the order of a listing.
+pub fn lines_at<S: Alter>(
+    connection: &mut Connection<S>,
+    alloc: Global,
+    tenant: &str,
+    bucket: &str,
+    place: &Place,
+    upto: &[u8],
+    count: u64,
+) -> Result<Vec<VersionLine>, Trouble>
+    requires inside { InTransaction S.Store connection.old }
+    requires small { count < 2 ^ 63 }
+    ensures within { StaysWithin S.Store connection.old connection.new }
+    ensures opens { OnOk result (StaysOpen S.Store connection.old connection.new) }
+    ensures same { OnOk result (ChangesNothing S.Store connection.old connection.new) }
+    ensures lines { IfOk result (λ lines. IsClean S.Store connection.new
+        → map versions.seen_line lines.items ≡ map row_numbered
+        (place_rows tenant.now bucket.now place.now.key.items place.now.older upto.now count (tables S.Store connection.old).versions)) }
+{
+    let rows = rows_at(connection, tenant, bucket, place, upto, count)?;
+    or_trouble(read_versions(alloc, &rows))
 }

@@ -14,7 +14,7 @@ use bh_types::moment::Moment;
 use std::alloc::{AllocError, Global};
 
 /// A text of these bytes. Bytes that are no UTF-8 can't be read.
-fn text_of(alloc: Global, bytes: &[u8]) -> Result<String, Trouble>
+pub fn text_of(alloc: Global, bytes: &[u8]) -> Result<String, Trouble>
     ensures { IfOk result (λ text. string_bytes text ≡ bytes.now) }
 {
     match str::from_utf8(bytes) {

@@ -1,6 +1,6 @@
 -- How a step of the machine may be refused.
 use Rattle.std.proofs.Common.{◌≡◌, ℕ, Bool, true, false, List, Option, Some, None, Ok, Err, Result, refl, sym, subst, rules, IfErr, inl, inr}
-use Rattle.std.specs.Prelude.{ok_or, bytes_eq, nat_le, nat_lt, min, ◌-◌, [], ◌∷◌, length, ◌&&◌, ◌^◌, is_none, is_some}
+use Rattle.std.specs.Prelude.{ok_or, option_map, bytes_eq, nat_le, nat_lt, min, ◌-◌, [], ◌∷◌, length, ◌&&◌, ◌^◌, is_none, is_some}
 use Rattle.std.specs.FinMap.{get}
 use Rattle.std.specs.List.{find}
 use Rattle.std.specs.Result.{result_map_both}
@@ -33,9 +33,9 @@ use Rattle.bh_http.proofs.Refused.{reads_only}
 use Rattle.bh_model.specs.declared.entries.LookupFault.{LookupFault}
 use Rattle.bh_model.specs.Counting.{counts, can_number, after_entry, after_delete}
 use Rattle.bh_model.specs.Credentials.{authenticate, secret_of}
-use Rattle.bh_model.specs.Entries.{has_id, lookup, opened, found_named}
+use Rattle.bh_model.specs.Entries.{Version, has_id, lookup, opened, found_named}
 use Rattle.bh_model.specs.FinMaps.{is_empty}
-use Rattle.bh_model.specs.Operations.{Outcome, added_tenant, tenant_bucket, listed, not_found, wanted_version, out_of_range, planned, create_bucket, head_bucket, delete_bucket, get_versioning, put_object, get_object, head_object, delete_object}
+use Rattle.bh_model.specs.Operations.{Outcome, added_tenant, tenant_bucket, listed, not_found, wanted_version, source_refusal, source_version, out_of_range, planned, create_bucket, head_bucket, delete_bucket, get_versioning, put_object, copy_object, get_object, head_object, delete_object}
 use Rattle.bh_model.specs.Parts.{is_checksum}
 use Rattle.bh_model.specs.Runs.{settled, purged_tenant}
 use Rattle.bh_model.specs.State.{Octets, Content, Content.Marker, Content.Body, Entry, Bucket, State}
@@ -44,8 +44,8 @@ use Rattle.bh_operation.specs.Refused.{is_operation_refusal}
 use Rattle.bh_operation.specs.declared.operation.Operation.{Operation}
 use Rattle.bh_operation.specs.declared.operation.Operation.TheVariants as op
 use Rattle.bh_operation.proofs.Refused.{operation_only}
-use Rattle.bh_model.specs.Listings.{objects_listed, list_objects}
-use Rattle.bh_machine.specs.Machine.{Act, Acted, page_asked, set_versioning, operated, requested, asked, ordered, change}
+use Rattle.bh_model.specs.Listings.{objects_listed, list_objects, versions_listed, list_versions}
+use Rattle.bh_machine.specs.Machine.{Act, Acted, page_asked, place_asked, set_versioning, operated, requested, asked, ordered, change}
 use Rattle.bh_machine.specs.Refused.{StepRefusals, is_step_refusal as may}
 
 abbrev Only : {X : Type 0} → Result X Refusal → Type 0
@@ -196,6 +196,58 @@ put_only now bucket key body given s =
     (λ f. then_only may (require (is_checksum given body) BadDigest) _ (require_only may (is_checksum given body) BadDigest refl)
     (λ _. then_only may (after_entry f.1.mode (counts f.0)) _ (numbers_only f.1.mode (counts f.0)) (λ c. tt)))
 
+source_refusal_only : (refusal : Refusal) → may refusal ≡ true → may (source_refusal refusal) ≡ true
+source_refusal_only BadRequest h = h
+source_refusal_only NotImplemented h = h
+source_refusal_only MissingContentLength h = h
+source_refusal_only EntityTooLarge h = h
+source_refusal_only AccessDenied h = h
+source_refusal_only InvalidAccessKeyId h = h
+source_refusal_only InvalidUri h = h
+source_refusal_only InvalidBucketName h = h
+source_refusal_only KeyTooLong h = h
+source_refusal_only InvalidArgument h = h
+source_refusal_only MalformedJson h = h
+source_refusal_only NoSuchBucket h = h
+source_refusal_only NoSuchKey h = h
+source_refusal_only NoSuchVersion h = h
+source_refusal_only NoSuchUpload h = h
+source_refusal_only MethodNotAllowed h = refl
+source_refusal_only BucketAlreadyOwnedByYou h = h
+source_refusal_only BucketNotEmpty h = h
+source_refusal_only InvalidBucketState h = h
+source_refusal_only NoSuchLifecycleConfiguration h = h
+source_refusal_only InvalidPart h = h
+source_refusal_only InvalidPartOrder h = h
+source_refusal_only EntityTooSmall h = h
+source_refusal_only QuotaExceeded h = h
+source_refusal_only InvalidRange h = h
+source_refusal_only BadDigest h = h
+source_refusal_only IncompleteBody h = h
+source_refusal_only InvalidRequest h = h
+source_refusal_only CounterExhausted h = h
+source_refusal_only ClockOutOfRange h = h
+source_refusal_only ServiceUnavailable h = h
+source_refusal_only TenantExists h = h
+source_refusal_only NoSuchTenant h = h
+source_refusal_only KeyExists h = h
+source_refusal_only NoSuchKeyName h = h
+source_refusal_only InvalidName h = h
+source_refusal_only InvalidQuota h = h
+source_refusal_only NotAHostFile h = h
+source_refusal_only Unavailable h = h
+
+source_told : {X : Type 0} (r : Result (X × Version) Rejection) → MaySay r
+    → Only (result_map_both (λ (f : X × Version). f.1) (λ (rejection : Rejection). source_refusal rejection.refusal) r)
+source_told (Ok f) only = tt
+source_told (Err rejection) only = source_refusal_only rejection.refusal only
+
+copied_only : (now : ℕ) (bucket key source_bucket source_key : Octets) (wanted : Wanted) (s : Option State) → Only (copy_object now bucket key source_bucket source_key wanted s)
+copied_only now bucket key source_bucket source_key wanted s =
+    then_only may (tenant_bucket bucket s) _ (found_bucket bucket s)
+    (λ f. then_only may (source_version source_bucket source_key wanted s) _ (source_told (wanted_version source_bucket source_key wanted s) (wanted_only source_bucket source_key wanted s))
+    (λ v. then_only may (after_entry f.1.mode (counts f.0)) _ (numbers_only f.1.mode (counts f.0)) (λ c. tt)))
+
 delete_numbers_only : (mode : BucketState) (wanted : Wanted) (c : Counts) → Only (after_delete mode wanted c)
 delete_numbers_only Unversioned Current c = tt
 delete_numbers_only Enabled Current c = numbers_only Enabled c
@@ -237,14 +289,18 @@ operated_only now body (op.HeadBucket bucket) s = plainly_told (head_bucket buck
 operated_only now body (op.DeleteBucket bucket) s = plainly_told (delete_bucket bucket s) (bucket_gone_only bucket s)
 operated_only now body (op.ListObjectsV2 bucket page token) s =
     plainly_told (list_objects bucket (page_asked page) token s) (then_only may (objects_listed bucket (page_asked page) token s) _ (then_only may (tenant_bucket bucket s) _ (found_bucket bucket s) (λ _. tt)) (λ _. tt))
-operated_only now body (op.ListObjectVersions bucket page after) s = refl
+operated_only now body (op.ListObjectVersions bucket page after) s =
+    plainly_told (list_versions bucket (page_asked page) (option_map place_asked after) s)
+    (then_only may (versions_listed bucket (page_asked page) (option_map place_asked after) s) _ (then_only may (tenant_bucket bucket s) _ (found_bucket bucket s) (λ _. tt)) (λ _. tt))
 operated_only now body (op.ListMultipartUploads bucket page after) s = refl
 operated_only now body (op.GetBucketVersioning bucket) s = plainly_told (get_versioning bucket s) (bucket_only bucket s _ (λ f. tt))
 operated_only now body (op.PutBucketVersioning bucket) s = plainly_told (set_versioning bucket body s) (set_only bucket body s)
 operated_only now body (op.GetLifecycle bucket) s = refl
 operated_only now body (op.PutLifecycle bucket) s = refl
 operated_only now body (op.DeleteLifecycle bucket) s = refl
-operated_only now body (op.CopyObject object source) s = refl
+operated_only now body (op.CopyObject object source) s =
+    plainly_told (copy_object now object.bucket object.key source.object.bucket source.object.key source.version s)
+    (copied_only now object.bucket object.key source.object.bucket source.object.key source.version s)
 operated_only now body (op.HeadObject object version) s = headed_only object.bucket object.key version s
 operated_only now body (op.DeleteObject object version) s = plainly_told (delete_object now object.bucket object.key version s) (deleted_only now object.bucket object.key version s)
 operated_only now body (op.CreateMultipartUpload object) s = refl

@@ -1,5 +1,5 @@
 -- The private machine of a host: what an event turns out to be, whose it is, and what it makes of its owner's state.
-use Rattle.std.specs.Prelude.{◌≡◌, ℕ, Option, None, ok_or, Result, Ok, Err}
+use Rattle.std.specs.Prelude.{◌≡◌, ℕ, Option, None, option_map, ok_or, Result, Ok, Err}
 use Rattle.bh_types.specs.AccessKeys.{tenant_named}
 use Rattle.bh_types.specs.Limits.{HostLimits}
 use Rattle.bh_types.specs.Outcomes.{◌>>=◌}
@@ -13,15 +13,16 @@ use Rattle.bh_http.specs.Credentials.{owner, key_given, secret_given}
 use Rattle.bh_http.specs.Reading.{Reads}
 use Rattle.bh_http.specs.Views.{Taken}
 use Rattle.bh_model.specs.Credentials.{authenticate}
-use Rattle.bh_model.specs.Listings.{list_objects}
+use Rattle.bh_model.specs.Listings.{list_objects, list_versions}
 use Rattle.bh_model.specs.Pages as pages
-use Rattle.bh_model.specs.Operations.{Answer, Outcome, add_tenant, add_key, remove_key, create_bucket, head_bucket, delete_bucket, list_buckets, get_versioning, put_versioning, put_object, get_object, head_object, delete_object}
+use Rattle.bh_model.specs.Operations.{Answer, Outcome, add_tenant, add_key, remove_key, create_bucket, head_bucket, delete_bucket, list_buckets, get_versioning, put_versioning, put_object, copy_object, get_object, head_object, delete_object}
 use Rattle.bh_model.specs.Runs as runs
 use Rattle.bh_model.specs.State.{Octets, State}
 use Rattle.bh_operation.specs.Operations.{operation}
 use Rattle.bh_operation.specs.declared.page.Page.{Page}
+use Rattle.bh_operation.specs.declared.page.VersionMarker.{VersionMarker}
 use Rattle.bh_operation.specs.declared.operation.Operation.{Operation}
-use Rattle.bh_operation.specs.declared.operation.Operation.TheVariants.{ListBuckets, CreateBucket, HeadBucket, DeleteBucket, ListObjectsV2, GetBucketVersioning, PutBucketVersioning, PutObject, GetObject, HeadObject, DeleteObject}
+use Rattle.bh_operation.specs.declared.operation.Operation.TheVariants.{ListBuckets, CreateBucket, HeadBucket, DeleteBucket, ListObjectsV2, GetBucketVersioning, PutBucketVersioning, PutObject, CopyObject, GetObject, HeadObject, DeleteObject, ListObjectVersions}
 
 -- ---- acts
 
@@ -56,6 +57,10 @@ set_versioning bucket body s = do
 abbrev pub page_asked : Page → pages.Asked
 page_asked page = record { prefix = page.prefix; delimiter = page.delimiter; max = page.size }
 
+-- the entry that it begins after
+abbrev pub place_asked : VersionMarker → pages.VersionPlace
+place_asked marker = record { key = marker.key; version = marker.version }
+
 -- an operation at a moment; those that the host doesn't carry out yet are refused. The document of a request is read
 -- before anything is looked at
 unfoldable pub operated : ℕ → Octets → Operation → Option State → Result Outcome Rejection
@@ -64,9 +69,12 @@ operated now body (CreateBucket bucket) s = plainly (create_bucket now bucket s)
 operated now body (HeadBucket bucket) s = plainly (head_bucket bucket s)
 operated now body (DeleteBucket bucket) s = plainly (delete_bucket bucket s)
 operated now body (ListObjectsV2 bucket page token) s = plainly (list_objects bucket (page_asked page) token s)
+operated now body (ListObjectVersions bucket page after) s = plainly (list_versions bucket (page_asked page) (option_map place_asked after) s)
 operated now body (GetBucketVersioning bucket) s = plainly (get_versioning bucket s)
 operated now body (PutBucketVersioning bucket) s = plainly (set_versioning bucket body s)
 operated now body (PutObject object checksum) s = plainly (put_object now object.bucket object.key body checksum s)
+operated now body (CopyObject object source) s =
+    plainly (copy_object now object.bucket object.key source.object.bucket source.object.key source.version s)
 operated now body (GetObject object version range) s = get_object object.bucket object.key version range s
 operated now body (HeadObject object version) s = head_object object.bucket object.key version s
 operated now body (DeleteObject object version) s = plainly (delete_object now object.bucket object.key version s)

@@ -5,3 +5,4 @@ pub mod RunLemmas
 pub mod PartLemmas
 pub mod KeyLemmas
 pub mod ObjectLemmas
+pub mod UploadLemmas

@@ -1,5 +1,5 @@
--- What was put is what is read.
-use Rattle.std.proofs.Common.{◌≡◌, ℕ, List, [], length, Option, Some, None, option_map, unwrap_or, Result, Ok, refl, ap, ◌∙◌, ok_or}
+-- What was put, or copied, is what is read.
+use Rattle.std.proofs.Common.{◌≡◌, ℕ, List, [], length, Option, Some, None, option_map, unwrap_or, Result, Ok, Err, refl, ap, ◌∙◌, ok_or}
 use Rattle.std.specs.Result.{IfOk, result_map_both}
 use Rattle.std.specs.FinMap.{get}
 use Rattle.bh_types.specs.declared.id.VersionId.{VersionId}
@@ -9,28 +9,31 @@ use Rattle.bh_types.specs.declared.range.RangePlan.TheVariants.{Whole}
 use Rattle.bh_types.specs.declared.rejection.Rejection.{Rejection}
 use Rattle.bh_types.specs.Rejections.{plainly}
 use Rattle.bh_types.specs.declared.refusal.Refusal.TheVariants.{NoSuchBucket, BadDigest, CounterExhausted}
-use Rattle.bh_model.specs.State.{Octets, Content.Body, Entry, Bucket, State}
+use Rattle.bh_model.specs.State.{Octets, Content, Content.Body, Entry, Bucket, State}
 use Rattle.bh_types.specs.Outcomes.{◌>>=◌, require}
 use Rattle.bh_types.specs.Checksums.{checksum_text}
 use Rattle.bh_model.specs.Counting.{counts, with_counts, can_number, numbered, after_entry}
 use Rattle.bh_model.specs.Entries.{Version, added, new_id, found_current, lookup}
 use Rattle.bh_model.specs.Parts.{is_checksum}
-use Rattle.bh_model.specs.Operations.{Answer, Outcome, Answer.Stored, Answer.Object, id_told, listed, with_bucket, with_object, shown, stored, not_found, planned, get_object}
-use Rattle.bh_model.specs.Laws.{PutIsRead}
+use Rattle.bh_model.specs.Operations.{Answer, Outcome, Answer.Stored, Answer.Copied, Answer.Object, id_told, listed, with_bucket, with_content, with_object, with_copy, shown, stored, copied, source_version, not_found, planned, get_object}
+use Rattle.bh_model.specs.Laws.{PutIsRead, CopyIsRead}
 use Rattle.bh_model.proofs.KeyLemmas.{get-inserted, tested}
 
 abbrev with_found : State → Option Bucket → Result (State × Bucket) Refusal
 with_found t o = ok_or (option_map (λ b. (t, b)) o) NoSuchBucket
 
-module _ (moment : ℕ) (name key bytes : Octets) where
+abbrev id_of : State → Bucket → Option VersionId
+id_of t b = id_told b.mode (new_id b.mode t.next_version)
+
+module _ (moment : ℕ) (name key bytes checksum : Octets) where
+  abbrev content : Content
+  content = Body bytes checksum
+
   abbrev put_state : State → Bucket → State
-  put_state t b = with_bucket name (with_object moment key t.next_version bytes b) (with_counts (numbered b.mode (counts t)) t)
+  put_state t b = with_bucket name (with_content moment key t.next_version content b) (with_counts (numbered b.mode (counts t)) t)
 
-  abbrev id_of : State → Bucket → Option VersionId
-  id_of t b = id_told b.mode (new_id b.mode t.next_version)
-
-  listed-with_object : (next : ℕ) (b : Bucket) → listed key (with_object moment key next bytes b) ≡ added b.mode next moment (Body bytes (checksum_text bytes)) (listed key b)
-  listed-with_object next b = ap (λ o. unwrap_or o []) (get-inserted b.objects key (added b.mode next moment (Body bytes (checksum_text bytes)) (listed key b)))
+  listed-with_content : (next : ℕ) (b : Bucket) → listed key (with_content moment key next content b) ≡ added b.mode next moment content (listed key b)
+  listed-with_content next b = ap (λ o. unwrap_or o []) (get-inserted b.objects key (added b.mode next moment content (listed key b)))
 
   abbrev version_in : State → Option Bucket → Result (Bucket × Version) Rejection
   version_in t o = do
@@ -56,28 +59,53 @@ module _ (moment : ℕ) (name key bytes : Octets) where
     Ok (shown f.0 f.1 plan, Some t)
 
   abbrev read_answer : Option VersionId → Answer
-  read_answer id = Object id (length bytes) Whole bytes (checksum_text bytes)
+  read_answer id = Object id (length bytes) Whole bytes checksum
 
-  read : (t : State) (b : Bucket) → get_object name key Current None (Some (put_state t b)) ≡ Ok (read_answer (id_of t b), Some (put_state t b))
+  pub read : (t : State) (b : Bucket) → get_object name key Current None (Some (put_state t b)) ≡ Ok (read_answer (id_of t b), Some (put_state t b))
   read t b =
-      ap (get_in (put_state t b)) (get-inserted t.buckets name (with_object moment key t.next_version bytes b))
-      ∙ ap (get_from (put_state t b) (with_object moment key t.next_version bytes b)) (listed-with_object t.next_version b)
+      ap (get_in (put_state t b)) (get-inserted t.buckets name (with_content moment key t.next_version content b))
+      ∙ ap (get_from (put_state t b) (with_content moment key t.next_version content b)) (listed-with_content t.next_version b)
 
-  abbrev IsRead : Outcome → Type 0
-  IsRead put = (id : Option VersionId) × (put.0 ≡ Stored id (checksum_text bytes)) × (get_object name key Current None put.1 ≡ Ok (read_answer id, put.1))
+module _ (moment : ℕ) (name key : Octets) where
+  abbrev IsRead : Octets → Outcome → Type 0
+  IsRead bytes put = (id : Option VersionId) × (put.0 ≡ Stored id (checksum_text bytes)) × (get_object name key Current None put.1 ≡ Ok (read_answer moment name key bytes (checksum_text bytes) id, put.1))
 
-  abbrev put_in : Option Octets → State → Option Bucket → Result Outcome Refusal
-  put_in given t o = do
+  abbrev put_in : Octets → Option Octets → State → Option Bucket → Result Outcome Refusal
+  put_in bytes given t o = do
     f ← with_found t o
     _ ← require (is_checksum given bytes) BadDigest
     c ← after_entry f.1.mode (counts f.0)
     Ok (stored bytes f.0.next_version f.1, Some (with_bucket name (with_object moment key f.0.next_version bytes f.1) (with_counts c f.0)))
 
-  put : (given : Option Octets) (t : State) (o : Option Bucket) → IfOk (put_in given t o) IsRead
-  put given t None = tt
-  put given t (Some b) =
-      tested (is_checksum given bytes) tt BadDigest _ IsRead (λ _. tested (can_number b.mode (counts t)) (numbered b.mode (counts t)) CounterExhausted _ IsRead (λ _. (id_of t b, refl, read t b)))
+  put : (bytes : Octets) (given : Option Octets) (t : State) (o : Option Bucket) → IfOk (put_in bytes given t o) (IsRead bytes)
+  put bytes given t None = tt
+  put bytes given t (Some b) =
+      tested (is_checksum given bytes) tt BadDigest _ (IsRead bytes)
+      (λ _. tested (can_number b.mode (counts t)) (numbered b.mode (counts t)) CounterExhausted _ (IsRead bytes) (λ _. (id_of t b, refl, read moment name key bytes (checksum_text bytes) t b)))
+
+  abbrev IsCopied : Result Version Refusal → Outcome → Type 0
+  IsCopied source copy =
+      (v : Version) × (id : Option VersionId) × (source ≡ Ok v) × (copy.0 ≡ Copied id moment v.checksum)
+      × (get_object name key Current None copy.1 ≡ Ok (read_answer moment name key v.bytes v.checksum id, copy.1))
+
+  abbrev copy_in : Result Version Refusal → State → Option Bucket → Result Outcome Refusal
+  copy_in source t o = do
+    f ← with_found t o
+    v ← source
+    c ← after_entry f.1.mode (counts f.0)
+    Ok (copied moment v f.0.next_version f.1, Some (with_bucket name (with_copy moment key f.0.next_version v f.1) (with_counts c f.0)))
+
+  copy : (source : Result Version Refusal) (t : State) (o : Option Bucket) → IfOk (copy_in source t o) (IsCopied source)
+  copy source t None = tt
+  copy (Err refusal) t (Some b) = tt
+  copy (Ok v) t (Some b) =
+      tested (can_number b.mode (counts t)) (numbered b.mode (counts t)) CounterExhausted _ (IsCopied (Ok v)) (λ _. (v, id_of t b, refl, refl, read moment name key v.bytes v.checksum t b))
 
 pub put_is_read : PutIsRead
 put_is_read moment name key bytes given None = tt
 put_is_read moment name key bytes given (Some t) = put moment name key bytes given t (get t.buckets name)
+
+pub copy_is_read : CopyIsRead
+copy_is_read moment name key source_name source_key wanted None = tt
+copy_is_read moment name key source_name source_key wanted (Some t) =
+    copy moment name key (source_version source_name source_key wanted (Some t)) t (get t.buckets name)

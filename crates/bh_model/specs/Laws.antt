@@ -16,7 +16,7 @@ use Rattle.bh_types.specs.Checksums.{checksum_text}
 use Rattle.bh_types.specs.AccessKeys.{access_key}
 use Rattle.bh_types.specs.declared.access_key.AccessKeyId.{AccessKeyId}
 use Rattle.bh_model.specs.Credentials.{authenticate}
-use Rattle.bh_model.specs.Operations.{Answer.Stored, Answer.Object, add_tenant, add_key, remove_key, create_bucket, delete_bucket, put_versioning, put_object, get_object, delete_object}
+use Rattle.bh_model.specs.Operations.{Answer.Stored, Answer.Copied, Answer.Object, add_tenant, add_key, remove_key, create_bucket, delete_bucket, put_versioning, put_object, source_version, copy_object, get_object, delete_object}
 use Rattle.bh_model.specs.Runs.{solo, solo_state, step, Follows}
 
 -- to purge, and then at a later moment, is to purge at the later one
@@ -54,6 +54,14 @@ PutIsRead = (moment : ℕ) (name key bytes : Octets) (given : Option Octets) (s 
     → IfOk (put_object moment name key bytes given s) (λ put.
     (id : Option VersionId) × (put.0 ≡ Stored id (checksum_text bytes)) × (get_object name key Current None put.1 ≡ Ok (Object id (length bytes) Whole bytes (checksum_text bytes), put.1)))
 
+-- what was copied is what a get without id reads, whatever the states of both buckets are, and also where a version is
+-- copied onto its own key
+abbrev pub CopyIsRead : Type 0
+CopyIsRead = (moment : ℕ) (name key source_name source_key : Octets) (wanted : Wanted) (s : Option State)
+    → IfOk (copy_object moment name key source_name source_key wanted s) (λ copy.
+    (v : Version) × (id : Option VersionId) × (source_version source_name source_key wanted s ≡ Ok v) × (copy.0 ≡ Copied id moment v.checksum)
+    × (get_object name key Current None copy.1 ≡ Ok (Object id (length v.bytes) Whole v.bytes v.checksum, copy.1)))
+
 -- 36 is '$'
 abbrev pub key_id : Octets → Octets → Octets
 key_id tenant name = tenant ++ 36 ∷ name
@@ -89,6 +97,7 @@ pub record CountersRise : Type 0 where
   pub remove_key_rises : (tenant name : Octets) → AlwaysRises (remove_key tenant name)
   pub create_bucket_rises : (moment : ℕ) (name : Octets) → AlwaysRises (create_bucket moment name)
   pub put_object_rises : (moment : ℕ) (name key bytes : Octets) (given : Option Octets) → AlwaysRises (put_object moment name key bytes given)
+  pub copy_object_rises : (moment : ℕ) (name key source_name source_key : Octets) (wanted : Wanted) → AlwaysRises (copy_object moment name key source_name source_key wanted)
   pub get_object_rises : (name key : Octets) (wanted : Wanted) (range : Option Octets) → AlwaysRises (get_object name key wanted range)
   pub delete_object_rises : (moment : ℕ) (name key : Octets) (wanted : Wanted) → AlwaysRises (delete_object moment name key wanted)
   pub delete_bucket_rises : (name : Octets) → AlwaysRises (delete_bucket name)

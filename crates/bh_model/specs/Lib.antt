@@ -7,6 +7,9 @@ pub mod Parts
 pub mod Credentials
 pub mod Operations
 pub mod Listings
+pub mod Quotas
 pub mod Runs
 pub mod Laws
+pub mod Uploads
+pub mod UploadLaws
 pub mod Shown

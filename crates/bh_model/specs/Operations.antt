@@ -11,7 +11,7 @@ use Rattle.bh_types.specs.declared.bucket_state.BucketState.{BucketState}
 use Rattle.bh_types.specs.declared.bucket_state.BucketState.TheVariants.{Unversioned, Enabled, Suspended}
 use Rattle.bh_types.specs.declared.range.RangePlan.{RangePlan}
 use Rattle.bh_types.specs.declared.refusal.Refusal.{Refusal}
-use Rattle.bh_types.specs.declared.refusal.Refusal.TheVariants.{NoSuchBucket, MethodNotAllowed, BucketAlreadyOwnedByYou, BucketNotEmpty, BadDigest, TenantExists, NoSuchTenant, KeyExists, NoSuchKeyName, InvalidName, InvalidQuota}
+use Rattle.bh_types.specs.declared.refusal.Refusal.TheVariants.{NoSuchBucket, MethodNotAllowed, BucketAlreadyOwnedByYou, BucketNotEmpty, BadDigest, InvalidRequest, TenantExists, NoSuchTenant, KeyExists, NoSuchKeyName, InvalidName, InvalidQuota}
 use Rattle.bh_types.specs.declared.rejection.Detail.{Detail}
 use Rattle.bh_types.specs.declared.rejection.Detail.TheVariants.{Nothing, CurrentMarker, NamedMarker, ObjectSize}
 use Rattle.bh_types.specs.declared.rejection.Rejection.{Rejection}
@@ -19,29 +19,31 @@ use Rattle.bh_types.specs.declared.wanted.Wanted.{Wanted}
 use Rattle.bh_types.specs.declared.wanted.Wanted.TheVariants.{Current, Named, Unknown}
 use Rattle.bh_model.specs.declared.entries.LookupFault.{LookupFault}
 use Rattle.bh_model.specs.FinMaps.{is_empty, set_at, non_empty}
-use Rattle.bh_model.specs.State.{Octets, Content.Body, Entry, Bucket, State, new_tenant, new_bucket}
+use Rattle.bh_model.specs.State.{Octets, Content, Content.Body, Entry, Bucket, State, new_tenant, new_bucket}
 use Rattle.bh_types.specs.Checksums.{checksum_text}
 use Rattle.bh_types.specs.Outcomes.{◌>>=◌, require}
 use Rattle.bh_types.specs.Ranges.{range_of, cut}
 use Rattle.bh_types.specs.Rejections.{plainly}
 use Rattle.bh_model.specs.Counting.{counts, with_counts, after_entry, after_delete}
 use Rattle.bh_model.specs.Entries.{Version, has_id, is_version, added, deleted, new_id, lookup}
-use Rattle.bh_model.specs.Pages.{ObjectsListed}
+use Rattle.bh_model.specs.Pages.{ObjectsListed, VersionsListed}
 use Rattle.bh_model.specs.Parts.{is_checksum}
 
 -- what is told where nothing is refused. An id is told where the bucket is or was versioned. `Removed` says whether a
 -- marker was made or taken out. `Head` and `Object` tell the whole object's size, `Object` with the bytes that its plan
--- names. Buckets are told with their moments, in the order of their names,
--- and `Objects` a page of a bucket's objects
+-- names. `Copied` tells the moment of the copy. Buckets are told with their moments, in the order of their names,
+-- and `Objects` and `Versions` a page of a bucket's objects, and of its versions
 pub data Answer : Type 0 where
   Done : Answer
   Removed : (id : Option VersionId) (marker : Bool) → Answer
   Stored : (id : Option VersionId) (checksum : Octets) → Answer
+  Copied : (id : Option VersionId) (moment : ℕ) (checksum : Octets) → Answer
   Head : (id : Option VersionId) (size : ℕ) (checksum : Octets) → Answer
   Object : (id : Option VersionId) (size : ℕ) (plan : RangePlan) (bytes checksum : Octets) → Answer
   Buckets : (buckets : List (Octets × ℕ)) → Answer
   Versioning : (mode : BucketState) → Answer
   Objects : (page : ObjectsListed) → Answer
+  Versions : (page : VersionsListed) → Answer
 
 -- an answer, and the state afterwards
 abbrev pub Outcome : Type 0
@@ -134,9 +136,13 @@ put_versioning name mode s = do
   f ← tenant_bucket name s
   Ok (Done, Some (with_bucket name (record f.1 { mode = mode }) f.0))
 
--- the bucket with a new object, whose id depends on the next version number
+-- the bucket with a new entry in front of its key's, whose id depends on the next version number
+abbrev pub with_content : ℕ → Octets → ℕ → Content → Bucket → Bucket
+with_content moment key next content b = with_entries key (added b.mode next moment content (listed key b)) b
+
+-- the bucket with a new object
 abbrev pub with_object : ℕ → Octets → ℕ → Octets → Bucket → Bucket
-with_object moment key next bytes b = with_entries key (added b.mode next moment (Body bytes (checksum_text bytes)) (listed key b)) b
+with_object moment key next bytes b = with_content moment key next (Body bytes (checksum_text bytes)) b
 
 abbrev pub stored : Octets → ℕ → Bucket → Answer
 stored bytes next b = Stored (id_told b.mode (new_id b.mode next)) (checksum_text bytes)
@@ -165,6 +171,33 @@ wanted_version name key wanted s = do
   f ← plainly (tenant_bucket name s)
   v ← result_map_both (λ v. v) not_found (lookup wanted (listed key f.1))
   Ok (f.1, v)
+
+-- a delete marker is no source of a copy: where it is named by its id, the request is at fault
+abbrev pub source_refusal : Refusal → Refusal
+source_refusal MethodNotAllowed = InvalidRequest
+source_refusal refusal = refusal
+
+-- the version that a copy is made of
+abbrev pub source_version : Octets → Octets → Wanted → Option State → Result Version Refusal
+source_version name key wanted s =
+    result_map_both (λ (f : Bucket × Version). f.1) (λ (rejection : Rejection). source_refusal rejection.refusal) (wanted_version name key wanted s)
+
+-- the bucket with a copy of a version, which has the version's bytes and the text of its checksum
+abbrev pub with_copy : ℕ → Octets → ℕ → Version → Bucket → Bucket
+with_copy moment key next v b = with_content moment key next (Body v.bytes v.checksum) b
+
+abbrev pub copied : ℕ → Version → ℕ → Bucket → Answer
+copied moment v next b = Copied (id_told b.mode (new_id b.mode next)) moment v.checksum
+
+-- the bucket and the key that the copy goes to, and then those that it comes from. The moment and the id are those of
+-- a new version of the first bucket
+-- Amazon S3 API Reference, CopyObject
+abbrev pub copy_object : ℕ → Octets → Octets → Octets → Octets → Wanted → Option State → Result Outcome Refusal
+copy_object moment name key source_name source_key wanted s = do
+  f ← tenant_bucket name s
+  v ← source_version source_name source_key wanted s
+  c ← after_entry f.1.mode (counts f.0)
+  Ok (copied moment v f.0.next_version f.1, Some (with_bucket name (with_copy moment key f.0.next_version v f.1) (with_counts c f.0)))
 
 -- a range in which no byte is tells the object's size
 abbrev pub out_of_range : ℕ → Refusal → Rejection

@@ -2,7 +2,11 @@
 use Rattle.std.specs.Prelude.{ℕ, Bool, true, false, ◌==◌, ◌&&◌, nat_lt, List, [], ◌∷◌, ◌++◌, length, map, flat_map, take, drop, Option, Some, None, option_map, if◌then◌else◌}
 use Rattle.std.specs.List.{filter, filter_map}
 use Rattle.std.specs.Ordering.{is_eq, is_lt, is_le}
+use Rattle.bh_types.specs.declared.id.VersionId.{VersionId}
+use Rattle.bh_types.specs.declared.wanted.Wanted.{Wanted}
+use Rattle.bh_types.specs.declared.wanted.Wanted.TheVariants.{Current, Named, Unknown}
 use Rattle.bh_model.specs.State.{Octets, octets_cmp, Content, Content.Marker, Content.Body, Entry}
+use Rattle.bh_model.specs.Entries.{same_id}
 
 abbrev pub same : Octets → Octets → Bool
 same a b = is_eq (octets_cmp a b)
@@ -150,4 +154,99 @@ objects_told bucket asked page = record {
   prefixes = flat_map common_in page.shown;
   objects = flat_map single_in page.shown;
   next = option_map (name_of (λ (o : ObjectItem). o.key)) page.next;
+}
+
+-- ---- ListObjectVersions: versions and delete markers, those of a key newest first
+-- Amazon S3 API Reference, ListObjectVersions
+
+-- what a version stores
+pub record StoredItem : Type 0 where
+  -- in bytes
+  pub size : ℕ
+  pub checksum : Octets
+
+-- a version, or a delete marker, which stores nothing; its moment is in seconds since 1970
+pub record VersionItem : Type 0 where
+  pub key : Octets
+  pub id : VersionId
+  pub moment : ℕ
+  -- whether it is the newest of its key
+  pub latest : Bool
+  pub object : Option StoredItem
+
+abbrev pub stored_in : Content → Option StoredItem
+stored_in Marker = None
+stored_in (Body bytes checksum) = Some (record { size = length bytes; checksum = checksum })
+
+abbrev pub version_item : Octets → Bool → Entry → VersionItem
+version_item key latest e = record { key = key; id = e.id; moment = e.moment; latest = latest; object = stored_in e.content }
+
+abbrev pub versions_of : Octets → List Entry → List VersionItem
+versions_of key [] = []
+versions_of key (newest ∷ older) = version_item key true newest ∷ map (version_item key false) older
+
+-- after all versions of a key, or after one of them
+pub record VersionPlace : Type 0 where
+  pub key : Octets
+  pub version : Wanted
+
+-- the versions older than the one of this id, and none where no version has it
+abbrev pub after_id : VersionId → List VersionItem → List VersionItem
+after_id id [] = []
+after_id id (v ∷ older) = if same_id v.id id then older else after_id id older
+
+-- of the marker's own key the versions after the one that it names
+abbrev pub after_version : Wanted → List VersionItem → List VersionItem
+after_version Current versions = []
+after_version (Named id) versions = after_id id versions
+after_version Unknown versions = []
+
+-- those of the marker's own key after its version, and those of greater keys
+abbrev pub versions_after : Option VersionPlace → List VersionItem → List VersionItem
+versions_after None versions = versions
+versions_after (Some marker) versions =
+    after_version marker.version (filter (λ v. same v.key marker.key) versions) ++ filter (λ v. is_before marker.key v.key) versions
+
+abbrev pub all_versions : List (Octets × List Entry) → List VersionItem
+all_versions keys = flat_map (λ k. versions_of k.0 k.1) keys
+
+-- a rolled-up name has to be greater than the marker's key
+abbrev pub passes_version : Option Octets → Listed VersionItem → Bool
+passes_version None e = true
+passes_version (Some marker) (Single v) = true
+passes_version (Some marker) (Common name) = is_before marker name
+
+abbrev pub key_of : Option VersionPlace → Option Octets
+key_of marker = option_map (λ (p : VersionPlace). p.key) marker
+
+abbrev pub versions_page : Asked → Option VersionPlace → List (Octets × List Entry) → Paged (Listed VersionItem)
+versions_page asked marker keys =
+    paged asked.max (entries_after asked.prefix asked.delimiter (λ v. v.key) (passes_version (key_of marker)) (versions_after marker (all_versions keys)))
+
+-- where the page after a truncated one begins: after a version, or after all that is under a rolled-up name
+pub record VersionNext : Type 0 where
+  pub name : Octets
+  pub id : Option VersionId
+
+abbrev pub version_next : Listed VersionItem → VersionNext
+version_next (Single v) = record { name = v.key; id = Some v.id }
+version_next (Common name) = record { name = name; id = None }
+
+-- CommonPrefixes and Versions, and where the next page begins, where this one is truncated
+pub record VersionsListed : Type 0 where
+  pub bucket : Octets
+  pub prefix : Octets
+  pub max : ℕ
+  pub prefixes : List Octets
+  pub versions : List VersionItem
+  pub next : Option VersionNext
+
+abbrev pub versions_told : Octets → Asked → Paged (Listed VersionItem) → VersionsListed
+versions_told bucket asked page = record {
+  bucket = bucket;
+  prefix = asked.prefix;
+  max = asked.max;
+  prefixes = flat_map common_in page.shown;
+  versions = flat_map single_in page.shown;
+  next = option_map version_next page.next;
 }

@@ -1,5 +1,5 @@
 //! Laws of the definitions, each the contract of a function that does nothing.
-ghost use Rattle.bh_model.specs.Laws.{PurgedLater, PurgedTwice, PutIsFound, EnabledDeleteKeeps, SuspendedDeleteClears, PutIsRead, AddedKeyOpens, RemovedKeyIsUnknown, CountersRise, StepsRise, FollowersStepAlike, RunsJoin};
+ghost use Rattle.bh_model.specs.Laws.{PurgedLater, PurgedTwice, PutIsFound, EnabledDeleteKeeps, SuspendedDeleteClears, PutIsRead, CopyIsRead, AddedKeyOpens, RemovedKeyIsUnknown, CountersRise, StepsRise, FollowersStepAlike, RunsJoin};
 
 /// To purge a tenant's state, and then at a later moment, is to purge it at the later one.
 pub fn purged_later()
@@ -29,6 +29,11 @@ pub fn suspended_delete_clears()
 /// What was put is what a get without id reads from the state after the put.
 pub fn put_is_read()
     ensures { PutIsRead }
+{}
+
+/// What was copied is what a get without id reads from the state after the copy.
+pub fn copy_is_read()
+    ensures { CopyIsRead }
 {}
 
 /// An access key that was added is its tenant's, and opens with its secret and no other.

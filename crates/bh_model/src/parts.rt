@@ -61,7 +61,8 @@ pub fn complete(
     Ok(join(alloc, &chosen)?)
 }
 
-fn ascends(named: &[Named]) -> bool
+/// Whether each number named is above the one before it.
+pub fn ascends(named: &[Named]) -> bool
     ensures { result ≡ spec.ascends (map (λ n. n.number) (map naming_of named.now)) }
 {
     match named {

@@ -18,6 +18,7 @@ use Rattle.bh_view.specs.Sound.{IsSound}
 use Rattle.bh_view.proofs.BucketChanges.{bucket_removed, state_changed}
 use Rattle.bh_view.proofs.BucketListing.{buckets_listed, none_in_bucket, objects_empty, uploads_empty}
 use Rattle.bh_schema.specs.Rows.{entry_in, listed_buckets}
+use Rattle.bh_view.proofs.SharedLemmas.{shared_same, shared_none}
 use Rattle.bh_storage.specs.Answers.{removed_answer}
 use Rattle.bh_storage.specs.Calls.{GivesStep, Decides, Carries}
 use Rattle.bh_storage.specs.declared.error.StepError.{StepError}
@@ -30,7 +31,7 @@ module _ (old new : Tables) (t b : Octets) (mode : BucketState) (found : mode_in
   -- ---- questions
 
   asked : (answer : Answer) (step : Option State → Result Outcome Refusal) → step (view old t) ≡ Ok (answer, view old t) → new ≡ old → GivesStep t step answer old new
-  asked answer step gives same = record { gives = gives ∙ ap (λ (x : Tables). Ok (answer, view x t)) (sym same); others = λ u apart. ap (λ (x : Tables). view x u) same; latest = ap latest_of same }
+  asked answer step gives same = record { gives = gives ∙ ap (λ (x : Tables). Ok (answer, view x t)) (sym same); others = λ u apart. ap (λ (x : Tables). view x u) same; latest = ap latest_of same; shared = shared_none old new same }
 
   pub heads : new ≡ old → GivesStep t (head_bucket b) Done old new
   heads = let h = has_bucket b (view old t) mode found in asked Done (head_bucket b) (rw (h.added, h.there) refl)
@@ -55,7 +56,7 @@ module _ (old new : Tables) (t b : Octets) (mode : BucketState) (found : mode_in
   sets_versioning m kept sound e =
       let h = has_bucket b (view old t) mode found in
       let change = state_changed old new t h.state sound h.added b h.bucket h.there (state_number m) (low m) (λ none. kept (sym (mode_back m) ∙ none)) e in
-      (record { gives = rw (h.added, change.shown, h.there, mode_back m) refl; others = change.others; latest = change.latest }, change.sound, change.limits)
+      (record { gives = rw (h.added, change.shown, h.there, mode_back m) refl; others = change.others; latest = change.latest; shared = shared_same old new (ap (λ (x : Tables). x.blocks) e) }, change.sound, change.limits)
 
   module _ (sound : IsSound old) where
     is_none_there : (h : HasBucket b (view old t) mode) → (is_empty h.bucket.objects && is_empty h.bucket.uploads) ≡ not (list_any (is_in_bucket t b) old.versions)
@@ -76,7 +77,7 @@ module _ (old new : Tables) (t b : Octets) (mode : BucketState) (found : mode_in
         let none : list_any (is_in_bucket t b) old.versions ≡ false = none_there (list_any (is_in_bucket t b) old.versions) empty in
         let change = bucket_removed old new t h.state sound h.added b (none_in_bucket old t b none) e in
         let free : (is_empty h.bucket.objects && is_empty h.bucket.uploads) ≡ true = is_none_there h ∙ ap not none in
-        (record { gives = rw (h.added, change.shown, h.there, free) refl; others = change.others; latest = change.latest }, change.sound, change.limits)
+        (record { gives = rw (h.added, change.shown, h.there, free) refl; others = change.others; latest = change.latest; shared = shared_same old new (ap (λ (x : Tables). x.blocks) e) }, change.sound, change.limits)
 
     pub kept_full : (r : Refusal) → emptiness t b old ≡ Err r → delete_bucket b (view old t) ≡ Err r
     kept_full r full =
@@ -95,4 +96,5 @@ lists old new t sound buckets is same = record {
   gives = ap (λ l. Ok (Buckets l, view old t)) (buckets_listed old t sound ∙ sym is) ∙ ap (λ (x : Tables). Ok (Buckets buckets, view x t)) (sym same);
   others = λ u apart. ap (λ (x : Tables). view x u) same;
   latest = ap latest_of same;
+  shared = shared_none old new same;
 }

@@ -10,6 +10,7 @@ use Rattle.bh_tables.specs.Typed.{Tables}
 use Rattle.bh_view.specs.View.{view, latest_of, limits_in}
 use Rattle.bh_view.specs.Sound.{IsSound}
 use Rattle.bh_view.proofs.BucketChanges.{bucket_added}
+use Rattle.bh_view.proofs.SharedLemmas.{shared_same}
 use Rattle.bh_storage.specs.Calls.{GivesStep}
 use Rattle.bh_objects.specs.Found.{tenant_in, name_free}
 
@@ -32,6 +33,7 @@ creates old new t at b sound early good there free e =
         gives = rw (v.1, change.shown, none) refl;
         others = change.others;
         latest = change.latest;
+        shared = shared_same old new (ap (λ (x : Tables). x.blocks) e);
       },
       change.sound,
       change.limits,

@@ -1,5 +1,5 @@
 -- DeleteObject: what was read, and the rows that were written, are the machine's step.
-use Rattle.std.proofs.Common.{◌≡◌, ◌≢◌, ℕ, zero, suc, ◌<◌, ◌≤◌, ◌^◌, Bool, true, false, not, ◌&&◌, List, find, Option, Some, None, option_map, Result, Ok, refl, sym, ap, ◌∙◌, subst}
+use Rattle.std.proofs.Common.{◌≡◌, ◌≢◌, ℕ, zero, suc, ◌<◌, ◌≤◌, ◌^◌, Bool, true, false, not, ◌&&◌, List, [], find, Option, Some, None, option_map, Result, Ok, refl, sym, ap, ◌∙◌, subst}
 use Rattle.std.specs.FinMap.{get}
 use Rattle.std.proofs.lemmas.Bool.{and_parts}
 use Rattle.sqlite_keyed.specs.Lists.{delete_where}
@@ -30,10 +30,15 @@ use Rattle.bh_view.proofs.PutLemmas.{marker_put}
 use Rattle.bh_view.proofs.VersionChanges.{version_removed}
 use Rattle.bh_view.proofs.WantedLemmas.{named_row, named_entry, no_row}
 use Rattle.bh_view.proofs.DeleteLemmas.{entries_same, nothing_removed, null_removed}
+use Rattle.bh_view.proofs.SharedLemmas.{shared_same, shared_none}
 use Rattle.bh_storage.specs.Calls.{GivesStep}
+use Rattle.bh_view.specs.Bodies.{HasBodies}
 use Rattle.bh_objects.specs.Found.{mode_in, numbers_in, IsKeyText, with_entry}
+use Rattle.bh_objects.specs.Writes.{without_entry, without_null, marker_written}
+use Rattle.bh_objects.proofs.Dropping.{Leaves, entry_gone, null_gone}
+use Rattle.bh_objects.proofs.Written.{becomes_so, IsHostOf, marker_is_written, left_written, whole_host}
 use Rattle.bh_objects.specs.Answers.{is_marked}
-use Rattle.bh_objects.proofs.Putting.{HasBucket, has_bucket, has_numbers}
+use Rattle.bh_objects.proofs.Putting.{HasBucket, has_bucket, has_numbers, next_unnamed}
 
 module _ (b k : Octets) (at : ℕ) (wanted : Wanted) where
   -- what the machine makes of a bucket that is there, in this state
@@ -50,8 +55,14 @@ module _ (b k : Octets) (at : ℕ) (wanted : Wanted) where
 abbrev pub Steps : Octets → Octets → Octets → ℕ → Wanted → Answer → Tables → Tables → Type 0
 Steps t b k at wanted answer old new = GivesStep t (delete_object at b k wanted) answer old new × IsSound new × (limits_in new ≡ limits_in old)
 
-steps : (t b k : Octets) (at : ℕ) (wanted : Wanted) (answer : Answer) (old new : Tables) (s : State) → Becomes t (Some s) old new → delete_object at b k wanted (view old t) ≡ Ok (answer, Some s) → Steps t b k at wanted answer old new
-steps t b k at wanted answer old new s change is = (record { gives = is ∙ ap (λ v. Ok (answer, v)) (sym change.shown); others = change.others; latest = change.latest }, change.sound, change.limits)
+-- and what stays of the bodies
+abbrev pub Deletes : Octets → Octets → Octets → ℕ → Wanted → Answer → Tables → Tables → Type 0
+Deletes t b k at wanted answer old new = Steps t b k at wanted answer old new × HasBodies new × (new.blocks ≡ old.blocks)
+
+steps : (t b k : Octets) (at : ℕ) (wanted : Wanted) (answer : Answer) (old new : Tables) (s : State) → Becomes t (Some s) old new → new.blocks ≡ old.blocks → delete_object at b k wanted (view old t) ≡ Ok (answer, Some s)
+    → Steps t b k at wanted answer old new
+steps t b k at wanted answer old new s change same is =
+    (record { gives = is ∙ ap (λ v. Ok (answer, v)) (sym change.shown); others = change.others; latest = change.latest; shared = shared_same old new same }, change.sound, change.limits)
 
 -- a step that changes nothing
 stays : (t b k : Octets) (at : ℕ) (wanted : Wanted) (answer : Answer) (old new : Tables) (s : State) → new ≡ old → view old t ≡ Some s → delete_object at b k wanted (view old t) ≡ Ok (answer, Some s) → GivesStep t (delete_object at b k wanted) answer old new
@@ -59,6 +70,7 @@ stays t b k at wanted answer old new s same is gives = record {
   gives = gives ∙ ap (λ v. Ok (answer, v)) (sym is ∙ ap (λ (x : Tables). view x t) (sym same));
   others = λ u apart. ap (λ (x : Tables). view x u) same;
   latest = ap latest_of same;
+  shared = shared_none old new same;
 }
 
 -- ---- a delete marker
@@ -73,23 +85,33 @@ versioned_answer Unversioned apart next l = absurd (apart refl)
 versioned_answer Enabled apart next l = refl
 versioned_answer Suspended apart next l = refl
 
-module _ (old new : Tables) (t b k : Octets) (at : ℕ) (sound : IsSound old) where
+module _ (old new : Tables) (t b k : Octets) (at : ℕ) (host : IsHostOf old) where
+  abbrev sound : IsSound old
+  sound = host.sound
+
   pub marks : (mode : BucketState) (c after : Counts) → mode ≢ Unversioned → at ≤ latest_of old → IsKeyText k → mode_in b (view old t) ≡ Ok mode → numbers_in mode (view old t) ≡ Ok (c, after)
-      → new ≡ with_entry mode c after t b k at Marker old → Steps t b k at Current (Removed (Some (new_id mode c.version)) true) old new
+      → new ≡ marker_written mode c after t b k at old → Deletes t b k at Current (Removed (Some (new_id mode c.version)) true) old new
   marks mode c after apart early key found read e =
       let h = has_bucket b (view old t) mode found in
       let given = has_numbers (view old t) h.state mode c after h.added read in
-      let change = marker_put old new t h.state sound h.added b k h.bucket h.there at early key.key key.valid mode after h.its apart given.1 (e ∙ ap (λ (x : Counts). with_entry mode x after t b k at Marker old) (sym given.0)) in
-      subst (λ (x : Counts). Steps t b k at Current (Removed (Some (new_id mode x.version)) true) old new) given.0
-      (steps t b k at Current _ old new _ change (delete_at b k at Current (view old t) mode h ∙ ap (made b k at Current h.state h.bucket mode) (versioned_counts mode apart (counts h.state) ∙ given.1)
-      ∙ ap (λ a. Ok (a, Some (with_bucket b (with_entries k (deleted mode Current h.state.next_version at (listed k h.bucket)) h.bucket) (with_counts after h.state)))) (versioned_answer mode apart h.state.next_version (listed k h.bucket))))
+      let it = marker_is_written old host mode c after t b k at (next_unnamed old t h.state sound h.added c given.0) new e in
+      let target = with_entry mode c after t b k at Marker old in
+      let change = becomes_so t _ old target new (marker_put old target t h.state sound h.added b k h.bucket h.there at early key.key key.valid mode after h.its apart given.1 (ap (λ (x : Counts). with_entry mode x after t b k at Marker old) (sym given.0))) it.0.rows in (
+        subst (λ (x : Counts). Steps t b k at Current (Removed (Some (new_id mode x.version)) true) old new) given.0
+            (steps t b k at Current _ old new _ change it.1 (delete_at b k at Current (view old t) mode h ∙ ap (made b k at Current h.state h.bucket mode) (versioned_counts mode apart (counts h.state) ∙ given.1)
+            ∙ ap (λ a. Ok (a, Some (with_bucket b (with_entries k (deleted mode Current h.state.next_version at (listed k h.bucket)) h.bucket) (with_counts after h.state)))) (versioned_answer mode apart h.state.next_version (listed k h.bucket)))),
+        it.0.bodies,
+        it.1,
+      )
 
   -- ---- the version `null`, where versions were never kept
 
-  pub deletes_null : mode_in b (view old t) ≡ Ok Unversioned → new ≡ record old { versions = delete_where (is_version t b k 0) old.versions } → Steps t b k at Current (Removed None false) old new
+  pub deletes_null : mode_in b (view old t) ≡ Ok Unversioned → new ≡ without_null t b k old → Deletes t b k at Current (Removed None false) old new
   deletes_null found e =
       let h = has_bucket b (view old t) Unversioned found in
-      steps t b k at Current _ old new _ (null_removed old t h.state h.added b k h.bucket h.there new sound h.its e) (delete_at b k at Current (view old t) Unversioned h)
+      let target : Tables = record old { versions = delete_where (is_version t b k 0) old.versions } in
+      let it = left_written old new target.versions (subst (Leaves [] target.versions old) (sym e) (null_gone old sound [] old (whole_host old host) refl t b k)) in
+      (steps t b k at Current _ old new _ (becomes_so t _ old target new (null_removed old t h.state h.added b k h.bucket h.there target sound h.its refl) it.0.rows) it.1 (delete_at b k at Current (view old t) Unversioned h), it.0.bodies, it.1)
 
   -- ---- by an id
 
@@ -146,14 +168,19 @@ module _ (old new : Tables) (t b k : Octets) (at : ℕ) (sound : IsSound old) wh
           → removed_named mode (Some (entry_of row)) ≡ Removed (id_told mode id) marker
       told row is marker m its right = (λ i. Removed (id_told mode (is i)) (not (is_object (record { id = id_of row.id; moment = row.stamp; content = content_of (its i) row })))) ∙ ap (λ a. Removed (id_told mode id) a) (sym right)
 
-      pub deletes_entry : (row : VersionRow) (marker : Bool) → find (is_version t b k n) old.versions ≡ Some row → marker ≡ not (is_object (entry_of row)) → new ≡ record old { versions = delete_where (is_version t b k n) old.versions }
-          → Steps t b k at (Named id) (Removed (id_told mode id) marker) old new
+      pub deletes_entry : (row : VersionRow) (marker : Bool) → find (is_version t b k n) old.versions ≡ Some row → marker ≡ not (is_object (entry_of row)) → new ≡ without_entry t b k n row.seq old
+          → Deletes t b k at (Named id) (Removed (id_told mode id) marker) old new
       deletes_entry row marker there right e =
-          let change = version_removed old new t bucket.state sound bucket.added b k n bucket.bucket bucket.there e in
-          subst (λ (x : VersionId). Steps t b k at (Named x) (Removed (id_told mode id) marker) old new) number
-          (steps t b k at (Named (id_of n)) _ old new _ change (named_at (id_of n)
-          ∙ ap (λ o. Ok (removed_named mode (option_map entry_of o), Some (with_bucket b (with_entries k (deleted mode (Named (id_of n)) bucket.state.next_version at (listed k bucket.bucket)) bucket.bucket) bucket.state))) (named_row t b k n old.versions ∙ there)
-          ∙ ap (λ a. Ok (a, Some (with_bucket b (with_entries k (deleted mode (Named (id_of n)) bucket.state.next_version at (listed k bucket.bucket)) bucket.bucket) bucket.state))) (told row (row_id row there) marker row.marker refl right)))
+          let target : Tables = record old { versions = delete_where (is_version t b k n) old.versions } in
+          let it = left_written old new target.versions (subst (Leaves [] target.versions old) (sym e) (entry_gone old sound [] old (whole_host old host) refl t b k n row there)) in
+          let change = becomes_so t _ old target new (version_removed old target t bucket.state sound bucket.added b k n bucket.bucket bucket.there refl) it.0.rows in (
+            subst (λ (x : VersionId). Steps t b k at (Named x) (Removed (id_told mode id) marker) old new) number
+                (steps t b k at (Named (id_of n)) _ old new _ change it.1 (named_at (id_of n)
+                ∙ ap (λ o. Ok (removed_named mode (option_map entry_of o), Some (with_bucket b (with_entries k (deleted mode (Named (id_of n)) bucket.state.next_version at (listed k bucket.bucket)) bucket.bucket) bucket.state))) (named_row t b k n old.versions ∙ there)
+                ∙ ap (λ a. Ok (a, Some (with_bucket b (with_entries k (deleted mode (Named (id_of n)) bucket.state.next_version at (listed k bucket.bucket)) bucket.bucket) bucket.state))) (told row (row_id row there) marker row.marker refl right))),
+            it.0.bodies,
+            it.1,
+          )
 
 -- the column `marker` says whether it is no object
 pub marked_object : (row : VersionRow) (m : ℕ) → m ≡ row.marker → is_marked m ≡ not (is_object (entry_of row))

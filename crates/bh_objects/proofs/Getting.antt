@@ -1,5 +1,5 @@
 -- GetObject and HeadObject: the row that was read is the version that the machine finds.
-use Rattle.std.proofs.Common.{◌≡◌, ℕ, zero, suc, length, is_ok, true≢false, find, Option, Some, None, option_map, Result, Ok, Err, refl, sym, ap, ◌∙◌}
+use Rattle.std.proofs.Common.{◌≡◌, ℕ, zero, suc, length, is_ok, true≢false, filter, Option, Some, None, option_map, Result, Ok, Err, refl, sym, ap, ◌∙◌}
 use Rattle.std.specs.Result.{result_map_both}
 use Rattle.std.specs.FinMap.{get}
 use Rattle.bh_types.specs.Outcomes.{◌>>=◌}
@@ -15,16 +15,24 @@ use Rattle.bh_model.specs.Entries.{Version, opened, lookup}
 use Rattle.bh_model.specs.Operations.{Answer, Outcome, Head, Object, id_told, listed, not_found, planned, shown, wanted_version, get_object, head_object}
 use Rattle.bh_model.specs.declared.entries.LookupFault.{LookupFault}
 use Rattle.bh_tables.specs.Typed.{Tables, VersionRow}
+use Rattle.bh_tables.specs.Bodies.{version_name}
 use Rattle.bh_tables.specs.Shown.{is_entry}
 use Rattle.bh_view.specs.View.{view, latest_of, entry_of, content_of, id_of}
 use Rattle.bh_storage.specs.Calls.{GivesStep, Carries, Decides}
 use Rattle.bh_storage.specs.declared.error.StepError.{StepError}
 use Rattle.bh_storage.specs.declared.error.StepError.TheVariants.{Refused, Failed}
 use Rattle.bh_view.specs.Sound.{IsSound}
+use Rattle.bh_view.specs.Blocks.{whole}
+use Rattle.bh_view.specs.Bodies.{IsResolved}
 use Rattle.bh_view.specs.Wanted.{wanted_row, looked}
-use Rattle.bh_view.proofs.FilterLemmas.{none_some, same_Some}
+use Rattle.sqlite_keyed.proofs.ListLemmas.{all-filter}
+use Rattle.bh_view.proofs.FilterLemmas.{none_some, first_passes}
+use Rattle.bh_view.proofs.FactLemmas.{all_first}
+use Rattle.bh_view.proofs.FindLemmas.{first_find}
+use Rattle.bh_view.proofs.NameLemmas.{names}
+use Rattle.bh_view.proofs.SharedLemmas.{shared_none}
 use Rattle.bh_view.proofs.WantedLemmas.{lookup_row, wanted_good, wanted_entry}
-use Rattle.bh_schema.specs.Rows.{SeenHead, seen_head, seen_bytes}
+use Rattle.bh_schema.specs.Rows.{SeenHead, seen_head}
 use Rattle.bh_objects.specs.Answers.{head_opened, head_looked, head_told}
 use Rattle.bh_objects.specs.Found.{mode_in}
 use Rattle.bh_objects.proofs.Putting.{has_bucket}
@@ -109,7 +117,7 @@ module _ (tables : Tables) (t b k : Octets) (sound : IsSound tables) (mode : Buc
 
   -- a refusal of the lookup
   module _ (x : Rejection) (e : head_looked wanted (option_map seen_head row_there) ≡ Err x) where
-    refused_version : (B : Bucket) × (B.mode ≡ mode) × (wanted_version b k wanted (view tables t) ≡ Err x)
+    pub refused_version : (B : Bucket) × (B.mode ≡ mode) × (wanted_version b k wanted (view tables t) ≡ Err x)
     refused_version = version_at (Err x) (head_refused wanted row_there (nothing_unknown wanted) x e)
 
     pub head_is_refused : head_object b k wanted (view tables t) ≡ Err x
@@ -120,18 +128,26 @@ module _ (tables : Tables) (t b k : Octets) (sound : IsSound tables) (mode : Buc
 
   -- a version
   module _ (head : SeenHead) (e : head_looked wanted (option_map seen_head row_there) ≡ Ok head) where
-    its : IsRow wanted row_there head
+    pub its : IsRow wanted row_there head
     its = head_row wanted row_there (nothing_unknown wanted) head e
 
-    sized : head.size ≡ length its.row.bytes
+    pub sized : head.size ≡ length its.row.bytes
     sized = ap (λ (x : SeenHead). x.size) (sym its.seen) ∙ (wanted_good tables t sound b k wanted its.row its.there).size
 
-    found_version : (B : Bucket) × (B.mode ≡ mode) × (wanted_version b k wanted (view tables t) ≡ Ok (B, version_of its.row))
+    pub found_version : (B : Bucket) × (B.mode ≡ mode) × (wanted_version b k wanted (view tables t) ≡ Ok (B, version_of its.row))
     found_version = version_at (Ok (version_of its.row)) its.tells
 
     pub head_is_told : head_object b k wanted (view tables t) ≡ Ok (head_told mode head, view tables t)
     head_is_told = ap (head_given (view tables t)) found_version.2 ∙ (λ i. Ok (Head (id_told (found_version.1 i) (id_of its.row.id)) (sym sized i) its.row.checksum, view tables t))
         ∙ ap (λ (x : SeenHead). Ok (Head (id_told mode (id_of x.id)) head.size x.checksum, view tables t)) its.seen
+
+    -- its bytes are those of its body
+    pub row_bytes : IsResolved tables → its.row.bytes ≡ whole tables.refs tables.blocks (t, head.seq)
+    row_bytes resolved =
+        let there = first_find (is_entry t its.row.seq) tables.versions ∙ wanted_entry tables t sound b k wanted its.row its.there in
+        let named : version_name its.row ≡ (t, its.row.seq) = (names.decides (version_name its.row) (t, its.row.seq)).0 (first_passes (is_entry t its.row.seq) tables.versions its.row there) in
+        all_first (λ (v : VersionRow). v.bytes ≡ whole tables.refs tables.blocks (version_name v)) (filter (is_entry t its.row.seq) tables.versions) its.row there (all-filter _ _ _ resolved)
+        ∙ ap (whole tables.refs tables.blocks) named ∙ ap (λ (x : SeenHead). whole tables.refs tables.blocks (t, x.seq)) its.seen
 
     module _ (range : Option Octets) where
       planned_at : get_object b k wanted range (view tables t) ≡ (planned range head.size >>= (λ plan. Ok (Object (id_told mode (id_of head.id)) head.size plan (cut plan its.row.bytes) head.checksum, view tables t)))
@@ -142,11 +158,10 @@ module _ (tables : Tables) (t b k : Octets) (sound : IsSound tables) (mode : Buc
       pub range_is_refused : (x : Rejection) → planned range head.size ≡ Err x → get_object b k wanted range (view tables t) ≡ Err x
       range_is_refused x out = planned_at ∙ ap (λ r. r >>= (λ plan. Ok (Object (id_told mode (id_of head.id)) head.size plan (cut plan its.row.bytes) head.checksum, view tables t))) out
 
-      pub object_is_told : (plan : RangePlan) (bytes : Octets) → planned range head.size ≡ Ok plan → option_map (λ v. cut plan (seen_bytes v)) (find (is_entry t head.seq) tables.versions) ≡ Some bytes
+      pub object_is_told : IsResolved tables → (plan : RangePlan) (bytes : Octets) → planned range head.size ≡ Ok plan → bytes ≡ cut plan (whole tables.refs tables.blocks (t, head.seq))
           → get_object b k wanted range (view tables t) ≡ Ok (Object (id_told mode (id_of head.id)) head.size plan bytes head.checksum, view tables t)
-      object_is_told plan bytes within read =
-          let entry : find (is_entry t head.seq) tables.versions ≡ Some its.row = ap (λ (x : SeenHead). find (is_entry t x.seq) tables.versions) (sym its.seen) ∙ wanted_entry tables t sound b k wanted its.row its.there in
-          let kept : cut plan its.row.bytes ≡ bytes = same_Some (sym (ap (option_map (λ v. cut plan (seen_bytes v))) entry) ∙ read) in
+      object_is_told resolved plan bytes within read =
+          let kept : cut plan its.row.bytes ≡ bytes = ap (cut plan) (row_bytes resolved) ∙ sym read in
           planned_at ∙ ap (λ r. r >>= (λ p. Ok (Object (id_told mode (id_of head.id)) head.size p (cut p its.row.bytes) head.checksum, view tables t))) within
           ∙ ap (λ l. Ok (Object (id_told mode (id_of head.id)) head.size plan l head.checksum, view tables t)) kept
 
@@ -168,6 +183,7 @@ module _ (old middle : Tables) (t b k : Octets) (sound : IsSound old) (mode : Bu
     gives = head_is_told old t b k sound mode found wanted head (looked_first (Ok head) e) ∙ ap (λ (x : Tables). Ok (head_told mode head, view x t)) (sym (two ∙ one));
     others = λ u apart. ap (λ (x : Tables). view x u) (two ∙ one);
     latest = ap latest_of (two ∙ one);
+    shared = shared_none old new (two ∙ one);
   }
 
   pub heads_refused : (new : Tables) (x : Rejection) → Looked (Err x) → new ≡ middle → (head_object b k wanted (view old t) ≡ Err x) × (new ≡ old)
@@ -190,13 +206,14 @@ module _ (old middle : Tables) (t b k : Octets) (sound : IsSound old) (mode : Bu
     pub gets_out_of_range : (x : Rejection) → planned range head.size ≡ Err x → (get_object b k wanted range (view old t) ≡ Err x) × (last ≡ old)
     gets_out_of_range x out = (range_is_refused old t b k sound mode found wanted head (looked_first (Ok head) e) range x out, two ∙ one)
 
-    pub gets : (new : Tables) (plan : RangePlan) (bytes : Octets) → planned range head.size ≡ Ok plan → option_map (λ v. cut plan (seen_bytes v)) (find (is_entry t head.seq) last.versions) ≡ Some bytes → new ≡ last
+    pub gets : IsResolved old → (new : Tables) (plan : RangePlan) (bytes : Octets) → planned range head.size ≡ Ok plan → bytes ≡ cut plan (whole last.refs last.blocks (t, head.seq)) → new ≡ last
         → GivesStep t (get_object b k wanted range) (as_object plan bytes (head_told mode head)) old new
-    gets new plan bytes within read three =
+    gets resolved new plan bytes within read three =
         let same : new ≡ old = three ∙ two ∙ one in
-        let first : option_map (λ v. cut plan (seen_bytes v)) (find (is_entry t head.seq) old.versions) ≡ Some bytes = ap (λ (x : Tables). option_map (λ v. cut plan (seen_bytes v)) (find (is_entry t head.seq) x.versions)) (sym (two ∙ one)) ∙ read in
+        let first : bytes ≡ cut plan (whole old.refs old.blocks (t, head.seq)) = read ∙ ap (λ (x : Tables). cut plan (whole x.refs x.blocks (t, head.seq))) (two ∙ one) in
         record {
-          gives = object_is_told old t b k sound mode found wanted head (looked_first (Ok head) e) range plan bytes within first ∙ ap (λ (x : Tables). Ok (as_object plan bytes (head_told mode head), view x t)) (sym same);
+          gives = object_is_told old t b k sound mode found wanted head (looked_first (Ok head) e) range resolved plan bytes within first ∙ ap (λ (x : Tables). Ok (as_object plan bytes (head_told mode head), view x t)) (sym same);
           others = λ u apart. ap (λ (x : Tables). view x u) same;
           latest = ap latest_of same;
+          shared = shared_none old new same;
         }

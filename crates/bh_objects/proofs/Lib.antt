@@ -1,7 +1,10 @@
+pub mod Dropping
+pub mod Written
 pub mod Working
 pub mod Found
 pub mod Creating
 pub mod Putting
 pub mod BucketSteps
 pub mod Getting
+pub mod Copying
 pub mod Deleting

@@ -1,11 +1,18 @@
 -- What calls on a connection leave, one after another.
-use Rattle.std.proofs.Common.{◌≡◌, inl, refl, sym, ap, subst}
+use Rattle.std.proofs.Common.{◌≡◌, ◌∙◌, List, Result, Ok, Err, OnOk, inl, refl, sym, ap, subst}
 use Rattle.sqlite.specs.State.{State}
-use Rattle.bh_tables.specs.Typed.{tables_in}
+use Rattle.bh_tables.specs.Typed.{BucketRow, Tables, raw, tables_in}
+use Rattle.bh_storage.specs.Calls.{Unless}
+use Rattle.bh_storage.specs.declared.error.StepError.{StepError}
+use Rattle.bh_storage.specs.declared.error.StepError.TheVariants.{Refused, Failed}
 use Rattle.bh_view.specs.Sound.{IsSound}
+use Rattle.bh_view.specs.Blocks.{AreDigests}
+use Rattle.bh_view.specs.Bodies.{HasBodies}
 use Rattle.bh_view.specs.View.{limits_in}
+use Rattle.bh_view.proofs.ResolvedLemmas.{tables_resolved}
 use Rattle.bh_schema.specs.Layer.{Standing, standing, IsIntact, IsStateClean, IsInside, StateWithin}
 use Rattle.bh_schema.specs.Working.{tables_at, IsWorking, StillWorking}
+use Rattle.bh_objects.proofs.Written.{IsHostOf}
 
 -- no call
 pub no_call : (s : State) → (IsStateClean s → IsInside (standing s)) → StateWithin s s
@@ -24,7 +31,59 @@ pub asked_working : (old new : State) → (IsStateClean old → IsWorking old) �
 asked_working old new working w same clean =
     let was = working (w.follows.clean clean) in
     let is = same clean.intact in
-    record {
-      is = record { inside = subst IsInside (sym is) was.inside; sound = subst (λ (x : Standing). IsSound (tables_in x.now)) (sym is) was.sound };
+    λ digest. record {
+      is = record {
+        inside = subst IsInside (sym is) was.inside;
+        sound = subst (λ (x : Standing). IsSound (tables_in x.now)) (sym is) was.sound;
+        bodies = subst (λ (x : Standing). HasBodies (tables_in x.now)) (sym is) was.bodies;
+      };
       limits = ap limits_in (same_tables old new is);
+      digests = λ d. subst (λ (x : Standing). AreDigests digest (tables_in x.now).blocks) (sym is) d;
     }
+
+-- the tables in which operations are carried out
+pub host_at : (s : State) → IsWorking s → IsHostOf (tables_at s)
+host_at s works = record { sound = works.sound; bodies = works.bodies; resolved = tables_resolved (raw (standing s).now.trees) }
+
+-- what a change of versions leaves
+pub still_working : (old new : State) → IsInside (standing new) → IsSound (tables_at new) → HasBodies (tables_at new) → limits_in (tables_at new) ≡ limits_in (tables_at old) → (tables_at new).blocks ≡ (tables_at old).blocks → StillWorking old new
+still_working old new inside sound bodies limits same = λ digest. record {
+  is = record { inside = inside; sound = sound; bodies = bodies };
+  limits = limits;
+  digests = λ d. subst (AreDigests digest) (sym same) d;
+}
+
+-- the same where buckets alone change after a question
+pub still_buckets : (old middle new : State) (buckets : List BucketRow) → tables_at middle ≡ tables_at old → IsWorking old → IsInside (standing new) → tables_at new ≡ record (tables_at middle) { buckets = buckets }
+    → IsSound (tables_at new) → limits_in (tables_at new) ≡ limits_in (tables_at old) → StillWorking old new
+still_buckets old middle new buckets same was inside e sound limits =
+    let is : tables_at new ≡ record (tables_at old) { buckets = buckets } = e ∙ ap (λ (x : Tables). record x { buckets = buckets }) same in
+    still_working old new inside sound (subst HasBodies (sym is) was.bodies) limits (ap (λ (x : Tables). x.blocks) is)
+
+-- ---- one call after another
+
+pub works_on : (old new : State) → StillWorking old new → IsWorking new
+works_on old new still = (still (λ bytes. bytes)).is
+
+pub works_then : (one two three : State) → StillWorking one two → StillWorking two three → StillWorking one three
+works_then one two three f g = λ digest. record { is = (g digest).is; limits = (g digest).limits ∙ (f digest).limits; digests = λ d. (g digest).digests ((f digest).digests d) }
+
+-- ---- whatever is answered
+
+pub any_unless : {X E : Type 0} (result : Result X (StepError E)) (P : Type 0) → P → Unless result P
+any_unless (Ok x) P p = p
+any_unless (Err (Refused r)) P p = p
+any_unless (Err (Failed trouble)) P p = tt
+
+pub unless_then : {E : Type 0} (P Q : Type 0) (error : StepError E) → (P → Q) → Unless {X = Unit {0}} {E = E} (Err error) P → Unless {X = Unit {0}} {E = E} (Err error) Q
+unless_then P Q (Refused r) f p = f p
+unless_then P Q (Failed trouble) f p = tt
+
+pub on_ok_then : {X E : Type 0} (result : Result X E) (P Q : Type 0) → (P → Q) → OnOk result P → OnOk result Q
+on_ok_then (Ok x) P Q f p = f p
+on_ok_then (Err e) P Q f p = tt
+
+pub unless_kept : {X E : Type 0} (result : Result X (StepError E)) (P Q : Type 0) → (P → Q) → Unless result P → Unless result Q
+unless_kept (Ok x) P Q f p = f p
+unless_kept (Err (Refused r)) P Q f p = f p
+unless_kept (Err (Failed trouble)) P Q f p = tt

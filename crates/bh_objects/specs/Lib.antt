@@ -1,3 +1,5 @@
 pub mod Answers
 pub mod Found
 pub mod Buckets
+pub mod Writes
+pub mod Copies

@@ -13,7 +13,7 @@ ghost use Rattle.bh_objects.specs.Answers.{is_marked};
 use crate::heads::numbered_head;
 use crate::ids::{number_of, told_id};
 use crate::reads::{Numbers, bucket_state, new_numbers};
-use crate::writes::{drop_entry, write_marker};
+use crate::writes::{drop_entry, drop_null, write_marker};
 use bh_model::entries::new_id;
 use bh_storage::answer::RemovedEntry;
 use bh_storage::error::StepError;
@@ -94,7 +94,7 @@ fn delete_null<S: Alter>(
         → Carries removed_answer tenant.now (machine.delete_object at bucket.now key.now Current)
         (tables S.Store connection.old) (tables S.Store connection.new) result }
 {
-    drop_entry(connection, tenant, bucket, key, 0)?;
+    drop_null(connection, tenant, bucket, key)?;
     Ok(nothing_told())
 }
 
@@ -123,7 +123,7 @@ fn delete_numbered<S: Alter>(
     match found {
         None => Ok(nothing_told()),
         Some(head) => {
-            drop_entry(connection, tenant, bucket, key, number)?;
+            drop_entry(connection, tenant, bucket, key, number, head.seq)?;
             Ok(RemovedEntry {
                 id: told_id(mode, id),
                 marker: is_marker(head.marker),

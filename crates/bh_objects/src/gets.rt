@@ -1,18 +1,18 @@
-ghost use Rattle.std.specs.Prelude.{◌≡◌, find, option_map, Some, IfOk, OnOk};
+ghost use Rattle.std.specs.Prelude.{◌≡◌, IfOk, OnOk};
 ghost use Rattle.std.specs.Option.{option_copied};
 ghost use Rattle.bh_types.specs.Ranges.{cut};
 ghost use Rattle.bh_model.specs.Operations as machine;
-ghost use Rattle.bh_tables.specs.Shown.{is_entry};
+ghost use Rattle.bh_view.specs.Blocks.{whole};
+ghost use Rattle.bh_view.specs.Bodies.{HasBodies};
 ghost use Rattle.bh_schema.specs.Connections.{IsClean, tables, InTransaction, StaysWithin, StaysOpen, ChangesNothing};
-ghost use Rattle.bh_schema.specs.Rows.{seen_bytes};
 ghost use Rattle.bh_schema.specs.Working.{Works, StillWorks};
 ghost use Rattle.bh_storage.specs.Answers.{found_answer};
 ghost use Rattle.bh_storage.specs.Calls.{Unless, Carries};
 
 use crate::heads::{told_head, wanted_head};
 use crate::reads::bucket_state;
+use bh_blocks::reading::read_body;
 use bh_core::ranges::range_of;
-use bh_schema::rows;
 use bh_schema::trouble::or_trouble;
 use bh_storage::answer::FoundVersion;
 use bh_storage::error::{StepError, Trouble};
@@ -39,45 +39,8 @@ fn planned(range: Option<&[u8]>, size: u64) -> Result<RangePlan, Rejection>
     }
 }
 
-/// The bytes of the version with this entry number.
-fn version_bytes<S: Alter>(
-    connection: &mut Connection<S>,
-    tenant: &TenantName,
-    seq: u64,
-) -> Result<Vec<u8>, Trouble>
-    requires { InTransaction S.Store connection.old }
-    ensures within { StaysWithin S.Store connection.old connection.new }
-    ensures opens { OnOk result (StaysOpen S.Store connection.old connection.new) }
-    ensures same { OnOk result (ChangesNothing S.Store connection.old connection.new) }
-    ensures found { IfOk result (λ bytes. IsClean S.Store connection.new
-        → option_map seen_bytes (find (is_entry tenant.now seq) (tables S.Store connection.old).versions) ≡ Some bytes.items) }
-{
-    // No counter gives such a number.
-    if seq >= COUNTER_END {
-        return Err(Trouble::Store);
-    }
-    match or_trouble(rows::versions::version_bytes(connection, tenant.as_str(), seq))? {
-        Some(bytes) => Ok(bytes),
-        None => Err(Trouble::Store),
-    }
-}
-
-/// The bytes that a plan names. A plan of an object that has fewer bytes is trouble.
-fn cut_bytes(alloc: Global, plan: RangePlan, bytes: Vec<u8>) -> Result<Vec<u8>, Trouble>
-    ensures { IfOk result (λ kept. kept.items ≡ cut plan bytes.items) }
-{
-    match plan {
-        RangePlan::Whole => Ok(bytes),
-        RangePlan::Part { first, last } => {
-            if last < first || last >= bytes.len() as u64 {
-                return Err(Trouble::Store);
-            }
-            Ok(Vec::from_slice(alloc, &bytes[first as usize..last as usize + 1])?)
-        }
-    }
-}
-
-/// The bytes that a plan names, of the version with this entry number.
+/// The bytes that a plan names, of the version with this entry number. Of its blocks only those are read that the
+/// plan touches.
 fn planned_bytes<S: Alter>(
     connection: &mut Connection<S>,
     alloc: Global,
@@ -89,12 +52,14 @@ fn planned_bytes<S: Alter>(
     ensures within { StaysWithin S.Store connection.old connection.new }
     ensures opens { OnOk result (StaysOpen S.Store connection.old connection.new) }
     ensures same { OnOk result (ChangesNothing S.Store connection.old connection.new) }
-    ensures found { IfOk result (λ bytes. IsClean S.Store connection.new
-        → option_map (λ v. cut plan (seen_bytes v)) (find (is_entry tenant.now seq) (tables S.Store connection.old).versions)
-        ≡ Some bytes.items) }
+    ensures read { IfOk result (λ bytes. IsClean S.Store connection.new → HasBodies (tables S.Store connection.old)
+        → bytes.items ≡ cut plan (whole (tables S.Store connection.old).refs (tables S.Store connection.old).blocks (tenant.now, seq))) }
 {
-    let bytes = version_bytes(connection, tenant, seq)?;
-    cut_bytes(alloc, plan, bytes)
+    // No counter gives such a number.
+    if seq >= COUNTER_END {
+        return Err(Trouble::Store);
+    }
+    or_trouble(read_body(connection, alloc, tenant.as_str(), seq, plan))
 }
 
 /// S3's GetObject, where the request may have a Range field: NoSuchBucket, NoSuchKey, NoSuchVersion,

@@ -2,6 +2,7 @@
 #![tactic(auto)]
 
 pub mod buckets;
+pub mod copies;
 pub mod deletes;
 pub mod gets;
 pub mod heads;

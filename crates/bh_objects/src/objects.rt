@@ -5,15 +5,17 @@ ghost use Rattle.bh_types.specs.Checksums.{checksum_text};
 ghost use Rattle.bh_model.specs.Operations as machine;
 ghost use Rattle.bh_storage.specs.Answers.{stored_answer};
 ghost use Rattle.bh_storage.specs.Calls.{Unless, Carries};
+ghost use Rattle.bh_view.specs.Blocks.{AreDigests};
 ghost use Rattle.bh_view.specs.View.{latest_of};
 ghost use Rattle.bh_schema.specs.Connections.{IsClean, tables, StaysWithin, StaysOpen};
-ghost use Rattle.bh_schema.specs.Working.{Works, StillWorks};
+ghost use Rattle.bh_schema.specs.Working.{Works, StillWorksBy};
 ghost use Rattle.bh_objects.specs.Found.{Answers, sum_given};
 
 use crate::ids::told_id;
 use crate::reads::{Numbers, bucket_state, new_numbers};
 use crate::writes::{NewObject, write_object};
 use bh_model::entries::new_id;
+use bh_schema::host::Digester;
 use bh_storage::answer::StoredVersion;
 use bh_storage::error::StepError;
 use bh_types::checksum::checksum_of;
@@ -42,18 +44,22 @@ fn checked_sum(
 }
 
 /// S3's PutObject, at a moment that is not after the last stamp, where the request may say which checksum the
-/// bytes have: NoSuchBucket, BadDigest, CounterExhausted.
-pub fn put_object<S: Alter>(
+/// bytes have: NoSuchBucket, BadDigest, CounterExhausted. The bytes are stored in blocks of at most this size.
+pub fn put_object<S: Alter, D: Digester>(
     connection: &mut Connection<S>,
     alloc: Global,
+    digester: &D,
+    block_size: u64,
     object: &NewObject<'_>,
     given: Option<&[u8]>,
 ) -> Result<StoredVersion, StepError<Refusal>>
     requires working { Works S.Store connection.old }
+    requires digests { IsClean S.Store connection.old → AreDigests D.digest_of (tables S.Store connection.old).blocks }
+    requires positive { 1 ≤ block_size }
     requires early { IsClean S.Store connection.old → object.now.at ≤ latest_of (tables S.Store connection.old) }
     ensures within { StaysWithin S.Store connection.old connection.new }
     ensures opens { Unless result (StaysOpen S.Store connection.old connection.new) }
-    ensures working { Unless result (StillWorks S.Store connection.old connection.new) }
+    ensures working { Unless result (StillWorksBy S.Store D.digest_of connection.old connection.new) }
     ensures carries { IsClean S.Store connection.new
         → Carries stored_answer object.now.tenant.now
         (machine.put_object object.now.at object.now.bucket.now object.now.key.now object.now.bytes.now (option_copied given.entry))
@@ -63,7 +69,15 @@ pub fn put_object<S: Alter>(
     let checksum = checked_sum(alloc, object.bytes, given)?;
     let numbers = new_numbers(connection, object.tenant, mode)?;
     let Numbers { before, .. } = numbers;
-    write_object(connection, object, mode, numbers, checksum.as_str())?;
+    write_object(
+        connection,
+        digester,
+        block_size,
+        object,
+        mode,
+        numbers,
+        checksum.as_str(),
+    )?;
     Ok(StoredVersion {
         id: told_id(mode, new_id(mode, before.version)),
         checksum,

@@ -1,21 +1,24 @@
-ghost use Rattle.std.specs.Prelude.{◌≡◌, ◌<◌, ◌^◌, OnOk};
-ghost use Rattle.sqlite_keyed.specs.Lists.{update_where, delete_where};
+ghost use Rattle.std.specs.Prelude.{◌≡◌, ◌≤◌, ◌<◌, ◌^◌, OnOk};
+ghost use Rattle.sqlite_keyed.specs.Lists.{update_where};
 ghost use Rattle.bh_types.specs.Checksums.{checksum_text};
 ghost use Rattle.bh_model.specs.State.{Content.Marker, Content.Body};
-ghost use Rattle.bh_tables.specs.Shown.{is_tenant, is_version};
-ghost use Rattle.bh_view.specs.Put.{counters_row, rows_left};
+ghost use Rattle.bh_tables.specs.Shown.{is_tenant};
 ghost use Rattle.bh_schema.specs.Connections.{InTransaction, StaysWithin, StaysOpen, Becomes};
-ghost use Rattle.bh_objects.specs.Found.{IsKeyText, with_way, with_row, with_entry};
+ghost use Rattle.bh_objects.specs.Found.{IsKeyText};
+ghost use Rattle.bh_objects.specs.Writes.{with_counters, without_entry, without_null, with_room, with_columns, object_written, marker_written};
 
+use crate::heads::numbered_head;
 use crate::ids::row_number;
 use crate::reads::Numbers;
+use bh_blocks::bodies::{drop_body, store_body};
+use bh_schema::host::Digester;
 use bh_schema::rows;
 use bh_schema::rows::versions::{NewMarker, NewVersion};
 use bh_schema::trouble::or_trouble;
 use bh_storage::error::Trouble;
 use bh_types::bucket::BucketName;
 use bh_types::bucket_state::BucketState;
-use bh_types::counters::Counters;
+use bh_types::counters::{COUNTER_END, Counters};
 use bh_types::key::ObjectKey;
 use bh_types::moment::Moment;
 use bh_types::names::TenantName;
@@ -33,7 +36,7 @@ pub struct NewObject<'a> {
 }
 
 /// The counters go on, as a new version in a bucket of this state has them.
-fn set_counters<S: Alter>(
+pub fn set_counters<S: Alter>(
     connection: &mut Connection<S>,
     tenant: &TenantName,
     mode: BucketState,
@@ -43,7 +46,7 @@ fn set_counters<S: Alter>(
     ensures within { StaysWithin S.Store connection.old connection.new }
     ensures opens { OnOk result (StaysOpen S.Store connection.old connection.new) }
     ensures holds { OnOk result (Becomes S.Store connection.old connection.new
-        (λ rows. record rows { tenants = update_where (is_tenant tenant.now) (counters_row mode counters) rows.tenants })) }
+        (with_counters mode counters tenant.now)) }
 {
     match mode {
         BucketState::Enabled => {
@@ -79,75 +82,72 @@ fn set_next_entry<S: Alter>(
     Ok(())
 }
 
-/// What a new entry in a bucket of this state replaces is taken away: the entry `null`, unless versions are
-/// numbered.
-fn make_room<S: Alter>(
-    connection: &mut Connection<S>,
-    tenant: &TenantName,
-    bucket: &BucketName,
-    key: &ObjectKey,
-    mode: BucketState,
-) -> Result<(), Trouble>
-    requires { InTransaction S.Store connection.old }
-    ensures within { StaysWithin S.Store connection.old connection.new }
-    ensures opens { OnOk result (StaysOpen S.Store connection.old connection.new) }
-    ensures holds { OnOk result (Becomes S.Store connection.old connection.new
-        (λ rows. record rows { versions = rows_left mode tenant.now bucket.now key.now rows.versions })) }
-{
-    match mode {
-        BucketState::Enabled => Ok(()),
-        BucketState::Unversioned => drop_entry(connection, tenant, bucket, key, 0),
-        BucketState::Suspended => drop_entry(connection, tenant, bucket, key, 0),
-    }
-}
-
-/// Takes the entry of a key with this number in the column `id` away, if it is there.
+/// Takes the entry of a key with this number in the column `id` away, and its body, which has its entry number.
 pub fn drop_entry<S: Alter>(
     connection: &mut Connection<S>,
     tenant: &TenantName,
     bucket: &BucketName,
     key: &ObjectKey,
     number: u64,
+    seq: u64,
 ) -> Result<(), Trouble>
     requires inside { InTransaction S.Store connection.old }
     requires small { number < 2 ^ 62 }
     ensures within { StaysWithin S.Store connection.old connection.new }
     ensures opens { OnOk result (StaysOpen S.Store connection.old connection.new) }
     ensures holds { OnOk result (Becomes S.Store connection.old connection.new
-        (λ rows. record rows {
-          versions =
-              delete_where (is_version tenant.now bucket.now key.now number) rows.versions;
-        })) }
+        (without_entry tenant.now bucket.now key.now number seq)) }
 {
+    // No counter gives such a number.
+    if seq >= COUNTER_END {
+        return Err(Trouble::Store);
+    }
+    let tenant = tenant.as_str();
+    or_trouble(drop_body(connection, tenant, seq))?;
     let key = key.as_str().as_bytes();
-    or_trouble(rows::versions::delete_version(
-        connection,
-        tenant.as_str(),
-        bucket.as_str(),
-        key,
-        number,
-    ))?;
+    or_trouble(rows::versions::delete_version(connection, tenant, bucket.as_str(), key, number))?;
     Ok(())
 }
 
-/// Makes way for a new entry of a key in a bucket of this state: the tenant's counters go on, and what the
-/// entry replaces is taken away.
-fn make_way<S: Alter>(
+/// Takes the entry `null` of a key away, and its body, if it is there.
+pub fn drop_null<S: Alter>(
     connection: &mut Connection<S>,
     tenant: &TenantName,
     bucket: &BucketName,
     key: &ObjectKey,
-    mode: BucketState,
-    after: Counters,
 ) -> Result<(), Trouble>
     requires { InTransaction S.Store connection.old }
     ensures within { StaysWithin S.Store connection.old connection.new }
     ensures opens { OnOk result (StaysOpen S.Store connection.old connection.new) }
     ensures holds { OnOk result (Becomes S.Store connection.old connection.new
-        (with_way mode after tenant.now bucket.now key.now)) }
+        (without_null tenant.now bucket.now key.now)) }
 {
-    set_counters(connection, tenant, mode, after)?;
-    make_room(connection, tenant, bucket, key, mode)
+    match numbered_head(connection, tenant, bucket, key, 0)? {
+        None => Ok(()),
+        Some(head) => drop_entry(connection, tenant, bucket, key, 0, head.seq),
+    }
+}
+
+/// What a new entry in a bucket of this state replaces is taken away: the entry `null`, unless versions are
+/// numbered.
+pub fn make_room<S: Alter>(
+    connection: &mut Connection<S>,
+    tenant: &TenantName,
+    bucket: &BucketName,
+    key: &ObjectKey,
+    mode: BucketState,
+) -> Result<(), Trouble>
+    requires { InTransaction S.Store connection.old }
+    ensures within { StaysWithin S.Store connection.old connection.new }
+    ensures opens { OnOk result (StaysOpen S.Store connection.old connection.new) }
+    ensures holds { OnOk result (Becomes S.Store connection.old connection.new
+        (with_room mode tenant.now bucket.now key.now)) }
+{
+    match mode {
+        BucketState::Enabled => Ok(()),
+        BucketState::Unversioned => drop_null(connection, tenant, bucket, key),
+        BucketState::Suspended => drop_null(connection, tenant, bucket, key),
+    }
 }
 
 fn add_object<S: Alter>(
@@ -162,7 +162,7 @@ fn add_object<S: Alter>(
     ensures within { StaysWithin S.Store connection.old connection.new }
     ensures opens { OnOk result (StaysOpen S.Store connection.old connection.new) }
     ensures holds { OnOk result (Becomes S.Store connection.old connection.new
-        (with_row mode counters object.now.tenant.now object.now.bucket.now object.now.key.now object.now.at
+        (with_columns mode counters object.now.tenant.now object.now.bucket.now object.now.key.now object.now.at
         (Body object.now.bytes.now (checksum_text object.now.bytes.now)))) }
     ensures key { IsKeyText object.now.key.now }
 {
@@ -173,39 +173,44 @@ fn add_object<S: Alter>(
         okey: object.key.as_str().as_bytes(),
         id: row_number(mode, counters.version),
         stamp: object.at.seconds(),
+        size: object.bytes.len() as u64,
         checksum,
-        bytes: object.bytes,
     };
     or_trouble(rows::versions::insert_version(connection, &version))?;
     Ok(())
 }
 
 /// Puts an object into a bucket of this state, under the tenant's next numbers, with the text of its
-/// checksum.
-pub fn write_object<S: Alter>(
+/// checksum: its body, in blocks of at most this size, before what it replaces goes, and then its row.
+pub fn write_object<S: Alter, D: Digester>(
     connection: &mut Connection<S>,
+    digester: &D,
+    block_size: u64,
     object: &NewObject<'_>,
     mode: BucketState,
     numbers: Numbers,
     checksum: &str,
 ) -> Result<(), Trouble>
     requires inside { InTransaction S.Store connection.old }
+    requires positive { 1 ≤ block_size }
     requires checksum { checksum.now ≡ checksum_text object.now.bytes.now }
     ensures within { StaysWithin S.Store connection.old connection.new }
     ensures opens { OnOk result (StaysOpen S.Store connection.old connection.new) }
     ensures holds { OnOk result (Becomes S.Store connection.old connection.new
-        (with_entry mode numbers.before numbers.after object.now.tenant.now object.now.bucket.now object.now.key.now
-        object.now.at (Body object.now.bytes.now (checksum_text object.now.bytes.now)))) }
+        (object_written D.digest_of block_size mode numbers.before numbers.after
+        object.now.tenant.now object.now.bucket.now object.now.key.now object.now.at object.now.bytes.now)) }
     ensures key { OnOk result (IsKeyText object.now.key.now) }
 {
-    make_way(
+    set_counters(connection, object.tenant, mode, numbers.after)?;
+    or_trouble(store_body(
         connection,
-        object.tenant,
-        object.bucket,
-        object.key,
-        mode,
-        numbers.after,
-    )?;
+        digester,
+        block_size,
+        object.tenant.as_str(),
+        numbers.before.entry,
+        object.bytes,
+    ))?;
+    make_room(connection, object.tenant, object.bucket, object.key, mode)?;
     add_object(connection, object, mode, numbers.before, checksum)
 }
 
@@ -222,7 +227,7 @@ fn add_marker<S: Alter>(
     ensures within { StaysWithin S.Store connection.old connection.new }
     ensures opens { OnOk result (StaysOpen S.Store connection.old connection.new) }
     ensures holds { OnOk result (Becomes S.Store connection.old connection.new
-        (with_row mode counters tenant.now bucket.now key.now at Marker)) }
+        (with_columns mode counters tenant.now bucket.now key.now at Marker)) }
     ensures key { IsKeyText key.now }
 {
     let marker = NewMarker {
@@ -252,9 +257,10 @@ pub fn write_marker<S: Alter>(
     ensures within { StaysWithin S.Store connection.old connection.new }
     ensures opens { OnOk result (StaysOpen S.Store connection.old connection.new) }
     ensures holds { OnOk result (Becomes S.Store connection.old connection.new
-        (with_entry mode numbers.before numbers.after tenant.now bucket.now key.now at Marker)) }
+        (marker_written mode numbers.before numbers.after tenant.now bucket.now key.now at)) }
     ensures key { OnOk result (IsKeyText key.now) }
 {
-    make_way(connection, tenant, bucket, key, mode, numbers.after)?;
+    set_counters(connection, tenant, mode, numbers.after)?;
+    make_room(connection, tenant, bucket, key, mode)?;
     add_marker(connection, tenant, bucket, key, at, mode, numbers.before)
 }

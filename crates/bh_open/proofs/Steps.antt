@@ -6,11 +6,12 @@ use Rattle.sqlite.specs.Steps.{over_memory}
 use Rattle.sqlite.specs.State.{State}
 use Rattle.sqlite.specs.Effect.{Database}
 use Rattle.bh_types.specs.Limits.{HostLimits}
+use Rattle.bh_model.specs.State.{Octets}
 use Rattle.bh_tables.specs.Schema.{host_schema}
 use Rattle.bh_tables.specs.Typed.{IsHost, Tables, tables_in}
 use Rattle.bh_tables.specs.Hosts.{tables_shown}
 use Rattle.bh_tables.proofs.HostTests.{host_shows}
-use Rattle.bh_view.specs.Sound.{IsSound}
+use Rattle.bh_view.specs.Bodies.{IsSoundHost}
 use Rattle.bh_view.specs.View.{limits_in}
 use Rattle.bh_storage.specs.Calls.{IsAtRest}
 use Rattle.bh_schema.specs.Layer.{Standing, standing, IsOpen, IsStateClean, KeepsDisk, taken_back}
@@ -24,7 +25,7 @@ use Rattle.bh_open.proofs.Rows.{limits_kept}
 
 pub made_schema : (limits : HostLimits) (s : State) → IsNewHost limits s → s.now.schema ≡ host_schema
 unfolding seen_in standing
-made_schema limits s new = (sound_host s.now new.rest.sound).schema
+made_schema limits s new = (sound_host s.now (new.rest (λ bytes. bytes)).sound.sound).schema
 
 pub unlimited : (h : Held MemStore) → IsNew h → (standing (state over_memory h)).limit ≡ None
 unfolding standing
@@ -66,11 +67,11 @@ module _ (old mid new : State) (settled : IsSettled old) (kept : IsKept old mid)
       back clean ∙ (λ i. record { now = (kept.kept was ∙ committed) i; kept = kept.kept was i; inside = sym settled.outside i; limit = kept.follows.limit i })
 
   module _ (limits : HostLimits) (row : IsStateClean mid → IsHost (standing old).now → IsRowOf limits (tables_in (standing old).now).host) where
-    pub rests : IsStateClean new → IsSound (seen_in limits new).now → IsAtRest (seen_in limits new)
+    pub rests : (digest : Octets → Octets) → IsStateClean new → IsSoundHost digest (seen_in limits new).now → IsAtRest (IsSoundHost digest) (seen_in limits new)
     unfolding seen_in
-    rests clean sound =
+    rests digest clean sound =
         let e = same clean in
-        let host = sound_host (standing new).now sound in
+        let host = sound_host (standing new).now sound.sound in
         let it = subst (λ (x : Standing). IsHost x.now → IsRowOf limits (tables_in x.now).host) (sym e) (row (follows.clean clean)) host in
         record {
           outside = ap (λ (x : Standing). x.inside) (back clean);

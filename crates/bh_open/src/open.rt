@@ -5,7 +5,7 @@ ghost use Rattle.bh_types.specs.declared.refusal.Refusal.TheVariants as refusal;
 ghost use Rattle.bh_rows.specs.Means.{is_trouble};
 ghost use Rattle.bh_tables.specs.Schema.{host_schema};
 ghost use Rattle.bh_tables.specs.Typed.{IsHost};
-ghost use Rattle.bh_view.specs.Sound.{IsSound};
+ghost use Rattle.bh_view.specs.Bodies.{IsSoundHost};
 ghost use Rattle.bh_storage.specs.Calls.{IsAtRest};
 ghost use Rattle.bh_schema.specs.Connections.{IsIntact, IsOpen, IsClean, stands, tables};
 ghost use Rattle.bh_schema.specs.Layer.{taken_back, KeepsDisk, LeavesNothingNew};
@@ -89,7 +89,8 @@ pub fn open_host<S: Alter + Drop, D: Digester + Drop>(
     ensures opened { IfOk result (λ host. IsClean S.Store host.connection → IsHost (stands S.Store connection).now
         → IsHostOf host.limits (stands S.Store connection).now) }
     ensures rest { IfOk result (λ host. IsClean S.Store host.connection
-        → IsSound (seen_in host.limits (state S.Store host.connection)).now → IsAtRest (seen_in host.limits (state S.Store host.connection))) }
+        → IsSoundHost D.digest_of (seen_in host.limits (state S.Store host.connection)).now
+        → IsAtRest (IsSoundHost D.digest_of) (seen_in host.limits (state S.Store host.connection))) }
     ensures follows { IfOk result (λ host. KeepsDisk (state S.Store connection) (state S.Store host.connection)) }
     ensures survives { IfOk result (λ host. IsOpen S.Store connection
         → LeavesNothingNew (state S.Store connection) (state S.Store host.connection)) }

@@ -32,14 +32,14 @@ module _ {R T : Type 0} (row_key : R → Octets) (item : R → Option T) (prefix
         | false ↦ sym (append_assoc g.entries (Common name ∷ []) (joined (Some name) l))
       ]
 
-  entry_step : (g : Gathered T) (e : Listed T) (l : List (Listed T)) → g.entries ++ joined g.name (cond (passes e) (e ∷ l) l) ≡ (cond (passes e) (with_entry g e) g).entries ++ joined (cond (passes e) (with_entry g e) g).name l
+  pub entry_step : (g : Gathered T) (e : Listed T) (l : List (Listed T)) → g.entries ++ joined g.name (cond (passes e) (e ∷ l) l) ≡ (cond (passes e) (with_entry g e) g).entries ++ joined (cond (passes e) (with_entry g e) g).name l
   entry_step g e l = elim (passes e) as (λ t. g.entries ++ joined g.name (cond t (e ∷ l) l) ≡ (cond t (with_entry g e) g).entries ++ joined (cond t (with_entry g e) g).name l) [
     | true ↦ listing_step g e l
     | false ↦ refl
   ]
 
   -- the key of the row before does not change
-  key_kept : (g : Gathered T) (e : Listed T) → (with_entry g e).key ≡ g.key
+  pub key_kept : (g : Gathered T) (e : Listed T) → (with_entry g e).key ≡ g.key
   key_kept g (Single x) = refl
   key_kept g (Common name) = elim (is_name name g.name) as (λ t. (cond t g (record g { name = Some name; entries = g.entries ++ Common name ∷ [] })).key ≡ g.key) [ true ↦ refl | false ↦ refl ]
 
@@ -177,7 +177,7 @@ module _ {R T : Type 0} (row_key : R → Octets) (item : R → Option T) (prefix
   abbrev rowed : ℕ → Gathered T → List R → Gathered T
   rowed = with_rows row_key item prefix delimiter item_key passes
 
-  grown : (g : Gathered T) (e : Listed T) → length (with_entry g e).entries ≤ suc (length g.entries)
+  pub grown : (g : Gathered T) (e : Listed T) → length (with_entry g e).entries ≤ suc (length g.entries)
   grown g (Single x) = more g.entries (Single x)
     where
       more : (l : List (Listed T)) (e : Listed T) → length (l ++ e ∷ []) ≤ suc (length l)

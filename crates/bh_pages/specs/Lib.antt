@@ -2,3 +2,4 @@ pub mod Gathered
 pub mod Seen
 pub mod Reading
 pub mod Laws
+pub mod Versions

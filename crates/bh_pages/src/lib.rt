@@ -5,3 +5,4 @@ pub mod gathering;
 pub mod laws;
 pub mod names;
 pub mod reading;
+pub mod versions;

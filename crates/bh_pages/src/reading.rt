@@ -19,14 +19,14 @@ pub struct Reading {
 }
 
 /// How many rows are read first: no more than the page takes entries, and one.
-fn first_count(max: u32) -> u64
+pub(crate) fn first_count(max: u32) -> u64
     ensures { IsCount result }
 {
     u64::from(max.min(63)) + 1
 }
 
 /// How many rows are read after some that gave as many entries: few where they were rolled up.
-fn next_count(gave: usize) -> u64
+pub(crate) fn next_count(gave: usize) -> u64
     ensures { IsCount result }
 {
     match gave {

@@ -8,9 +8,11 @@ use Rattle.sqlite.specs.Held.{Held, state}
 use Rattle.sqlite.specs.State.{State}
 use Rattle.sqlite_trees.specs.declared.store.Store.{Ghosts}
 use Rattle.bh_types.specs.Limits.{HostLimits}
+use Rattle.bh_model.specs.State.{Octets}
 use Rattle.bh_tables.specs.Schema.{host_schema}
 use Rattle.bh_tables.specs.Typed.{Tables, IsHost}
 use Rattle.bh_tables.specs.Hosts.{tables_shown}
+use Rattle.bh_view.specs.Bodies.{IsSoundHost}
 use Rattle.bh_storage.specs.Calls.{IsAtRest, IsWorking, Commits, TakesBack}
 use Rattle.bh_schema.specs.Layer.{Standing, standing, IsOpen, Leaves, begun, committed, taken_back, Unwinds}
 use Rattle.bh_schema.specs.Storage.{shown, seen_in, left_in}
@@ -28,9 +30,9 @@ on_err (Err e) Q P h p = p
 -- ---- states
 
 module _ (l : HostLimits) (old new : State) where
-  pub begun_works : IsAtRest (seen_in l old) → standing new ≡ begun (standing old) → IsWorking (seen_in l new)
+  pub begun_works : {digest : Octets → Octets} → IsAtRest (IsSoundHost digest) (seen_in l old) → standing new ≡ begun (standing old) → IsWorking (IsSoundHost digest) (seen_in l new)
   unfolding seen_in
-  begun_works rest is = subst (λ x. IsWorking (shown l x)) (sym is) (record { inside = refl; sound = rest.sound; limits = rest.limits })
+  begun_works {digest} rest is = subst (λ x. IsWorking (IsSoundHost digest) (shown l x)) (sym is) (record { inside = refl; sound = rest.sound; limits = rest.limits })
 
   pub begun_shows : standing new ≡ begun (standing old) → (seen_in l new).now ≡ (seen_in l old).now
   unfolding seen_in
@@ -56,18 +58,18 @@ trees_show : (db : Database) → IsHost db → tables_shown (record { schema = h
 trees_show db host = ap (λ (s : Schema). tables_shown (record { schema = s; trees = db.trees })) (sym host.schema)
 
 -- what the trees show that a crash leaves
-left_shows : (l : HostLimits) (s : State) → IsWorking (seen_in l s) → (db : Trees) → db ≡ (standing s).now.trees → tables_shown (record { schema = host_schema; trees = db }) ≡ (seen_in l s).now
+left_shows : {digest : Octets → Octets} (l : HostLimits) (s : State) → IsWorking (IsSoundHost digest) (seen_in l s) → (db : Trees) → db ≡ (standing s).now.trees → tables_shown (record { schema = host_schema; trees = db }) ≡ (seen_in l s).now
 unfolding seen_in
 left_shows l s working db is =
-    ap (λ (t : Trees). tables_shown (record { schema = host_schema; trees = t })) is ∙ trees_show (standing s).now (sound_host (standing s).now working.sound)
+    ap (λ (t : Trees). tables_shown (record { schema = host_schema; trees = t })) is ∙ trees_show (standing s).now (sound_host (standing s).now working.sound.sound)
 
-pub commit_stands : {S : Type 0} (g : Ghosts S) (settles : (s : S) (db : Trees) → IsTrue (g.view s).is_open → g.recovers s db → db ≡ (g.view s).committed) (l : HostLimits)
-    (old new : Held S) → IsOpen (state g new) → IsWorking (seen_in l (state g old)) → standing (state g new) ≡ committed (standing (state g old)) → (x : Tables) → left_in (state g new) x → x ≡ (seen_in l (state g old)).now
+pub commit_stands : {S : Type 0} {digest : Octets → Octets} (g : Ghosts S) (settles : (s : S) (db : Trees) → IsTrue (g.view s).is_open → g.recovers s db → db ≡ (g.view s).committed) (l : HostLimits)
+    (old new : Held S) → IsOpen (state g new) → IsWorking (IsSoundHost digest) (seen_in l (state g old)) → standing (state g new) ≡ committed (standing (state g old)) → (x : Tables) → left_in (state g new) x → x ≡ (seen_in l (state g old)).now
 unfolding left_in
 commit_stands g settles l old new up working is x it =
     it.2 ∙ left_shows _ (state g old) working it.0 (left_kept g settles new up it.0 it.1 ∙ ap (λ (y : Standing). y.kept.trees) is)
 
-pub commit_crashes : (l : HostLimits) (old new : State) → IsWorking (seen_in l old) → ((db : Trees) → Leaves new db → Leaves old db ⊎ (db ≡ (standing old).now.trees))
+pub commit_crashes : {digest : Octets → Octets} (l : HostLimits) (old new : State) → IsWorking (IsSoundHost digest) (seen_in l old) → ((db : Trees) → Leaves new db → Leaves old db ⊎ (db ≡ (standing old).now.trees))
     → (x : Tables) → left_in new x → left_in old x ⊎ (x ≡ (seen_in l old).now)
 unfolding left_in
 commit_crashes l old new working leaves x it = elim (leaves it.0 it.1) [

@@ -12,6 +12,7 @@ use Rattle.bh_model.specs.State.{Octets, State as Machine}
 use Rattle.bh_model.specs.Operations.{Done, add_key, remove_key}
 use Rattle.bh_tables.specs.Typed.{KeyRow, Tables, tables_in}
 use Rattle.bh_tables.specs.Shown.{is_key}
+use Rattle.bh_view.specs.Bodies.{IsSoundHost}
 use Rattle.bh_view.specs.View.{view}
 use Rattle.bh_view.specs.Becomes.{Becomes}
 use Rattle.bh_view.proofs.FindLemmas.{first_find, key_of_state}
@@ -46,7 +47,7 @@ known_seen_in tables t n = go (view tables t) refl
     go (Some s) is = ap (λ b. cond b (cond (is_some (find (is_key t n) tables.keys)) Key NoKey) NoTenant) (sym (view_found tables t) ∙ ap is_some is)
         ∙ ap (λ b. cond b Key NoKey) (sym (key_seen_in tables t n s is))
 
-pub known_seen : (l : HostLimits) (s : State) (t n : Octets) (known : Known) → IsWorking (seen_in l s) → known ≡ key_known (tables_in (standing s).now) t n → known ≡ known_of n (view (seen_in l s).now t)
+pub known_seen : {digest : Octets → Octets} (l : HostLimits) (s : State) (t n : Octets) (known : Known) → IsWorking (IsSoundHost digest) (seen_in l s) → known ≡ key_known (tables_in (standing s).now) t n → known ≡ known_of n (view (seen_in l s).now t)
 known_seen l s t n known working is = is ∙ ap (λ (x : Tables). key_known x t n) (sym (shows_in _ s working)) ∙ known_seen_in (seen_in l s).now t n
 
 pub no_tenant : (n : Octets) (o : Option Machine) → NoTenant ≡ known_of n o → o ≡ None
@@ -97,17 +98,17 @@ module _ (t n : Octets) (o : Option Machine) (words : (is_tenant_name t && is_ke
 
 -- ---- the rows
 
-pub key_becomes : (l : HostLimits) (old new : State) (t n secret : Octets) (s : Machine) → IsWorking (seen_in l old) → view (seen_in l old).now t ≡ Some s → get s.keys n ≡ None → (is_tenant_name t && is_key_name n && is_secret secret) ≡ true
+pub key_becomes : {digest : Octets → Octets} (l : HostLimits) (old new : State) (t n secret : Octets) (s : Machine) → IsWorking (IsSoundHost digest) (seen_in l old) → view (seen_in l old).now t ≡ Some s → get s.keys n ≡ None → (is_tenant_name t && is_key_name n && is_secret secret) ≡ true
     → Holds (record (tables_in (standing old).now) { keys = (tables_in (standing old).now).keys ++ record { tenant = t; name = n; secret = secret } ∷ [] }) (standing new)
     → Becomes t (Some (record s { keys = insert s.keys n secret })) (seen_in l old).now (seen_in l new).now
 key_becomes l old new t n secret s working is none words h =
     let row : KeyRow = record { tenant = t; name = n; secret = secret } in
     let parts = and_parts _ _ words in
-    key_added (seen_in l old).now (seen_in l new).now s row working.sound is none (record { name = (and_parts _ _ parts.0).1; secret = parts.1 })
+    key_added (seen_in l old).now (seen_in l new).now s row working.sound.sound is none (record { name = (and_parts _ _ parts.0).1; secret = parts.1 })
     ((holds_seen _ _ new h).0 ∙ ap (λ (x : Tables). record x { keys = x.keys ++ row ∷ [] }) (sym (shows_in _ old working)))
 
-pub key_goes : (l : HostLimits) (old new : State) (t n : Octets) (s : Machine) → IsWorking (seen_in l old) → view (seen_in l old).now t ≡ Some s
+pub key_goes : {digest : Octets → Octets} (l : HostLimits) (old new : State) (t n : Octets) (s : Machine) → IsWorking (IsSoundHost digest) (seen_in l old) → view (seen_in l old).now t ≡ Some s
     → Holds (record (tables_in (standing old).now) { keys = delete_where (is_key t n) (tables_in (standing old).now).keys }) (standing new)
     → Becomes t (Some (record s { keys = remove s.keys n })) (seen_in l old).now (seen_in l new).now
 key_goes l old new t n s working is h =
-    key_removed (seen_in l old).now (seen_in l new).now t s working.sound is n ((holds_seen _ _ new h).0 ∙ ap (λ (x : Tables). record x { keys = delete_where (is_key t n) x.keys }) (sym (shows_in _ old working)))
+    key_removed (seen_in l old).now (seen_in l new).now t s working.sound.sound is n ((holds_seen _ _ new h).0 ∙ ap (λ (x : Tables). record x { keys = delete_where (is_key t n) x.keys }) (sym (shows_in _ old working)))

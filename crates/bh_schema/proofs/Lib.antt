@@ -1,5 +1,6 @@
 pub mod TurnLemmas
 pub mod Calls
+pub mod VersionCalls
 pub mod Finds
 pub mod Storing
 pub mod TenantSteps

@@ -1,14 +1,17 @@
 -- From the words of a connection to those of a host's storage.
-use Rattle.std.proofs.Common.{◌≡◌, true, IsTrue, Ok, Result, OnOk, refl, sym, ap, ◌∙◌, subst}
+use Rattle.std.proofs.Common.{◌≡◌, List, true, IsTrue, Ok, Result, OnOk, refl, sym, ap, ◌∙◌, subst}
 use Rattle.sqlite.specs.Tree.{Trees}
 use Rattle.sqlite.specs.Effect.{Database}
 use Rattle.sqlite.specs.Held.{Held, state}
 use Rattle.sqlite.specs.State.{State}
 use Rattle.sqlite_trees.specs.declared.store.Store.{Ghosts}
 use Rattle.bh_types.specs.Limits.{HostLimits}
-use Rattle.bh_tables.specs.Typed.{Tables, IsHost, tables_in}
+use Rattle.bh_model.specs.State.{Octets}
+use Rattle.bh_tables.specs.Typed.{VersionRow, BlockRow, RefRow, Tables, IsHost, tables_in}
 use Rattle.bh_tables.specs.Hosts.{tables_shown}
 use Rattle.bh_tables.proofs.HostTests.{host_shows, shown_host}
+use Rattle.bh_view.specs.Blocks.{AreDigests}
+use Rattle.bh_view.specs.Bodies.{IsSoundHost, AreBodies, bodies_of}
 use Rattle.bh_view.specs.Sound.{IsSound}
 use Rattle.bh_storage.specs.Calls.{Seen, IsWorking}
 use Rattle.bh_schema.specs.Layer.{standing, IsIntact, IsOpen, IsStateClean, Leaves, IsInside, Holds, KeepsDisk, StateWithin}
@@ -36,9 +39,9 @@ parts clean = (clean.intact, clean.is_open)
 pub sound_host : (db : Database) → IsSound (tables_shown db) → IsHost db
 sound_host db sound = shown_host db sound.host.row sound.host.alone
 
-pub inside_of : (l : HostLimits) (s : State) → IsWorking (seen_in l s) → IsInside (standing s)
+pub inside_of : {digest : Octets → Octets} (l : HostLimits) (s : State) → IsWorking (IsSoundHost digest) (seen_in l s) → IsInside (standing s)
 unfolding seen_in
-inside_of l s working = record { inside = working.inside; host = sound_host (standing s).now working.sound }
+inside_of l s working = record { inside = working.inside; host = sound_host (standing s).now working.sound.sound }
 
 pub limits_seen : (l : HostLimits) (s : State) → (seen_in l s).limits ≡ l
 unfolding seen_in
@@ -49,13 +52,30 @@ unfolding seen_in
 seen_same l old new same = ap (shown l) same
 
 -- a sound host's tables are those of its database
-pub shows_in : (l : HostLimits) (s : State) → IsWorking (seen_in l s) → (seen_in l s).now ≡ tables_in (standing s).now
+pub shows_in : {digest : Octets → Octets} (l : HostLimits) (s : State) → IsWorking (IsSoundHost digest) (seen_in l s) → (seen_in l s).now ≡ tables_in (standing s).now
 unfolding seen_in
-shows_in l s working = host_shows (standing s).now (sound_host (standing s).now working.sound)
+shows_in l s working = host_shows (standing s).now (sound_host (standing s).now working.sound.sound)
 
 pub holds_seen : (l : HostLimits) (tables : Tables) (s : State) → Holds tables (standing s) → ((seen_in l s).now ≡ tables) × ((seen_in l s).inside ≡ true)
 unfolding seen_in
 holds_seen l tables s h = (host_shows (standing s).now h.within.host ∙ h.is, h.within.inside)
+
+-- ---- tables whose bodies stay
+
+-- the rows that bodies are of
+abbrev pub bodied : Tables → List VersionRow × List RefRow × List BlockRow
+bodied x = (x.versions, x.refs, x.blocks)
+
+pub sound_still : {digest : Octets → Octets} (old new : Tables) → IsSoundHost digest old → IsSound new → bodied new ≡ bodied old → IsSoundHost digest new
+sound_still {digest} old new was sound same =
+    let P : List VersionRow × List RefRow × List BlockRow → Type 0 = λ b. AreBodies (bodies_of b.0) b.1 b.2 × AreDigests digest b.2 in
+    let is : P (bodied new) = subst P (sym same) (was.bodies, was.digests) in
+    record { sound = sound; bodies = is.0; digests = is.1 }
+
+-- after a write of other rows
+pub bodied_still : {digest : Octets → Octets} (l : HostLimits) (old new : State) (change : Tables → Tables) → ((x : Tables) → bodied (change x) ≡ bodied x)
+    → IsWorking (IsSoundHost digest) (seen_in l old) → Holds (change (tables_in (standing old).now)) (standing new) → bodied (seen_in l new).now ≡ bodied (seen_in l old).now
+bodied_still l old new change stays working h = ap bodied (holds_seen l _ new h).0 ∙ stays _ ∙ ap bodied (sym (shows_in l old working))
 
 -- ---- several calls
 
@@ -104,12 +124,12 @@ keeps g old new same w =
 
 -- ---- after a question that changed nothing
 
-module _ (l : HostLimits) (old new : State) (working : AreBoth old → IsWorking (seen_in l old)) (w : StateWithin old new) (same : IsIntact new → standing new ≡ standing old) where
+module _ {digest : Octets → Octets} (l : HostLimits) (old new : State) (working : AreBoth old → IsWorking (IsSoundHost digest) (seen_in l old)) (w : StateWithin old new) (same : IsIntact new → standing new ≡ standing old) where
   pub asked_before : AreBoth new → AreBoth old
   asked_before clean = parts (w.follows.clean (both clean))
 
-  pub asked_works : AreBoth new → IsWorking (seen_in l new)
-  asked_works clean = subst IsWorking (sym (seen_same _ old new (same clean.0))) (working (asked_before clean))
+  pub asked_works : AreBoth new → IsWorking (IsSoundHost digest) (seen_in l new)
+  asked_works clean = subst (IsWorking (IsSoundHost digest)) (sym (seen_same _ old new (same clean.0))) (working (asked_before clean))
 
   pub asked_inside : IsStateClean new → IsInside (standing new)
   asked_inside clean = inside_of _ new (asked_works (parts clean))

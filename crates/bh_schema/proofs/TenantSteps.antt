@@ -1,5 +1,5 @@
 -- What is seen of a tenant, and the step that adds one.
-use Rattle.std.proofs.Common.{◌≡◌, ◌≤◌, ℕ, nat_le, ◌^◌, Bool, true, false, [], ◌∷◌, ◌++◌, find, Option, Some, None, option_map, is_some, IsTrue, Result, Ok, Err, refl, sym, ap, ◌∙◌, subst}
+use Rattle.std.proofs.Common.{◌≡◌, ◌≤◌, ℕ, nat_le, ◌^◌, Bool, true, false, List, [], ◌∷◌, ◌++◌, find, Option, Some, None, option_map, is_some, IsTrue, Result, Ok, Err, refl, sym, ap, ◌∙◌, subst}
 use Rattle.sqlite.specs.State.{State}
 use Rattle.sqlite_keyed.proofs.SliceLemmas.{is_some-map}
 use Rattle.bh_types.specs.Limits.{HostLimits}
@@ -8,16 +8,18 @@ use Rattle.bh_types.specs.declared.refusal.Refusal.{Refusal}
 use Rattle.bh_types.specs.declared.refusal.Refusal.TheVariants.{TenantExists}
 use Rattle.bh_model.specs.State.{Octets, State as Machine, new_tenant}
 use Rattle.bh_model.specs.Operations.{Done, add_tenant}
-use Rattle.bh_tables.specs.Typed.{TenantRow, Tables, tables_in}
+use Rattle.bh_tables.specs.Typed.{TenantRow, VersionRow, BlockRow, RefRow, Tables, tables_in}
 use Rattle.bh_tables.specs.Shown.{is_tenant}
+use Rattle.bh_view.specs.Bodies.{IsSoundHost}
 use Rattle.bh_view.specs.View.{view}
 use Rattle.bh_view.specs.Becomes.{Becomes}
 use Rattle.bh_view.proofs.FindLemmas.{first_find, tenant_found}
+use Rattle.bh_view.proofs.SharedLemmas.{shared_same}
 use Rattle.bh_view.proofs.TenantChanges.{tenant_added}
 use Rattle.bh_storage.specs.Calls.{IsWorking, GivesStep}
 use Rattle.bh_schema.specs.Layer.{standing, Holds}
 use Rattle.bh_schema.specs.Storage.{seen_in}
-use Rattle.bh_schema.proofs.Storing.{shows_in, holds_seen, same_limits}
+use Rattle.bh_schema.proofs.Storing.{shows_in, holds_seen, same_limits, bodied, sound_still, bodied_still}
 
 -- ---- options
 
@@ -34,7 +36,7 @@ some_of (Some x) h = (x, refl)
 pub view_found : (tables : Tables) (t : Octets) → is_some (view tables t) ≡ is_some (find (is_tenant t) tables.tenants)
 view_found tables t = ap is_some (tenant_found tables t) ∙ is_some-map _ _ ∙ ap is_some (first_find (is_tenant t) tables.tenants)
 
-pub tenant_seen : (l : HostLimits) {X : Type 0} (s : State) (t : Octets) (read : TenantRow → X) (found : Option X) → IsWorking (seen_in l s) → found ≡ option_map read (find (is_tenant t) (tables_in (standing s).now).tenants)
+pub tenant_seen : {digest : Octets → Octets} (l : HostLimits) {X : Type 0} (s : State) (t : Octets) (read : TenantRow → X) (found : Option X) → IsWorking (IsSoundHost digest) (seen_in l s) → found ≡ option_map read (find (is_tenant t) (tables_in (standing s).now).tenants)
     → is_some (view (seen_in l s).now t) ≡ is_some found
 tenant_seen l s t read found working is = view_found (seen_in l s).now t ∙ ap (λ (x : Tables). is_some (find (is_tenant t) x.tenants)) (shows_in _ s working) ∙ sym (ap is_some is ∙ is_some-map read _)
 
@@ -49,18 +51,29 @@ adds_tenant t quota s name few none = rw (required (is_tenant_name t) _ name, re
 pub tenant_exists : (t : Octets) (quota : ℕ) (s : Option Machine) → IsTrue (is_tenant_name t) → nat_le quota (2 ^ 60) ≡ true → is_some s ≡ true → add_tenant t quota s ≡ Err TenantExists
 tenant_exists t quota s name few there = let it = some_of s there in rw (required (is_tenant_name t) _ name, required (nat_le quota (2 ^ 60)) _ few, it.1) refl
 
-pub gives_of : {Y : Type 0} (t : Octets) (step : Option Machine → Result (Y × Option Machine) Refusal) (y : Y) (s : Option Machine) (old new : Tables) → step (view old t) ≡ Ok (y, s) → Becomes t s old new → GivesStep t step y old new
-gives_of t step y s old new given b = record { gives = given ∙ ap (λ v. Ok (y, v)) (sym b.shown); others = b.others; latest = b.latest }
+pub gives_of : {Y : Type 0} (t : Octets) (step : Option Machine → Result (Y × Option Machine) Refusal) (y : Y) (s : Option Machine) (old new : Tables) → step (view old t) ≡ Ok (y, s) → Becomes t s old new → bodied new ≡ bodied old → GivesStep t step y old new
+gives_of t step y s old new given b same = record {
+  gives = given ∙ ap (λ v. Ok (y, v)) (sym b.shown);
+  others = b.others;
+  latest = b.latest;
+  shared = shared_same old new (ap (λ (x : List VersionRow × List RefRow × List BlockRow). x.2) same);
+}
 
-pub works_of : (l : HostLimits) (t : Octets) (s : Option Machine) (old new : State) → IsWorking (seen_in l old) → (seen_in l new).inside ≡ true → Becomes t s (seen_in l old).now (seen_in l new).now → IsWorking (seen_in l new)
-works_of l t s old new working inside b = record { inside = inside; sound = b.sound; limits = b.limits ∙ working.limits ∙ same_limits l new old }
+-- a write of rows that bodies are not of
+pub works_of : {digest : Octets → Octets} (l : HostLimits) (t : Octets) (s : Option Machine) (old new : State) (change : Tables → Tables) → ((x : Tables) → bodied (change x) ≡ bodied x)
+    → IsWorking (IsSoundHost digest) (seen_in l old) → Holds (change (tables_in (standing old).now)) (standing new) → Becomes t s (seen_in l old).now (seen_in l new).now → IsWorking (IsSoundHost digest) (seen_in l new)
+works_of l t s old new change stays working h b = record {
+  inside = (holds_seen l _ new h).1;
+  sound = sound_still (seen_in l old).now (seen_in l new).now working.sound b.sound (bodied_still l old new change stays working h);
+  limits = b.limits ∙ working.limits ∙ same_limits l new old;
+}
 
 -- a tenant's row that was added
-pub tenant_becomes : (l : HostLimits) (old new : State) (t : Octets) (quota : ℕ) → IsWorking (seen_in l old) → view (seen_in l old).now t ≡ None → IsTrue (is_tenant_name t) → quota ≤ 2 ^ 60
+pub tenant_becomes : {digest : Octets → Octets} (l : HostLimits) (old new : State) (t : Octets) (quota : ℕ) → IsWorking (IsSoundHost digest) (seen_in l old) → view (seen_in l old).now t ≡ None → IsTrue (is_tenant_name t) → quota ≤ 2 ^ 60
     → Holds (record (tables_in (standing old).now) { tenants = (tables_in (standing old).now).tenants ++ record { tenant = t; quota = quota; next_version = 1; next_upload = 1; next_entry = 1 } ∷ [] }) (standing new)
     → Becomes t (Some (new_tenant quota)) (seen_in l old).now (seen_in l new).now
 tenant_becomes l old new t quota working none name few h =
-    tenant_added (seen_in l old).now (seen_in l new).now t quota working.sound none name few ((holds_seen _ _ new h).0
+    tenant_added (seen_in l old).now (seen_in l new).now t quota working.sound.sound none name few ((holds_seen _ _ new h).0
     ∙ ap (λ (x : Tables). record x { tenants = x.tenants ++ record { tenant = t; quota = quota; next_version = 1; next_upload = 1; next_entry = 1 } ∷ [] }) (sym (shows_in _ old working)))
 
 -- the tables that a write holds, after questions that changed nothing

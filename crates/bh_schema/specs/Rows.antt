@@ -44,9 +44,6 @@ pub record SeenHead : Type 0 where
 abbrev pub seen_head : VersionRow → SeenHead
 seen_head v = record { seq = v.seq; id = v.id; marker = v.marker; stamp = v.stamp; size = v.size; checksum = v.checksum }
 
-abbrev pub seen_bytes : VersionRow → Octets
-seen_bytes v = v.bytes
-
 -- the newest version or marker of a key
 abbrev pub newest_at : Octets → Octets → Octets → List VersionRow → Option VersionRow
 newest_at tenant bucket okey versions = first (sort_by newer (filter (is_at tenant bucket okey) versions))

@@ -5,9 +5,11 @@ use Rattle.sqlite_trees.specs.declared.store.Store.{Ghosts}
 use Rattle.sqlite.specs.Held.{state}
 use Rattle.sqlite.specs.State.{State}
 use Rattle.bh_types.specs.Limits.{HostLimits}
+use Rattle.bh_model.specs.State.{Octets}
 use Rattle.bh_tables.specs.Schema.{host_schema}
 use Rattle.bh_tables.specs.Typed.{Tables}
 use Rattle.bh_tables.specs.Hosts.{tables_shown}
+use Rattle.bh_view.specs.Bodies.{IsSoundHost}
 use Rattle.bh_storage.specs.Calls.{Seen, Clean, Within, IsWorking}
 use Rattle.bh_schema.specs.declared.host.Host.{Host}
 use Rattle.bh_schema.specs.Layer.{Standing, standing, Leaves}
@@ -45,9 +47,9 @@ module _ {S D : Type 0} (g : Ghosts S) where
   abbrev pub left : Host S D → Tables → Type 0
   left host = left_in (state g host.connection)
 
-  -- while it is clean, a transaction is open on sound tables
-  abbrev pub Works : Host S D → Type 0
-  Works host = IsClean host → IsWorking (seen host)
+  -- while it is clean, a transaction is open on a sound host's tables, whose blocks are named by this function
+  abbrev pub Works : (Octets → Octets) → Host S D → Type 0
+  Works digest host = IsClean host → IsWorking (IsSoundHost digest) (seen host)
 
   -- a call inside a transaction commits nothing
   abbrev pub Keeps : Host S D → Host S D → Type 0

@@ -4,7 +4,10 @@ use Rattle.sqlite.specs.Held.{Held, state}
 use Rattle.sqlite.specs.State.{State}
 use Rattle.sqlite_trees.specs.declared.store.Store.{Ghosts}
 use Rattle.bh_tables.specs.Typed.{Tables, tables_in}
+use Rattle.bh_model.specs.State.{Octets}
 use Rattle.bh_view.specs.Sound.{IsSound}
+use Rattle.bh_view.specs.Blocks.{AreDigests}
+use Rattle.bh_view.specs.Bodies.{HasBodies}
 use Rattle.bh_view.specs.View.{limits_in}
 use Rattle.bh_schema.specs.Layer.{standing, IsInside}
 use Rattle.bh_schema.specs.Connections.{IsClean}
@@ -17,11 +20,17 @@ tables_at s = tables_in (standing s).now
 pub record IsWorking (s : State) : Type 0 where
   pub inside : IsInside (standing s)
   pub sound : IsSound (tables_at s)
+  pub bodies : HasBodies (tables_at s)
 
--- so is one, and the limits that the tables keep are those that they kept before
-pub record StillWorking (old new : State) : Type 0 where
+-- so is one, the limits that the tables keep are those that they kept before, and blocks are named by this function if they were
+pub record StillWorkingBy (digest : Octets → Octets) (old new : State) : Type 0 where
   pub is : IsWorking new
   pub limits : limits_in (tables_at new) ≡ limits_in (tables_at old)
+  pub digests : AreDigests digest (tables_at old).blocks → AreDigests digest (tables_at new).blocks
+
+-- the same for every function
+abbrev pub StillWorking : State → State → Type 0
+StillWorking old new = (digest : Octets → Octets) → StillWorkingBy digest old new
 
 module _ {S : Type 0} (g : Ghosts S) where
   -- while the connection is clean
@@ -30,3 +39,6 @@ module _ {S : Type 0} (g : Ghosts S) where
 
   abbrev pub StillWorks : Held S → Held S → Type 0
   StillWorks old new = IsClean g new → StillWorking (state g old) (state g new)
+
+  abbrev pub StillWorksBy : (Octets → Octets) → Held S → Held S → Type 0
+  StillWorksBy digest old new = IsClean g new → StillWorkingBy digest (state g old) (state g new)

@@ -16,7 +16,7 @@ use sqlite::Alter;
 impl<S: Alter + Drop, D: Digester + Drop> Host<S, D> {
     /// The last stamp.
     pub fn latest(&mut self) -> Result<Moment, Trouble>
-        requires { Works S.Store self.old }
+        requires { Works S.Store D.digest_of self.old }
         ensures within { StateWithin (state S.Store self.old.connection) (state S.Store self.new.connection) }
         ensures opens { OnOk result (IsIntact S.Store self.new → IsOpen S.Store self.old × IsOpen S.Store self.new) }
         ensures same { OnOk result (IsIntact S.Store self.new
@@ -35,10 +35,10 @@ impl<S: Alter + Drop, D: Digester + Drop> Host<S, D> {
     /// already: the greater of the two.
     pub fn stamp_reading(&mut self, reading: u64) -> Result<Moment, Trouble>
         requires in_range { reading ≤ last_reading }
-        requires working { Works S.Store self.old }
+        requires working { Works S.Store D.digest_of self.old }
         ensures within { Keeps S.Store self.old self.new }
         ensures opens { OnOk result (StaysOpen S.Store self.old self.new) }
-        ensures working { OnOk result (Works S.Store self.new) }
+        ensures working { OnOk result (Works S.Store D.digest_of self.new) }
         ensures stamps { IfOk result (λ m. IsClean S.Store self.new
             → Stamps reading m (seen S.Store self.old).now (seen S.Store self.new).now) }
         ensures unwritten { IfOk result (λ m. IsClean S.Store self.new → m ≡ latest_of (seen S.Store self.old).now

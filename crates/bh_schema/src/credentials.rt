@@ -18,10 +18,10 @@ impl<S: Alter + Drop, D: Digester + Drop> Host<S, D> {
         key: &AccessKeyId,
         secret: &[u8],
     ) -> Result<(), StepError<Refusal>>
-        requires { Works S.Store self.old }
+        requires { Works S.Store D.digest_of self.old }
         ensures within { Keeps S.Store self.old self.new }
         ensures opens { Unless result (StaysOpen S.Store self.old self.new) }
-        ensures working { Unless result (Works S.Store self.new) }
+        ensures working { Unless result (Works S.Store D.digest_of self.new) }
         ensures decides { IsClean S.Store self.new
             → Decides (λ _. tt) (authenticate key.now secret.now (view (seen S.Store self.old).now key.now.tenant))
             (seen S.Store self.old).now (seen S.Store self.new).now result }

@@ -3,13 +3,13 @@ ghost use Rattle.std.specs.Prelude.{◌≡◌, ℕ, List};
 use bh_types::limits::{Limits, Tuning};
 use sqlite::{Alter, Connection};
 
-/// Some function from bytes to 32 bytes, of which nothing else is assumed.
+/// Some function from bytes to 32 bytes, one for each type, of which nothing else is assumed.
 pub trait Digester {
     /// The digest of some bytes.
-    ghost digest_of: { Self → List ℕ → List ℕ };
+    ghost digest_of: { List ℕ → List ℕ };
 
     fn digest(&self, bytes: &[u8]) -> [u8; 32]
-        ensures { result ≡ digest_of self.now bytes.now };
+        ensures { result ≡ digest_of bytes.now };
 }
 
 /// A host of buckets over a SQL database.

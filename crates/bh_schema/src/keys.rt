@@ -22,10 +22,10 @@ impl<S: Alter + Drop, D: Digester + Drop> Host<S, D> {
         name: &str,
         secret: &str,
     ) -> Result<(), StepError<Refusal>>
-        requires { Works S.Store self.old }
+        requires { Works S.Store D.digest_of self.old }
         ensures within { Keeps S.Store self.old self.new }
         ensures opens { Unless result (StaysOpen S.Store self.old self.new) }
-        ensures working { Unless result (Works S.Store self.new) }
+        ensures working { Unless result (Works S.Store D.digest_of self.new) }
         ensures carries { IsClean S.Store self.new
             → Carries (λ _. Done) tenant.now (add_key tenant.now name.now secret.now)
             (seen S.Store self.old).now (seen S.Store self.new).now result }
@@ -50,10 +50,10 @@ impl<S: Alter + Drop, D: Digester + Drop> Host<S, D> {
         tenant: &str,
         name: &str,
     ) -> Result<(), StepError<Refusal>>
-        requires { Works S.Store self.old }
+        requires { Works S.Store D.digest_of self.old }
         ensures within { Keeps S.Store self.old self.new }
         ensures opens { Unless result (StaysOpen S.Store self.old self.new) }
-        ensures working { Unless result (Works S.Store self.new) }
+        ensures working { Unless result (Works S.Store D.digest_of self.new) }
         ensures carries { IsClean S.Store self.new
             → Carries (λ _. Done) tenant.now (remove_key tenant.now name.now)
             (seen S.Store self.old).now (seen S.Store self.new).now result }

@@ -20,10 +20,10 @@ impl<S: Alter + Drop, D: Digester + Drop> Host<S, D> {
         tenant: &str,
         quota: u64,
     ) -> Result<(), StepError<Refusal>>
-        requires { Works S.Store self.old }
+        requires { Works S.Store D.digest_of self.old }
         ensures within { Keeps S.Store self.old self.new }
         ensures opens { Unless result (StaysOpen S.Store self.old self.new) }
-        ensures working { Unless result (Works S.Store self.new) }
+        ensures working { Unless result (Works S.Store D.digest_of self.new) }
         ensures carries { IsClean S.Store self.new
             → Carries (λ _. Done) tenant.now (add_tenant tenant.now quota)
             (seen S.Store self.old).now (seen S.Store self.new).now result }

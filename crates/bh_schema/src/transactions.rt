@@ -1,5 +1,6 @@
 ghost use Rattle.std.specs.Prelude.{◌≡◌, ◌⊎◌, OnOk, OnErr};
 ghost use Rattle.bh_tables.specs.Typed.{Tables};
+ghost use Rattle.bh_view.specs.Bodies.{IsSoundHost};
 ghost use Rattle.bh_storage.specs.Calls.{IsAtRest, IsWorking, LeavesNothingNew, Commits, TakesBack};
 ghost use Rattle.bh_schema.specs.Storage.{IsClean, IsIntact, IsOpen, seen, left, Works, Keeps, KeepsSettings};
 
@@ -12,12 +13,12 @@ use sqlite::Alter;
 impl<S: Alter + Drop, D: Digester + Drop> Host<S, D> {
     /// Opens a transaction. A connection that a fault has shut refuses it.
     pub fn begin(&mut self) -> Result<(), Trouble>
-        requires { IsClean S.Store self.old → IsAtRest (seen S.Store self.old) }
+        requires { IsClean S.Store self.old → IsAtRest (IsSoundHost D.digest_of) (seen S.Store self.old) }
         ensures within { Keeps S.Store self.old self.new }
         ensures survives { IsIntact S.Store self.new → LeavesNothingNew (left S.Store) self.old self.new }
         ensures opens { OnOk result (IsIntact S.Store self.new → IsOpen S.Store self.old × IsOpen S.Store self.new) }
         ensures same { OnOk result (IsIntact S.Store self.new → (seen S.Store self.new).now ≡ (seen S.Store self.old).now) }
-        ensures working { OnOk result (IsIntact S.Store self.new → IsWorking (seen S.Store self.new)) }
+        ensures working { OnOk result (IsIntact S.Store self.new → IsWorking (IsSoundHost D.digest_of) (seen S.Store self.new)) }
         ensures settings { KeepsSettings S.Store self.old self.new }
     {
         or_trouble(transactions::begin(&mut self.connection))?;
@@ -26,7 +27,7 @@ impl<S: Alter + Drop, D: Digester + Drop> Host<S, D> {
 
     /// Commits the transaction. A crash then finds what was committed.
     pub fn commit(&mut self) -> Result<(), Trouble>
-        requires { Works S.Store self.old }
+        requires { Works S.Store D.digest_of self.old }
         ensures intact { IsIntact S.Store self.new → IsIntact S.Store self.old }
         ensures opened { IsIntact S.Store self.new → IsOpen S.Store self.new → IsOpen S.Store self.old }
         ensures opens { OnOk result (IsIntact S.Store self.new → IsOpen S.Store self.old × IsOpen S.Store self.new) }

@@ -7,6 +7,7 @@ use Rattle.bh_model.specs.State.{Octets, State as Machine}
 use Rattle.bh_tables.specs.Typed.{TenantRow, Tables, tables_in}
 use Rattle.bh_tables.specs.Shown.{is_tenant}
 use Rattle.bh_view.specs.Becomes.{Becomes}
+use Rattle.bh_view.specs.Bodies.{IsSoundHost}
 use Rattle.bh_view.specs.View.{rows_of, state_of, view}
 use Rattle.bh_view.proofs.FindLemmas.{first_find, tenant_found}
 use Rattle.bh_view.proofs.TenantChanges.{next_entry_set}
@@ -21,7 +22,7 @@ use Rattle.bh_spent.specs.Raising.{MayRise, with_next_entry, Raises}
 abbrev pub with_entry : Octets → ℕ → Tables → Tables
 with_entry t n x = record x { tenants = update_where (is_tenant t) (λ r. record r { next_entry = n }) x.tenants }
 
-module _ (l : HostLimits) (old new : State) (t : Octets) (found : Option TenantNumbers) (working : IsWorking (seen_in l old)) (is : found ≡ option_map tenant_numbers (find (is_tenant t) (tables_in (standing old).now).tenants)) where
+module _ {digest : Octets → Octets} (l : HostLimits) (old new : State) (t : Octets) (found : Option TenantNumbers) (working : IsWorking (IsSoundHost digest) (seen_in l old)) (is : found ≡ option_map tenant_numbers (find (is_tenant t) (tables_in (standing old).now).tenants)) where
   -- the number that was read
   number_seen : option_map (λ (s : Machine). s.next_entry) (view (seen_in l old).now t) ≡ option_map (λ (x : TenantNumbers). x.next_entry) found
   number_seen =
@@ -48,4 +49,4 @@ module _ (l : HostLimits) (old new : State) (t : Octets) (found : Option TenantN
       go (Some x) None at e may = absurd (cc)
       go (Some x) (Some s) at e may =
           let same : s.next_entry ≡ x.next_entry = cc in
-          next_entry_set (seen_in l old).now (seen_in l new).now t s working.sound at n (subst (λ m. m ≤ n) (sym same) may.0) may.1 is_new
+          next_entry_set (seen_in l old).now (seen_in l new).now t s working.sound.sound at n (subst (λ m. m ≤ n) (sym same) may.0) may.1 is_new

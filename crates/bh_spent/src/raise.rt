@@ -1,4 +1,5 @@
 ghost use Rattle.std.specs.Prelude.{◌≡◌, ◌↔◌, IsTrue, OnOk, OnErr};
+ghost use Rattle.bh_view.specs.Bodies.{IsSoundHost};
 ghost use Rattle.bh_storage.specs.Calls.{IsAtRest};
 ghost use Rattle.bh_schema.specs.Storage.{IsClean, seen, Works, Keeps};
 ghost use Rattle.bh_spent.specs.Raising.{MayRise, Raises};
@@ -25,9 +26,9 @@ fn raise<S: Alter + Drop, D: Digester + Drop>(
     tenant: &str,
     entry: u64,
 ) -> Result<(), Trouble>
-    requires { Works S.Store host.old }
+    requires { Works S.Store D.digest_of host.old }
     ensures within { Keeps S.Store host.old host.new }
-    ensures working { OnOk result (Works S.Store host.new) }
+    ensures working { OnOk result (Works S.Store D.digest_of host.new) }
     ensures raised { OnOk result (IsClean S.Store host.new
         → Raises tenant.now entry (seen S.Store host.old).now (seen S.Store host.new).now) }
 {
@@ -44,10 +45,10 @@ fn commit_raised<S: Alter + Drop, D: Digester + Drop>(
     tenant: &str,
     entry: u64,
 ) -> Result<(), Trouble>
-    requires { IsClean S.Store host.old → IsAtRest (seen S.Store host.old) }
+    requires { IsClean S.Store host.old → IsAtRest (IsSoundHost D.digest_of) (seen S.Store host.old) }
     ensures clean { IsClean S.Store host.new → IsClean S.Store host.old }
     ensures limits { (seen S.Store host.new).limits ≡ (seen S.Store host.old).limits }
-    ensures rest { OnOk result (IsClean S.Store host.new → IsAtRest (seen S.Store host.new)) }
+    ensures rest { OnOk result (IsClean S.Store host.new → IsAtRest (IsSoundHost D.digest_of) (seen S.Store host.new)) }
     ensures raised { OnOk result (IsClean S.Store host.new
         → Raises tenant.now entry (seen S.Store host.old).now (seen S.Store host.new).now) }
     ensures kept { OnErr result (IsClean S.Store host.new → (seen S.Store host.new).kept ≡ (seen S.Store host.old).kept) }
@@ -67,8 +68,8 @@ pub fn raise_entries<S: Alter + Drop, D: Digester + Drop>(
     tenant: &TenantName,
     entry: u64,
 ) -> Result<(), Trouble>
-    requires { IsClean S.Store host.old → IsAtRest (seen S.Store host.old) }
-    ensures rest { IsClean S.Store host.new → IsAtRest (seen S.Store host.new) }
+    requires { IsClean S.Store host.old → IsAtRest (IsSoundHost D.digest_of) (seen S.Store host.old) }
+    ensures rest { IsClean S.Store host.new → IsAtRest (IsSoundHost D.digest_of) (seen S.Store host.new) }
     ensures raised { OnOk result (IsClean S.Store host.new
         → Raises tenant.now entry (seen S.Store host.old).now (seen S.Store host.new).now) }
     ensures same { OnErr result (IsClean S.Store host.new → (seen S.Store host.new).now ≡ (seen S.Store host.old).now) }

@@ -1,11 +1,11 @@
 -- What a call on the storage does, in the words that a host needs: what is seen and committed, the machine's steps, and
 -- what a crash leaves.
-use Rattle.std.specs.Prelude.{◌≡◌, ◌⊎◌, ◌≢◌, ℕ, Bool, true, false, Option, Result, Ok, Err}
+use Rattle.std.specs.Prelude.{◌≡◌, ◌≢◌, ℕ, Bool, true, false, Option, Result, Ok, Err}
 use Rattle.bh_types.specs.Limits.{HostLimits}
 use Rattle.bh_model.specs.Runs.{stamp_of, purged_tenant}
 use Rattle.bh_model.specs.State.{Octets, State}
 use Rattle.bh_tables.specs.Typed.{Tables}
-use Rattle.bh_view.specs.Sound.{IsSound}
+use Rattle.bh_view.specs.Becomes.{KeepsShared}
 use Rattle.bh_view.specs.View.{view, latest_of, limits_in, with_latest, rows_purged}
 use Rattle.bh_storage.specs.declared.error.StepError.{StepError}
 use Rattle.bh_storage.specs.declared.error.StepError.TheVariants.{Refused, Failed}
@@ -17,15 +17,15 @@ pub record Seen : Type 0 where
   pub inside : Bool
   pub limits : HostLimits
 
--- no transaction is open, all is committed, and the limits are those that the tables keep
-pub record IsAtRest (s : Seen) : Type 0 where
+-- no transaction is open, all is committed, the tables are sound, and the limits are those that they keep
+pub record IsAtRest (IsSound : Tables → Type 0) (s : Seen) : Type 0 where
   pub outside : s.inside ≡ false
   pub committed : s.kept ≡ s.now
   pub sound : IsSound s.now
   pub limits : limits_in s.now ≡ s.limits
 
--- a transaction is open
-pub record IsWorking (s : Seen) : Type 0 where
+-- a transaction is open on sound tables
+pub record IsWorking (IsSound : Tables → Type 0) (s : Seen) : Type 0 where
   pub inside : s.inside ≡ true
   pub sound : IsSound s.now
   pub limits : limits_in s.now ≡ s.limits
@@ -82,11 +82,12 @@ pub record Purges (t : Octets) (at : ℕ) (old new : Tables) : Type 0 where
   pub others : OthersSame t old new
   pub latest : latest_of new ≡ latest_of old
 
--- a step of a tenant: the machine's step of its state gives the answer and the state
+-- a step of a tenant: the machine's step of its state gives the answer and the state, and what all tenants share is kept
 pub record GivesStep {Y E : Type 0} (t : Octets) (step : Option State → Result (Y × Option State) E) (y : Y) (old new : Tables) : Type 0 where
   pub gives : step (view old t) ≡ Ok (y, view new t)
   pub others : OthersSame t old new
   pub latest : latest_of new ≡ latest_of old
+  pub shared : KeepsShared old new
 
 -- the same, or the step's refusal with the tables as they were
 abbrev pub Carries : {X Y E : Type 0} → (X → Y) → Octets → (Option State → Result (Y × Option State) E) → Tables → Tables → Result X (StepError E) → Type 0

@@ -1,6 +1,7 @@
-use bh_docs::{BucketEntry, ObjectsPage};
+use bh_docs::{BucketEntry, ObjectsPage, VersionsPage};
 use bh_types::bucket_state::BucketState;
 use bh_types::id::VersionId;
+use bh_types::moment::Moment;
 use bh_types::range::RangePlan;
 
 /// What an operation answers where nothing is refused.
@@ -10,6 +11,7 @@ pub enum Answer {
     Done,
     Removed(RemovedEntry),
     Stored(StoredVersion),
+    Copied(CopiedVersion),
     Head(ObjectHead),
     Found(FoundVersion),
     /// The buckets of a tenant, by their names.
@@ -17,6 +19,8 @@ pub enum Answer {
     Versioning(BucketState),
     /// A page of a bucket's objects.
     Objects(ObjectsPage),
+    /// A page of a bucket's versions and delete markers.
+    Versions(VersionsPage),
 }
 
 /// What a delete answers.
@@ -35,6 +39,17 @@ pub struct StoredVersion {
     /// The new version's id, where its bucket is or was versioned.
     pub id: Option<VersionId>,
     /// The base64 (RFC 4648) of the SHA-256 digest (FIPS 180-4) of the object's bytes.
+    pub checksum: String,
+}
+
+/// What a copy answers.
+#[derive(Drop)]
+pub struct CopiedVersion {
+    /// The new version's id, where its bucket is or was versioned.
+    pub id: Option<VersionId>,
+    /// The new version's moment.
+    pub modified: Moment,
+    /// The text of the checksum, which is the source's.
     pub checksum: String,
 }
 

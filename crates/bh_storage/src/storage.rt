@@ -37,6 +37,9 @@ pub trait Storage {
     /// No fault has shut the store.
     ghost IsOpen: { Self → Type 0 };
 
+    /// What holds of its tables between events.
+    ghost IsSound: { Tables → Type 0 };
+
     /// What a crash at this moment may leave.
     ghost left: { Self → Tables → Type 0 };
 
@@ -46,16 +49,16 @@ pub trait Storage {
 
     /// Opens a transaction. A store that a fault has shut refuses it.
     fn begin(&mut self) -> Result<(), Trouble>
-        requires { Clean IsIntact IsOpen self.old → IsAtRest (seen self.old) }
+        requires { Clean IsIntact IsOpen self.old → IsAtRest IsSound (seen self.old) }
         ensures within { Within IsIntact IsOpen seen left self.old self.new }
         ensures survives { IsIntact self.new → LeavesNothingNew left self.old self.new }
         ensures opens { OnOk result (IsIntact self.new → IsOpen self.old × IsOpen self.new) }
         ensures same { OnOk result (IsIntact self.new → (seen self.new).now ≡ (seen self.old).now) }
-        ensures working { OnOk result (IsIntact self.new → IsWorking (seen self.new)) };
+        ensures working { OnOk result (IsIntact self.new → IsWorking IsSound (seen self.new)) };
 
     /// Commits the transaction.
     fn commit(&mut self) -> Result<(), Trouble>
-        requires { Clean IsIntact IsOpen self.old → IsWorking (seen self.old) }
+        requires { Clean IsIntact IsOpen self.old → IsWorking IsSound (seen self.old) }
         ensures intact { IsIntact self.new → IsIntact self.old }
         ensures opened { IsIntact self.new → IsOpen self.new → IsOpen self.old }
         ensures opens { OnOk result (IsIntact self.new → IsOpen self.old × IsOpen self.new) }
@@ -76,18 +79,18 @@ pub trait Storage {
     /// Writes the stamp of a reading, in seconds since 1970: the greater of it and the last stamp.
     fn stamp(&mut self, reading: u64) -> Result<Moment, Trouble>
         requires in_range { reading ≤ last_reading }
-        requires working { Clean IsIntact IsOpen self.old → IsWorking (seen self.old) }
+        requires working { Clean IsIntact IsOpen self.old → IsWorking IsSound (seen self.old) }
         ensures within { Within IsIntact IsOpen seen left self.old self.new }
         ensures opens { OnOk result (IsOpen self.old → IsIntact self.new → IsOpen self.new) }
-        ensures working { OnOk result (Clean IsIntact IsOpen self.new → IsWorking (seen self.new)) }
+        ensures working { OnOk result (Clean IsIntact IsOpen self.new → IsWorking IsSound (seen self.new)) }
         ensures stamps { IfOk result (λ m. Clean IsIntact IsOpen self.new → Stamps reading m (seen self.old).now (seen self.new).now) };
 
     /// Takes away a tenant's uploads that are stale at a moment.
     fn purge(&mut self, tenant: &TenantName, at: Moment) -> Result<(), Trouble>
-        requires { Clean IsIntact IsOpen self.old → IsWorking (seen self.old) }
+        requires { Clean IsIntact IsOpen self.old → IsWorking IsSound (seen self.old) }
         ensures within { Within IsIntact IsOpen seen left self.old self.new }
         ensures opens { OnOk result (IsOpen self.old → IsIntact self.new → IsOpen self.new) }
-        ensures working { OnOk result (Clean IsIntact IsOpen self.new → IsWorking (seen self.new)) }
+        ensures working { OnOk result (Clean IsIntact IsOpen self.new → IsWorking IsSound (seen self.new)) }
         ensures purges { OnOk result (Clean IsIntact IsOpen self.new → Purges tenant.now at (seen self.old).now (seen self.new).now) };
 
     /// Whether an access key has this secret: InvalidAccessKeyId, AccessDenied.
@@ -97,10 +100,10 @@ pub trait Storage {
         key: &AccessKeyId,
         secret: &[u8],
     ) -> Result<(), StepError<Refusal>>
-        requires { Clean IsIntact IsOpen self.old → IsWorking (seen self.old) }
+        requires { Clean IsIntact IsOpen self.old → IsWorking IsSound (seen self.old) }
         ensures within { Within IsIntact IsOpen seen left self.old self.new }
         ensures opens { Unless result (IsOpen self.old → IsIntact self.new → IsOpen self.new) }
-        ensures working { Unless result (Clean IsIntact IsOpen self.new → IsWorking (seen self.new)) }
+        ensures working { Unless result (Clean IsIntact IsOpen self.new → IsWorking IsSound (seen self.new)) }
         ensures decides { Clean IsIntact IsOpen self.new
             → Decides (λ _. tt) (machine.authenticate key.now secret.now (view (seen self.old).now key.now.tenant)) (seen self.old).now (seen self.new).now result };
 
@@ -113,20 +116,20 @@ pub trait Storage {
         operation: &Operation,
         body: &[u8],
     ) -> Result<Answer, StepError<Rejection>>
-        requires working { Clean IsIntact IsOpen self.old → IsWorking (seen self.old) }
+        requires working { Clean IsIntact IsOpen self.old → IsWorking IsSound (seen self.old) }
         requires early { Clean IsIntact IsOpen self.old → at ≤ latest_of (seen self.old).now }
         ensures within { Within IsIntact IsOpen seen left self.old self.new }
         ensures opens { Unless result (IsOpen self.old → IsIntact self.new → IsOpen self.new) }
-        ensures working { Unless result (Clean IsIntact IsOpen self.new → IsWorking (seen self.new)) }
+        ensures working { Unless result (Clean IsIntact IsOpen self.new → IsWorking IsSound (seen self.new)) }
         ensures carries { Clean IsIntact IsOpen self.new
             → Carries answer_view tenant.now (operated at body.now operation.now) (seen self.old).now (seen self.new).now result };
 
     /// Carries out an operator's command on the tenant that it names.
     fn command(&mut self, alloc: Global, command: &Command) -> Result<(), StepError<Refusal>>
-        requires { Clean IsIntact IsOpen self.old → IsWorking (seen self.old) }
+        requires { Clean IsIntact IsOpen self.old → IsWorking IsSound (seen self.old) }
         ensures within { Within IsIntact IsOpen seen left self.old self.new }
         ensures opens { Unless result (IsOpen self.old → IsIntact self.new → IsOpen self.new) }
-        ensures working { Unless result (Clean IsIntact IsOpen self.new → IsWorking (seen self.new)) }
+        ensures working { Unless result (Clean IsIntact IsOpen self.new → IsWorking IsSound (seen self.new)) }
         ensures carries { Clean IsIntact IsOpen self.new
             → Carries (λ _. Done) (tenant_of (order_of command.now)) (ordered (order_of command.now)) (seen self.old).now (seen self.new).now result };
 }

@@ -15,16 +15,18 @@ use Rattle.sqlite_schema.specs.Rules.{agree}
 use Rattle.sqlite_tied.specs.Compute.{everything}
 use Rattle.sqlite_typed.specs.Tests.{bytes_eq}
 use Rattle.sqlite_typed.proofs.TestLemmas.{same_bytes, at_texts, last_term, then_term, then_key, last_key}
-use Rattle.bh_rows.specs.Form.{put}
+use Rattle.bh_rows.specs.Form.{put, typed}
 use Rattle.bh_rows.specs.Keys.{Pointer, points_at, Suits}
 use Rattle.bh_rows.specs.Scan.{by_rowid, no_limit}
 use Rattle.bh_rows.specs.Texts.{MayAdd, MayChange, InsertText, UpdateText, DeleteText, SelectText, SortedText}
 use Rattle.bh_rows.proofs.DeleteErrors.{none_points, none_named}
 use Rattle.bh_rows.proofs.FormLemmas.{any_typed}
 use Rattle.bh_tables.specs.Schema.{Octets, host_schema, buckets_table, at}
-use Rattle.bh_tables.specs.Typed.{BucketRow, VersionRow, bucket_form, tenant_form, version_form, number, IsHost, tables_in}
+use Rattle.bh_tables.specs.Typed.{BucketRow, VersionColumns, bucket_form, tenant_form, version_form, number, IsHost, tables_in}
+use Rattle.bh_tables.specs.Bodies.{bare}
 use Rattle.bh_tables.specs.Shown.{is_bucket, is_in_bucket, is_owned_bucket, is_tenant, by_bucket, shown_bucket, shown_entry}
 use Rattle.bh_tables.proofs.Places.{Goes, buckets}
+use Rattle.bh_tables.proofs.ResolvedLemmas.{any_resolved}
 use Rattle.bh_tables.proofs.Checked.{bucket_checked}
 use Rattle.bh_tables.proofs.Terms.{is}
 
@@ -52,11 +54,11 @@ new_bucket db host b low free owned = record {
 abbrev to_buckets : Pointer
 to_buckets = record { child = 7; columns = 1 ∷ 3 ∷ []; places = 1 ∷ 2 ∷ []; order = plain }
 
-lies_in : (i : ℤ) (v : VersionRow) (j : ℤ) (b : BucketRow) → points_at to_buckets (put version_form (i, v)) (put bucket_form (j, b)) ≡ (bytes_eq v.tenant b.tenant && bytes_eq v.bucket b.bucket)
+lies_in : (i : ℤ) (v : VersionColumns) (j : ℤ) (b : BucketRow) → points_at to_buckets (put version_form (i, v)) (put bucket_form (j, b)) ≡ (bytes_eq v.tenant b.tenant && bytes_eq v.bucket b.bucket)
 unfolding first_key
 lies_in i v j b = then_term (at_texts false Eq v.tenant b.tenant) (last_term (at_texts false Eq v.bucket b.bucket))
 
-named : (tenant bucket : Octets) (v : VersionRow) (b : BucketRow) → (bytes_eq v.tenant b.tenant && bytes_eq v.bucket b.bucket) ≡ true → is_bucket tenant bucket b ≡ true → is_in_bucket tenant bucket v ≡ true
+named : (tenant bucket : Octets) (v : VersionColumns) (b : BucketRow) → (bytes_eq v.tenant b.tenant && bytes_eq v.bucket b.bucket) ≡ true → is_bucket tenant bucket b ≡ true → is_in_bucket tenant bucket (bare v) ≡ true
 named tenant bucket v b lies is =
     let both = and_parts _ _ is in
     ap₂ (λ t n. bytes_eq v.tenant t && bytes_eq v.bucket n) (sym (same_bytes b.tenant tenant both.0)) (sym (same_bytes b.bucket bucket both.1)) ∙ lies
@@ -65,7 +67,7 @@ pub empty_goes : (db : Database) → IsHost db → (tenant bucket : Octets) → 
 unfolding everything
 empty_goes db host tenant bucket empty = (
   none_points bucket_form version_form (db.trees 5) (db.trees 7) to_buckets (is_bucket tenant bucket) (λ v b. bytes_eq v.tenant b.tenant && bytes_eq v.bucket b.bucket) lies_in host.held.buckets host.held.versions
-      (none_named (λ v b. bytes_eq v.tenant b.tenant && bytes_eq v.bucket b.bucket) (is_bucket tenant bucket) (is_in_bucket tenant bucket) (named tenant bucket) (tables_in db).buckets (tables_in db).versions empty),
+      (none_named (λ v b. bytes_eq v.tenant b.tenant && bytes_eq v.bucket b.bucket) (is_bucket tenant bucket) (λ v. is_in_bucket tenant bucket (bare v)) (named tenant bucket) (tables_in db).buckets (typed version_form (db.trees 7)) (sym (any_resolved (tables_in db).refs (tables_in db).blocks (is_in_bucket tenant bucket) (typed version_form (db.trees 7))) ∙ empty)),
   tt,
 )
 

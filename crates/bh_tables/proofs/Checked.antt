@@ -13,7 +13,8 @@ use Rattle.sqlite_typed.specs.Tests.{null_or}
 use Rattle.sqlite_typed.proofs.TestLemmas.{at_ints, at_texts, at_and, at_or, at_nullable}
 use Rattle.sqlite_schema.specs.Rules.{passes_checks}
 use Rattle.bh_tables.specs.Schema.{host_table, tenants_table, buckets_table, versions_table, blocks_table, refs_table}
-use Rattle.bh_tables.specs.Typed.{HostRow, host_columns, TenantRow, tenant_columns, BucketRow, bucket_columns, VersionRow, version_columns, BlockRow, block_columns, RefRow, ref_columns, number}
+use Rattle.bh_tables.specs.Typed.{HostRow, host_columns, TenantRow, tenant_columns, BucketRow, bucket_columns, VersionColumns, version_columns, BlockRow, block_columns, RefRow, ref_columns, number}
+use Rattle.bh_tables.specs.Bodies.{bare}
 use Rattle.bh_tables.specs.Shown.{is_marked_right}
 
 twice : (b : Bool) → b ≡ true → not (not b) ≡ true
@@ -39,7 +40,7 @@ tenant_checked id t = both_true (natural t.quota) (both_true (natural t.next_ver
 pub bucket_checked : (id : Rattle.std.proofs.Common.ℤ) (b : BucketRow) → b.state ≤ 2 → passes_checks buckets_table (Int id ∷ bucket_columns b) ≡ true
 bucket_checked id b low = both_true (natural b.created) (both_true (natural b.state) (both_true (at_most b.state 2 low) (both_true (maybe_natural b.days) refl)))
 
-pub version_checked : (id : Rattle.std.proofs.Common.ℤ) (v : VersionRow) → is_marked_right v ≡ true → passes_checks versions_table (Int id ∷ version_columns v) ≡ true
+pub version_checked : (id : Rattle.std.proofs.Common.ℤ) (v : VersionColumns) → is_marked_right (bare v) ≡ true → passes_checks versions_table (Int id ∷ version_columns v) ≡ true
 version_checked id v right = both_true (natural v.seq) (both_true (natural v.id) (both_true (natural v.marker) (both_true (natural v.stamp) (both_true (natural v.size) (both_true (twice _ (
     at_or true _ _ (at_ints true Eq (pos v.marker) (pos 0)) (at_and true _ _ (at_ints true Eq (pos v.size) (pos 0)) (at_texts true Eq v.checksum [])) ∙ right)) refl)))))
 
@@ -47,7 +48,7 @@ pub block_checked : (id : Rattle.std.proofs.Common.ℤ) (b : BlockRow) → passe
 block_checked id b = both_true (natural b.ord) refl
 
 pub ref_checked : (id : Rattle.std.proofs.Common.ℤ) (r : RefRow) → passes_checks refs_table (Int id ∷ ref_columns r) ≡ true
-ref_checked id r = both_true (natural r.body) (both_true (natural r.place) (both_true (natural r.ord) refl))
+ref_checked id r = both_true (natural r.body) (both_true (natural r.place) (both_true (natural r.ord) (both_true (natural r.size) refl)))
 
 -- the row number of the host is 1
 pub host_checked : (h : HostRow) → passes_checks host_table (number 1 ∷ host_columns h) ≡ true

@@ -57,7 +57,7 @@ unfolding everything fits_kind is_free_name begins same_name value_cmp Ieee.lt I
 free_buckets = record { text = refl; name = refl; own = refl; free = refl; keys_free = refl; few = refl; narrow = refl; keys_narrow = refl; formed = refl; fit = refl }
 
 abbrev versions_text : Octets
-versions_text = codes "CREATE TABLE versions (tenant TEXT NOT NULL, seq INTEGER NOT NULL CHECK (seq >= 0), bucket TEXT NOT NULL, okey BLOB NOT NULL, id INTEGER NOT NULL CHECK (id >= 0), marker INTEGER NOT NULL CHECK (marker >= 0), stamp INTEGER NOT NULL CHECK (stamp >= 0), size INTEGER NOT NULL CHECK (size >= 0), sum TEXT NOT NULL, bytes BLOB NOT NULL, PRIMARY KEY (tenant, seq), UNIQUE (tenant, bucket, okey, id), FOREIGN KEY (tenant, bucket) REFERENCES buckets ON DELETE RESTRICT, CHECK (marker = 0 OR (size = 0 AND sum = ''))) STRICT"
+versions_text = codes "CREATE TABLE versions (tenant TEXT NOT NULL, seq INTEGER NOT NULL CHECK (seq >= 0), bucket TEXT NOT NULL, okey BLOB NOT NULL, id INTEGER NOT NULL CHECK (id >= 0), marker INTEGER NOT NULL CHECK (marker >= 0), stamp INTEGER NOT NULL CHECK (stamp >= 0), size INTEGER NOT NULL CHECK (size >= 0), sum TEXT NOT NULL, PRIMARY KEY (tenant, seq), UNIQUE (tenant, bucket, okey, id), FOREIGN KEY (tenant, bucket) REFERENCES buckets ON DELETE RESTRICT, CHECK (marker = 0 OR (size = 0 AND sum = ''))) STRICT"
 
 pub makes_versions : Makes with_buckets versions_text versions_table
 unfolding understood everything
@@ -79,7 +79,7 @@ unfolding everything fits_kind is_free_name begins same_name value_cmp Ieee.lt I
 free_blocks = record { text = refl; name = refl; own = refl; free = refl; keys_free = refl; few = refl; narrow = refl; keys_narrow = refl; formed = refl; fit = refl }
 
 abbrev refs_text : Octets
-refs_text = codes "CREATE TABLE refs (tenant TEXT NOT NULL, body INTEGER NOT NULL CHECK (body >= 0), place INTEGER NOT NULL CHECK (place >= 0), digest BLOB NOT NULL, ord INTEGER NOT NULL CHECK (ord >= 0), PRIMARY KEY (tenant, body, place), FOREIGN KEY (digest, ord) REFERENCES blocks ON DELETE RESTRICT) STRICT"
+refs_text = codes "CREATE TABLE refs (tenant TEXT NOT NULL, body INTEGER NOT NULL CHECK (body >= 0), place INTEGER NOT NULL CHECK (place >= 0), digest BLOB NOT NULL, ord INTEGER NOT NULL CHECK (ord >= 0), size INTEGER NOT NULL CHECK (size >= 0), PRIMARY KEY (tenant, body, place), FOREIGN KEY (digest, ord) REFERENCES blocks ON DELETE RESTRICT) STRICT"
 
 pub makes_refs : Makes with_blocks refs_text refs_table
 unfolding understood everything

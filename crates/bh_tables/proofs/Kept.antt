@@ -3,7 +3,7 @@ use Rattle.std.proofs.Common.{◌≡◌, ap, refl, Option, Some, None, ◌∷◌
 use Rattle.sqlite.specs.Cast.{cast_all}
 use Rattle.bh_rows.proofs.InsertLemmas.{cast_int, cast_null}
 use Rattle.bh_tables.specs.Schema.{host_table, tenants_table, keys_table, buckets_table, versions_table, blocks_table, refs_table}
-use Rattle.bh_tables.specs.Typed.{HostRow, host_columns, TenantRow, tenant_columns, KeyRow, key_columns, BucketRow, bucket_columns, VersionRow, version_columns, BlockRow, block_columns, RefRow, ref_columns}
+use Rattle.bh_tables.specs.Typed.{HostRow, host_columns, TenantRow, tenant_columns, KeyRow, key_columns, BucketRow, bucket_columns, VersionColumns, version_columns, BlockRow, block_columns, RefRow, ref_columns}
 
 pub host_kept : (h : HostRow) → cast_all host_table.columns (host_columns h) ≡ host_columns h
 host_kept h = rw cast_null (simp cast_int)
@@ -14,7 +14,7 @@ tenant_kept t = simp cast_int
 pub key_kept : (k : KeyRow) → cast_all keys_table.columns (key_columns k) ≡ key_columns k
 key_kept k = refl
 
-pub version_kept : (v : VersionRow) → cast_all versions_table.columns (version_columns v) ≡ version_columns v
+pub version_kept : (v : VersionColumns) → cast_all versions_table.columns (version_columns v) ≡ version_columns v
 version_kept v = simp cast_int
 
 pub block_kept : (b : BlockRow) → cast_all blocks_table.columns (block_columns b) ≡ block_columns b

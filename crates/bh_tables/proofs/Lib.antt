@@ -1,4 +1,5 @@
 pub mod RawLemmas
+pub mod ResolvedLemmas
 pub mod Blank
 pub mod Creates
 pub mod Transactions
@@ -13,5 +14,6 @@ pub mod KeyTexts
 pub mod BucketTexts
 pub mod VersionTexts
 pub mod BlockTexts
+pub mod RefTexts
 pub mod UnreferencedText
 pub mod HostTests

@@ -11,9 +11,11 @@ use Rattle.bh_rows.specs.Form.{Form, AreRows, Entry, put, entries, typed}
 use Rattle.bh_rows.specs.Keys.{AreUnused}
 use Rattle.bh_rows.specs.Texts.{IsOrderly, IsTableOf, Leaves}
 use Rattle.bh_tables.specs.Schema.{host_schema, host_table, tenants_table, keys_table, buckets_table, versions_table, blocks_table, refs_table, at}
-use Rattle.bh_tables.specs.Typed.{HostRow, TenantRow, KeyRow, BucketRow, VersionRow, BlockRow, RefRow, host_form, tenant_form, key_form, bucket_form, version_form, block_form, ref_form, Tables, tables, tables_in, tables_of, Raw, raw, AreHeld, IsHost}
+use Rattle.bh_tables.specs.Typed.{HostRow, TenantRow, KeyRow, BucketRow, VersionColumns, BlockRow, RefRow, host_form, tenant_form, key_form, bucket_form, version_form, block_form, ref_form, Tables, tables, tables_in, tables_of, Raw, raw, AreHeld, IsHost, rebodied}
+use Rattle.bh_tables.specs.Bodies.{resolved, columns_of}
 use Rattle.bh_tables.proofs.Kept.{host_kept, tenant_kept, key_kept, bucket_kept, version_kept, block_kept, ref_kept}
 use Rattle.bh_tables.proofs.RawLemmas.{raw_changed}
+use Rattle.bh_tables.proofs.ResolvedLemmas.{stored_versions, resolved_twice}
 
 pub orderly : IsOrderly host_schema
 unfolding everything
@@ -136,21 +138,25 @@ pub versions_is : IsTableOf version_form host_schema 4 (at 7 versions_table)
 unfolding everything
 versions_is = record { is_table = refl; plain = refl; low = refl; kept = version_kept; fit = refl }
 
-abbrev pub versions : Place VersionRow
+abbrev pub versions : Place VersionColumns
 versions = record {
   form = version_form;
   number = 4;
   table = at 7 versions_table;
   is = versions_is;
-  rows = λ t. t.versions;
-  set = λ t l. record t { versions = l };
-  rows_are = λ db. refl;
+  rows = λ t. map columns_of t.versions;
+  set = λ t l. record t { versions = map (resolved t.refs t.blocks) l };
+  rows_are = λ db. sym (stored_versions (tables_in db).refs (tables_in db).blocks (typed version_form (db.trees 7)));
   held = λ db is. is.held.versions;
   put = λ r l. record r { versions = l };
   put_is = λ db l. refl;
   put_reads = λ r l. refl;
   put_held = λ r l h it. record { host = h.host; tenants = h.tenants; keys = h.keys; buckets = h.buckets; versions = it; blocks = h.blocks; refs = h.refs };
 }
+
+-- the tables with other references and blocks, as they are read
+pub reread : (r : Raw) (refs : List RefRow) (blocks : List BlockRow) → record (tables_of r) { versions = map (resolved refs blocks) (typed version_form r.versions); refs = refs; blocks = blocks } ≡ rebodied (tables_of r) refs blocks
+reread r refs blocks = ap (λ l. record (tables_of r) { versions = l; refs = refs; blocks = blocks }) (sym (resolved_twice refs blocks (tables_of r).refs (tables_of r).blocks (typed version_form r.versions)))
 
 pub blocks_is : IsTableOf block_form host_schema 5 (at 10 blocks_table)
 unfolding everything
@@ -163,12 +169,12 @@ blocks = record {
   table = at 10 blocks_table;
   is = blocks_is;
   rows = λ t. t.blocks;
-  set = λ t l. record t { blocks = l };
+  set = λ t l. rebodied t t.refs l;
   rows_are = λ db. refl;
   held = λ db is. is.held.blocks;
   put = λ r l. record r { blocks = l };
   put_is = λ db l. refl;
-  put_reads = λ r l. refl;
+  put_reads = λ r l. reread r (typed ref_form r.refs) (typed block_form l);
   put_held = λ r l h it. record { host = h.host; tenants = h.tenants; keys = h.keys; buckets = h.buckets; versions = h.versions; blocks = it; refs = h.refs };
 }
 
@@ -183,11 +189,11 @@ refs = record {
   table = at 12 refs_table;
   is = refs_is;
   rows = λ t. t.refs;
-  set = λ t l. record t { refs = l };
+  set = λ t l. rebodied t l t.blocks;
   rows_are = λ db. refl;
   held = λ db is. is.held.refs;
   put = λ r l. record r { refs = l };
   put_is = λ db l. refl;
-  put_reads = λ r l. refl;
+  put_reads = λ r l. reread r (typed ref_form l) (typed block_form r.blocks);
   put_held = λ r l h it. record { host = h.host; tenants = h.tenants; keys = h.keys; buckets = h.buckets; versions = h.versions; blocks = h.blocks; refs = it };
 }

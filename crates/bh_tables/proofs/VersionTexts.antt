@@ -1,5 +1,5 @@
 -- The texts over versions.
-use Rattle.std.proofs.Common.{◌≡◌, ℕ, ℤ, pos, codes, List, [], ◌∷◌, ◌&&◌, true, false, refl, sym, ap, ◌∙◌, int_cmp}
+use Rattle.std.proofs.Common.{◌≡◌, Bool, ℕ, ℤ, pos, codes, List, [], ◌∷◌, ◌&&◌, true, false, refl, sym, ap, ◌∙◌, int_cmp}
 use Rattle.std.specs.List.{list_any}
 use Rattle.sqlite.specs.declared.types.Value.TheVariants.{Null, Int, Text, Blob}
 use Rattle.sqlite.specs.Collation.TheVariants.{Binary}
@@ -16,39 +16,44 @@ use Rattle.sqlite_schema.specs.Rules.{agree}
 use Rattle.sqlite_tied.specs.Compute.{everything}
 use Rattle.sqlite_typed.proofs.TestLemmas.{at_texts, at_blobs, at_ints, last_term, then_term, last_key, then_key}
 use Rattle.sqlite_typed.specs.Tests.{bytes_cmp}
-use Rattle.bh_rows.specs.Form.{put}
+use Rattle.bh_rows.specs.Form.{put, typed}
 use Rattle.bh_rows.specs.Keys.{AreUnused}
 use Rattle.bh_rows.specs.Scan.{no_limit, by_rowid}
 use Rattle.bh_rows.specs.Texts.{MayAdd, InsertText, DeleteText, SelectText, SortedText}
 use Rattle.bh_rows.proofs.FormLemmas.{any_typed}
 use Rattle.bh_rows.proofs.ScanLemmas.{then_assoc}
 use Rattle.bh_tables.specs.Schema.{Octets, host_schema, versions_table, at}
-use Rattle.bh_tables.specs.Typed.{VersionRow, version_form, bucket_form, number, IsHost, tables_in}
-use Rattle.bh_tables.specs.Shown.{is_version, is_at, is_in_bucket, is_entry, is_bucket, is_marked_right, newer, by_id, shown_head, shown_bytes, shown_seq}
+use Rattle.bh_tables.specs.Typed.{VersionColumns, VersionRow, version_form, bucket_form, number, IsHost, tables_in}
+use Rattle.bh_tables.specs.Bodies.{bare, resolved}
+use Rattle.bh_tables.specs.Shown.{is_version, is_at, is_in_bucket, is_entry, is_bucket, is_marked_right, newer, by_id, shown_head, shown_seq}
+use Rattle.bh_tables.proofs.ResolvedLemmas.{any_resolved}
 use Rattle.bh_tables.proofs.Checked.{version_checked}
 use Rattle.bh_tables.proofs.Terms.{is, one_row}
 
 -- ---- a version in a bucket, whose entry number and whose id no other has, may be added
 
-entry_agrees : (i j : ℤ) (a b : VersionRow) → agree plain (1 ∷ 2 ∷ []) (put version_form (i, a)) (1 ∷ 2 ∷ []) (put version_form (j, b)) ≡ is_entry b.tenant b.seq a
+entry_agrees : (i j : ℤ) (a b : VersionColumns) → agree plain (1 ∷ 2 ∷ []) (put version_form (i, a)) (1 ∷ 2 ∷ []) (put version_form (j, b)) ≡ is_entry b.tenant b.seq (bare a)
 unfolding first_key
 entry_agrees i j a b = then_term (at_texts false Eq a.tenant b.tenant) (last_term (at_ints false Eq (pos a.seq) (pos b.seq)))
 
-version_agrees : (i j : ℤ) (a b : VersionRow) → agree plain (1 ∷ 3 ∷ 4 ∷ 5 ∷ []) (put version_form (i, a)) (1 ∷ 3 ∷ 4 ∷ 5 ∷ []) (put version_form (j, b)) ≡ is_version b.tenant b.bucket b.okey b.id a
+version_agrees : (i j : ℤ) (a b : VersionColumns) → agree plain (1 ∷ 3 ∷ 4 ∷ 5 ∷ []) (put version_form (i, a)) (1 ∷ 3 ∷ 4 ∷ 5 ∷ []) (put version_form (j, b)) ≡ is_version b.tenant b.bucket b.okey b.id (bare a)
 unfolding first_key
 version_agrees i j a b = then_term (at_texts false Eq a.tenant b.tenant) (then_term (at_texts false Eq a.bucket b.bucket) (then_term (at_blobs false Eq a.okey b.okey) (last_term (at_ints false Eq (pos a.id) (pos b.id)))))
 
-pub new_version : (db : Database) → IsHost db → (v : VersionRow) → is_marked_right v ≡ true → list_any (is_entry v.tenant v.seq) (tables_in db).versions ≡ false → list_any (is_version v.tenant v.bucket v.okey v.id) (tables_in db).versions ≡ false
+pub new_version : (db : Database) → IsHost db → (v : VersionColumns) → is_marked_right (bare v) ≡ true → list_any (is_entry v.tenant v.seq) (tables_in db).versions ≡ false → list_any (is_version v.tenant v.bucket v.okey v.id) (tables_in db).versions ≡ false
     → list_any (is_bucket v.tenant v.bucket) (tables_in db).buckets ≡ true → MayAdd version_form host_schema (at 7 versions_table) db.trees v
 unfolding everything
 new_version db host v right unnumbered free owned = record {
   suits = record { typed = refl; present = refl; checked = version_checked (next_rowid (db.trees 7)) v right };
   free = (
-    any_typed version_form _ (is_entry v.tenant v.seq) (λ id a. entry_agrees id (next_rowid (db.trees 7)) a v) (db.trees 7) host.held.versions ∙ unnumbered,
-    (any_typed version_form _ (is_version v.tenant v.bucket v.okey v.id) (λ id a. version_agrees id (next_rowid (db.trees 7)) a v) (db.trees 7) host.held.versions ∙ free, tt),
+    any_typed version_form _ (λ a. is_entry v.tenant v.seq (bare a)) (λ id a. entry_agrees id (next_rowid (db.trees 7)) a v) (db.trees 7) host.held.versions ∙ sym (any_in_it (is_entry v.tenant v.seq)) ∙ unnumbered,
+    (any_typed version_form _ (λ a. is_version v.tenant v.bucket v.okey v.id (bare a)) (λ id a. version_agrees id (next_rowid (db.trees 7)) a v) (db.trees 7) host.held.versions ∙ sym (any_in_it (is_version v.tenant v.bucket v.okey v.id)) ∙ free, tt),
   );
   parents = ap (λ c. c && true) (any_typed bucket_form _ (is_bucket v.tenant v.bucket) (λ id b. then_term (at_texts false Eq b.tenant v.tenant) (last_term (at_texts false Eq b.bucket v.bucket))) (db.trees 5) host.held.buckets ∙ owned);
 }
+  where
+    any_in_it : (m : VersionRow → Bool) → list_any m (tables_in db).versions ≡ list_any (λ c. m (resolved (tables_in db).refs (tables_in db).blocks c)) (typed version_form (db.trees 7))
+    any_in_it m = any_resolved (tables_in db).refs (tables_in db).blocks m (typed version_form (db.trees 7))
 
 pub versions_unused : (db : Trees) (rows : List Row) → AreUnused host_schema db 7 rows
 unfolding everything
@@ -58,7 +63,7 @@ versions_unused db rows = tt
 
 pub head_shown : (tenant bucket okey : Octets) (version : ℕ)
     → SelectText version_form host_schema 7 (codes "SELECT seq, id, marker, stamp, size, sum FROM versions WHERE tenant = ?1 AND bucket = ?2 AND okey = ?3 AND id = ?4 ORDER BY rowid") (Text tenant ∷ Text bucket ∷ Blob okey ∷ number version ∷ [])
-    (is_version tenant bucket okey version) shown_head no_limit
+    (λ v. is_version tenant bucket okey version (bare v)) (λ v. shown_head (bare v)) no_limit
 unfolding understood everything
 head_shown tenant bucket okey version = record {
   test = is 1 0 ∷ is 3 1 ∷ is 4 2 ∷ is 5 3 ∷ [];
@@ -73,7 +78,7 @@ head_shown tenant bucket okey version = record {
 
 pub newest_shown : (tenant bucket okey : Octets)
     → SortedText version_form host_schema 7 (codes "SELECT seq, id, marker, stamp, size, sum FROM versions WHERE tenant = ?1 AND bucket = ?2 AND okey = ?3 ORDER BY seq DESC, rowid LIMIT 1") (Text tenant ∷ Text bucket ∷ Blob okey ∷ [])
-    (is_at tenant bucket okey) shown_head newer one_row
+    (λ v. is_at tenant bucket okey (bare v)) (λ v. shown_head (bare v)) (λ a b. newer (bare a) (bare b)) one_row
 unfolding understood everything
 newest_shown tenant bucket okey = record {
   test = is 1 0 ∷ is 3 1 ∷ is 4 2 ∷ [];
@@ -88,22 +93,9 @@ newest_shown tenant bucket okey = record {
   orders = λ a b. then_key (value_cmp-Int (pos b.1.seq) (pos a.1.seq)) (last_key (value_cmp-Int a.0 b.0));
 }
 
-pub bytes_shown : (tenant : Octets) (seq : ℕ)
-    → SelectText version_form host_schema 7 (codes "SELECT bytes FROM versions WHERE tenant = ?1 AND seq = ?2 ORDER BY rowid") (Text tenant ∷ number seq ∷ []) (is_entry tenant seq) shown_bytes no_limit
-unfolding understood everything
-bytes_shown tenant seq = record {
-  test = is 1 0 ∷ is 2 1 ∷ [];
-  show = col 1 10 ∷ [];
-  names = codes "bytes" ∷ [];
-  means = record { is = refl; plain = (refl, refl); unlisted = refl; whole = refl; given = refl };
-  low = refl;
-  accepts = refl;
-  tests = λ id v. then_term (at_texts false Eq v.tenant tenant) (last_term (at_ints false Eq (pos v.seq) (pos seq)));
-  shows = λ id v. refl;
-}
-
 pub bucket_shown_first : (tenant bucket : Octets)
-    → SortedText version_form host_schema 7 (codes "SELECT seq FROM versions WHERE tenant = ?1 AND bucket = ?2 ORDER BY okey, id, rowid LIMIT 1") (Text tenant ∷ Text bucket ∷ []) (is_in_bucket tenant bucket) shown_seq by_id one_row
+    → SortedText version_form host_schema 7 (codes "SELECT seq FROM versions WHERE tenant = ?1 AND bucket = ?2 ORDER BY okey, id, rowid LIMIT 1") (Text tenant ∷ Text bucket ∷ [])
+    (λ v. is_in_bucket tenant bucket (bare v)) (λ v. shown_seq (bare v)) (λ a b. by_id (bare a) (bare b)) one_row
 unfolding understood everything
 bucket_shown_first tenant bucket = record {
   test = is 1 0 ∷ is 3 1 ∷ [];
@@ -118,34 +110,35 @@ bucket_shown_first tenant bucket = record {
   orders = λ a b. then_key (value_cmp-Blob a.1.okey b.1.okey) (then_key (value_cmp-Int (pos a.1.id) (pos b.1.id)) (last_key (value_cmp-Int a.0 b.0))) ∙ sym (then_assoc (bytes_cmp a.1.okey b.1.okey) (int_cmp (pos a.1.id) (pos b.1.id)) (int_cmp a.0 b.0));
 }
 
-pub version_inserted : (tenant bucket okey checksum bytes : Octets) (seq id stamp size : ℕ)
-    → InsertText version_form host_schema 4 (at 7 versions_table) (codes "INSERT INTO versions (tenant, seq, bucket, okey, id, marker, stamp, size, sum, bytes) VALUES (?1, ?2, ?3, ?4, ?5, 0, ?6, ?7, ?8, ?9)")
-    (Text tenant ∷ number seq ∷ Text bucket ∷ Blob okey ∷ number id ∷ number stamp ∷ number size ∷ Text checksum ∷ Blob bytes ∷ [])
-    (record { tenant = tenant; seq = seq; bucket = bucket; okey = okey; id = id; marker = 0; stamp = stamp; size = size; checksum = checksum; bytes = bytes })
+pub version_inserted : (tenant bucket okey checksum : Octets) (seq id stamp size : ℕ)
+    → InsertText version_form host_schema 4 (at 7 versions_table) (codes "INSERT INTO versions (tenant, seq, bucket, okey, id, marker, stamp, size, sum) VALUES (?1, ?2, ?3, ?4, ?5, 0, ?6, ?7, ?8)")
+    (Text tenant ∷ number seq ∷ Text bucket ∷ Blob okey ∷ number id ∷ number stamp ∷ number size ∷ Text checksum ∷ [])
+    (record { tenant = tenant; seq = seq; bucket = bucket; okey = okey; id = id; marker = 0; stamp = stamp; size = size; checksum = checksum })
 unfolding understood everything
-version_inserted tenant bucket okey checksum bytes seq id stamp size = record {
-  terms = lit Null ∷ col 0 0 ∷ col 0 1 ∷ col 0 2 ∷ col 0 3 ∷ col 0 4 ∷ lit (Int (pos 0)) ∷ col 0 5 ∷ col 0 6 ∷ col 0 7 ∷ col 0 8 ∷ [];
-  width = 11;
+version_inserted tenant bucket okey checksum seq id stamp size = record {
+  terms = lit Null ∷ col 0 0 ∷ col 0 1 ∷ col 0 2 ∷ col 0 3 ∷ col 0 4 ∷ lit (Int (pos 0)) ∷ col 0 5 ∷ col 0 6 ∷ col 0 7 ∷ [];
+  width = 10;
   means = record { is = refl; plain = (refl, refl); unlisted = refl; whole = refl; given = refl };
   gives = refl;
   accepts = refl;
 }
 
 pub marker_inserted : (tenant bucket okey : Octets) (seq id stamp : ℕ)
-    → InsertText version_form host_schema 4 (at 7 versions_table) (codes "INSERT INTO versions (tenant, seq, bucket, okey, id, marker, stamp, size, sum, bytes) VALUES (?1, ?2, ?3, ?4, ?5, 1, ?6, 0, '', x'')")
+    → InsertText version_form host_schema 4 (at 7 versions_table) (codes "INSERT INTO versions (tenant, seq, bucket, okey, id, marker, stamp, size, sum) VALUES (?1, ?2, ?3, ?4, ?5, 1, ?6, 0, '')")
     (Text tenant ∷ number seq ∷ Text bucket ∷ Blob okey ∷ number id ∷ number stamp ∷ [])
-    (record { tenant = tenant; seq = seq; bucket = bucket; okey = okey; id = id; marker = 1; stamp = stamp; size = 0; checksum = []; bytes = [] })
+    (record { tenant = tenant; seq = seq; bucket = bucket; okey = okey; id = id; marker = 1; stamp = stamp; size = 0; checksum = [] })
 unfolding understood everything
 marker_inserted tenant bucket okey seq id stamp = record {
-  terms = lit Null ∷ col 0 0 ∷ col 0 1 ∷ col 0 2 ∷ col 0 3 ∷ col 0 4 ∷ lit (Int (pos 1)) ∷ col 0 5 ∷ lit (Int (pos 0)) ∷ lit (Text []) ∷ lit (Blob []) ∷ [];
-  width = 11;
+  terms = lit Null ∷ col 0 0 ∷ col 0 1 ∷ col 0 2 ∷ col 0 3 ∷ col 0 4 ∷ lit (Int (pos 1)) ∷ col 0 5 ∷ lit (Int (pos 0)) ∷ lit (Text []) ∷ [];
+  width = 10;
   means = record { is = refl; plain = (refl, refl); unlisted = refl; whole = refl; given = refl };
   gives = refl;
   accepts = refl;
 }
 
 pub version_deleted : (tenant bucket okey : Octets) (version : ℕ)
-    → DeleteText version_form host_schema 4 (at 7 versions_table) (codes "DELETE FROM versions WHERE tenant = ?1 AND bucket = ?2 AND okey = ?3 AND id = ?4") (Text tenant ∷ Text bucket ∷ Blob okey ∷ number version ∷ []) (is_version tenant bucket okey version)
+    → DeleteText version_form host_schema 4 (at 7 versions_table) (codes "DELETE FROM versions WHERE tenant = ?1 AND bucket = ?2 AND okey = ?3 AND id = ?4") (Text tenant ∷ Text bucket ∷ Blob okey ∷ number version ∷ [])
+    (λ v. is_version tenant bucket okey version (bare v))
 unfolding understood everything
 version_deleted tenant bucket okey version = record {
   test = is 1 0 ∷ is 3 1 ∷ is 4 2 ∷ is 5 3 ∷ [];

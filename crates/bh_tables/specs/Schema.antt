@@ -80,7 +80,7 @@ buckets_table = table (codes "buckets") (given (codes "tenant") Text ∷ given (
 abbrev pub versions_table : Table
 versions_table = table (codes "versions")
     (given (codes "tenant") Text ∷ given (codes "seq") Integer ∷ given (codes "bucket") Text ∷ given (codes "okey") Blob ∷ given (codes "id") Integer ∷ given (codes "marker") Integer
-    ∷ given (codes "stamp") Integer ∷ given (codes "size") Integer ∷ given (codes "sum") Text ∷ given (codes "bytes") Blob ∷ [])
+    ∷ given (codes "stamp") Integer ∷ given (codes "size") Integer ∷ given (codes "sum") Text ∷ [])
     (1 ∷ 2 ∷ []) ((1 ∷ 3 ∷ 4 ∷ 5 ∷ []) ∷ []) (refers (1 ∷ 3 ∷ []) (codes "buckets") ∷ [])
     (is_natural 2 ∷ is_natural 5 ∷ is_natural 6 ∷ is_natural 7 ∷ is_natural 8 ∷ op2 Or (op2 (Compare Eq Binary) (col 1 6) (lit (Int (pos 0)))) (op2 And (op2 (Compare Eq Binary) (col 1 8) (lit (Int (pos 0)))) (op2 (Compare Eq Binary) (col 1 9) (lit (Words [])))) ∷ [])
 
@@ -90,8 +90,8 @@ blocks_table = table (codes "blocks") (given (codes "digest") Blob ∷ given (co
 
 -- the block at each place of a body, which is an entry number of the tenant
 abbrev pub refs_table : Table
-refs_table = table (codes "refs") (given (codes "tenant") Text ∷ given (codes "body") Integer ∷ given (codes "place") Integer ∷ given (codes "digest") Blob ∷ given (codes "ord") Integer ∷ [])
-    (1 ∷ 2 ∷ 3 ∷ []) [] (refers (4 ∷ 5 ∷ []) (codes "blocks") ∷ []) (is_natural 2 ∷ is_natural 3 ∷ is_natural 5 ∷ [])
+refs_table = table (codes "refs") (given (codes "tenant") Text ∷ given (codes "body") Integer ∷ given (codes "place") Integer ∷ given (codes "digest") Blob ∷ given (codes "ord") Integer ∷ given (codes "size") Integer ∷ [])
+    (1 ∷ 2 ∷ 3 ∷ []) [] (refers (4 ∷ 5 ∷ []) (codes "blocks") ∷ []) (is_natural 2 ∷ is_natural 3 ∷ is_natural 5 ∷ is_natural 6 ∷ [])
 
 -- ---- the schema of them all
 

@@ -9,6 +9,7 @@ use Rattle.sqlite_keyed.specs.Lists.{sort_by}
 use Rattle.sqlite_typed.specs.Columns.{or_null}
 use Rattle.sqlite_typed.specs.Tests.{bytes_eq, bytes_cmp}
 use Rattle.bh_tables.specs.Schema.{Octets}
+pub use Rattle.bh_tables.specs.Bodies.{Name, same_name, block_name, ref_name, body_name, by_place}
 use Rattle.bh_tables.specs.Typed.{HostRow, TenantRow, KeyRow, BucketRow, VersionRow, BlockRow, RefRow, number}
 
 -- ---- the row of a primary key, or of the unique key of versions
@@ -52,25 +53,6 @@ is_marked_right v = int_eq (pos v.marker) (pos 0) || (int_eq (pos v.size) (pos 0
 
 -- ---- blocks and references
 
--- of a block its digest and ordinal, of a body its tenant and entry number
-abbrev pub Name : Type 0
-Name = Octets × ℕ
-
--- SQL's `=` at both columns
-abbrev pub same_name : Name → Name → Bool
-same_name a b = bytes_eq a.0 b.0 && int_eq (pos a.1) (pos b.1)
-
-abbrev pub block_name : BlockRow → Name
-block_name b = (b.digest, b.ord)
-
--- the block that a reference names
-abbrev pub ref_name : RefRow → Name
-ref_name r = (r.digest, r.ord)
-
--- the body that a reference is of
-abbrev pub body_name : RefRow → Name
-body_name r = (r.tenant, r.body)
-
 -- the block of this name
 abbrev pub is_block : Name → BlockRow → Bool
 is_block q b = same_name (block_name b) q
@@ -78,6 +60,14 @@ is_block q b = same_name (block_name b) q
 -- a reference to the block of this name
 abbrev pub is_use : Name → RefRow → Bool
 is_use q r = same_name (ref_name r) q
+
+-- a reference of this body
+abbrev pub is_of_body : Name → RefRow → Bool
+is_of_body q r = same_name (body_name r) q
+
+-- the reference at this place of this body
+abbrev pub is_at_place : Name → ℕ → RefRow → Bool
+is_at_place q place r = bytes_eq r.tenant q.0 && (int_eq (pos r.body) (pos q.1) && int_eq (pos r.place) (pos place))
 
 -- a block of this digest
 abbrev pub has_digest : Octets → BlockRow → Bool
@@ -89,9 +79,6 @@ is_copy digest bytes b = bytes_eq b.digest digest && bytes_eq b.bytes bytes
 
 abbrev pub is_unreferenced : List RefRow → BlockRow → Bool
 is_unreferenced refs b = not (list_any (is_use (block_name b)) refs)
-
-abbrev pub by_place : RefRow → RefRow → Ordering
-by_place a b = int_cmp (pos a.place) (pos b.place)
 
 abbrev pub by_ord : BlockRow → BlockRow → Ordering
 by_ord a b = int_cmp (pos a.ord) (pos b.ord)
@@ -135,9 +122,6 @@ shown_entry b = Text b.bucket ∷ number b.created ∷ []
 abbrev pub shown_head : VersionRow → Row
 shown_head v = number v.seq ∷ number v.id ∷ number v.marker ∷ number v.stamp ∷ number v.size ∷ Text v.checksum ∷ []
 
-abbrev pub shown_bytes : VersionRow → Row
-shown_bytes v = Blob v.bytes ∷ []
-
 abbrev pub shown_seq : VersionRow → Row
 shown_seq v = number v.seq ∷ []
 
@@ -146,3 +130,10 @@ shown_ord b = number b.ord ∷ []
 
 abbrev pub shown_name : BlockRow → Row
 shown_name b = Blob b.digest ∷ number b.ord ∷ []
+
+abbrev pub shown_bytes : BlockRow → Row
+shown_bytes b = Blob b.bytes ∷ []
+
+-- the block that a reference names, and its size in bytes
+abbrev pub shown_ref : RefRow → Row
+shown_ref r = Blob r.digest ∷ number r.ord ∷ number r.size ∷ []

@@ -1,182 +1,13 @@
--- The rows of each table as typed records, and the tables that a state of the store shows.
-use Rattle.std.specs.Prelude.{◌≡◌, ℕ, pos, List, [], ◌∷◌, Option, Some, None, refl, unsigned_abs, IsTrue}
-use Rattle.sqlite.specs.declared.types.Value.{Value}
-use Rattle.sqlite.specs.declared.types.Value.TheVariants.{Null, Int, Text, Blob}
-use Rattle.sqlite.specs.Order.{Row, column}
+-- The tables that a state of the store shows, each as a list of typed rows.
+use Rattle.std.specs.Prelude.{◌≡◌, List, [], map, IsTrue}
+use Rattle.sqlite.specs.Order.{Row}
 use Rattle.sqlite.specs.Tree.{Trees}
 use Rattle.sqlite.specs.Effect.{Database}
 use Rattle.sqlite.specs.State.{State, HasCleanDisk}
-use Rattle.sqlite_typed.specs.Columns.{bytes_of, int_of, or_null}
-use Rattle.bh_rows.specs.Form.{Form, AreRows, typed}
-use Rattle.bh_tables.specs.Schema.{Octets, host_schema}
-
--- ---- numbers in columns
-
-abbrev pub column_number : Value → ℕ
-column_number v = unsigned_abs (int_of v)
-
-abbrev pub maybe_number : Value → Option ℕ
-maybe_number Null = None
-maybe_number (Int n) = Some (unsigned_abs n)
-maybe_number _ = None
-
-abbrev pub number : ℕ → Value
-number n = Int (pos n)
-
-pub maybe_back : (o : Option ℕ) → maybe_number (or_null number o) ≡ o
-maybe_back None = refl
-maybe_back (Some n) = refl
-
--- ---- the host: one row, whose id is the row's number and so is no column of the record
-
-pub record HostRow : Type 0 where
-  pub version : ℕ
-  -- the last stamp, in seconds since 1970
-  pub latest : ℕ
-  pub min_part : ℕ
-  pub max_body : ℕ
-
-abbrev pub host_columns : HostRow → Row
-host_columns x = Null ∷ number x.version ∷ number x.latest ∷ number x.min_part ∷ number x.max_body ∷ []
-
-abbrev pub host_of : Row → HostRow
-host_of r = record { version = column_number (column r 2); latest = column_number (column r 3); min_part = column_number (column r 4); max_body = column_number (column r 5) }
-
-abbrev pub host_form : Form HostRow
-host_form = record { encode = host_columns; decode = host_of; back = λ _ x. refl }
-
--- ---- tenants, with the next number of each counter
-
-pub record TenantRow : Type 0 where
-  pub tenant : Octets
-  pub quota : ℕ
-  pub next_version : ℕ
-  pub next_upload : ℕ
-  pub next_entry : ℕ
-
-abbrev pub tenant_columns : TenantRow → Row
-tenant_columns x = Text x.tenant ∷ number x.quota ∷ number x.next_version ∷ number x.next_upload ∷ number x.next_entry ∷ []
-
-abbrev pub tenant_of : Row → TenantRow
-tenant_of r = record { tenant = bytes_of (column r 1); quota = column_number (column r 2); next_version = column_number (column r 3); next_upload = column_number (column r 4); next_entry = column_number (column r 5) }
-
-abbrev pub tenant_form : Form TenantRow
-tenant_form = record { encode = tenant_columns; decode = tenant_of; back = λ _ x. refl }
-
--- ---- access keys
-
-pub record KeyRow : Type 0 where
-  pub tenant : Octets
-  pub name : Octets
-  pub secret : Octets
-
-abbrev pub key_columns : KeyRow → Row
-key_columns x = Text x.tenant ∷ Text x.name ∷ Text x.secret ∷ []
-
-abbrev pub key_of : Row → KeyRow
-key_of r = record { tenant = bytes_of (column r 1); name = bytes_of (column r 2); secret = bytes_of (column r 3) }
-
-abbrev pub key_form : Form KeyRow
-key_form = record { encode = key_columns; decode = key_of; back = λ _ x. refl }
-
--- ---- buckets
-
-pub record BucketRow : Type 0 where
-  pub tenant : Octets
-  pub bucket : Octets
-  -- seconds since 1970
-  pub created : ℕ
-  -- 0, 1, 2: Unversioned, Enabled, Suspended
-  pub state : ℕ
-  -- after so many days an upload that was begun is stale, if the bucket has that rule
-  pub days : Option ℕ
-
-abbrev pub bucket_columns : BucketRow → Row
-bucket_columns x = Text x.tenant ∷ Text x.bucket ∷ number x.created ∷ number x.state ∷ or_null number x.days ∷ []
-
-abbrev pub bucket_of : Row → BucketRow
-bucket_of r = record { tenant = bytes_of (column r 1); bucket = bytes_of (column r 2); created = column_number (column r 3); state = column_number (column r 4); days = maybe_number (column r 5) }
-
-abbrev pub bucket_form : Form BucketRow
-bucket_form = record { encode = bucket_columns; decode = bucket_of; back = λ _ x. (λ i. record x { days = maybe_back x.days i }) }
-
--- ---- versions and markers of a key, a later one having the greater seq
-
-pub record VersionRow : Type 0 where
-  pub tenant : Octets
-  pub seq : ℕ
-  pub bucket : Octets
-  pub okey : Octets
-  -- 0 is `null`
-  pub id : ℕ
-  -- 1 for a delete marker, 0 for a version
-  pub marker : ℕ
-  -- seconds since 1970
-  pub stamp : ℕ
-  -- bytes
-  pub size : ℕ
-  -- the column `sum`
-  pub checksum : Octets
-  pub bytes : Octets
-
-abbrev pub version_columns : VersionRow → Row
-version_columns x = Text x.tenant ∷ number x.seq ∷ Text x.bucket ∷ Blob x.okey ∷ number x.id ∷ number x.marker ∷ number x.stamp ∷ number x.size ∷ Text x.checksum ∷ Blob x.bytes ∷ []
-
-abbrev pub version_of : Row → VersionRow
-version_of r = record {
-  tenant = bytes_of (column r 1);
-  seq = column_number (column r 2);
-  bucket = bytes_of (column r 3);
-  okey = bytes_of (column r 4);
-  id = column_number (column r 5);
-  marker = column_number (column r 6);
-  stamp = column_number (column r 7);
-  size = column_number (column r 8);
-  checksum = bytes_of (column r 9);
-  bytes = bytes_of (column r 10);
-}
-
-abbrev pub version_form : Form VersionRow
-version_form = record { encode = version_columns; decode = version_of; back = λ _ x. refl }
-
--- ---- blocks of bytes, shared by all tenants
-
-pub record BlockRow : Type 0 where
-  -- of the bytes
-  pub digest : Octets
-  -- rows of one digest differ by it
-  pub ord : ℕ
-  pub bytes : Octets
-
-abbrev pub block_columns : BlockRow → Row
-block_columns b = Blob b.digest ∷ number b.ord ∷ Blob b.bytes ∷ []
-
-abbrev pub block_of : Row → BlockRow
-block_of r = record { digest = bytes_of (column r 1); ord = column_number (column r 2); bytes = bytes_of (column r 3) }
-
-abbrev pub block_form : Form BlockRow
-block_form = record { encode = block_columns; decode = block_of; back = λ _ x. refl }
-
--- ---- references of a body to its blocks
-
-pub record RefRow : Type 0 where
-  pub tenant : Octets
-  -- an entry number of the tenant
-  pub body : ℕ
-  -- counted from 0
-  pub place : ℕ
-  -- of the block at this place
-  pub digest : Octets
-  pub ord : ℕ
-
-abbrev pub ref_columns : RefRow → Row
-ref_columns r = Text r.tenant ∷ number r.body ∷ number r.place ∷ Blob r.digest ∷ number r.ord ∷ []
-
-abbrev pub ref_of : Row → RefRow
-ref_of r = record { tenant = bytes_of (column r 1); body = column_number (column r 2); place = column_number (column r 3); digest = bytes_of (column r 4); ord = column_number (column r 5) }
-
-abbrev pub ref_form : Form RefRow
-ref_form = record { encode = ref_columns; decode = ref_of; back = λ _ x. refl }
+use Rattle.bh_rows.specs.Form.{AreRows, typed}
+use Rattle.bh_tables.specs.Schema.{host_schema}
+use Rattle.bh_tables.specs.Bodies.{resolved, resolved_again}
+pub use Rattle.bh_tables.specs.Rows.{column_number, maybe_number, number, maybe_back, HostRow, host_columns, host_of, host_form, TenantRow, tenant_columns, tenant_of, tenant_form, KeyRow, key_columns, key_of, key_form, BucketRow, bucket_columns, bucket_of, bucket_form, VersionColumns, version_columns, version_of, version_form, VersionRow, BlockRow, block_columns, block_of, block_form, RefRow, ref_columns, ref_of, ref_form}
 
 -- ---- all tables
 
@@ -211,10 +42,14 @@ tables_of r = record {
   tenants = typed tenant_form r.tenants;
   keys = typed key_form r.keys;
   buckets = typed bucket_form r.buckets;
-  versions = typed version_form r.versions;
+  versions = map (resolved (typed ref_form r.refs) (typed block_form r.blocks)) (typed version_form r.versions);
   blocks = typed block_form r.blocks;
   refs = typed ref_form r.refs;
 }
+
+-- the tables with other references and blocks, of which the versions have their bytes
+abbrev pub rebodied : Tables → List RefRow → List BlockRow → Tables
+rebodied tables refs blocks = record tables { versions = map (resolved_again refs blocks) tables.versions; refs = refs; blocks = blocks }
 
 -- each stored row is the columns of a typed row
 pub record AreHeld (r : Raw) : Type 0 where

@@ -5,15 +5,17 @@ use Rattle.std.specs.Option.{option_map_or}
 use Rattle.std.specs.Cmp.Derive.{both_true}
 use Rattle.std.proofs.lemmas.Bool.{and_parts}
 use Rattle.sqlite_keyed.specs.Lists.{delete_where}
-use Rattle.sqlite_keyed.proofs.ListLemmas.{all_both, all-filter, filter_none}
+use Rattle.sqlite_keyed.proofs.ListLemmas.{all_of, all_both, all_weaker, all-filter, filter_none}
 use Rattle.sqlite_typed.specs.Tests.{bytes_eq}
 use Rattle.bh_model.specs.State.{Octets}
-use Rattle.bh_tables.specs.Typed.{BlockRow, RefRow, Tables}
+use Rattle.bh_tables.specs.Typed.{VersionRow, BlockRow, RefRow, Tables, rebodied}
+use Rattle.bh_tables.specs.Bodies.{version_name}
 use Rattle.bh_tables.specs.Shown.{same_name, block_name, ref_name, is_block, is_use, is_copy, is_unreferenced}
 use Rattle.bh_view.specs.Grouped.{first, matching}
 use Rattle.bh_view.specs.View.{rows_of}
 use Rattle.bh_view.specs.Blocks.{row_at, whole, AreStored, AreDigests, free_ord, copy_in, ord_for, blocks_with, blocks_without}
 use Rattle.bh_view.specs.Sound.{AreSound, IsSound}
+use Rattle.bh_view.specs.Bodies.{bodies_of, IsResolved}
 use Rattle.bh_view.specs.Becomes.{KeepsBodies}
 use Rattle.bh_view.proofs.FilterLemmas.{none_some, same_Some, push_here}
 use Rattle.bh_view.proofs.FactLemmas.{all_pushed, unique_pushed, unique_deleted, refers_grown, refers_left}
@@ -22,23 +24,31 @@ use Rattle.bh_view.proofs.Keys.{octets, numbers}
 use Rattle.bh_view.proofs.NameLemmas.{names}
 use Rattle.bh_view.proofs.OrdinalLemmas.{free_ord_is_least}
 use Rattle.bh_view.proofs.ViewLemmas.{same_view, same_latest, same_limits}
-use Rattle.bh_view.proofs.WholeLemmas.{block_added, block_removed}
+use Rattle.bh_view.proofs.WholeLemmas.{piece, Agree, whole_agree, agree_added, agree_left}
+use Rattle.bh_view.proofs.BodyLemmas.{bodies_agree}
+use Rattle.bh_view.proofs.ResolvedLemmas.{rebodied_same}
 
 -- ---- blocks alone change
 
-pub blocks_change : (digest : Octets → Octets) (old : Tables) (blocks : List BlockRow) → IsSound old → whole old.refs blocks ≡ whole old.refs old.blocks → AreStored old.refs blocks → AreDigests digest blocks
-    → KeepsBodies digest old (record old { blocks = blocks })
-blocks_change digest old blocks sound bodies stored digests =
+-- all bodies keep their bytes, and so do the versions
+pub blocks_rebodied : (old : Tables) (blocks : List BlockRow) → IsResolved old → whole old.refs blocks ≡ whole old.refs old.blocks → rebodied old old.refs blocks ≡ record old { blocks = blocks }
+blocks_rebodied old blocks resolved bodies = rebodied_same old old.refs blocks (all_weaker _ _ (λ (v : VersionRow) its. (λ i. bodies i (version_name v)) ∙ sym its) old.versions resolved)
+
+pub blocks_change : (digest : Octets → Octets) (old : Tables) (blocks : List BlockRow) → IsSound old → IsResolved old → Agree blocks old.blocks old.refs → AreStored old.refs blocks → AreDigests digest blocks
+    → KeepsBodies digest old (rebodied old old.refs blocks)
+blocks_change digest old blocks sound resolved agree stored digests =
     let new : Tables = record old { blocks = blocks } in
+    let bodies = whole_agree old.refs blocks old.blocks agree in
     let latest = same_latest old new refl in
-    record {
+    subst (KeepsBodies digest old) (sym (blocks_rebodied old blocks resolved bodies)) (record {
       bodies = bodies;
+      has = bodies_agree (bodies_of old.versions) old.refs blocks old.blocks agree;
       digests = digests;
       latest = latest;
       limits = same_limits old new refl;
       views = λ t. same_view t old new refl;
       sound = record { host = sound.host; tenants = λ t. subst (λ n. AreSound n (rows_of t old)) (sym latest) (sound.tenants t); stored = stored };
-    }
+    })
 
 -- ---- one block more, of a new name and new bytes
 
@@ -84,7 +94,7 @@ the_one p q (y ∷ ys) x h t short = elim (p y) as (λ b. cond b (Some y) (find 
 
 module _ (digest : Octets → Octets) (refs : List RefRow) (blocks : List BlockRow) (s : AreStored refs blocks) (d : AreDigests digest blocks) (c : Octets) where
   -- no row holds the bytes where none of their digest does
-  all_new : copy_in (digest c) c blocks ≡ None → matching bytes_eq (λ (b : BlockRow). b.bytes) c blocks ≡ []
+  pub all_new : copy_in (digest c) c blocks ≡ None → matching bytes_eq (λ (b : BlockRow). b.bytes) c blocks ≡ []
   all_new none = filter_none _ blocks (all_both (λ (b : BlockRow). b.digest ≡ digest b.bytes) (λ b. is_copy (digest c) c b ≡ false) (λ b. bytes_eq b.bytes c ≡ false) (λ b right other. elim (bytes_eq b.bytes c) as (λ t. bytes_eq b.bytes c ≡ t → t ≡ false) [
     | true ↦ λ e. absurd (true≢false (sym (both_true ((octets.decides b.digest (digest c)).1 (right ∙ ap digest ((octets.decides b.bytes c).0 e))) e) ∙ other))
     | false ↦ λ e. refl
@@ -93,6 +103,7 @@ module _ (digest : Octets → Octets) (refs : List RefRow) (blocks : List BlockR
   pub record IsKept : Type 0 where
     pub stored : AreStored refs (blocks_with (digest c) c blocks)
     pub digests : AreDigests digest (blocks_with (digest c) c blocks)
+    pub agree : Agree (blocks_with (digest c) c blocks) blocks refs
     pub bodies : whole refs (blocks_with (digest c) c blocks) ≡ whole refs blocks
     -- the block of the name holds the bytes
     pub held : option_map (λ (b : BlockRow). b.bytes) (row_at (blocks_with (digest c) c blocks) (digest c, ord_for (digest c) c blocks)) ≡ Some c
@@ -110,29 +121,30 @@ module _ (digest : Octets → Octets) (refs : List RefRow) (blocks : List BlockR
   pub block_kept : IsKept
   block_kept = go (copy_in (digest c) c blocks) refl
     where
-      pack : (o : Option BlockRow) → copy_in (digest c) c blocks ≡ o → AreStored refs (rows_with o) → AreDigests digest (rows_with o) → whole refs (rows_with o) ≡ whole refs blocks
+      pack : (o : Option BlockRow) → copy_in (digest c) c blocks ≡ o → AreStored refs (rows_with o) → AreDigests digest (rows_with o) → Agree (rows_with o) blocks refs
           → option_map (λ (b : BlockRow). b.bytes) (row_at (rows_with o) (digest c, ord_with o)) ≡ Some c → IsKept
       pack o e a b w t = record {
         stored = subst (λ z. AreStored refs (rows_with z)) (sym e) a;
         digests = subst (λ z. AreDigests digest (rows_with z)) (sym e) b;
-        bodies = subst (λ z. whole refs (rows_with z) ≡ whole refs blocks) (sym e) w;
+        agree = subst (λ z. Agree (rows_with z) blocks refs) (sym e) w;
+        bodies = whole_agree refs (blocks_with (digest c) c blocks) blocks (subst (λ z. Agree (rows_with z) blocks refs) (sym e) w);
         held = subst (λ z. option_map (λ (b : BlockRow). b.bytes) (row_at (rows_with z) (digest c, ord_with z)) ≡ Some c) (sym e) t;
       }
 
       go : (o : Option BlockRow) → copy_in (digest c) c blocks ≡ o → IsKept
       go None e =
           let free = (free_ord_is_least (digest c) blocks s.one).free in
-          pack None e (stored_added refs blocks new s free (all_new e)) (all_pushed _ blocks new d refl) (block_added refs blocks new s.named free)
+          pack None e (stored_added refs blocks new s free (all_new e)) (all_pushed _ blocks new d refl) (agree_added refs blocks new s.named free)
           (ap (λ l. option_map (λ (b : BlockRow). b.bytes) (first l)) (push_here (λ b. same_name (block_name b) (block_name new)) blocks new (is_itself names (block_name new)) ∙ ap (λ l. l ++ new ∷ []) free))
       go (Some b) e =
           let right = and_parts _ _ (found_passes _ blocks b e) in
           let there = the_one (is_copy (digest c) c) (λ x. same_name (block_name x) (digest c, b.ord)) blocks b e (both_true right.0 ((numbers.decides b.ord b.ord).1 refl)) (s.one (digest c, b.ord)) in
-          pack (Some b) e s d refl (ap (option_map (λ (x : BlockRow). x.bytes)) there ∙ ap Some ((octets.decides b.bytes c).0 right.1))
+          pack (Some b) e s d (all_of (λ r. piece blocks r ≡ piece blocks r) (λ r. refl) refs) (ap (option_map (λ (x : BlockRow). x.bytes)) there ∙ ap Some ((octets.decides b.bytes c).0 right.1))
 
-pub block_stored : (digest : Octets → Octets) (old : Tables) (c : Octets) → IsSound old → AreDigests digest old.blocks → KeepsBodies digest old (record old { blocks = blocks_with (digest c) c old.blocks })
-block_stored digest old c sound d =
+pub block_stored : (digest : Octets → Octets) (old : Tables) (c : Octets) → IsSound old → IsResolved old → AreDigests digest old.blocks → KeepsBodies digest old (rebodied old old.refs (blocks_with (digest c) c old.blocks))
+block_stored digest old c sound resolved d =
     let it = block_kept digest old.refs old.blocks sound.stored d c in
-    blocks_change digest old (blocks_with (digest c) c old.blocks) sound it.bodies it.stored it.digests
+    blocks_change digest old (blocks_with (digest c) c old.blocks) sound resolved it.agree it.stored it.digests
 
 -- ---- blocks are removed that no reference names
 
@@ -141,7 +153,7 @@ module _ (digest : Octets → Octets) (refs : List RefRow) where
   pub record AreLeft (old new : List BlockRow) : Type 0 where
     pub stored : AreStored refs new
     pub digests : AreDigests digest new
-    pub bodies : whole refs new ≡ whole refs old
+    pub agree : Agree new old refs
 
   unused : (b : BlockRow) → is_unreferenced refs b ≡ true → matching same_name ref_name (block_name b) refs ≡ []
   unused b h = none (λ (r : RefRow). is_use (block_name b) r) refs h
@@ -158,7 +170,7 @@ module _ (digest : Octets → Octets) (refs : List RefRow) where
       named = refers_left names block_name ref_name blocks refs (block_name b) s.named (unused b h);
     };
     digests = all-filter _ _ blocks d;
-    bodies = block_removed refs blocks (block_name b) (unused b h);
+    agree = agree_left refs blocks (block_name b) (unused b h);
   }
 
 -- what is left without one and then others is left without all of them
@@ -176,14 +188,15 @@ without_none (x ∷ xs) = ap (λ l. x ∷ l) (without_none xs)
 
 all_left : (digest : Octets → Octets) (refs : List RefRow) (gone : List BlockRow) (blocks : List BlockRow) → AllByRecursion (λ b. is_unreferenced refs b ≡ true) gone → AreStored refs blocks → AreDigests digest blocks
     → AreLeft digest refs blocks (blocks_without gone blocks)
-all_left digest refs [] blocks un s d = subst (AreLeft digest refs blocks) (sym (without_none blocks)) (record { stored = s; digests = d; bodies = refl })
+all_left digest refs [] blocks un s d = subst (AreLeft digest refs blocks) (sym (without_none blocks)) (record { stored = s; digests = d; agree = all_of (λ r. piece blocks r ≡ piece blocks r) (λ r. refl) refs })
 all_left digest refs (b ∷ gone) blocks un s d =
     let one = one_left digest refs blocks b un.0 s d in
-    let rest = all_left digest refs gone (delete_where (is_block (block_name b)) blocks) un.1 one.stored one.digests in
-    subst (AreLeft digest refs blocks) (sym (without_next b gone blocks)) (record { stored = rest.stored; digests = rest.digests; bodies = rest.bodies ∙ one.bodies })
+    let left = delete_where (is_block (block_name b)) blocks in
+    let rest = all_left digest refs gone left un.1 one.stored one.digests in
+    subst (AreLeft digest refs blocks) (sym (without_next b gone blocks)) (record { stored = rest.stored; digests = rest.digests; agree = all_both (λ r. piece (blocks_without gone left) r ≡ piece left r) (λ r. piece left r ≡ piece blocks r) (λ r. piece (blocks_without gone left) r ≡ piece blocks r) (λ r a b. a ∙ b) refs rest.agree one.agree })
 
-pub blocks_removed : (digest : Octets → Octets) (old : Tables) (gone : List BlockRow) → AllByRecursion (λ b. is_unreferenced old.refs b ≡ true) gone → IsSound old → AreDigests digest old.blocks
-    → KeepsBodies digest old (record old { blocks = blocks_without gone old.blocks })
-blocks_removed digest old gone un sound d =
+pub blocks_removed : (digest : Octets → Octets) (old : Tables) (gone : List BlockRow) → AllByRecursion (λ b. is_unreferenced old.refs b ≡ true) gone → IsSound old → IsResolved old → AreDigests digest old.blocks
+    → KeepsBodies digest old (rebodied old old.refs (blocks_without gone old.blocks))
+blocks_removed digest old gone un sound resolved d =
     let it = all_left digest old.refs gone old.blocks un sound.stored d in
-    blocks_change digest old (blocks_without gone old.blocks) sound it.bodies it.stored it.digests
+    blocks_change digest old (blocks_without gone old.blocks) sound resolved it.agree it.stored it.digests

@@ -27,5 +27,14 @@ pub mod UsedLemmas
 pub mod JoinLemmas
 pub mod NameLemmas
 pub mod OrdinalLemmas
+pub mod SetLemmas
 pub mod WholeLemmas
+pub mod ResolvedLemmas
+pub mod BodyLemmas
 pub mod BlockChanges
+pub mod StoringLemmas
+pub mod PieceLemmas
+pub mod BodyChanges
+pub mod SharedLemmas
+pub mod DropLemmas
+pub mod WriteLemmas

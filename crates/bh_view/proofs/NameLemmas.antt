@@ -1,6 +1,6 @@
 -- Names of blocks and of bodies as keys, and lists that the lemmas on blocks need.
-use Rattle.std.proofs.Common.{◌≡◌, Bool, true, false, cond, List, [], ◌∷◌, ◌++◌, filter, flat_map, refl, sym, ap, ap₂, ◌∙◌, Ordering, Less, Equal, Greater, is_gt, Decides, None, nat_cmp}
-use Rattle.std.specs.List.{AllByRecursion}
+use Rattle.std.proofs.Common.{◌≡◌, ℕ, zero, suc, ◌+◌, Bool, true, false, cond, List, [], ◌∷◌, ◌++◌, filter, flat_map, refl, sym, ap, ap₂, ◌∙◌, Ordering, Less, Equal, Greater, is_gt, Decides, None, nat_cmp, arith}
+use Rattle.std.specs.List.{AllByRecursion, range_with_len}
 use Rattle.std.specs.Ordering.{ordering_then}
 use Rattle.std.specs.Cmp.Derive.{both_true}
 use Rattle.std.proofs.lemmas.Bool.{and_parts}
@@ -42,6 +42,13 @@ pub flat_map_agree : {A B : Type 0} (f g : A → List B) (xs : List A) → AllBy
 flat_map_agree f g [] all = refl
 flat_map_agree f g (x ∷ xs) all = ap₂ ◌++◌ all.0 (flat_map_agree f g xs all.1)
 
+range_push : (a n : ℕ) → range_with_len a n ++ (a + n) ∷ [] ≡ range_with_len a (suc n)
+range_push a zero = ap (λ k. k ∷ []) (omega arith)
+range_push a (suc n) = ap (λ l. a ∷ l) (ap (λ k. range_with_len (a + 1) n ++ k ∷ []) (omega arith) ∙ range_push (a + 1) n)
+
+pub range_last : (n : ℕ) → range_with_len 0 n ++ n ∷ [] ≡ range_with_len 0 (suc n)
+range_last n = ap (λ k. range_with_len 0 n ++ k ∷ []) (omega arith) ∙ range_push 0 n
+
 module _ {X : Type 0} (p : X → Bool) where
   pub none_pass : (xs : List X) → filter p xs ≡ [] → AllByRecursion (λ x. p x ≡ false) xs
   none_pass [] h = tt
@@ -62,6 +69,19 @@ module _ {X : Type 0} (cmp : X → X → Ordering) where
   pub all-unsorted : (P : X → Type 0) (xs : List X) → AllByRecursion P (sort_by cmp xs) → AllByRecursion P xs
   all-unsorted P [] all = tt
   all-unsorted P (x ∷ xs) all = let rest = all-uninserted P x (sort_by cmp xs) all in (rest.0, all-unsorted P xs rest.1)
+
+  inserted_before : (x new : X) (ys : List X) → is_gt (cmp x new) ≡ false → insert_sorted cmp x (ys ++ new ∷ []) ≡ insert_sorted cmp x ys ++ new ∷ []
+  inserted_before x new [] h = ap (λ b. cond b (new ∷ x ∷ []) (x ∷ new ∷ [])) h
+  inserted_before x new (y ∷ ys) h =
+      elim (is_gt (cmp x y)) as (λ b. cond b (y ∷ insert_sorted cmp x (ys ++ new ∷ [])) (x ∷ y ∷ (ys ++ new ∷ [])) ≡ cond b (y ∷ insert_sorted cmp x ys) (x ∷ y ∷ ys) ++ new ∷ []) [
+        | true ↦ ap (λ l. y ∷ l) (inserted_before x new ys h)
+        | false ↦ refl
+      ]
+
+  -- one that stands behind all the others
+  pub sort_by_last : (xs : List X) (new : X) → AllByRecursion (λ x. is_gt (cmp x new) ≡ false) xs → sort_by cmp (xs ++ new ∷ []) ≡ sort_by cmp xs ++ new ∷ []
+  sort_by_last [] new all = refl
+  sort_by_last (x ∷ xs) new all = ap (insert_sorted cmp x) (sort_by_last xs new all.1) ∙ inserted_before x new (sort_by cmp xs) all.0
 
 -- ---- references
 

@@ -17,8 +17,8 @@ use Rattle.bh_model.specs.FinMaps.{non_empty}
 use Rattle.bh_model.specs.State.{Octets, Content, Content.Marker, Content.Body, Entry, Bucket, State, content_size}
 use Rattle.bh_types.specs.Checksums.{checksum_text}
 use Rattle.bh_model.specs.Counting.{counts, with_counts, can_give, after_entry}
-use Rattle.bh_model.specs.Entries.{without, added, deleted_current}
-use Rattle.bh_model.specs.Operations.{with_bucket, with_entries, with_object, listed}
+use Rattle.bh_model.specs.Entries.{Version, without, added, deleted_current}
+use Rattle.bh_model.specs.Operations.{with_bucket, with_entries, with_object, with_copy, listed}
 use Rattle.bh_tables.specs.Typed.{TenantRow, VersionRow, Tables}
 use Rattle.bh_tables.specs.Shown.{is_tenant, is_version}
 use Rattle.bh_view.specs.Grouped.{same_number}
@@ -181,6 +181,11 @@ module _ (old new : Tables) (t : Octets) (s : State) (sound : IsSound old) (is :
   pub object_put : (bytes : Octets) (c : Counts) → after_entry B.mode (counts s) ≡ Ok c → new ≡ with_row B.mode c (Body bytes (checksum_text bytes))
       → Becomes t (Some (with_bucket b (with_object moment k s.next_version bytes B) (with_counts c s))) old new
   object_put bytes c given e = put_in (Body bytes (checksum_text bytes)) (λ _. refl) B.mode c refl given e
+
+  -- a version is copied
+  pub copy_put : (v : Version) (c : Counts) → after_entry B.mode (counts s) ≡ Ok c → new ≡ with_row B.mode c (Body v.bytes v.checksum)
+      → Becomes t (Some (with_bucket b (with_copy moment k s.next_version v B) (with_counts c s))) old new
+  copy_put v c given e = put_in (Body v.bytes v.checksum) (λ _. refl) B.mode c refl given e
 
   -- a delete marker is made, where versions are or were numbered
   pub marker_put : (mode : BucketState) (c : Counts) → B.mode ≡ mode → (mode ≡ Unversioned → ⊥) → after_entry mode (counts s) ≡ Ok c → new ≡ with_row mode c Marker

@@ -1,10 +1,13 @@
 -- What a change of the tables is to the tenants.
-use Rattle.std.specs.Prelude.{◌≡◌, ◌≢◌, ℕ, Option}
+use Rattle.std.specs.Prelude.{◌≡◌, ◌≢◌, ℕ, true, List, ◌++◌, Option}
+use Rattle.std.specs.List.{AllByRecursion, list_any}
 use Rattle.bh_model.specs.State.{Octets, State}
-use Rattle.bh_tables.specs.Typed.{Tables}
+use Rattle.bh_tables.specs.Typed.{BlockRow, Tables}
+use Rattle.bh_tables.specs.Shown.{block_name, is_use}
 use Rattle.bh_view.specs.View.{view, latest_of, limits_in}
 use Rattle.bh_view.specs.Blocks.{whole, AreDigests}
 use Rattle.bh_view.specs.Sound.{IsSound}
+use Rattle.bh_view.specs.Bodies.{HasBodies}
 
 -- this tenant's state becomes that one; the other tenants' states, the last stamp and the limits stay
 pub record Becomes (t : Octets) (state : Option State) (old new : Tables) : Type 0 where
@@ -25,8 +28,15 @@ pub record IsStamped (stamp : ℕ) (old new : Tables) : Type 0 where
 -- has the digest of its bytes
 pub record KeepsBodies (digest : Octets → Octets) (old new : Tables) : Type 0 where
   pub bodies : whole new.refs new.blocks ≡ whole old.refs old.blocks
+  pub has : HasBodies old → HasBodies new
   pub digests : AreDigests digest new.blocks
   pub latest : latest_of new ≡ latest_of old
   pub limits : limits_in new ≡ limits_in old
   pub views : (t : Octets) → view new t ≡ view old t
   pub sound : IsSound new
+
+-- what all tenants share: no block goes, and each that comes is referenced
+pub record KeepsShared (old new : Tables) : Type 0 where
+  pub added : List BlockRow
+  pub grown : new.blocks ≡ old.blocks ++ added
+  pub named : AllByRecursion (λ (b : BlockRow). list_any (is_use (block_name b)) new.refs ≡ true) added

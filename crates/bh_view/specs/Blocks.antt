@@ -1,31 +1,15 @@
 -- Blocks of bytes that all tenants share: the bytes of a body, sound blocks, and the rows once a block is stored.
-use Rattle.std.specs.Prelude.{◌≡◌, ◌≢◌, ℕ, suc, ◌<◌, ◌==◌, if◌then◌else◌, List, [], ◌∷◌, ◌++◌, filter, find, flat_map, Option}
+use Rattle.std.specs.Prelude.{◌≡◌, ◌≢◌, ℕ, suc, ◌<◌, ◌==◌, if◌then◌else◌, List, [], ◌∷◌, ◌++◌, filter, find, Option}
 use Rattle.std.specs.Option.{option_map_or}
 use Rattle.std.specs.List.{AllByRecursion, list_any}
 use Rattle.sqlite_keyed.specs.Lists.{sort_by, delete_where}
 use Rattle.sqlite_typed.specs.Tests.{bytes_eq}
 use Rattle.bh_model.specs.State.{Octets}
 use Rattle.bh_tables.specs.Typed.{BlockRow, RefRow}
-use Rattle.bh_tables.specs.Shown.{Name, same_name, block_name, ref_name, body_name, is_block, is_copy, has_digest, by_place, by_ord}
-use Rattle.bh_view.specs.Grouped.{first, matching, HasUnique, Refers}
-
--- ---- the bytes of a body
-
--- the row of this name
-abbrev pub row_at : List BlockRow → Name → Option BlockRow
-row_at blocks q = first (matching same_name block_name q blocks)
-
--- the bytes of the block of this name, none where there is no such row
-abbrev pub block_at : List BlockRow → Name → Octets
-block_at blocks q = option_map_or (λ (b : BlockRow). b.bytes) (row_at blocks q) []
-
--- a body's references, by place
-abbrev pub placed : List RefRow → Name → List RefRow
-placed refs body = sort_by by_place (matching same_name body_name body refs)
-
--- the bytes of each body: those of the blocks that its references name, by place
-unfoldable pub whole : List RefRow → List BlockRow → Name → Octets
-whole refs blocks body = flat_map (λ (r : RefRow). block_at blocks (ref_name r)) (placed refs body)
+use Rattle.bh_tables.specs.Shown.{same_name, block_name, ref_name, is_block, is_copy, has_digest, by_ord}
+pub use Rattle.bh_tables.specs.Bodies.{row_at, block_at, placed}
+unfoldable pub use Rattle.bh_tables.specs.Bodies.{whole}
+use Rattle.bh_view.specs.Grouped.{matching, HasUnique, Refers}
 
 -- ---- sound rows
 

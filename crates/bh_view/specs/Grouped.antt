@@ -1,29 +1,21 @@
 -- Finite maps that are made of the rows of a table.
-use Rattle.std.specs.Prelude.{◌≡◌, ◌≤◌, ℕ, Bool, List, [], ◌∷◌, length, Option, Some, None, option_map, pos, Decides}
-use Rattle.std.specs.List.{filter}
+use Rattle.std.specs.Prelude.{◌≡◌, ◌≤◌, ℕ, Bool, List, [], length, Option, None, option_map, pos, Decides}
 use Rattle.std.specs.declared.cmp.Ordering.{Ordering}
 use Rattle.std.specs.Cmp.{IsTotalOrder}
 use Rattle.std.specs.Ordering.{int_eq}
 use Rattle.std.specs.FinMap.{FinMap, IsAntisymmetric}
 use Rattle.bh_model.specs.FinMaps.{tabulate}
+pub use Rattle.bh_tables.specs.Bodies.{first, matching}
 
 -- SQL's `=` at numbers
 abbrev pub same_number : ℕ → ℕ → Bool
 same_number a b = int_eq (pos a) (pos b)
-
-abbrev pub first : {X : Type 0} → List X → Option X
-first [] = None
-first (x ∷ xs) = Some x
 
 -- a kind of key: an order of the maps, a test of the tables, and that both know only equal keys as the same
 pub record IsKey {K : Type 0} (R : K → K → Ordering) (is : K → K → Bool) : Type 0 where
   pub total : IsTotalOrder R
   pub same : IsAntisymmetric R
   pub decides : (x y : K) → Decides (is x y) (x ≡ y)
-
--- the rows at a key
-abbrev pub matching : {K T : Type 0} → (K → K → Bool) → (T → K) → K → List T → List T
-matching is key k = filter (λ r. is (key r) k)
 
 -- no two rows have one key
 abbrev pub HasUnique : {K T : Type 0} → (K → K → Bool) → (T → K) → List T → Type 0

@@ -1,12 +1,15 @@
--- What shows that the definitions are the intended ones: a tenant's state is of its own rows, a new host is sound, and a
--- block takes the least ordinal that is free.
-use Rattle.std.specs.Prelude.{◌≡◌, ℕ, List, [], ◌∷◌, None}
+-- What shows that the definitions are the intended ones: a tenant's state is of its own rows, a new host is sound, a block
+-- takes the least ordinal that is free, and a body adds one block for each distinct piece that had none.
+use Rattle.std.specs.Prelude.{◌≡◌, ℕ, true, ◌&&◌, List, [], ◌∷◌, ◌++◌, length, None}
+use Rattle.std.specs.List.{AllByRecursion, list_any}
+use Rattle.sqlite_typed.specs.Tests.{bytes_eq}
 use Rattle.bh_types.specs.Limits.{AreLimits}
 use Rattle.bh_model.specs.State.{Octets}
-use Rattle.bh_tables.specs.Typed.{BlockRow, Tables}
-use Rattle.bh_tables.specs.Shown.{same_name, block_name}
-use Rattle.bh_view.specs.Grouped.{HasUnique}
-use Rattle.bh_view.specs.Blocks.{free_ord, IsLeastFree}
+use Rattle.bh_tables.specs.Typed.{BlockRow, RefRow, Tables}
+use Rattle.bh_tables.specs.Shown.{Name, same_name, block_name, is_use, is_of_body}
+use Rattle.bh_view.specs.Grouped.{matching, HasUnique}
+use Rattle.bh_view.specs.Blocks.{AreStored, AreDigests, free_ord, IsLeastFree}
+use Rattle.bh_view.specs.Bodies.{blocks_after, refs_after}
 use Rattle.bh_view.specs.View.{rows_of, view, latest_of, limits_in}
 use Rattle.bh_view.specs.Sound.{IsSound}
 
@@ -36,3 +39,22 @@ NewHostIsSound = (min_part max_body : ℕ) → AreLimits min_part max_body
 -- some block's
 abbrev pub FreeIsLeast : Type 0
 FreeIsLeast = (digest : Octets) (blocks : List BlockRow) → HasUnique same_name block_name blocks → IsLeastFree digest blocks (free_ord digest blocks)
+
+-- the blocks that hold these bytes
+abbrev pub holding : Octets → List BlockRow → List BlockRow
+holding = matching bytes_eq (λ (b : BlockRow). b.bytes)
+
+-- each block that was there stands where it stood; each one more holds a piece that none held, and a reference of the body
+-- names it; and each piece is held by one block
+pub record AddsEachOnce (body : Name) (cs : List Octets) (blocks now : List BlockRow) (refs : List RefRow) : Type 0 where
+  pub added : List BlockRow
+  pub grown : now ≡ blocks ++ added
+  pub pieces : AllByRecursion (λ (b : BlockRow). list_any (bytes_eq b.bytes) cs ≡ true) added
+  pub new : AllByRecursion (λ (b : BlockRow). holding b.bytes blocks ≡ []) added
+  pub named : AllByRecursion (λ (b : BlockRow). list_any (λ r. is_of_body body r && is_use (block_name b) r) refs ≡ true) added
+  pub held : AllByRecursion (λ c. length (holding c now) ≡ 1) cs
+
+-- so it is when a body of these pieces is stored
+abbrev pub EachPieceIsOnce : Type 0
+EachPieceIsOnce = (digest : Octets → Octets) (body : Name) (cs : List Octets) (refs : List RefRow) (blocks : List BlockRow) → AreStored refs blocks → AreDigests digest blocks
+    → AddsEachOnce body cs blocks (blocks_after digest cs blocks) (refs_after digest body 0 cs blocks refs)

@@ -2,6 +2,7 @@ pub mod Grouped
 pub mod Blocks
 pub mod View
 pub mod Sound
+pub mod Bodies
 pub mod Becomes
 pub mod Put
 pub mod Wanted

@@ -1,5 +1,5 @@
-//! How long a block takes among so many rows of a new host in a file: stored new, stored again, removed. Each is timed in a
-//! transaction of its own: in the one that added the rows, the time of a removal grows with them.
+//! How long a block takes among so many rows of a new host in a file: stored new and stored again, each in a transaction of
+//! its own, as a request stores it; new, a thousand in one transaction; and removed, a thousand in one, as a sweep removes them.
 
 ghost use Rattle.std.specs.Prelude.{OnOk};
 ghost use Rattle.bh_schema.specs.Connections.{InTransaction};
@@ -55,18 +55,39 @@ fn store_numbers<S: Alter>(
     }
 }
 
-/// The microseconds of that.
+/// Stores them, each in a transaction of its own.
+fn store_each<S: Alter>(
+    alloc: Global,
+    connection: &mut Connection<S>,
+    first: u64,
+    end: u64,
+) -> io::Result<()>
+    requires { InTransaction S.Store connection.old }
+    ensures { OnOk result (InTransaction S.Store connection.new) }
+{
+    for number in first..end {
+        store_numbers(alloc, connection, number, number.saturating_add(1))?;
+    }
+    Ok(())
+}
+
+/// The microseconds of storing them, each by itself or all together.
 fn store_time<S: Alter>(
     rt: &(impl Clock + AllocGlobal),
     connection: &mut Connection<S>,
     first: u64,
     end: u64,
+    is_each_alone: bool,
 ) -> io::Result<u128>
     requires { InTransaction S.Store connection.old }
     ensures { OnOk result (InTransaction S.Store connection.new) }
 {
     let start = Instant::now(rt)?;
-    store_numbers(rt.alloc(), connection, first, end)?;
+    if is_each_alone {
+        store_each(rt.alloc(), connection, first, end)?;
+    } else {
+        store_numbers(rt.alloc(), connection, first, end)?;
+    }
     Ok(start.elapsed(rt)?.as_micros())
 }
 
@@ -101,11 +122,13 @@ fn tell_times<S: Alter>(
     requires { InTransaction S.Store connection.old }
 {
     store_numbers(rt.alloc(), connection, 0, rows)?;
-    let new = store_time(rt, connection, rows, rows.saturating_add(COUNT))?;
-    let again = store_time(rt, connection, 0, COUNT)?;
+    let more = rows.saturating_add(COUNT);
+    let new = store_time(rt, connection, rows, more, true)?;
+    let again = store_time(rt, connection, 0, COUNT, true)?;
+    let together = store_time(rt, connection, more, more.saturating_add(COUNT), false)?;
     let removed = removal_time(rt, connection)?;
     println!(rt;
-        "{rows} rows, microseconds of {COUNT} blocks: {new} new, {again} again, {removed} removed"
+        "{rows} rows, microseconds of {COUNT} blocks: {new} new, {again} again, {together} new together, {removed} removed"
     )
 }
 

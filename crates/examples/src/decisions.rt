@@ -1,7 +1,8 @@
 //! What is decided of lookups, puts, deletes and ranges.
 
 use crate::answer::{Answer, Fault, refusal, text};
-use crate::parts::{self, counters_of, counters_text};
+use crate::parts::{counters_of, counters_text};
+use crate::uploads;
 use crate::words::{four, items, number, state_of, three, two, wanted_of, wanted_text};
 use bh_core::entries::{Entry, decide_lookup};
 use bh_core::plans::{DeletePlan, PutPlan, decide_delete, decide_put};
@@ -19,7 +20,7 @@ pub fn answer(alloc: Global, call: &str, input: &str) -> Answer {
         "decide-lookup" => lookup(alloc, input),
         "decide-put" => put(alloc, input),
         "decide-delete" => delete(alloc, input),
-        _ => parts::answer(alloc, call, input),
+        _ => uploads::answer(alloc, call, input),
     }
 }
 

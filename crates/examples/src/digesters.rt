@@ -9,7 +9,7 @@ use bh_schema::host::Digester;
 pub struct Constant;
 
 impl Digester for Constant {
-    ghost digest_of = { λ _ _. replicate 32 0 };
+    ghost digest_of = { λ _. replicate 32 0 };
 
     fn digest(&self, _bytes: &[u8]) -> [u8; 32] {
         [0; 32]
@@ -21,7 +21,7 @@ impl Digester for Constant {
 pub struct Parity;
 
 impl Digester for Parity {
-    ghost digest_of = { λ _ bytes. replicate 32 (length bytes % 2) };
+    ghost digest_of = { λ bytes. replicate 32 (length bytes % 2) };
 
     fn digest(&self, bytes: &[u8]) -> [u8; 32] {
         [(bytes.len() % 2) as u8; 32]

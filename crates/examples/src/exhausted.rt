@@ -1,6 +1,7 @@
 //! A stored script of a tenant whose entries have had their last number, which no script can reach by itself: a
 //! first script makes the tenant `green`, then its counter is raised, and then come the script's events.
 
+ghost use Rattle.bh_view.specs.Bodies.{IsSoundHost};
 ghost use Rattle.bh_storage.specs.Calls.{Clean, IsAtRest};
 ghost use Rattle.bh_schema.specs.Storage.{IsClean, seen};
 
@@ -26,8 +27,8 @@ const NAME: &str = "counter-exhausted";
 
 /// What events are answered.
 fn answers<H: Storage>(alloc: Global, host: &mut H, events: &[Event]) -> Result<Vec<u8>, AllocError>
-    requires { Clean H.IsIntact H.IsOpen host.old → IsAtRest (H.seen host.old) }
-    ensures { Clean H.IsIntact H.IsOpen host.new → IsAtRest (H.seen host.new) }
+    requires { Clean H.IsIntact H.IsOpen host.old → IsAtRest H.IsSound (H.seen host.old) }
+    ensures { Clean H.IsIntact H.IsOpen host.new → IsAtRest H.IsSound (H.seen host.new) }
 {
     let dones = run(alloc, host, events)?;
     replies_text(alloc, dones.as_slice())
@@ -38,8 +39,8 @@ fn exhaust<S: Alter + Drop, D: Digester + Drop>(
     alloc: Global,
     host: &mut Host<S, D>,
 ) -> Result<bool, AllocError>
-    requires { IsClean S.Store host.old → IsAtRest (seen S.Store host.old) }
-    ensures { IsClean S.Store host.new → IsAtRest (seen S.Store host.new) }
+    requires { IsClean S.Store host.old → IsAtRest (IsSoundHost D.digest_of) (seen S.Store host.old) }
+    ensures { IsClean S.Store host.new → IsAtRest (IsSoundHost D.digest_of) (seen S.Store host.new) }
 {
     match TenantName::read(alloc, "green")? {
         Some(tenant) => Ok(raise_entries(host, &tenant, COUNTER_END).is_ok()),

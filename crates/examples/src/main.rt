@@ -28,8 +28,10 @@ mod shown;
 mod sockets;
 mod table;
 mod timed;
+mod uploads;
 mod words;
 
+use bh_types::limits::Tuning;
 use std::net::{Net, TcpListener, TcpStream};
 use std::process::ExitCode;
 use std::rt::Runtime;
@@ -39,7 +41,8 @@ const USAGE: &str = "usage: examples WORD..
 
   tables NAME..     compares each row of tables/NAME.txt: a call, its input and what it is to give
   scripts NAME..    compares the answers to the events of scripts/NAME.in with scripts/NAME.out
-  connections NAME..  the same, but the operator's commands come first, and then the requests, over connections in
+  small-blocks NAME..  the same on hosts whose blocks have 1, 3, 4 and 16 bytes
+  connections NAME..  the same as scripts, but the operator's commands come first, and then the requests, over connections in
                     memory, each cut as its line of scripts/NAME.cuts says, where there is such a file
   sockets NAME..    the same as scripts, but the requests come over sockets of 127.0.0.1
   exhausted         compares the answers of a tenant whose entries have no number left, likewise
@@ -56,6 +59,7 @@ Tables and scripts lie below the folder in which it runs.
 enum Kind {
     Table,
     Script,
+    SmallBlocks,
     Connections,
     Sockets,
 }
@@ -67,7 +71,8 @@ fn check<R: Runtime + Net<Stream = TcpStream, Listener = TcpListener> + AllocGlo
 ) -> io::Result<bool> {
     match kind {
         Kind::Table => table::check_table(rt, name),
-        Kind::Script => scripts::check_script(rt, name),
+        Kind::Script => scripts::check_script(rt, name, Tuning::default()),
+        Kind::SmallBlocks => scripts::check_in_small_blocks(rt, name),
         Kind::Connections => connections::check(rt, name),
         Kind::Sockets => sockets::check(rt, name),
     }
@@ -84,6 +89,7 @@ fn run<R: Runtime + Net<Stream = TcpStream, Listener = TcpListener> + AllocGloba
         match word.as_str() {
             "tables" => kind = Kind::Table,
             "scripts" => kind = Kind::Script,
+            "small-blocks" => kind = Kind::SmallBlocks,
             "connections" => kind = Kind::Connections,
             "sockets" => kind = Kind::Sockets,
             "help" => print!(rt; "{USAGE}")?,

@@ -53,7 +53,7 @@ fn name_of(alloc: Global, text: &str) -> Result<Named, Fault> {
     }
 }
 
-fn names_of(alloc: Global, list: &str) -> Result<Vec<Named>, Fault> {
+pub fn names_of(alloc: Global, list: &str) -> Result<Vec<Named>, Fault> {
     let mut names = Vec::new(alloc);
     for text in list.split(',') {
         names.push(name_of(alloc, text)?).map_err(AllocError::from)?;

@@ -21,8 +21,8 @@ use std::io::Write;
 
 /// The answer to an event, asked once more where it has no stamp.
 fn answer<H: Storage>(alloc: Global, host: &mut H, event: &Event) -> Told
-    requires { Clean H.IsIntact H.IsOpen host.old → IsAtRest (H.seen host.old) }
-    ensures { Clean H.IsIntact H.IsOpen host.new → IsAtRest (H.seen host.new) }
+    requires { Clean H.IsIntact H.IsOpen host.old → IsAtRest H.IsSound (H.seen host.old) }
+    ensures { Clean H.IsIntact H.IsOpen host.new → IsAtRest H.IsSound (H.seen host.new) }
 {
     let done = apply(alloc, host, event);
     match done.stamp {
@@ -33,7 +33,7 @@ fn answer<H: Storage>(alloc: Global, host: &mut H, event: &Event) -> Told
 
 /// What the events are answered, a line's end after each.
 fn answers<H: Storage>(alloc: Global, host: &mut H, events: &[Event]) -> io::Result<Vec<u8>>
-    requires { Clean H.IsIntact H.IsOpen host.old → IsAtRest (H.seen host.old) }
+    requires { Clean H.IsIntact H.IsOpen host.old → IsAtRest H.IsSound (H.seen host.old) }
 {
     let mut text = Vec::new(alloc);
     for event in events {

@@ -5,17 +5,16 @@ use bh_types::limits::{Limits, Tuning};
 use std::rt::Files;
 use std::{fs, io};
 
-/// Whether a stored script is answered with what is expected, byte for byte.
-pub fn check_script(rt: &(impl Files + Print + AllocGlobal), name: &str) -> io::Result<bool> {
+/// Whether a stored script is answered with what is expected, byte for byte, whatever the tuning.
+pub fn check_script(
+    rt: &(impl Files + Print + AllocGlobal),
+    name: &str,
+    tuning: Tuning,
+) -> io::Result<bool> {
     let alloc = rt.alloc();
     let script = fs::read_to_string(rt, format!(in alloc; "scripts/{name}.in")?)?;
     let expected = fs::read_to_string(rt, format!(in alloc; "scripts/{name}.out")?)?;
-    match answer_script(
-        alloc,
-        script.as_bytes(),
-        Limits::default(),
-        Tuning::default(),
-    ) {
+    match answer_script(alloc, script.as_bytes(), Limits::default(), tuning) {
         Ok(answered) if answered.text.as_slice() == expected.as_bytes() => {
             println!(rt; "{name}: as expected")?;
             Ok(true)
@@ -29,4 +28,20 @@ pub fn check_script(rt: &(impl Files + Print + AllocGlobal), name: &str) -> io::
             Ok(false)
         }
     }
+}
+
+/// The same on hosts whose blocks have few bytes.
+pub fn check_in_small_blocks(
+    rt: &(impl Files + Print + AllocGlobal),
+    name: &str,
+) -> io::Result<bool> {
+    let mut is_well = true;
+    for size in [1u64, 3, 4, 16] {
+        print!(rt; "in blocks of {size}: ")?;
+        match Tuning::new(size, 0) {
+            Some(tuning) => is_well = check_script(rt, name, tuning)? && is_well,
+            None => return Ok(false),
+        }
+    }
+    Ok(is_well)
 }

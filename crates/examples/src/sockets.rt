@@ -35,8 +35,8 @@ fn exchange<N: Net<Stream = TcpStream, Listener = TcpListener> + AllocGlobal, H:
     reading: u64,
     bytes: &[u8],
 ) -> io::Result<Vec<u8>>
-    requires { Clean H.IsIntact H.IsOpen host.old → IsAtRest (H.seen host.old) }
-    ensures { Clean H.IsIntact H.IsOpen host.new → IsAtRest (H.seen host.new) }
+    requires { Clean H.IsIntact H.IsOpen host.old → IsAtRest H.IsSound (H.seen host.old) }
+    ensures { Clean H.IsIntact H.IsOpen host.new → IsAtRest H.IsSound (H.seen host.new) }
 {
     let mut stream = TcpStream::connect(net, listener.local_addr()?)?;
     stream.write_all(bytes)?;
@@ -54,8 +54,8 @@ fn answer<N: Net<Stream = TcpStream, Listener = TcpListener> + AllocGlobal, H: S
     listener: &TcpListener,
     event: &Event,
 ) -> io::Result<Vec<u8>>
-    requires { Clean H.IsIntact H.IsOpen host.old → IsAtRest (H.seen host.old) }
-    ensures { Clean H.IsIntact H.IsOpen host.new → IsAtRest (H.seen host.new) }
+    requires { Clean H.IsIntact H.IsOpen host.old → IsAtRest H.IsSound (H.seen host.old) }
+    ensures { Clean H.IsIntact H.IsOpen host.new → IsAtRest H.IsSound (H.seen host.new) }
 {
     match event {
         Event::Http { reading, bytes } => {
@@ -73,7 +73,7 @@ fn answers<N: Net<Stream = TcpStream, Listener = TcpListener> + AllocGlobal, H: 
     host: &mut H,
     events: &[Event],
 ) -> io::Result<Vec<u8>>
-    requires { Clean H.IsIntact H.IsOpen host.old → IsAtRest (H.seen host.old) }
+    requires { Clean H.IsIntact H.IsOpen host.old → IsAtRest H.IsSound (H.seen host.old) }
 {
     let listener = TcpListener::bind(net, (Ipv4Addr::LOCALHOST, 0))?;
     let mut text = Vec::new(net.alloc());

@@ -35,8 +35,8 @@ fn apply_timed<H: Storage>(
     host: &mut H,
     events: &[Event],
 ) -> io::Result<Timed>
-    requires { Clean H.IsIntact H.IsOpen host.old → IsAtRest (H.seen host.old) }
-    ensures { Clean H.IsIntact H.IsOpen host.new → IsAtRest (H.seen host.new) }
+    requires { Clean H.IsIntact H.IsOpen host.old → IsAtRest H.IsSound (H.seen host.old) }
+    ensures { Clean H.IsIntact H.IsOpen host.new → IsAtRest H.IsSound (H.seen host.new) }
 {
     let start = Instant::now(rt)?;
     let dones = run(rt.alloc(), host, events)?;

@@ -1,12 +1,13 @@
-ghost use Rattle.std.specs.Prelude.{◌≡◌, ◌++◌, ◌∷◌, [], ◌<◌, ◌^◌, true, None, Some, length, map, filter, find, take, option_map, IfOk, IfErr, OnOk};
+ghost use Rattle.std.specs.Prelude.{◌≡◌, ◌++◌, ◌∷◌, [], ◌<◌, ◌^◌, true, None, Some, map, filter, find, take, option_map, IfOk, IfErr, OnOk};
 ghost use Rattle.std.specs.List.{list_any};
 ghost use Rattle.std.specs.Str.{IsUtf8};
 ghost use Rattle.sqlite_keyed.specs.Lists.{delete_where, sort_by};
 ghost use Rattle.bh_tables.specs.Typed.{VersionRow as Stored};
-ghost use Rattle.bh_tables.specs.Shown.{is_version, is_at, is_in_bucket, is_entry, by_id, shown_head, shown_bytes, shown_seq, newer};
+ghost use Rattle.bh_tables.specs.Bodies.{resolved};
+ghost use Rattle.bh_tables.specs.Shown.{is_version, is_at, is_in_bucket, by_id, shown_head, shown_seq, newer};
 ghost use Rattle.bh_rows.specs.Means.{is_trouble};
 ghost use Rattle.bh_schema.specs.Connections.{IsClean, tables, InTransaction, StaysWithin, WasOpen, StaysOpen, ChangesNothing, Becomes, IsTrouble, IsTroubleIf};
-ghost use Rattle.bh_schema.specs.Rows.{seen_head, seen_bytes, newest_at, IsNewVersion};
+ghost use Rattle.bh_schema.specs.Rows.{seen_head, newest_at, IsNewVersion};
 ghost use Rattle.bh_schema.specs.Views.{head_seen};
 
 use crate::rows::number::number;
@@ -42,8 +43,9 @@ pub struct NewVersion<'a> {
     pub id: u64,
     /// When it is made, in seconds since 1970.
     pub stamp: u64,
+    /// Bytes.
+    pub size: u64,
     pub checksum: &'a str,
-    pub bytes: &'a [u8],
 }
 
 /// A marker that is to be added.
@@ -169,56 +171,6 @@ pub fn version_of_id<S: Alter>(
     }
 }
 
-fn read_bytes(row: &Row) -> Result<Vec<u8>, Error>
-    ensures read { IfOk result (λ bytes. (v : Stored) → row.now ≡ shown_bytes v → bytes.items ≡ v.bytes) }
-    ensures trouble { IfErr result (λ e. (v : Stored) → row.now ≡ shown_bytes v → is_trouble e ≡ true) }
-{
-    row.get(0)
-}
-
-fn bytes_rows<S: Alter>(
-    connection: &mut Connection<S>,
-    tenant: &str,
-    seq: u64,
-) -> Result<Vec<Row>, Error>
-    requires inside { InTransaction S.Store connection.old }
-    requires small { seq < 2 ^ 63 }
-    ensures within { StaysWithin S.Store connection.old connection.new }
-    ensures opens { OnOk result (WasOpen S.Store connection.old connection.new) }
-    ensures same { OnOk result (ChangesNothing S.Store connection.old connection.new) }
-    ensures rows { IfOk result (λ rows. IsClean S.Store connection.new
-        → rows.items ≡ map shown_bytes (filter (is_entry tenant.now seq) (tables S.Store connection.old).versions)) }
-    ensures trouble { IfErr result (IsTrouble S.Store connection.old connection.new) }
-{
-    connection.query_all(
-        "SELECT bytes FROM versions WHERE tenant = ?1 AND seq = ?2 ORDER BY rowid",
-        &[tenant.to_sql(), number(seq)],
-    )
-}
-
-/// The bytes of a tenant's version or marker with this entry number, if there is one.
-pub fn version_bytes<S: Alter>(
-    connection: &mut Connection<S>,
-    tenant: &str,
-    seq: u64,
-) -> Result<Option<Vec<u8>>, Error>
-    requires inside { InTransaction S.Store connection.old }
-    requires small { seq < 2 ^ 63 }
-    ensures within { StaysWithin S.Store connection.old connection.new }
-    ensures opens { OnOk result (WasOpen S.Store connection.old connection.new) }
-    ensures same { OnOk result (ChangesNothing S.Store connection.old connection.new) }
-    ensures found { IfOk result (λ found. IsClean S.Store connection.new
-        → option_map (λ bytes. bytes.items) found ≡ option_map seen_bytes
-        (find (is_entry tenant.now seq) (tables S.Store connection.old).versions)) }
-    ensures trouble { IfErr result (IsTrouble S.Store connection.old connection.new) }
-{
-    let rows = bytes_rows(connection, tenant, seq)?;
-    match rows.first() {
-        None => Ok(None),
-        Some(row) => Ok(Some(read_bytes(row)?)),
-    }
-}
-
 fn first_rows<S: Alter>(
     connection: &mut Connection<S>,
     tenant: &str,
@@ -260,7 +212,7 @@ pub fn bucket_has_versions<S: Alter>(
     }
 }
 
-/// Adds a version.
+/// Adds a version, whose bytes are those of the body of its name.
 pub fn insert_version<S: Alter>(
     connection: &mut Connection<S>,
     version: &NewVersion<'_>,
@@ -269,11 +221,12 @@ pub fn insert_version<S: Alter>(
     requires seq { version.now.seq < 2 ^ 63 }
     requires id { version.now.id < 2 ^ 63 }
     requires stamp { version.now.stamp < 2 ^ 63 }
+    requires size { version.now.size < 2 ^ 63 }
     ensures within { StaysWithin S.Store connection.old connection.new }
     ensures opens { OnOk result (StaysOpen S.Store connection.old connection.new) }
     ensures holds { OnOk result (Becomes S.Store connection.old connection.new
         (λ rows. record rows {
-          versions = rows.versions ++ record {
+          versions = rows.versions ++ resolved rows.refs rows.blocks (record {
             tenant = version.now.tenant.now;
             seq = version.now.seq;
             bucket = version.now.bucket.now;
@@ -281,10 +234,9 @@ pub fn insert_version<S: Alter>(
             id = version.now.id;
             marker = 0;
             stamp = version.now.stamp;
-            size = length version.now.bytes.now;
+            size = version.now.size;
             checksum = version.now.checksum.now;
-            bytes = version.now.bytes.now;
-          } ∷ [];
+          }) ∷ [];
         })) }
     ensures trouble { IfErr result (IsTroubleIf S.Store connection.old connection.new
         (IsNewVersion (tables S.Store connection.old) version.now.tenant.now version.now.bucket.now version.now.okey.now
@@ -293,7 +245,7 @@ pub fn insert_version<S: Alter>(
     // Asked for what it ensures: the rows obey the schema.
     let _schema = connection.schema();
     connection.execute(
-        "INSERT INTO versions (tenant, seq, bucket, okey, id, marker, stamp, size, sum, bytes) VALUES (?1, ?2, ?3, ?4, ?5, 0, ?6, ?7, ?8, ?9)",
+        "INSERT INTO versions (tenant, seq, bucket, okey, id, marker, stamp, size, sum) VALUES (?1, ?2, ?3, ?4, ?5, 0, ?6, ?7, ?8)",
         &[
             version.tenant.to_sql(),
             number(version.seq),
@@ -301,9 +253,8 @@ pub fn insert_version<S: Alter>(
             version.okey.to_sql(),
             number(version.id),
             number(version.stamp),
-            number(version.bytes.len() as u64),
+            number(version.size),
             version.checksum.to_sql(),
-            version.bytes.to_sql(),
         ],
     )
 }
@@ -321,7 +272,7 @@ pub fn insert_marker<S: Alter>(
     ensures opens { OnOk result (StaysOpen S.Store connection.old connection.new) }
     ensures holds { OnOk result (Becomes S.Store connection.old connection.new
         (λ rows. record rows {
-          versions = rows.versions ++ record {
+          versions = rows.versions ++ resolved rows.refs rows.blocks (record {
             tenant = marker.now.tenant.now;
             seq = marker.now.seq;
             bucket = marker.now.bucket.now;
@@ -331,8 +282,7 @@ pub fn insert_marker<S: Alter>(
             stamp = marker.now.stamp;
             size = 0;
             checksum = [];
-            bytes = [];
-          } ∷ [];
+          }) ∷ [];
         })) }
     ensures trouble { IfErr result (IsTroubleIf S.Store connection.old connection.new
         (IsNewVersion (tables S.Store connection.old) marker.now.tenant.now marker.now.bucket.now marker.now.okey.now
@@ -341,7 +291,7 @@ pub fn insert_marker<S: Alter>(
     // Asked for what it ensures: the rows obey the schema.
     let _schema = connection.schema();
     connection.execute(
-        "INSERT INTO versions (tenant, seq, bucket, okey, id, marker, stamp, size, sum, bytes) VALUES (?1, ?2, ?3, ?4, ?5, 1, ?6, 0, '', x'')",
+        "INSERT INTO versions (tenant, seq, bucket, okey, id, marker, stamp, size, sum) VALUES (?1, ?2, ?3, ?4, ?5, 1, ?6, 0, '')",
         &[
             marker.tenant.to_sql(),
             number(marker.seq),

@@ -3,7 +3,8 @@ use Rattle.sqlite.specs.Held.{state}
 use Rattle.bh_rows.specs.Means.{is_trouble}
 use Rattle.bh_tables.specs.Typed.{BlockRow, Tables}
 use Rattle.bh_tables.specs.Shown.{is_unreferenced, shown_name}
-use Rattle.bh_schema.specs.Layer.{IsStateClean}
+use Rattle.bh_tables.proofs.ResolvedLemmas.{own_bodies}
+use Rattle.bh_schema.specs.Layer.{standing, IsStateClean}
 use Rattle.bh_schema.specs.Working.{tables_at}
 use Rattle.bh_schema.proofs.Finds.{handed_on}
 use Rattle.bh_schema.proofs.Storing.{within_then}
@@ -43,5 +44,5 @@ returns-clause-removed g c gone is clean =
     let loop = tables_at (state g.S.Store c.loop-row.connection) in
     record {
       within = inv.inside clean;
-      is = sym (left_none loop) ∙ ap (λ l. left l loop) (sym (drop_end shown_name gone c.args.rows.now c.loop-row.row-index (λ low. let end = c.loop-row-test.false in omega (arith, low, end)) is)) ∙ inv.left clean gone is;
+      is = sym (left_none loop (own_bodies (standing (state g.S.Store c.loop-row.connection)).now)) ∙ ap (λ l. left l loop) (sym (drop_end shown_name gone c.args.rows.now c.loop-row.row-index (λ low. let end = c.loop-row-test.false in omega (arith, low, end)) is)) ∙ inv.left clean gone is;
     }

@@ -9,6 +9,7 @@ use Rattle.bh_view.proofs.BlockChanges.{blocks_removed}
 use Rattle.bh_schema.specs.Layer.{Standing, IsStateClean}
 use Rattle.bh_schema.specs.Working.{tables_at}
 use Rattle.bh_schema.proofs.Finds.{handed_on}
+use Rattle.bh_blocks.proofs.Keeping.{resolved_at}
 use Rattle.bh_blocks.proofs.Removing.{left, unreferenced_are}
 use Rattle.bh_blocks.proofs.removal.remove_unreferenced.Goals as goal
 
@@ -34,4 +35,4 @@ returns-clause-keeps g c digest clean sound digests =
     let same : tables_at (state g.S.Store c.unreferenced_rows.new.connection) ≡ old = ap (λ (x : Standing). tables_in x.now) (first.same was.intact) in
     let gone = unreferenced c.args.limit old.refs old.blocks in
     subst (KeepsBodies digest old) (sym ((then.removed gone (c.deref.ensures.value ∙ first.rows was) clean).is ∙ ap (left gone) same))
-    (blocks_removed digest old gone (unreferenced_are c.args.limit old.refs old.blocks) sound digests)
+    (blocks_removed digest old gone (unreferenced_are c.args.limit old.refs old.blocks) sound (resolved_at (state g.S.Store c.args.connection.now)) digests)

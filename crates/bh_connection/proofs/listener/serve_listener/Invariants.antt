@@ -7,7 +7,7 @@ abbrev pub invariant-loop-served : goal.invariant-loop-served
 invariant-loop-served g l = record {
   intact : g.H.Storage.IsIntact l.host → g.H.Storage.IsIntact l.fn.host;
   opened : g.H.Storage.IsIntact l.host → g.H.Storage.IsOpen l.host → g.H.Storage.IsOpen l.fn.host;
-  ready : Clean g.H.Storage.IsIntact g.H.Storage.IsOpen l.host → IsAtRest (g.H.Storage.seen l.host);
+  ready : Clean g.H.Storage.IsIntact g.H.Storage.IsOpen l.host → IsAtRest g.H.Storage.IsSound (g.H.Storage.seen l.host);
   limits : (g.H.Storage.seen l.host).limits ≡ (g.H.Storage.seen l.fn.host).limits;
   ran : g.H.Storage.IsIntact l.host → RanSome g.H.Storage.IsOpen g.H.Storage.seen g.H.Storage.left l.fn.host l.host;
 }

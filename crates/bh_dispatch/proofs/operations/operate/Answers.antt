@@ -3,32 +3,61 @@ use Rattle.sqlite.specs.Held.{state}
 use Rattle.bh_view.specs.View.{view}
 use Rattle.bh_schema.specs.Working.{tables_at}
 use Rattle.bh_objects.proofs.Working.{no_call}
-use Rattle.bh_dispatch.proofs.Steps.{lists_buckets, creates_bucket, heads_bucket, deletes_bucket, lists_objects, tells_versioning, sets_versioning, puts_object, gets_object, heads_object, deletes_object, not_done}
+use Rattle.bh_dispatch.proofs.Storing.{by_any}
+use Rattle.bh_dispatch.proofs.Steps.{lists_buckets, creates_bucket, heads_bucket, deletes_bucket, lists_objects, lists_versions, tells_versioning, sets_versioning, puts_object, gets_object, heads_object, deletes_object, not_done, copies_object}
 use Rattle.bh_dispatch.proofs.operations.operate.Goals as goal
+
+pub returns-in-ListBuckets-clause-working : goal.returns-in-ListBuckets-clause-working
+returns-in-ListBuckets-clause-working g c = by_any g.D.Digester.digest_of (state g.S.Store c.args.connection.now) (state g.S.Store c.list_buckets.new.connection) c.list_buckets.result c.list_buckets.ensures.working
 
 pub returns-in-ListBuckets-clause-carries : goal.returns-in-ListBuckets-clause-carries
 returns-in-ListBuckets-clause-carries g c clean =
     rw (c.in-ListBuckets.is, lists_buckets c.args.at c.args.body.now) (c.list_buckets.ensures.carries clean)
 
+pub returns-in-CreateBucket-clause-working : goal.returns-in-CreateBucket-clause-working
+returns-in-CreateBucket-clause-working g c = by_any g.D.Digester.digest_of (state g.S.Store c.args.connection.now) (state g.S.Store c.create_bucket.new.connection) c.create_bucket.result c.create_bucket.ensures.working
+
 pub returns-in-CreateBucket-clause-carries : goal.returns-in-CreateBucket-clause-carries
 returns-in-CreateBucket-clause-carries g c clean =
     rw (c.in-CreateBucket.is, creates_bucket c.args.at c.args.body.now c.in-CreateBucket.bucket) (c.create_bucket.ensures.carries clean)
+
+pub returns-in-HeadBucket-clause-working : goal.returns-in-HeadBucket-clause-working
+returns-in-HeadBucket-clause-working g c = by_any g.D.Digester.digest_of (state g.S.Store c.args.connection.now) (state g.S.Store c.head_bucket.new.connection) c.head_bucket.result c.head_bucket.ensures.working
 
 pub returns-in-HeadBucket-clause-carries : goal.returns-in-HeadBucket-clause-carries
 returns-in-HeadBucket-clause-carries g c clean =
     rw (c.in-HeadBucket.is, heads_bucket c.args.at c.args.body.now c.in-HeadBucket.bucket) (c.head_bucket.ensures.carries clean)
 
+pub returns-in-DeleteBucket-clause-working : goal.returns-in-DeleteBucket-clause-working
+returns-in-DeleteBucket-clause-working g c = by_any g.D.Digester.digest_of (state g.S.Store c.args.connection.now) (state g.S.Store c.delete_bucket.new.connection) c.delete_bucket.result c.delete_bucket.ensures.working
+
 pub returns-in-DeleteBucket-clause-carries : goal.returns-in-DeleteBucket-clause-carries
 returns-in-DeleteBucket-clause-carries g c clean =
     rw (c.in-DeleteBucket.is, deletes_bucket c.args.at c.args.body.now c.in-DeleteBucket.bucket) (c.delete_bucket.ensures.carries clean)
+
+pub returns-in-ListObjectsV2-clause-working : goal.returns-in-ListObjectsV2-clause-working
+returns-in-ListObjectsV2-clause-working g c = by_any g.D.Digester.digest_of (state g.S.Store c.args.connection.now) (state g.S.Store c.list_objects.new.connection) c.list_objects.result c.list_objects.ensures.working
 
 pub returns-in-ListObjectsV2-clause-carries : goal.returns-in-ListObjectsV2-clause-carries
 returns-in-ListObjectsV2-clause-carries g c clean =
     rw (c.in-ListObjectsV2.is, lists_objects c.args.at c.args.body.now c.in-ListObjectsV2.bucket c.in-ListObjectsV2.page c.in-ListObjectsV2.token, sym c.bytes_of.ensures) (c.list_objects.ensures.carries clean)
 
+pub returns-in-ListObjectVersions-clause-working : goal.returns-in-ListObjectVersions-clause-working
+returns-in-ListObjectVersions-clause-working g c = by_any g.D.Digester.digest_of (state g.S.Store c.args.connection.now) (state g.S.Store c.list_versions.new.connection) c.list_versions.result c.list_versions.ensures.working
+
+pub returns-in-ListObjectVersions-clause-carries : goal.returns-in-ListObjectVersions-clause-carries
+returns-in-ListObjectVersions-clause-carries g c clean =
+    rw (c.in-ListObjectVersions.is, lists_versions c.args.at c.args.body.now c.in-ListObjectVersions.bucket c.in-ListObjectVersions.page c.in-ListObjectVersions.after) (c.list_versions.ensures.carries clean)
+
+pub returns-in-GetBucketVersioning-clause-working : goal.returns-in-GetBucketVersioning-clause-working
+returns-in-GetBucketVersioning-clause-working g c = by_any g.D.Digester.digest_of (state g.S.Store c.args.connection.now) (state g.S.Store c.versioning.new.connection) c.versioning.result c.versioning.ensures.working
+
 pub returns-in-GetBucketVersioning-clause-carries : goal.returns-in-GetBucketVersioning-clause-carries
 returns-in-GetBucketVersioning-clause-carries g c clean =
     rw (c.in-GetBucketVersioning.is, tells_versioning c.args.at c.args.body.now c.in-GetBucketVersioning.bucket) (c.versioning.ensures.carries clean)
+
+pub returns-in-PutBucketVersioning-clause-working : goal.returns-in-PutBucketVersioning-clause-working
+returns-in-PutBucketVersioning-clause-working g c = by_any g.D.Digester.digest_of (state g.S.Store c.args.connection.now) (state g.S.Store c.set_versioning.new.connection) c.set_versioning.result c.set_versioning.ensures.working
 
 pub returns-in-PutBucketVersioning-clause-carries : goal.returns-in-PutBucketVersioning-clause-carries
 returns-in-PutBucketVersioning-clause-carries g c clean =
@@ -38,13 +67,29 @@ pub returns-in-PutObject-clause-carries : goal.returns-in-PutObject-clause-carri
 returns-in-PutObject-clause-carries g c clean =
     rw (c.in-PutObject.is, puts_object c.args.at c.args.body.now c.in-PutObject.object c.in-PutObject.checksum, sym c.bytes_of-in-PutObject.ensures) (c.put_object.ensures.carries clean)
 
+pub returns-in-CopyObject-clause-working : goal.returns-in-CopyObject-clause-working
+returns-in-CopyObject-clause-working g c = by_any g.D.Digester.digest_of (state g.S.Store c.args.connection.now) (state g.S.Store c.copy_object.new.connection) c.copy_object.result c.copy_object.ensures.working
+
+pub returns-in-CopyObject-clause-carries : goal.returns-in-CopyObject-clause-carries
+returns-in-CopyObject-clause-carries g c clean =
+    rw (c.in-CopyObject.is, copies_object c.args.at c.args.body.now c.in-CopyObject.object c.in-CopyObject.source) (c.copy_object.ensures.carries clean)
+
+pub returns-in-GetObject-clause-working : goal.returns-in-GetObject-clause-working
+returns-in-GetObject-clause-working g c = by_any g.D.Digester.digest_of (state g.S.Store c.args.connection.now) (state g.S.Store c.get_object.new.connection) c.get_object.result c.get_object.ensures.working
+
 pub returns-in-GetObject-clause-carries : goal.returns-in-GetObject-clause-carries
 returns-in-GetObject-clause-carries g c clean =
     rw (c.in-GetObject.is, gets_object c.args.at c.args.body.now c.in-GetObject.object c.in-GetObject.version c.in-GetObject.range, sym c.bytes_of-in-GetObject.ensures) (c.get_object.ensures.carries clean)
 
+pub returns-in-HeadObject-clause-working : goal.returns-in-HeadObject-clause-working
+returns-in-HeadObject-clause-working g c = by_any g.D.Digester.digest_of (state g.S.Store c.args.connection.now) (state g.S.Store c.head_object.new.connection) c.head_object.result c.head_object.ensures.working
+
 pub returns-in-HeadObject-clause-carries : goal.returns-in-HeadObject-clause-carries
 returns-in-HeadObject-clause-carries g c clean =
     rw (c.in-HeadObject.is, heads_object c.args.at c.args.body.now c.in-HeadObject.object c.in-HeadObject.version) (c.head_object.ensures.carries clean)
+
+pub returns-in-DeleteObject-clause-working : goal.returns-in-DeleteObject-clause-working
+returns-in-DeleteObject-clause-working g c = by_any g.D.Digester.digest_of (state g.S.Store c.args.connection.now) (state g.S.Store c.delete_object.new.connection) c.delete_object.result c.delete_object.ensures.working
 
 pub returns-in-DeleteObject-clause-carries : goal.returns-in-DeleteObject-clause-carries
 returns-in-DeleteObject-clause-carries g c clean =
@@ -57,6 +102,6 @@ returns-in_default g c =
     rw c.from.ensures (record {
       within = no_call s (λ clean. (c.requires.working clean).inside);
       opens = λ intact up. up;
-      working = λ clean. record { is = c.requires.working clean; limits = refl };
-      carries = λ clean. (not_done c.args.at c.args.body.now (view (tables_at s) c.args.tenant.now) c.args.operation.now no.not-ListBuckets no.not-CreateBucket no.not-HeadBucket no.not-DeleteBucket no.not-ListObjectsV2 no.not-GetBucketVersioning no.not-PutBucketVersioning no.not-PutObject no.not-GetObject no.not-HeadObject no.not-DeleteObject, refl);
+      working = λ clean. record { is = c.requires.working clean; limits = refl; digests = λ are. are };
+      carries = λ clean. (not_done c.args.at c.args.body.now (view (tables_at s) c.args.tenant.now) c.args.operation.now no.not-ListBuckets no.not-CreateBucket no.not-HeadBucket no.not-DeleteBucket no.not-ListObjectsV2 no.not-ListObjectVersions no.not-GetBucketVersioning no.not-PutBucketVersioning no.not-PutObject no.not-CopyObject no.not-GetObject no.not-HeadObject no.not-DeleteObject, refl);
     })

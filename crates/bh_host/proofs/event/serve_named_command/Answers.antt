@@ -15,7 +15,7 @@ returns-clause-turned g c =
     let turned : List ℕ → Type 0 = λ bytes. now → Turned (Commanded order) c.args.at (seen c.args.host.now).now (seen new).now bytes in
     let command = c.command-outcome.ensures in
     let purge = c.in_ok-purge.ensures in
-    if_ordered c.order_text.result order c.command-outcome.result (now → IsWorking (seen new)) turned c.order_text.ensures command.working
+    if_ordered c.order_text.result order c.command-outcome.result (now → IsWorking g.H.Storage.IsSound (seen new)) turned c.order_text.ensures command.working
     (λ bytes working told clean.
     let mid : Clean g.H.Storage.IsIntact g.H.Storage.IsOpen c.purge.new.self = (command.within.intact clean.0, command.within.opened clean.0 clean.1) in
     let old : Clean g.H.Storage.IsIntact g.H.Storage.IsOpen c.args.host.now = (purge.within.intact mid.0, purge.within.opened mid.0 mid.1) in

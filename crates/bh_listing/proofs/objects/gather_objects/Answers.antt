@@ -1,7 +1,6 @@
-use Rattle.std.proofs.Common.{◌≡◌, ◌≤◌, ◌<◌, ℕ, ap, sym, ◌∙◌, subst, arith, map}
+use Rattle.std.proofs.Common.{◌≤◌, ◌<◌, ℕ, ap, sym, ◌∙◌, subst, arith, map}
 use Rattle.sqlite.specs.Held.{state}
 use Rattle.bh_tables.specs.Typed.{Tables}
-use Rattle.bh_schema.specs.Connections.{IsClean}
 use Rattle.bh_schema.specs.Working.{tables_at}
 use Rattle.bh_objects.proofs.Working.{same_tables}
 use Rattle.bh_pages.specs.Seen.{seen, seen_entry}

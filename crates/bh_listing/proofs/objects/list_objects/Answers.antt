@@ -1,7 +1,7 @@
-use Rattle.std.proofs.Common.{◌≡◌, ap, sym, ◌∙◌}
+use Rattle.std.proofs.Common.{◌∙◌}
 use Rattle.sqlite.specs.Held.{state}
 use Rattle.bh_schema.specs.Working.{tables_at}
-use Rattle.bh_objects.proofs.Working.{same_tables}
+use Rattle.bh_objects.proofs.Working.{same_tables, asked_working, works_on, works_then}
 use Rattle.bh_docs.specs.Pages.{page_view}
 use Rattle.bh_pages.specs.Seen.{token_of}
 use Rattle.bh_listing.specs.Told.{asked_view}
@@ -20,3 +20,14 @@ returns-clause-carries g c clean =
     (tables_at middle) c.as_str.result.now c.as_str-2.result.now c.as_str-3.result.now one.1 c.as_str.ensures.value c.as_str-2.ensures.value c.as_str-3.ensures.value c.in_ok-entries.entries.items c.deref.result.now c.deref.ensures.value
     (c.in_ok-entries.ensures.gathered clean) (page_view c.in_ok-told_objects.field-0) c.in_ok-told_objects.ensures)
     (same_tables middle new (c.in_ok-entries.ensures.same clean.intact) ∙ one.1)
+
+pub gather_objects-requires : goal.gather_objects-requires
+gather_objects-requires g c = record { working = λ clean. (c.in_ok-bucket_state.ensures.working clean (λ bytes. bytes)).is }
+
+pub returns-clause-working : goal.returns-clause-working
+returns-clause-working g c clean =
+    let old = state g.S.Store c.args.connection.now in
+    let middle = state g.S.Store c.bucket_state.new.connection in
+    let new = state g.S.Store c.gather_objects.new.connection in
+    works_then old middle new (c.in_ok-bucket_state.ensures.working (c.in_ok-entries.ensures.within.follows.clean clean))
+    (asked_working middle new (λ up. works_on old middle (c.in_ok-bucket_state.ensures.working up)) c.in_ok-entries.ensures.within c.in_ok-entries.ensures.same clean)

@@ -1,4 +1,4 @@
-use Rattle.std.proofs.Common.{◌≡◌, ap, sym, ◌∙◌, option_map, Some}
+use Rattle.std.proofs.Common.{ap, sym, ◌∙◌, option_map, Some}
 use Rattle.bh_model.specs.Pages.{ObjectItem, name_of}
 use Rattle.bh_pages.specs.Seen.{seen_entry}
 use Rattle.bh_listing.proofs.Telling.{next_shown, not_zero}

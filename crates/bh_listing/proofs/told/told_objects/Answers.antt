@@ -1,4 +1,4 @@
-use Rattle.std.proofs.Common.{◌≡◌, ap, sym, ◌∙◌, flat_map, map}
+use Rattle.std.proofs.Common.{ap, ◌∙◌, flat_map}
 use Rattle.bh_model.specs.Pages.{common_in, single_in}
 use Rattle.bh_listing.proofs.Telling.{told_is, shown_taken}
 use Rattle.bh_listing.proofs.told.told_objects.Goals as goal

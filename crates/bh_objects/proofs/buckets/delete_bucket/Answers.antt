@@ -12,6 +12,7 @@ use Rattle.bh_storage.specs.Calls.{GivesStep}
 use Rattle.bh_schema.specs.Working.{tables_at}
 use Rattle.bh_schema.proofs.Storing.{on_ok}
 use Rattle.bh_objects.specs.Buckets.{emptiness}
+use Rattle.bh_objects.proofs.Working.{still_buckets, works_then, unless_then}
 use Rattle.bh_objects.proofs.BucketSteps.{deletes, full_refused}
 use Rattle.bh_objects.proofs.buckets.delete_bucket.Given as given
 use Rattle.bh_objects.proofs.buckets.delete_bucket.Goals as goal
@@ -34,7 +35,13 @@ done g c clean =
     (is ∙ ap (λ (x : Tables). record x { buckets = delete_where (is_bucket t b) x.buckets }) (two.1 ∙ one.1))
 
 pub returns-clause-working : goal.returns-clause-working
-returns-clause-working g c clean = record { is = record { inside = (on_ok _ c.in_ok-or_trouble.ensures.ok c.delete_bucket.ensures.holds clean).within; sound = (done g c clean).1 }; limits = (done g c clean).2 }
+returns-clause-working g c clean =
+    let old = state g.S.Store c.args.connection.now in
+    let holds = on_ok _ c.in_ok-or_trouble.ensures.ok c.delete_bucket.ensures.holds clean in
+    let clean_2 = c.delete_bucket.ensures.within.follows.clean clean in
+    let clean_1 = c.in_ok-require_empty.ensures.within.follows.clean clean_2 in
+    let clean_old = c.in_ok-bucket_state.ensures.within.follows.clean clean_1 in
+    still_buckets old (state g.S.Store c.require_empty.new.connection) (state g.S.Store c.delete_bucket.new.connection) _ ((c.in_ok-require_empty.ensures.decides clean_2).1 ∙ (c.in_ok-bucket_state.ensures.decides clean_1).1) (c.requires.working clean_old) holds.within holds.is (done g c clean).1 (done g c clean).2
 
 pub returns-clause-carries : goal.returns-clause-carries
 returns-clause-carries g c clean = (done g c clean).0
@@ -47,3 +54,16 @@ returns-in_err-require_empty-clause-carries g c clean =
     let one = c.in_ok-bucket_state.ensures.decides clean_first in
     rw (p.1, p.2) (full_refused (tables_at (state g.S.Store c.args.connection.now)) (tables_at (state g.S.Store c.require_empty.new.connection)) c.args.tenant.now c.args.bucket.now _ one.0 (c.requires.working clean_old).sound
     (tables_at (state g.S.Store c.bucket_state.new.connection)) (tables_at (state g.S.Store c.require_empty.new.connection)) c.in_err-require_empty.field-0.0 one.1 (c.in_err-require_empty.ensures.decides clean))
+
+pub require_empty-requires : goal.require_empty-requires
+require_empty-requires g c = record { working = λ clean. (c.in_ok-bucket_state.ensures.working clean (λ bytes. bytes)).is }
+
+pub delete_bucket-requires : goal.delete_bucket-requires
+delete_bucket-requires g c = record { inside = λ clean. (c.in_ok-require_empty.ensures.working clean (λ bytes. bytes)).is.inside }
+
+pub returns-in_err-require_empty-clause-working : goal.returns-in_err-require_empty-clause-working
+returns-in_err-require_empty-clause-working g c =
+    let p = err_from_is_err_and c.from_residual-in_err-require_empty.result c.from_residual-in_err-require_empty.ensures.1 in
+    rw (p.1, p.2) (unless_then _ _ c.in_err-require_empty.field-0.0
+    (λ still clean. works_then (state g.S.Store c.args.connection.now) (state g.S.Store c.bucket_state.new.connection) (state g.S.Store c.require_empty.new.connection) (c.in_ok-bucket_state.ensures.working (c.in_err-require_empty.ensures.within.follows.clean clean)) (still clean))
+    c.in_err-require_empty.ensures.working)

@@ -11,6 +11,7 @@ use Rattle.bh_schema.specs.Layer.{IsStateClean}
 use Rattle.bh_storage.specs.Calls.{GivesStep}
 use Rattle.bh_schema.specs.Working.{tables_at}
 use Rattle.bh_schema.proofs.Storing.{on_ok}
+use Rattle.bh_objects.proofs.Working.{still_buckets}
 use Rattle.bh_objects.proofs.BucketSteps.{sets_versioning}
 use Rattle.bh_objects.proofs.buckets.set_versioning.Given as given
 use Rattle.bh_objects.proofs.buckets.set_versioning.Goals as goal
@@ -30,7 +31,15 @@ done g c clean =
     (is ∙ ap (λ (x : Tables). record x { buckets = update_where (is_bucket t b) (λ r. record r { state = state_number c.args.state }) x.buckets }) one.1)
 
 pub returns-clause-working : goal.returns-clause-working
-returns-clause-working g c clean = record { is = record { inside = (on_ok _ c.in_ok-or_trouble.ensures.ok c.set_state.ensures.holds clean).within; sound = (done g c clean).1 }; limits = (done g c clean).2 }
+returns-clause-working g c clean =
+    let old = state g.S.Store c.args.connection.now in
+    let holds = on_ok _ c.in_ok-or_trouble.ensures.ok c.set_state.ensures.holds clean in
+    let clean_1 = c.set_state.ensures.within.follows.clean clean in
+    let clean_old = c.in_ok-bucket_state.ensures.within.follows.clean clean_1 in
+    still_buckets old (state g.S.Store c.bucket_state.new.connection) (state g.S.Store c.set_state.new.connection) _ ((c.in_ok-bucket_state.ensures.decides clean_1).1) (c.requires.working clean_old) holds.within holds.is (done g c clean).1 (done g c clean).2
 
 pub returns-clause-carries : goal.returns-clause-carries
 returns-clause-carries g c clean = (done g c clean).0
+
+pub set_state-requires : goal.set_state-requires
+set_state-requires g c = record { inside = λ clean. (c.in_ok-bucket_state.ensures.working clean (λ bytes. bytes)).is.inside }

@@ -1,23 +1,28 @@
-use Rattle.std.proofs.Common.{sym, subst}
+use Rattle.std.proofs.Common.{None, false, sym, subst}
 use Rattle.sqlite.specs.Held.{state}
-use Rattle.bh_model.specs.Operations.{Answer, delete_object}
+use Rattle.bh_model.specs.Operations.{Answer, Removed, delete_object}
 use Rattle.bh_types.specs.declared.wanted.Wanted.TheVariants.{Current}
 use Rattle.bh_schema.specs.Working.{tables_at}
 use Rattle.bh_storage.specs.Calls.{GivesStep}
-use Rattle.bh_objects.proofs.Deleting.{deletes_null}
+use Rattle.bh_schema.specs.Layer.{IsStateClean}
+use Rattle.bh_objects.proofs.Working.{host_at, still_working}
+use Rattle.bh_objects.proofs.Deleting.{Deletes, deletes_null}
+use Rattle.bh_objects.proofs.deletes.delete_null.Given as given
 use Rattle.bh_objects.proofs.deletes.delete_null.Goals as goal
+
+done : (g : given.Over) (c : goal.After-nothing_told g) → IsStateClean (state g.S.Store c.drop_null.new.connection)
+    → Deletes c.args.tenant.now c.args.bucket.now c.args.key.now c.args.at Current (Removed None false) (tables_at (state g.S.Store c.args.connection.now)) (tables_at (state g.S.Store c.drop_null.new.connection))
+done g c clean =
+    let old = state g.S.Store c.args.connection.now in
+    let clean_old = c.in_ok-drop_null.ensures.within.follows.clean clean in
+    deletes_null (tables_at old) (tables_at (state g.S.Store c.drop_null.new.connection)) c.args.tenant.now c.args.bucket.now c.args.key.now c.args.at (host_at old (c.requires.working clean_old)) (c.requires.state clean_old) (c.in_ok-drop_null.ensures.holds clean).is
 
 pub returns-clause-working : goal.returns-clause-working
 returns-clause-working g c clean =
-    let clean_old = c.in_ok-drop_entry.ensures.within.follows.clean clean in
-    let holds = c.in_ok-drop_entry.ensures.holds clean in
-    let done = deletes_null (tables_at (state g.S.Store c.args.connection.now)) (tables_at (state g.S.Store c.drop_entry.new.connection)) c.args.tenant.now c.args.bucket.now c.args.key.now c.args.at (c.requires.working clean_old).sound (c.requires.state clean_old) holds.is in
-    record { is = record { inside = holds.within; sound = done.1 }; limits = done.2 }
+    let it = done g c clean in
+    still_working (state g.S.Store c.args.connection.now) (state g.S.Store c.drop_null.new.connection) (c.in_ok-drop_null.ensures.holds clean).within it.0.1 it.1 it.0.2 it.2
 
 pub returns-clause-carries : goal.returns-clause-carries
 returns-clause-carries g c clean =
-    let clean_old = c.in_ok-drop_entry.ensures.within.follows.clean clean in
-    let old = tables_at (state g.S.Store c.args.connection.now) in
-    let new = tables_at (state g.S.Store c.drop_entry.new.connection) in
-    subst (λ (a : Answer). GivesStep c.args.tenant.now (delete_object c.args.at c.args.bucket.now c.args.key.now Current) a old new) (sym c.nothing_told.ensures)
-    (deletes_null old new c.args.tenant.now c.args.bucket.now c.args.key.now c.args.at (c.requires.working clean_old).sound (c.requires.state clean_old) (c.in_ok-drop_entry.ensures.holds clean).is).0
+    subst (λ (a : Answer). GivesStep c.args.tenant.now (delete_object c.args.at c.args.bucket.now c.args.key.now Current) a (tables_at (state g.S.Store c.args.connection.now)) (tables_at (state g.S.Store c.drop_null.new.connection)))
+    (sym c.nothing_told.ensures) (done g c clean).0.0

@@ -3,35 +3,39 @@ use Rattle.sqlite.specs.Held.{state}
 use Rattle.bh_types.specs.Counts.{Counts}
 use Rattle.bh_types.specs.declared.id.VersionId.{VersionId}
 use Rattle.bh_types.specs.declared.wanted.Wanted.TheVariants.{Current}
-use Rattle.bh_model.specs.State.{Content.Marker}
 use Rattle.bh_model.specs.Entries.{new_id}
 use Rattle.bh_model.specs.Operations.{Removed, delete_object}
 use Rattle.bh_schema.specs.Layer.{IsStateClean}
 use Rattle.bh_schema.specs.Working.{tables_at}
 use Rattle.bh_storage.specs.Calls.{GivesStep}
-use Rattle.bh_objects.specs.Found.{with_entry}
-use Rattle.bh_objects.proofs.Deleting.{Steps, marks}
+use Rattle.bh_objects.specs.Writes.{marker_written}
+use Rattle.bh_objects.proofs.Working.{host_at, still_working}
+use Rattle.bh_objects.proofs.Deleting.{Deletes, marks}
 use Rattle.bh_objects.proofs.deletes.make_marker.Given as given
 use Rattle.bh_objects.proofs.deletes.make_marker.Goals as goal
 
 done : (g : given.Over) (c : goal.After-new_id g) → IsStateClean (state g.S.Store c.write_marker.new.connection)
-    → Steps c.args.tenant.now c.args.bucket.now c.args.key.now c.args.at Current (Removed (Some (new_id c.args.mode c.in_ok-numbers.numbers.before.version)) true)
-    (tables_at (state g.S.Store c.args.connection.now)) (tables_at (state g.S.Store c.write_marker.new.connection))
+    → Deletes c.args.tenant.now c.args.bucket.now c.args.key.now c.args.at Current (Removed (Some (new_id c.args.mode c.in_ok-numbers.numbers.before.version)) true) (tables_at (state g.S.Store c.args.connection.now)) (tables_at (state g.S.Store c.write_marker.new.connection))
 done g c clean =
     let clean_middle = c.in_ok-write_marker.ensures.within.follows.clean clean in
     let clean_old = c.in_ok-numbers.ensures.within.follows.clean clean_middle in
     let two = c.in_ok-numbers.ensures.decides clean_middle in
     let before = c.in_ok-numbers.numbers.before in
     let after = c.in_ok-numbers.numbers.after in
-    marks (tables_at (state g.S.Store c.args.connection.now)) (tables_at (state g.S.Store c.write_marker.new.connection)) c.args.tenant.now c.args.bucket.now c.args.key.now c.args.at (c.requires.working clean_old).sound
+    marks (tables_at (state g.S.Store c.args.connection.now)) (tables_at (state g.S.Store c.write_marker.new.connection)) c.args.tenant.now c.args.bucket.now c.args.key.now c.args.at (host_at (state g.S.Store c.args.connection.now) (c.requires.working clean_old))
     c.args.mode before after c.requires.versioned (c.requires.early clean_old) c.in_ok-write_marker.ensures.key (c.requires.state clean_old) two.0
-    ((c.in_ok-write_marker.ensures.holds clean).is ∙ ap (with_entry c.args.mode before after c.args.tenant.now c.args.bucket.now c.args.key.now c.args.at Marker) two.1)
+    ((c.in_ok-write_marker.ensures.holds clean).is ∙ ap (marker_written c.args.mode before after c.args.tenant.now c.args.bucket.now c.args.key.now c.args.at) two.1)
 
 pub returns-clause-working : goal.returns-clause-working
-returns-clause-working g c clean = record { is = record { inside = (c.in_ok-write_marker.ensures.holds clean).within; sound = (done g c clean).1 }; limits = (done g c clean).2 }
+returns-clause-working g c clean =
+    let it = done g c clean in
+    still_working (state g.S.Store c.args.connection.now) (state g.S.Store c.write_marker.new.connection) (c.in_ok-write_marker.ensures.holds clean).within it.0.1 it.1 it.0.2 it.2
 
 pub returns-clause-carries : goal.returns-clause-carries
 returns-clause-carries g c clean =
     let told : c.new_id.result ≡ new_id c.args.mode c.in_ok-numbers.numbers.before.version = c.new_id.ensures ∙ ap (λ (x : Counts). new_id c.args.mode x.version) c.before-2.view_is in
     subst (λ (id : VersionId). GivesStep c.args.tenant.now (delete_object c.args.at c.args.bucket.now c.args.key.now Current) (Removed (Some id) true) (tables_at (state g.S.Store c.args.connection.now)) (tables_at (state g.S.Store c.write_marker.new.connection)))
-    (sym told) (done g c clean).0
+    (sym told) (done g c clean).0.0
+
+pub write_marker-requires : goal.write_marker-requires
+write_marker-requires g c = record { inside = λ clean. (c.in_ok-numbers.ensures.working clean (λ bytes. bytes)).is.inside }

@@ -7,7 +7,7 @@ use Rattle.bh_schema.specs.Views.{head_seen}
 use Rattle.bh_schema.specs.Working.{tables_at}
 use Rattle.bh_storage.specs.Answers.{found_answer}
 use Rattle.bh_storage.specs.Calls.{GivesStep}
-use Rattle.bh_objects.proofs.Working.{same_tables}
+use Rattle.bh_objects.proofs.Working.{same_tables, host_at, asked_working, works_on, works_then, any_unless, unless_then}
 use Rattle.bh_objects.proofs.Getting.{as_object, gets, gets_failed, gets_out_of_range}
 use Rattle.bh_objects.proofs.gets.get_object.Goals as goal
 
@@ -41,5 +41,33 @@ returns-clause-carries g c clean =
     let two = c.in_ok-head.ensures.decides clean_last in
     subst (λ (a : Answer). GivesStep c.args.tenant.now (get_object c.args.bucket.now c.args.key.now c.args.wanted (option_copied c.args.range)) (as_object c.in_ok-plan.plan c.in_ok-bytes.bytes.items a) old new) (sym c.told_head.ensures)
     (gets old middle c.args.tenant.now c.args.bucket.now c.args.key.now (c.requires (c.in_ok-mode.ensures.within.follows.clean clean_first)).sound c.in_ok-mode.mode one.0 c.args.wanted one.1 last two.1 (option_copied c.args.range) (head_seen c.in_ok-head.head) two.0
-    new c.in_ok-plan.plan c.in_ok-bytes.bytes.items (sym c.in_ok-plan.ensures) (c.in_ok-bytes.ensures.found clean)
+    (host_at (state g.S.Store c.args.connection.now) (c.requires (c.in_ok-mode.ensures.within.follows.clean clean_first))).resolved
+    new c.in_ok-plan.plan c.in_ok-bytes.bytes.items (sym c.in_ok-plan.ensures) (c.in_ok-bytes.ensures.read clean (c.in_ok-head.ensures.working clean_last (λ bytes. bytes)).is.bodies)
     (same_tables (state g.S.Store c.wanted_head.new.connection) (state g.S.Store c.planned_bytes.new.connection) (c.in_ok-bytes.ensures.same clean.intact)))
+
+pub wanted_head-requires : goal.wanted_head-requires
+wanted_head-requires g c clean = (c.in_ok-mode.ensures.working clean (λ bytes. bytes)).is
+
+pub returns-in_err-head-clause-working : goal.returns-in_err-head-clause-working
+returns-in_err-head-clause-working g c =
+    let p = err_from_is_err_and c.from_residual-in_err-head.result c.from_residual-in_err-head.ensures.1 in
+    rw (p.1, p.2) (unless_then _ _ c.in_err-head.field-0.0
+    (λ still clean. works_then (state g.S.Store c.args.connection.now) (state g.S.Store c.bucket_state.new.connection) (state g.S.Store c.wanted_head.new.connection) (c.in_ok-mode.ensures.working (c.in_err-head.ensures.within.follows.clean clean)) (still clean)) c.in_err-head.ensures.working)
+
+pub returns-in_err-plan-clause-working : goal.returns-in_err-plan-clause-working
+returns-in_err-plan-clause-working g c = any_unless c.from_residual-in_err-plan.result _
+    (λ clean. works_then (state g.S.Store c.args.connection.now) (state g.S.Store c.bucket_state.new.connection) (state g.S.Store c.wanted_head.new.connection) (c.in_ok-mode.ensures.working (c.in_ok-head.ensures.within.follows.clean clean)) (c.in_ok-head.ensures.working clean))
+
+pub planned_bytes-requires : goal.planned_bytes-requires
+planned_bytes-requires g c clean = (c.in_ok-head.ensures.working clean (λ bytes. bytes)).is.inside
+
+pub returns-clause-working : goal.returns-clause-working
+returns-clause-working g c clean =
+    let first = (state g.S.Store c.args.connection.now) in
+    let middle = (state g.S.Store c.bucket_state.new.connection) in
+    let last = (state g.S.Store c.wanted_head.new.connection) in
+    let new = (state g.S.Store c.planned_bytes.new.connection) in
+    let clean_last = c.in_ok-bytes.ensures.within.follows.clean clean in
+    let clean_first = c.in_ok-head.ensures.within.follows.clean clean_last in
+    works_then first middle new (c.in_ok-mode.ensures.working clean_first) (works_then middle last new (c.in_ok-head.ensures.working clean_last)
+    (asked_working last new (λ up. works_on middle last (c.in_ok-head.ensures.working up)) c.in_ok-bytes.ensures.within c.in_ok-bytes.ensures.same clean))

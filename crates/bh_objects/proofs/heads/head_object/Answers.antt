@@ -6,6 +6,7 @@ use Rattle.bh_schema.specs.Working.{tables_at}
 use Rattle.bh_storage.specs.Answers.{head_answer}
 use Rattle.bh_storage.specs.Calls.{GivesStep}
 use Rattle.bh_objects.proofs.Getting.{heads, heads_failed}
+use Rattle.bh_objects.proofs.Working.{works_then, unless_then}
 use Rattle.bh_objects.proofs.heads.head_object.Goals as goal
 
 pub returns-in-Ok-clause-carries : goal.returns-in-Ok-clause-carries
@@ -25,3 +26,14 @@ returns-in-Err-clause-carries g c clean =
     let one = c.in_ok-mode.ensures.decides clean_first in
     heads_failed (tables_at (state g.S.Store c.args.connection.now)) (tables_at (state g.S.Store c.bucket_state.new.connection)) c.args.tenant.now c.args.bucket.now c.args.key.now
     (c.requires (c.in_ok-mode.ensures.within.follows.clean clean_first)).sound c.in_ok-mode.mode one.0 c.args.wanted one.1 head_seen head_answer (tables_at (state g.S.Store c.wanted_head.new.connection)) c.in-Err.error (c.in-Err.ensures.decides clean)
+
+pub wanted_head-requires : goal.wanted_head-requires
+wanted_head-requires g c clean = (c.in_ok-mode.ensures.working clean (λ bytes. bytes)).is
+
+pub returns-in-Ok-clause-working : goal.returns-in-Ok-clause-working
+returns-in-Ok-clause-working g c clean =
+    works_then (state g.S.Store c.args.connection.now) (state g.S.Store c.bucket_state.new.connection) (state g.S.Store c.wanted_head.new.connection) (c.in_ok-mode.ensures.working (c.in-Ok.ensures.within.follows.clean clean)) (c.in-Ok.ensures.working clean)
+
+pub returns-in-Err-clause-working : goal.returns-in-Err-clause-working
+returns-in-Err-clause-working g c = unless_then _ _ c.in-Err.error
+    (λ still clean. works_then (state g.S.Store c.args.connection.now) (state g.S.Store c.bucket_state.new.connection) (state g.S.Store c.wanted_head.new.connection) (c.in_ok-mode.ensures.working (c.in-Err.ensures.within.follows.clean clean)) (still clean)) c.in-Err.ensures.working

@@ -1,30 +1,31 @@
 use Rattle.std.proofs.Common.{◌≡◌, sym, ap, ◌∙◌}
+use Rattle.std.proofs.lemmas.Result.{err_from_is_err_and}
 use Rattle.std.specs.Option.{option_copied}
 use Rattle.std.specs.String.{string_bytes}
 use Rattle.sqlite.specs.Held.{state}
 use Rattle.bh_types.specs.Counts.{Counts}
-use Rattle.bh_types.specs.Checksums.{checksum_text}
-use Rattle.bh_model.specs.State.{Content.Body}
 use Rattle.bh_model.specs.Entries.{new_id}
-use Rattle.bh_model.specs.Operations.{Stored, id_told, put_object}
+use Rattle.bh_model.specs.Operations.{id_told}
 use Rattle.bh_tables.specs.Typed.{Tables}
-use Rattle.bh_view.specs.Sound.{IsSound}
-use Rattle.bh_view.specs.View.{view, limits_in}
+use Rattle.bh_view.specs.View.{view}
 use Rattle.bh_schema.specs.Layer.{IsStateClean}
-use Rattle.bh_storage.specs.Calls.{GivesStep}
 use Rattle.bh_schema.specs.Working.{tables_at}
-use Rattle.bh_objects.specs.Found.{numbers_in, with_entry}
-use Rattle.bh_objects.proofs.Putting.{puts, sum_right}
+use Rattle.bh_view.specs.Blocks.{AreDigests}
+use Rattle.bh_view.specs.Bodies.{HasBodies}
+use Rattle.bh_objects.specs.Found.{numbers_in}
+use Rattle.bh_objects.specs.Writes.{object_written}
+use Rattle.bh_objects.proofs.Working.{host_at, works_then, any_unless, unless_then}
+use Rattle.bh_objects.proofs.Putting.{Puts, puts_pieces, sum_right}
 use Rattle.bh_objects.proofs.objects.put_object.Given as given
 use Rattle.bh_objects.proofs.objects.put_object.Goals as goal
 
 done : (g : given.Over) (c : goal.After-told_id g) → IsStateClean (state g.S.Store c.write_object.new.connection)
-    → GivesStep c.args.object.now.tenant.now (put_object c.args.object.now.at c.args.object.now.bucket.now c.args.object.now.key.now c.args.object.now.bytes.now (option_copied c.args.given))
-    (Stored (id_told c.in_ok-mode.mode (new_id c.in_ok-mode.mode c.in_ok-numbers.numbers.before.version)) (checksum_text c.args.object.now.bytes.now))
-    (tables_at (state g.S.Store c.args.connection.now)) (tables_at (state g.S.Store c.write_object.new.connection)) × IsSound (tables_at (state g.S.Store c.write_object.new.connection))
-    × (limits_in (tables_at (state g.S.Store c.write_object.new.connection)) ≡ limits_in (tables_at (state g.S.Store c.args.connection.now)))
+    → Puts c.args.object.now.tenant.now c.args.object.now.bucket.now c.args.object.now.key.now c.args.object.now.at c.args.object.now.bytes.now (option_copied c.args.given) c.in_ok-mode.mode c.in_ok-numbers.numbers.before
+    (tables_at (state g.S.Store c.args.connection.now)) (tables_at (state g.S.Store c.write_object.new.connection))
+    × HasBodies (tables_at (state g.S.Store c.write_object.new.connection)) × AreDigests g.D.Digester.digest_of (tables_at (state g.S.Store c.write_object.new.connection)).blocks
 done g c clean =
-    let old = tables_at (state g.S.Store c.args.connection.now) in
+    let first = state g.S.Store c.args.connection.now in
+    let old = tables_at first in
     let object = c.args.object.now in
     let mode = c.in_ok-mode.mode in
     let before = c.in_ok-numbers.numbers.before in
@@ -34,16 +35,39 @@ done g c clean =
     let clean_old = c.in_ok-mode.ensures.within.follows.clean clean_first in
     let one = c.in_ok-mode.ensures.decides clean_first in
     let two = c.in_ok-numbers.ensures.decides clean_middle in
-    puts old (tables_at (state g.S.Store c.write_object.new.connection)) object.tenant.now object.bucket.now object.key.now object.at object.bytes.now (option_copied c.args.given) after (c.requires.working clean_old).sound (c.requires.early clean_old) c.in_ok-write_object.ensures.key
+    puts_pieces old (tables_at (state g.S.Store c.write_object.new.connection)) object.tenant.now object.bucket.now object.key.now object.at object.bytes.now (option_copied c.args.given) after (host_at first (c.requires.working clean_old)) (c.requires.early clean_old) c.in_ok-write_object.ensures.key
     (sum_right (option_copied c.args.given) object.bytes.now (string_bytes c.in_ok-checksum.checksum) c.in_ok-checksum.ensures.answers)
+    g.D.Digester.digest_of c.args.block_size c.requires.positive (c.requires.digests clean_old)
     mode before one.0 (ap (λ (x : Tables). numbers_in mode (view x object.tenant.now)) (sym one.1) ∙ two.0)
-    ((c.in_ok-write_object.ensures.holds clean).is ∙ ap (with_entry mode before after object.tenant.now object.bucket.now object.key.now object.at (Body object.bytes.now (checksum_text object.bytes.now))) (two.1 ∙ one.1))
+    ((c.in_ok-write_object.ensures.holds clean).is ∙ ap (object_written g.D.Digester.digest_of c.args.block_size mode before after object.tenant.now object.bucket.now object.key.now object.at object.bytes.now) (two.1 ∙ one.1))
 
 pub returns-clause-working : goal.returns-clause-working
-returns-clause-working g c clean = record { is = record { inside = (c.in_ok-write_object.ensures.holds clean).within; sound = (done g c clean).1 }; limits = (done g c clean).2 }
+returns-clause-working g c clean =
+    let it = done g c clean in
+    record { is = record { inside = (c.in_ok-write_object.ensures.holds clean).within; sound = it.0.1; bodies = it.1 }; limits = it.0.2; digests = λ _. it.2 }
 
 pub returns-clause-carries : goal.returns-clause-carries
 returns-clause-carries g c clean =
     let mode = c.in_ok-mode.mode in
     let told : c.told_id.result ≡ id_told mode (new_id mode c.in_ok-numbers.numbers.before.version) = c.told_id.ensures ∙ ap (id_told mode) (c.new_id.ensures ∙ ap (λ (x : Counts). new_id mode x.version) c.before-2.view_is) in
-    rw (told, c.in_ok-checksum.ensures.text) (done g c clean).0
+    rw (told, c.in_ok-checksum.ensures.text) (done g c clean).0.0
+
+pub returns-in_err-mode-clause-working : goal.returns-in_err-mode-clause-working
+returns-in_err-mode-clause-working g c =
+    let p = err_from_is_err_and c.from_residual.result c.from_residual.ensures.1 in
+    rw (p.1, p.2) (unless_then _ _ c.in_err-mode.field-0.0 (λ still clean. still clean g.D.Digester.digest_of) c.in_err-mode.ensures.working)
+
+pub returns-in_err-checksum-clause-working : goal.returns-in_err-checksum-clause-working
+returns-in_err-checksum-clause-working g c = any_unless c.from_residual-in_err-checksum.result _ (λ clean. c.in_ok-mode.ensures.working clean g.D.Digester.digest_of)
+
+pub new_numbers-requires : goal.new_numbers-requires
+new_numbers-requires g c clean = (c.in_ok-mode.ensures.working clean (λ bytes. bytes)).is
+
+pub returns-in_err-numbers-clause-working : goal.returns-in_err-numbers-clause-working
+returns-in_err-numbers-clause-working g c =
+    let p = err_from_is_err_and c.from_residual-in_err-numbers.result c.from_residual-in_err-numbers.ensures.1 in
+    rw (p.1, p.2) (unless_then _ _ c.in_err-numbers.field-0.0
+    (λ still clean. works_then (state g.S.Store c.args.connection.now) (state g.S.Store c.bucket_state.new.connection) (state g.S.Store c.new_numbers.new.connection) (c.in_ok-mode.ensures.working (c.in_err-numbers.ensures.within.follows.clean clean)) (still clean) g.D.Digester.digest_of) c.in_err-numbers.ensures.working)
+
+pub write_object-requires-clause-inside : goal.write_object-requires-clause-inside
+write_object-requires-clause-inside g c clean = (c.in_ok-numbers.ensures.working clean (λ bytes. bytes)).is.inside

@@ -11,7 +11,7 @@ returns-in-Some-clause-rest g c =
     let old = state g.S.Store c.args.connection in
     let mid = state g.S.Store c.find_host-found.new.connection in
     rests old mid (state g.S.Store c.take_back.new.connection) c.in-Ok.ensures.settled c.in-Ok.ensures.kept c.take_back.ensures.follows c.take_back.ensures.back
-    c.in-Some.limits (subst (λ found. IsStateClean mid → IsHost (standing old).now → Reads (tables_in (standing old).now).host found) c.in-Some.is c.in-Ok.ensures.read)
+    c.in-Some.limits (subst (λ found. IsStateClean mid → IsHost (standing old).now → Reads (tables_in (standing old).now).host found) c.in-Some.is c.in-Ok.ensures.read) g.D.Digester.digest_of
 
 pub returns-in-None-clause-refused : goal.returns-in-None-clause-refused
 returns-in-None-clause-refused g c _ =

@@ -6,3 +6,6 @@ pub returns : goal.returns
 returns c =
     let made = c.in_ok-storage.ensures in
     ran_anew (made_first _ _ _ made.made.tables made.limits) (c.in_ok-run.ensures.ran (is_intact c.run.new.host.host.connection))
+
+pub run-requires : goal.run-requires
+run-requires c clean = c.in_ok-storage.ensures.made.rest _

@@ -1,8 +1,10 @@
 use Rattle.std.proofs.Common.{rules, refl}
 use Rattle.std.proofs.lemmas.Result.{IfOk-at_ok}
 use Rattle.sqlite.specs.Held.{state}
+use Rattle.bh_tables.specs.Typed.{tables_in}
+use Rattle.bh_schema.specs.Layer.{standing, Holds}
 use Rattle.bh_schema.specs.Storage.{seen_in}
-use Rattle.bh_schema.proofs.Storing.{on_ok, both, parts, inside_of, holds_seen, keeps, AreBoth, asked_inside, wrote_within, wrote_before, wrote_first}
+use Rattle.bh_schema.proofs.Storing.{on_ok, both, parts, inside_of, keeps, AreBoth, asked_inside, wrote_within, wrote_before, wrote_first}
 use Rattle.bh_schema.proofs.TenantSteps.{works_of, holds_after}
 use Rattle.bh_spent.specs.Raising.{MayRise, Raises}
 use Rattle.bh_spent.proofs.Raising.{with_entry, rises}
@@ -41,11 +43,11 @@ returns g c =
     let before = wrote_before old mid new asked opens wrote in
     let works = λ (clean : AreBoth new). c.requires (wrote_first old mid new asked opens wrote clean) in
     let holds = λ (clean : AreBoth new). on_ok _ c.in_ok-or_trouble.ensures.ok c.set_next_entry.ensures.holds (both clean) in
+    let held : AreBoth new → Holds (with_entry t c.args.entry (tables_in (standing old).now)) (standing new) = λ clean. holds_after old mid new (with_entry t c.args.entry) (on_ok _ c.in_ok-found.ensures.ok c.find_tenant.ensures.same (before clean).0) (holds clean) in
     let raised : AreBoth new → Raises t c.args.entry (seen_in l old).now (seen_in l new).now = λ clean.
-    rises _ old new t c.in_ok-found.found (works clean) (IfOk-at_ok _ c.in_ok-found.ensures.ok c.find_tenant.ensures.found (both (before clean))) c.args.entry may
-    (holds_after old mid new (with_entry t c.args.entry) (on_ok _ c.in_ok-found.ensures.ok c.find_tenant.ensures.same (before clean).0) (holds clean)) in
+    rises _ old new t c.in_ok-found.found (works clean) (IfOk-at_ok _ c.in_ok-found.ensures.ok c.find_tenant.ensures.found (both (before clean))) c.args.entry may (held clean) in
     record {
       within = keeps g.S.Store c.args.host.now _ refl (wrote_within old mid new asked opens wrote);
-      working = λ clean. works_of _ t _ old new (works clean) (holds_seen _ _ new (holds clean)).1 (raised clean);
+      working = λ clean. works_of _ t _ old new (with_entry t c.args.entry) (λ x. refl) (works clean) (held clean) (raised clean);
       raised = raised;
     }

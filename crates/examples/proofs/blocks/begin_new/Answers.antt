@@ -11,7 +11,7 @@ use Rattle.examples.proofs.blocks.begin_new.Goals as goal
 
 new_is_host : (limits : HostLimits) (s : State) → IsNewHost limits s → IsHost (standing s).now
 unfolding seen_in
-new_is_host limits s new = sound_host (standing s).now new.rest.sound
+new_is_host limits s new = sound_host (standing s).now (new.rest (λ bytes. bytes)).sound.sound
 
 pub returns-in-Ok : goal.returns-in-Ok
 returns-in-Ok g c clean =

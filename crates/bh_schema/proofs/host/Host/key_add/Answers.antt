@@ -7,8 +7,10 @@ use Rattle.bh_model.specs.State.{State as Machine}
 use Rattle.bh_model.specs.Operations.{Done, add_key}
 use Rattle.bh_view.specs.View.{view}
 use Rattle.bh_view.specs.Becomes.{Becomes}
+use Rattle.bh_tables.specs.Typed.{Tables, tables_in}
+use Rattle.bh_schema.specs.Layer.{standing, Holds}
 use Rattle.bh_schema.specs.Storage.{seen_in}
-use Rattle.bh_schema.proofs.Storing.{on_ok, both, parts, inside_of, holds_seen, keeps, AreBoth, asked_before, asked_works, asked_inside, asked_same, wrote_within, wrote_opens, wrote_before, wrote_first}
+use Rattle.bh_schema.proofs.Storing.{bodied_still, on_ok, both, parts, inside_of, keeps, AreBoth, asked_before, asked_works, asked_inside, asked_same, wrote_within, wrote_opens, wrote_before, wrote_first}
 use Rattle.bh_schema.proofs.TenantSteps.{gives_of, works_of, holds_after}
 use Rattle.bh_schema.proofs.KeySteps.{known_seen, no_tenant, no_key, a_key, adds_key, adds_to_nobody, adds_again, key_becomes}
 use Rattle.bh_schema.proofs.host.Host.key_add.Goals as goal
@@ -85,14 +87,17 @@ returns g c =
     let works = λ (clean : AreBoth new). c.requires (wrote_first old mid new w opens c.insert_key.ensures.within clean) in
     let known : AreBoth new → (s : Machine) × (view (seen_in c.args.self.now.limits old).now t ≡ Some s) × (get s.keys n ≡ None) = λ clean.
     no_key n _ (sym c.in-NoKey.is ∙ known_seen _ old t n _ (works clean) (IfOk-at_ok _ c.in_ok-or_trouble.ensures.ok c.find_key.ensures.known (both (before clean)))) in
+    let change : Tables → Tables = λ x. record x { keys = x.keys ++ record { tenant = t; name = n; secret = c.args.secret.now } ∷ [] } in
+    let held : AreBoth new → Holds (change (tables_in (standing old).now)) (standing new) = λ clean. holds_after old mid new change (same (before clean).0) (holds (both clean)) in
     let becomes : (clean : AreBoth new) → Becomes t (Some (record (known clean).0 { keys = insert (known clean).0.keys n c.args.secret.now })) (seen_in c.args.self.now.limits old).now (seen_in c.args.self.now.limits new).now = λ clean.
     let it = known clean in
-    key_becomes _ old new t n c.args.secret.now it.0 (works clean) it.1 it.2 words (holds_after old mid new (λ x. record x { keys = x.keys ++ record { tenant = t; name = n; secret = c.args.secret.now } ∷ [] }) (same (before clean).0) (holds (both clean))) in
+    key_becomes _ old new t n c.args.secret.now it.0 (works clean) it.1 it.2 words (held clean) in
     record {
       opens = wrote_opens old mid new w opens c.insert_key.ensures.within (on_ok _ c.in_ok-or_trouble-2.ensures.ok c.insert_key.ensures.opens);
-      working = λ clean. works_of _ t _ old new (works clean) (holds_seen _ _ new (holds (both clean))).1 (becomes clean);
+      working = λ clean. works_of _ t _ old new change (λ x. refl) (works clean) (held clean) (becomes clean);
       within = keeps g.S.Store c.args.self.now _ refl
           (wrote_within old mid new w (on_ok _ c.in_ok-or_trouble.ensures.ok c.find_key.ensures.opens) c.insert_key.ensures.within);
       settings = (refl, c.insert_key.ensures.within.follows.limit ∙ w.follows.limit);
-      carries = λ clean. let it = known clean in gives_of t (add_key t n c.args.secret.now) Done _ (seen_in c.args.self.now.limits old).now (seen_in c.args.self.now.limits new).now (adds_key t n c.args.secret.now _ words it.0 it.1 it.2) (becomes clean);
+      carries = λ clean. let it = known clean in gives_of t (add_key t n c.args.secret.now) Done _ (seen_in c.args.self.now.limits old).now (seen_in c.args.self.now.limits new).now (adds_key t n c.args.secret.now _ words it.0 it.1 it.2) (becomes clean)
+          (bodied_still _ old new change (λ x. refl) (works clean) (held clean));
     }

@@ -9,8 +9,10 @@ use Rattle.bh_model.specs.Operations.{Done, remove_key}
 use Rattle.bh_tables.specs.Shown.{is_key}
 use Rattle.bh_view.specs.View.{view}
 use Rattle.bh_view.specs.Becomes.{Becomes}
+use Rattle.bh_tables.specs.Typed.{Tables, tables_in}
+use Rattle.bh_schema.specs.Layer.{standing, Holds}
 use Rattle.bh_schema.specs.Storage.{seen_in}
-use Rattle.bh_schema.proofs.Storing.{on_ok, both, parts, inside_of, holds_seen, keeps, AreBoth, asked_before, asked_works, asked_inside, asked_same, wrote_within, wrote_opens, wrote_before, wrote_first}
+use Rattle.bh_schema.proofs.Storing.{bodied_still, on_ok, both, parts, inside_of, keeps, AreBoth, asked_before, asked_works, asked_inside, asked_same, wrote_within, wrote_opens, wrote_before, wrote_first}
 use Rattle.bh_schema.proofs.TenantSteps.{gives_of, works_of, holds_after}
 use Rattle.bh_schema.proofs.KeySteps.{known_seen, no_tenant, no_key, a_key, removes_key, removes_from_nobody, removes_none, key_goes}
 use Rattle.bh_schema.proofs.host.Host.key_remove.Goals as goal
@@ -87,14 +89,17 @@ returns g c =
     let works = λ (clean : AreBoth new). c.requires (wrote_first old mid new w opens c.delete_key.ensures.within clean) in
     let known : AreBoth new → (s : Machine) × (view (seen_in c.args.self.now.limits old).now t ≡ Some s) × (is_some (get s.keys n) ≡ true) = λ clean.
     a_key n _ (sym c.in-Key.is ∙ known_seen _ old t n _ (works clean) (IfOk-at_ok _ c.in_ok-or_trouble.ensures.ok c.find_key.ensures.known (both (before clean)))) in
+    let change : Tables → Tables = λ x. record x { keys = delete_where (is_key t n) x.keys } in
+    let held : AreBoth new → Holds (change (tables_in (standing old).now)) (standing new) = λ clean. holds_after old mid new change (same (before clean).0) (holds (both clean)) in
     let becomes : (clean : AreBoth new) → Becomes t (Some (record (known clean).0 { keys = remove (known clean).0.keys n })) (seen_in c.args.self.now.limits old).now (seen_in c.args.self.now.limits new).now = λ clean.
     let it = known clean in
-    key_goes _ old new t n it.0 (works clean) it.1 (holds_after old mid new (λ x. record x { keys = delete_where (is_key t n) x.keys }) (same (before clean).0) (holds (both clean))) in
+    key_goes _ old new t n it.0 (works clean) it.1 (held clean) in
     record {
       opens = wrote_opens old mid new w opens c.delete_key.ensures.within (on_ok _ c.in_ok-or_trouble-2.ensures.ok c.delete_key.ensures.opens);
-      working = λ clean. works_of _ t _ old new (works clean) (holds_seen _ _ new (holds (both clean))).1 (becomes clean);
+      working = λ clean. works_of _ t _ old new change (λ x. refl) (works clean) (held clean) (becomes clean);
       within = keeps g.S.Store c.args.self.now _ refl
           (wrote_within old mid new w (on_ok _ c.in_ok-or_trouble.ensures.ok c.find_key.ensures.opens) c.delete_key.ensures.within);
       settings = (refl, c.delete_key.ensures.within.follows.limit ∙ w.follows.limit);
-      carries = λ clean. let it = known clean in gives_of t (remove_key t n) Done _ (seen_in c.args.self.now.limits old).now (seen_in c.args.self.now.limits new).now (removes_key t n _ words it.0 it.1 it.2) (becomes clean);
+      carries = λ clean. let it = known clean in gives_of t (remove_key t n) Done _ (seen_in c.args.self.now.limits old).now (seen_in c.args.self.now.limits new).now (removes_key t n _ words it.0 it.1 it.2) (becomes clean)
+          (bodied_still _ old new change (λ x. refl) (works clean) (held clean));
     }

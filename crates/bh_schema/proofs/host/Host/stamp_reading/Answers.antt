@@ -4,8 +4,10 @@ use Rattle.bh_view.specs.View.{with_latest}
 use Rattle.bh_view.specs.Becomes.{IsStamped}
 use Rattle.bh_storage.specs.Calls.{Stamps}
 use Rattle.bh_schema.specs.Rows.{with_stamp}
+use Rattle.bh_tables.specs.Typed.{Tables, tables_in}
+use Rattle.bh_schema.specs.Layer.{standing, Holds}
 use Rattle.bh_schema.specs.Storage.{seen_in}
-use Rattle.bh_schema.proofs.Storing.{on_ok, both, seen_same, holds_seen, same_limits, keeps, asked_works, asked_inside, asked_before, AreBoth, wrote_within, wrote_opens, wrote_before, wrote_first}
+use Rattle.bh_schema.proofs.Storing.{on_ok, both, seen_same, holds_seen, same_limits, sound_still, bodied_still, keeps, asked_works, asked_inside, asked_before, AreBoth, wrote_within, wrote_opens, wrote_before, wrote_first}
 use Rattle.bh_schema.proofs.TenantSteps.{holds_after}
 use Rattle.bh_schema.proofs.Stamping.{stamp_kept, stamp_written, stamps_of}
 use Rattle.bh_schema.proofs.host.Host.stamp_reading.Goals as goal
@@ -50,13 +52,14 @@ returns-in-Some g c =
     let before = wrote_before old mid new h.within h.opens w in
     let works = λ (clean : AreBoth new). c.requires.working (wrote_first old mid new h.within h.opens w clean) in
     let holds = λ (clean : AreBoth new). on_ok _ c.in_ok-or_trouble.ensures.ok c.set_latest.ensures.holds (both clean) in
+    let change : Tables → Tables = λ x. record x { host = map (with_stamp c.args.reading) x.host } in
+    let held : AreBoth new → Holds (change (tables_in (standing old).now)) (standing new) = λ clean. holds_after old mid new change (h.same (before clean).0) (holds clean) in
     let written : AreBoth new → IsStamped c.args.reading (seen_in l old).now (seen_in l new).now × ((seen_in l new).now ≡ with_latest c.args.reading (seen_in l old).now) = λ clean.
-    stamp_written _ old new c.args.reading c.in_ok-latest.latest (works clean) (h.latest (before clean)) high c.requires.in_range
-    (holds_after old mid new (λ x. record x { host = map (with_stamp c.args.reading) x.host }) (h.same (before clean).0) (holds clean)) in
+    stamp_written _ old new c.args.reading c.in_ok-latest.latest (works clean) (h.latest (before clean)) high c.requires.in_range (held clean) in
     rw h.settings (record {
       within = keeps g.S.Store c.args.self.now _ refl (wrote_within old mid new h.within h.opens w);
       opens = wrote_opens old mid new h.within h.opens w (on_ok _ c.in_ok-or_trouble.ensures.ok c.set_latest.ensures.opens);
-      working = λ clean. record { inside = (holds_seen _ _ new (holds clean)).1; sound = (written clean).0.sound; limits = (written clean).0.limits ∙ (works clean).limits ∙ same_limits l new old };
+      working = λ clean. record { inside = (holds_seen _ _ new (holds clean)).1; sound = sound_still (seen_in l old).now (seen_in l new).now (works clean).sound (written clean).0.sound (bodied_still l old new change (λ x. refl) (works clean) (held clean)); limits = (written clean).0.limits ∙ (works clean).limits ∙ same_limits l new old };
       stamps = λ clean. subst (λ m. Stamps c.args.reading m (seen_in l old).now (seen_in l new).now) (sym same_read)
           (stamps_of (seen_in l old).now (seen_in l new).now c.args.reading c.in_ok-latest.latest (h.latest (before clean)) high c.requires.in_range (written clean).1 (written clean).0);
       unwritten = λ clean is. absurd (omega (arith, high, h.latest (before clean), is, same_read));

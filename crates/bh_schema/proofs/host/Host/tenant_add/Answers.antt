@@ -7,9 +7,11 @@ use Rattle.std.proofs.lemmas.Bool.{leb-true}
 use Rattle.bh_model.specs.State.{new_tenant}
 use Rattle.bh_view.specs.Becomes.{Becomes}
 use Rattle.bh_view.specs.View.{view}
+use Rattle.bh_tables.specs.Typed.{Tables, tables_in}
+use Rattle.bh_schema.specs.Layer.{standing, Holds}
 use Rattle.bh_schema.specs.Storage.{seen_in}
 use Rattle.bh_schema.specs.Rows.{tenant_numbers}
-use Rattle.bh_schema.proofs.Storing.{on_ok, both, parts, inside_of, holds_seen, keeps, AreBoth, asked_before, asked_works, asked_inside, asked_same, wrote_within, wrote_opens, wrote_before, wrote_first}
+use Rattle.bh_schema.proofs.Storing.{bodied_still, on_ok, both, parts, inside_of, keeps, AreBoth, asked_before, asked_works, asked_inside, asked_same, wrote_within, wrote_opens, wrote_before, wrote_first}
 use Rattle.bh_schema.proofs.TenantSteps.{none_of, tenant_seen, adds_tenant, tenant_exists, gives_of, works_of, tenant_becomes, holds_after}
 use Rattle.bh_schema.proofs.host.Host.tenant_add.Goals as goal
 
@@ -68,14 +70,15 @@ returns g c =
     let holds = λ (clean : AreBoth new). on_ok _ c.in_ok-or_trouble.ensures.ok c.insert_tenant.ensures.holds (both clean) in
     let none : AreBoth new → view (seen_in l old).now t ≡ None = λ clean.
     none_of _ (tenant_seen _ old t tenant_numbers c.in_ok-found.found (works clean) (IfOk-at_ok _ c.in_ok-found.ensures.ok c.find_tenant.ensures.found (both (before clean))) ∙ away) in
+    let change : Tables → Tables = λ x. record x { tenants = x.tenants ++ record { tenant = t; quota = c.args.quota; next_version = 1; next_upload = 1; next_entry = 1 } ∷ [] } in
+    let held : AreBoth new → Holds (change (tables_in (standing old).now)) (standing new) = λ clean. holds_after old mid new change (on_ok _ c.in_ok-found.ensures.ok c.find_tenant.ensures.same (before clean).0) (holds clean) in
     let becomes : AreBoth new → Becomes t (Some (new_tenant c.args.quota)) (seen_in l old).now (seen_in l new).now = λ clean.
-    tenant_becomes _ old new t c.args.quota (works clean) (none clean) name (leb-true _ _ few)
-    (holds_after old mid new (λ x. record x { tenants = x.tenants ++ record { tenant = t; quota = c.args.quota; next_version = 1; next_upload = 1; next_entry = 1 } ∷ [] })
-    (on_ok _ c.in_ok-found.ensures.ok c.find_tenant.ensures.same (before clean).0) (holds clean)) in
+    tenant_becomes _ old new t c.args.quota (works clean) (none clean) name (leb-true _ _ few) (held clean) in
     record {
       within = keeps g.S.Store c.args.self.now _ refl (wrote_within old mid new asked opens wrote);
       opens = wrote_opens old mid new asked opens wrote (on_ok _ c.in_ok-or_trouble.ensures.ok c.insert_tenant.ensures.opens);
-      working = λ clean. works_of _ t _ old new (works clean) (holds_seen _ _ new (holds clean)).1 (becomes clean);
+      working = λ clean. works_of _ t _ old new change (λ x. refl) (works clean) (held clean) (becomes clean);
       settings = (refl, wrote.follows.limit ∙ asked.follows.limit);
-      carries = λ clean. gives_of t (add_tenant t c.args.quota) Done _ (seen_in l old).now (seen_in l new).now (adds_tenant t c.args.quota _ name few (none clean)) (becomes clean);
+      carries = λ clean. gives_of t (add_tenant t c.args.quota) Done _ (seen_in l old).now (seen_in l new).now (adds_tenant t c.args.quota _ name few (none clean)) (becomes clean)
+          (bodied_still _ old new change (λ x. refl) (works clean) (held clean));
     }

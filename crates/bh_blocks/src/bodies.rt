@@ -1,0 +1,229 @@
+//! Bodies as lists of references to blocks: stored, copied, joined, and dropped.
+
+ghost use Rattle.std.specs.Prelude.{◌≡◌, ◌<◌, ◌≤◌, ◌^◌, ◌++◌, ◌∷◌, [], List, map, flat_map, take, drop, IfOk, IfErr, OnOk};
+ghost use Rattle.bh_tables.specs.Schema.{Octets};
+ghost use Rattle.bh_tables.specs.Typed.{RefRow};
+ghost use Rattle.bh_tables.specs.Bodies.{placed};
+ghost use Rattle.bh_tables.specs.Shown.{shown_ref};
+ghost use Rattle.bh_view.specs.Blocks.{AreDigests};
+ghost use Rattle.bh_view.specs.Bodies.{pieces, body_stored, body_again, body_copied, bodies_joined, body_dropped, AddsBody};
+ghost use Rattle.bh_schema.specs.Connections.{IsClean, tables, InTransaction, StaysWithin, StaysOpen, ChangesNothing, Becomes, IsTrouble};
+ghost use Rattle.bh_blocks.specs.Named.{body_at};
+ghost use Rattle.bh_blocks.specs.Added.{IsNewBody, bytes_in};
+
+use crate::blocks::store_block;
+use crate::refs::{Place, delete_refs, insert_ref, read_ref, ref_rows};
+use crate::rows::in_range;
+use bh_schema::host::Digester;
+use sqlite::{Alter, Connection, Error, Row};
+use std::alloc::Global;
+
+/// The first bytes, at most as many as this, and the others.
+fn cut_off(bytes: &[u8], size: u64) -> (&[u8], &[u8])
+    ensures front { result.0.now ≡ take size bytes.now }
+    ensures back { result.1.now ≡ drop size bytes.now }
+{
+    let count = size.min(bytes.len() as u64) as usize;
+    (&bytes[..count], &bytes[count..])
+}
+
+/// Stores one piece of a body at its place.
+fn store_piece<S: Alter, D: Digester>(
+    connection: &mut Connection<S>,
+    digester: &D,
+    at: &Place<'_>,
+    bytes: &[u8],
+) -> Result<(), Error>
+    requires inside { InTransaction S.Store connection.old }
+    requires body { at.now.body < 2 ^ 63 }
+    requires place { at.now.place < 2 ^ 63 }
+    ensures within { StaysWithin S.Store connection.old connection.new }
+    ensures opens { OnOk result (StaysOpen S.Store connection.old connection.new) }
+    ensures stored { OnOk result (Becomes S.Store connection.old connection.new
+        (body_stored D.digest_of (body_at at.now) at.now.place (bytes.now ∷ []))) }
+{
+    let name = store_block(connection, digester, bytes)?;
+    insert_ref(connection, at, &name.digest, name.ord, bytes.len() as u64)?;
+    Ok(())
+}
+
+/// Stores a body, cut into blocks of a size.
+///
+/// No reference of a body of this name is to be there yet. After an error the transaction is to be taken back.
+pub fn store_body<S: Alter, D: Digester>(
+    connection: &mut Connection<S>,
+    digester: &D,
+    block_size: u64,
+    tenant: &str,
+    body: u64,
+    bytes: &[u8],
+) -> Result<(), Error>
+    requires inside { InTransaction S.Store connection.old }
+    requires size { 1 ≤ block_size }
+    requires small { body < 2 ^ 63 }
+    ensures within { StaysWithin S.Store connection.old connection.new }
+    ensures opens { OnOk result (StaysOpen S.Store connection.old connection.new) }
+    ensures stored { OnOk result (Becomes S.Store connection.old connection.new
+        (body_stored D.digest_of (tenant.now, body) 0 (pieces block_size bytes.now))) }
+    ensures adds { OnOk result (IsClean S.Store connection.new → AreDigests D.digest_of (tables S.Store connection.old).blocks
+        → IsNewBody (tenant.now, body) (tables S.Store connection.old)
+        → AddsBody D.digest_of (tenant.now, body) bytes.now (tables S.Store connection.old) (tables S.Store connection.new)) }
+{
+    let mut rest = bytes;
+    let mut place: u64 = 0;
+    'pieces: while !rest.is_empty() {
+        let (piece, more) = cut_off(rest, block_size);
+        let at = Place {
+            tenant,
+            body,
+            place,
+        };
+        store_piece(connection, digester, &at, piece)?;
+        place += 1;
+        rest = more;
+    }
+    Ok(())
+}
+
+/// Refers to the block that a row of references names once more.
+fn refer_again<S: Alter>(
+    connection: &mut Connection<S>,
+    at: &Place<'_>,
+    row: &Row,
+) -> Result<(), Error>
+    requires inside { InTransaction S.Store connection.old }
+    requires body { at.now.body < 2 ^ 63 }
+    requires place { at.now.place < 2 ^ 63 }
+    ensures within { StaysWithin S.Store connection.old connection.new }
+    ensures opens { OnOk result (StaysOpen S.Store connection.old connection.new) }
+    ensures inside { OnOk result (InTransaction S.Store connection.new) }
+    ensures again { OnOk result ((r : RefRow) → row.now ≡ shown_ref r → Becomes S.Store connection.old connection.new
+        (body_again (body_at at.now) at.now.place (r ∷ []))) }
+{
+    let block = read_ref(row)?;
+    insert_ref(connection, at, &block.digest, block.ord, block.size)?;
+    Ok(())
+}
+
+/// Gives a body the blocks that rows of references name, in their order.
+fn refer_to_all<S: Alter>(
+    connection: &mut Connection<S>,
+    tenant: &str,
+    body: u64,
+    rows: &[Row],
+) -> Result<(), Error>
+    requires inside { InTransaction S.Store connection.old }
+    requires small { body < 2 ^ 63 }
+    ensures within { StaysWithin S.Store connection.old connection.new }
+    ensures opens { OnOk result (StaysOpen S.Store connection.old connection.new) }
+    ensures again { OnOk result ((rs : List RefRow) → rows.now ≡ map shown_ref rs
+        → Becomes S.Store connection.old connection.new (body_again (tenant.now, body) 0 rs)) }
+{
+    let mut place: u64 = 0;
+    for row in rows {
+        let at = Place {
+            tenant,
+            body,
+            place,
+        };
+        refer_again(connection, &at, row)?;
+        place += 1;
+    }
+    Ok(())
+}
+
+/// Gives a body the blocks of another one of the tenant. No block is read.
+///
+/// No reference of a body of this name is to be there yet. After an error the transaction is to be taken back.
+pub fn copy_body<S: Alter>(
+    connection: &mut Connection<S>,
+    tenant: &str,
+    source: u64,
+    body: u64,
+) -> Result<(), Error>
+    requires inside { InTransaction S.Store connection.old }
+    requires source { source < 2 ^ 63 }
+    requires small { body < 2 ^ 63 }
+    ensures within { StaysWithin S.Store connection.old connection.new }
+    ensures opens { OnOk result (StaysOpen S.Store connection.old connection.new) }
+    ensures copied { OnOk result (Becomes S.Store connection.old connection.new
+        (body_copied (tenant.now, source) (tenant.now, body))) }
+    ensures adds { (digest : Octets → Octets) → OnOk result (IsClean S.Store connection.new
+        → IsNewBody (tenant.now, body) (tables S.Store connection.old)
+        → AddsBody digest (tenant.now, body) (bytes_in (tables S.Store connection.old) (tenant.now, source))
+        (tables S.Store connection.old) (tables S.Store connection.new)) }
+{
+    let rows = ref_rows(connection, tenant, source)?;
+    refer_to_all(connection, tenant, body, &rows)
+}
+
+fn append_rows(rows: &mut Vec<Row>, mut more: Vec<Row>) -> Result<(), Error>
+    ensures { OnOk result (rows.new.items ≡ rows.old.items ++ more.items) }
+{
+    rows.append(&mut more)?;
+    Ok(())
+}
+
+/// The rows of references of several bodies, one body after the other.
+fn rows_of_all<S: Alter>(
+    connection: &mut Connection<S>,
+    alloc: Global,
+    tenant: &str,
+    bodies: &[u64],
+) -> Result<Vec<Row>, Error>
+    requires inside { InTransaction S.Store connection.old }
+    ensures within { StaysWithin S.Store connection.old connection.new }
+    ensures opens { OnOk result (StaysOpen S.Store connection.old connection.new) }
+    ensures same { OnOk result (ChangesNothing S.Store connection.old connection.new) }
+    ensures rows { IfOk result (λ rows. IsClean S.Store connection.new → rows.items
+        ≡ map shown_ref (flat_map (λ body. placed (tables S.Store connection.old).refs (tenant.now, body)) bodies.now)) }
+{
+    let mut rows = Vec::new(alloc);
+    for body in bodies {
+        let found = ref_rows(connection, tenant, in_range(*body)?)?;
+        append_rows(&mut rows, found)?;
+    }
+    Ok(rows)
+}
+
+/// Gives a body the blocks of other ones of the tenant, one after the other. No block is read.
+///
+/// No reference of a body of this name is to be there yet. After an error the transaction is to be taken back.
+pub fn join_bodies<S: Alter>(
+    connection: &mut Connection<S>,
+    alloc: Global,
+    tenant: &str,
+    sources: &[u64],
+    body: u64,
+) -> Result<(), Error>
+    requires inside { InTransaction S.Store connection.old }
+    requires small { body < 2 ^ 63 }
+    ensures within { StaysWithin S.Store connection.old connection.new }
+    ensures opens { OnOk result (StaysOpen S.Store connection.old connection.new) }
+    ensures joined { OnOk result (Becomes S.Store connection.old connection.new
+        (bodies_joined (map (λ source. (tenant.now, source)) sources.now) (tenant.now, body))) }
+    ensures adds { (digest : Octets → Octets) → OnOk result (IsClean S.Store connection.new
+        → IsNewBody (tenant.now, body) (tables S.Store connection.old)
+        → AddsBody digest (tenant.now, body) (flat_map (λ source. bytes_in (tables S.Store connection.old) (tenant.now, source)) sources.now)
+        (tables S.Store connection.old) (tables S.Store connection.new)) }
+{
+    let rows = rows_of_all(connection, alloc, tenant, sources)?;
+    refer_to_all(connection, tenant, body, &rows)
+}
+
+/// Takes a body away. Its blocks stay.
+pub fn drop_body<S: Alter>(
+    connection: &mut Connection<S>,
+    tenant: &str,
+    body: u64,
+) -> Result<(), Error>
+    requires inside { InTransaction S.Store connection.old }
+    requires small { body < 2 ^ 63 }
+    ensures within { StaysWithin S.Store connection.old connection.new }
+    ensures opens { OnOk result (StaysOpen S.Store connection.old connection.new) }
+    ensures dropped { OnOk result (Becomes S.Store connection.old connection.new (body_dropped (tenant.now, body))) }
+    ensures trouble { IfErr result (IsTrouble S.Store connection.old connection.new) }
+{
+    delete_refs(connection, tenant, body)?;
+    Ok(())
+}

@@ -1,0 +1,128 @@
+//! The SQL texts over references, one call for each, and what is read of their rows.
+
+ghost use Rattle.std.specs.Prelude.{◌≡◌, ◌++◌, ◌∷◌, [], ◌<◌, ◌^◌, true, false, map, filter, IfOk, IfErr, OnOk};
+ghost use Rattle.std.specs.List.{list_any};
+ghost use Rattle.sqlite_keyed.specs.Lists.{delete_where, sort_by};
+ghost use Rattle.bh_rows.specs.Means.{is_trouble};
+ghost use Rattle.bh_tables.specs.Typed.{RefRow, rebodied};
+ghost use Rattle.bh_tables.specs.Shown.{ref_name, is_block, is_of_body, is_at_place, by_place, shown_ref};
+ghost use Rattle.bh_schema.specs.Connections.{IsClean, tables, InTransaction, StaysWithin, WasOpen, StaysOpen, ChangesNothing, Becomes, IsTrouble, IsTroubleIf};
+ghost use Rattle.bh_blocks.specs.Named.{named_by, placed_at};
+
+use crate::rows::in_range;
+use bh_schema::rows::number::number;
+use sqlite::types::ToSql;
+use sqlite::{Alter, Connection, Error, Row};
+
+/// A place of a body.
+#[derive(Drop)]
+pub struct Place<'a> {
+    pub tenant: &'a str,
+    /// An entry number of the tenant.
+    pub body: u64,
+    /// Counted from 0.
+    pub place: u64,
+}
+
+/// What a reference names.
+#[derive(Drop)]
+pub struct BlockRef {
+    pub digest: Vec<u8>,
+    pub ord: u64,
+    /// Bytes, of the block.
+    pub size: u64,
+}
+
+pub fn read_ref(row: &Row) -> Result<BlockRef, Error>
+    ensures name { IfOk result (λ block. (r : RefRow) → row.now ≡ shown_ref r → named_by block ≡ ref_name r) }
+    ensures size { IfOk result (λ block. (r : RefRow) → row.now ≡ shown_ref r → block.size ≡ r.size) }
+    ensures small { IfOk result (λ block. block.ord < 2 ^ 63) }
+    ensures low { IfOk result (λ block. block.size < 2 ^ 63) }
+    ensures trouble { IfErr result (λ e. (r : RefRow) → row.now ≡ shown_ref r → is_trouble e ≡ true) }
+{
+    let ord: u64 = row.get(1)?;
+    let size: u64 = row.get(2)?;
+    Ok(BlockRef {
+        digest: row.get(0)?,
+        ord: in_range(ord)?,
+        size: in_range(size)?,
+    })
+}
+
+pub fn ref_rows<S: Alter>(
+    connection: &mut Connection<S>,
+    tenant: &str,
+    body: u64,
+) -> Result<Vec<Row>, Error>
+    requires inside { InTransaction S.Store connection.old }
+    requires small { body < 2 ^ 63 }
+    ensures within { StaysWithin S.Store connection.old connection.new }
+    ensures opens { OnOk result (WasOpen S.Store connection.old connection.new) }
+    ensures same { OnOk result (ChangesNothing S.Store connection.old connection.new) }
+    ensures rows { IfOk result (λ rows. IsClean S.Store connection.new
+        → rows.items ≡ map shown_ref (sort_by by_place (filter (is_of_body (tenant.now, body)) (tables S.Store connection.old).refs))) }
+    ensures trouble { IfErr result (IsTrouble S.Store connection.old connection.new) }
+{
+    connection.query_all(
+        "SELECT digest, ord, size FROM refs WHERE tenant = ?1 AND body = ?2 ORDER BY place, rowid",
+        &[tenant.to_sql(), number(body)],
+    )
+}
+
+/// Adds a reference.
+pub fn insert_ref<S: Alter>(
+    connection: &mut Connection<S>,
+    at: &Place<'_>,
+    digest: &[u8],
+    ord: u64,
+    size: u64,
+) -> Result<usize, Error>
+    requires inside { InTransaction S.Store connection.old }
+    requires body { at.now.body < 2 ^ 63 }
+    requires place { at.now.place < 2 ^ 63 }
+    requires small { ord < 2 ^ 63 }
+    requires low { size < 2 ^ 63 }
+    ensures within { StaysWithin S.Store connection.old connection.new }
+    ensures opens { OnOk result (StaysOpen S.Store connection.old connection.new) }
+    ensures holds { OnOk result (Becomes S.Store connection.old connection.new
+        (λ rows. rebodied rows (rows.refs ++ placed_at at.now digest.now ord size ∷ []) rows.blocks)) }
+    ensures trouble { IfErr result (IsTroubleIf S.Store connection.old connection.new
+        ((list_any (is_at_place (at.now.tenant.now, at.now.body) at.now.place) (tables S.Store connection.old).refs ≡ false)
+        × (list_any (is_block (digest.now, ord)) (tables S.Store connection.old).blocks ≡ true))) }
+{
+    // Asked for what it ensures: the rows obey the schema.
+    let _schema = connection.schema();
+    connection.execute(
+        "INSERT INTO refs (tenant, body, place, digest, ord, size) VALUES (?1, ?2, ?3, ?4, ?5, ?6)",
+        &[
+            at.tenant.to_sql(),
+            number(at.body),
+            number(at.place),
+            digest.to_sql(),
+            number(ord),
+            number(size),
+        ],
+    )
+}
+
+/// Takes the references of a body away.
+pub fn delete_refs<S: Alter>(
+    connection: &mut Connection<S>,
+    tenant: &str,
+    body: u64,
+) -> Result<usize, Error>
+    requires inside { InTransaction S.Store connection.old }
+    requires small { body < 2 ^ 63 }
+    ensures within { StaysWithin S.Store connection.old connection.new }
+    ensures opens { OnOk result (StaysOpen S.Store connection.old connection.new) }
+    ensures holds { OnOk result (Becomes S.Store connection.old connection.new
+        (λ rows. rebodied rows (delete_where (is_of_body (tenant.now, body)) rows.refs) rows.blocks)) }
+    ensures trouble { IfErr result (IsTrouble S.Store connection.old connection.new) }
+{
+    // Asked for what it ensures: the rows obey the schema.
+    let _schema = connection.schema();
+    connection.execute(
+        "DELETE FROM refs WHERE tenant = ?1 AND body = ?2",
+        &[tenant.to_sql(), number(body)],
+    )
+}

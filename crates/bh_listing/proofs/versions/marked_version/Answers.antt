@@ -1,0 +1,12 @@
+use Rattle.std.proofs.Common.{ap, option_map}
+use Rattle.bh_pages.specs.Seen.{token_of}
+use Rattle.bh_listing.proofs.VersionStarting.{marked_there, marked_away}
+use Rattle.bh_listing.proofs.versions.marked_version.Goals as goal
+
+pub returns-then-starts_with : goal.returns-then-starts_with
+returns-then-starts_with c =
+    marked_there c.args.asked.now.prefix.now (token_of c.args.asked.now) c.args.version c.in-Some.key.now c.in-Named.id c.starts_with.result (ap (option_map (λ b. b.now)) c.in-Some.is) c.in-Named.is c.starts_with.ensures.value c.if-starts_with.true
+
+pub returns-else-starts_with : goal.returns-else-starts_with
+returns-else-starts_with c =
+    marked_away c.args.asked.now.prefix.now (token_of c.args.asked.now) c.args.version c.in-Some.key.now c.in-Named.id c.starts_with.result (ap (option_map (λ b. b.now)) c.in-Some.is) c.in-Named.is c.starts_with.ensures.value c.if-starts_with.false

@@ -1,0 +1,121 @@
+-- What each operation on a multipart upload makes of a tenant's state, and what it answers. The refusals stand in
+-- their order. No quota is asked here; where one is, it is refused in `upload_part` after the checksum.
+use Rattle.std.specs.Prelude.{ℕ, ◌+◌, bytes_eq, Option, Some, None, option_and_then, option_map, List, [], ok_or, Result, Ok, Err, if◌then◌else◌}
+use Rattle.std.specs.FinMap.{empty, get, insert, remove}
+use Rattle.bh_types.specs.Counts.{Counts}
+use Rattle.bh_types.specs.Moments.{abort_moment}
+use Rattle.bh_types.specs.Checksums.{checksum_text}
+use Rattle.bh_types.specs.Outcomes.{◌>>=◌, require}
+use Rattle.bh_types.specs.declared.id.VersionId.{VersionId}
+use Rattle.bh_types.specs.declared.id.UploadId.{UploadId}
+use Rattle.bh_types.specs.declared.refusal.Refusal.{Refusal}
+use Rattle.bh_types.specs.declared.refusal.Refusal.TheVariants.{NoSuchUpload, BadDigest, CounterExhausted}
+use Rattle.bh_model.specs.State.{Octets, Content, Content.Marker, Content.Body, Part, Upload, Bucket, State}
+use Rattle.bh_model.specs.Counting.{counts, with_counts, can_give, after_entry}
+use Rattle.bh_model.specs.Entries.{new_id}
+use Rattle.bh_model.specs.Parts.{Naming, is_checksum, completed}
+use Rattle.bh_model.specs.Operations.{id_told, tenant_bucket, with_bucket, with_content}
+
+-- what is told where nothing is refused. `Begun` tells when the upload will be stale, where its bucket has a rule;
+-- `Completed` tells an id where the bucket is or was versioned
+pub data UploadAnswer : Type 0 where
+  Begun : (upload : UploadId) (abort : Option ℕ) → UploadAnswer
+  PartStored : (checksum : Octets) → UploadAnswer
+  Completed : (id : Option VersionId) (checksum : Octets) → UploadAnswer
+  Aborted : UploadAnswer
+
+abbrev pub UploadOutcome : Type 0
+UploadOutcome = UploadAnswer × Option State
+
+-- ---- counters
+
+-- a new upload takes an upload number, and a new part an entry number
+abbrev pub after_begin : Counts → Result Counts Refusal
+after_begin c = if can_give c.upload then Ok (record c { upload = c.upload + 1 }) else Err CounterExhausted
+
+abbrev pub after_part : Counts → Result Counts Refusal
+after_part c = if can_give c.entry then Ok (record c { entry = c.entry + 1 }) else Err CounterExhausted
+
+-- ---- uploads of a bucket
+
+abbrev pub with_upload : ℕ → Upload → Bucket → Bucket
+with_upload number u b = record b { uploads = insert b.uploads number u }
+
+abbrev pub without_upload : ℕ → Bucket → Bucket
+without_upload number b = record b { uploads = remove b.uploads number }
+
+abbrev pub with_part : ℕ → Part → Upload → Upload
+with_part number p u = record u { parts = insert u.parts number p }
+
+-- an upload of a key of a bucket, with both and its number
+pub record FoundUpload : Type 0 where
+  pub tenant : State
+  pub bucket : Bucket
+  pub number : ℕ
+  pub upload : Upload
+
+abbrev pub of_key : Octets → Upload → Option Upload
+of_key key u = if bytes_eq u.key key then Some u else None
+
+-- an id belongs to the bucket and the key that its upload was begun for
+abbrev pub found_upload : Octets → Option UploadId → State → Bucket → Option FoundUpload
+found_upload key None t b = None
+found_upload key (Some id) t b =
+    option_map (λ u. record { tenant = t; bucket = b; number = id.number; upload = u }) (option_and_then (of_key key) (get b.uploads id.number))
+
+-- where the text that a request gives is no id, no upload has it
+abbrev pub find_upload : Octets → Octets → Option UploadId → Option State → Result FoundUpload Refusal
+find_upload name key upload s = do
+  f ← tenant_bucket name s
+  ok_or (found_upload key upload f.0 f.1) NoSuchUpload
+
+-- ---- operations
+
+abbrev pub new_upload : Octets → ℕ → Upload
+new_upload key begun = record { key = key; begun = begun; parts = empty }
+
+-- Amazon S3 API Reference, CreateMultipartUpload: x-amz-abort-date
+abbrev pub create_upload : ℕ → Octets → Octets → Option State → Result UploadOutcome Refusal
+create_upload moment name key s = do
+  f ← tenant_bucket name s
+  c ← after_begin (counts f.0)
+  Ok (Begun (record { number = f.0.next_upload }) (option_map (abort_moment moment) f.1.days), Some (with_bucket name (with_upload f.0.next_upload (new_upload key moment) f.1) (with_counts c f.0)))
+
+-- the bucket of an upload with one more part in it, in place of one of the same number
+abbrev pub with_stored : FoundUpload → ℕ → Part → Bucket
+with_stored f number p = with_upload f.number (with_part number p f.upload) f.bucket
+
+-- `given` is the checksum that the request says the bytes have, if it says one
+-- Amazon S3 API Reference, UploadPart
+abbrev pub upload_part : ℕ → Octets → Octets → Option UploadId → ℕ → Octets → Option Octets → Option State → Result UploadOutcome Refusal
+upload_part moment name key upload number bytes given s = do
+  f ← find_upload name key upload s
+  _ ← require (is_checksum given bytes) BadDigest
+  c ← after_part (counts f.tenant)
+  Ok (PartStored (checksum_text bytes), Some (with_bucket name (with_stored f number (record { bytes = bytes; moment = moment })) (with_counts c f.tenant)))
+
+abbrev pub content_checksum : Content → Octets
+content_checksum Marker = []
+content_checksum (Body bytes checksum) = checksum
+
+abbrev pub completion : FoundUpload → Content → UploadAnswer
+completion f content = Completed (id_told f.bucket.mode (new_id f.bucket.mode f.tenant.next_version)) (content_checksum content)
+
+-- the bucket with the object as a new version, as a put in the bucket's state then makes it, and without the upload
+abbrev pub with_completed : ℕ → Octets → FoundUpload → Content → Bucket
+with_completed moment key f content = with_content moment key f.tenant.next_version content (without_upload f.number f.bucket)
+
+-- the version has the moment of the completion; `least` is the least size of a part that isn't the last
+-- Amazon S3 API Reference, CompleteMultipartUpload
+abbrev pub complete_upload : ℕ → ℕ → Octets → Octets → Option UploadId → List Naming → Option State → Result UploadOutcome Refusal
+complete_upload moment least name key upload names s = do
+  f ← find_upload name key upload s
+  content ← completed least f.upload.parts names
+  c ← after_entry f.bucket.mode (counts f.tenant)
+  Ok (completion f content, Some (with_bucket name (with_completed moment key f content) (with_counts c f.tenant)))
+
+-- Amazon S3 API Reference, AbortMultipartUpload
+abbrev pub abort_upload : Octets → Octets → Option UploadId → Option State → Result UploadOutcome Refusal
+abort_upload name key upload s = do
+  f ← find_upload name key upload s
+  Ok (Aborted, Some (with_bucket name (without_upload f.number f.bucket) f.tenant))

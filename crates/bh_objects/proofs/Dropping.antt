@@ -1,0 +1,84 @@
+-- An entry that goes with its body, as a change of versions alone.
+use Rattle.std.proofs.Common.{◌≡◌, ℕ, true, false, true≢false, List, [], filter, find, Option, Some, None, refl, sym, ap, ◌∙◌, subst}
+use Rattle.std.specs.List.{AllByRecursion, list_any}
+use Rattle.std.specs.Option.{option_map_or}
+use Rattle.sqlite_keyed.specs.Lists.{delete_where}
+use Rattle.sqlite_keyed.proofs.ListLemmas.{all-filter}
+use Rattle.bh_types.specs.declared.bucket_state.BucketState.{BucketState}
+use Rattle.bh_types.specs.declared.bucket_state.BucketState.TheVariants.{Unversioned, Enabled, Suspended}
+use Rattle.bh_model.specs.State.{Octets}
+use Rattle.bh_tables.specs.Bodies.{Name, same_name, version_name}
+use Rattle.bh_tables.specs.Typed.{VersionRow, Tables}
+use Rattle.bh_tables.specs.Shown.{is_version}
+use Rattle.bh_view.specs.Blocks.{whole}
+use Rattle.bh_view.specs.Bodies.{AreWhole}
+use Rattle.bh_view.specs.Put.{rows_left}
+use Rattle.bh_view.specs.Sound.{IsSound}
+use Rattle.bh_view.proofs.DropLemmas.{AreAt, one_entry, body_drops, dropped_whole}
+use Rattle.bh_view.proofs.FactLemmas.{all_first, none_first}
+use Rattle.bh_view.proofs.FilterLemmas.{first_passes, delete_none}
+use Rattle.bh_view.proofs.FindLemmas.{first_find}
+use Rattle.bh_view.proofs.GroupedLemmas.{is_other}
+use Rattle.bh_view.proofs.NameLemmas.{names}
+use Rattle.bh_view.proofs.SetLemmas.{set_other}
+use Rattle.bh_view.proofs.SharedLemmas.{names_block, named_still}
+use Rattle.bh_view.proofs.WholeLemmas.{refs_dropped}
+use Rattle.bh_objects.specs.Writes.{without_entry, without_null, with_room}
+
+pub name_swap : (a b : Name) → same_name a b ≡ same_name b a
+name_swap a b = elim (same_name a b) as (λ c. same_name a b ≡ c → c ≡ same_name b a) [
+  | true ↦ λ e. sym ((names.decides b a).1 (sym ((names.decides a b).0 e)))
+  | false ↦ λ e. sym (is_other names b a (λ there. true≢false (sym ((names.decides a b).1 (sym there)) ∙ e)))
+] refl
+
+-- ---- what leaves these versions
+
+-- the versions are these and the bodies theirs; bodies of no version before stay, and name the blocks that they named
+pub record Leaves (more : List Name) (versions : List VersionRow) (x y : Tables) : Type 0 where
+  pub is : y ≡ record x { versions = versions; refs = y.refs }
+  pub is_whole : AreWhole more y
+  pub bytes : (body : Name) → AllByRecursion (λ (w : VersionRow). same_name body (version_name w) ≡ false) x.versions → whole y.refs y.blocks body ≡ whole x.refs x.blocks body
+  pub named : (body block : Name) → AllByRecursion (λ (w : VersionRow). same_name body (version_name w) ≡ false) x.versions
+      → list_any (names_block body block) x.refs ≡ true → list_any (names_block body block) y.refs ≡ true
+
+module _ (old : Tables) (sound : IsSound old) (more : List Name) (x : Tables) (is_whole : AreWhole more x) (versions : x.versions ≡ old.versions) (t b k : Octets) where
+  abbrev Gone : ℕ → Tables → Type 0
+  Gone n y = Leaves more (delete_where (is_version t b k n) x.versions) x y
+
+  pub entry_gone : (n : ℕ) (v : VersionRow) → find (is_version t b k n) old.versions ≡ Some v → Gone n (without_entry t b k n v.seq x)
+  entry_gone n v there =
+      let at : Name = (t, v.seq) in
+      let first = first_find (is_version t b k n) old.versions ∙ there in
+      let same = one_entry t b k n old sound v there in
+      let here = subst (AreAt t b k n at) (sym versions) same in
+      let its : same_name (version_name v) at ≡ true = sym (all_first _ (filter (is_version t b k n) old.versions) v first (all-filter _ _ _ same)) ∙ first_passes (is_version t b k n) old.versions v first in
+      let apart : (body : Name) → AllByRecursion (λ (w : VersionRow). same_name body (version_name w) ≡ false) x.versions → same_name body at ≡ false = λ body none.
+      subst (λ q. same_name body q ≡ false) ((names.decides (version_name v) at).0 its)
+      (all_first (λ (w : VersionRow). same_name body (version_name w) ≡ false) (filter (is_version t b k n) old.versions) v first
+      (all-filter _ _ _ (subst (AllByRecursion (λ (w : VersionRow). same_name body (version_name w) ≡ false)) versions none))) in
+      record {
+        is = body_drops t b k n more x at is_whole here;
+        is_whole = dropped_whole t b k n more x at is_whole here;
+        bytes = λ body none. (λ i. refs_dropped x.refs x.blocks at i body) ∙ set_other at (whole x.refs x.blocks) [] body (name_swap at body ∙ apart body none);
+        named = λ body block none. named_still body at block x.refs (apart body none);
+      }
+
+  nothing_gone : (n : ℕ) → find (is_version t b k n) x.versions ≡ None → Gone n x
+  nothing_gone n none = record {
+    is = ap (λ l. record x { versions = l }) (sym (delete_none (is_version t b k n) x.versions (none_first _ (first_find (is_version t b k n) x.versions ∙ none))));
+    is_whole = is_whole;
+    bytes = λ body apart. refl;
+    named = λ body block apart named. named;
+  }
+
+  pub null_gone : Gone 0 (without_null t b k x)
+  null_gone = go (find (is_version t b k 0) x.versions) refl
+    where
+      go : (o : Option VersionRow) → find (is_version t b k 0) x.versions ≡ o → Gone 0 (option_map_or (λ v. without_entry t b k 0 v.seq x) o x)
+      go None none = nothing_gone 0 none
+      go (Some v) there = entry_gone 0 v (ap (find (is_version t b k 0)) (sym versions) ∙ there)
+
+  pub room_made : (mode : BucketState) → Leaves more (rows_left mode t b k x.versions) x (with_room mode t b k x)
+  room_made Unversioned = null_gone
+  room_made Enabled = record { is = refl; is_whole = is_whole; bytes = λ body apart. refl; named = λ body block apart named. named }
+  room_made Suspended = null_gone

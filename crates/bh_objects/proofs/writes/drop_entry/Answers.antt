@@ -1,0 +1,12 @@
+use Rattle.std.proofs.Common.{ap, ◌∙◌}
+use Rattle.bh_schema.proofs.Storing.{on_ok}
+use Rattle.bh_objects.specs.Writes.{without_row}
+use Rattle.bh_objects.proofs.writes.drop_entry.Goals as goal
+
+pub returns-clause-holds : goal.returns-clause-holds
+returns-clause-holds g c clean =
+    let clean_middle = c.delete_version.ensures.within.follows.clean clean in
+    let one = rw c.as_str-tenant.ensures.value at (on_ok _ c.in_ok-or_trouble.ensures.ok c.drop_body.ensures.dropped clean_middle).is in
+    let holds = on_ok _ c.in_ok-or_trouble-2.ensures.ok c.delete_version.ensures.holds clean in
+    let two = rw (c.as_str-tenant.ensures.value, c.as_str-2.ensures.value, c.as_bytes-key.ensures.value, c.as_str.ensures.value) at holds.is in
+    record { within = holds.within; is = two ∙ ap (without_row c.args.tenant.now c.args.bucket.now c.args.key.now c.args.number) one }

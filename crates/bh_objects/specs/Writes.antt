@@ -1,0 +1,55 @@
+-- What a put or a delete writes, one call after another.
+use Rattle.std.specs.Prelude.{ℕ, ◌++◌, [], ◌∷◌, find}
+use Rattle.std.specs.Option.{option_map_or}
+use Rattle.sqlite_keyed.specs.Lists.{update_where, delete_where}
+use Rattle.bh_types.specs.Counts.{Counts}
+use Rattle.bh_types.specs.declared.bucket_state.BucketState.{BucketState}
+use Rattle.bh_types.specs.declared.bucket_state.BucketState.TheVariants.{Unversioned, Enabled, Suspended}
+use Rattle.bh_types.specs.Checksums.{checksum_text}
+use Rattle.bh_model.specs.State.{Octets, Content, Content.Marker, Content.Body}
+use Rattle.bh_tables.specs.Bodies.{resolved, columns_of}
+use Rattle.bh_tables.specs.Typed.{Tables}
+use Rattle.bh_tables.specs.Shown.{is_tenant, is_version}
+use Rattle.bh_view.specs.Bodies.{pieces, body_stored, body_dropped}
+use Rattle.bh_view.specs.Put.{entry_row, row_number, counters_row}
+
+-- the counters have gone on, as a new entry in a bucket of this state has them
+abbrev pub with_counters : BucketState → Counts → Octets → Tables → Tables
+with_counters mode after tenant tables = record tables { tenants = update_where (is_tenant tenant) (counters_row mode after) tables.tenants }
+
+-- the rows without an entry of a key
+abbrev pub without_row : Octets → Octets → Octets → ℕ → Tables → Tables
+without_row tenant bucket key number tables = record tables { versions = delete_where (is_version tenant bucket key number) tables.versions }
+
+-- without its body either, of this entry number
+abbrev pub without_entry : Octets → Octets → Octets → ℕ → ℕ → Tables → Tables
+without_entry tenant bucket key number seq tables = without_row tenant bucket key number (body_dropped (tenant, seq) tables)
+
+-- the same of the entry `null`, if it is there
+abbrev pub without_null : Octets → Octets → Octets → Tables → Tables
+without_null tenant bucket key tables = option_map_or (λ v. without_entry tenant bucket key 0 v.seq tables) (find (is_version tenant bucket key 0) tables.versions) tables
+
+-- room for a new entry of a key
+abbrev pub with_room : BucketState → Octets → Octets → Octets → Tables → Tables
+with_room Unversioned tenant bucket key tables = without_null tenant bucket key tables
+with_room Enabled tenant bucket key tables = tables
+with_room Suspended tenant bucket key tables = without_null tenant bucket key tables
+
+-- its row, which has the bytes of its body
+abbrev pub with_columns : BucketState → Counts → Octets → Octets → Octets → ℕ → Content → Tables → Tables
+with_columns mode before tenant bucket key moment content tables = record tables {
+  versions = tables.versions ++ resolved tables.refs tables.blocks (columns_of (entry_row tenant bucket key before.entry (row_number mode before.version) moment content)) ∷ [];
+}
+
+-- ---- a put
+
+-- an object, whose body is stored before what it replaces goes
+abbrev pub object_written : (Octets → Octets) → ℕ → BucketState → Counts → Counts → Octets → Octets → Octets → ℕ → Octets → Tables → Tables
+object_written digest size mode before after tenant bucket key moment bytes tables =
+    with_columns mode before tenant bucket key moment (Body bytes (checksum_text bytes))
+    (with_room mode tenant bucket key (body_stored digest (tenant, before.entry) 0 (pieces size bytes) (with_counters mode after tenant tables)))
+
+-- a delete marker
+abbrev pub marker_written : BucketState → Counts → Counts → Octets → Octets → Octets → ℕ → Tables → Tables
+marker_written mode before after tenant bucket key moment tables =
+    with_columns mode before tenant bucket key moment Marker (with_room mode tenant bucket key (with_counters mode after tenant tables))

@@ -1,0 +1,178 @@
+ghost use Rattle.std.specs.Prelude.{◌≡◌, ◌≤◌, ◌<◌, ◌^◌, length, IfOk, OnOk};
+ghost use Rattle.bh_model.specs.Operations as machine;
+ghost use Rattle.bh_storage.specs.Answers.{copied_answer};
+ghost use Rattle.bh_storage.specs.Calls.{Unless, Decides, Carries};
+ghost use Rattle.bh_view.specs.Blocks.{whole};
+ghost use Rattle.bh_view.specs.View.{view, latest_of};
+ghost use Rattle.bh_schema.specs.Connections.{IsClean, tables, InTransaction, StaysWithin, StaysOpen, Becomes};
+ghost use Rattle.bh_schema.specs.Views.{head_seen};
+ghost use Rattle.bh_schema.specs.Working.{Works, StillWorks};
+ghost use Rattle.bh_objects.specs.Found.{IsKeyText};
+ghost use Rattle.bh_objects.specs.Copies.{version_read, with_copied, copy_written};
+
+use crate::heads::wanted_head;
+use crate::ids::{row_number, told_id};
+use crate::reads::{Numbers, bucket_state, new_numbers};
+use crate::writes::{make_room, set_counters};
+use bh_blocks::bodies::copy_body;
+use bh_model::entries::new_id;
+use bh_schema::rows;
+use bh_schema::rows::versions::{NewVersion, VersionHead};
+use bh_schema::trouble::or_trouble;
+use bh_storage::answer::CopiedVersion;
+use bh_storage::error::{StepError, Trouble};
+use bh_types::bucket::BucketName;
+use bh_types::bucket_state::BucketState;
+use bh_types::counters::{COUNTER_END, Counters};
+use bh_types::key::ObjectKey;
+use bh_types::moment::Moment;
+use bh_types::names::TenantName;
+use bh_types::refusal::Refusal;
+use bh_types::rejection::Rejection;
+use bh_types::wanted::Wanted;
+use sqlite::{Alter, Connection};
+
+/// A copy within a tenant.
+#[derive(Clone, Copy)]
+pub struct NewCopy<'a> {
+    pub tenant: &'a TenantName,
+    /// Where the copy goes.
+    pub bucket: &'a BucketName,
+    pub key: &'a ObjectKey,
+    /// When it is made.
+    pub at: Moment,
+    /// Where it comes from.
+    pub source_bucket: &'a BucketName,
+    pub source_key: &'a ObjectKey,
+    pub version: Wanted,
+}
+
+/// A delete marker is no source of a copy: where it is named by its id, the request is at fault.
+fn source_refused(rejection: Rejection) -> Refusal
+    ensures { result ≡ machine.source_refusal rejection.refusal }
+{
+    match rejection.refusal {
+        Refusal::MethodNotAllowed => Refusal::InvalidRequest,
+        refusal => refusal,
+    }
+}
+
+/// The version that a copy is made of, without its bytes: NoSuchBucket, NoSuchKey, NoSuchVersion, InvalidRequest.
+fn source_head<S: Alter>(
+    connection: &mut Connection<S>,
+    copy: &NewCopy<'_>,
+) -> Result<VersionHead, StepError<Refusal>>
+    requires { Works S.Store connection.old }
+    ensures within { StaysWithin S.Store connection.old connection.new }
+    ensures opens { Unless result (StaysOpen S.Store connection.old connection.new) }
+    ensures working { Unless result (StillWorks S.Store connection.old connection.new) }
+    ensures decides { IsClean S.Store connection.new
+        → Decides (λ head. version_read copy.now.tenant.now (tables S.Store connection.old) (head_seen head))
+        (machine.source_version copy.now.source_bucket.now copy.now.source_key.now copy.now.version
+        (view (tables S.Store connection.old) copy.now.tenant.now))
+        (tables S.Store connection.old) (tables S.Store connection.new) result }
+    ensures sized { IfOk result (λ head. IsClean S.Store connection.new
+        → head.size ≡ length (whole (tables S.Store connection.old).refs (tables S.Store connection.old).blocks (copy.now.tenant.now, head.seq))) }
+{
+    let (bucket, key) = (copy.source_bucket, copy.source_key);
+    bucket_state(connection, copy.tenant, bucket)?;
+    match wanted_head(connection, copy.tenant, bucket, key, copy.version) {
+        Ok(head) => Ok(head),
+        Err(StepError::Refused(rejection)) => Err(StepError::Refused(source_refused(rejection))),
+        Err(StepError::Failed(trouble)) => Err(StepError::Failed(trouble)),
+    }
+}
+
+/// The row of a copy, with the size and the checksum of its source.
+fn add_copy<S: Alter>(
+    connection: &mut Connection<S>,
+    copy: &NewCopy<'_>,
+    mode: BucketState,
+    counters: Counters,
+    head: &VersionHead,
+) -> Result<(), Trouble>
+    requires inside { InTransaction S.Store connection.old }
+    ensures within { StaysWithin S.Store connection.old connection.new }
+    ensures opens { OnOk result (StaysOpen S.Store connection.old connection.new) }
+    ensures holds { OnOk result (Becomes S.Store connection.old connection.new
+        (with_copied mode counters copy.now.tenant.now copy.now.bucket.now copy.now.key.now copy.now.at (head_seen head.now))) }
+    ensures key { OnOk result (IsKeyText copy.now.key.now) }
+{
+    // No object has so many bytes.
+    if head.size > i64::MAX as u64 {
+        return Err(Trouble::Store);
+    }
+    let version = NewVersion {
+        tenant: copy.tenant.as_str(),
+        seq: counters.entry,
+        bucket: copy.bucket.as_str(),
+        okey: copy.key.as_str().as_bytes(),
+        id: row_number(mode, counters.version),
+        stamp: copy.at.seconds(),
+        size: head.size,
+        checksum: head.checksum.as_str(),
+    };
+    or_trouble(rows::versions::insert_version(connection, &version))?;
+    Ok(())
+}
+
+/// Puts a copy of a version into a bucket of this state, under the tenant's next numbers: its body, which has the
+/// source's blocks, before what it replaces goes, since that may be the source, and then its row.
+fn write_copy<S: Alter>(
+    connection: &mut Connection<S>,
+    copy: &NewCopy<'_>,
+    mode: BucketState,
+    numbers: Numbers,
+    head: &VersionHead,
+) -> Result<(), Trouble>
+    requires { InTransaction S.Store connection.old }
+    ensures within { StaysWithin S.Store connection.old connection.new }
+    ensures opens { OnOk result (StaysOpen S.Store connection.old connection.new) }
+    ensures holds { OnOk result (Becomes S.Store connection.old connection.new
+        (copy_written mode numbers.before numbers.after copy.now.tenant.now copy.now.bucket.now copy.now.key.now
+        copy.now.at (head_seen head.now))) }
+    ensures key { OnOk result (IsKeyText copy.now.key.now) }
+{
+    let source = head.seq;
+    // No counter gives such a number.
+    if source >= COUNTER_END {
+        return Err(Trouble::Store);
+    }
+    set_counters(connection, copy.tenant, mode, numbers.after)?;
+    or_trouble(copy_body(
+        connection,
+        copy.tenant.as_str(),
+        source,
+        numbers.before.entry,
+    ))?;
+    make_room(connection, copy.tenant, copy.bucket, copy.key, mode)?;
+    add_copy(connection, copy, mode, numbers.before, head)
+}
+
+/// S3's CopyObject, at a moment that is not after the last stamp: NoSuchBucket of the copy's bucket and then of the
+/// source's, NoSuchKey, NoSuchVersion, InvalidRequest, CounterExhausted. No byte is read.
+pub fn copy_object<S: Alter>(
+    connection: &mut Connection<S>,
+    copy: &NewCopy<'_>,
+) -> Result<CopiedVersion, StepError<Refusal>>
+    requires working { Works S.Store connection.old }
+    requires early { IsClean S.Store connection.old → copy.now.at ≤ latest_of (tables S.Store connection.old) }
+    ensures within { StaysWithin S.Store connection.old connection.new }
+    ensures opens { Unless result (StaysOpen S.Store connection.old connection.new) }
+    ensures working { Unless result (StillWorks S.Store connection.old connection.new) }
+    ensures carries { IsClean S.Store connection.new
+        → Carries copied_answer copy.now.tenant.now
+        (machine.copy_object copy.now.at copy.now.bucket.now copy.now.key.now copy.now.source_bucket.now copy.now.source_key.now copy.now.version)
+        (tables S.Store connection.old) (tables S.Store connection.new) result }
+{
+    let mode = bucket_state(connection, copy.tenant, copy.bucket)?;
+    let head = source_head(connection, copy)?;
+    let numbers = new_numbers(connection, copy.tenant, mode)?;
+    let Numbers { before, .. } = numbers;
+    write_copy(connection, copy, mode, numbers, &head)?;
+    Ok(CopiedVersion {
+        id: told_id(mode, new_id(mode, before.version)),
+        modified: copy.at,
+        checksum: head.checksum,
+    })
+}

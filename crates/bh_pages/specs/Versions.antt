@@ -1,0 +1,164 @@
+-- What is gathered of a page of versions, row by row in the order of keys, those of a key by falling entry numbers.
+use Rattle.std.specs.Prelude.{◌≡◌, ℕ, zero, suc, pos, nat_lt, Bool, true, false, not, ◌&&◌, ◌||◌, int_lt, List, [], ◌∷◌, length, map, Option, Some, None, option_map, is_none, IfSome, if◌then◌else◌, string_bytes}
+use Rattle.std.specs.List.{filter, AllByRecursion}
+use Rattle.std.specs.Ordering.{is_lt, int_cmp, ordering_then}
+use Rattle.std.specs.declared.cmp.Ordering.{Ordering}
+use Rattle.bh_types.specs.declared.id.VersionId.{VersionId}
+use Rattle.bh_types.specs.declared.id.VersionId.TheVariants.{Null, Numbered as Given}
+use Rattle.bh_model.specs.State.{Octets, octets_cmp}
+use Rattle.bh_model.specs.Pages.{Listed, Listed.Single, Listed.Common, begins, is_name, is_upto, same, joined, entry_of, rolled, last_of, StoredItem, VersionItem, passes_version}
+use Rattle.bh_pages.specs.Gathered.{Gathered, with_entry, past_key, past_name}
+use Rattle.bh_pages.specs.Seen.{token_of}
+use Rattle.bh_pages.specs.Reading.{IsCount}
+use Rattle.bh_pages.specs.declared.gathering.Asked.{Asked}
+use Rattle.bh_pages.specs.declared.versions.Place as program
+use Rattle.bh_pages.specs.declared.versions.VersionLine.{VersionLine}
+use Rattle.bh_pages.specs.declared.versions.ShownVersion.{ShownVersion}
+use Rattle.bh_pages.specs.declared.versions.ListedVersion as listed
+use Rattle.bh_pages.specs.declared.versions.VersionGathering.{VersionGathering}
+use Rattle.bh_pages.specs.declared.versions.VersionReading.{VersionReading}
+
+-- a row: its entry number, and the version that it holds, of which the row alone doesn't tell whether it is the newest
+abbrev pub Numbered : Type 0
+Numbered = ℕ × VersionItem
+
+abbrev pub row_key : Numbered → Octets
+row_key r = r.1.key
+
+-- after a row of this key
+abbrev pub version_after : Option Octets → Numbered → VersionItem
+version_after key r = record r.1 { latest = not (is_name r.1.key key) }
+
+abbrev pub items_next : Option Octets → List Numbered → List VersionItem
+items_next key [] = []
+items_next key (r ∷ rows) = version_after key r ∷ items_next (Some (row_key r)) rows
+
+-- ---- places between rows
+
+-- a key and an entry number of it
+abbrev pub Spot : Type 0
+Spot = Octets × ℕ
+
+abbrev pub spot : Numbered → Spot
+spot r = (row_key r, r.0)
+
+abbrev pub spot_order : Spot → Spot → Ordering
+spot_order a b = ordering_then (octets_cmp a.0 b.0) (int_cmp (pos b.1) (pos a.1))
+
+-- from a key on, or after one of its entries
+pub record Place : Type 0 where
+  pub key : Octets
+  pub older : Option ℕ
+
+abbrev pub follows : Octets → Option ℕ → Spot → Bool
+follows key None s = is_upto key s.0
+follows key (Some seq) s = is_lt (spot_order (key, seq) s)
+
+abbrev pub is_from : Place → Numbered → Bool
+is_from place r = follows place.key place.older (spot r)
+
+-- the older entries of a key
+abbrev pub is_older : Octets → ℕ → Numbered → Bool
+is_older key seq r = same (row_key r) key && int_lt (pos r.0) (pos seq)
+
+abbrev pub at_key : Octets → Place
+at_key key = record { key = key; older = None }
+
+abbrev pub after_entry : Octets → ℕ → Place
+after_entry key seq = record { key = key; older = Some seq }
+
+-- a row of a rolled-up name is followed by what is past that name
+abbrev pub past_row : Octets → ℕ → Option Octets → Place
+past_row key seq None = after_entry key seq
+past_row key seq (Some name) = at_key (past_name name)
+
+-- ---- what is gathered
+
+-- nothing, after a row of this key
+abbrev pub nothing_after : Option Octets → Gathered VersionItem
+nothing_after key = record { key = key; name = None; entries = [] }
+
+module _ (prefix delimiter : Octets) (marker : Option Octets) where
+  abbrev pub version_entry : VersionItem → Listed VersionItem
+  version_entry = entry_of prefix delimiter (λ v. v.key)
+
+  abbrev pub with_passing : Gathered VersionItem → Listed VersionItem → Gathered VersionItem
+  with_passing g e = if passes_version marker e then with_entry g e else g
+
+  -- a row more
+  abbrev pub with_version : Gathered VersionItem → Numbered → Gathered VersionItem
+  with_version g r = with_passing (record g { key = Some (row_key r) }) (version_entry (version_after g.key r))
+
+  -- rows more, until there are more entries than the page takes
+  abbrev pub with_versions : ℕ → Gathered VersionItem → List Numbered → Gathered VersionItem
+  with_versions max g [] = g
+  with_versions max g (r ∷ rows) = if nat_lt max (length g.entries) then g else with_versions max (with_version g r) rows
+
+  -- the entries that are still to come of these rows
+  abbrev pub versions_to_come : Gathered VersionItem → List Numbered → List (Listed VersionItem)
+  versions_to_come g rows = joined g.name (filter (passes_version marker) (map version_entry (items_next g.key rows)))
+
+-- ---- what the program's values show
+
+abbrev pub id_in : ℕ → VersionId
+id_in zero = Null
+id_in (suc n) = Given (suc n)
+
+abbrev pub stored_of : ℕ → ℕ → Octets → Option StoredItem
+stored_of zero size checksum = Some (record { size = size; checksum = checksum })
+stored_of (suc n) size checksum = None
+
+abbrev pub version_in : VersionLine → Bool → VersionItem
+version_in l latest = record { key = l.key.items; id = id_in l.id; moment = l.stamp; latest = latest; object = stored_of l.marker l.size (string_bytes l.checksum) }
+
+abbrev pub seen_line : VersionLine → Numbered
+seen_line l = (l.seq, version_in l false)
+
+abbrev pub seen_version : ShownVersion → VersionItem
+seen_version v = record { key = v.key.items; id = id_in v.id; moment = v.stamp; latest = v.latest; object = stored_of v.marker v.size (string_bytes v.checksum) }
+
+abbrev pub seen_entry : listed.ListedVersion → Listed VersionItem
+seen_entry (listed.TheVariants.Version v) = Single (seen_version v)
+seen_entry (listed.TheVariants.Common name) = Common name.items
+
+abbrev pub seen : VersionGathering → Gathered VersionItem
+seen g = record { key = option_map (λ k. k.items) g.key; name = option_map (λ n. n.items) g.name; entries = map seen_entry g.entries.items }
+
+abbrev pub seen_place : program.Place → Place
+seen_place p = record { key = p.key.items; older = p.older }
+
+abbrev pub row_added : Asked → Gathered VersionItem → Numbered → Gathered VersionItem
+row_added asked = with_version asked.prefix.now asked.delimiter.now (token_of asked)
+
+abbrev pub rows_added : Asked → Gathered VersionItem → List Numbered → Gathered VersionItem
+rows_added asked = with_versions asked.prefix.now asked.delimiter.now (token_of asked) asked.max
+
+abbrev pub entry_added : Asked → Gathered VersionItem → VersionItem → Gathered VersionItem
+entry_added asked g v = with_passing asked.prefix.now asked.delimiter.now (token_of asked) g (version_entry asked.prefix.now asked.delimiter.now (token_of asked) v)
+
+-- ---- how far reading has come
+
+abbrev pub AreUnder : Asked → List VersionLine → Type 0
+AreUnder asked lines = AllByRecursion (λ l. begins asked.prefix.now l.key.items ≡ true) lines
+
+-- past the last of these rows
+pub record PastLast (asked : Asked) (lines : List VersionLine) (place : Place) : Type 0 where
+  pub row : VersionLine
+  pub last : last_of lines ≡ Some row
+  pub is : begins asked.prefix.now row.key.items ≡ true → place ≡ past_row row.key.items row.seq (rolled asked.prefix.now asked.delimiter.now row.key.items)
+
+-- after fewer rows than were asked for, older ones of a key are followed by the keys after it, and those of keys by none
+abbrev pub past_few : Place → Option Place
+past_few place = option_map (λ _. at_key (past_key place.key)) place.older
+
+-- where reading goes on after these rows, if any can be left
+pub record GoesOn (asked : Asked) (old : Place) (lines : List VersionLine) (count : ℕ) (new : Option Place) : Type 0 where
+  pub few : nat_lt (length lines) count ≡ true → new ≡ past_few old
+  pub on : nat_lt (length lines) count ≡ false → IfSome new (PastLast asked lines) × (is_none new ≡ false)
+
+-- the rows were taken in; the page is full, or reading has ended, or goes on at a place
+pub record TookVersions (asked : Asked) (old : VersionReading) (lines : List VersionLine) (new : VersionReading) (ended : Bool) : Type 0 where
+  pub added : seen new.gathering ≡ rows_added asked (seen old.gathering) (map seen_line lines)
+  pub next : Option Place
+  pub full : nat_lt asked.max (length new.gathering.entries.items) ≡ true → ended ≡ true
+  pub ends : nat_lt asked.max (length new.gathering.entries.items) ≡ false → (ended ≡ is_none next) × GoesOn asked (seen_place old.place) lines old.count next × IfSome next (λ place. seen_place new.place ≡ place)

@@ -1,0 +1,85 @@
+-- The bytes of a body: those of the blocks that its references name, by place; and the versions whose bytes they are.
+use Rattle.std.specs.Prelude.{ℕ, Bool, ◌&&◌, pos, List, [], ◌∷◌, filter, flat_map, Option, Some, None}
+use Rattle.std.specs.Option.{option_map_or}
+use Rattle.std.specs.Ordering.{int_eq, int_cmp}
+use Rattle.std.specs.declared.cmp.Ordering.{Ordering}
+use Rattle.sqlite_keyed.specs.Lists.{sort_by}
+use Rattle.sqlite_typed.specs.Tests.{bytes_eq}
+use Rattle.bh_tables.specs.Schema.{Octets}
+use Rattle.bh_tables.specs.Rows.{VersionColumns, VersionRow, BlockRow, RefRow}
+
+abbrev pub first : {X : Type 0} → List X → Option X
+first [] = None
+first (x ∷ xs) = Some x
+
+-- the rows at a key
+abbrev pub matching : {K T : Type 0} → (K → K → Bool) → (T → K) → K → List T → List T
+matching is key k = filter (λ r. is (key r) k)
+
+-- ---- names
+
+-- of a block its digest and ordinal, of a body its tenant and entry number
+abbrev pub Name : Type 0
+Name = Octets × ℕ
+
+-- SQL's `=` at both columns
+abbrev pub same_name : Name → Name → Bool
+same_name a b = bytes_eq a.0 b.0 && int_eq (pos a.1) (pos b.1)
+
+abbrev pub block_name : BlockRow → Name
+block_name b = (b.digest, b.ord)
+
+-- the block that a reference names
+abbrev pub ref_name : RefRow → Name
+ref_name r = (r.digest, r.ord)
+
+-- the body that a reference is of
+abbrev pub body_name : RefRow → Name
+body_name r = (r.tenant, r.body)
+
+abbrev pub by_place : RefRow → RefRow → Ordering
+by_place a b = int_cmp (pos a.place) (pos b.place)
+
+-- ---- bytes
+
+-- the row of this name
+abbrev pub row_at : List BlockRow → Name → Option BlockRow
+row_at blocks q = first (matching same_name block_name q blocks)
+
+-- the bytes of the block of this name, none where there is no such row
+abbrev pub block_at : List BlockRow → Name → Octets
+block_at blocks q = option_map_or (λ (b : BlockRow). b.bytes) (row_at blocks q) []
+
+-- a body's references, by place
+abbrev pub placed : List RefRow → Name → List RefRow
+placed refs body = sort_by by_place (matching same_name body_name body refs)
+
+-- the bytes of each body
+unfoldable pub whole : List RefRow → List BlockRow → Name → Octets
+whole refs blocks body = flat_map (λ (r : RefRow). block_at blocks (ref_name r)) (placed refs body)
+
+-- ---- versions
+
+-- the body of a version
+abbrev pub version_name : VersionRow → Name
+version_name v = (v.tenant, v.seq)
+
+-- with these bytes
+abbrev pub with_bytes : Octets → VersionRow → VersionRow
+with_bytes bytes v = record v { bytes = bytes }
+
+-- without bytes
+abbrev pub bare : VersionColumns → VersionRow
+bare c = record { tenant = c.tenant; seq = c.seq; bucket = c.bucket; okey = c.okey; id = c.id; marker = c.marker; stamp = c.stamp; size = c.size; checksum = c.checksum; bytes = [] }
+
+-- as it is stored
+abbrev pub columns_of : VersionRow → VersionColumns
+columns_of v = record { tenant = v.tenant; seq = v.seq; bucket = v.bucket; okey = v.okey; id = v.id; marker = v.marker; stamp = v.stamp; size = v.size; checksum = v.checksum }
+
+-- with the bytes of its body
+abbrev pub resolved : List RefRow → List BlockRow → VersionColumns → VersionRow
+resolved refs blocks c = with_bytes (whole refs blocks (c.tenant, c.seq)) (bare c)
+
+-- with the bytes that its body has among these rows
+abbrev pub resolved_again : List RefRow → List BlockRow → VersionRow → VersionRow
+resolved_again refs blocks v = with_bytes (whole refs blocks (version_name v)) v

@@ -1,0 +1,113 @@
+-- Bodies as lists of blocks: what holds of their references, and the rows once a body is stored, copied, joined or dropped.
+use Rattle.std.specs.Prelude.{◌≡◌, ℕ, zero, suc, ◌+◌, false, if◌then◌else◌, List, [], ◌∷◌, ◌++◌, map, filter, flat_map, take, drop, length}
+use Rattle.std.specs.List.{AllByRecursion, list_any, range_with_len}
+use Rattle.sqlite_keyed.specs.Lists.{delete_where}
+use Rattle.bh_model.specs.State.{Octets}
+use Rattle.bh_tables.specs.Bodies.{version_name}
+use Rattle.bh_tables.specs.Typed.{VersionRow, BlockRow, RefRow, Tables, rebodied}
+use Rattle.bh_tables.specs.Shown.{Name, same_name, ref_name, body_name, is_of_body}
+use Rattle.bh_view.specs.Grouped.{matching, same_number}
+use Rattle.bh_view.specs.Blocks.{block_at, placed, whole, ord_for, blocks_with, AreStored, AreDigests}
+use Rattle.bh_view.specs.Sound.{IsSound}
+
+-- ---- what holds of the references
+
+-- the bodies: those of versions that are no markers
+abbrev pub bodies_of : List VersionRow → List Name
+bodies_of versions = map version_name (filter (λ (v : VersionRow). same_number v.marker 0) versions)
+
+-- each body's places are 0, 1, .. without gap, each reference is of a body and has the size of its block
+pub record AreBodies (bodies : List Name) (refs : List RefRow) (blocks : List BlockRow) : Type 0 where
+  pub placed : (body : Name) → map (λ (r : RefRow). r.place) (placed refs body) ≡ range_with_len 0 (length (matching same_name body_name body refs))
+  pub owned : (body : Name) → list_any (same_name body) bodies ≡ false → matching same_name body_name body refs ≡ []
+  pub measured : AllByRecursion (λ (r : RefRow). r.size ≡ length (block_at blocks (ref_name r))) refs
+
+abbrev pub HasBodies : Tables → Type 0
+HasBodies tables = AreBodies (bodies_of tables.versions) tables.refs tables.blocks
+
+-- each version has the bytes of its body
+abbrev pub IsResolved : Tables → Type 0
+IsResolved tables = AllByRecursion (λ (v : VersionRow). v.bytes ≡ whole tables.refs tables.blocks (version_name v)) tables.versions
+
+-- in the midst of a write: each version has the bytes of its body, and references are sound, where `more` are bodies whose
+-- versions are to come
+pub record AreWhole (more : List Name) (tables : Tables) : Type 0 where
+  pub resolved : IsResolved tables
+  pub stored : AreStored tables.refs tables.blocks
+  pub bodies : AreBodies (more ++ bodies_of tables.versions) tables.refs tables.blocks
+
+-- all that holds of a host's tables, where blocks are named by this function
+pub record IsSoundHost (digest : Octets → Octets) (tables : Tables) : Type 0 where
+  pub sound : IsSound tables
+  pub bodies : HasBodies tables
+  pub digests : AreDigests digest tables.blocks
+
+-- ---- the bytes of all bodies, but those of one
+
+-- no version has the name
+abbrev pub IsUnnamed : Name → List VersionRow → Type 0
+IsUnnamed at versions = list_any (same_name at) (map version_name versions) ≡ false
+
+abbrev pub set_body : Name → Octets → (Name → Octets) → Name → Octets
+set_body at bytes old body = if same_name at body then bytes else old body
+
+-- a body that no version has yet is added, with these bytes: all other bodies, and all other tables, stay
+pub record AddsBody (digest : Octets → Octets) (at : Name) (given : Octets) (old new : Tables) : Type 0 where
+  pub is : new ≡ record old { refs = new.refs; blocks = new.blocks }
+  pub bytes : whole new.refs new.blocks ≡ set_body at given (whole old.refs old.blocks)
+  pub stored : AreStored new.refs new.blocks
+  pub bodies : AreBodies (at ∷ bodies_of old.versions) new.refs new.blocks
+  pub digests : AreDigests digest old.blocks → AreDigests digest new.blocks
+
+-- ---- a body is stored
+
+-- at most so many pieces of a size in bytes, the last of what is left
+abbrev pub pieces_in : ℕ → ℕ → Octets → List Octets
+pieces_in zero size bytes = []
+pieces_in (suc most) size [] = []
+pieces_in (suc most) size (x ∷ xs) = take size (x ∷ xs) ∷ pieces_in most size (drop size (x ∷ xs))
+
+-- the pieces of a body
+abbrev pub pieces : ℕ → Octets → List Octets
+pieces size bytes = pieces_in (length bytes) size bytes
+
+-- the reference of a body to the block of these bytes
+abbrev pub ref_to : (Octets → Octets) → Name → ℕ → Octets → List BlockRow → RefRow
+ref_to digest body place bytes blocks = record { tenant = body.0; body = body.1; place = place; digest = digest bytes; ord = ord_for (digest bytes) bytes blocks; size = length bytes }
+
+-- the rows once pieces are stored, from a place on
+abbrev pub blocks_after : (Octets → Octets) → List Octets → List BlockRow → List BlockRow
+blocks_after digest [] blocks = blocks
+blocks_after digest (c ∷ cs) blocks = blocks_after digest cs (blocks_with (digest c) c blocks)
+
+abbrev pub refs_after : (Octets → Octets) → Name → ℕ → List Octets → List BlockRow → List RefRow → List RefRow
+refs_after digest body place [] blocks refs = refs
+refs_after digest body place (c ∷ cs) blocks refs = refs_after digest body (place + 1) cs (blocks_with (digest c) c blocks) (refs ++ ref_to digest body place c blocks ∷ [])
+
+-- the tables once a body of these pieces is stored, from a place on
+abbrev pub body_stored : (Octets → Octets) → Name → ℕ → List Octets → Tables → Tables
+body_stored digest body place cs tables = rebodied tables (refs_after digest body place cs tables.blocks tables.refs) (blocks_after digest cs tables.blocks)
+
+-- ---- a body of the blocks of others
+
+-- references of a body to the blocks that these name, from a place on
+abbrev pub refs_again : Name → ℕ → List RefRow → List RefRow → List RefRow
+refs_again body place [] refs = refs
+refs_again body place (r ∷ rs) refs = refs_again body (place + 1) rs (refs ++ record r { tenant = body.0; body = body.1; place = place } ∷ [])
+
+-- the tables once a body has the blocks of these references
+abbrev pub body_again : Name → ℕ → List RefRow → Tables → Tables
+body_again body place rs tables = rebodied tables (refs_again body place rs tables.refs) tables.blocks
+
+-- a copy of a body
+abbrev pub body_copied : Name → Name → Tables → Tables
+body_copied source body tables = body_again body 0 (placed tables.refs source) tables
+
+-- bodies joined in this order
+abbrev pub bodies_joined : List Name → Name → Tables → Tables
+bodies_joined sources body tables = body_again body 0 (flat_map (placed tables.refs) sources) tables
+
+-- ---- a body goes
+
+abbrev pub body_dropped : Name → Tables → Tables
+body_dropped body tables = rebodied tables (delete_where (is_of_body body) tables.refs) tables.blocks
