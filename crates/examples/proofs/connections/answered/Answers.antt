@@ -1,0 +1,5 @@
+use Rattle.examples.proofs.Made.{at_rest}
+use Rattle.examples.proofs.connections.answered.Goals as goal
+
+pub answers-requires : goal.answers-requires
+answers-requires c clean = at_rest _ _ _ c.in-Ok.ensures.given.0 c.in-Ok.ensures.made clean
