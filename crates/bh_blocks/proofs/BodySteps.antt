@@ -1,5 +1,5 @@
 -- A body stored piece by piece, and given the blocks that rows of references name.
-use Rattle.std.proofs.Common.{◌≡◌, ◌≢◌, ◌==◌, true, false, true≢false, append_assoc, append-nil, ℕ, zero, suc, ◌+◌, ◌≤◌, ◌<◌, min, List, [], ◌∷◌, ◌++◌, map, flat_map, take, drop, length, length-drop, get_or, refl, sym, ap, ap₂, ◌∙◌, arith, subst}
+use Rattle.std.proofs.Common.{◌≡◌, ◌≢◌, ◌==◌, true, false, true≢false, append_assoc, append-nil, ℕ, zero, suc, ◌+◌, ◌≤◌, ◌<◌, List, [], ◌∷◌, ◌++◌, map, flat_map, take, drop, length, length-drop, get_or, refl, sym, ap, ap₂, ◌∙◌, arith}
 use Rattle.std.proofs.lemmas.Bool.{ne_eqb}
 use Rattle.std.proofs.lemmas.List.{map-append}
 use Rattle.sqlite.specs.Order.{Row}
@@ -10,7 +10,6 @@ use Rattle.bh_tables.proofs.ResolvedLemmas.{rebodied_twice}
 use Rattle.bh_view.specs.Blocks.{ord_for, blocks_with}
 use Rattle.bh_view.specs.Bodies.{pieces, ref_to, refs_after, blocks_after, body_stored, refs_again, body_again}
 use Rattle.bh_view.proofs.StoringLemmas.{pieces_next}
-use Rattle.bh_blocks.proofs.Loops.{at_row, drop_end}
 
 -- ---- a piece, and then the rest
 

@@ -1,5 +1,5 @@
 -- The bytes of bodies, once blocks are stored or removed.
-use Rattle.std.proofs.Common.{◌≡◌, true, sym, ap, ◌∙◌, subst, List, Option, Some, option_map}
+use Rattle.std.proofs.Common.{◌≡◌, sym, ◌∙◌, subst, Some, option_map}
 use Rattle.sqlite.specs.State.{State}
 use Rattle.bh_tables.specs.Schema.{Octets}
 use Rattle.bh_tables.specs.Typed.{BlockRow, Tables, rebodied, raw}
@@ -14,7 +14,7 @@ use Rattle.bh_tables.proofs.ResolvedLemmas.{own_bodies}
 use Rattle.bh_schema.specs.Layer.{standing}
 use Rattle.bh_schema.specs.Working.{tables_at}
 
--- versions have the bytes of their bodies
+-- versions and parts have the bytes of their bodies
 pub resolved_at : (s : State) → IsResolved (tables_at s)
 resolved_at s = tables_resolved (raw (standing s).now.trees)
 

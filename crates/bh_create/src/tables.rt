@@ -2,7 +2,7 @@ ghost use Rattle.std.specs.Prelude.{◌≡◌, true, IfErr};
 ghost use Rattle.sqlite.specs.Held.{state};
 ghost use Rattle.bh_rows.specs.Means.{is_trouble};
 ghost use Rattle.bh_tables.specs.Schema.{no_schema};
-ghost use Rattle.bh_tables.specs.Made.{with_host, with_tenants, with_keys, with_buckets, with_versions, with_blocks, with_refs, with_newest, with_refs_by_block};
+ghost use Rattle.bh_tables.specs.Made.{with_host, with_tenants, with_keys, with_buckets, with_versions, with_blocks, with_refs, with_newest, with_refs_by_block, with_uploads, with_parts, with_uploads_by_key};
 ghost use Rattle.bh_schema.specs.Layer.{IsIntact, IsStateClean};
 ghost use Rattle.bh_create.specs.Creation.{IsMaking, Makes};
 
@@ -104,6 +104,39 @@ fn create_refs_by_block<S: Alter>(connection: &mut Connection<S>) -> Result<usiz
     connection.execute("CREATE INDEX refs_by_block ON refs (digest, ord)", &[])
 }
 
+fn create_uploads<S: Alter>(connection: &mut Connection<S>) -> Result<usize, Error>
+    requires { IsStateClean (state S.Store connection.old) → IsMaking with_refs_by_block (state S.Store connection.old) }
+    ensures makes { Makes with_uploads (state S.Store connection.old) (state S.Store connection.new) result }
+    ensures trouble { IfErr result (λ e. IsIntact (state S.Store connection.new) → is_trouble e ≡ true) }
+{
+    connection.execute(
+        "CREATE TABLE uploads (tenant TEXT NOT NULL, upload INTEGER NOT NULL CHECK (upload >= 0), bucket TEXT NOT NULL, okey BLOB NOT NULL, begun INTEGER NOT NULL CHECK (begun >= 0), PRIMARY KEY (tenant, upload), FOREIGN KEY (tenant, bucket) REFERENCES buckets ON DELETE RESTRICT) STRICT",
+        &[],
+    )
+}
+
+fn create_parts<S: Alter>(connection: &mut Connection<S>) -> Result<usize, Error>
+    requires { IsStateClean (state S.Store connection.old) → IsMaking with_uploads (state S.Store connection.old) }
+    ensures makes { Makes with_parts (state S.Store connection.old) (state S.Store connection.new) result }
+    ensures trouble { IfErr result (λ e. IsIntact (state S.Store connection.new) → is_trouble e ≡ true) }
+{
+    connection.execute(
+        "CREATE TABLE parts (tenant TEXT NOT NULL, upload INTEGER NOT NULL CHECK (upload >= 0), number INTEGER NOT NULL CHECK (number >= 0), size INTEGER NOT NULL CHECK (size >= 0), sum TEXT NOT NULL, stamp INTEGER NOT NULL CHECK (stamp >= 0), body INTEGER NOT NULL CHECK (body >= 0), PRIMARY KEY (tenant, upload, number), UNIQUE (tenant, body), FOREIGN KEY (tenant, upload) REFERENCES uploads ON DELETE RESTRICT) STRICT",
+        &[],
+    )
+}
+
+fn create_uploads_by_key<S: Alter>(connection: &mut Connection<S>) -> Result<usize, Error>
+    requires { IsStateClean (state S.Store connection.old) → IsMaking with_parts (state S.Store connection.old) }
+    ensures makes { Makes with_uploads_by_key (state S.Store connection.old) (state S.Store connection.new) result }
+    ensures trouble { IfErr result (λ e. IsIntact (state S.Store connection.new) → is_trouble e ≡ true) }
+{
+    connection.execute(
+        "CREATE INDEX uploads_by_key ON uploads (tenant, bucket, okey, upload)",
+        &[],
+    )
+}
+
 fn create_accounts<S: Alter>(connection: &mut Connection<S>) -> Result<usize, Error>
     requires { IsStateClean (state S.Store connection.old) → IsMaking no_schema (state S.Store connection.old) }
     ensures makes { Makes with_keys (state S.Store connection.old) (state S.Store connection.new) result }
@@ -134,14 +167,25 @@ fn create_indexes<S: Alter>(connection: &mut Connection<S>) -> Result<usize, Err
     create_refs_by_block(connection)
 }
 
+fn create_multipart<S: Alter>(connection: &mut Connection<S>) -> Result<usize, Error>
+    requires { IsStateClean (state S.Store connection.old) → IsMaking with_refs_by_block (state S.Store connection.old) }
+    ensures makes { Makes with_uploads_by_key (state S.Store connection.old) (state S.Store connection.new) result }
+    ensures trouble { IfErr result (λ e. IsIntact (state S.Store connection.new) → is_trouble e ≡ true) }
+{
+    create_uploads(connection)?;
+    create_parts(connection)?;
+    create_uploads_by_key(connection)
+}
+
 /// Makes the tables of a host and their indexes, with no row.
 pub fn create_tables<S: Alter>(connection: &mut Connection<S>) -> Result<(), Error>
     requires { IsStateClean (state S.Store connection.old) → IsMaking no_schema (state S.Store connection.old) }
-    ensures makes { Makes with_refs_by_block (state S.Store connection.old) (state S.Store connection.new) result }
+    ensures makes { Makes with_uploads_by_key (state S.Store connection.old) (state S.Store connection.new) result }
     ensures trouble { IfErr result (λ e. IsIntact (state S.Store connection.new) → is_trouble e ≡ true) }
 {
     create_accounts(connection)?;
     create_objects(connection)?;
     create_indexes(connection)?;
+    create_multipart(connection)?;
     Ok(())
 }

@@ -1,20 +1,29 @@
 -- Steps of the machine as operations, and refusals with what they tell.
-use Rattle.std.proofs.Common.{◌≡◌, ℕ, Option, option_map, Result, Ok, Err, refl, ap, sym, ◌∙◌}
+use Rattle.std.proofs.Common.{◌≡◌, ℕ, List, map, Option, Result, Ok, Err, refl, ap, sym, ◌∙◌, option_map}
 use Rattle.std.specs.Result.{result_map_both}
+use Rattle.std.proofs.lemmas.Simd.{map-map}
+use Rattle.bh_types.specs.Limits.{HostLimits}
+use Rattle.bh_types.specs.Outcomes.{◌>>=◌}
 use Rattle.bh_types.specs.Rejections.{plain, plainly}
+use Rattle.bh_types.specs.declared.id.UploadId.{UploadId}
 use Rattle.bh_types.specs.declared.refusal.Refusal.{Refusal}
 use Rattle.bh_types.specs.declared.refusal.Refusal.TheVariants.{NotImplemented}
+use Rattle.bh_types.specs.declared.rejection.Rejection.{Rejection}
 use Rattle.bh_model.specs.Operations.{Answer, Outcome, create_bucket, head_bucket, delete_bucket, list_buckets, get_versioning, put_object, copy_object, get_object, head_object, delete_object}
 use Rattle.bh_model.specs.State.{Octets, State as Machine}
 use Rattle.bh_model.specs.Listings.{list_objects, list_versions}
-use Rattle.bh_machine.specs.Machine.{set_versioning, page_asked, place_asked, operated}
+use Rattle.bh_model.specs.Parts.{Naming}
+use Rattle.bh_model.specs.Shown.{naming_of}
+use Rattle.bh_model.specs.Uploads.{create_upload, upload_part, complete_upload, abort_upload}
+use Rattle.bh_machine.specs.Machine.{set_versioning, page_asked, naming, finish_upload, operated, place_asked}
 use Rattle.bh_operation.specs.declared.page.Page.{Page}
-use Rattle.bh_operation.specs.declared.page.VersionMarker.{VersionMarker}
 use Rattle.bh_operation.specs.declared.address.ObjectName.{ObjectName}
 use Rattle.bh_operation.specs.declared.operation.CopySource.{CopySource}
 use Rattle.bh_operation.specs.declared.operation.Operation.{Operation}
 use Rattle.bh_operation.specs.declared.operation.Operation.TheVariants.{ListBuckets, Usage, CreateBucket, HeadBucket, DeleteBucket, ListObjectsV2, ListObjectVersions, ListMultipartUploads, GetBucketVersioning, PutBucketVersioning, GetLifecycle, PutLifecycle, DeleteLifecycle, PutObject, CopyObject, GetObject, HeadObject, DeleteObject, CreateMultipartUpload, UploadPart, ListParts, CompleteMultipartUpload, AbortMultipartUpload}
+use Rattle.bh_types.specs.declared.wanted.Named.{Named}
 use Rattle.bh_types.specs.declared.wanted.Wanted.{Wanted}
+use Rattle.bh_docs.specs.Requests.{named_view, complete_of}
 use Rattle.bh_tables.specs.Typed.{Tables}
 use Rattle.bh_storage.specs.Answers.{answer_view}
 use Rattle.bh_storage.specs.declared.answer.Answer.{Answer as Told}
@@ -23,6 +32,7 @@ use Rattle.bh_storage.specs.Calls.{Unless, Carries}
 use Rattle.bh_storage.specs.Errors.{step_rejected}
 use Rattle.bh_storage.specs.declared.error.StepError.{StepError}
 use Rattle.bh_storage.specs.declared.error.StepError.TheVariants.{Refused, Failed}
+use Rattle.bh_operation.specs.declared.page.VersionMarker.{VersionMarker}
 
 -- ---- what an operation gave, told as an answer
 
@@ -41,97 +51,132 @@ carries_told t step old new shown made same (Err (Failed trouble)) h = tt
 
 -- ---- the operations
 
-pub lists_buckets : (at : ℕ) (body : Octets) → operated at body ListBuckets ≡ (λ s. plainly (list_buckets s))
+pub lists_buckets : (limits : HostLimits) (at : ℕ) (body : Octets) → operated limits at body ListBuckets ≡ (λ s. plainly (list_buckets s))
 unfolding operated
-lists_buckets at body = refl
+lists_buckets limits at body = refl
 
-pub creates_bucket : (at : ℕ) (body : Octets) (bucket : Octets) → operated at body (CreateBucket bucket) ≡ (λ s. plainly (create_bucket at bucket s))
+pub creates_bucket : (limits : HostLimits) (at : ℕ) (body : Octets) (bucket : Octets) → operated limits at body (CreateBucket bucket) ≡ (λ s. plainly (create_bucket at bucket s))
 unfolding operated
-creates_bucket at body bucket = refl
+creates_bucket limits at body bucket = refl
 
-pub heads_bucket : (at : ℕ) (body : Octets) (bucket : Octets) → operated at body (HeadBucket bucket) ≡ (λ s. plainly (head_bucket bucket s))
+pub heads_bucket : (limits : HostLimits) (at : ℕ) (body : Octets) (bucket : Octets) → operated limits at body (HeadBucket bucket) ≡ (λ s. plainly (head_bucket bucket s))
 unfolding operated
-heads_bucket at body bucket = refl
+heads_bucket limits at body bucket = refl
 
-pub deletes_bucket : (at : ℕ) (body : Octets) (bucket : Octets) → operated at body (DeleteBucket bucket) ≡ (λ s. plainly (delete_bucket bucket s))
+pub deletes_bucket : (limits : HostLimits) (at : ℕ) (body : Octets) (bucket : Octets) → operated limits at body (DeleteBucket bucket) ≡ (λ s. plainly (delete_bucket bucket s))
 unfolding operated
-deletes_bucket at body bucket = refl
+deletes_bucket limits at body bucket = refl
 
-pub lists_objects : (at : ℕ) (body : Octets) (bucket : Octets) (page : Page) (token : Option Octets) → operated at body (ListObjectsV2 bucket page token) ≡ (λ s. plainly (list_objects bucket (page_asked page) token s))
+pub lists_objects : (limits : HostLimits) (at : ℕ) (body : Octets) (bucket : Octets) (page : Page) (token : Option Octets) → operated limits at body (ListObjectsV2 bucket page token) ≡ (λ s. plainly (list_objects bucket (page_asked page) token s))
 unfolding operated
-lists_objects at body bucket page token = refl
+lists_objects limits at body bucket page token = refl
 
-pub lists_versions : (at : ℕ) (body : Octets) (bucket : Octets) (page : Page) (after : Option VersionMarker) → operated at body (ListObjectVersions bucket page after)
+pub lists_versions : (limits : HostLimits) (at : ℕ) (body : Octets) (bucket : Octets) (page : Page) (after : Option VersionMarker) → operated limits at body (ListObjectVersions bucket page after)
     ≡ (λ s. plainly (list_versions bucket (page_asked page) (option_map place_asked after) s))
 unfolding operated
-lists_versions at body bucket page after = refl
+lists_versions limits at body bucket page after = refl
 
-pub tells_versioning : (at : ℕ) (body : Octets) (bucket : Octets) → operated at body (GetBucketVersioning bucket) ≡ (λ s. plainly (get_versioning bucket s))
+pub tells_versioning : (limits : HostLimits) (at : ℕ) (body : Octets) (bucket : Octets) → operated limits at body (GetBucketVersioning bucket) ≡ (λ s. plainly (get_versioning bucket s))
 unfolding operated
-tells_versioning at body bucket = refl
+tells_versioning limits at body bucket = refl
 
-pub sets_versioning : (at : ℕ) (body : Octets) (bucket : Octets) → operated at body (PutBucketVersioning bucket) ≡ (λ s. plainly (set_versioning bucket body s))
+pub sets_versioning : (limits : HostLimits) (at : ℕ) (body : Octets) (bucket : Octets) → operated limits at body (PutBucketVersioning bucket) ≡ (λ s. plainly (set_versioning bucket body s))
 unfolding operated
-sets_versioning at body bucket = refl
+sets_versioning limits at body bucket = refl
 
-pub puts_object : (at : ℕ) (body : Octets) (object : ObjectName) (checksum : Option Octets) → operated at body (PutObject object checksum) ≡ (λ s. plainly (put_object at object.bucket object.key body checksum s))
+pub puts_object : (limits : HostLimits) (at : ℕ) (body : Octets) (object : ObjectName) (checksum : Option Octets) → operated limits at body (PutObject object checksum) ≡ (λ s. plainly (put_object at object.bucket object.key body checksum s))
 unfolding operated
-puts_object at body object checksum = refl
+puts_object limits at body object checksum = refl
 
-pub copies_object : (at : ℕ) (body : Octets) (object : ObjectName) (source : CopySource) → operated at body (CopyObject object source)
+pub copies_object : (limits : HostLimits) (at : ℕ) (body : Octets) (object : ObjectName) (source : CopySource) → operated limits at body (CopyObject object source)
     ≡ (λ s. plainly (copy_object at object.bucket object.key source.object.bucket source.object.key source.version s))
 unfolding operated
-copies_object at body object source = refl
+copies_object limits at body object source = refl
 
-pub gets_object : (at : ℕ) (body : Octets) (object : ObjectName) (version : Wanted) (range : Option Octets) → operated at body (GetObject object version range) ≡ get_object object.bucket object.key version range
+pub gets_object : (limits : HostLimits) (at : ℕ) (body : Octets) (object : ObjectName) (version : Wanted) (range : Option Octets) → operated limits at body (GetObject object version range) ≡ get_object object.bucket object.key version range
 unfolding operated
-gets_object at body object version range = refl
+gets_object limits at body object version range = refl
 
-pub heads_object : (at : ℕ) (body : Octets) (object : ObjectName) (version : Wanted) → operated at body (HeadObject object version) ≡ head_object object.bucket object.key version
+pub heads_object : (limits : HostLimits) (at : ℕ) (body : Octets) (object : ObjectName) (version : Wanted) → operated limits at body (HeadObject object version) ≡ head_object object.bucket object.key version
 unfolding operated
-heads_object at body object version = refl
+heads_object limits at body object version = refl
 
-pub deletes_object : (at : ℕ) (body : Octets) (object : ObjectName) (version : Wanted) → operated at body (DeleteObject object version) ≡ (λ s. plainly (delete_object at object.bucket object.key version s))
+pub deletes_object : (limits : HostLimits) (at : ℕ) (body : Octets) (object : ObjectName) (version : Wanted) → operated limits at body (DeleteObject object version) ≡ (λ s. plainly (delete_object at object.bucket object.key version s))
 unfolding operated
-deletes_object at body object version = refl
+deletes_object limits at body object version = refl
 
--- all others are refused
-pub not_done : (at : ℕ) (body : Octets) (s : Option Machine) (operation : Operation)
-    → (operation ≡ ListBuckets → ⊥)
-    → ((bucket : Octets) → operation ≡ CreateBucket bucket → ⊥)
-    → ((bucket : Octets) → operation ≡ HeadBucket bucket → ⊥)
-    → ((bucket : Octets) → operation ≡ DeleteBucket bucket → ⊥)
-    → ((bucket : Octets) (page : Page) (token : Option Octets) → operation ≡ ListObjectsV2 bucket page token → ⊥)
-    → ((bucket : Octets) (page : Page) (after : Option VersionMarker) → operation ≡ ListObjectVersions bucket page after → ⊥)
-    → ((bucket : Octets) → operation ≡ GetBucketVersioning bucket → ⊥)
-    → ((bucket : Octets) → operation ≡ PutBucketVersioning bucket → ⊥)
-    → ((object : ObjectName) (checksum : Option Octets) → operation ≡ PutObject object checksum → ⊥)
-    → ((object : ObjectName) (source : CopySource) → operation ≡ CopyObject object source → ⊥)
-    → ((object : ObjectName) (version : Wanted) (range : Option Octets) → operation ≡ GetObject object version range → ⊥)
-    → ((object : ObjectName) (version : Wanted) → operation ≡ HeadObject object version → ⊥)
-    → ((object : ObjectName) (version : Wanted) → operation ≡ DeleteObject object version → ⊥)
-    → operated at body operation s ≡ Err (plain NotImplemented)
+-- ---- the operations on uploads
+
+pub begins_upload : (limits : HostLimits) (at : ℕ) (body : Octets) (object : ObjectName) → operated limits at body (CreateMultipartUpload object) ≡ (λ s. plainly (create_upload at object.bucket object.key s))
 unfolding operated
-not_done at body s ListBuckets list create head delete keys versions ask set put copy get look remove = absurd (list refl)
-not_done at body s Usage list create head delete keys versions ask set put copy get look remove = refl
-not_done at body s (CreateBucket x) list create head delete keys versions ask set put copy get look remove = absurd (create x refl)
-not_done at body s (HeadBucket x) list create head delete keys versions ask set put copy get look remove = absurd (head x refl)
-not_done at body s (DeleteBucket x) list create head delete keys versions ask set put copy get look remove = absurd (delete x refl)
-not_done at body s (ListObjectsV2 x y z) list create head delete keys versions ask set put copy get look remove = absurd (keys x y z refl)
-not_done at body s (ListObjectVersions x y z) list create head delete keys versions ask set put copy get look remove = absurd (versions x y z refl)
-not_done at body s (ListMultipartUploads x y z) list create head delete keys versions ask set put copy get look remove = refl
-not_done at body s (GetBucketVersioning x) list create head delete keys versions ask set put copy get look remove = absurd (ask x refl)
-not_done at body s (PutBucketVersioning x) list create head delete keys versions ask set put copy get look remove = absurd (set x refl)
-not_done at body s (GetLifecycle x) list create head delete keys versions ask set put copy get look remove = refl
-not_done at body s (PutLifecycle x) list create head delete keys versions ask set put copy get look remove = refl
-not_done at body s (DeleteLifecycle x) list create head delete keys versions ask set put copy get look remove = refl
-not_done at body s (PutObject x y) list create head delete keys versions ask set put copy get look remove = absurd (put x y refl)
-not_done at body s (CopyObject x y) list create head delete keys versions ask set put copy get look remove = absurd (copy x y refl)
-not_done at body s (GetObject x y z) list create head delete keys versions ask set put copy get look remove = absurd (get x y z refl)
-not_done at body s (HeadObject x y) list create head delete keys versions ask set put copy get look remove = absurd (look x y refl)
-not_done at body s (DeleteObject x y) list create head delete keys versions ask set put copy get look remove = absurd (remove x y refl)
-not_done at body s (CreateMultipartUpload x) list create head delete keys versions ask set put copy get look remove = refl
-not_done at body s (UploadPart x y z w) list create head delete keys versions ask set put copy get look remove = refl
-not_done at body s (ListParts x y z) list create head delete keys versions ask set put copy get look remove = refl
-not_done at body s (CompleteMultipartUpload x y) list create head delete keys versions ask set put copy get look remove = refl
-not_done at body s (AbortMultipartUpload x y) list create head delete keys versions ask set put copy get look remove = refl
+begins_upload limits at body object = refl
+
+pub puts_part : (limits : HostLimits) (at : ℕ) (body : Octets) (object : ObjectName) (upload : Option UploadId) (number : ℕ) (checksum : Option Octets)
+    → operated limits at body (UploadPart object upload number checksum) ≡ (λ s. plainly (upload_part at object.bucket object.key upload number body checksum s))
+unfolding operated
+puts_part limits at body object upload number checksum = refl
+
+pub completes_upload : (limits : HostLimits) (at : ℕ) (body : Octets) (object : ObjectName) (upload : Option UploadId) → operated limits at body (CompleteMultipartUpload object upload)
+    ≡ (λ s. plainly (finish_upload limits at object.bucket object.key upload body s))
+unfolding operated
+completes_upload limits at body object upload = refl
+
+-- where the document names parts
+pub finishes : (limits : HostLimits) (at : ℕ) (bucket key : Octets) (upload : Option UploadId) (body : Octets) (named : List Named) → complete_of body ≡ Ok (map named_view named)
+    → ◌≡◌ {A = Option Machine → Result Outcome Rejection} (λ s. plainly (complete_upload at limits.min_part bucket key upload (map naming_of named) s)) (λ s. plainly (finish_upload limits at bucket key upload body s))
+finishes limits at bucket key upload body named is =
+    let completes : List Naming → Option Machine → Result Outcome Rejection = λ names s. plainly (complete_upload at limits.min_part bucket key upload names s) in
+    let finished : Result (List (ℕ × Option Octets)) Refusal → Option Machine → Result Outcome Rejection = λ parts s. plainly (parts >>= (λ ps. complete_upload at limits.min_part bucket key upload (map naming ps) s)) in
+    ap completes (sym (map-map naming named_view named)) ∙ ap finished (sym is)
+
+pub aborts_upload : (limits : HostLimits) (at : ℕ) (body : Octets) (object : ObjectName) (upload : Option UploadId) → operated limits at body (AbortMultipartUpload object upload)
+    ≡ (λ s. plainly (abort_upload object.bucket object.key upload s))
+unfolding operated
+aborts_upload limits at body object upload = refl
+
+-- ---- all others are refused
+
+pub record IsNotDone (operation : Operation) : Type 0 where
+  pub list : operation ≡ ListBuckets → ⊥
+  pub create : (bucket : Octets) → operation ≡ CreateBucket bucket → ⊥
+  pub head : (bucket : Octets) → operation ≡ HeadBucket bucket → ⊥
+  pub delete : (bucket : Octets) → operation ≡ DeleteBucket bucket → ⊥
+  pub keys : (bucket : Octets) (page : Page) (token : Option Octets) → operation ≡ ListObjectsV2 bucket page token → ⊥
+  pub versions : (bucket : Octets) (page : Page) (after : Option VersionMarker) → operation ≡ ListObjectVersions bucket page after → ⊥
+  pub ask : (bucket : Octets) → operation ≡ GetBucketVersioning bucket → ⊥
+  pub set : (bucket : Octets) → operation ≡ PutBucketVersioning bucket → ⊥
+  pub put : (object : ObjectName) (checksum : Option Octets) → operation ≡ PutObject object checksum → ⊥
+  pub copy : (object : ObjectName) (source : CopySource) → operation ≡ CopyObject object source → ⊥
+  pub get : (object : ObjectName) (version : Wanted) (range : Option Octets) → operation ≡ GetObject object version range → ⊥
+  pub look : (object : ObjectName) (version : Wanted) → operation ≡ HeadObject object version → ⊥
+  pub remove : (object : ObjectName) (version : Wanted) → operation ≡ DeleteObject object version → ⊥
+  pub begin : (object : ObjectName) → operation ≡ CreateMultipartUpload object → ⊥
+  pub part : (object : ObjectName) (upload : Option UploadId) (number : ℕ) (checksum : Option Octets) → operation ≡ UploadPart object upload number checksum → ⊥
+  pub complete : (object : ObjectName) (upload : Option UploadId) → operation ≡ CompleteMultipartUpload object upload → ⊥
+  pub abort : (object : ObjectName) (upload : Option UploadId) → operation ≡ AbortMultipartUpload object upload → ⊥
+
+pub not_done : (limits : HostLimits) (at : ℕ) (body : Octets) (s : Option Machine) (operation : Operation) → IsNotDone operation → operated limits at body operation s ≡ Err (plain NotImplemented)
+unfolding operated
+not_done limits at body s ListBuckets others = absurd (others.list refl)
+not_done limits at body s Usage others = refl
+not_done limits at body s (CreateBucket x) others = absurd (others.create x refl)
+not_done limits at body s (HeadBucket x) others = absurd (others.head x refl)
+not_done limits at body s (DeleteBucket x) others = absurd (others.delete x refl)
+not_done limits at body s (ListObjectsV2 x y z) others = absurd (others.keys x y z refl)
+not_done limits at body s (ListObjectVersions x y z) others = absurd (others.versions x y z refl)
+not_done limits at body s (ListMultipartUploads x y z) others = refl
+not_done limits at body s (GetBucketVersioning x) others = absurd (others.ask x refl)
+not_done limits at body s (PutBucketVersioning x) others = absurd (others.set x refl)
+not_done limits at body s (GetLifecycle x) others = refl
+not_done limits at body s (PutLifecycle x) others = refl
+not_done limits at body s (DeleteLifecycle x) others = refl
+not_done limits at body s (PutObject x y) others = absurd (others.put x y refl)
+not_done limits at body s (CopyObject x y) others = absurd (others.copy x y refl)
+not_done limits at body s (GetObject x y z) others = absurd (others.get x y z refl)
+not_done limits at body s (HeadObject x y) others = absurd (others.look x y refl)
+not_done limits at body s (DeleteObject x y) others = absurd (others.remove x y refl)
+not_done limits at body s (CreateMultipartUpload x) others = absurd (others.begin x refl)
+not_done limits at body s (UploadPart x y z w) others = absurd (others.part x y z w refl)
+not_done limits at body s (ListParts x y z) others = refl
+not_done limits at body s (CompleteMultipartUpload x y) others = absurd (others.complete x y refl)
+not_done limits at body s (AbortMultipartUpload x y) others = absurd (others.abort x y refl)

@@ -7,6 +7,7 @@ use Rattle.bh_model.specs.State.{Octets, State as Machine}
 use Rattle.bh_tables.specs.Typed.{Tables}
 use Rattle.bh_view.specs.Blocks.{AreDigests}
 use Rattle.bh_view.specs.Bodies.{IsSoundHost}
+use Rattle.bh_view.specs.Sound.{IsSound}
 use Rattle.bh_view.specs.View.{latest_of, limits_in}
 use Rattle.bh_view.proofs.PurgeLemmas.{view_purged}
 use Rattle.bh_storage.specs.declared.error.StepError.{StepError}
@@ -36,6 +37,10 @@ module _ (digest : Octets → Octets) (l : HostLimits) (s : State) where
 
 shown_now : (l : HostLimits) (s : State) → IsWorking s → ((seen_in l s).now ≡ tables_at s) × ((seen_in l s).inside ≡ true)
 shown_now l s working = holds_seen l (tables_at s) s (record { within = working.inside; is = refl })
+
+pub limits_seen : (l : HostLimits) (s : State) → (seen_in l s).limits ≡ l
+unfolding seen_in
+limits_seen l s = refl
 
 -- ---- a call on the connection
 
@@ -74,9 +79,9 @@ pub stored : {S D : Type 0} (g : Ghosts S) (old new : HostStorage S D) → Keeps
     → calls.Within (λ (h : HostStorage S D). IsIntact g h.host) (λ (h : HostStorage S D). IsOpen g h.host) (λ (h : HostStorage S D). seen g h.host) (λ (h : HostStorage S D). left g h.host) old new
 stored g old new k = record { intact = k.intact; opened = k.opened; survives = k.survives; kept = k.kept; limits = k.limits }
 
--- no table has uploads, so there is nothing to purge
-pub purges : (tables : Tables) (t : Octets) (at : ℕ) → calls.Purges t at tables tables
-purges tables t at = record { is = refl; own = sym (view_purged tables t at); others = λ u apart. refl; latest = refl }
+-- no bucket has a rule that makes its uploads stale, so there is nothing to purge
+pub purges : (tables : Tables) (t : Octets) (at : ℕ) → IsSound tables → calls.Purges t at tables tables
+purges tables t at sound = record { is = refl; own = sym (view_purged tables t at sound); others = λ u apart. refl; latest = refl }
 
 -- ---- a call whose promise holds of all functions holds of this one
 

@@ -5,7 +5,9 @@ ghost use Rattle.bh_storage.specs.Errors.{step_rejected};
 ghost use Rattle.bh_storage.specs.declared.answer.Answer.TheVariants as answer;
 
 use bh_docs::{BucketEntry, ObjectsPage, VersionsPage};
-use bh_storage::answer::{Answer, CopiedVersion, RemovedEntry, StoredVersion};
+use bh_storage::answer::{
+    Answer, BegunUpload, CompletedUpload, CopiedVersion, RemovedEntry, StoredVersion,
+};
 use bh_storage::error::StepError;
 use bh_types::bucket_state::BucketState;
 use bh_types::refusal::Refusal;
@@ -72,4 +74,28 @@ pub fn versions(
     ensures { result ≡ result_map_both answer.Versions step_rejected outcome }
 {
     Ok(Answer::Versions(outcome?))
+}
+
+pub fn begun(
+    outcome: Result<BegunUpload, StepError<Refusal>>,
+) -> Result<Answer, StepError<Rejection>>
+    ensures { result ≡ result_map_both answer.Begun step_rejected outcome }
+{
+    Ok(Answer::Begun(outcome?))
+}
+
+pub fn part_stored(
+    outcome: Result<String, StepError<Refusal>>,
+) -> Result<Answer, StepError<Rejection>>
+    ensures { result ≡ result_map_both answer.PartStored step_rejected outcome }
+{
+    Ok(Answer::PartStored(outcome?))
+}
+
+pub fn completed(
+    outcome: Result<CompletedUpload, StepError<Refusal>>,
+) -> Result<Answer, StepError<Rejection>>
+    ensures { result ≡ result_map_both answer.Completed step_rejected outcome }
+{
+    Ok(Answer::Completed(outcome?))
 }

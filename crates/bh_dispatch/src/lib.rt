@@ -5,3 +5,4 @@
 mod answers;
 pub mod operations;
 pub mod storage;
+pub mod uploads;

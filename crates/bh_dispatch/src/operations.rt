@@ -1,7 +1,7 @@
 ghost use Rattle.std.specs.Option.{option_copied};
 ghost use Rattle.std.specs.Prelude.{◌≡◌, ◌≤◌, option_map};
 ghost use Rattle.bh_types.specs.Rejections.{plainly};
-ghost use Rattle.bh_machine.specs.Machine.{set_versioning, page_asked, place_asked, operated};
+ghost use Rattle.bh_machine.specs.Machine.{set_versioning, page_asked, operated, place_asked};
 ghost use Rattle.bh_model.specs.Operations as machine;
 ghost use Rattle.bh_model.specs.Listings.{list_objects, list_versions};
 ghost use Rattle.bh_view.specs.Blocks.{AreDigests};
@@ -11,7 +11,7 @@ ghost use Rattle.bh_storage.specs.Calls.{Unless, Carries};
 ghost use Rattle.bh_schema.specs.Connections.{IsClean, tables, StaysWithin, StaysOpen};
 ghost use Rattle.bh_schema.specs.Working.{Works, StillWorks, StillWorksBy};
 
-use crate::answers;
+use crate::{answers, uploads};
 use bh_docs::read_versioning;
 use bh_objects::copies::NewCopy;
 use bh_objects::writes::NewObject;
@@ -25,11 +25,14 @@ use bh_schema::host::Digester;
 use bh_storage::answer::Answer;
 use bh_storage::error::{StepError, Trouble};
 use bh_types::bucket::BucketName;
+use bh_types::limits::Limits;
 use bh_types::moment::Moment;
 use bh_types::names::TenantName;
 use bh_types::refusal::Refusal;
 use bh_types::rejection::Rejection;
 use bh_types::wanted::Wanted;
+use bh_uploads::parts::NewPart;
+use bh_uploads::reads::NamedUpload;
 use sqlite::{Alter, Connection};
 use std::alloc::Global;
 
@@ -316,13 +319,14 @@ fn list_versions<S: Alter>(
     ))
 }
 
-/// Carries out an operation of a tenant, at a moment that is not after the last stamp: NotImplemented for those that
-/// the host doesn't do yet. Bytes are stored in blocks of at most this size.
+/// Carries out an operation of a tenant, on a host with these limits and at a moment that is not after the last stamp:
+/// NotImplemented for those that the host doesn't do yet. Bytes are stored in blocks of at most this size.
 pub fn operate<S: Alter, D: Digester>(
     connection: &mut Connection<S>,
     alloc: Global,
     digester: &D,
     block_size: u64,
+    limits: &Limits,
     tenant: &TenantName,
     at: Moment,
     operation: &Operation,
@@ -336,7 +340,7 @@ pub fn operate<S: Alter, D: Digester>(
     ensures opens { Unless result (StaysOpen S.Store connection.old connection.new) }
     ensures working { Unless result (StillWorksBy S.Store D.digest_of connection.old connection.new) }
     ensures carries { IsClean S.Store connection.new
-        → Carries answer_view tenant.now (operated at body.now operation.now)
+        → Carries answer_view tenant.now (operated limits.now at body.now operation.now)
         (tables S.Store connection.old) (tables S.Store connection.new) result }
 {
     match operation {
@@ -397,6 +401,41 @@ pub fn operate<S: Alter, D: Digester>(
         }
         Operation::DeleteObject { object, version } => {
             delete_object(connection, tenant, at, object, *version)
+        }
+        Operation::CreateMultipartUpload(object) => {
+            uploads::begin_upload(connection, alloc, tenant, at, object)
+        }
+        Operation::UploadPart {
+            object,
+            upload,
+            number,
+            checksum,
+        } => {
+            let part = NewPart {
+                upload: NamedUpload {
+                    tenant,
+                    bucket: &object.bucket,
+                    key: &object.key,
+                    upload: *upload,
+                },
+                number: *number,
+                at,
+                bytes: body,
+            };
+            uploads::put_part(
+                connection,
+                alloc,
+                digester,
+                block_size,
+                &part,
+                bytes_of(checksum),
+            )
+        }
+        Operation::CompleteMultipartUpload { object, upload } => {
+            uploads::complete_upload(connection, alloc, limits, tenant, at, object, *upload, body)
+        }
+        Operation::AbortMultipartUpload { object, upload } => {
+            uploads::abort_upload(connection, alloc, tenant, object, *upload)
         }
         _ => Err(StepError::from(Refusal::NotImplemented)),
     }

@@ -65,7 +65,7 @@ impl<S: Alter + Drop, D: Digester + Drop> Storage for HostStorage<S, D> {
         self.host.stamp_reading(reading)
     }
 
-    // No table has uploads.
+    // No bucket has a rule that makes its uploads stale.
     fn purge(&mut self, _tenant: &TenantName, _at: Moment) -> Result<(), Trouble> {
         Ok(())
     }
@@ -93,6 +93,7 @@ impl<S: Alter + Drop, D: Digester + Drop> Storage for HostStorage<S, D> {
             alloc,
             &self.host.digester,
             block_size,
+            &self.host.limits,
             tenant,
             at,
             operation,

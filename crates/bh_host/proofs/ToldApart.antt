@@ -66,22 +66,22 @@ differs : (test : Octets → Bool) (reply other : Octets) → test reply ≡ fal
 differs test reply other isnt is same = true_is_false (test other) is (ap test (sym same) ∙ isnt)
 
 -- the text of a step, whoever the act belongs to
-turned_reply : (o : Option Octets) (act : Act) (m : ℕ) (stamped new : Tables) (reply : Octets) → TurnedFor o m act stamped new reply
-    → (s : Option State) × (reply ≡ text act (step m act s).0)
-turned_reply (Some t) act m stamped new reply turned = (view stamped t, turned.told)
-turned_reply None act m stamped new reply turned = (None, turned.told)
+turned_reply : (limits : HostLimits) (o : Option Octets) (act : Act) (m : ℕ) (stamped new : Tables) (reply : Octets) → TurnedFor limits o m act stamped new reply
+    → (s : Option State) × (reply ≡ text act (step limits m act s).0)
+turned_reply limits (Some t) act m stamped new reply turned = (view stamped t, turned.told)
+turned_reply limits None act m stamped new reply turned = (None, turned.told)
 
 pub told_apart : (limits : HostLimits) (message : Message) (m : ℕ) (stamped new : Tables) (reply : Octets) → Turns limits message m stamped new reply
     → (reply ≢ clock_text (caller_of message)) × (reply ≢ wanting_text (caller_of message))
 told_apart limits (Requested bytes) m stamped new reply (act, (answer, reads, is), turned) =
-    let found = turned_reply (owner_of act) act m stamped new reply turned.judged in
+    let found = turned_reply limits (owner_of act) act m stamped new reply turned.judged in
     let free = step_only limits (Requested bytes) m act found.0 (answer, reads, is) in
-    let no : is_fixed_response reply ≡ false = ap is_fixed_response (found.1 ∙ ap (λ a. text a (step m act found.0).0) is) ∙ answered_apart answer (step m act found.0).0 free in
+    let no : is_fixed_response reply ≡ false = ap is_fixed_response (found.1 ∙ ap (λ a. text a (step limits m act found.0).0) is) ∙ answered_apart answer (step limits m act found.0).0 free in
     (differs is_fixed_response reply (clock_text Request) no clock_response, differs is_fixed_response reply (wanting_text Request) no wanting_response)
 told_apart limits (Ordered order) m stamped new reply (act, is, turned) =
-    let found = turned_reply (owner_of act) act m stamped new reply turned.judged in
+    let found = turned_reply limits (owner_of act) act m stamped new reply turned.judged in
     let free = step_only limits (Ordered order) m act found.0 is in
-    let no : is_fixed_line reply ≡ false = ap is_fixed_line (found.1 ∙ ap (λ a. text a (step m act found.0).0) is) ∙ ordered_apart order (step m act found.0).0 free in
+    let no : is_fixed_line reply ≡ false = ap is_fixed_line (found.1 ∙ ap (λ a. text a (step limits m act found.0).0) is) ∙ ordered_apart order (step limits m act found.0).0 free in
     (differs is_fixed_line reply (clock_text Operator) no clock_line, differs is_fixed_line reply (wanting_text Operator) no wanting_line)
 
 -- the same of a storage

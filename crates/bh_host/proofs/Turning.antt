@@ -61,17 +61,17 @@ if_ordered (Err e) order outcome P Q told p go = tt
 -- ---- an act of a tenant: its stale uploads go, and then comes the change
 
 -- the tables in which the change found its owner
-module _ (t : Octets) (m : ℕ) (act : Act) (old mid new : Tables) (reply : List ℕ) where
-  changed : (result : Result Outcome Rejection) → Purges t m old mid → change m act (view mid t) ≡ result
-      → step m act (view old t) ≡ settled (purged_tenant (view old t) m) result
-  changed result purges is = ap (settled (purged_tenant (view old t) m)) (ap (change m act) (sym purges.own) ∙ is)
+module _ (limits : HostLimits) (t : Octets) (m : ℕ) (act : Act) (old mid new : Tables) (reply : List ℕ) where
+  changed : (result : Result Outcome Rejection) → Purges t m old mid → change limits m act (view mid t) ≡ result
+      → step limits m act (view old t) ≡ settled (purged_tenant (view old t) m) result
+  changed result purges is = ap (settled (purged_tenant (view old t) m)) (ap (change limits m act) (sym purges.own) ∙ is)
 
-  turned_done : (answer : Answer) → owner_of act ≡ Some t → Purges t m old mid → change m act (view mid t) ≡ Ok (answer, view new t)
-      → OthersSame t mid new → latest_of new ≡ latest_of mid → KeepsShared mid new → limits_in new ≡ limits_in old → reply ≡ text act (Ok answer) → Turned act m old new reply
-  turned_done answer owner purges is others latest shared limits told =
+  turned_done : (answer : Answer) → owner_of act ≡ Some t → Purges t m old mid → change limits m act (view mid t) ≡ Ok (answer, view new t)
+      → OthersSame t mid new → latest_of new ≡ latest_of mid → KeepsShared mid new → limits_in new ≡ limits_in old → reply ≡ text act (Ok answer) → Turned limits act m old new reply
+  turned_done answer owner purges is others latest shared kept told =
       let stepped = changed (Ok (answer, view new t)) purges is in
       let P : Result Answer Rejection × Option State → Type 0 = λ s. IfErr s.0 (λ _. new ≡ rows_purged t m old) in
-      let O : Option Octets → Type 0 = λ o. TurnedFor o m act old new reply in
+      let O : Option Octets → Type 0 = λ o. TurnedFor limits o m act old new reply in
       record {
         judged = subst O (sym owner) (record {
           told = told ∙ ap (λ s. text act s.0) (sym stepped);
@@ -80,16 +80,16 @@ module _ (t : Octets) (m : ℕ) (act : Act) (old mid new : Tables) (reply : List
           refused = subst P (sym stepped) tt;
         });
         latest = latest ∙ purges.latest;
-        limits = limits;
+        same_limits = kept;
         shared = subst (λ (x : Tables). KeepsShared x new) purges.is shared;
       }
 
-  turned_refused : (e : Rejection) → owner_of act ≡ Some t → Purges t m old mid → change m act (view mid t) ≡ Err e → new ≡ mid
-      → limits_in new ≡ limits_in old → reply ≡ text act (Err e) → Turned act m old new reply
-  turned_refused e owner purges is same limits told =
+  turned_refused : (e : Rejection) → owner_of act ≡ Some t → Purges t m old mid → change limits m act (view mid t) ≡ Err e → new ≡ mid
+      → limits_in new ≡ limits_in old → reply ≡ text act (Err e) → Turned limits act m old new reply
+  turned_refused e owner purges is same kept told =
       let stepped = changed (Err e) purges is in
       let P : Result Answer Rejection × Option State → Type 0 = λ s. IfErr s.0 (λ _. new ≡ rows_purged t m old) in
-      let O : Option Octets → Type 0 = λ o. TurnedFor o m act old new reply in
+      let O : Option Octets → Type 0 = λ o. TurnedFor limits o m act old new reply in
       record {
         judged = subst O (sym owner) (record {
           told = told ∙ ap (λ s. text act s.0) (sym stepped);
@@ -98,21 +98,21 @@ module _ (t : Octets) (m : ℕ) (act : Act) (old mid new : Tables) (reply : List
           refused = subst P (sym stepped) (same ∙ purges.is);
         });
         latest = ap latest_of same ∙ purges.latest;
-        limits = limits;
+        same_limits = kept;
         shared = shared_none old new (same ∙ purges.is);
       }
 
 owner_is : (r : Taken) (key : AccessKeyId) → key_given r ≡ Some key → owner_of (Asked (Ok r)) ≡ Some key.tenant
 owner_is r key is = ap (option_map (λ (k : AccessKeyId). k.tenant)) is
 
-pub turned_request : {X : Type 0} (shown : X → Answer) (key : AccessKeyId) (m : ℕ) (r : Taken) (old mid new : Tables) (outcome : Result X (StepError Rejection)) (reply : List ℕ)
-    → key_given r ≡ Some key → Purges key.tenant m old mid → Carries shown key.tenant (requested m r) mid new outcome → limits_in new ≡ limits_in old
-    → Tells shown (Asked (Ok r)) outcome reply → Turned (Asked (Ok r)) m old new reply
-turned_request shown key m r old mid new (Ok x) reply is purges gives limits told =
-    turned_done key.tenant m (Asked (Ok r)) old mid new reply (shown x) (owner_is r key is) purges gives.gives gives.others gives.latest gives.shared limits told
-turned_request shown key m r old mid new (Err (Refused e)) reply is purges gives limits told =
-    turned_refused key.tenant m (Asked (Ok r)) old mid new reply e (owner_is r key is) purges gives.0 gives.1 limits told
-turned_request shown key m r old mid new (Err (Failed trouble)) reply is purges gives limits told = absurd told
+pub turned_request : {X : Type 0} (limits : HostLimits) (shown : X → Answer) (key : AccessKeyId) (m : ℕ) (r : Taken) (old mid new : Tables) (outcome : Result X (StepError Rejection)) (reply : List ℕ)
+    → key_given r ≡ Some key → Purges key.tenant m old mid → Carries shown key.tenant (requested limits m r) mid new outcome → limits_in new ≡ limits_in old
+    → Tells shown (Asked (Ok r)) outcome reply → Turned limits (Asked (Ok r)) m old new reply
+turned_request limits shown key m r old mid new (Ok x) reply is purges gives kept told =
+    turned_done limits key.tenant m (Asked (Ok r)) old mid new reply (shown x) (owner_is r key is) purges gives.gives gives.others gives.latest gives.shared kept told
+turned_request limits shown key m r old mid new (Err (Refused e)) reply is purges gives kept told =
+    turned_refused limits key.tenant m (Asked (Ok r)) old mid new reply e (owner_is r key is) purges gives.0 gives.1 kept told
+turned_request limits shown key m r old mid new (Err (Failed trouble)) reply is purges gives kept told = absurd told
 
 none_is_none : {X : Type 0} (o : Option X) (x : X) → o ≡ None → o ≡ Some x → ⊥
 none_is_none o x none some = search rules
@@ -125,49 +125,49 @@ named_is text name is = elim (cases_Bool (is_tenant_name text)) [
 ]
 
 -- the tenant of an order and the tenant that it names
-pub turned_order : {X : Type 0} (t : Octets) (m : ℕ) (order : Order) (old mid new : Tables) (outcome : Result X (StepError Refusal)) (reply : List ℕ)
+pub turned_order : {X : Type 0} (limits : HostLimits) (t : Octets) (m : ℕ) (order : Order) (old mid new : Tables) (outcome : Result X (StepError Refusal)) (reply : List ℕ)
     → owner_of (Commanded order) ≡ Some t → Purges t m old mid → Carries (λ _. Done) (tenant_of order) (ordered order) mid new outcome → limits_in new ≡ limits_in old
-    → TellsOrder order outcome reply → Turned (Commanded order) m old new reply
-turned_order t m order old mid new (Ok x) reply owner purges gives limits told =
+    → TellsOrder order outcome reply → Turned limits (Commanded order) m old new reply
+turned_order limits t m order old mid new (Ok x) reply owner purges gives kept told =
     let is : tenant_of order ≡ t = named_is (tenant_of order) t owner in
     let G : Octets → Type 0 = λ u. ordered order (view mid u) ≡ Ok (Done, view new u) in
     let O : Octets → Type 0 = λ u. OthersSame u mid new in
-    turned_done t m (Commanded order) old mid new reply Done owner purges (ap plainly (subst G is gives.gives)) (subst O is gives.others) gives.latest gives.shared limits told
-turned_order t m order old mid new (Err (Refused r)) reply owner purges gives limits told =
+    turned_done limits t m (Commanded order) old mid new reply Done owner purges (ap plainly (subst G is gives.gives)) (subst O is gives.others) gives.latest gives.shared kept told
+turned_order limits t m order old mid new (Err (Refused r)) reply owner purges gives kept told =
     let is : tenant_of order ≡ t = named_is (tenant_of order) t owner in
     let G : Octets → Type 0 = λ u. ordered order (view mid u) ≡ Err r in
-    turned_refused t m (Commanded order) old mid new reply (plain r) owner purges (ap plainly (subst G is gives.0)) gives.1 limits told
-turned_order t m order old mid new (Err (Failed trouble)) reply owner purges gives limits told = absurd told
+    turned_refused limits t m (Commanded order) old mid new reply (plain r) owner purges (ap plainly (subst G is gives.0)) gives.1 kept told
+turned_order limits t m order old mid new (Err (Failed trouble)) reply owner purges gives kept told = absurd told
 
 -- ---- an act of nobody, which is refused
 
-turned_stranger : (act : Act) (at : ℕ) (e : Rejection) (old : Tables) (reply : List ℕ) → owner_of act ≡ None → change at act None ≡ Err e → reply ≡ text act (Err e) → Turned act at old old reply
-turned_stranger act at e old reply none is told =
-    let O : Option Octets → Type 0 = λ o. TurnedFor o at act old old reply in
+turned_stranger : (limits : HostLimits) (act : Act) (at : ℕ) (e : Rejection) (old : Tables) (reply : List ℕ) → owner_of act ≡ None → change limits at act None ≡ Err e → reply ≡ text act (Err e) → Turned limits act at old old reply
+turned_stranger limits act at e old reply none is told =
+    let O : Option Octets → Type 0 = λ o. TurnedFor limits o at act old old reply in
     record {
       judged = subst O (sym none) (record { told = told ∙ ap (λ (o : Result Outcome Rejection). text act (settled None o).0) (sym is); same = refl });
       latest = refl;
-      limits = refl;
+      same_limits = refl;
       shared = shared_none old old refl;
     }
 
-pub turned_nobody : (at : ℕ) (r : Taken) (e : Rejection) (old : Tables) (reply : List ℕ) → key_given r ≡ None → ((m : ℕ) → requested m r None ≡ Err e)
-    → reply ≡ text (Asked (Ok r)) (Err e) → Turned (Asked (Ok r)) at old old reply
-turned_nobody at r e old reply none is told =
-    turned_stranger (Asked (Ok r)) at e old reply (ap (option_map (λ (k : AccessKeyId). k.tenant)) none) (is at) told
+pub turned_nobody : (limits : HostLimits) (at : ℕ) (r : Taken) (e : Rejection) (old : Tables) (reply : List ℕ) → key_given r ≡ None → ((m : ℕ) → requested limits m r None ≡ Err e)
+    → reply ≡ text (Asked (Ok r)) (Err e) → Turned limits (Asked (Ok r)) at old old reply
+turned_nobody limits at r e old reply none is told =
+    turned_stranger limits (Asked (Ok r)) at e old reply (ap (option_map (λ (k : AccessKeyId). k.tenant)) none) (is at) told
 
 -- bytes that are no request
-turned_unread : (at : ℕ) (refusal : Refusal) (old : Tables) (reply : List ℕ) → reply ≡ text (Asked (Err refusal)) (Err (plain refusal)) → Turned (Asked (Err refusal)) at old old reply
-turned_unread at refusal old reply told = turned_stranger (Asked (Err refusal)) at (plain refusal) old reply refl refl told
+turned_unread : (limits : HostLimits) (at : ℕ) (refusal : Refusal) (old : Tables) (reply : List ℕ) → reply ≡ text (Asked (Err refusal)) (Err (plain refusal)) → Turned limits (Asked (Err refusal)) at old old reply
+turned_unread limits at refusal old reply told = turned_stranger limits (Asked (Err refusal)) at (plain refusal) old reply refl refl told
 
 pub turns_unread : (limits : HostLimits) (bytes : List ℕ) (at : ℕ) (old : Tables) (error : RequestError) (reply : List ℕ) → ReadsError limits bytes error → TellsUnread error reply → TurnsRequest limits bytes at old old reply
-turns_unread limits bytes at old (error.Refused refusal) reply reads told = (Err refusal, reads, turned_unread at refusal old reply told)
+turns_unread limits bytes at old (error.Refused refusal) reply reads told = (Err refusal, reads, turned_unread limits at refusal old reply told)
 turns_unread limits bytes at old error.OutOfMemory reply reads told = absurd told
 
-pub turned_nameless : (at : ℕ) (order : Order) (old : Tables) (reply : List ℕ) → owner_of (Commanded order) ≡ None → reply ≡ refusal_text InvalidName → Turned (Commanded order) at old old reply
+pub turned_nameless : (limits : HostLimits) (at : ℕ) (order : Order) (old : Tables) (reply : List ℕ) → owner_of (Commanded order) ≡ None → reply ≡ refusal_text InvalidName → Turned limits (Commanded order) at old old reply
 unfolding text
-turned_nameless at order old reply none told =
-    turned_stranger (Commanded order) at (plain InvalidName) old reply none (ap plainly (nameless order none)) told
+turned_nameless limits at order old reply none told =
+    turned_stranger limits (Commanded order) at (plain InvalidName) old reply none (ap plainly (nameless order none)) told
 
 -- ---- an event
 

@@ -65,25 +65,25 @@ own = runs.own owner_of
 abbrev pub replies_to : Octets → List Turn → List (List ℕ)
 replies_to = runs.replies_to owner_of
 
--- the machine's reply and state
-abbrev pub replied : ℕ → Act → Option State → List ℕ × Option State
-replied m act s = (text act (step m act s).0, (step m act s).1)
+-- the machine's reply and state, on a host with these limits
+abbrev pub replied : HostLimits → ℕ → Act → Option State → List ℕ × Option State
+replied limits m act s = (text act (step limits m act s).0, (step limits m act s).1)
 
 -- the machine alone, given its own acts
-abbrev pub solo : Option State → List (ℕ × Act) → List (List ℕ)
-solo = runs.solo replied
+abbrev pub solo : HostLimits → Option State → List (ℕ × Act) → List (List ℕ)
+solo limits = runs.solo (replied limits)
 
-abbrev pub solo_state : Option State → List (ℕ × Act) → Option State
-solo_state = runs.solo_state replied
+abbrev pub solo_state : HostLimits → Option State → List (ℕ × Act) → Option State
+solo_state limits = runs.solo_state (replied limits)
 
 -- each tenant is told what a machine alone tells it
-abbrev pub IsAlone : List Turn → Tables → Tables → Type 0
-IsAlone turns old new = (t : Octets) (s : Option State) → Follows s (view old t) (latest_of old)
-    → (replies_to t turns ≡ solo s (own t turns)) × Follows (solo_state s (own t turns)) (view new t) (latest_of new)
+abbrev pub IsAlone : HostLimits → List Turn → Tables → Tables → Type 0
+IsAlone limits turns old new = (t : Octets) (s : Option State) → Follows s (view old t) (latest_of old)
+    → (replies_to t turns ≡ solo limits s (own t turns)) × Follows (solo_state limits s (own t turns)) (view new t) (latest_of new)
 
 pub record HasRun (limits : HostLimits) (events : List Arrival) (dones : List Told) (turns : List Turn) (old new : Tables) : Type 0 where
   pub shown : Shows limits (latest_of new) events dones turns (latest_of old)
-  pub alone : IsAlone turns old new
+  pub alone : IsAlone limits turns old new
 
 -- the same of a storage: an open one shows the tables at the end
 pub record HasRunOn {H : Type 0} (IsOpen : H → Type 0) (seen : H → Seen) (events : List Arrival) (dones : List Told) (old new : H) : Type 0 where

@@ -21,37 +21,37 @@ use Rattle.bh_view.specs.Becomes.{KeepsShared}
 use Rattle.bh_view.specs.View.{view, latest_of, limits_in, with_latest, rows_purged}
 use Rattle.bh_host.specs.Replies.{text, caller_of, clock_text, wanting_text}
 
--- ---- an act at the stamp m. `stamped` is the tables before it with m as the last stamp
+-- ---- an act at the stamp m, on a host with these limits. `stamped` is the tables before it with m as the last stamp
 
 -- the owner is told, and then has, what the machine's step gives; all others see what they saw
-pub record Owned (t : Octets) (m : ℕ) (act : Act) (stamped new : Tables) (reply : List ℕ) : Type 0 where
-  pub told : reply ≡ text act (step m act (view stamped t)).0
-  pub own : view new t ≡ (step m act (view stamped t)).1
+pub record Owned (limits : HostLimits) (t : Octets) (m : ℕ) (act : Act) (stamped new : Tables) (reply : List ℕ) : Type 0 where
+  pub told : reply ≡ text act (step limits m act (view stamped t)).0
+  pub own : view new t ≡ (step limits m act (view stamped t)).1
   pub others : OthersSame t stamped new
   -- a refusal leaves all tables but for the owner's stale uploads
-  pub refused : IfErr (step m act (view stamped t)).0 (λ _. new ≡ rows_purged t m stamped)
+  pub refused : IfErr (step limits m act (view stamped t)).0 (λ _. new ≡ rows_purged t m stamped)
 
 -- nobody is answered as a tenant that was not added is, and all tables stay
-pub record IsNobody (m : ℕ) (act : Act) (stamped new : Tables) (reply : List ℕ) : Type 0 where
-  pub told : reply ≡ text act (step m act None).0
+pub record IsNobody (limits : HostLimits) (m : ℕ) (act : Act) (stamped new : Tables) (reply : List ℕ) : Type 0 where
+  pub told : reply ≡ text act (step limits m act None).0
   pub same : new ≡ stamped
 
-abbrev pub TurnedFor : Option Octets → ℕ → Act → Tables → Tables → List ℕ → Type 0
-TurnedFor (Some t) m act stamped new reply = Owned t m act stamped new reply
-TurnedFor None m act stamped new reply = IsNobody m act stamped new reply
+abbrev pub TurnedFor : HostLimits → Option Octets → ℕ → Act → Tables → Tables → List ℕ → Type 0
+TurnedFor limits (Some t) m act stamped new reply = Owned limits t m act stamped new reply
+TurnedFor limits None m act stamped new reply = IsNobody limits m act stamped new reply
 
 -- an act is judged by whose it is; what all tenants share is kept
-pub record Turned (act : Act) (m : ℕ) (stamped new : Tables) (reply : List ℕ) : Type 0 where
-  pub judged : TurnedFor (owner_of act) m act stamped new reply
+pub record Turned (limits : HostLimits) (act : Act) (m : ℕ) (stamped new : Tables) (reply : List ℕ) : Type 0 where
+  pub judged : TurnedFor limits (owner_of act) m act stamped new reply
   pub latest : latest_of new ≡ latest_of stamped
-  pub limits : limits_in new ≡ limits_in stamped
+  pub same_limits : limits_in new ≡ limits_in stamped
   pub shared : KeepsShared stamped new
 
 abbrev pub Turns : HostLimits → Message → ℕ → Tables → Tables → List ℕ → Type 0
-Turns limits message m stamped new reply = (act : Act) × Acted limits message act × Turned act m stamped new reply
+Turns limits message m stamped new reply = (act : Act) × Acted limits message act × Turned limits act m stamped new reply
 
 abbrev pub TurnsRequest : HostLimits → List ℕ → ℕ → Tables → Tables → List ℕ → Type 0
-TurnsRequest limits bytes m stamped new reply = (answer : Result Taken Refusal) × Reads limits bytes answer × Turned (Asked answer) m stamped new reply
+TurnsRequest limits bytes m stamped new reply = (answer : Result Taken Refusal) × Reads limits bytes answer × Turned limits (Asked answer) m stamped new reply
 
 -- the bytes that an outcome is told in; trouble isn't told
 abbrev pub Tells : {X : Type 0} → (X → Answer) → Act → Result X (StepError Rejection) → List ℕ → Type 0

@@ -1,20 +1,22 @@
 ghost use Rattle.std.specs.Prelude.{◌≡◌, map, IfOk};
+ghost use Rattle.std.specs.String.{string_bytes};
 ghost use Rattle.bh_docs.specs.Documents.{bucket_view};
 ghost use Rattle.bh_docs.specs.Pages.{page_view, versions_view};
 ghost use Rattle.bh_http.specs.Answers.{response_view};
 ghost use Rattle.bh_host.specs.Replies as spec;
-ghost use Rattle.bh_model.specs.Operations.{Buckets, Versioning, Objects, Versions};
-ghost use Rattle.bh_storage.specs.Answers.{answer_view, removed_answer, stored_answer, copied_answer, head_answer, found_answer};
+ghost use Rattle.bh_model.specs.Operations.{Buckets, Versioning, Objects, Versions, PartStored};
+ghost use Rattle.bh_storage.specs.Answers.{answer_view, removed_answer, stored_answer, copied_answer, head_answer, found_answer, begun_answer, completed_answer};
 
 use bh_docs::{
-    BucketEntry, ObjectsPage, VersionsPage, buckets_document, copied_document, objects_document,
-    versioning_document, versions_document,
+    BucketEntry, ObjectsPage, VersionsPage, begun_document, buckets_document, completed_document,
+    copied_document, objects_document, versioning_document, versions_document,
 };
 use bh_http::StatusCode;
 use bh_http::response::Response;
 use bh_http::values::{ContentRange, ContentType};
 use bh_storage::answer::{
-    Answer, CopiedVersion, FoundVersion, ObjectHead, RemovedEntry, StoredVersion,
+    Answer, BegunUpload, CompletedUpload, CopiedVersion, FoundVersion, ObjectHead, RemovedEntry,
+    StoredVersion,
 };
 use bh_types::bucket_state::BucketState;
 use bh_types::range::RangePlan;
@@ -35,6 +37,9 @@ pub fn response_to(alloc: Global, answer: Answer) -> Result<Response, AllocError
         Answer::Versioning(state) => versioning(alloc, state),
         Answer::Objects(page) => objects(alloc, &page),
         Answer::Versions(page) => versions(alloc, &page),
+        Answer::Begun(upload) => begun(alloc, &upload),
+        Answer::PartStored(checksum) => Ok(part_stored(alloc, checksum)),
+        Answer::Completed(upload) => completed(alloc, &upload),
     }
 }
 
@@ -136,4 +141,30 @@ fn versions(alloc: Global, page: &VersionsPage) -> Result<Response, AllocError>
 {
     let document = versions_document(alloc, page)?;
     Ok(Response::with_document(alloc, StatusCode::OK, document.into_bytes()))
+}
+
+fn begun(alloc: Global, upload: &BegunUpload) -> Result<Response, AllocError>
+    ensures { IfOk result (λ response. response_view response ≡ spec.response_to (begun_answer upload.now)) }
+{
+    let document = begun_document(alloc, &upload.bucket, &upload.key, upload.upload)?;
+    let mut response = Response::with_document(alloc, StatusCode::OK, document.into_bytes());
+    response.abort_date = upload.abort;
+    Ok(response)
+}
+
+fn part_stored(alloc: Global, checksum: String) -> Response
+    ensures { response_view result ≡ spec.response_to (PartStored (string_bytes checksum)) }
+{
+    let mut response = Response::empty(alloc, StatusCode::OK);
+    response.checksum = Some(checksum);
+    response
+}
+
+fn completed(alloc: Global, upload: &CompletedUpload) -> Result<Response, AllocError>
+    ensures { IfOk result (λ response. response_view response ≡ spec.response_to (completed_answer upload.now)) }
+{
+    let document = completed_document(alloc, &upload.bucket, &upload.checksum, &upload.key)?;
+    let mut response = Response::with_document(alloc, StatusCode::OK, document.into_bytes());
+    response.version_id = upload.id;
+    Ok(response)
 }

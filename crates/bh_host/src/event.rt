@@ -7,6 +7,7 @@ ghost use Rattle.bh_machine.specs.Machine as machine;
 ghost use Rattle.bh_model.specs.Runs.{last_reading};
 ghost use Rattle.bh_storage.specs.Calls.{Clean, Within, IsAtRest, IsWorking};
 ghost use Rattle.bh_tables.specs.Typed.{Tables};
+ghost use Rattle.bh_types.specs.Limits.{HostLimits};
 ghost use Rattle.bh_types.specs.Rejections.{plain};
 ghost use Rattle.bh_view.specs.View.{latest_of};
 ghost use Rattle.bh_host.specs.Replies.{clock_text, reply_bytes};
@@ -53,7 +54,8 @@ fn serve_tenant<H: Storage>(
     ensures opens { OnOk result (H.IsOpen host.old → H.IsIntact host.new → H.IsOpen host.new) }
     ensures working { OnOk result (Clean H.IsIntact H.IsOpen host.new → IsWorking H.IsSound (H.seen host.new)) }
     ensures turned { IfOk result (λ bytes. Clean H.IsIntact H.IsOpen host.new
-        → Turned (Asked (Ok (request_view request.now))) at (H.seen host.old).now (H.seen host.new).now bytes.items) }
+        → Turned (H.seen host.old).limits (Asked (Ok (request_view request.now))) at
+        (H.seen host.old).now (H.seen host.new).now bytes.items) }
 {
     host.purge(&key.tenant, at)?;
     let outcome = requested(alloc, host, key, at, request);
@@ -62,7 +64,7 @@ fn serve_tenant<H: Storage>(
 
 /// Why a request that belongs to nobody is refused.
 fn stranger_refusal(request: &Request) -> Refusal
-    ensures { (at : ℕ) → machine.requested at (request_view request.now) None ≡ Err (plain result) }
+    ensures { (limits : HostLimits) (at : ℕ) → machine.requested limits at (request_view request.now) None ≡ Err (plain result) }
 {
     match secret_of(request) {
         Ok(_) => Refusal::InvalidAccessKeyId,
@@ -93,7 +95,8 @@ fn serve_read<H: Storage>(
     ensures opens { OnOk result (H.IsOpen host.old → H.IsIntact host.new → H.IsOpen host.new) }
     ensures working { OnOk result (Clean H.IsIntact H.IsOpen host.new → IsWorking H.IsSound (H.seen host.new)) }
     ensures turned { IfOk result (λ bytes. Clean H.IsIntact H.IsOpen host.new
-        → Turned (Asked (Ok (request_view request.now))) at (H.seen host.old).now (H.seen host.new).now bytes.items) }
+        → Turned (H.seen host.old).limits (Asked (Ok (request_view request.now))) at
+        (H.seen host.old).now (H.seen host.new).now bytes.items) }
 {
     match access_key_of(alloc, request)? {
         Some(key) => serve_tenant(alloc, host, &key, request, at),
@@ -146,7 +149,8 @@ fn serve_named_command<H: Storage>(
     ensures opens { OnOk result (H.IsOpen host.old → H.IsIntact host.new → H.IsOpen host.new) }
     ensures working { OnOk result (Clean H.IsIntact H.IsOpen host.new → IsWorking H.IsSound (H.seen host.new)) }
     ensures turned { IfOk result (λ bytes. Clean H.IsIntact H.IsOpen host.new
-        → Turned (Commanded (order_of command.now)) at (H.seen host.old).now (H.seen host.new).now bytes.items) }
+        → Turned (H.seen host.old).limits (Commanded (order_of command.now)) at
+        (H.seen host.old).now (H.seen host.new).now bytes.items) }
 {
     host.purge(tenant, at)?;
     let outcome = host.command(alloc, command);
@@ -165,7 +169,8 @@ fn serve_command<H: Storage>(
     ensures opens { OnOk result (H.IsOpen host.old → H.IsIntact host.new → H.IsOpen host.new) }
     ensures working { OnOk result (Clean H.IsIntact H.IsOpen host.new → IsWorking H.IsSound (H.seen host.new)) }
     ensures turned { IfOk result (λ bytes. Clean H.IsIntact H.IsOpen host.new
-        → Turned (Commanded (order_of command.now)) at (H.seen host.old).now (H.seen host.new).now bytes.items) }
+        → Turned (H.seen host.old).limits (Commanded (order_of command.now)) at
+        (H.seen host.old).now (H.seen host.new).now bytes.items) }
 {
     match owner_of_command(alloc, command)? {
         Some(tenant) => serve_named_command(alloc, host, &tenant, command, at),

@@ -32,7 +32,7 @@ pub fn requested<H: Storage>(
     ensures opens { Unless result (H.IsOpen host.old → H.IsIntact host.new → H.IsOpen host.new) }
     ensures working { Unless result (Clean H.IsIntact H.IsOpen host.new → IsWorking H.IsSound (H.seen host.new)) }
     ensures carries { Clean H.IsIntact H.IsOpen host.new
-        → Carries answer_view key.now.tenant (machine.requested at (request_view request.now))
+        → Carries answer_view key.now.tenant (machine.requested (H.seen host.old).limits at (request_view request.now))
         (H.seen host.old).now (H.seen host.new).now result }
 {
     let secret = secret_of(request)?;

@@ -1,7 +1,7 @@
 -- How a step of the machine may be refused.
-use Rattle.std.proofs.Common.{◌≡◌, ℕ, Bool, true, false, List, Option, Some, None, Ok, Err, Result, refl, sym, subst, rules, IfErr, inl, inr}
-use Rattle.std.specs.Prelude.{ok_or, option_map, bytes_eq, nat_le, nat_lt, min, ◌-◌, [], ◌∷◌, length, ◌&&◌, ◌^◌, is_none, is_some}
-use Rattle.std.specs.FinMap.{get}
+use Rattle.std.proofs.Common.{◌≡◌, ℕ, Bool, true, false, List, Option, Some, None, Ok, Err, Result, refl, sym, subst, rules, IfErr, inl, inr, ℤ, pos, negsuc, ◌+◌, map, nat_cmp}
+use Rattle.std.specs.Prelude.{ok_or, option_map, bytes_eq, nat_le, nat_lt, min, ◌-◌, [], ◌∷◌, length, ◌&&◌, ◌^◌, is_none, is_some, option_and_then}
+use Rattle.std.specs.FinMap.{get, FinMap}
 use Rattle.std.specs.List.{find}
 use Rattle.std.specs.Result.{result_map_both}
 use Rattle.std.proofs.lemmas.Bool.{cases_Bool}
@@ -15,15 +15,16 @@ use Rattle.bh_types.specs.Rejections.{plain, plainly}
 use Rattle.bh_types.specs.declared.access_key.AccessKeyId.{AccessKeyId}
 use Rattle.bh_types.specs.declared.bucket_state.BucketState.{BucketState}
 use Rattle.bh_types.specs.declared.bucket_state.BucketState.TheVariants.{Unversioned, Enabled, Suspended}
+use Rattle.bh_types.specs.declared.id.UploadId.{UploadId}
 use Rattle.bh_types.specs.declared.range.RangePlan.{RangePlan}
 use Rattle.bh_types.specs.declared.wanted.Wanted.{Wanted}
 use Rattle.bh_types.specs.declared.wanted.Wanted.TheVariants.{Current, Named, Unknown}
 use Rattle.bh_types.specs.declared.refusal.Refusal.{Refusal}
 use Rattle.bh_types.specs.declared.refusal.Refusal.TheVariants.{BadRequest, NotImplemented, MissingContentLength, EntityTooLarge, AccessDenied, InvalidAccessKeyId, InvalidUri, InvalidBucketName, KeyTooLong, InvalidArgument, MalformedJson, NoSuchBucket, NoSuchKey, NoSuchVersion, NoSuchUpload, MethodNotAllowed, BucketAlreadyOwnedByYou, BucketNotEmpty, InvalidBucketState, NoSuchLifecycleConfiguration, InvalidPart, InvalidPartOrder, EntityTooSmall, QuotaExceeded, InvalidRange, BadDigest, IncompleteBody, InvalidRequest, CounterExhausted, ClockOutOfRange, ServiceUnavailable, TenantExists, NoSuchTenant, KeyExists, NoSuchKeyName, InvalidName, InvalidQuota, NotAHostFile, Unavailable}
 use Rattle.bh_types.specs.declared.rejection.Rejection.{Rejection}
-use Rattle.bh_types.proofs.Refusing.{then_only, require_only, ok_or_only, weaker_only}
-use Rattle.bh_docs.specs.Requests.{or_malformed, document_of, versioning_of}
-use Rattle.bh_docs.specs.Shapes.{data_of, versioning_shape}
+use Rattle.bh_types.proofs.Refusing.{then_only, if_only, require_only, ok_or_only, weaker_only}
+use Rattle.bh_docs.specs.Requests.{or_malformed, ranged, document_of, versioning_of, in_range, in_ranges, complete_of}
+use Rattle.bh_docs.specs.Shapes.{Part as Shape, data_of, versioning_shape, complete_shape}
 use Rattle.bh_event.specs.Events.{Order, AddTenant, AddKey, RemoveKey, Message, Requested, Ordered}
 use Rattle.bh_http.specs.Credentials.{key_field, secret_field, secret_of_both, secret_given, key_given}
 use Rattle.bh_http.specs.Fields.{Occurrence, Missing, Once, Repeated}
@@ -31,21 +32,22 @@ use Rattle.bh_http.specs.Refused.{is_reading_refusal}
 use Rattle.bh_http.specs.Views.{Taken}
 use Rattle.bh_http.proofs.Refused.{reads_only}
 use Rattle.bh_model.specs.declared.entries.LookupFault.{LookupFault}
-use Rattle.bh_model.specs.Counting.{counts, can_number, after_entry, after_delete}
+use Rattle.bh_model.specs.Counting.{counts, can_give, can_number, after_entry, after_delete}
 use Rattle.bh_model.specs.Credentials.{authenticate, secret_of}
 use Rattle.bh_model.specs.Entries.{Version, has_id, lookup, opened, found_named}
 use Rattle.bh_model.specs.FinMaps.{is_empty}
 use Rattle.bh_model.specs.Operations.{Outcome, added_tenant, tenant_bucket, listed, not_found, wanted_version, source_refusal, source_version, out_of_range, planned, create_bucket, head_bucket, delete_bucket, get_versioning, put_object, copy_object, get_object, head_object, delete_object}
-use Rattle.bh_model.specs.Parts.{is_checksum}
+use Rattle.bh_model.specs.Parts.{Naming, ascends, is_checksum, checked, choice, chosen, are_large, completed}
 use Rattle.bh_model.specs.Runs.{settled, purged_tenant}
-use Rattle.bh_model.specs.State.{Octets, Content, Content.Marker, Content.Body, Entry, Bucket, State}
+use Rattle.bh_model.specs.State.{Octets, Content, Content.Marker, Content.Body, Entry, Part, Bucket, State}
+use Rattle.bh_model.specs.Uploads.{found_upload, find_upload, after_begin, after_part, create_upload, upload_part, complete_upload, abort_upload}
 use Rattle.bh_operation.specs.Operations.{operation}
 use Rattle.bh_operation.specs.Refused.{is_operation_refusal}
 use Rattle.bh_operation.specs.declared.operation.Operation.{Operation}
 use Rattle.bh_operation.specs.declared.operation.Operation.TheVariants as op
 use Rattle.bh_operation.proofs.Refused.{operation_only}
 use Rattle.bh_model.specs.Listings.{objects_listed, list_objects, versions_listed, list_versions}
-use Rattle.bh_machine.specs.Machine.{Act, Acted, page_asked, place_asked, set_versioning, operated, requested, asked, ordered, change}
+use Rattle.bh_machine.specs.Machine.{Act, Acted, page_asked, place_asked, set_versioning, operated, requested, asked, ordered, change, naming, finish_upload}
 use Rattle.bh_machine.specs.Refused.{StepRefusals, is_step_refusal as may}
 
 abbrev Only : {X : Type 0} → Result X Refusal → Type 0
@@ -278,44 +280,106 @@ versioning_only body = then_only may (document_of body) _ (or_malformed_only (da
 set_only : (bucket body : Octets) (s : Option State) → Only (set_versioning bucket body s)
 set_only bucket body s = then_only may (versioning_of body) _ (versioning_only body) (λ mode. bucket_only bucket s _ (λ f. tt))
 
-operated_only : (now : ℕ) (body : Octets) (operation : Operation) (s : Option State) → MaySay (operated now body operation s)
+-- ---- uploads
+
+upload_found : (bucket key : Octets) (upload : Option UploadId) (s : Option State) → Only (find_upload bucket key upload s)
+upload_found bucket key upload s =
+    then_only may (tenant_bucket bucket s) _ (found_bucket bucket s) (λ f. ok_or_only may (found_upload key upload f.0 f.1) NoSuchUpload refl)
+
+begun_only : (now : ℕ) (bucket key : Octets) (s : Option State) → Only (create_upload now bucket key s)
+begun_only now bucket key s =
+    bucket_only bucket s _
+    (λ f. then_only may (after_begin (counts f.0)) _ (if_only may (can_give f.0.next_upload) (record (counts f.0) { upload = f.0.next_upload + 1 }) CounterExhausted refl) (λ c. tt))
+
+part_stored_only : (now : ℕ) (bucket key : Octets) (upload : Option UploadId) (number : ℕ) (bytes : Octets) (given : Option Octets) (s : Option State)
+    → Only (upload_part now bucket key upload number bytes given s)
+part_stored_only now bucket key upload number bytes given s =
+    then_only may (find_upload bucket key upload s) _ (upload_found bucket key upload s)
+    (λ f. then_only may (require (is_checksum given bytes) BadDigest) _ (require_only may (is_checksum given bytes) BadDigest refl)
+    (λ _. then_only may (after_part (counts f.tenant)) _ (if_only may (can_give f.tenant.next_entry) (record (counts f.tenant) { entry = f.tenant.next_entry + 1 }) CounterExhausted refl) (λ c. tt)))
+
+chosen_only : (parts : FinMap nat_cmp Part) (names : List Naming) → Only (chosen parts names)
+chosen_only parts [] = tt
+chosen_only parts (n ∷ ns) =
+    then_only may (choice parts n) _ (ok_or_only may (option_and_then (checked n.checksum) (get parts n.number)) InvalidPart refl)
+    (λ p. then_only may (chosen parts ns) _ (chosen_only parts ns) (λ ps. tt))
+
+joined_only : (least : ℕ) (parts : FinMap nat_cmp Part) (names : List Naming) → Only (completed least parts names)
+joined_only least parts names =
+    then_only may (require (ascends (map (λ n. n.number) names)) InvalidPartOrder) _ (require_only may (ascends (map (λ n. n.number) names)) InvalidPartOrder refl)
+    (λ _. then_only may (chosen parts names) _ (chosen_only parts names)
+    (λ ps. then_only may (require (are_large least ps) EntityTooSmall) _ (require_only may (are_large least ps) EntityTooSmall refl) (λ _. tt)))
+
+completed_only : (now least : ℕ) (bucket key : Octets) (upload : Option UploadId) (names : List Naming) (s : Option State)
+    → Only (complete_upload now least bucket key upload names s)
+completed_only now least bucket key upload names s =
+    then_only may (find_upload bucket key upload s) _ (upload_found bucket key upload s)
+    (λ f. then_only may (completed least f.upload.parts names) _ (joined_only least f.upload.parts names)
+    (λ content. then_only may (after_entry f.bucket.mode (counts f.tenant)) _ (numbers_only f.bucket.mode (counts f.tenant)) (λ c. tt)))
+
+ranged_only : (low high : ℕ) (n : ℤ) → Only (ranged low high n)
+ranged_only low high (pos n) = if_only may (nat_le low n && nat_le n high) n InvalidArgument refl
+ranged_only low high (negsuc n) = refl
+
+in_ranges_only : (parts : List Shape) → Only (in_ranges parts)
+in_ranges_only [] = tt
+in_ranges_only (part ∷ rest) =
+    then_only may (in_range part) _ (then_only may (ranged 1 10000 part.0) _ (ranged_only 1 10000 part.0) (λ number. tt))
+    (λ first. then_only may (in_ranges rest) _ (in_ranges_only rest) (λ others. tt))
+
+complete_only : (body : Octets) → Only (complete_of body)
+complete_only body =
+    then_only may (document_of body) _ (or_malformed_only (data_of body))
+    (λ document. then_only may (or_malformed (complete_shape document)) _ (or_malformed_only (complete_shape document)) in_ranges_only)
+
+finished_only : (limits : HostLimits) (now : ℕ) (bucket key : Octets) (upload : Option UploadId) (body : Octets) (s : Option State)
+    → Only (finish_upload limits now bucket key upload body s)
+finished_only limits now bucket key upload body s =
+    then_only may (complete_of body) _ (complete_only body) (λ parts. completed_only now limits.min_part bucket key upload (map naming parts) s)
+
+aborted_only : (bucket key : Octets) (upload : Option UploadId) (s : Option State) → Only (abort_upload bucket key upload s)
+aborted_only bucket key upload s = then_only may (find_upload bucket key upload s) _ (upload_found bucket key upload s) (λ f. tt)
+
+operated_only : (limits : HostLimits) (now : ℕ) (body : Octets) (operation : Operation) (s : Option State) → MaySay (operated limits now body operation s)
 unfolding operated
-operated_only now body (op.CreateBucket bucket) s = plainly_told (create_bucket now bucket s) (created_only now bucket s)
-operated_only now body (op.PutObject object checksum) s = plainly_told (put_object now object.bucket object.key body checksum s) (put_only now object.bucket object.key body checksum s)
-operated_only now body (op.GetObject object version range) s = got_only object.bucket object.key version range s
-operated_only now body op.ListBuckets s = tt
-operated_only now body op.Usage s = refl
-operated_only now body (op.HeadBucket bucket) s = plainly_told (head_bucket bucket s) (bucket_only bucket s _ (λ f. tt))
-operated_only now body (op.DeleteBucket bucket) s = plainly_told (delete_bucket bucket s) (bucket_gone_only bucket s)
-operated_only now body (op.ListObjectsV2 bucket page token) s =
+operated_only limits now body (op.CreateBucket bucket) s = plainly_told (create_bucket now bucket s) (created_only now bucket s)
+operated_only limits now body (op.PutObject object checksum) s = plainly_told (put_object now object.bucket object.key body checksum s) (put_only now object.bucket object.key body checksum s)
+operated_only limits now body (op.GetObject object version range) s = got_only object.bucket object.key version range s
+operated_only limits now body op.ListBuckets s = tt
+operated_only limits now body op.Usage s = refl
+operated_only limits now body (op.HeadBucket bucket) s = plainly_told (head_bucket bucket s) (bucket_only bucket s _ (λ f. tt))
+operated_only limits now body (op.DeleteBucket bucket) s = plainly_told (delete_bucket bucket s) (bucket_gone_only bucket s)
+operated_only limits now body (op.ListObjectsV2 bucket page token) s =
     plainly_told (list_objects bucket (page_asked page) token s) (then_only may (objects_listed bucket (page_asked page) token s) _ (then_only may (tenant_bucket bucket s) _ (found_bucket bucket s) (λ _. tt)) (λ _. tt))
-operated_only now body (op.ListObjectVersions bucket page after) s =
+operated_only limits now body (op.ListObjectVersions bucket page after) s =
     plainly_told (list_versions bucket (page_asked page) (option_map place_asked after) s)
     (then_only may (versions_listed bucket (page_asked page) (option_map place_asked after) s) _ (then_only may (tenant_bucket bucket s) _ (found_bucket bucket s) (λ _. tt)) (λ _. tt))
-operated_only now body (op.ListMultipartUploads bucket page after) s = refl
-operated_only now body (op.GetBucketVersioning bucket) s = plainly_told (get_versioning bucket s) (bucket_only bucket s _ (λ f. tt))
-operated_only now body (op.PutBucketVersioning bucket) s = plainly_told (set_versioning bucket body s) (set_only bucket body s)
-operated_only now body (op.GetLifecycle bucket) s = refl
-operated_only now body (op.PutLifecycle bucket) s = refl
-operated_only now body (op.DeleteLifecycle bucket) s = refl
-operated_only now body (op.CopyObject object source) s =
+operated_only limits now body (op.ListMultipartUploads bucket page after) s = refl
+operated_only limits now body (op.GetBucketVersioning bucket) s = plainly_told (get_versioning bucket s) (bucket_only bucket s _ (λ f. tt))
+operated_only limits now body (op.PutBucketVersioning bucket) s = plainly_told (set_versioning bucket body s) (set_only bucket body s)
+operated_only limits now body (op.GetLifecycle bucket) s = refl
+operated_only limits now body (op.PutLifecycle bucket) s = refl
+operated_only limits now body (op.DeleteLifecycle bucket) s = refl
+operated_only limits now body (op.CopyObject object source) s =
     plainly_told (copy_object now object.bucket object.key source.object.bucket source.object.key source.version s)
     (copied_only now object.bucket object.key source.object.bucket source.object.key source.version s)
-operated_only now body (op.HeadObject object version) s = headed_only object.bucket object.key version s
-operated_only now body (op.DeleteObject object version) s = plainly_told (delete_object now object.bucket object.key version s) (deleted_only now object.bucket object.key version s)
-operated_only now body (op.CreateMultipartUpload object) s = refl
-operated_only now body (op.UploadPart object upload number checksum) s = refl
-operated_only now body (op.ListParts object upload page) s = refl
-operated_only now body (op.CompleteMultipartUpload object upload) s = refl
-operated_only now body (op.AbortMultipartUpload object upload) s = refl
+operated_only limits now body (op.HeadObject object version) s = headed_only object.bucket object.key version s
+operated_only limits now body (op.DeleteObject object version) s = plainly_told (delete_object now object.bucket object.key version s) (deleted_only now object.bucket object.key version s)
+operated_only limits now body (op.CreateMultipartUpload object) s = plainly_told (create_upload now object.bucket object.key s) (begun_only now object.bucket object.key s)
+operated_only limits now body (op.UploadPart object upload number checksum) s =
+    plainly_told (upload_part now object.bucket object.key upload number body checksum s) (part_stored_only now object.bucket object.key upload number body checksum s)
+operated_only limits now body (op.ListParts object upload page) s = refl
+operated_only limits now body (op.CompleteMultipartUpload object upload) s =
+    plainly_told (finish_upload limits now object.bucket object.key upload body s) (finished_only limits now object.bucket object.key upload body s)
+operated_only limits now body (op.AbortMultipartUpload object upload) s = plainly_told (abort_upload object.bucket object.key upload s) (aborted_only object.bucket object.key upload s)
 
-requested_only : (now : ℕ) (request : Taken) (s : Option State) → MaySay (requested now request s)
-requested_only now request s =
+requested_only : (limits : HostLimits) (now : ℕ) (request : Taken) (s : Option State) → MaySay (requested limits now request s)
+requested_only limits now request s =
     then_told (plainly (secret_given request)) _ (plainly_told (secret_given request) (both_only (key_field request) (secret_field request)))
     (λ secret. then_told (ok_or (key_given request) (plain InvalidAccessKeyId)) _ (keyed_told (key_given request))
     (λ key. then_told (plainly (authenticate key secret s)) _ (plainly_told (authenticate key secret s) (authentic_only key secret s))
     (λ _. then_told (plainly (operation key.tenant request)) _ (plainly_told (operation key.tenant request) (asked_only key.tenant))
-    (λ asked_for. operated_only now request.body asked_for s))))
+    (λ asked_for. operated_only limits now request.body asked_for s))))
   where
     keyed_told : (key : Option AccessKeyId) → MaySay (ok_or key (plain InvalidAccessKeyId))
     keyed_told None = refl
@@ -346,13 +410,13 @@ settled_told : {X : Type 0} (s : Option State) (o : Result (X × Option State) R
 settled_told s (Ok a) only = tt
 settled_told s (Err e) only = only
 
-asked_told : (now : ℕ) (answer : Result Taken Refusal) (s : Option State) → RefusedOnly is_reading_refusal answer → MaySay (asked now answer s)
-asked_told now (Ok request) s only = requested_only now request s
-asked_told now (Err refusal) s only = step_refusal is_reading_refusal refl refl refl refusal only
+asked_told : (limits : HostLimits) (now : ℕ) (answer : Result Taken Refusal) (s : Option State) → RefusedOnly is_reading_refusal answer → MaySay (asked limits now answer s)
+asked_told limits now (Ok request) s only = requested_only limits now request s
+asked_told limits now (Err refusal) s only = step_refusal is_reading_refusal refl refl refl refusal only
 
-change_told : (limits : HostLimits) (message : Message) (now : ℕ) (act : Act) (s : Option State) → Acted limits message act → MaySay (change now act s)
-change_told limits (Requested bytes) now act s (answer, reads, is) = subst (λ a. MaySay (change now a s)) (sym is) (asked_told now answer s (reads_only limits bytes answer reads))
-change_told limits (Ordered order) now act s is = subst (λ a. MaySay (change now a s)) (sym is) (plainly_told (ordered order s) (ordered_only order s))
+change_told : (limits : HostLimits) (message : Message) (now : ℕ) (act : Act) (s : Option State) → Acted limits message act → MaySay (change limits now act s)
+change_told limits (Requested bytes) now act s (answer, reads, is) = subst (λ a. MaySay (change limits now a s)) (sym is) (asked_told limits now answer s (reads_only limits bytes answer reads))
+change_told limits (Ordered order) now act s is = subst (λ a. MaySay (change limits now a s)) (sym is) (plainly_told (ordered order s) (ordered_only order s))
 
 pub step_only : StepRefusals
-step_only limits content now act s acted = settled_told (purged_tenant s now) (change now act (purged_tenant s now)) (change_told limits content now act (purged_tenant s now) acted)
+step_only limits content now act s acted = settled_told (purged_tenant s now) (change limits now act (purged_tenant s now)) (change_told limits content now act (purged_tenant s now) acted)

@@ -1,13 +1,14 @@
 -- The private machine of a host: what an event turns out to be, whose it is, and what it makes of its owner's state.
-use Rattle.std.specs.Prelude.{◌≡◌, ℕ, Option, None, option_map, ok_or, Result, Ok, Err}
+use Rattle.std.specs.Prelude.{◌≡◌, ℕ, Option, None, option_map, ok_or, Result, Ok, Err, map}
 use Rattle.bh_types.specs.AccessKeys.{tenant_named}
 use Rattle.bh_types.specs.Limits.{HostLimits}
 use Rattle.bh_types.specs.Outcomes.{◌>>=◌}
 use Rattle.bh_types.specs.Rejections.{plain, plainly}
+use Rattle.bh_types.specs.declared.id.UploadId.{UploadId}
 use Rattle.bh_types.specs.declared.refusal.Refusal.{Refusal}
 use Rattle.bh_types.specs.declared.refusal.Refusal.TheVariants.{InvalidAccessKeyId, NotImplemented}
 use Rattle.bh_types.specs.declared.rejection.Rejection.{Rejection}
-use Rattle.bh_docs.specs.Requests.{versioning_of}
+use Rattle.bh_docs.specs.Requests.{versioning_of, complete_of}
 use Rattle.bh_event.specs.Events.{Order, AddTenant, AddKey, RemoveKey, tenant_of, Message, Requested, Ordered}
 use Rattle.bh_http.specs.Credentials.{owner, key_given, secret_given}
 use Rattle.bh_http.specs.Reading.{Reads}
@@ -16,13 +17,15 @@ use Rattle.bh_model.specs.Credentials.{authenticate}
 use Rattle.bh_model.specs.Listings.{list_objects, list_versions}
 use Rattle.bh_model.specs.Pages as pages
 use Rattle.bh_model.specs.Operations.{Answer, Outcome, add_tenant, add_key, remove_key, create_bucket, head_bucket, delete_bucket, list_buckets, get_versioning, put_versioning, put_object, copy_object, get_object, head_object, delete_object}
+use Rattle.bh_model.specs.Parts.{Naming}
 use Rattle.bh_model.specs.Runs as runs
 use Rattle.bh_model.specs.State.{Octets, State}
+use Rattle.bh_model.specs.Uploads.{create_upload, upload_part, complete_upload, abort_upload}
 use Rattle.bh_operation.specs.Operations.{operation}
 use Rattle.bh_operation.specs.declared.page.Page.{Page}
 use Rattle.bh_operation.specs.declared.page.VersionMarker.{VersionMarker}
 use Rattle.bh_operation.specs.declared.operation.Operation.{Operation}
-use Rattle.bh_operation.specs.declared.operation.Operation.TheVariants.{ListBuckets, CreateBucket, HeadBucket, DeleteBucket, ListObjectsV2, GetBucketVersioning, PutBucketVersioning, PutObject, CopyObject, GetObject, HeadObject, DeleteObject, ListObjectVersions}
+use Rattle.bh_operation.specs.declared.operation.Operation.TheVariants.{ListBuckets, CreateBucket, HeadBucket, DeleteBucket, ListObjectsV2, GetBucketVersioning, PutBucketVersioning, PutObject, CopyObject, GetObject, HeadObject, DeleteObject, ListObjectVersions, CreateMultipartUpload, UploadPart, CompleteMultipartUpload, AbortMultipartUpload}
 
 -- ---- acts
 
@@ -61,39 +64,54 @@ page_asked page = record { prefix = page.prefix; delimiter = page.delimiter; max
 abbrev pub place_asked : VersionMarker → pages.VersionPlace
 place_asked marker = record { key = marker.key; version = marker.version }
 
--- an operation at a moment; those that the host doesn't carry out yet are refused. The document of a request is read
--- before anything is looked at
-unfoldable pub operated : ℕ → Octets → Operation → Option State → Result Outcome Rejection
-operated now body ListBuckets s = plainly (list_buckets s)
-operated now body (CreateBucket bucket) s = plainly (create_bucket now bucket s)
-operated now body (HeadBucket bucket) s = plainly (head_bucket bucket s)
-operated now body (DeleteBucket bucket) s = plainly (delete_bucket bucket s)
-operated now body (ListObjectsV2 bucket page token) s = plainly (list_objects bucket (page_asked page) token s)
-operated now body (ListObjectVersions bucket page after) s = plainly (list_versions bucket (page_asked page) (option_map place_asked after) s)
-operated now body (GetBucketVersioning bucket) s = plainly (get_versioning bucket s)
-operated now body (PutBucketVersioning bucket) s = plainly (set_versioning bucket body s)
-operated now body (PutObject object checksum) s = plainly (put_object now object.bucket object.key body checksum s)
-operated now body (CopyObject object source) s =
+-- a part as a document names it
+abbrev pub naming : ℕ × Option Octets → Naming
+naming part = record { number = part.0; checksum = part.1 }
+
+-- the document names the parts that make the object
+abbrev pub finish_upload : HostLimits → ℕ → Octets → Octets → Option UploadId → Octets → Option State → Result Outcome Refusal
+finish_upload limits now bucket key upload body s = do
+  parts ← complete_of body
+  complete_upload now limits.min_part bucket key upload (map naming parts) s
+
+-- an operation at a moment, on a host with these limits; those that the host doesn't carry out yet are refused. The
+-- document of a request is read before anything is looked at
+unfoldable pub operated : HostLimits → ℕ → Octets → Operation → Option State → Result Outcome Rejection
+operated limits now body ListBuckets s = plainly (list_buckets s)
+operated limits now body (CreateBucket bucket) s = plainly (create_bucket now bucket s)
+operated limits now body (HeadBucket bucket) s = plainly (head_bucket bucket s)
+operated limits now body (DeleteBucket bucket) s = plainly (delete_bucket bucket s)
+operated limits now body (ListObjectsV2 bucket page token) s = plainly (list_objects bucket (page_asked page) token s)
+operated limits now body (ListObjectVersions bucket page after) s = plainly (list_versions bucket (page_asked page) (option_map place_asked after) s)
+operated limits now body (GetBucketVersioning bucket) s = plainly (get_versioning bucket s)
+operated limits now body (PutBucketVersioning bucket) s = plainly (set_versioning bucket body s)
+operated limits now body (PutObject object checksum) s = plainly (put_object now object.bucket object.key body checksum s)
+operated limits now body (CopyObject object source) s =
     plainly (copy_object now object.bucket object.key source.object.bucket source.object.key source.version s)
-operated now body (GetObject object version range) s = get_object object.bucket object.key version range s
-operated now body (HeadObject object version) s = head_object object.bucket object.key version s
-operated now body (DeleteObject object version) s = plainly (delete_object now object.bucket object.key version s)
-operated now body other s = Err (plain NotImplemented)
+operated limits now body (GetObject object version range) s = get_object object.bucket object.key version range s
+operated limits now body (HeadObject object version) s = head_object object.bucket object.key version s
+operated limits now body (DeleteObject object version) s = plainly (delete_object now object.bucket object.key version s)
+operated limits now body (CreateMultipartUpload object) s = plainly (create_upload now object.bucket object.key s)
+operated limits now body (UploadPart object upload number checksum) s =
+    plainly (upload_part now object.bucket object.key upload number body checksum s)
+operated limits now body (CompleteMultipartUpload object upload) s = plainly (finish_upload limits now object.bucket object.key upload body s)
+operated limits now body (AbortMultipartUpload object upload) s = plainly (abort_upload object.bucket object.key upload s)
+operated limits now body other s = Err (plain NotImplemented)
 
 -- ---- requests and orders
 
 -- a request: its credentials, what it asks for by its target and names, and then what comes of that
-abbrev pub requested : ℕ → Taken → Option State → Result Outcome Rejection
-requested now request s = do
+abbrev pub requested : HostLimits → ℕ → Taken → Option State → Result Outcome Rejection
+requested limits now request s = do
   secret ← plainly (secret_given request)
   key ← ok_or (key_given request) (plain InvalidAccessKeyId)
   _ ← plainly (authenticate key secret s)
   asked_for ← plainly (operation key.tenant request)
-  operated now request.body asked_for s
+  operated limits now request.body asked_for s
 
-abbrev pub asked : ℕ → Result Taken Refusal → Option State → Result Outcome Rejection
-asked now (Ok request) s = requested now request s
-asked now (Err refusal) s = Err (plain refusal)
+abbrev pub asked : HostLimits → ℕ → Result Taken Refusal → Option State → Result Outcome Rejection
+asked limits now (Ok request) s = requested limits now request s
+asked limits now (Err refusal) s = Err (plain refusal)
 
 abbrev pub ordered : Order → Option State → Result Outcome Refusal
 ordered (AddTenant tenant quota) s = add_tenant tenant quota s
@@ -101,10 +119,10 @@ ordered (AddKey tenant name secret) s = add_key tenant name secret s
 ordered (RemoveKey tenant name) s = remove_key tenant name s
 
 -- what an act makes of its owner's state once that is purged
-abbrev pub change : ℕ → Act → Option State → Result Outcome Rejection
-change now (Asked answer) s = asked now answer s
-change now (Commanded order) s = plainly (ordered order s)
+abbrev pub change : HostLimits → ℕ → Act → Option State → Result Outcome Rejection
+change limits now (Asked answer) s = asked limits now answer s
+change limits now (Commanded order) s = plainly (ordered order s)
 
 -- an act at a moment: the owner's stale uploads go, and then comes the change, or a refusal that changes nothing more
-abbrev pub step : ℕ → Act → Option State → Result Answer Rejection × Option State
-step = runs.step change
+abbrev pub step : HostLimits → ℕ → Act → Option State → Result Answer Rejection × Option State
+step limits = runs.step (change limits)

@@ -18,4 +18,4 @@ is_step_refusal refusal = true
 -- whatever an event turns out to be, and whatever its owner's state is
 abbrev pub StepRefusals : Type 0
 StepRefusals = (limits : HostLimits) (message : Message) (now : ℕ) (act : Act) (s : Option State) → Acted limits message act
-    → IfErr (step now act s).0 (λ (rejection : Rejection). is_step_refusal rejection.refusal ≡ true)
+    → IfErr (step limits now act s).0 (λ (rejection : Rejection). is_step_refusal rejection.refusal ≡ true)

@@ -19,8 +19,8 @@ use Rattle.bh_model.specs.State.{Octets, Content.Body, Part, Upload, Bucket, Sta
 use Rattle.bh_model.specs.Counting.{counts, with_counts, can_number, numbered, after_entry}
 use Rattle.bh_model.specs.Entries.{new_id}
 use Rattle.bh_model.specs.Parts.{Naming, is_checksum, completed}
-use Rattle.bh_model.specs.Operations.{Answer.Object, id_told, with_bucket, get_object}
-use Rattle.bh_model.specs.Uploads.{UploadAnswer.Begun, new_upload, after_begin, UploadOutcome, UploadAnswer.Aborted, UploadAnswer.Completed, UploadAnswer.PartStored, FoundUpload, of_key, found_upload, find_upload, with_upload, without_upload, with_part, with_stored, after_part, completion, with_completed, complete_upload}
+use Rattle.bh_model.specs.Operations.{Answer.Object, Answer.Begun, Answer.Removed, Answer.Completed, Answer.PartStored, Outcome, id_told, with_bucket, get_object}
+use Rattle.bh_model.specs.Uploads.{new_upload, after_begin, FoundUpload, of_key, found_upload, find_upload, with_upload, without_upload, with_part, with_stored, after_part, completion, with_completed, complete_upload}
 use Rattle.bh_types.specs.Moments.{abort_moment}
 use Rattle.std.proofs.lemmas.Slice.Eq.{bytes_eq-Decides}
 use Rattle.bh_model.specs.UploadLaws.{BegunIsFound, UnlessExhausted, PartIsRead, IsGone, AbortedIsGone, CompletedIsGone}
@@ -96,7 +96,7 @@ taken_out name key upload id t b e none =
 
 pub aborted_is_gone : AbortedIsGone
 aborted_is_gone name key upload s =
-    in_state name key (λ f. Ok (Aborted, Some (with_bucket name (without_upload f.number f.bucket) f.tenant))) (λ gone. IsGone name key upload gone.1) upload s
+    in_state name key (λ f. Ok (Removed None false, Some (with_bucket name (without_upload f.number f.bucket) f.tenant))) (λ gone. IsGone name key upload gone.1) upload s
     (λ t b id u e same. taken_out name key upload id t (without_upload id.number b) e (get-taken b.uploads id.number))
 
 -- what holds of an object, whatever its parts are
@@ -107,7 +107,7 @@ of_object (Err e) F P h = tt
 pub completed_is_gone : CompletedIsGone
 completed_is_gone moment least name key upload names s =
     in_state name key
-    (λ f. completed least f.upload.parts names >>= (λ content. after_entry f.bucket.mode (counts f.tenant) >>= (λ c. Ok (completion f content, Some (with_bucket name (with_completed moment key f content) (with_counts c f.tenant))))))
+    (λ f. completed least f.upload.parts names >>= (λ content. after_entry f.bucket.mode (counts f.tenant) >>= (λ c. Ok (completion name key f content, Some (with_bucket name (with_completed moment key f content) (with_counts c f.tenant))))))
     (λ done. IsGone name key upload done.1) upload s
     (λ t b id u e same. of_object (completed least u.parts names) _ _ (λ content. of_object (after_entry b.mode (counts t)) _ _ (λ c.
     taken_out name key upload id (with_counts c t) (with_completed moment key (found t b id u) content) e (get-taken b.uploads id.number))))
@@ -135,23 +135,23 @@ module _ (later least number : ℕ) (name key : Octets) (p : Part) where
   alone : (parts : FinMap nat_cmp Part) → get parts number ≡ Some p → completed least parts names ≡ Ok (Body p.bytes sum)
   alone parts there = rw (there) (ap (λ bytes. Ok (Body bytes sum)) (append-nil p.bytes))
 
-  abbrev IsRead : UploadOutcome → Type 0
+  abbrev IsRead : Outcome → Type 0
   IsRead done =
-      (id : Option VersionId) × (done.0 ≡ Completed id sum)
+      (id : Option VersionId) × (done.0 ≡ Completed name key id sum)
       × (get_object name key Current None done.1 ≡ Ok (Object id (length p.bytes) Whole p.bytes sum, done.1))
 
-  abbrev finished : FoundUpload → Result UploadOutcome Refusal
+  abbrev finished : FoundUpload → Result Outcome Refusal
   finished f = do
     content ← completed least f.upload.parts names
     c ← after_entry f.bucket.mode (counts f.tenant)
-    Ok (completion f content, Some (with_bucket name (with_completed later key f content) (with_counts c f.tenant)))
+    Ok (completion name key f content, Some (with_bucket name (with_completed later key f content) (with_counts c f.tenant)))
 
   -- where the part is there, and its upload was found
   completes : (t : State) (b : Bucket) (id : UploadId) (u : Upload) → get u.parts number ≡ Some p → UnlessExhausted (finished (found t b id u)) IsRead
   completes t b id u there =
-      subst (λ r. UnlessExhausted (r >>= (λ content. after_entry b.mode (counts t) >>= (λ c. Ok (completion (found t b id u) content, Some (with_bucket name (with_completed later key (found t b id u) content) (with_counts c t)))))) IsRead)
+      subst (λ r. UnlessExhausted (r >>= (λ content. after_entry b.mode (counts t) >>= (λ c. Ok (completion name key (found t b id u) content, Some (with_bucket name (with_completed later key (found t b id u) content) (with_counts c t)))))) IsRead)
       (sym (alone u.parts there))
-      (unless (can_number b.mode (counts t)) (numbered b.mode (counts t)) (λ c. (completion (found t b id u) (Body p.bytes sum), Some (with_bucket name (with_completed later key (found t b id u) (Body p.bytes sum)) (with_counts c t)))) IsRead
+      (unless (can_number b.mode (counts t)) (numbered b.mode (counts t)) (λ c. (completion name key (found t b id u) (Body p.bytes sum), Some (with_bucket name (with_completed later key (found t b id u) (Body p.bytes sum)) (with_counts c t)))) IsRead
       (id_told b.mode (new_id b.mode t.next_version), refl, read later name key p.bytes sum t (without_upload id.number b)))
 
 pub part_is_read : PartIsRead
@@ -169,8 +169,8 @@ part_is_read moment later least number name key bytes upload given s =
     (completes later least number name key p (with_bucket name bucket after) bucket id put (get-put u.parts number p)))))
 
 begun_in : (moment : ℕ) (name key : Octets) (t : State) (o : Option Bucket)
-    → IfOk (bucket_in t o >>= (λ f. after_begin (counts f.0) >>= (λ c. Ok (Begun (record { number = f.0.next_upload }) (option_map (abort_moment moment) f.1.days), Some (with_bucket name (with_upload f.0.next_upload (new_upload key moment) f.1) (with_counts c f.0))))))
-    (λ (begun : UploadOutcome). (id : UploadId) × (abort : Option ℕ) × (f : FoundUpload) × (begun.0 ≡ Begun id abort) × (find_upload name key (Some id) begun.1 ≡ Ok f) × (f.upload ≡ new_upload key moment))
+    → IfOk (bucket_in t o >>= (λ f. after_begin (counts f.0) >>= (λ c. Ok (Begun name key (record { number = f.0.next_upload }) (option_map (abort_moment moment) f.1.days), Some (with_bucket name (with_upload f.0.next_upload (new_upload key moment) f.1) (with_counts c f.0))))))
+    (λ (begun : Outcome). (id : UploadId) × (abort : Option ℕ) × (f : FoundUpload) × (begun.0 ≡ Begun name key id abort) × (find_upload name key (Some id) begun.1 ≡ Ok f) × (f.upload ≡ new_upload key moment))
 begun_in moment name key t None = tt
 begun_in moment name key t (Some b) = of_object (after_begin (counts t)) _ _ (λ c.
     let id : UploadId = record { number = t.next_upload } in

@@ -6,6 +6,7 @@ use Rattle.std.specs.Option.{option_map_or}
 use Rattle.std.specs.Result.{result_map_both}
 use Rattle.std.specs.FinMap.{entries, get, insert, remove}
 use Rattle.bh_types.specs.Names.{is_tenant_name, is_key_name, is_secret}
+use Rattle.bh_types.specs.declared.id.UploadId.{UploadId}
 use Rattle.bh_types.specs.declared.id.VersionId.{VersionId}
 use Rattle.bh_types.specs.declared.bucket_state.BucketState.{BucketState}
 use Rattle.bh_types.specs.declared.bucket_state.BucketState.TheVariants.{Unversioned, Enabled, Suspended}
@@ -32,7 +33,8 @@ use Rattle.bh_model.specs.Parts.{is_checksum}
 -- what is told where nothing is refused. An id is told where the bucket is or was versioned. `Removed` says whether a
 -- marker was made or taken out. `Head` and `Object` tell the whole object's size, `Object` with the bytes that its plan
 -- names. `Copied` tells the moment of the copy. Buckets are told with their moments, in the order of their names,
--- and `Objects` and `Versions` a page of a bucket's objects, and of its versions
+-- and `Objects` and `Versions` a page of a bucket's objects, and of its versions. `Begun` and `Completed` name the object
+-- of an upload; `Begun` tells when the upload will be stale, where its bucket has a rule
 pub data Answer : Type 0 where
   Done : Answer
   Removed : (id : Option VersionId) (marker : Bool) → Answer
@@ -44,6 +46,9 @@ pub data Answer : Type 0 where
   Versioning : (mode : BucketState) → Answer
   Objects : (page : ObjectsListed) → Answer
   Versions : (page : VersionsListed) → Answer
+  Begun : (bucket key : Octets) (upload : UploadId) (abort : Option ℕ) → Answer
+  PartStored : (checksum : Octets) → Answer
+  Completed : (bucket key : Octets) (id : Option VersionId) (checksum : Octets) → Answer
 
 -- an answer, and the state afterwards
 abbrev pub Outcome : Type 0

@@ -11,9 +11,9 @@ use Rattle.bh_types.specs.declared.range.RangePlan.TheVariants.{Whole}
 use Rattle.bh_types.specs.declared.wanted.Wanted.TheVariants.{Current}
 use Rattle.bh_model.specs.State.{Octets, State}
 use Rattle.bh_model.specs.Parts.{Naming}
-use Rattle.bh_model.specs.Operations.{Answer.Object, get_object}
+use Rattle.bh_model.specs.Operations.{Answer.Object, Answer.Begun, Answer.Completed, get_object}
 use Rattle.bh_model.specs.Laws.{AlwaysRises}
-use Rattle.bh_model.specs.Uploads.{UploadAnswer.Begun, UploadAnswer.Completed, FoundUpload, find_upload, new_upload, create_upload, upload_part, complete_upload, abort_upload}
+use Rattle.bh_model.specs.Uploads.{FoundUpload, find_upload, new_upload, create_upload, upload_part, complete_upload, abort_upload}
 
 -- it is done, or a counter has given its last number
 abbrev pub UnlessExhausted : {X : Type 0} → Result X Refusal → (X → Type 0) → Type 0
@@ -23,7 +23,7 @@ UnlessExhausted r P = IfOk r P × IfErr r (λ e. e ≡ CounterExhausted)
 abbrev pub BegunIsFound : Type 0
 BegunIsFound = (moment : ℕ) (name key : Octets) (s : Option State)
     → IfOk (create_upload moment name key s) (λ begun.
-    (id : UploadId) × (abort : Option ℕ) × (f : FoundUpload) × (begun.0 ≡ Begun id abort)
+    (id : UploadId) × (abort : Option ℕ) × (f : FoundUpload) × (begun.0 ≡ Begun name key id abort)
     × (find_upload name key (Some id) begun.1 ≡ Ok f) × (f.upload ≡ new_upload key moment))
 
 -- the object of one part is what a get without id reads, under the id that the completion told
@@ -31,7 +31,7 @@ abbrev pub PartIsRead : Type 0
 PartIsRead = (moment later least number : ℕ) (name key bytes : Octets) (upload : Option UploadId) (given : Option Octets) (s : Option State)
     → IfOk (upload_part moment name key upload number bytes given s) (λ put.
     UnlessExhausted (complete_upload later least name key upload (record { number = number; checksum = None } ∷ []) put.1) (λ done.
-    (id : Option VersionId) × (done.0 ≡ Completed id (joined_text (sha256 bytes ∷ [])))
+    (id : Option VersionId) × (done.0 ≡ Completed name key id (joined_text (sha256 bytes ∷ [])))
     × (get_object name key Current None done.1 ≡ Ok (Object id (length bytes) Whole bytes (joined_text (sha256 bytes ∷ [])), done.1))))
 
 -- an upload that is no more has no part put to it, and is neither completed nor aborted

@@ -1,12 +1,11 @@
 -- What each operation on a multipart upload makes of a tenant's state, and what it answers. The refusals stand in
 -- their order. No quota is asked here; where one is, it is refused in `upload_part` after the checksum.
-use Rattle.std.specs.Prelude.{ℕ, ◌+◌, bytes_eq, Option, Some, None, option_and_then, option_map, List, [], ok_or, Result, Ok, Err, if◌then◌else◌}
+use Rattle.std.specs.Prelude.{ℕ, ◌+◌, false, bytes_eq, Option, Some, None, option_and_then, option_map, List, [], ok_or, Result, Ok, Err, if◌then◌else◌}
 use Rattle.std.specs.FinMap.{empty, get, insert, remove}
 use Rattle.bh_types.specs.Counts.{Counts}
 use Rattle.bh_types.specs.Moments.{abort_moment}
 use Rattle.bh_types.specs.Checksums.{checksum_text}
 use Rattle.bh_types.specs.Outcomes.{◌>>=◌, require}
-use Rattle.bh_types.specs.declared.id.VersionId.{VersionId}
 use Rattle.bh_types.specs.declared.id.UploadId.{UploadId}
 use Rattle.bh_types.specs.declared.refusal.Refusal.{Refusal}
 use Rattle.bh_types.specs.declared.refusal.Refusal.TheVariants.{NoSuchUpload, BadDigest, CounterExhausted}
@@ -14,18 +13,7 @@ use Rattle.bh_model.specs.State.{Octets, Content, Content.Marker, Content.Body, 
 use Rattle.bh_model.specs.Counting.{counts, with_counts, can_give, after_entry}
 use Rattle.bh_model.specs.Entries.{new_id}
 use Rattle.bh_model.specs.Parts.{Naming, is_checksum, completed}
-use Rattle.bh_model.specs.Operations.{id_told, tenant_bucket, with_bucket, with_content}
-
--- what is told where nothing is refused. `Begun` tells when the upload will be stale, where its bucket has a rule;
--- `Completed` tells an id where the bucket is or was versioned
-pub data UploadAnswer : Type 0 where
-  Begun : (upload : UploadId) (abort : Option ℕ) → UploadAnswer
-  PartStored : (checksum : Octets) → UploadAnswer
-  Completed : (id : Option VersionId) (checksum : Octets) → UploadAnswer
-  Aborted : UploadAnswer
-
-abbrev pub UploadOutcome : Type 0
-UploadOutcome = UploadAnswer × Option State
+use Rattle.bh_model.specs.Operations.{Answer, Outcome, Removed, Begun, PartStored, Completed, id_told, tenant_bucket, with_bucket, with_content}
 
 -- ---- counters
 
@@ -75,11 +63,11 @@ abbrev pub new_upload : Octets → ℕ → Upload
 new_upload key begun = record { key = key; begun = begun; parts = empty }
 
 -- Amazon S3 API Reference, CreateMultipartUpload: x-amz-abort-date
-abbrev pub create_upload : ℕ → Octets → Octets → Option State → Result UploadOutcome Refusal
+abbrev pub create_upload : ℕ → Octets → Octets → Option State → Result Outcome Refusal
 create_upload moment name key s = do
   f ← tenant_bucket name s
   c ← after_begin (counts f.0)
-  Ok (Begun (record { number = f.0.next_upload }) (option_map (abort_moment moment) f.1.days), Some (with_bucket name (with_upload f.0.next_upload (new_upload key moment) f.1) (with_counts c f.0)))
+  Ok (Begun name key (record { number = f.0.next_upload }) (option_map (abort_moment moment) f.1.days), Some (with_bucket name (with_upload f.0.next_upload (new_upload key moment) f.1) (with_counts c f.0)))
 
 -- the bucket of an upload with one more part in it, in place of one of the same number
 abbrev pub with_stored : FoundUpload → ℕ → Part → Bucket
@@ -87,7 +75,7 @@ with_stored f number p = with_upload f.number (with_part number p f.upload) f.bu
 
 -- `given` is the checksum that the request says the bytes have, if it says one
 -- Amazon S3 API Reference, UploadPart
-abbrev pub upload_part : ℕ → Octets → Octets → Option UploadId → ℕ → Octets → Option Octets → Option State → Result UploadOutcome Refusal
+abbrev pub upload_part : ℕ → Octets → Octets → Option UploadId → ℕ → Octets → Option Octets → Option State → Result Outcome Refusal
 upload_part moment name key upload number bytes given s = do
   f ← find_upload name key upload s
   _ ← require (is_checksum given bytes) BadDigest
@@ -98,8 +86,8 @@ abbrev pub content_checksum : Content → Octets
 content_checksum Marker = []
 content_checksum (Body bytes checksum) = checksum
 
-abbrev pub completion : FoundUpload → Content → UploadAnswer
-completion f content = Completed (id_told f.bucket.mode (new_id f.bucket.mode f.tenant.next_version)) (content_checksum content)
+abbrev pub completion : Octets → Octets → FoundUpload → Content → Answer
+completion name key f content = Completed name key (id_told f.bucket.mode (new_id f.bucket.mode f.tenant.next_version)) (content_checksum content)
 
 -- the bucket with the object as a new version, as a put in the bucket's state then makes it, and without the upload
 abbrev pub with_completed : ℕ → Octets → FoundUpload → Content → Bucket
@@ -107,15 +95,15 @@ with_completed moment key f content = with_content moment key f.tenant.next_vers
 
 -- the version has the moment of the completion; `least` is the least size of a part that isn't the last
 -- Amazon S3 API Reference, CompleteMultipartUpload
-abbrev pub complete_upload : ℕ → ℕ → Octets → Octets → Option UploadId → List Naming → Option State → Result UploadOutcome Refusal
+abbrev pub complete_upload : ℕ → ℕ → Octets → Octets → Option UploadId → List Naming → Option State → Result Outcome Refusal
 complete_upload moment least name key upload names s = do
   f ← find_upload name key upload s
   content ← completed least f.upload.parts names
   c ← after_entry f.bucket.mode (counts f.tenant)
-  Ok (completion f content, Some (with_bucket name (with_completed moment key f content) (with_counts c f.tenant)))
+  Ok (completion name key f content, Some (with_bucket name (with_completed moment key f content) (with_counts c f.tenant)))
 
 -- Amazon S3 API Reference, AbortMultipartUpload
-abbrev pub abort_upload : Octets → Octets → Option UploadId → Option State → Result UploadOutcome Refusal
+abbrev pub abort_upload : Octets → Octets → Option UploadId → Option State → Result Outcome Refusal
 abort_upload name key upload s = do
   f ← find_upload name key upload s
-  Ok (Aborted, Some (with_bucket name (without_upload f.number f.bucket) f.tenant))
+  Ok (Removed None false, Some (with_bucket name (without_upload f.number f.bucket) f.tenant))

@@ -8,15 +8,16 @@ use Rattle.bh_types.specs.declared.bucket_state.BucketState.{BucketState}
 use Rattle.bh_types.specs.declared.bucket_state.BucketState.TheVariants.{Unversioned, Enabled, Suspended}
 use Rattle.bh_types.specs.declared.refusal.Refusal.{Refusal}
 use Rattle.bh_types.specs.declared.refusal.Refusal.TheVariants.{BucketNotEmpty}
-use Rattle.bh_model.specs.FinMaps.{is_empty}
+use Rattle.std.proofs.lemmas.Bool.{and_parts}
+use Rattle.bh_model.specs.FinMaps.{is_empty as no_values}
 use Rattle.bh_model.specs.State.{Octets, State}
 use Rattle.bh_model.specs.Operations.{Answer, Outcome, Done, Removed, Buckets, Versioning, head_bucket, delete_bucket, list_buckets, get_versioning, put_versioning}
 use Rattle.bh_tables.specs.Typed.{Tables}
-use Rattle.bh_tables.specs.Shown.{is_bucket, is_in_bucket}
+use Rattle.bh_tables.specs.Shown.{is_bucket, is_in_bucket, is_upload_in}
 use Rattle.bh_view.specs.View.{view, mode_of, latest_of, limits_in}
 use Rattle.bh_view.specs.Sound.{IsSound}
 use Rattle.bh_view.proofs.BucketChanges.{bucket_removed, state_changed}
-use Rattle.bh_view.proofs.BucketListing.{buckets_listed, none_in_bucket, objects_empty, uploads_empty}
+use Rattle.bh_view.proofs.BucketListing.{buckets_listed, none_in_bucket, no_upload_in, objects_empty, uploads_empty}
 use Rattle.bh_schema.specs.Rows.{entry_in, listed_buckets}
 use Rattle.bh_view.proofs.SharedLemmas.{shared_same, shared_none}
 use Rattle.bh_storage.specs.Answers.{removed_answer}
@@ -24,7 +25,7 @@ use Rattle.bh_storage.specs.Calls.{GivesStep, Decides, Carries}
 use Rattle.bh_storage.specs.declared.error.StepError.{StepError}
 use Rattle.bh_storage.specs.declared.error.StepError.TheVariants.{Refused, Failed}
 use Rattle.bh_objects.specs.Found.{mode_in}
-use Rattle.bh_objects.specs.Buckets.{emptiness}
+use Rattle.bh_objects.specs.Buckets.{is_empty, emptiness}
 use Rattle.bh_objects.proofs.Putting.{HasBucket, has_bucket}
 
 module _ (old new : Tables) (t b : Octets) (mode : BucketState) (found : mode_in b (view old t) ≡ Ok mode) where
@@ -59,35 +60,43 @@ module _ (old new : Tables) (t b : Octets) (mode : BucketState) (found : mode_in
       (record { gives = rw (h.added, change.shown, h.there, mode_back m) refl; others = change.others; latest = change.latest; shared = shared_same old new (ap (λ (x : Tables). x.blocks) e) }, change.sound, change.limits)
 
   module _ (sound : IsSound old) where
-    is_none_there : (h : HasBucket b (view old t) mode) → (is_empty h.bucket.objects && is_empty h.bucket.uploads) ≡ not (list_any (is_in_bucket t b) old.versions)
-    is_none_there h = ap₂ ◌&&◌ (objects_empty old t b h.state h.added h.bucket h.there) (uploads_empty old t b h.state h.added h.bucket h.there) ∙ go (not (list_any (is_in_bucket t b) old.versions))
-      where
-        go : (x : Bool) → (x && true) ≡ x
-        go true = refl
-        go false = refl
+    is_none_there : (h : HasBucket b (view old t) mode) → (no_values h.bucket.objects && no_values h.bucket.uploads) ≡ is_empty t b old
+    is_none_there h = ap₂ ◌&&◌ (objects_empty old t b h.state h.added h.bucket h.there) (uploads_empty old t b h.state h.added h.bucket h.there)
 
-    none_there : (x : Bool) → require (not x) BucketNotEmpty ≡ Ok tt → x ≡ false
-    none_there true e = absurd (true≢false (sym (ap is_ok e)))
-    none_there false e = refl
+    none_there : (x : Bool) → require x BucketNotEmpty ≡ Ok tt → x ≡ true
+    none_there true e = refl
+    none_there false e = absurd (true≢false (sym (ap is_ok e)))
+
+    not_there : (x : Bool) → not x ≡ true → x ≡ false
+    not_there true e = absurd (true≢false (sym e))
+    not_there false e = refl
 
     pub deletes : emptiness t b old ≡ Ok tt → new ≡ record old { buckets = delete_where (is_bucket t b) old.buckets }
         → GivesStep t (delete_bucket b) (Removed None false) old new × IsSound new × (limits_in new ≡ limits_in old)
     deletes empty e =
         let h = has_bucket b (view old t) mode found in
-        let none : list_any (is_in_bucket t b) old.versions ≡ false = none_there (list_any (is_in_bucket t b) old.versions) empty in
-        let change = bucket_removed old new t h.state sound h.added b (none_in_bucket old t b none) e in
-        let free : (is_empty h.bucket.objects && is_empty h.bucket.uploads) ≡ true = is_none_there h ∙ ap not none in
+        let none : is_empty t b old ≡ true = none_there (is_empty t b old) empty in
+        let both = and_parts (not (list_any (is_in_bucket t b) old.versions)) (not (list_any (is_upload_in t b) old.uploads)) none in
+        let change = bucket_removed old new t h.state sound h.added b (none_in_bucket old t b (not_there _ both.0)) (no_upload_in old t b (not_there _ both.1)) e in
+        let free : (no_values h.bucket.objects && no_values h.bucket.uploads) ≡ true = is_none_there h ∙ none in
         (record { gives = rw (h.added, change.shown, h.there, free) refl; others = change.others; latest = change.latest; shared = shared_same old new (ap (λ (x : Tables). x.blocks) e) }, change.sound, change.limits)
 
     pub kept_full : (r : Refusal) → emptiness t b old ≡ Err r → delete_bucket b (view old t) ≡ Err r
     kept_full r full =
         let h = has_bucket b (view old t) mode found in
-        let same : require {E = Refusal} (is_empty h.bucket.objects && is_empty h.bucket.uploads) BucketNotEmpty ≡ Err r = ap (λ x. require x BucketNotEmpty) (is_none_there h) ∙ full in
+        let same : require {E = Refusal} (no_values h.bucket.objects && no_values h.bucket.uploads) BucketNotEmpty ≡ Err r = ap (λ x. require x BucketNotEmpty) (is_none_there h) ∙ full in
         rw (h.added, h.there, same) refl
 
     pub full_refused : (first middle : Tables) (e : StepError Refusal) → first ≡ old → Decides (λ (_ : Unit {0}). tt) (emptiness t b first) first middle (Err e) → Carries removed_answer t (delete_bucket b) old middle (Err e)
     full_refused first middle (Refused r) same full = (kept_full r (ap (emptiness t b) (sym same) ∙ full.0), full.1 ∙ same)
     full_refused first middle (Failed trouble) same full = tt
+
+-- ---- an empty bucket
+
+-- no version was found, and then an upload was or none
+pub nothing_found : (old middle : Tables) (t b : Octets) (uploads : Bool) → list_any (is_in_bucket t b) old.versions ≡ false → middle ≡ old → uploads ≡ list_any (is_upload_in t b) middle.uploads → not uploads ≡ is_empty t b old
+nothing_found old middle t b uploads none same is =
+    ap not (is ∙ ap (λ (x : Tables). list_any (is_upload_in t b) x.uploads) same) ∙ ap (λ v. not v && not (list_any (is_upload_in t b) old.uploads)) (sym none)
 
 -- ---- the listing
 

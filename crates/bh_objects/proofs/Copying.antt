@@ -26,6 +26,7 @@ use Rattle.bh_view.proofs.SharedLemmas.{shares_same}
 use Rattle.bh_view.specs.Wanted.{wanted_row}
 use Rattle.bh_view.proofs.PutLemmas.{copy_put}
 use Rattle.bh_view.proofs.BodyChanges.{body_copies}
+use Rattle.bh_view.proofs.WriteLemmas.{same_resolved, same_unnamed}
 use Rattle.bh_storage.specs.Calls.{GivesStep, Carries, Decides}
 use Rattle.bh_storage.specs.declared.error.StepError.{StepError}
 use Rattle.bh_storage.specs.declared.error.StepError.TheVariants.{Refused, Failed}
@@ -143,7 +144,7 @@ module _ (old new : Tables) (t b k sb sk : Octets) (wanted : Wanted) (at : ℕ) 
       let free = next_unnamed old t h.state host.sound h.added c (has_numbers (view old t) h.state mode c after h.added read).0 in
       let counted = with_counters mode after t old in
       let middle = body_copied (t, head.seq) (t, c.entry) counted in
-      let adds : (digest : Octets → Octets) → AddsBody digest (t, c.entry) its_version.bytes counted middle = λ digest. body_copies counted (t, c.entry) host.resolved host.sound.stored host.bodies free digest (t, head.seq) in
+      let adds : (digest : Octets → Octets) → AddsBody digest (t, c.entry) its_version.bytes counted middle = λ digest. body_copies counted (t, c.entry) (same_resolved old counted refl refl refl refl host.resolved) host.sound.stored host.bodies (same_unnamed old counted refl refl refl refl (t, c.entry) free) digest (t, head.seq) in
       let is = e ∙ copied_row mode c t b k at head its_version.bytes (with_room mode t b k middle) size in
       let it = λ (digest : Octets → Octets). is_added old host mode c after t b k at free digest its_version.bytes head.checksum middle new (adds digest) (shares_same (t, c.entry) old middle refl) is in
       (copies mode c found read (it (λ x. x)).0.rows (it (λ x. x)).2, (it (λ x. x)).0.bodies, λ digest. (it digest).1)

@@ -110,7 +110,7 @@ module _ (old new : Tables) (t b k : Octets) (at : ℕ) (host : IsHostOf old) wh
   deletes_null found e =
       let h = has_bucket b (view old t) Unversioned found in
       let target : Tables = record old { versions = delete_where (is_version t b k 0) old.versions } in
-      let it = left_written old new target.versions (subst (Leaves [] target.versions old) (sym e) (null_gone old sound [] old (whole_host old host) refl t b k)) in
+      let it = left_written old new target.versions (subst (Leaves [] target.versions old) (sym e) (null_gone old sound [] old (whole_host old host) refl refl t b k)) in
       (steps t b k at Current _ old new _ (becomes_so t _ old target new (null_removed old t h.state h.added b k h.bucket h.there target sound h.its refl) it.0.rows) it.1 (delete_at b k at Current (view old t) Unversioned h), it.0.bodies, it.1)
 
   -- ---- by an id
@@ -172,7 +172,7 @@ module _ (old new : Tables) (t b k : Octets) (at : ℕ) (host : IsHostOf old) wh
           → Deletes t b k at (Named id) (Removed (id_told mode id) marker) old new
       deletes_entry row marker there right e =
           let target : Tables = record old { versions = delete_where (is_version t b k n) old.versions } in
-          let it = left_written old new target.versions (subst (Leaves [] target.versions old) (sym e) (entry_gone old sound [] old (whole_host old host) refl t b k n row there)) in
+          let it = left_written old new target.versions (subst (Leaves [] target.versions old) (sym e) (entry_gone old sound [] old (whole_host old host) refl refl t b k n row there)) in
           let change = becomes_so t _ old target new (version_removed old target t bucket.state sound bucket.added b k n bucket.bucket bucket.there refl) it.0.rows in (
             subst (λ (x : VersionId). Steps t b k at (Named x) (Removed (id_told mode id) marker) old new) number
                 (steps t b k at (Named (id_of n)) _ old new _ change it.1 (named_at (id_of n)

@@ -1,5 +1,5 @@
 -- An entry that goes with its body, as a change of versions alone.
-use Rattle.std.proofs.Common.{◌≡◌, ℕ, true, false, true≢false, List, [], filter, find, Option, Some, None, refl, sym, ap, ◌∙◌, subst}
+use Rattle.std.proofs.Common.{◌≡◌, ℕ, true, false, List, [], map, filter, find, Option, Some, None, refl, sym, ap, ◌∙◌, subst}
 use Rattle.std.specs.List.{AllByRecursion, list_any}
 use Rattle.std.specs.Option.{option_map_or}
 use Rattle.sqlite_keyed.specs.Lists.{delete_where}
@@ -7,7 +7,7 @@ use Rattle.sqlite_keyed.proofs.ListLemmas.{all-filter}
 use Rattle.bh_types.specs.declared.bucket_state.BucketState.{BucketState}
 use Rattle.bh_types.specs.declared.bucket_state.BucketState.TheVariants.{Unversioned, Enabled, Suspended}
 use Rattle.bh_model.specs.State.{Octets}
-use Rattle.bh_tables.specs.Bodies.{Name, same_name, version_name}
+use Rattle.bh_tables.specs.Bodies.{Name, same_name, version_name, part_name}
 use Rattle.bh_tables.specs.Typed.{VersionRow, Tables}
 use Rattle.bh_tables.specs.Shown.{is_version}
 use Rattle.bh_view.specs.Blocks.{whole}
@@ -18,18 +18,11 @@ use Rattle.bh_view.proofs.DropLemmas.{AreAt, one_entry, body_drops, dropped_whol
 use Rattle.bh_view.proofs.FactLemmas.{all_first, none_first}
 use Rattle.bh_view.proofs.FilterLemmas.{first_passes, delete_none}
 use Rattle.bh_view.proofs.FindLemmas.{first_find}
-use Rattle.bh_view.proofs.GroupedLemmas.{is_other}
-use Rattle.bh_view.proofs.NameLemmas.{names}
+use Rattle.bh_view.proofs.NameLemmas.{names, name_swap}
 use Rattle.bh_view.proofs.SetLemmas.{set_other}
 use Rattle.bh_view.proofs.SharedLemmas.{names_block, named_still}
 use Rattle.bh_view.proofs.WholeLemmas.{refs_dropped}
 use Rattle.bh_objects.specs.Writes.{without_entry, without_null, with_room}
-
-pub name_swap : (a b : Name) → same_name a b ≡ same_name b a
-name_swap a b = elim (same_name a b) as (λ c. same_name a b ≡ c → c ≡ same_name b a) [
-  | true ↦ λ e. sym ((names.decides b a).1 (sym ((names.decides a b).0 e)))
-  | false ↦ λ e. sym (is_other names b a (λ there. true≢false (sym ((names.decides a b).1 (sym there)) ∙ e)))
-] refl
 
 -- ---- what leaves these versions
 
@@ -41,7 +34,7 @@ pub record Leaves (more : List Name) (versions : List VersionRow) (x y : Tables)
   pub named : (body block : Name) → AllByRecursion (λ (w : VersionRow). same_name body (version_name w) ≡ false) x.versions
       → list_any (names_block body block) x.refs ≡ true → list_any (names_block body block) y.refs ≡ true
 
-module _ (old : Tables) (sound : IsSound old) (more : List Name) (x : Tables) (is_whole : AreWhole more x) (versions : x.versions ≡ old.versions) (t b k : Octets) where
+module _ (old : Tables) (sound : IsSound old) (more : List Name) (x : Tables) (is_whole : AreWhole more x) (versions : x.versions ≡ old.versions) (parts : x.parts ≡ old.parts) (t b k : Octets) where
   abbrev Gone : ℕ → Tables → Type 0
   Gone n y = Leaves more (delete_where (is_version t b k n) x.versions) x y
 
@@ -50,8 +43,11 @@ module _ (old : Tables) (sound : IsSound old) (more : List Name) (x : Tables) (i
       let at : Name = (t, v.seq) in
       let first = first_find (is_version t b k n) old.versions ∙ there in
       let same = one_entry t b k n old sound v there in
-      let here = subst (AreAt t b k n at) (sym versions) same in
-      let its : same_name (version_name v) at ≡ true = sym (all_first _ (filter (is_version t b k n) old.versions) v first (all-filter _ _ _ same)) ∙ first_passes (is_version t b k n) old.versions v first in
+      let here : AreAt t b k n at x = record {
+        versions = subst (AllByRecursion (λ w. is_version t b k n w ≡ same_name (version_name w) at)) (sym versions) same.versions;
+        parts = ap (λ ps. list_any (same_name at) (map part_name ps)) parts ∙ same.parts;
+      } in
+      let its : same_name (version_name v) at ≡ true = sym (all_first _ (filter (is_version t b k n) old.versions) v first (all-filter _ _ _ same.versions)) ∙ first_passes (is_version t b k n) old.versions v first in
       let apart : (body : Name) → AllByRecursion (λ (w : VersionRow). same_name body (version_name w) ≡ false) x.versions → same_name body at ≡ false = λ body none.
       subst (λ q. same_name body q ≡ false) ((names.decides (version_name v) at).0 its)
       (all_first (λ (w : VersionRow). same_name body (version_name w) ≡ false) (filter (is_version t b k n) old.versions) v first

@@ -146,7 +146,7 @@ module _ (tables : Tables) (t b k : Octets) (sound : IsSound tables) (mode : Buc
     row_bytes resolved =
         let there = first_find (is_entry t its.row.seq) tables.versions ∙ wanted_entry tables t sound b k wanted its.row its.there in
         let named : version_name its.row ≡ (t, its.row.seq) = (names.decides (version_name its.row) (t, its.row.seq)).0 (first_passes (is_entry t its.row.seq) tables.versions its.row there) in
-        all_first (λ (v : VersionRow). v.bytes ≡ whole tables.refs tables.blocks (version_name v)) (filter (is_entry t its.row.seq) tables.versions) its.row there (all-filter _ _ _ resolved)
+        all_first (λ (v : VersionRow). v.bytes ≡ whole tables.refs tables.blocks (version_name v)) (filter (is_entry t its.row.seq) tables.versions) its.row there (all-filter _ _ _ resolved.versions)
         ∙ ap (whole tables.refs tables.blocks) named ∙ ap (λ (x : SeenHead). whole tables.refs tables.blocks (t, x.seq)) its.seen
 
     module _ (range : Option Octets) where

@@ -21,10 +21,10 @@ use Rattle.bh_view.proofs.PutLemmas.{object_put}
 use Rattle.bh_storage.specs.Calls.{GivesStep}
 use Rattle.bh_view.specs.Blocks.{AreDigests}
 use Rattle.bh_view.specs.Bodies.{HasBodies, IsUnnamed}
-use Rattle.bh_view.proofs.FindLemmas.{entry_away}
+use Rattle.bh_view.proofs.BodyNames.{next_unnamed as unnamed}
 use Rattle.bh_objects.specs.Found.{mode_in, numbers_in, sum_given, IsKeyText, with_entry}
 use Rattle.bh_objects.specs.Writes.{object_written}
-use Rattle.bh_objects.proofs.Written.{HasRowsOf, becomes_so, unnamed, IsHostOf, object_is_written}
+use Rattle.bh_objects.proofs.Written.{HasRowsOf, becomes_so, IsHostOf, object_is_written}
 
 -- the tenant's bucket of a name, whose state was read
 pub record HasBucket (name : Octets) (v : Option State) (mode : BucketState) : Type 0 where
@@ -62,9 +62,9 @@ sum_right given bytes text e = go (is_checksum given bytes) e
     go true e = refl
     go false e = absurd (true≢false (sym (ap is_ok e)))
 
--- the tenant's next entry number is that of no version
-pub next_unnamed : (old : Tables) (t : Octets) (s : State) (sound : IsSound old) (is : view old t ≡ Some s) (before : Counts) → counts s ≡ before → IsUnnamed (t, before.entry) old.versions
-next_unnamed old t s sound is before same = subst (λ (x : Counts). IsUnnamed (t, x.entry) old.versions) same (unnamed t s.next_entry old.versions (entry_away old t s sound is))
+-- the tenant's next entry number, as it was read, is that of no version and no part
+pub next_unnamed : (old : Tables) (t : Octets) (s : State) (sound : IsSound old) (is : view old t ≡ Some s) (before : Counts) → counts s ≡ before → IsUnnamed (t, before.entry) old
+next_unnamed old t s sound is before same = subst (λ (x : Counts). IsUnnamed (t, x.entry) old) same (unnamed old t s sound is)
 
 -- what a put gives, and what stays of the tables
 abbrev pub Puts : Octets → Octets → Octets → ℕ → Octets → Option Octets → BucketState → Counts → Tables → Tables → Type 0

@@ -1,40 +1,28 @@
 -- What a put writes, as a change of versions alone.
-use Rattle.std.proofs.Common.{◌≡◌, ℕ, Bool, true, false, ◌||◌, List, [], ◌∷◌, ◌++◌, map, filter, Option, refl, sym, ap, ◌∙◌, subst}
+use Rattle.std.proofs.Common.{◌≡◌, ◌≤◌, ℕ, false, List, [], ◌∷◌, ◌++◌, Option, refl, sym, ap, ◌∙◌, subst}
 use Rattle.std.specs.List.{AllByRecursion, list_any}
-use Rattle.std.proofs.lemmas.List.Folds.{list_any-append}
-use Rattle.bh_model.specs.State.{Octets}
-use Rattle.bh_tables.specs.Bodies.{Name, same_name, version_name}
-use Rattle.bh_tables.specs.Typed.{VersionRow, Tables}
-use Rattle.bh_view.specs.Grouped.{same_number}
-use Rattle.bh_view.specs.View.{rows_of}
-use Rattle.bh_view.specs.Blocks.{whole, AreStored}
-use Rattle.bh_view.specs.Bodies.{bodies_of, AreBodies, HasBodies, AreWhole, IsUnnamed}
-use Rattle.bh_view.specs.Sound.{IsSound}
-use Rattle.bh_objects.specs.Writes.{with_counters, with_room, with_columns, object_written, marker_written}
-use Rattle.bh_objects.proofs.Dropping.{name_swap, Leaves, room_made}
+use Rattle.bh_types.specs.Checksums.{checksum_text}
 use Rattle.bh_types.specs.Counts.{Counts}
 use Rattle.bh_types.specs.declared.bucket_state.BucketState.{BucketState}
-use Rattle.bh_model.specs.State.{State, Content, Content.Marker, Content.Body}
+use Rattle.bh_model.specs.State.{Octets, State, Content, Content.Marker, Content.Body}
+use Rattle.bh_tables.specs.Bodies.{Name, same_name, version_name}
+use Rattle.bh_tables.specs.Typed.{VersionRow, Tables}
 use Rattle.bh_view.specs.Becomes.{Becomes, KeepsShared}
+use Rattle.bh_view.specs.Blocks.{whole, AreStored, AreDigests}
+use Rattle.bh_view.specs.Bodies.{HasBodies, IsResolved, AreWhole, IsUnnamed, AddsBody, pieces, body_stored}
+use Rattle.bh_view.specs.Put.{entry_row, row_number, rows_left, bytes_in}
+use Rattle.bh_view.specs.Sound.{AreSound, IsSound}
+use Rattle.bh_view.specs.View.{rows_of, latest_of}
+use Rattle.bh_view.proofs.BodyChanges.{unnamed_bodies, rows_stay, body_stores}
+use Rattle.bh_view.proofs.NameLemmas.{unnamed_each}
 use Rattle.bh_view.proofs.PieceLemmas.{each_once}
 use Rattle.bh_view.proofs.SharedLemmas.{SharesFor, names_block, shared_for}
-use Rattle.bh_view.specs.Put.{entry_row, row_number, rows_left, bytes_in}
-use Rattle.bh_view.specs.View.{latest_of}
-use Rattle.bh_view.specs.Sound.{AreSound}
-use Rattle.bh_view.proofs.FilterLemmas.{push_here, push_other}
-use Rattle.bh_view.proofs.JoinLemmas.{map_push}
-use Rattle.bh_view.proofs.BodyLemmas.{bodies_for}
 use Rattle.bh_view.proofs.ViewLemmas.{same_view, same_latest, same_limits}
-use Rattle.bh_objects.specs.Found.{with_way, with_entry}
-use Rattle.std.proofs.Common.{◌≤◌, ap₂}
-use Rattle.sqlite_keyed.proofs.ListLemmas.{all_weaker, all_unmap, none_from_any}
-use Rattle.bh_types.specs.Checksums.{checksum_text}
-use Rattle.bh_tables.specs.Shown.{is_entry}
-use Rattle.bh_view.specs.Blocks.{AreDigests}
-use Rattle.bh_view.specs.Bodies.{IsResolved, AddsBody, pieces, body_stored}
-use Rattle.bh_view.proofs.SetLemmas.{set_here}
 use Rattle.bh_view.proofs.WholeLemmas.{empty_body}
-use Rattle.bh_view.proofs.BodyChanges.{unnamed_bodies, versions_stay, body_stores}
+use Rattle.bh_view.proofs.WriteLemmas.{same_resolved, same_unnamed, added_bytes, added_whole, marker_added, row_added as view_row_added}
+use Rattle.bh_objects.specs.Found.{with_way, with_entry}
+use Rattle.bh_objects.specs.Writes.{with_counters, with_room, with_columns, object_written, marker_written}
+use Rattle.bh_objects.proofs.Dropping.{Leaves, room_made}
 
 -- ---- tables that differ in their references and blocks alone
 
@@ -61,24 +49,11 @@ abbrev pub to_come : Name → Content → List Name
 to_come name Marker = []
 to_come name (Body bytes checksum) = name ∷ []
 
-any_last : (p : Name → Bool) (xs : List Name) (x : Name) → list_any p (xs ++ x ∷ []) ≡ list_any p (x ∷ xs)
-any_last p xs x = list_any-append p xs (x ∷ []) ∙ go (list_any p xs) (p x)
-  where
-    go : (a b : Bool) → (a || (b || false)) ≡ (b || a)
-    go true true = refl
-    go true false = refl
-    go false true = refl
-    go false false = refl
-
-module _ (t b k : Octets) (seq id moment : ℕ) where
-  abbrev row : Content → VersionRow
-  row = entry_row t b k seq id moment
-
-  bodies_then : (content : Content) (vs : List VersionRow) (body : Name) → list_any (same_name body) (bodies_of (vs ++ row content ∷ [])) ≡ list_any (same_name body) (to_come (t, seq) content ++ bodies_of vs)
-  bodies_then Marker vs body = ap (λ l. list_any (same_name body) (map version_name l)) (push_other (λ (v : VersionRow). same_number v.marker 0) vs (row Marker) refl)
-  bodies_then (Body bytes checksum) vs body = ap (λ l. list_any (same_name body) (map version_name l)) (push_here (λ (v : VersionRow). same_number v.marker 0) vs (row (Body bytes checksum)) refl)
-      ∙ ap (list_any (same_name body)) (map_push version_name (filter (λ (v : VersionRow). same_number v.marker 0) vs) (row (Body bytes checksum)))
-      ∙ any_last (same_name body) (bodies_of vs) (t, seq)
+module _ (t b k : Octets) (seq id moment : ℕ) (x : Tables) where
+  -- its row, of the body that is there
+  row_whole : (content : Content) → bytes_in content ≡ whole x.refs x.blocks (t, seq) → AreWhole (to_come (t, seq) content) x → AreWhole [] (record x { versions = x.versions ++ entry_row t b k seq id moment content ∷ [] })
+  row_whole Marker its = marker_added x (entry_row t b k seq id moment Marker) its [] refl
+  row_whole (Body bytes checksum) its = view_row_added x (entry_row t b k seq id moment (Body bytes checksum)) its [] refl
 
 -- ---- all that is written of a new entry
 
@@ -99,8 +74,11 @@ module _ (old : Tables) (sound : IsSound old) (mode : BucketState) (before after
     versions : middle.versions ≡ old.versions
     versions = ap (λ (x : Tables). x.versions) has.is
 
+    parts : middle.parts ≡ old.parts
+    parts = ap (λ (x : Tables). x.parts) has.is
+
     left : Leaves (to_come name content) (rows_left mode t b k middle.versions) middle (with_room mode t b k middle)
-    left = room_made old sound (to_come name content) middle has.is_whole versions t b k mode
+    left = room_made old sound (to_come name content) middle has.is_whole versions parts t b k mode
 
     abbrev wide : Tables
     wide = with_room mode t b k middle
@@ -135,20 +113,7 @@ module _ (old : Tables) (sound : IsSound old) (mode : BucketState) (before after
     }
 
     pub bodies : HasBodies new
-    bodies = subst HasBodies (sym row_added) (bodies_for (to_come name content ++ bodies_of wide.versions) (bodies_of (wide.versions ++ entry ∷ [])) wide.refs wide.blocks
-        (λ body none. sym (bodies_then t b k before.entry (row_number mode before.version) moment content wide.versions body) ∙ none) left.is_whole.bodies)
-
--- ---- no version has the name of the next entry
-
-pub unnamed : (t : Octets) (n : ℕ) (vs : List VersionRow) → list_any (is_entry t n) vs ≡ false → IsUnnamed (t, n) vs
-unnamed t n vs none = go vs ∙ none
-  where
-    go : (l : List VersionRow) → list_any (same_name (t, n)) (map version_name l) ≡ list_any (is_entry t n) l
-    go [] = refl
-    go (w ∷ ws) = ap₂ ◌||◌ (name_swap (t, n) (version_name w)) (go ws)
-
-unnamed_each : (at : Name) (vs : List VersionRow) → IsUnnamed at vs → AllByRecursion (λ (w : VersionRow). same_name at (version_name w) ≡ false) vs
-unnamed_each at vs none = all_unmap (λ q. same_name at q ≡ false) version_name vs (none_from_any (same_name at) (map version_name vs) none)
+    bodies = subst HasBodies (sym row_added) (row_whole t b k before.entry (row_number mode before.version) moment wide content (sym row_bytes) left.is_whole).bodies
 
 -- ---- a put
 
@@ -163,40 +128,37 @@ pub record IsWritten (target new : Tables) : Type 0 where
   pub rows : HasRowsOf target new
   pub bodies : HasBodies new
 
-module _ (old : Tables) (host : IsHostOf old) (mode : BucketState) (before after : Counts) (t b k : Octets) (moment : ℕ) (free : IsUnnamed (t, before.entry) old.versions) where
+module _ (old : Tables) (host : IsHostOf old) (mode : BucketState) (before after : Counts) (t b k : Octets) (moment : ℕ) (free : IsUnnamed (t, before.entry) old) where
   abbrev its : Name
   its = (t, before.entry)
 
   abbrev counted : Tables
   counted = with_counters mode after t old
 
+  counted_resolved : IsResolved counted
+  counted_resolved = same_resolved old counted refl refl refl refl host.resolved
+
+  counted_free : IsUnnamed its counted
+  counted_free = same_unnamed old counted refl refl refl refl its free
+
   body_added : (digest : Octets → Octets) (bytes checksum : Octets) (middle : Tables) → AddsBody digest its bytes counted middle → HasBody old host.sound mode before after t b k moment (Body bytes checksum) middle
   body_added digest bytes checksum middle adds =
-      let same : middle.versions ≡ old.versions = ap (λ (x : Tables). x.versions) adds.is in
-      record {
-        is = adds.is;
-        is_whole = record {
-          resolved = subst (AllByRecursion (λ (v : VersionRow). v.bytes ≡ whole middle.refs middle.blocks (version_name v))) (sym same)
-              (all_weaker (λ (v : VersionRow). whole middle.refs middle.blocks (version_name v) ≡ v.bytes) (λ v. v.bytes ≡ whole middle.refs middle.blocks (version_name v)) (λ v e. sym e) old.versions
-              (versions_stay counted its host.resolved host.sound.stored host.bodies free middle.refs middle.blocks bytes adds.bytes));
-          stored = adds.stored;
-          bodies = subst (λ vs. AreBodies (its ∷ bodies_of vs) middle.refs middle.blocks) (sym same) adds.bodies;
-        };
-        bytes = (λ i. adds.bytes i its) ∙ set_here its (whole old.refs old.blocks) bytes;
-      }
+      let resolved : IsResolved middle = subst IsResolved (sym adds.is) (rows_stay counted its counted_resolved host.sound.stored host.bodies counted_free middle.refs middle.blocks bytes adds.bytes) in
+      record { is = adds.is; is_whole = added_whole digest its bytes counted middle adds resolved; bytes = added_bytes digest its bytes counted middle adds }
 
   -- with this body, however it came about
   pub is_added : (digest : Octets → Octets) (bytes checksum : Octets) (middle new : Tables) → AddsBody digest its bytes counted middle → SharesFor its old middle → new ≡ with_columns mode before t b k moment (Body bytes checksum) (with_room mode t b k middle)
-      → IsWritten (with_entry mode before after t b k moment (Body bytes checksum) old) new × (AreDigests digest old.blocks → AreDigests digest new.blocks) × KeepsShared old new
+      → IsWritten (with_entry mode before after t b k moment (Body bytes checksum) old) new × (AreDigests digest old.blocks → AreDigests digest new.blocks) × KeepsShared old new × (new.blocks ≡ middle.blocks)
   is_added digest bytes checksum middle new adds shares e =
       let has = body_added digest bytes checksum middle adds in
-      let apart = unnamed_each its old.versions free in (
+      let apart = unnamed_each version_name its old.versions free.versions in (
         record {
           rows = written old host.sound mode before after t b k moment (Body bytes checksum) middle new has apart e;
           bodies = bodies old host.sound mode before after t b k moment (Body bytes checksum) middle new has apart e;
         },
         λ d. subst (AreDigests digest) (sym (new_blocks old host.sound mode before after t b k moment (Body bytes checksum) middle new has apart e)) (adds.digests d),
         shared old host.sound mode before after t b k moment (Body bytes checksum) middle new has apart e shares,
+        new_blocks old host.sound mode before after t b k moment (Body bytes checksum) middle new has apart e,
       )
 
   pub object_is_written : (digest : Octets → Octets) (size : ℕ) (bytes : Octets) (new : Tables) → 1 ≤ size → AreDigests digest old.blocks → new ≡ object_written digest size mode before after t b k moment bytes old
@@ -204,17 +166,17 @@ module _ (old : Tables) (host : IsHostOf old) (mode : BucketState) (before after
   object_is_written digest size bytes new low d e =
       let middle = body_stored digest its 0 (pieces size bytes) counted in
       let once = each_once digest its (pieces size bytes) old.refs old.blocks host.sound.stored d in
-      let it = is_added digest bytes (checksum_text bytes) middle new (body_stores counted its host.resolved host.sound.stored host.bodies free digest size bytes low d) (record { added = once.added; grown = once.grown; named = once.named }) e in
+      let it = is_added digest bytes (checksum_text bytes) middle new (body_stores counted its counted_resolved host.sound.stored host.bodies counted_free digest size bytes low d) (record { added = once.added; grown = once.grown; named = once.named }) e in
       (it.0, it.1 d, it.2)
 
   pub marker_is_written : (new : Tables) → new ≡ marker_written mode before after t b k moment old → IsWritten (with_entry mode before after t b k moment Marker old) new × (new.blocks ≡ old.blocks)
   marker_is_written new e =
       let has : HasBody old host.sound mode before after t b k moment Marker counted = record {
         is = refl;
-        is_whole = record { resolved = host.resolved; stored = host.sound.stored; bodies = host.bodies };
-        bytes = empty_body old.refs old.blocks its (host.bodies.owned its (unnamed_bodies its old.versions free));
+        is_whole = record { resolved = counted_resolved; stored = host.sound.stored; bodies = host.bodies };
+        bytes = empty_body old.refs old.blocks its (host.bodies.owned its (unnamed_bodies its old free));
       } in
-      let apart = unnamed_each its old.versions free in (
+      let apart = unnamed_each version_name its old.versions free.versions in (
         record {
           rows = written old host.sound mode before after t b k moment Marker counted new has apart e;
           bodies = bodies old host.sound mode before after t b k moment Marker counted new has apart e;

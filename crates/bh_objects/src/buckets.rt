@@ -1,13 +1,13 @@
-ghost use Rattle.std.specs.Prelude.{◌≡◌, ◌≢◌, ◌≤◌, map, IfOk};
+ghost use Rattle.std.specs.Prelude.{◌≡◌, ◌≢◌, ◌≤◌, map, IfOk, OnOk};
 ghost use Rattle.bh_docs.specs.Documents.{bucket_view};
 ghost use Rattle.bh_model.specs.Operations as machine;
 ghost use Rattle.bh_storage.specs.Answers.{removed_answer};
 ghost use Rattle.bh_storage.specs.Calls.{Unless, Carries, Decides};
 ghost use Rattle.bh_view.specs.View.{latest_of};
-ghost use Rattle.bh_schema.specs.Connections.{IsClean, tables, StaysWithin, StaysOpen};
+ghost use Rattle.bh_schema.specs.Connections.{IsClean, tables, InTransaction, StaysWithin, StaysOpen, ChangesNothing};
 ghost use Rattle.bh_schema.specs.Views.{entry_seen};
 ghost use Rattle.bh_schema.specs.Working.{Works, StillWorks};
-ghost use Rattle.bh_objects.specs.Buckets.{emptiness};
+ghost use Rattle.bh_objects.specs.Buckets.{is_empty, emptiness};
 
 use crate::reads::{bucket_state, require_free_name, require_tenant};
 use bh_docs::BucketEntry;
@@ -21,7 +21,7 @@ use bh_types::bucket_state::BucketState;
 use bh_types::moment::Moment;
 use bh_types::names::TenantName;
 use bh_types::refusal::Refusal;
-use sqlite::{Alter, Connection};
+use sqlite::{Alter, Connection, Error};
 use std::alloc::{AllocError, Global};
 
 /// S3's CreateBucket, at a moment that is not after the last stamp: NoSuchTenant,
@@ -108,7 +108,26 @@ pub fn set_versioning<S: Alter>(
     Ok(())
 }
 
-/// Whether no version and no marker is in a tenant's bucket: BucketNotEmpty.
+/// Whether no version, no marker and no upload is in a tenant's bucket.
+fn has_nothing<S: Alter>(
+    connection: &mut Connection<S>,
+    tenant: &str,
+    bucket: &str,
+) -> Result<bool, Error>
+    requires inside { InTransaction S.Store connection.old }
+    ensures within { StaysWithin S.Store connection.old connection.new }
+    ensures opens { OnOk result (StaysOpen S.Store connection.old connection.new) }
+    ensures same { OnOk result (ChangesNothing S.Store connection.old connection.new) }
+    ensures found { IfOk result (λ found. IsClean S.Store connection.new
+        → found ≡ is_empty tenant.now bucket.now (tables S.Store connection.old)) }
+{
+    if rows::versions::bucket_has_versions(connection, tenant, bucket)? {
+        return Ok(false);
+    }
+    Ok(!rows::uploads::bucket_has_uploads(connection, tenant, bucket)?)
+}
+
+/// Whether no version, no marker and no upload is in a tenant's bucket: BucketNotEmpty.
 fn require_empty<S: Alter>(
     connection: &mut Connection<S>,
     tenant: &TenantName,
@@ -122,17 +141,14 @@ fn require_empty<S: Alter>(
         → Decides (λ _. tt) (emptiness tenant.now bucket.now (tables S.Store connection.old))
         (tables S.Store connection.old) (tables S.Store connection.new) result }
 {
-    if or_trouble(rows::versions::bucket_has_versions(
-        connection,
-        tenant.as_str(),
-        bucket.as_str(),
-    ))? {
+    if !or_trouble(has_nothing(connection, tenant.as_str(), bucket.as_str()))? {
         return Err(StepError::Refused(Refusal::BucketNotEmpty));
     }
     Ok(())
 }
 
-/// S3's DeleteBucket: NoSuchBucket, BucketNotEmpty. A version or a delete marker keeps a bucket.
+/// S3's DeleteBucket: NoSuchBucket, BucketNotEmpty. A version, a delete marker or an upload that is neither
+/// completed nor aborted keeps a bucket.
 pub fn delete_bucket<S: Alter>(
     connection: &mut Connection<S>,
     tenant: &TenantName,

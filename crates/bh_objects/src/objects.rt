@@ -24,7 +24,7 @@ use sqlite::{Alter, Connection};
 use std::alloc::Global;
 
 /// The text of the checksum of an object's bytes: BadDigest where another is given.
-fn checked_sum(
+pub fn checked_sum(
     alloc: Global,
     bytes: &[u8],
     given: Option<&[u8]>,

@@ -63,7 +63,8 @@ pub fn set_counters<S: Alter>(
     }
 }
 
-fn set_next_entry<S: Alter>(
+/// The entry counter goes on.
+pub fn set_next_entry<S: Alter>(
     connection: &mut Connection<S>,
     tenant: &TenantName,
     entry: u64,

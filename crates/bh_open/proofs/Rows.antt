@@ -1,5 +1,5 @@
 -- When a row is the one of a host of this version and these limits.
-use Rattle.std.proofs.Common.{arith, ◌≡◌, ◌≢◌, ℕ, List, [], ◌∷◌, length, map, slice_get, Some, refl, sym, ap, ◌∙◌, subst}
+use Rattle.std.proofs.Common.{arith, ◌≡◌, ◌≢◌, List, [], ◌∷◌, length, map, slice_get, Some, refl, sym, ap, ◌∙◌, subst}
 use Rattle.sqlite.specs.Order.{Row}
 use Rattle.bh_types.specs.Limits.{HostLimits, AreLimits}
 use Rattle.bh_tables.specs.Typed.{HostRow, Tables}

@@ -4,11 +4,10 @@ use Rattle.sqlite_trees.specs.declared.memory.MemStore.{MemStore}
 use Rattle.sqlite.specs.Held.{Held, state, IsNew}
 use Rattle.sqlite.specs.Steps.{over_memory}
 use Rattle.sqlite.specs.State.{State}
-use Rattle.sqlite.specs.Effect.{Database}
 use Rattle.bh_types.specs.Limits.{HostLimits}
 use Rattle.bh_model.specs.State.{Octets}
 use Rattle.bh_tables.specs.Schema.{host_schema}
-use Rattle.bh_tables.specs.Typed.{IsHost, Tables, tables_in}
+use Rattle.bh_tables.specs.Typed.{IsHost, tables_in}
 use Rattle.bh_tables.specs.Hosts.{tables_shown}
 use Rattle.bh_tables.proofs.HostTests.{host_shows}
 use Rattle.bh_view.specs.Bodies.{IsSoundHost}
@@ -18,7 +17,7 @@ use Rattle.bh_schema.specs.Layer.{Standing, standing, IsOpen, IsStateClean, Keep
 use Rattle.bh_schema.specs.Storage.{seen_in}
 use Rattle.bh_schema.proofs.Storing.{sound_host}
 use Rattle.bh_create.specs.Creation.{IsNewHost}
-use Rattle.bh_open.specs.Opening.{IsRowOf, IsHostOf, IsSettled, IsKept, Reads}
+use Rattle.bh_open.specs.Opening.{IsRowOf, IsHostOf, IsSettled, IsKept}
 use Rattle.bh_open.proofs.Rows.{limits_kept}
 
 -- ---- a new host in memory

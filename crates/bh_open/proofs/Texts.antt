@@ -1,6 +1,5 @@
 -- The text that reads the host's row.
-use Rattle.std.proofs.Common.{◌≡◌, ℕ, codes, List, [], ◌∷◌, map, filter, true, IsTrue, Ok, Err, Result, IfOk, IfErr, OnOk, refl, ap, ◌∙◌}
-use Rattle.sqlite.specs.Effect.{Database}
+use Rattle.std.proofs.Common.{◌≡◌, ℕ, codes, List, [], ◌∷◌, map, filter, true, Ok, Err, Result, IfOk, IfErr, refl, ap, ◌∙◌}
 use Rattle.sqlite.specs.Listing.{understood}
 use Rattle.sqlite.specs.Order.{Row}
 use Rattle.sqlite.specs.Term.{col}
@@ -12,7 +11,7 @@ use Rattle.bh_rows.specs.Scan.{no_limit, by_rowid}
 use Rattle.bh_rows.specs.Texts.{SelectText}
 use Rattle.bh_rows.proofs.ScanLemmas.{scan_asks, scan_rows}
 use Rattle.bh_tables.specs.Schema.{host_schema}
-use Rattle.bh_tables.specs.Typed.{HostRow, IsHost, host_form, tables_in}
+use Rattle.bh_tables.specs.Typed.{IsHost, host_form, tables_in}
 use Rattle.bh_schema.specs.Layer.{standing, IsStateClean, IsIntact, IsOpen}
 use Rattle.bh_open.specs.Opening.{shown_row}
 

@@ -2,6 +2,7 @@
 use Rattle.std.proofs.Common.{◌≡◌, inl, inr, ℕ, List, [], ◌∷◌, ◌++◌, map, filter, Bool, true, IsTrue, None, Ok, Err, Result, OnOk, OnErr, IfOk, IfErr, Ordering, refl, sym, ap, ◌∙◌, true≢false, subst, take}
 use Rattle.sqlite.specs.Order.{Row}
 use Rattle.sqlite.specs.Tree.{Trees}
+use Rattle.sqlite.specs.Effect.{Database}
 use Rattle.sqlite.specs.State.{State, HasCleanDisk, IsLive, IsUnchanged, Survives, Executes, CommitsBy, CommitsShowing, Shown, FailsToQuery}
 use Rattle.sqlite.specs.declared.error.Error.{Error}
 use Rattle.sqlite_keyed.specs.Lists.{update_where, delete_where, sort_by}
@@ -197,6 +198,19 @@ write old new change allowed result inside it = record {
   opens = changes_opens old new (λ c. (inside c).inside) result it.changes;
   holds = changes_holds old new (λ c. (inside c).inside) result it.changes (change (tables old)) it.leaves;
   trouble = if_error old new result allowed it.errors;
+}
+
+-- ---- the same, said in other words
+
+pub asked : {X : Type 0} {old new : State} {rows_in : X → List Row} {result : Result X Error} (f g : Tables → List Row) → ((t : Tables) → f t ≡ g t) → Question old new rows_in f result → Question old new rows_in g result
+asked {X} {old} {new} {rows_in} {result} f g same = subst (λ shown. Question old new rows_in shown result) (λ i t. same t i)
+
+pub written : {old new : State} {allowed : Error → Type 0} {result : Result ℕ Error} (f g : Tables → Tables) → ((db : Database) → f (tables_in db) ≡ g (tables_in db)) → Write old new f allowed result → Write old new g allowed result
+written {old} {new} {allowed} {result} f g same w = record {
+  within = w.within;
+  opens = w.opens;
+  holds = subst (λ t. OnOk result (IsStateClean new → Holds t (standing new))) (same (standing old).now) w.holds;
+  trouble = w.trouble;
 }
 
 -- ---- the kinds of texts, over any of the tables

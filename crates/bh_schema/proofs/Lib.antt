@@ -1,6 +1,7 @@
 pub mod TurnLemmas
 pub mod Calls
 pub mod VersionCalls
+pub mod PartCalls
 pub mod Finds
 pub mod Storing
 pub mod TenantSteps

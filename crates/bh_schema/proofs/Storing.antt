@@ -1,5 +1,5 @@
 -- From the words of a connection to those of a host's storage.
-use Rattle.std.proofs.Common.{◌≡◌, List, true, IsTrue, Ok, Result, OnOk, refl, sym, ap, ◌∙◌, subst}
+use Rattle.std.proofs.Common.{◌≡◌, List, ◌++◌, map, true, IsTrue, Ok, Result, OnOk, refl, sym, ap, ◌∙◌, subst}
 use Rattle.sqlite.specs.Tree.{Trees}
 use Rattle.sqlite.specs.Effect.{Database}
 use Rattle.sqlite.specs.Held.{Held, state}
@@ -7,7 +7,8 @@ use Rattle.sqlite.specs.State.{State}
 use Rattle.sqlite_trees.specs.declared.store.Store.{Ghosts}
 use Rattle.bh_types.specs.Limits.{HostLimits}
 use Rattle.bh_model.specs.State.{Octets}
-use Rattle.bh_tables.specs.Typed.{VersionRow, BlockRow, RefRow, Tables, IsHost, tables_in}
+use Rattle.bh_tables.specs.Typed.{VersionRow, PartRow, BlockRow, RefRow, Tables, IsHost, tables_in}
+use Rattle.bh_tables.specs.Bodies.{part_name}
 use Rattle.bh_tables.specs.Hosts.{tables_shown}
 use Rattle.bh_tables.proofs.HostTests.{host_shows, shown_host}
 use Rattle.bh_view.specs.Blocks.{AreDigests}
@@ -63,12 +64,12 @@ holds_seen l tables s h = (host_shows (standing s).now h.within.host ∙ h.is, h
 -- ---- tables whose bodies stay
 
 -- the rows that bodies are of
-abbrev pub bodied : Tables → List VersionRow × List RefRow × List BlockRow
-bodied x = (x.versions, x.refs, x.blocks)
+abbrev pub bodied : Tables → List VersionRow × List PartRow × List RefRow × List BlockRow
+bodied x = (x.versions, x.parts, x.refs, x.blocks)
 
 pub sound_still : {digest : Octets → Octets} (old new : Tables) → IsSoundHost digest old → IsSound new → bodied new ≡ bodied old → IsSoundHost digest new
 sound_still {digest} old new was sound same =
-    let P : List VersionRow × List RefRow × List BlockRow → Type 0 = λ b. AreBodies (bodies_of b.0) b.1 b.2 × AreDigests digest b.2 in
+    let P : List VersionRow × List PartRow × List RefRow × List BlockRow → Type 0 = λ b. AreBodies (bodies_of b.0 ++ map part_name b.1) b.2 b.3 × AreDigests digest b.3 in
     let is : P (bodied new) = subst P (sym same) (was.bodies, was.digests) in
     record { sound = sound; bodies = is.0; digests = is.1 }
 

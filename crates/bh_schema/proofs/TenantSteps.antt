@@ -8,7 +8,7 @@ use Rattle.bh_types.specs.declared.refusal.Refusal.{Refusal}
 use Rattle.bh_types.specs.declared.refusal.Refusal.TheVariants.{TenantExists}
 use Rattle.bh_model.specs.State.{Octets, State as Machine, new_tenant}
 use Rattle.bh_model.specs.Operations.{Done, add_tenant}
-use Rattle.bh_tables.specs.Typed.{TenantRow, VersionRow, BlockRow, RefRow, Tables, tables_in}
+use Rattle.bh_tables.specs.Typed.{TenantRow, VersionRow, PartRow, BlockRow, RefRow, Tables, tables_in}
 use Rattle.bh_tables.specs.Shown.{is_tenant}
 use Rattle.bh_view.specs.Bodies.{IsSoundHost}
 use Rattle.bh_view.specs.View.{view}
@@ -56,7 +56,7 @@ gives_of t step y s old new given b same = record {
   gives = given ∙ ap (λ v. Ok (y, v)) (sym b.shown);
   others = b.others;
   latest = b.latest;
-  shared = shared_same old new (ap (λ (x : List VersionRow × List RefRow × List BlockRow). x.2) same);
+  shared = shared_same old new (ap (λ (x : List VersionRow × List PartRow × List RefRow × List BlockRow). x.3) same);
 }
 
 -- a write of rows that bodies are not of

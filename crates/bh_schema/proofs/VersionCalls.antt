@@ -1,7 +1,6 @@
 -- Calls over versions, in the words of the tables, in which each version has the bytes of its body.
-use Rattle.std.proofs.Common.{◌≡◌, ℕ, List, [], ◌∷◌, ◌++◌, map, filter, Bool, true, Result, OnOk, IfOk, IfErr, Ordering, ap, subst, take}
+use Rattle.std.proofs.Common.{◌≡◌, ℕ, List, [], ◌∷◌, ◌++◌, map, filter, Bool, true, Result, IfOk, IfErr, Ordering, ap, take}
 use Rattle.sqlite.specs.Order.{Row}
-use Rattle.sqlite.specs.Effect.{Database}
 use Rattle.sqlite.specs.State.{State, HasCleanDisk, IsLive, Survives, Executes, CommitsBy, CommitsShowing, Shown, FailsToQuery}
 use Rattle.sqlite.specs.declared.error.Error.{Error}
 use Rattle.sqlite_keyed.specs.Lists.{delete_where, sort_by}
@@ -9,28 +8,15 @@ use Rattle.bh_rows.specs.Means.{is_trouble}
 use Rattle.bh_rows.specs.Scan.{no_limit}
 use Rattle.bh_rows.specs.Texts.{MayAdd, InsertText, DeleteText, SelectText, SortedText}
 use Rattle.bh_tables.specs.Schema.{host_schema, versions_table, at}
-use Rattle.bh_tables.specs.Typed.{VersionColumns, version_form, Tables, tables_in}
+use Rattle.bh_tables.specs.Typed.{VersionColumns, version_form}
 use Rattle.bh_tables.specs.Bodies.{resolved, columns_of}
 use Rattle.bh_tables.proofs.Places.{versions}
 use Rattle.bh_tables.proofs.ResolvedLemmas.{seen, seen_sorted, version_added, versions_deleted}
 use Rattle.bh_tables.proofs.Terms.{one_row}
 use Rattle.bh_tables.proofs.VersionTexts.{versions_unused}
-use Rattle.bh_schema.specs.Layer.{standing, IsInside, IsStateClean, Holds}
-use Rattle.bh_schema.proofs.Calls.{Question, Write}
+use Rattle.bh_schema.specs.Layer.{standing, IsInside, IsStateClean}
+use Rattle.bh_schema.proofs.Calls.{Question, Write, asked, written}
 use Rattle.bh_schema.proofs.Calls as call
-
--- ---- the same, said in other words
-
-asked : {X : Type 0} {old new : State} {rows_in : X → List Row} {result : Result X Error} (f g : Tables → List Row) → ((t : Tables) → f t ≡ g t) → Question old new rows_in f result → Question old new rows_in g result
-asked {X} {old} {new} {rows_in} {result} f g same = subst (λ shown. Question old new rows_in shown result) (λ i t. same t i)
-
-written : {old new : State} {allowed : Error → Type 0} {result : Result ℕ Error} (f g : Tables → Tables) → ((db : Database) → f (tables_in db) ≡ g (tables_in db)) → Write old new f allowed result → Write old new g allowed result
-written {old} {new} {allowed} {result} f g same w = record {
-  within = w.within;
-  opens = w.opens;
-  holds = subst (λ t. OnOk result (IsStateClean new → Holds t (standing new))) (same (standing old).now) w.holds;
-  trouble = w.trouble;
-}
 
 -- ---- the kinds of texts
 

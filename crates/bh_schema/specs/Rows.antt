@@ -1,10 +1,10 @@
--- What the columns that are read stand for, and which new rows no key forbids.
+-- What the columns that are read stand for, which new rows no key forbids, and which bucket may go.
 use Rattle.std.specs.Prelude.{◌≡◌, ℕ, true, false, List, filter, Option}
 use Rattle.std.specs.List.{list_any}
 use Rattle.sqlite_keyed.specs.Lists.{sort_by}
 use Rattle.bh_tables.specs.Schema.{Octets}
 use Rattle.bh_tables.specs.Typed.{HostRow, TenantRow, KeyRow, BucketRow, VersionRow, Tables}
-use Rattle.bh_tables.specs.Shown.{is_tenant, is_key, is_bucket, is_owned_bucket, by_bucket, is_entry, is_version, is_at, newer}
+use Rattle.bh_tables.specs.Shown.{is_tenant, is_key, is_bucket, is_owned_bucket, by_bucket, is_entry, is_version, is_at, is_in_bucket, is_upload_in, newer}
 use Rattle.bh_view.specs.Grouped.{first}
 use Rattle.bh_schema.specs.declared.rows.tenants.TenantNumbers.{TenantNumbers}
 use Rattle.bh_schema.specs.declared.rows.buckets.BucketNumbers.{BucketNumbers}
@@ -65,3 +65,10 @@ pub record IsNewVersion (tables : Tables) (tenant bucket okey : Octets) (seq id 
   pub unnumbered : list_any (is_entry tenant seq) tables.versions ≡ false
   pub free : list_any (is_version tenant bucket okey id) tables.versions ≡ false
   pub owned : list_any (is_bucket tenant bucket) tables.buckets ≡ true
+
+-- ---- a row that may be taken away
+
+-- no version, no marker and no upload is in the bucket
+pub record IsEmptyBucket (tables : Tables) (tenant bucket : Octets) : Type 0 where
+  pub versions : list_any (is_in_bucket tenant bucket) tables.versions ≡ false
+  pub uploads : list_any (is_upload_in tenant bucket) tables.uploads ≡ false

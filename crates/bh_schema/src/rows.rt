@@ -7,4 +7,5 @@ pub mod known;
 pub mod number;
 pub mod tenants;
 pub mod transactions;
+pub mod uploads;
 pub mod versions;

@@ -5,12 +5,14 @@ use Rattle.bh_docs.specs.Documents.{bucket_view}
 use Rattle.bh_docs.specs.Pages.{page_view, versions_view}
 use Rattle.bh_model.specs.Operations as model
 use Rattle.bh_storage.specs.declared.answer.Answer.{Answer}
-use Rattle.bh_storage.specs.declared.answer.Answer.TheVariants.{Done, Removed, Stored, Copied, Head, Found, Buckets, Versioning, Objects, Versions}
+use Rattle.bh_storage.specs.declared.answer.Answer.TheVariants.{Done, Removed, Stored, Copied, Head, Found, Buckets, Versioning, Objects, Versions, Begun, PartStored, Completed}
 use Rattle.bh_storage.specs.declared.answer.RemovedEntry.{RemovedEntry}
 use Rattle.bh_storage.specs.declared.answer.StoredVersion.{StoredVersion}
 use Rattle.bh_storage.specs.declared.answer.CopiedVersion.{CopiedVersion}
 use Rattle.bh_storage.specs.declared.answer.ObjectHead.{ObjectHead}
 use Rattle.bh_storage.specs.declared.answer.FoundVersion.{FoundVersion}
+use Rattle.bh_storage.specs.declared.answer.BegunUpload.{BegunUpload}
+use Rattle.bh_storage.specs.declared.answer.CompletedUpload.{CompletedUpload}
 
 abbrev pub removed_answer : RemovedEntry → model.Answer
 removed_answer entry = model.Removed entry.id entry.marker
@@ -27,6 +29,12 @@ head_answer v = model.Head v.id v.size (string_bytes v.checksum)
 abbrev pub found_answer : FoundVersion → model.Answer
 found_answer v = model.Object v.head.id v.head.size v.plan v.bytes.items (string_bytes v.head.checksum)
 
+abbrev pub begun_answer : BegunUpload → model.Answer
+begun_answer u = model.Begun (string_bytes u.bucket) (string_bytes u.key) u.upload u.abort
+
+abbrev pub completed_answer : CompletedUpload → model.Answer
+completed_answer u = model.Completed (string_bytes u.bucket) (string_bytes u.key) u.id (string_bytes u.checksum)
+
 abbrev pub answer_view : Answer → model.Answer
 answer_view Done = model.Done
 answer_view (Removed entry) = removed_answer entry
@@ -38,3 +46,6 @@ answer_view (Buckets buckets) = model.Buckets (map bucket_view buckets.items)
 answer_view (Versioning state) = model.Versioning state
 answer_view (Objects page) = model.Objects (page_view page)
 answer_view (Versions page) = model.Versions (versions_view page)
+answer_view (Begun upload) = begun_answer upload
+answer_view (PartStored checksum) = model.PartStored (string_bytes checksum)
+answer_view (Completed upload) = completed_answer upload

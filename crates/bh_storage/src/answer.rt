@@ -1,6 +1,6 @@
 use bh_docs::{BucketEntry, ObjectsPage, VersionsPage};
 use bh_types::bucket_state::BucketState;
-use bh_types::id::VersionId;
+use bh_types::id::{UploadId, VersionId};
 use bh_types::moment::Moment;
 use bh_types::range::RangePlan;
 
@@ -21,6 +21,10 @@ pub enum Answer {
     Objects(ObjectsPage),
     /// A page of a bucket's versions and delete markers.
     Versions(VersionsPage),
+    Begun(BegunUpload),
+    /// A part was put: the base64 (RFC 4648) of the SHA-256 digest (FIPS 180-4) of its bytes.
+    PartStored(String),
+    Completed(CompletedUpload),
 }
 
 /// What a delete answers.
@@ -73,4 +77,31 @@ pub struct FoundVersion {
     pub plan: RangePlan,
     /// These bytes.
     pub bytes: Vec<u8>,
+}
+
+/// What beginning a multipart upload answers.
+#[derive(Drop)]
+pub struct BegunUpload {
+    /// The bucket's name, without a tenant.
+    pub bucket: String,
+    /// The key that the object will have.
+    pub key: String,
+    /// The new upload's id.
+    pub upload: UploadId,
+    /// When the upload will be stale, where its bucket has a rule for that.
+    pub abort: Option<Moment>,
+}
+
+/// What completing a multipart upload answers.
+#[derive(Drop)]
+pub struct CompletedUpload {
+    /// The bucket's name, without a tenant.
+    pub bucket: String,
+    /// The object's key.
+    pub key: String,
+    /// The new version's id, where its bucket is or was versioned.
+    pub id: Option<VersionId>,
+    /// The text of the object's checksum: the base64 of the digest of its parts' digests, `-`, and how many parts
+    /// they are (Amazon S3 User Guide, "Checking object integrity").
+    pub checksum: String,
 }

@@ -122,7 +122,8 @@ pub trait Storage {
         ensures opens { Unless result (IsOpen self.old → IsIntact self.new → IsOpen self.new) }
         ensures working { Unless result (Clean IsIntact IsOpen self.new → IsWorking IsSound (seen self.new)) }
         ensures carries { Clean IsIntact IsOpen self.new
-            → Carries answer_view tenant.now (operated at body.now operation.now) (seen self.old).now (seen self.new).now result };
+            → Carries answer_view tenant.now (operated (seen self.old).limits at body.now operation.now)
+            (seen self.old).now (seen self.new).now result };
 
     /// Carries out an operator's command on the tenant that it names.
     fn command(&mut self, alloc: Global, command: &Command) -> Result<(), StepError<Refusal>>

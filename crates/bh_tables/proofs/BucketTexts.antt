@@ -22,9 +22,9 @@ use Rattle.bh_rows.specs.Texts.{MayAdd, MayChange, InsertText, UpdateText, Delet
 use Rattle.bh_rows.proofs.DeleteErrors.{none_points, none_named}
 use Rattle.bh_rows.proofs.FormLemmas.{any_typed}
 use Rattle.bh_tables.specs.Schema.{Octets, host_schema, buckets_table, at}
-use Rattle.bh_tables.specs.Typed.{BucketRow, VersionColumns, bucket_form, tenant_form, version_form, number, IsHost, tables_in}
+use Rattle.bh_tables.specs.Typed.{BucketRow, VersionColumns, UploadRow, bucket_form, tenant_form, version_form, upload_form, number, IsHost, tables_in}
 use Rattle.bh_tables.specs.Bodies.{bare}
-use Rattle.bh_tables.specs.Shown.{is_bucket, is_in_bucket, is_owned_bucket, is_tenant, by_bucket, shown_bucket, shown_entry}
+use Rattle.bh_tables.specs.Shown.{is_bucket, is_in_bucket, is_upload_in, is_owned_bucket, is_tenant, by_bucket, shown_bucket, shown_entry}
 use Rattle.bh_tables.proofs.Places.{Goes, buckets}
 use Rattle.bh_tables.proofs.ResolvedLemmas.{any_resolved}
 use Rattle.bh_tables.proofs.Checked.{bucket_checked}
@@ -49,27 +49,41 @@ new_bucket db host b low free owned = record {
   parents = ap (λ c. c && true) (any_typed tenant_form _ (is_tenant b.tenant) (λ id t. last_term (at_texts false Eq t.tenant b.tenant)) (db.trees 1) host.held.tenants ∙ owned);
 }
 
--- ---- a bucket that no version names may go
+-- ---- a bucket that no version and no upload names may go
 
-abbrev to_buckets : Pointer
-to_buckets = record { child = 7; columns = 1 ∷ 3 ∷ []; places = 1 ∷ 2 ∷ []; order = plain }
+-- the rows of the table in this tree name their bucket by columns 1 and 3
+abbrev to_buckets : ℕ → Pointer
+to_buckets child = record { child = child; columns = 1 ∷ 3 ∷ []; places = 1 ∷ 2 ∷ []; order = plain }
 
-lies_in : (i : ℤ) (v : VersionColumns) (j : ℤ) (b : BucketRow) → points_at to_buckets (put version_form (i, v)) (put bucket_form (j, b)) ≡ (bytes_eq v.tenant b.tenant && bytes_eq v.bucket b.bucket)
+lies_in : (i : ℤ) (v : VersionColumns) (j : ℤ) (b : BucketRow) → points_at (to_buckets 7) (put version_form (i, v)) (put bucket_form (j, b)) ≡ (bytes_eq v.tenant b.tenant && bytes_eq v.bucket b.bucket)
 unfolding first_key
 lies_in i v j b = then_term (at_texts false Eq v.tenant b.tenant) (last_term (at_texts false Eq v.bucket b.bucket))
 
-named : (tenant bucket : Octets) (v : VersionColumns) (b : BucketRow) → (bytes_eq v.tenant b.tenant && bytes_eq v.bucket b.bucket) ≡ true → is_bucket tenant bucket b ≡ true → is_in_bucket tenant bucket (bare v) ≡ true
-named tenant bucket v b lies is =
-    let both = and_parts _ _ is in
-    ap₂ (λ t n. bytes_eq v.tenant t && bytes_eq v.bucket n) (sym (same_bytes b.tenant tenant both.0)) (sym (same_bytes b.bucket bucket both.1)) ∙ lies
+begun_in : (i : ℤ) (u : UploadRow) (j : ℤ) (b : BucketRow) → points_at (to_buckets 16) (put upload_form (i, u)) (put bucket_form (j, b)) ≡ (bytes_eq u.tenant b.tenant && bytes_eq u.bucket b.bucket)
+unfolding first_key
+begun_in i u j b = then_term (at_texts false Eq u.tenant b.tenant) (last_term (at_texts false Eq u.bucket b.bucket))
 
-pub empty_goes : (db : Database) → IsHost db → (tenant bucket : Octets) → list_any (is_in_bucket tenant bucket) (tables_in db).versions ≡ false → Goes buckets db.trees (is_bucket tenant bucket)
-unfolding everything
-empty_goes db host tenant bucket empty = (
-  none_points bucket_form version_form (db.trees 5) (db.trees 7) to_buckets (is_bucket tenant bucket) (λ v b. bytes_eq v.tenant b.tenant && bytes_eq v.bucket b.bucket) lies_in host.held.buckets host.held.versions
-      (none_named (λ v b. bytes_eq v.tenant b.tenant && bytes_eq v.bucket b.bucket) (is_bucket tenant bucket) (λ v. is_in_bucket tenant bucket (bare v)) (named tenant bucket) (tables_in db).buckets (typed version_form (db.trees 7)) (sym (any_resolved (tables_in db).refs (tables_in db).blocks (is_in_bucket tenant bucket) (typed version_form (db.trees 7))) ∙ empty)),
-  tt,
-)
+-- what is in the row's bucket is in the bucket of this name
+named : (tenant bucket mine its : Octets) (b : BucketRow) → (bytes_eq mine b.tenant && bytes_eq its b.bucket) ≡ true → is_bucket tenant bucket b ≡ true → (bytes_eq mine tenant && bytes_eq its bucket) ≡ true
+named tenant bucket mine its b lies is =
+    let both = and_parts _ _ is in
+    ap₂ (λ t n. bytes_eq mine t && bytes_eq its n) (sym (same_bytes b.tenant tenant both.0)) (sym (same_bytes b.bucket bucket both.1)) ∙ lies
+
+module _ (db : Database) (host : IsHost db) (tenant bucket : Octets) where
+  no_version : list_any (is_in_bucket tenant bucket) (tables_in db).versions ≡ false → list_any (λ v. is_in_bucket tenant bucket (bare v)) (typed version_form (db.trees 7)) ≡ false
+  no_version empty = sym (any_resolved (tables_in db).refs (tables_in db).blocks (is_in_bucket tenant bucket) (typed version_form (db.trees 7))) ∙ empty
+
+  pub empty_goes : list_any (is_in_bucket tenant bucket) (tables_in db).versions ≡ false → list_any (is_upload_in tenant bucket) (tables_in db).uploads ≡ false → Goes buckets db.trees (is_bucket tenant bucket)
+  unfolding everything
+  empty_goes empty finished = (
+    none_points bucket_form version_form (db.trees 5) (db.trees 7) (to_buckets 7) (is_bucket tenant bucket) (λ v b. bytes_eq v.tenant b.tenant && bytes_eq v.bucket b.bucket) lies_in host.held.buckets host.held.versions
+        (none_named (λ v b. bytes_eq v.tenant b.tenant && bytes_eq v.bucket b.bucket) (is_bucket tenant bucket) (λ v. is_in_bucket tenant bucket (bare v)) (λ v b. named tenant bucket v.tenant v.bucket b) (tables_in db).buckets (typed version_form (db.trees 7)) (no_version empty)),
+    (
+      none_points bucket_form upload_form (db.trees 5) (db.trees 16) (to_buckets 16) (is_bucket tenant bucket) (λ u b. bytes_eq u.tenant b.tenant && bytes_eq u.bucket b.bucket) begun_in host.held.buckets host.held.uploads
+          (none_named (λ u b. bytes_eq u.tenant b.tenant && bytes_eq u.bucket b.bucket) (is_bucket tenant bucket) (is_upload_in tenant bucket) (λ u b. named tenant bucket u.tenant u.bucket b) (tables_in db).buckets (tables_in db).uploads finished),
+      tt,
+    ),
+  )
 
 -- ---- a state is one of three
 

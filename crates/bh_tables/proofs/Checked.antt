@@ -12,8 +12,8 @@ use Rattle.sqlite_typed.specs.Columns.{or_null}
 use Rattle.sqlite_typed.specs.Tests.{null_or}
 use Rattle.sqlite_typed.proofs.TestLemmas.{at_ints, at_texts, at_and, at_or, at_nullable}
 use Rattle.sqlite_schema.specs.Rules.{passes_checks}
-use Rattle.bh_tables.specs.Schema.{host_table, tenants_table, buckets_table, versions_table, blocks_table, refs_table}
-use Rattle.bh_tables.specs.Typed.{HostRow, host_columns, TenantRow, tenant_columns, BucketRow, bucket_columns, VersionColumns, version_columns, BlockRow, block_columns, RefRow, ref_columns, number}
+use Rattle.bh_tables.specs.Schema.{host_table, tenants_table, buckets_table, versions_table, blocks_table, refs_table, uploads_table, parts_table}
+use Rattle.bh_tables.specs.Typed.{HostRow, host_columns, TenantRow, tenant_columns, BucketRow, bucket_columns, VersionColumns, version_columns, BlockRow, block_columns, RefRow, ref_columns, UploadRow, upload_columns, PartColumns, part_columns, number}
 use Rattle.bh_tables.specs.Bodies.{bare}
 use Rattle.bh_tables.specs.Shown.{is_marked_right}
 
@@ -49,6 +49,12 @@ block_checked id b = both_true (natural b.ord) refl
 
 pub ref_checked : (id : Rattle.std.proofs.Common.ℤ) (r : RefRow) → passes_checks refs_table (Int id ∷ ref_columns r) ≡ true
 ref_checked id r = both_true (natural r.body) (both_true (natural r.place) (both_true (natural r.ord) (both_true (natural r.size) refl)))
+
+pub upload_checked : (id : Rattle.std.proofs.Common.ℤ) (u : UploadRow) → passes_checks uploads_table (Int id ∷ upload_columns u) ≡ true
+upload_checked id u = both_true (natural u.upload) (both_true (natural u.begun) refl)
+
+pub part_checked : (id : Rattle.std.proofs.Common.ℤ) (p : PartColumns) → passes_checks parts_table (Int id ∷ part_columns p) ≡ true
+part_checked id p = both_true (natural p.upload) (both_true (natural p.part) (both_true (natural p.size) (both_true (natural p.stamp) (both_true (natural p.body) refl))))
 
 -- the row number of the host is 1
 pub host_checked : (h : HostRow) → passes_checks host_table (number 1 ∷ host_columns h) ≡ true

@@ -9,8 +9,8 @@ use Rattle.bh_rows.proofs.CreateLemmas.{Makes}
 use Rattle.bh_rows.proofs.CreateErrors.{IsFree}
 use Rattle.bh_rows.specs.Index.{Indexes}
 use Rattle.bh_rows.proofs.IndexErrors.{IsFreeIndex}
-use Rattle.bh_tables.specs.Schema.{Octets, no_schema, host_schema, host_table, tenants_table, keys_table, buckets_table, versions_table, blocks_table, refs_table, at, newest, refs_by_block}
-use Rattle.bh_tables.specs.Made.{with_host, with_tenants, with_keys, with_buckets, with_versions, with_blocks, with_refs, with_newest, with_refs_by_block}
+use Rattle.bh_tables.specs.Schema.{Octets, no_schema, host_schema, host_table, tenants_table, keys_table, buckets_table, versions_table, blocks_table, refs_table, uploads_table, parts_table, at, newest, refs_by_block, uploads_by_key}
+use Rattle.bh_tables.specs.Made.{with_host, with_tenants, with_keys, with_buckets, with_versions, with_blocks, with_refs, with_newest, with_refs_by_block, with_uploads, with_parts, with_uploads_by_key}
 
 abbrev host_text : Octets
 host_text = codes "CREATE TABLE host (id INTEGER PRIMARY KEY CHECK (id = 1), version INTEGER NOT NULL CHECK (version >= 0), latest INTEGER NOT NULL CHECK (latest >= 0), min_part INTEGER NOT NULL CHECK (min_part >= 0), max_body INTEGER NOT NULL CHECK (max_body >= 0)) STRICT"
@@ -111,7 +111,40 @@ pub free_refs_by_block : IsFreeIndex with_newest refs_by_block_text (at 12 refs_
 unfolding everything fits_kind is_free_name begins same_name value_cmp Ieee.lt Ieee.is_nan
 free_refs_by_block = record { text = refl; name = refl; owner = refl; own = refl; free = refl; few = refl; narrow = refl; key_narrow = refl; fit = refl; any = refl }
 
+abbrev uploads_text : Octets
+uploads_text = codes "CREATE TABLE uploads (tenant TEXT NOT NULL, upload INTEGER NOT NULL CHECK (upload >= 0), bucket TEXT NOT NULL, okey BLOB NOT NULL, begun INTEGER NOT NULL CHECK (begun >= 0), PRIMARY KEY (tenant, upload), FOREIGN KEY (tenant, bucket) REFERENCES buckets ON DELETE RESTRICT) STRICT"
+
+pub makes_uploads : Makes with_refs_by_block uploads_text uploads_table
+unfolding understood everything
+makes_uploads = record { means = record { is = refl; plain = (refl, refl); unlisted = refl; whole = refl; given = refl }; text = refl; defined = refl; uncounted = refl }
+
+pub free_uploads : IsFree with_refs_by_block uploads_text uploads_table
+unfolding everything fits_kind is_free_name begins same_name value_cmp Ieee.lt Ieee.is_nan
+free_uploads = record { text = refl; name = refl; own = refl; free = refl; keys_free = refl; few = refl; narrow = refl; keys_narrow = refl; formed = refl; fit = refl }
+
+abbrev parts_text : Octets
+parts_text = codes "CREATE TABLE parts (tenant TEXT NOT NULL, upload INTEGER NOT NULL CHECK (upload >= 0), number INTEGER NOT NULL CHECK (number >= 0), size INTEGER NOT NULL CHECK (size >= 0), sum TEXT NOT NULL, stamp INTEGER NOT NULL CHECK (stamp >= 0), body INTEGER NOT NULL CHECK (body >= 0), PRIMARY KEY (tenant, upload, number), UNIQUE (tenant, body), FOREIGN KEY (tenant, upload) REFERENCES uploads ON DELETE RESTRICT) STRICT"
+
+pub makes_parts : Makes with_uploads parts_text parts_table
+unfolding understood everything
+makes_parts = record { means = record { is = refl; plain = (refl, refl); unlisted = refl; whole = refl; given = refl }; text = refl; defined = refl; uncounted = refl }
+
+pub free_parts : IsFree with_uploads parts_text parts_table
+unfolding everything fits_kind is_free_name begins same_name value_cmp Ieee.lt Ieee.is_nan
+free_parts = record { text = refl; name = refl; own = refl; free = refl; keys_free = refl; few = refl; narrow = refl; keys_narrow = refl; formed = refl; fit = refl }
+
+abbrev uploads_by_key_text : Octets
+uploads_by_key_text = codes "CREATE INDEX uploads_by_key ON uploads (tenant, bucket, okey, upload)"
+
+pub makes_uploads_by_key : Indexes with_parts uploads_by_key_text 7 (at 16 uploads_table) uploads_by_key
+unfolding understood everything
+makes_uploads_by_key = record { means = record { is = refl; plain = (refl, refl); unlisted = refl; whole = refl; given = refl }; text = refl; is_table = refl; defined = refl }
+
+pub free_uploads_by_key : IsFreeIndex with_parts uploads_by_key_text (at 16 uploads_table) uploads_by_key
+unfolding everything fits_kind is_free_name begins same_name value_cmp Ieee.lt Ieee.is_nan
+free_uploads_by_key = record { text = refl; name = refl; owner = refl; own = refl; free = refl; few = refl; narrow = refl; key_narrow = refl; fit = refl; any = refl }
+
 -- these are all
-pub all_made : with_refs_by_block ≡ host_schema
+pub all_made : with_uploads_by_key ≡ host_schema
 unfolding everything
 all_made = refl

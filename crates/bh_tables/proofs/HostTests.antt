@@ -10,7 +10,7 @@ use Rattle.sqlite.specs.Effect.{Database}
 use Rattle.sqlite_schema.specs.contracts.schema.Schema as schema
 use Rattle.bh_rows.specs.Form.{Form, AreRows}
 use Rattle.bh_tables.specs.Schema.{host_schema}
-use Rattle.bh_tables.specs.Typed.{HostRow, Raw, raw, tables_in, no_rows, AreHeld, IsHost, host_form, tenant_form, key_form, bucket_form, version_form, block_form, ref_form}
+use Rattle.bh_tables.specs.Typed.{HostRow, Raw, raw, tables_in, no_rows, AreHeld, IsHost, host_form, tenant_form, key_form, bucket_form, version_form, block_form, ref_form, upload_form, part_form}
 use Rattle.bh_tables.specs.Hosts.{same_code, same, ascends, coded_row, are_rows, are_held, is_host, tables_shown}
 
 -- ---- codes
@@ -75,6 +75,8 @@ held_of r h =
     let d = and_parts _ _ c.1 in
     let e = and_parts _ _ d.1 in
     let f = and_parts _ _ e.1 in
+    let g = and_parts _ _ f.1 in
+    let i = and_parts _ _ g.1 in
     record {
       host = rows_of host_form r.host a.0;
       tenants = rows_of tenant_form r.tenants b.0;
@@ -82,12 +84,15 @@ held_of r h =
       buckets = rows_of bucket_form r.buckets d.0;
       versions = rows_of version_form r.versions e.0;
       blocks = rows_of block_form r.blocks f.0;
-      refs = rows_of ref_form r.refs f.1;
+      refs = rows_of ref_form r.refs g.0;
+      uploads = rows_of upload_form r.uploads i.0;
+      parts = rows_of part_form r.parts i.1;
     }
 
 of_held : (r : Raw) → AreHeld r → are_held r ≡ true
 of_held r h = and_from _ _ (of_rows host_form r.host h.host) (and_from _ _ (of_rows tenant_form r.tenants h.tenants) (and_from _ _ (of_rows key_form r.keys h.keys) (and_from _ _ (of_rows bucket_form r.buckets h.buckets)
-    (and_from _ _ (of_rows version_form r.versions h.versions) (and_from _ _ (of_rows block_form r.blocks h.blocks) (of_rows ref_form r.refs h.refs))))))
+    (and_from _ _ (of_rows version_form r.versions h.versions) (and_from _ _ (of_rows block_form r.blocks h.blocks) (and_from _ _ (of_rows ref_form r.refs h.refs)
+    (and_from _ _ (of_rows upload_form r.uploads h.uploads) (of_rows part_form r.parts h.parts))))))))
 
 -- ---- databases
 

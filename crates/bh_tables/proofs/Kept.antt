@@ -2,8 +2,8 @@
 use Rattle.std.proofs.Common.{◌≡◌, ap, refl, Option, Some, None, ◌∷◌, []}
 use Rattle.sqlite.specs.Cast.{cast_all}
 use Rattle.bh_rows.proofs.InsertLemmas.{cast_int, cast_null}
-use Rattle.bh_tables.specs.Schema.{host_table, tenants_table, keys_table, buckets_table, versions_table, blocks_table, refs_table}
-use Rattle.bh_tables.specs.Typed.{HostRow, host_columns, TenantRow, tenant_columns, KeyRow, key_columns, BucketRow, bucket_columns, VersionColumns, version_columns, BlockRow, block_columns, RefRow, ref_columns}
+use Rattle.bh_tables.specs.Schema.{host_table, tenants_table, keys_table, buckets_table, versions_table, blocks_table, refs_table, uploads_table, parts_table}
+use Rattle.bh_tables.specs.Typed.{HostRow, host_columns, TenantRow, tenant_columns, KeyRow, key_columns, BucketRow, bucket_columns, VersionColumns, version_columns, BlockRow, block_columns, RefRow, ref_columns, UploadRow, upload_columns, PartColumns, part_columns}
 
 pub host_kept : (h : HostRow) → cast_all host_table.columns (host_columns h) ≡ host_columns h
 host_kept h = rw cast_null (simp cast_int)
@@ -22,6 +22,12 @@ block_kept b = simp cast_int
 
 pub ref_kept : (r : RefRow) → cast_all refs_table.columns (ref_columns r) ≡ ref_columns r
 ref_kept r = simp cast_int
+
+pub upload_kept : (u : UploadRow) → cast_all uploads_table.columns (upload_columns u) ≡ upload_columns u
+upload_kept u = simp cast_int
+
+pub part_kept : (p : PartColumns) → cast_all parts_table.columns (part_columns p) ≡ part_columns p
+part_kept p = simp cast_int
 
 pub bucket_kept : (b : BucketRow) → cast_all buckets_table.columns (bucket_columns b) ≡ bucket_columns b
 bucket_kept b = go b b.days

@@ -16,4 +16,6 @@ pub mod VersionTexts
 pub mod BlockTexts
 pub mod RefTexts
 pub mod UnreferencedText
+pub mod UploadTexts
+pub mod PartTexts
 pub mod HostTests

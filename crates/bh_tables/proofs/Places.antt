@@ -1,5 +1,5 @@
 -- Each of a host's tables among the others: its typed rows, and what a database is that has others of them.
-use Rattle.std.proofs.Common.{◌≡◌, ℕ, Bool, List, map, filter, refl, sym, ap, subst, ◌∙◌}
+use Rattle.std.proofs.Common.{◌≡◌, ℕ, Bool, List, map, filter, refl, sym, ap, ap₂, subst, ◌∙◌}
 use Rattle.sqlite.specs.Order.{Row}
 use Rattle.sqlite.specs.Tree.{Trees}
 use Rattle.sqlite.specs.Table.{Table}
@@ -10,12 +10,12 @@ use Rattle.sqlite_trees.specs.Tree.{with_tree}
 use Rattle.bh_rows.specs.Form.{Form, AreRows, Entry, put, entries, typed}
 use Rattle.bh_rows.specs.Keys.{AreUnused}
 use Rattle.bh_rows.specs.Texts.{IsOrderly, IsTableOf, Leaves}
-use Rattle.bh_tables.specs.Schema.{host_schema, host_table, tenants_table, keys_table, buckets_table, versions_table, blocks_table, refs_table, at}
-use Rattle.bh_tables.specs.Typed.{HostRow, TenantRow, KeyRow, BucketRow, VersionColumns, BlockRow, RefRow, host_form, tenant_form, key_form, bucket_form, version_form, block_form, ref_form, Tables, tables, tables_in, tables_of, Raw, raw, AreHeld, IsHost, rebodied}
-use Rattle.bh_tables.specs.Bodies.{resolved, columns_of}
-use Rattle.bh_tables.proofs.Kept.{host_kept, tenant_kept, key_kept, bucket_kept, version_kept, block_kept, ref_kept}
+use Rattle.bh_tables.specs.Schema.{host_schema, host_table, tenants_table, keys_table, buckets_table, versions_table, blocks_table, refs_table, uploads_table, parts_table, at}
+use Rattle.bh_tables.specs.Typed.{HostRow, TenantRow, KeyRow, BucketRow, VersionColumns, BlockRow, RefRow, UploadRow, PartColumns, host_form, tenant_form, key_form, bucket_form, version_form, block_form, ref_form, upload_form, part_form, Tables, tables, tables_in, tables_of, Raw, raw, AreHeld, IsHost, rebodied}
+use Rattle.bh_tables.specs.Bodies.{resolved, columns_of, resolved_part, part_columns_of}
+use Rattle.bh_tables.proofs.Kept.{host_kept, tenant_kept, key_kept, bucket_kept, version_kept, block_kept, ref_kept, upload_kept, part_kept}
 use Rattle.bh_tables.proofs.RawLemmas.{raw_changed}
-use Rattle.bh_tables.proofs.ResolvedLemmas.{stored_versions, resolved_twice}
+use Rattle.bh_tables.proofs.ResolvedLemmas.{stored_versions, resolved_twice, stored_parts, resolved_parts_twice}
 
 pub orderly : IsOrderly host_schema
 unfolding everything
@@ -71,7 +71,7 @@ host = record {
   put = λ r l. record r { host = l };
   put_is = λ db l. refl;
   put_reads = λ r l. refl;
-  put_held = λ r l h it. record { host = it; tenants = h.tenants; keys = h.keys; buckets = h.buckets; versions = h.versions; blocks = h.blocks; refs = h.refs };
+  put_held = λ r l h it. record { host = it; tenants = h.tenants; keys = h.keys; buckets = h.buckets; versions = h.versions; blocks = h.blocks; refs = h.refs; uploads = h.uploads; parts = h.parts };
 }
 
 pub tenants_is : IsTableOf tenant_form host_schema 1 (at 1 tenants_table)
@@ -91,7 +91,7 @@ tenants = record {
   put = λ r l. record r { tenants = l };
   put_is = λ db l. refl;
   put_reads = λ r l. refl;
-  put_held = λ r l h it. record { host = h.host; tenants = it; keys = h.keys; buckets = h.buckets; versions = h.versions; blocks = h.blocks; refs = h.refs };
+  put_held = λ r l h it. record { host = h.host; tenants = it; keys = h.keys; buckets = h.buckets; versions = h.versions; blocks = h.blocks; refs = h.refs; uploads = h.uploads; parts = h.parts };
 }
 
 pub keys_is : IsTableOf key_form host_schema 2 (at 3 keys_table)
@@ -111,7 +111,7 @@ keys = record {
   put = λ r l. record r { keys = l };
   put_is = λ db l. refl;
   put_reads = λ r l. refl;
-  put_held = λ r l h it. record { host = h.host; tenants = h.tenants; keys = it; buckets = h.buckets; versions = h.versions; blocks = h.blocks; refs = h.refs };
+  put_held = λ r l h it. record { host = h.host; tenants = h.tenants; keys = it; buckets = h.buckets; versions = h.versions; blocks = h.blocks; refs = h.refs; uploads = h.uploads; parts = h.parts };
 }
 
 pub buckets_is : IsTableOf bucket_form host_schema 3 (at 5 buckets_table)
@@ -131,7 +131,7 @@ buckets = record {
   put = λ r l. record r { buckets = l };
   put_is = λ db l. refl;
   put_reads = λ r l. refl;
-  put_held = λ r l h it. record { host = h.host; tenants = h.tenants; keys = h.keys; buckets = it; versions = h.versions; blocks = h.blocks; refs = h.refs };
+  put_held = λ r l h it. record { host = h.host; tenants = h.tenants; keys = h.keys; buckets = it; versions = h.versions; blocks = h.blocks; refs = h.refs; uploads = h.uploads; parts = h.parts };
 }
 
 pub versions_is : IsTableOf version_form host_schema 4 (at 7 versions_table)
@@ -151,12 +151,15 @@ versions = record {
   put = λ r l. record r { versions = l };
   put_is = λ db l. refl;
   put_reads = λ r l. refl;
-  put_held = λ r l h it. record { host = h.host; tenants = h.tenants; keys = h.keys; buckets = h.buckets; versions = it; blocks = h.blocks; refs = h.refs };
+  put_held = λ r l h it. record { host = h.host; tenants = h.tenants; keys = h.keys; buckets = h.buckets; versions = it; blocks = h.blocks; refs = h.refs; uploads = h.uploads; parts = h.parts };
 }
 
 -- the tables with other references and blocks, as they are read
-pub reread : (r : Raw) (refs : List RefRow) (blocks : List BlockRow) → record (tables_of r) { versions = map (resolved refs blocks) (typed version_form r.versions); refs = refs; blocks = blocks } ≡ rebodied (tables_of r) refs blocks
-reread r refs blocks = ap (λ l. record (tables_of r) { versions = l; refs = refs; blocks = blocks }) (sym (resolved_twice refs blocks (tables_of r).refs (tables_of r).blocks (typed version_form r.versions)))
+pub reread : (r : Raw) (refs : List RefRow) (blocks : List BlockRow)
+    → record (tables_of r) { versions = map (resolved refs blocks) (typed version_form r.versions); parts = map (resolved_part refs blocks) (typed part_form r.parts); refs = refs; blocks = blocks } ≡ rebodied (tables_of r) refs blocks
+reread r refs blocks = ap₂ (λ v p. record (tables_of r) { versions = v; parts = p; refs = refs; blocks = blocks })
+    (sym (resolved_twice refs blocks (tables_of r).refs (tables_of r).blocks (typed version_form r.versions)))
+    (sym (resolved_parts_twice refs blocks (tables_of r).refs (tables_of r).blocks (typed part_form r.parts)))
 
 pub blocks_is : IsTableOf block_form host_schema 5 (at 10 blocks_table)
 unfolding everything
@@ -175,7 +178,7 @@ blocks = record {
   put = λ r l. record r { blocks = l };
   put_is = λ db l. refl;
   put_reads = λ r l. reread r (typed ref_form r.refs) (typed block_form l);
-  put_held = λ r l h it. record { host = h.host; tenants = h.tenants; keys = h.keys; buckets = h.buckets; versions = h.versions; blocks = it; refs = h.refs };
+  put_held = λ r l h it. record { host = h.host; tenants = h.tenants; keys = h.keys; buckets = h.buckets; versions = h.versions; blocks = it; refs = h.refs; uploads = h.uploads; parts = h.parts };
 }
 
 pub refs_is : IsTableOf ref_form host_schema 6 (at 12 refs_table)
@@ -195,5 +198,45 @@ refs = record {
   put = λ r l. record r { refs = l };
   put_is = λ db l. refl;
   put_reads = λ r l. reread r (typed ref_form l) (typed block_form r.blocks);
-  put_held = λ r l h it. record { host = h.host; tenants = h.tenants; keys = h.keys; buckets = h.buckets; versions = h.versions; blocks = h.blocks; refs = it };
+  put_held = λ r l h it. record { host = h.host; tenants = h.tenants; keys = h.keys; buckets = h.buckets; versions = h.versions; blocks = h.blocks; refs = it; uploads = h.uploads; parts = h.parts };
+}
+
+pub uploads_is : IsTableOf upload_form host_schema 7 (at 16 uploads_table)
+unfolding everything
+uploads_is = record { is_table = refl; plain = refl; low = refl; kept = upload_kept; fit = refl }
+
+abbrev pub uploads : Place UploadRow
+uploads = record {
+  form = upload_form;
+  number = 7;
+  table = at 16 uploads_table;
+  is = uploads_is;
+  rows = λ t. t.uploads;
+  set = λ t l. record t { uploads = l };
+  rows_are = λ db. refl;
+  held = λ db is. is.held.uploads;
+  put = λ r l. record r { uploads = l };
+  put_is = λ db l. refl;
+  put_reads = λ r l. refl;
+  put_held = λ r l h it. record { host = h.host; tenants = h.tenants; keys = h.keys; buckets = h.buckets; versions = h.versions; blocks = h.blocks; refs = h.refs; uploads = it; parts = h.parts };
+}
+
+pub parts_is : IsTableOf part_form host_schema 8 (at 18 parts_table)
+unfolding everything
+parts_is = record { is_table = refl; plain = refl; low = refl; kept = part_kept; fit = refl }
+
+abbrev pub parts : Place PartColumns
+parts = record {
+  form = part_form;
+  number = 8;
+  table = at 18 parts_table;
+  is = parts_is;
+  rows = λ t. map part_columns_of t.parts;
+  set = λ t l. record t { parts = map (resolved_part t.refs t.blocks) l };
+  rows_are = λ db. sym (stored_parts (tables_in db).refs (tables_in db).blocks (typed part_form (db.trees 18)));
+  held = λ db is. is.held.parts;
+  put = λ r l. record r { parts = l };
+  put_is = λ db l. refl;
+  put_reads = λ r l. refl;
+  put_held = λ r l h it. record { host = h.host; tenants = h.tenants; keys = h.keys; buckets = h.buckets; versions = h.versions; blocks = h.blocks; refs = h.refs; uploads = h.uploads; parts = it };
 }

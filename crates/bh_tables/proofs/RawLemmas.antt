@@ -20,4 +20,6 @@ module _ (tree : ℕ) (db next : Trees) where
     versions = at 7 h.1.1.1.1.0 i;
     blocks = at 10 h.1.1.1.1.1.0 i;
     refs = at 12 h.1.1.1.1.1.1.0 i;
+    uploads = at 16 h.1.1.1.1.1.1.1.0 i;
+    parts = at 18 h.1.1.1.1.1.1.1.1.0 i;
   }

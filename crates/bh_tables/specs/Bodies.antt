@@ -1,4 +1,4 @@
--- The bytes of a body: those of the blocks that its references name, by place; and the versions whose bytes they are.
+-- The bytes of a body: those of the blocks that its references name, by place; and the versions and parts whose bytes they are.
 use Rattle.std.specs.Prelude.{ℕ, Bool, ◌&&◌, pos, List, [], ◌∷◌, filter, flat_map, Option, Some, None}
 use Rattle.std.specs.Option.{option_map_or}
 use Rattle.std.specs.Ordering.{int_eq, int_cmp}
@@ -6,7 +6,7 @@ use Rattle.std.specs.declared.cmp.Ordering.{Ordering}
 use Rattle.sqlite_keyed.specs.Lists.{sort_by}
 use Rattle.sqlite_typed.specs.Tests.{bytes_eq}
 use Rattle.bh_tables.specs.Schema.{Octets}
-use Rattle.bh_tables.specs.Rows.{VersionColumns, VersionRow, BlockRow, RefRow}
+use Rattle.bh_tables.specs.Rows.{VersionColumns, VersionRow, PartColumns, PartRow, BlockRow, RefRow}
 
 abbrev pub first : {X : Type 0} → List X → Option X
 first [] = None
@@ -83,3 +83,28 @@ resolved refs blocks c = with_bytes (whole refs blocks (c.tenant, c.seq)) (bare 
 -- with the bytes that its body has among these rows
 abbrev pub resolved_again : List RefRow → List BlockRow → VersionRow → VersionRow
 resolved_again refs blocks v = with_bytes (whole refs blocks (version_name v)) v
+
+-- ---- parts
+
+-- the body of a part
+abbrev pub part_name : PartRow → Name
+part_name p = (p.tenant, p.body)
+
+abbrev pub part_with_bytes : Octets → PartRow → PartRow
+part_with_bytes bytes p = record p { bytes = bytes }
+
+-- without bytes
+abbrev pub bare_part : PartColumns → PartRow
+bare_part c = record { tenant = c.tenant; upload = c.upload; part = c.part; size = c.size; checksum = c.checksum; stamp = c.stamp; body = c.body; bytes = [] }
+
+-- as it is stored
+abbrev pub part_columns_of : PartRow → PartColumns
+part_columns_of p = record { tenant = p.tenant; upload = p.upload; part = p.part; size = p.size; checksum = p.checksum; stamp = p.stamp; body = p.body }
+
+-- with the bytes of its body
+abbrev pub resolved_part : List RefRow → List BlockRow → PartColumns → PartRow
+resolved_part refs blocks c = part_with_bytes (whole refs blocks (c.tenant, c.body)) (bare_part c)
+
+-- with the bytes that its body has among these rows
+abbrev pub resolved_part_again : List RefRow → List BlockRow → PartRow → PartRow
+resolved_part_again refs blocks p = part_with_bytes (whole refs blocks (part_name p)) p

@@ -13,7 +13,7 @@ use Rattle.sqlite_value.specs.contracts.value.Value as value
 use Rattle.sqlite_schema.specs.contracts.schema.Schema as schema
 use Rattle.bh_rows.specs.Form.{Form}
 use Rattle.bh_tables.specs.Schema.{host_schema}
-use Rattle.bh_tables.specs.Typed.{Tables, Raw, raw, tables_in, no_rows, host_form, tenant_form, key_form, bucket_form, version_form, block_form, ref_form}
+use Rattle.bh_tables.specs.Typed.{Tables, Raw, raw, tables_in, no_rows, host_form, tenant_form, key_form, bucket_form, version_form, block_form, ref_form, upload_form, part_form}
 
 -- ---- equality, by the codes that the logic gives to values
 
@@ -48,7 +48,7 @@ abbrev pub are_rows : {T : Type 0} → Form T → List Row → Bool
 are_rows form rows = list_all (is_row form) rows && ascends rows
 
 abbrev pub are_held : Raw → Bool
-are_held r = are_rows host_form r.host && (are_rows tenant_form r.tenants && (are_rows key_form r.keys && (are_rows bucket_form r.buckets && (are_rows version_form r.versions && (are_rows block_form r.blocks && are_rows ref_form r.refs)))))
+are_held r = are_rows host_form r.host && (are_rows tenant_form r.tenants && (are_rows key_form r.keys && (are_rows bucket_form r.buckets && (are_rows version_form r.versions && (are_rows block_form r.blocks && (are_rows ref_form r.refs && (are_rows upload_form r.uploads && are_rows part_form r.parts)))))))
 
 -- ---- databases
 

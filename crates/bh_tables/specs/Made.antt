@@ -1,7 +1,7 @@
--- The schema as its tables are made, one after another, and then its indexes.
+-- The schema as its tables and indexes are made, one after another.
 use Rattle.sqlite.specs.Schema.{Schema}
 use Rattle.sqlite.specs.Change.{created, indexed}
-use Rattle.bh_tables.specs.Schema.{no_schema, host_table, tenants_table, keys_table, buckets_table, versions_table, blocks_table, refs_table, at, newest, refs_by_block}
+use Rattle.bh_tables.specs.Schema.{no_schema, host_table, tenants_table, keys_table, buckets_table, versions_table, blocks_table, refs_table, uploads_table, parts_table, at, newest, refs_by_block, uploads_by_key}
 
 abbrev pub with_host : Schema
 with_host = created no_schema host_table
@@ -29,3 +29,12 @@ with_newest = indexed with_refs (at 7 versions_table) newest
 
 abbrev pub with_refs_by_block : Schema
 with_refs_by_block = indexed with_newest (at 12 refs_table) refs_by_block
+
+abbrev pub with_uploads : Schema
+with_uploads = created with_refs_by_block uploads_table
+
+abbrev pub with_parts : Schema
+with_parts = created with_uploads parts_table
+
+abbrev pub with_uploads_by_key : Schema
+with_uploads_by_key = indexed with_parts (at 16 uploads_table) uploads_by_key

@@ -188,3 +188,68 @@ ref_of r = record { tenant = bytes_of (column r 1); body = column_number (column
 
 abbrev pub ref_form : Form RefRow
 ref_form = record { encode = ref_columns; decode = ref_of; back = λ _ x. refl }
+
+-- ---- multipart uploads that are neither completed nor aborted
+
+pub record UploadRow : Type 0 where
+  pub tenant : Octets
+  -- its number among those of the tenant
+  pub upload : ℕ
+  pub bucket : Octets
+  pub okey : Octets
+  -- seconds since 1970
+  pub begun : ℕ
+
+abbrev pub upload_columns : UploadRow → Row
+upload_columns x = Text x.tenant ∷ number x.upload ∷ Text x.bucket ∷ Blob x.okey ∷ number x.begun ∷ []
+
+abbrev pub upload_of : Row → UploadRow
+upload_of r = record { tenant = bytes_of (column r 1); upload = column_number (column r 2); bucket = bytes_of (column r 3); okey = bytes_of (column r 4); begun = column_number (column r 5) }
+
+abbrev pub upload_form : Form UploadRow
+upload_form = record { encode = upload_columns; decode = upload_of; back = λ _ x. refl }
+
+-- ---- parts of uploads
+
+-- as it is stored: its bytes are those of a body
+pub record PartColumns : Type 0 where
+  pub tenant : Octets
+  pub upload : ℕ
+  -- the column `number`
+  pub part : ℕ
+  -- bytes
+  pub size : ℕ
+  -- the column `sum`
+  pub checksum : Octets
+  -- seconds since 1970
+  pub stamp : ℕ
+  -- an entry number of the tenant
+  pub body : ℕ
+
+abbrev pub part_columns : PartColumns → Row
+part_columns x = Text x.tenant ∷ number x.upload ∷ number x.part ∷ number x.size ∷ Text x.checksum ∷ number x.stamp ∷ number x.body ∷ []
+
+abbrev pub part_of : Row → PartColumns
+part_of r = record {
+  tenant = bytes_of (column r 1);
+  upload = column_number (column r 2);
+  part = column_number (column r 3);
+  size = column_number (column r 4);
+  checksum = bytes_of (column r 5);
+  stamp = column_number (column r 6);
+  body = column_number (column r 7);
+}
+
+abbrev pub part_form : Form PartColumns
+part_form = record { encode = part_columns; decode = part_of; back = λ _ x. refl }
+
+-- with the bytes of its body
+pub record PartRow : Type 0 where
+  pub tenant : Octets
+  pub upload : ℕ
+  pub part : ℕ
+  pub size : ℕ
+  pub checksum : Octets
+  pub stamp : ℕ
+  pub body : ℕ
+  pub bytes : Octets

@@ -1,4 +1,4 @@
--- The schema of a host as a value: seven tables and two indexes, each as its CREATE text defines it.
+-- The schema of a host as a value: nine tables and three indexes, each as its CREATE text defines it.
 use Rattle.std.specs.Prelude.{ℕ, true, false, [], ◌∷◌, List, map, Some, None, codes, pos}
 use Rattle.sqlite.specs.Collation.TheVariants.{Binary}
 use Rattle.sqlite.specs.declared.types.Value.TheVariants.{Null, Int, Text as Words}
@@ -93,6 +93,19 @@ abbrev pub refs_table : Table
 refs_table = table (codes "refs") (given (codes "tenant") Text ∷ given (codes "body") Integer ∷ given (codes "place") Integer ∷ given (codes "digest") Blob ∷ given (codes "ord") Integer ∷ given (codes "size") Integer ∷ [])
     (1 ∷ 2 ∷ 3 ∷ []) [] (refers (4 ∷ 5 ∷ []) (codes "blocks") ∷ []) (is_natural 2 ∷ is_natural 3 ∷ is_natural 5 ∷ is_natural 6 ∷ [])
 
+-- uploads that are neither completed nor aborted
+abbrev pub uploads_table : Table
+uploads_table = table (codes "uploads") (given (codes "tenant") Text ∷ given (codes "upload") Integer ∷ given (codes "bucket") Text ∷ given (codes "okey") Blob ∷ given (codes "begun") Integer ∷ [])
+    (1 ∷ 2 ∷ []) [] (refers (1 ∷ 3 ∷ []) (codes "buckets") ∷ []) (is_natural 2 ∷ is_natural 5 ∷ [])
+
+-- the parts of uploads, each with its body, which is an entry number of the tenant
+abbrev pub parts_table : Table
+parts_table = table (codes "parts")
+    (given (codes "tenant") Text ∷ given (codes "upload") Integer ∷ given (codes "number") Integer ∷ given (codes "size") Integer ∷ given (codes "sum") Text ∷ given (codes "stamp") Integer
+    ∷ given (codes "body") Integer ∷ [])
+    (1 ∷ 2 ∷ 3 ∷ []) ((1 ∷ 7 ∷ []) ∷ []) (refers (1 ∷ 2 ∷ []) (codes "uploads") ∷ [])
+    (is_natural 2 ∷ is_natural 3 ∷ is_natural 4 ∷ is_natural 6 ∷ is_natural 7 ∷ [])
+
 -- ---- the schema of them all
 
 -- the table, kept in this tree
@@ -111,15 +124,22 @@ newest = record { name = codes "newest"; tree = 0; table = 7; columns = 1 ∷ 3 
 abbrev pub refs_by_block : Index
 refs_by_block = record { name = codes "refs_by_block"; tree = 0; table = 12; columns = 4 ∷ 5 ∷ []; order = record { digits = 0 }; is_unique = false }
 
+-- uploads by bucket, key and number
+abbrev pub uploads_by_key : Index
+uploads_by_key = record { name = codes "uploads_by_key"; tree = 0; table = 16; columns = 1 ∷ 3 ∷ 4 ∷ 2 ∷ []; order = record { digits = 0 }; is_unique = false }
+
 abbrev pub no_schema : Schema
 no_schema = record { tables = []; indexes = []; views = [] }
 
 abbrev pub host_schema : Schema
 host_schema = record {
-  tables = at 0 host_table ∷ at 1 tenants_table ∷ at 3 keys_table ∷ at 5 buckets_table ∷ at 7 versions_table ∷ at 10 blocks_table ∷ at 12 refs_table ∷ [];
+  tables = at 0 host_table ∷ at 1 tenants_table ∷ at 3 keys_table ∷ at 5 buckets_table ∷ at 7 versions_table ∷ at 10 blocks_table ∷ at 12 refs_table
+      ∷ at 16 uploads_table ∷ at 18 parts_table ∷ [];
   indexes = auto (codes "sqlite_autoindex_tenants_1") 2 1 (1 ∷ []) ∷ auto (codes "sqlite_autoindex_keys_1") 4 3 (1 ∷ 2 ∷ [])
       ∷ auto (codes "sqlite_autoindex_buckets_1") 6 5 (1 ∷ 2 ∷ []) ∷ auto (codes "sqlite_autoindex_versions_1") 8 7 (1 ∷ 2 ∷ [])
       ∷ auto (codes "sqlite_autoindex_versions_2") 9 7 (1 ∷ 3 ∷ 4 ∷ 5 ∷ []) ∷ auto (codes "sqlite_autoindex_blocks_1") 11 10 (1 ∷ 2 ∷ [])
-      ∷ auto (codes "sqlite_autoindex_refs_1") 13 12 (1 ∷ 2 ∷ 3 ∷ []) ∷ record newest { tree = 14 } ∷ record refs_by_block { tree = 15 } ∷ [];
+      ∷ auto (codes "sqlite_autoindex_refs_1") 13 12 (1 ∷ 2 ∷ 3 ∷ []) ∷ record newest { tree = 14 } ∷ record refs_by_block { tree = 15 }
+      ∷ auto (codes "sqlite_autoindex_uploads_1") 17 16 (1 ∷ 2 ∷ []) ∷ auto (codes "sqlite_autoindex_parts_1") 19 18 (1 ∷ 2 ∷ 3 ∷ [])
+      ∷ auto (codes "sqlite_autoindex_parts_2") 20 18 (1 ∷ 7 ∷ []) ∷ record uploads_by_key { tree = 21 } ∷ [];
   views = [];
 }

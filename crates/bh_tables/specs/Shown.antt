@@ -9,8 +9,8 @@ use Rattle.sqlite_keyed.specs.Lists.{sort_by}
 use Rattle.sqlite_typed.specs.Columns.{or_null}
 use Rattle.sqlite_typed.specs.Tests.{bytes_eq, bytes_cmp}
 use Rattle.bh_tables.specs.Schema.{Octets}
-pub use Rattle.bh_tables.specs.Bodies.{Name, same_name, block_name, ref_name, body_name, by_place}
-use Rattle.bh_tables.specs.Typed.{HostRow, TenantRow, KeyRow, BucketRow, VersionRow, BlockRow, RefRow, number}
+pub use Rattle.bh_tables.specs.Bodies.{Name, same_name, block_name, ref_name, body_name, part_name, by_place}
+use Rattle.bh_tables.specs.Typed.{HostRow, TenantRow, KeyRow, BucketRow, VersionRow, BlockRow, RefRow, UploadRow, PartRow, number}
 
 -- ---- the row of a primary key, or of the unique key of versions
 
@@ -90,6 +90,35 @@ by_name a b = ordering_then (bytes_cmp a.digest b.digest) (int_cmp (pos a.ord) (
 abbrev pub unreferenced : ℕ → List RefRow → List BlockRow → List BlockRow
 unreferenced limit refs blocks = take limit (sort_by by_name (filter (is_unreferenced refs) blocks))
 
+-- ---- uploads and their parts
+
+-- the upload of this number
+abbrev pub is_upload : Octets → ℕ → UploadRow → Bool
+is_upload tenant upload u = bytes_eq u.tenant tenant && int_eq (pos u.upload) (pos upload)
+
+-- one of any key of this bucket
+abbrev pub is_upload_in : Octets → Octets → UploadRow → Bool
+is_upload_in tenant bucket u = bytes_eq u.tenant tenant && bytes_eq u.bucket bucket
+
+-- by key and number, the order of the index on keys
+abbrev pub by_key : UploadRow → UploadRow → Ordering
+by_key a b = ordering_then (bytes_cmp a.okey b.okey) (int_cmp (pos a.upload) (pos b.upload))
+
+-- a part of this upload
+abbrev pub is_part_of : Octets → ℕ → PartRow → Bool
+is_part_of tenant upload p = bytes_eq p.tenant tenant && int_eq (pos p.upload) (pos upload)
+
+-- the part of this number of this upload
+abbrev pub is_part : Octets → ℕ → ℕ → PartRow → Bool
+is_part tenant upload part p = bytes_eq p.tenant tenant && (int_eq (pos p.upload) (pos upload) && int_eq (pos p.part) (pos part))
+
+-- the part that has this body
+abbrev pub has_body : Name → PartRow → Bool
+has_body q p = same_name (part_name p) q
+
+abbrev pub by_part : PartRow → PartRow → Ordering
+by_part a b = int_cmp (pos a.part) (pos b.part)
+
 -- ---- the rows of a listing
 
 -- the buckets of a tenant
@@ -137,3 +166,16 @@ shown_bytes b = Blob b.bytes ∷ []
 -- the block that a reference names, and its size in bytes
 abbrev pub shown_ref : RefRow → Row
 shown_ref r = Blob r.digest ∷ number r.ord ∷ number r.size ∷ []
+
+abbrev pub shown_upload : UploadRow → Row
+shown_upload u = Text u.bucket ∷ Blob u.okey ∷ number u.begun ∷ []
+
+abbrev pub shown_number : UploadRow → Row
+shown_number u = number u.upload ∷ []
+
+-- a part without its bytes
+abbrev pub shown_part : PartRow → Row
+shown_part p = number p.part ∷ number p.size ∷ Text p.checksum ∷ number p.stamp ∷ number p.body ∷ []
+
+abbrev pub shown_body : PartRow → Row
+shown_body p = number p.body ∷ []

@@ -5,17 +5,16 @@ use Rattle.std.specs.Option.{option_map_or}
 use Rattle.std.specs.Cmp.Derive.{both_true}
 use Rattle.std.proofs.lemmas.Bool.{and_parts}
 use Rattle.sqlite_keyed.specs.Lists.{delete_where}
-use Rattle.sqlite_keyed.proofs.ListLemmas.{all_of, all_both, all_weaker, all-filter, filter_none}
+use Rattle.sqlite_keyed.proofs.ListLemmas.{all_of, all_both, all-filter, filter_none}
 use Rattle.sqlite_typed.specs.Tests.{bytes_eq}
 use Rattle.bh_model.specs.State.{Octets}
-use Rattle.bh_tables.specs.Typed.{VersionRow, BlockRow, RefRow, Tables, rebodied}
-use Rattle.bh_tables.specs.Bodies.{version_name}
+use Rattle.bh_tables.specs.Typed.{BlockRow, RefRow, Tables, rebodied}
 use Rattle.bh_tables.specs.Shown.{same_name, block_name, ref_name, is_block, is_use, is_copy, is_unreferenced}
 use Rattle.bh_view.specs.Grouped.{first, matching}
 use Rattle.bh_view.specs.View.{rows_of}
 use Rattle.bh_view.specs.Blocks.{row_at, whole, AreStored, AreDigests, free_ord, copy_in, ord_for, blocks_with, blocks_without}
 use Rattle.bh_view.specs.Sound.{AreSound, IsSound}
-use Rattle.bh_view.specs.Bodies.{bodies_of, IsResolved}
+use Rattle.bh_view.specs.Bodies.{bodies_in, IsResolved}
 use Rattle.bh_view.specs.Becomes.{KeepsBodies}
 use Rattle.bh_view.proofs.FilterLemmas.{none_some, same_Some, push_here}
 use Rattle.bh_view.proofs.FactLemmas.{all_pushed, unique_pushed, unique_deleted, refers_grown, refers_left}
@@ -26,13 +25,13 @@ use Rattle.bh_view.proofs.OrdinalLemmas.{free_ord_is_least}
 use Rattle.bh_view.proofs.ViewLemmas.{same_view, same_latest, same_limits}
 use Rattle.bh_view.proofs.WholeLemmas.{piece, Agree, whole_agree, agree_added, agree_left}
 use Rattle.bh_view.proofs.BodyLemmas.{bodies_agree}
-use Rattle.bh_view.proofs.ResolvedLemmas.{rebodied_same}
+use Rattle.bh_view.proofs.ResolvedLemmas.{rebodied_same, still_resolved}
 
 -- ---- blocks alone change
 
--- all bodies keep their bytes, and so do the versions
+-- all bodies keep their bytes, and so do versions and parts
 pub blocks_rebodied : (old : Tables) (blocks : List BlockRow) → IsResolved old → whole old.refs blocks ≡ whole old.refs old.blocks → rebodied old old.refs blocks ≡ record old { blocks = blocks }
-blocks_rebodied old blocks resolved bodies = rebodied_same old old.refs blocks (all_weaker _ _ (λ (v : VersionRow) its. (λ i. bodies i (version_name v)) ∙ sym its) old.versions resolved)
+blocks_rebodied old blocks resolved bodies = rebodied_same old old.refs blocks (still_resolved old old.refs blocks bodies resolved)
 
 pub blocks_change : (digest : Octets → Octets) (old : Tables) (blocks : List BlockRow) → IsSound old → IsResolved old → Agree blocks old.blocks old.refs → AreStored old.refs blocks → AreDigests digest blocks
     → KeepsBodies digest old (rebodied old old.refs blocks)
@@ -42,7 +41,7 @@ blocks_change digest old blocks sound resolved agree stored digests =
     let latest = same_latest old new refl in
     subst (KeepsBodies digest old) (sym (blocks_rebodied old blocks resolved bodies)) (record {
       bodies = bodies;
-      has = bodies_agree (bodies_of old.versions) old.refs blocks old.blocks agree;
+      has = bodies_agree (bodies_in old) old.refs blocks old.blocks agree;
       digests = digests;
       latest = latest;
       limits = same_limits old new refl;

@@ -6,11 +6,12 @@ use Rattle.std.proofs.lemmas.Bool.Decides.{nat_tests}
 use Rattle.std.proofs.lemmas.Int.{ints}
 use Rattle.sqlite_keyed.specs.Lists.{delete_where, sort_by}
 use Rattle.sqlite_keyed.proofs.ListLemmas.{all_weaker, all_both, all_unmap, all-filter}
-use Rattle.bh_tables.specs.Typed.{BlockRow, RefRow}
+use Rattle.bh_tables.specs.Bodies.{part_name}
+use Rattle.bh_tables.specs.Typed.{VersionRow, PartRow, BlockRow, RefRow, Tables}
 use Rattle.bh_tables.specs.Shown.{Name, same_name, block_name, ref_name, body_name, is_of_body, by_place}
 use Rattle.bh_view.specs.Grouped.{matching}
 use Rattle.bh_view.specs.Blocks.{row_at, placed, whole, AreStored}
-use Rattle.bh_view.specs.Bodies.{AreBodies, set_body}
+use Rattle.bh_view.specs.Bodies.{bodies_of, bodies_in, AreBodies, IsResolved, AreWhole, set_body}
 use Rattle.bh_view.proofs.FactLemmas.{all_pushed, refers_pushed, refers_deleted}
 use Rattle.bh_view.proofs.FilterLemmas.{push_here, push_other, delete_all}
 use Rattle.bh_view.proofs.GroupedLemmas.{is_itself, is_other}
@@ -37,6 +38,16 @@ bodies_agree bodies refs new old agree b = record {
 -- other lists of the same names, or more of them
 pub bodies_for : (bodies more : List Name) (refs : List RefRow) (blocks : List BlockRow) → ((body : Name) → list_any (same_name body) more ≡ false → list_any (same_name body) bodies ≡ false) → AreBodies bodies refs blocks → AreBodies more refs blocks
 bodies_for bodies more refs blocks fewer b = record { placed = b.placed; owned = λ body none. b.owned body (fewer body none); measured = b.measured }
+
+-- other versions and parts, which have the bytes of their bodies: no name goes that is not among those to come
+pub whole_for : (was now : List Name) (x : Tables) (versions : List VersionRow) (parts : List PartRow) → IsResolved (record x { versions = versions; parts = parts })
+    → ((body : Name) → list_any (same_name body) (now ++ (bodies_of versions ++ map part_name parts)) ≡ false → list_any (same_name body) (was ++ bodies_in x) ≡ false)
+    → AreWhole was x → AreWhole now (record x { versions = versions; parts = parts })
+whole_for was now x versions parts resolved fewer w = record {
+  resolved = resolved;
+  stored = w.stored;
+  bodies = bodies_for (was ++ bodies_in x) (now ++ (bodies_of versions ++ map part_name parts)) x.refs x.blocks fewer w.bodies;
+}
 
 -- a body's references, by place, have the sizes of their blocks
 pub placed_measured : (bodies : List Name) (refs : List RefRow) (blocks : List BlockRow) (body : Name) → AreBodies bodies refs blocks → AllByRecursion (λ (r : RefRow). r.size ≡ length (piece blocks r)) (placed refs body)

@@ -10,11 +10,11 @@ use Rattle.bh_types.specs.Names.{is_bucket_name}
 use Rattle.bh_types.specs.declared.bucket_state.BucketState.TheVariants.{Unversioned}
 use Rattle.bh_model.specs.State.{Octets, octets_cmp, Bucket, State, new_bucket}
 use Rattle.bh_model.specs.Operations.{with_bucket}
-use Rattle.bh_tables.specs.Typed.{TenantRow, BucketRow, VersionRow, Tables}
+use Rattle.bh_tables.specs.Typed.{TenantRow, BucketRow, VersionRow, UploadRow, Tables}
 use Rattle.bh_tables.specs.Shown.{is_bucket}
-use Rattle.bh_view.specs.Grouped.{first}
-use Rattle.bh_view.specs.View.{mode_of, rows_of, bucket_shown, buckets_of, view, latest_of, named, in_bucket}
-use Rattle.bh_view.specs.Sound.{IsPlain, AreBuckets, AreVersions, AreSound, IsSound}
+use Rattle.bh_view.specs.Grouped.{first, Refers}
+use Rattle.bh_view.specs.View.{mode_of, rows_of, bucket_shown, buckets_of, view, latest_of, named, in_bucket, uploads_in}
+use Rattle.bh_view.specs.Sound.{IsPlain, AreBuckets, AreVersions, AreUploads, AreSound, IsSound}
 use Rattle.bh_view.specs.Becomes.{Becomes}
 use Rattle.bh_view.proofs.Keys.{octets}
 use Rattle.bh_view.proofs.FilterLemmas.{none_some, same_Some, none_mapped, push_other, delete_other, update_other, first_updated}
@@ -48,6 +48,10 @@ unversioned_grown latest tenants buckets versions all new fresh b r there zero =
   | false ↦ λ e. all.unversioned b r (ap first (sym (push_other (λ x. bytes_eq x.bucket b) buckets new e)) ∙ there) zero
 ] refl
 
+-- uploads whose buckets are there still
+uploads_kept : (latest : ℕ) (tenants : List TenantRow) (was now : List BucketRow) (uploads : List UploadRow) → AreUploads latest tenants was uploads → Refers bytes_eq name now (λ (u : UploadRow). u.bucket) uploads → AreUploads latest tenants now uploads
+uploads_kept latest tenants was now uploads all owned = record { each = all.each; one = all.one; owned = owned; given = all.given }
+
 pub bucket_added : (old new : Tables) (t : Octets) (s : State) (b : Octets) (at : ℕ) → IsSound old → view old t ≡ Some s → get s.buckets b ≡ None → IsTrue (is_bucket_name b) → at ≤ latest_of old
     → new ≡ record old { buckets = old.buckets ++ record { tenant = t; bucket = b; created = at; state = 0; days = None } ∷ [] } → Becomes t (Some (with_bucket b (new_bucket at) s)) old new
 bucket_added old new t s b at sound is none good early e =
@@ -59,40 +63,43 @@ bucket_added old new t s b at sound is none good early e =
     let fresh = bucket_fresh old t s is b none in
     let here = mine_pushed own old.buckets r in
     let no_versions = all.versions.owned b (ap first fresh) in
+    let no_uploads = all.uploads.owned b (ap first fresh) in
     subst (Becomes t (Some (with_bucket b (new_bucket at) s)) old) (sym e)
     (becomes t _ old after sound refl refl refl (λ u apart i. record (rows_of u old) { buckets = others_pushed own old.buckets r u apart i })
     (buckets_shown mine s (sym (view_is old t) ∙ is) (rows_of t after) (λ m. insert m b (new_bucket at)) refl refl
-    (ap (λ l. buckets_of (record mine { buckets = l })) here ∙ bucket_pushed mine r fresh no_versions))
+    (ap (λ l. buckets_of (record mine { buckets = l })) here ∙ bucket_pushed mine r fresh no_versions no_uploads))
     (subst (λ l. AreSound (latest_of old) (record mine { buckets = l })) (sym here) (record {
       tenants = all.tenants;
       keys = all.keys;
-      buckets = record { each = all_pushed _ _ r all.buckets.each (record { name = good; created = early; state = omega arith; days = tt }); one = unique_pushed octets name _ r all.buckets.one fresh; owned = λ gone. absurd (none_some (sym gone ∙ row.1)) };
+      buckets = record { each = all_pushed _ _ r all.buckets.each (record { name = good; created = early; state = omega arith; days = refl }); one = unique_pushed octets name _ r all.buckets.one fresh; owned = λ gone. absurd (none_some (sym gone ∙ row.1)) };
       versions = record { each = all.versions.each; one_seq = all.versions.one_seq; one_id = all.versions.one_id; owned = refers_grown octets name (λ (v : VersionRow). v.bucket) mine.buckets mine.versions r all.versions.owned; unversioned = unversioned_grown (latest_of old) mine.tenants mine.buckets mine.versions all.versions r fresh; given = all.versions.given };
+      uploads = uploads_kept (latest_of old) mine.tenants mine.buckets (mine.buckets ++ r ∷ []) mine.uploads all.uploads (refers_grown octets name (λ (u : UploadRow). u.bucket) mine.buckets mine.uploads r all.uploads.owned);
+      parts = all.parts;
     })))
 
 module _ (old new : Tables) (t : Octets) (s : State) (sound : IsSound old) (is : view old t ≡ Some s) where
   -- the buckets of one tenant change
   buckets_become : (rows mine : List BucketRow) (change : FinMap octets_cmp Bucket → FinMap octets_cmp Bucket) → ((u : Octets) → u ≢ t → rows_at own u rows ≡ rows_at own u old.buckets) → rows_at own t rows ≡ mine
       → buckets_of (record (rows_of t old) { buckets = mine }) ≡ change (buckets_of (rows_of t old)) → AreBuckets (latest_of old) (rows_of t old).tenants mine → AreVersions (latest_of old) (rows_of t old).tenants mine (rows_of t old).versions
-      → new ≡ record old { buckets = rows } → Becomes t (Some (record s { buckets = change s.buckets })) old new
-  buckets_become rows mine change others here shows good fit e =
+      → Refers bytes_eq name mine (λ (u : UploadRow). u.bucket) (rows_of t old).uploads → new ≡ record old { buckets = rows } → Becomes t (Some (record s { buckets = change s.buckets })) old new
+  buckets_become rows mine change others here shows good fit uploads e =
       let all = sound.tenants t in
       let after : Tables = record old { buckets = rows } in
       subst (Becomes t (Some (record s { buckets = change s.buckets })) old) (sym e)
       (becomes t _ old after sound refl refl refl (λ u apart i. record (rows_of u old) { buckets = others u apart i })
       (buckets_shown (rows_of t old) s (sym (view_is old t) ∙ is) (rows_of t after) change refl refl (ap (λ l. buckets_of (record (rows_of t old) { buckets = l })) here ∙ shows))
-      (subst (λ l. AreSound (latest_of old) (record (rows_of t old) { buckets = l })) (sym here) (record { tenants = all.tenants; keys = all.keys; buckets = good; versions = fit })))
+      (subst (λ l. AreSound (latest_of old) (record (rows_of t old) { buckets = l })) (sym here) (record { tenants = all.tenants; keys = all.keys; buckets = good; versions = fit; uploads = uploads_kept (latest_of old) (rows_of t old).tenants (rows_of t old).buckets mine (rows_of t old).uploads all.uploads uploads; parts = all.parts })))
 
   -- ---- taken out
 
-  module _ (b : Octets) (empty : in_bucket b (rows_of t old).versions ≡ []) where
+  module _ (b : Octets) (empty : in_bucket b (rows_of t old).versions ≡ []) (no_uploads : uploads_in b (rows_of t old).uploads ≡ []) where
     unversioned_left : (q : Octets) (r : BucketRow) → first (named q (delete_where (λ (x : BucketRow). bytes_eq x.bucket b) (rows_of t old).buckets)) ≡ Some r → mode_of r.state ≡ Unversioned → AllByRecursion IsPlain (in_bucket q (rows_of t old).versions)
     unversioned_left q r there zero = elim (bytes_eq b q) as (λ h. bytes_eq b q ≡ h → AllByRecursion IsPlain (in_bucket q (rows_of t old).versions)) [
       | true ↦ λ e. subst (λ z. AllByRecursion IsPlain (in_bucket z (rows_of t old).versions)) ((octets.decides b q).0 e) (subst (AllByRecursion IsPlain) (sym empty) tt)
       | false ↦ λ e. (sound.tenants t).versions.unversioned q r (ap first (sym (delete_other (λ x. bytes_eq x.bucket q) (λ x. bytes_eq x.bucket b) (rows_of t old).buckets (λ x here. is_other octets x.bucket b (apart_from b q x.bucket e here)))) ∙ there) zero
     ] refl
 
-    -- a bucket without versions
+    -- a bucket without versions and without uploads
     pub bucket_removed : new ≡ record old { buckets = delete_where (is_bucket t b) old.buckets } → Becomes t (Some (record s { buckets = remove s.buckets b })) old new
     bucket_removed =
         let mine = rows_of t old in
@@ -103,6 +110,7 @@ module _ (old new : Tables) (t : Octets) (s : State) (sound : IsSound old) (is :
         (mine_deleted own t test old.buckets) (bucket_deleted mine b)
         (record { each = all-filter _ _ _ all.buckets.each; one = unique_deleted octets name _ test all.buckets.one; owned = λ gone. ap (delete_where test) (all.buckets.owned gone) })
         (record { each = all.versions.each; one_seq = all.versions.one_seq; one_id = all.versions.one_id; owned = refers_left octets name (λ (v : VersionRow). v.bucket) mine.buckets mine.versions b all.versions.owned empty; unversioned = unversioned_left; given = all.versions.given })
+        (refers_left octets name (λ (u : UploadRow). u.bucket) mine.buckets mine.uploads b all.uploads.owned no_uploads)
 
   -- ---- changed
 
@@ -140,3 +148,4 @@ module _ (old new : Tables) (t : Octets) (s : State) (sound : IsSound old) (is :
           owned = λ gone. ap (update_where is_it with_state) (all.buckets.owned gone);
         })
         (record { each = all.versions.each; one_seq = all.versions.one_seq; one_id = all.versions.one_id; owned = refers_updated octets name (λ (v : VersionRow). v.bucket) mine.buckets mine.versions is_it with_state (λ x. refl) all.versions.owned; unversioned = unversioned_set; given = all.versions.given })
+        (refers_updated octets name (λ (u : UploadRow). u.bucket) mine.buckets mine.uploads is_it with_state (λ x. refl) all.uploads.owned)

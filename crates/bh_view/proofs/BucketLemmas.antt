@@ -8,7 +8,7 @@ use Rattle.bh_model.specs.FinMaps.{non_empty, set_at}
 use Rattle.bh_model.specs.State.{Octets, octets_cmp, Entry, Bucket}
 use Rattle.bh_tables.specs.Typed.{BucketRow, VersionRow}
 use Rattle.bh_view.specs.Grouped.{first, grouped}
-use Rattle.bh_view.specs.View.{TenantRows, named, in_bucket, entry_of, mode_of, objects_of, bucket_shown, buckets_of}
+use Rattle.bh_view.specs.View.{TenantRows, named, in_bucket, uploads_in, entry_of, mode_of, objects_of, uploads_of, bucket_shown, buckets_of}
 use Rattle.bh_view.proofs.Keys.{octets}
 use Rattle.bh_view.proofs.FilterLemmas.{push_here, push_other, delete_other, delete_mine, none_some, same_Some}
 use Rattle.bh_view.proofs.GroupedLemmas.{get-keyed, grouped_changed, keyed_pushed, keyed_deleted, keyed_updated, is_itself, is_other}
@@ -29,6 +29,9 @@ module _ (rows : TenantRows) where
 
     pub objects_shown : objects_of (in_bucket b rows.versions) ≡ B.objects
     objects_shown = ap (λ x. x.objects) bucket_row.2
+
+    pub uploads_shown : uploads_of rows.parts (uploads_in b rows.uploads) ≡ B.uploads
+    uploads_shown = ap (λ x. x.uploads) bucket_row.2
 
     -- only version rows of this bucket change
     pub objects_changed : (versions : List VersionRow) (change : FinMap octets_cmp (List Entry) → FinMap octets_cmp (List Entry)) → ((q : Octets) → b ≢ q → in_bucket q versions ≡ in_bucket q rows.versions)
@@ -59,12 +62,12 @@ module _ (rows : TenantRows) where
       (ap objects_of (delete_mine (λ (v : VersionRow). bytes_eq v.bucket b) t rows.versions) ∙ objects_deleted (in_bucket b rows.versions) k d)
 
   -- a bucket row with a new name is an empty bucket
-  pub bucket_pushed : (r : BucketRow) → named r.bucket rows.buckets ≡ [] → in_bucket r.bucket rows.versions ≡ []
+  pub bucket_pushed : (r : BucketRow) → named r.bucket rows.buckets ≡ [] → in_bucket r.bucket rows.versions ≡ [] → uploads_in r.bucket rows.uploads ≡ []
       → buckets_of (record rows { buckets = rows.buckets ++ r ∷ [] }) ≡ insert (buckets_of rows) r.bucket (record { created = r.created; mode = mode_of r.state; days = r.days; objects = empty; uploads = empty })
   unfolding grouped
-  bucket_pushed r fresh no_versions =
+  bucket_pushed r fresh no_versions no_uploads =
       keyed_pushed octets (λ (x : BucketRow). x.bucket) (bucket_shown rows) rows.buckets r fresh
-      ∙ λ i. insert (buckets_of rows) r.bucket (record { created = r.created; mode = mode_of r.state; days = r.days; objects = objects_of (no_versions i); uploads = empty })
+      ∙ λ i. insert (buckets_of rows) r.bucket (record { created = r.created; mode = mode_of r.state; days = r.days; objects = objects_of (no_versions i); uploads = uploads_of rows.parts (no_uploads i) })
 
   pub bucket_deleted : (b : Octets) → buckets_of (record rows { buckets = delete_where (λ r. bytes_eq r.bucket b) rows.buckets }) ≡ remove (buckets_of rows) b
   bucket_deleted = keyed_deleted octets (λ (r : BucketRow). r.bucket) (bucket_shown rows) rows.buckets

@@ -1,28 +1,26 @@
 -- An entry goes with its body: the row of an id of a key, and the references of the body that it names.
 use Rattle.std.proofs.Common.{◌≡◌, ◌≤◌, ℕ, Bool, true, false, true≢false, cond, ◌||◌, not, List, [], ◌∷◌, ◌++◌, map, filter, find, length, Some, refl, sym, ap, ◌∙◌, subst}
 use Rattle.std.specs.List.{AllByRecursion, list_any}
-use Rattle.std.proofs.lemmas.List.Folds.{list_any-append}
+use Rattle.std.proofs.lemmas.Bool.{or_parts}
 use Rattle.sqlite_keyed.specs.Lists.{delete_where}
-use Rattle.sqlite_keyed.proofs.ListLemmas.{all_weaker, all_both, all-filter}
+use Rattle.sqlite_keyed.proofs.ListLemmas.{all_weaker, all_both}
 use Rattle.bh_types.specs.declared.wanted.Wanted.TheVariants.{Named}
 use Rattle.sqlite_typed.specs.Tests.{bytes_eq}
 use Rattle.bh_model.specs.State.{Octets}
-use Rattle.bh_tables.specs.Bodies.{version_name, resolved_again}
+use Rattle.bh_tables.specs.Bodies.{version_name, part_name, resolved_again}
 use Rattle.bh_tables.specs.Typed.{VersionRow, RefRow, Tables}
 use Rattle.bh_tables.specs.Shown.{Name, same_name, is_version, is_entry, is_of_body}
 use Rattle.bh_view.specs.Grouped.{first, same_number}
 use Rattle.bh_view.specs.View.{id_of}
-use Rattle.bh_view.specs.Blocks.{whole}
-use Rattle.bh_view.specs.Bodies.{bodies_of, AreWhole, AreBodies, body_dropped}
+use Rattle.bh_view.specs.Bodies.{bodies_in, IsUnnamed, AreWhole, body_dropped}
 use Rattle.bh_view.specs.Sound.{IsSound}
+use Rattle.bh_view.proofs.BodyNames.{version_apart}
 use Rattle.bh_view.proofs.FilterLemmas.{single, first_passes, filter_both, same_Some}
 use Rattle.bh_view.proofs.FindLemmas.{first_find}
-use Rattle.bh_view.proofs.GroupedLemmas.{is_other}
-use Rattle.bh_view.proofs.NameLemmas.{names, none_pass}
-use Rattle.bh_view.proofs.SetLemmas.{set_other}
-use Rattle.bh_view.proofs.WholeLemmas.{refs_dropped}
-use Rattle.bh_view.proofs.BodyLemmas.{stored_dropped, bodies_dropped}
-use Rattle.bh_view.proofs.ResolvedLemmas.{rebodied_resolved}
+use Rattle.bh_view.proofs.JoinLemmas.{map_delete}
+use Rattle.bh_view.proofs.NameLemmas.{names, name_swap, none_pass, none_both, none_either}
+use Rattle.bh_view.proofs.BodyLemmas.{whole_for}
+use Rattle.bh_view.proofs.WriteLemmas.{versions_taken, body_goes, gone_whole}
 use Rattle.bh_view.proofs.VersionChanges.{one_version}
 use Rattle.bh_view.proofs.WantedLemmas.{named_row, wanted_entry}
 
@@ -56,9 +54,10 @@ module _ (t b k : Octets) (n : ℕ) where
   abbrev test : VersionRow → Bool
   test = is_version t b k n
 
-  -- the rows that the test finds are those of this body
-  abbrev pub AreAt : Name → List VersionRow → Type 0
-  AreAt at = AllByRecursion (λ w. is_version t b k n w ≡ same_name (version_name w) at)
+  -- the rows that the test finds are those of this body, and no part has it
+  pub record AreAt (at : Name) (tables : Tables) : Type 0 where
+    pub versions : AllByRecursion (λ w. is_version t b k n w ≡ same_name (version_name w) at) tables.versions
+    pub parts : list_any (same_name at) (map part_name tables.parts) ≡ false
 
   module _ (tables : Tables) (sound : IsSound tables) (v : VersionRow) (there : find (is_version t b k n) tables.versions ≡ Some v) where
     by_id : filter test tables.versions ≡ v ∷ []
@@ -68,27 +67,31 @@ module _ (t b k : Octets) (n : ℕ) where
     by_entry = single _ (subst (λ (l : List VersionRow). length l ≤ 1) (filter_both (λ x. bytes_eq x.tenant t) (λ x. same_number x.seq v.seq) tables.versions) ((sound.tenants t).versions.one_seq v.seq)) v
         (first_find (is_entry t v.seq) tables.versions ∙ wanted_entry tables t sound b k (Named (id_of n)) v (named_row t b k n tables.versions ∙ there))
 
-    pub one_entry : AreAt (t, v.seq) tables.versions
-    one_entry = same_tests test (is_entry t v.seq) tables.versions v by_id by_entry
+    pub one_entry : AreAt (t, v.seq) tables
+    one_entry = record {
+      versions = same_tests test (is_entry t v.seq) tables.versions v by_id by_entry;
+      parts = version_apart tables t sound v (first_find (is_entry t v.seq) tables.versions ∙ wanted_entry tables t sound b k (Named (id_of n)) v (named_row t b k n tables.versions ∙ there));
+    }
 
-  -- the names of bodies but one, once its rows are gone
-  any_left : (at body : Name) (vs : List VersionRow) → same_name body at ≡ false → AreAt at vs → list_any (same_name body) (bodies_of (delete_where test vs)) ≡ list_any (same_name body) (bodies_of vs)
-  any_left at body [] apart all = refl
-  any_left at body (w ∷ ws) apart all = elim (test w) as (λ c. test w ≡ c → list_any (same_name body) (bodies_of (cond (not c) (w ∷ delete_where test ws) (delete_where test ws))) ≡ list_any (same_name body) (bodies_of (w ∷ ws))) [
-    | true ↦ λ e. any_left at body ws apart all.1 ∙ elim (same_number w.marker 0) as (λ c. list_any (same_name body) (bodies_of ws) ≡ list_any (same_name body) (map version_name (cond c (w ∷ filter (λ (x : VersionRow). same_number x.marker 0) ws) (filter (λ (x : VersionRow). same_number x.marker 0) ws)))) [
-      | true ↦ ap (λ c. c || list_any (same_name body) (bodies_of ws)) (sym (subst (λ q. same_name body q ≡ false) (sym ((names.decides (version_name w) at).0 (sym all.0 ∙ e))) apart))
-      | false ↦ refl
-    ]
-    | false ↦ λ e. elim (same_number w.marker 0) as (λ c. list_any (same_name body) (map version_name (cond c (w ∷ filter (λ (x : VersionRow). same_number x.marker 0) (delete_where test ws)) (filter (λ (x : VersionRow). same_number x.marker 0) (delete_where test ws))))
-        ≡ list_any (same_name body) (map version_name (cond c (w ∷ filter (λ (x : VersionRow). same_number x.marker 0) ws) (filter (λ (x : VersionRow). same_number x.marker 0) ws)))) [
-          | true ↦ ap (λ c. same_name body (version_name w) || c) (any_left at body ws apart all.1)
-          | false ↦ any_left at body ws apart all.1
-        ]
+  -- without the rows no row has the name
+  left_apart : (at : Name) (vs : List VersionRow) → AllByRecursion (λ w. test w ≡ same_name (version_name w) at) vs → list_any (same_name at) (map version_name (delete_where test vs)) ≡ false
+  left_apart at [] all = refl
+  left_apart at (w ∷ ws) all = elim (test w) as (λ c. test w ≡ c → list_any (same_name at) (map version_name (cond (not c) (w ∷ delete_where test ws) (delete_where test ws))) ≡ false) [
+    | true ↦ λ e. left_apart at ws all.1
+    | false ↦ λ e. ap (λ c. c || list_any (same_name at) (map version_name (delete_where test ws))) (name_swap at (version_name w) ∙ sym all.0 ∙ e) ∙ left_apart at ws all.1
+  ] refl
+
+  -- the rows have no other name
+  only_name : (at q : Name) (vs : List VersionRow) → same_name q at ≡ false → AllByRecursion (λ w. test w ≡ same_name (version_name w) at) vs → list_any (same_name q) (map version_name (filter test vs)) ≡ false
+  only_name at q [] apart all = refl
+  only_name at q (w ∷ ws) apart all = elim (test w) as (λ c. test w ≡ c → list_any (same_name q) (map version_name (cond c (w ∷ filter test ws) (filter test ws))) ≡ false) [
+    | true ↦ λ e. ap (λ c. c || list_any (same_name q) (map version_name (filter test ws))) (ap (same_name q) ((names.decides (version_name w) at).0 (sym all.0 ∙ e)) ∙ apart) ∙ only_name at q ws apart all.1
+    | false ↦ λ e. only_name at q ws apart all.1
   ] refl
 
   -- ---- the tables
 
-  module _ (more : List Name) (old : Tables) (at : Name) (is : AreWhole more old) (same : AreAt at old.versions) where
+  module _ (more : List Name) (old : Tables) (at : Name) (is : AreWhole more old) (same : AreAt at old) where
     abbrev left : List RefRow
     left = delete_where (is_of_body at) old.refs
 
@@ -96,36 +99,30 @@ module _ (t b k : Octets) (n : ℕ) where
     abbrev dropped : Tables
     dropped = record (body_dropped at old) { versions = delete_where test (body_dropped at old).versions }
 
-    swapped : (body : Name) → same_name body at ≡ false → same_name at body ≡ false
-    swapped body apart = is_other names at body (λ e. true≢false (sym ((names.decides body at).1 (sym e)) ∙ apart))
+    -- without the row, and the body still there
+    abbrev taken : Tables
+    taken = record old { versions = delete_where test old.versions }
 
-    rows_kept : (vs : List VersionRow) → AreAt at vs → AllByRecursion (λ (v : VersionRow). v.bytes ≡ whole old.refs old.blocks (version_name v)) vs → delete_where test (map (resolved_again left old.blocks) vs) ≡ delete_where test vs
-    rows_kept [] all own = refl
-    rows_kept (w ∷ ws) all own = elim (test w) as (λ c. test w ≡ c → cond (not c) (resolved_again left old.blocks w ∷ delete_where test (map (resolved_again left old.blocks) ws)) (delete_where test (map (resolved_again left old.blocks) ws)) ≡ cond (not c) (w ∷ delete_where test ws) (delete_where test ws)) [
-      | true ↦ λ e. rows_kept ws all.1 own.1
-      | false ↦ λ e. λ i. record w { bytes = (other_bytes (version_name w) (swapped (version_name w) (sym all.0 ∙ e)) ∙ sym own.0) i } ∷ rows_kept ws all.1 own.1 i
-    ] refl
-      where
-        other_bytes : (body : Name) → same_name at body ≡ false → whole left old.blocks body ≡ whole old.refs old.blocks body
-        other_bytes body apart = (λ i. refs_dropped old.refs old.blocks at i body) ∙ set_other at (whole old.refs old.blocks) [] body apart
+    other_order : dropped ≡ body_dropped at taken
+    other_order = ap (λ l. record (body_dropped at old) { versions = l }) (sym (map_delete (resolved_again left old.blocks) test test (λ w. refl) old.versions))
+
+    unnamed : IsUnnamed at taken
+    unnamed = record { versions = left_apart at old.versions same.versions; parts = same.parts }
+
+    taken_whole : AreWhole (at ∷ more) taken
+    taken_whole =
+        let gone = map version_name (filter test old.versions) in
+        whole_for (gone ++ more) (at ∷ more) taken taken.versions taken.parts (versions_taken old test more is).resolved
+        (λ q none.
+        let a = none_both (same_name q) (at ∷ more) (bodies_in taken) none in
+        let b = none_both (same_name q) (at ∷ []) more a.0 in
+        let apart : same_name q at ≡ false = (or_parts (same_name q at) false b.0).0 in
+        none_either (same_name q) (gone ++ more) (bodies_in taken) (none_either (same_name q) gone more (only_name at q old.versions apart same.versions) b.1) a.1)
+        (versions_taken old test more is)
 
     -- the other rows keep their bytes
-    pub rows_dropped : dropped.versions ≡ delete_where test old.versions
-    rows_dropped = rows_kept old.versions same is.resolved
-
     pub body_drops : dropped ≡ record old { versions = delete_where test old.versions; refs = left }
-    body_drops = ap (λ l. record old { versions = l; refs = left }) rows_dropped
+    body_drops = other_order ∙ body_goes taken at unnamed taken_whole.resolved
 
     pub dropped_whole : AreWhole more dropped
-    dropped_whole = record {
-      resolved = all-filter _ _ _ (rebodied_resolved old left old.blocks);
-      stored = stored_dropped old.refs old.blocks at is.stored;
-      bodies = subst (λ vs. AreBodies (more ++ bodies_of vs) left old.blocks) (sym rows_dropped)
-          (bodies_dropped (more ++ bodies_of old.versions) (more ++ bodies_of (delete_where test old.versions)) old.refs old.blocks at fewer is.bodies);
-    }
-      where
-        fewer : (body : Name) → same_name at body ≡ false → list_any (same_name body) (more ++ bodies_of (delete_where test old.versions)) ≡ false → list_any (same_name body) (more ++ bodies_of old.versions) ≡ false
-        fewer body apart none =
-            list_any-append (same_name body) more (bodies_of old.versions)
-            ∙ ap (λ c. list_any (same_name body) more || c) (sym (any_left at body old.versions (is_other names body at (λ e. true≢false (sym ((names.decides at body).1 (sym e)) ∙ apart))) same))
-            ∙ sym (list_any-append (same_name body) more (bodies_of (delete_where test old.versions))) ∙ none
+    dropped_whole = subst (AreWhole more) (sym other_order) (gone_whole taken at unnamed more taken_whole)

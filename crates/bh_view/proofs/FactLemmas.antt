@@ -1,5 +1,5 @@
 -- Facts on the rows of a table that stay when it changes: each row's own, one row for a key, references.
-use Rattle.std.proofs.Common.{◌≡◌, ◌≤◌, Bool, true, false, true≢false, cond, not, List, [], ◌∷◌, ◌++◌, length, suc, map, Some, None, refl, sym, ap, ◌∙◌, subst, arith, Ordering, le_trans}
+use Rattle.std.proofs.Common.{◌≡◌, ◌≤◌, Bool, true, false, true≢false, cond, not, List, [], ◌∷◌, ◌++◌, length, suc, map, filter, Some, None, refl, sym, ap, ◌∙◌, subst, arith, Ordering, le_trans}
 use Rattle.std.specs.List.{AllByRecursion}
 use Rattle.sqlite_keyed.specs.Lists.{delete_where, update_where}
 use Rattle.sqlite_keyed.proofs.ListLemmas.{all-append, all_weaker}
@@ -49,8 +49,11 @@ module _ {K T : Type 0} {R : K → K → Ordering} {is : K → K → Bool} (k : 
     | false ↦ λ e. subst (λ l. length l ≤ 1) (sym (push_other (λ x. is (key x) q) rows r e)) (one q)
   ] refl
 
+  pub unique_filtered : (rows : List T) (t : T → Bool) → HasUnique is key rows → HasUnique is key (filter t rows)
+  unique_filtered rows t one q = subst (λ l. length l ≤ 1) (sym (filter_swap (λ x. is (key x) q) t rows)) (le_trans (length-filter-le _ (matching is key q rows)) (one q))
+
   pub unique_deleted : (rows : List T) (t : T → Bool) → HasUnique is key rows → HasUnique is key (delete_where t rows)
-  unique_deleted rows t one q = subst (λ l. length l ≤ 1) (sym (filter_swap (λ x. is (key x) q) (λ x. not (t x)) rows)) (le_trans (length-filter-le _ (matching is key q rows)) (one q))
+  unique_deleted rows t = unique_filtered rows (λ x. not (t x))
 
   pub unique_updated : (rows : List T) (t : T → Bool) (f : T → T) → ((x : T) → key (f x) ≡ key x) → HasUnique is key rows → HasUnique is key (update_where t f rows)
   unique_updated rows t f keeps one q = subst (λ n. n ≤ 1) (sym (ap length (update_here (λ x. is (key x) q) t f (λ x _. ap (λ z. is z q) (keeps x)) rows) ∙ length-map_ _ (matching is key q rows))) (one q)

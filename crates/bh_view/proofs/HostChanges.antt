@@ -7,7 +7,7 @@ use Rattle.bh_model.specs.State.{Octets}
 use Rattle.bh_model.specs.Runs.{last_reading}
 use Rattle.bh_tables.specs.Typed.{HostRow, Tables}
 use Rattle.bh_view.specs.View.{TenantRows, rows_of, view, latest_of, limits_in, with_latest}
-use Rattle.bh_view.specs.Sound.{IsBucketRow, IsVersionRow, AreSound, IsSound}
+use Rattle.bh_view.specs.Sound.{IsBucketRow, IsVersionRow, IsUploadRow, IsPartRow, AreSound, IsSound}
 use Rattle.bh_view.specs.Becomes.{IsStamped}
 use Rattle.bh_view.specs.Laws.{new_host}
 use Rattle.bh_view.proofs.FilterLemmas.{none_some}
@@ -28,11 +28,15 @@ pub sound_later : (m n : ℕ) → m ≤ n → (rows : TenantRows) → AreSound m
 sound_later m n up rows all =
     let buckets : AllByRecursion (IsBucketRow n) rows.buckets = all_weaker (IsBucketRow m) (IsBucketRow n) (λ r good. record { name = good.name; created = le_trans good.created up; state = good.state; days = good.days }) rows.buckets all.buckets.each in
     let versions : AllByRecursion (IsVersionRow n) rows.versions = all_weaker (IsVersionRow m) (IsVersionRow n) (λ v good. record { key = good.key; text = good.text; marker = good.marker; bare = good.bare; stamp = le_trans good.stamp up; size = good.size }) rows.versions all.versions.each in
+    let uploads : AllByRecursion (IsUploadRow n) rows.uploads = all_weaker (IsUploadRow m) (IsUploadRow n) (λ u good. record { key = good.key; text = good.text; begun = le_trans good.begun up }) rows.uploads all.uploads.each in
+    let parts : AllByRecursion (IsPartRow n) rows.parts = all_weaker (IsPartRow m) (IsPartRow n) (λ p good. record { least = good.least; most = good.most; stamp = le_trans good.stamp up; size = good.size; checksum = good.checksum }) rows.parts all.parts.each in
     record {
       tenants = all.tenants;
       keys = all.keys;
       buckets = record { each = buckets; one = all.buckets.one; owned = all.buckets.owned };
       versions = record { each = versions; one_seq = all.versions.one_seq; one_id = all.versions.one_id; owned = all.versions.owned; unversioned = all.versions.unversioned; given = all.versions.given };
+      uploads = record { each = uploads; one = all.uploads.one; owned = all.uploads.owned; given = all.uploads.given };
+      parts = record { each = parts; one = all.parts.one; one_body = all.parts.one_body; apart = all.parts.apart; owned = all.parts.owned; given = all.parts.given };
     }
 
 -- a stamp that is not before the last one
@@ -74,6 +78,8 @@ created tables min_part max_body limits e =
           keys = record { each = tt; one = λ q. omega arith; owned = λ gone. refl };
           buckets = record { each = tt; one = λ q. omega arith; owned = λ gone. refl };
           versions = record { each = tt; one_seq = λ q. omega arith; one_id = λ b k q. omega arith; owned = λ q gone. refl; unversioned = λ b r none. absurd (none_some none); given = tt };
+          uploads = record { each = tt; one = λ q. omega arith; owned = λ q gone. refl; given = tt };
+          parts = record { each = tt; one = λ u q. omega arith; one_body = λ q. omega arith; apart = tt; owned = λ q gone. refl; given = tt };
         };
         stored = record { one = λ q. omega arith; once = λ q. omega arith; named = λ q gone. refl };
       },

@@ -1,5 +1,5 @@
 -- Rows that are joined with other tables, as a version row with its body's bytes: a `map` before the view.
-use Rattle.std.proofs.Common.{◌≡◌, Bool, true, false, cond, not, List, [], ◌∷◌, ◌++◌, map, refl, sym, ap, ◌∙◌}
+use Rattle.std.proofs.Common.{◌≡◌, Bool, true, false, cond, not, List, [], ◌∷◌, ◌++◌, map, map-id, refl, sym, ap, ◌∙◌}
 use Rattle.std.specs.List.{AllByRecursion}
 use Rattle.sqlite_keyed.specs.Lists.{delete_where}
 
@@ -20,3 +20,7 @@ module _ {A B : Type 0} where
   pub map_agree : (f g : A → B) (xs : List A) → AllByRecursion (λ x. f x ≡ g x) xs → map f xs ≡ map g xs
   map_agree f g [] all = refl
   map_agree f g (x ∷ xs) all = λ i. all.0 i ∷ map_agree f g xs all.1 i
+
+-- what changes no row
+pub map_itself : {A : Type 0} (f : A → A) (xs : List A) → AllByRecursion (λ x. f x ≡ x) xs → map f xs ≡ xs
+map_itself f xs all = map_agree f (λ x. x) xs all ∙ map-id xs

@@ -38,3 +38,8 @@ pub mod BodyChanges
 pub mod SharedLemmas
 pub mod DropLemmas
 pub mod WriteLemmas
+pub mod BodyNames
+pub mod UploadLemmas
+pub mod PartLemmas
+pub mod UploadChanges
+pub mod PartChanges

@@ -1,11 +1,14 @@
 -- Names of blocks and of bodies as keys, and lists that the lemmas on blocks need.
-use Rattle.std.proofs.Common.{◌≡◌, ℕ, zero, suc, ◌+◌, Bool, true, false, cond, List, [], ◌∷◌, ◌++◌, filter, flat_map, refl, sym, ap, ap₂, ◌∙◌, Ordering, Less, Equal, Greater, is_gt, Decides, None, nat_cmp, arith}
-use Rattle.std.specs.List.{AllByRecursion, range_with_len}
+use Rattle.std.proofs.Common.{◌≡◌, ℕ, zero, suc, ◌+◌, Bool, true, false, cond, List, [], ◌∷◌, ◌++◌, filter, flat_map, refl, sym, ap, ap₂, ◌∙◌, Ordering, Less, Equal, Greater, is_gt, Decides, None, nat_cmp, arith, ◌||◌, map, not}
+use Rattle.std.specs.Bool.{one_answer}
+use Rattle.std.specs.List.{AllByRecursion, list_any, range_with_len}
 use Rattle.std.specs.Ordering.{ordering_then}
 use Rattle.std.specs.Cmp.Derive.{both_true}
-use Rattle.std.proofs.lemmas.Bool.{and_parts}
+use Rattle.std.proofs.lemmas.Bool.{and_parts, or_parts}
+use Rattle.std.proofs.lemmas.List.Folds.{list_any-append}
 use Rattle.std.proofs.lemmas.Cmp.{on_total, then_total}
-use Rattle.sqlite_keyed.specs.Lists.{insert_sorted, sort_by}
+use Rattle.sqlite_keyed.specs.Lists.{insert_sorted, sort_by, delete_where}
+use Rattle.sqlite_keyed.proofs.ListLemmas.{all_map, all_unmap, none_from_any, any_from_none}
 use Rattle.bh_model.specs.State.{octets_cmp}
 use Rattle.bh_view.specs.Grouped.{IsKey, first, matching, Refers}
 use Rattle.bh_view.proofs.FilterLemmas.{none_some}
@@ -35,6 +38,33 @@ names = record {
   same = λ x y h. let p = both_equal _ _ h in λ i. (octets.same x.0 y.0 p.0 i, numbers.same x.1 y.1 p.1 i);
   decides = name_Decides;
 }
+
+pub name_swap : (a b : Name) → same_name a b ≡ same_name b a
+name_swap a b = one_answer _ _ (names.decides a b) (λ h. sym ((names.decides b a).0 h), λ e. (names.decides b a).1 (sym e))
+
+-- ---- the names of rows
+
+-- none of the first, and none of the others
+pub none_both : {X : Type 0} (p : X → Bool) (xs ys : List X) → list_any p (xs ++ ys) ≡ false → (list_any p xs ≡ false) × (list_any p ys ≡ false)
+none_both p xs ys none = or_parts _ _ (sym (list_any-append p xs ys) ∙ none)
+
+pub none_either : {X : Type 0} (p : X → Bool) (xs ys : List X) → list_any p xs ≡ false → list_any p ys ≡ false → list_any p (xs ++ ys) ≡ false
+none_either p xs ys first others = list_any-append p xs ys ∙ ap (λ c. c || list_any p ys) first ∙ others
+
+module _ {T : Type 0} (name : T → Name) where
+  pub unnamed_each : (at : Name) (rows : List T) → list_any (same_name at) (map name rows) ≡ false → AllByRecursion (λ x. same_name at (name x) ≡ false) rows
+  unnamed_each at rows none = all_unmap (λ q. same_name at q ≡ false) name rows (none_from_any (same_name at) (map name rows) none)
+
+  pub each_unnamed : (at : Name) (rows : List T) → AllByRecursion (λ x. same_name at (name x) ≡ false) rows → list_any (same_name at) (map name rows) ≡ false
+  each_unnamed at rows all = any_from_none (same_name at) (map name rows) (all_map (λ q. same_name at q ≡ false) name rows all)
+
+  -- a name of no row that is taken out, and of none that is left, is of none
+  pub none_parted : (p : Name → Bool) (test : T → Bool) (rows : List T) → list_any p (map name (filter test rows)) ≡ false → list_any p (map name (delete_where test rows)) ≡ false → list_any p (map name rows) ≡ false
+  none_parted p test [] gone left = refl
+  none_parted p test (x ∷ xs) gone left = elim (test x) as (λ b. list_any p (map name (cond b (x ∷ filter test xs) (filter test xs))) ≡ false → list_any p (map name (cond (not b) (x ∷ delete_where test xs) (delete_where test xs))) ≡ false → list_any p (map name (x ∷ xs)) ≡ false) [
+    | true ↦ λ g l. let it = or_parts _ _ g in ap (λ c. c || list_any p (map name xs)) it.0 ∙ none_parted p test xs it.1 l
+    | false ↦ λ g l. let it = or_parts _ _ l in ap (λ c. c || list_any p (map name xs)) it.0 ∙ none_parted p test xs g it.1
+  ] gone left
 
 -- ---- lists
 

@@ -19,7 +19,7 @@ use Rattle.bh_types.specs.Checksums.{checksum_text}
 use Rattle.bh_model.specs.Counting.{counts, with_counts, can_give, after_entry}
 use Rattle.bh_model.specs.Entries.{Version, without, added, deleted_current}
 use Rattle.bh_model.specs.Operations.{with_bucket, with_entries, with_object, with_copy, listed}
-use Rattle.bh_tables.specs.Typed.{TenantRow, VersionRow, Tables}
+use Rattle.bh_tables.specs.Typed.{TenantRow, VersionRow, PartRow, Tables}
 use Rattle.bh_tables.specs.Shown.{is_tenant, is_version}
 use Rattle.bh_view.specs.Grouped.{same_number}
 use Rattle.bh_view.specs.View.{rows_of, id_of, entry_of, view, latest_of}
@@ -91,6 +91,12 @@ module _ (tables : Tables) (t : Octets) (s : State) (sound : IsSound tables) (is
   pub older : AllByRecursion (λ v. v.seq < s.next_entry) (rows_of t tables).versions
   older = all_weaker _ _ (λ v less. less.0) _ below_next
 
+  -- no part has a later body
+  pub parts_older : AllByRecursion (λ (p : PartRow). p.body < s.next_entry) (rows_of t tables).parts
+  parts_older =
+      let row = own_row tables t s is in
+      subst (λ (x : State). AllByRecursion (λ (p : PartRow). p.body < x.next_entry) (rows_of t tables).parts) row.2 (all_first _ _ row.0 row.1 (sound.tenants t).parts.given)
+
 -- ---- the columns of an entry
 
 marker_small : (c : Content) → marker_number c ≤ 1
@@ -133,7 +139,7 @@ module _ (old new : Tables) (t : Octets) (s : State) (sound : IsSound old) (is :
         let second = version_removed one two t s1 first.sound first.shown b k 0 B at refl in
         let third = version_added two new (with_bucket b B1 s1) (entry_row t b k s.next_entry 0 moment content) B1 second.sound second.shown (get_here octets s.buckets b (Some B1))
         (row_good s.next_entry 0 two (second.latest ∙ first.latest)) (omega arith) (omega (arith, (counters_good old t s sound is).0.0))
-        (subst (AllByRecursion (λ x. x.seq < s.next_entry)) (sym (mine_deleted (λ (x : VersionRow). x.tenant) t _ old.versions)) (all-filter _ _ _ (older old t s sound is))) (delete_all (is_version t b k 0) old.versions) (λ plain. record { null = refl; body = fits plain }) e in
+        (subst (AllByRecursion (λ x. x.seq < s.next_entry)) (sym (mine_deleted (λ (x : VersionRow). x.tenant) t _ old.versions)) (all-filter _ _ _ (older old t s sound is))) (parts_older old t s sound is) (delete_all (is_version t b k 0) old.versions) (λ plain. record { null = refl; body = fits plain }) e in
         subst (λ (x : State). Becomes t (Some x) old new)
         (bucket_again b B1 _ s1 ∙ ap (λ x. with_bucket b x s1)
         (ap (λ (x : Entry). with_entries k (x ∷ listed k B1) B1) (entry_shown t b k s.next_entry 0 moment content)
@@ -150,7 +156,7 @@ module _ (old new : Tables) (t : Octets) (s : State) (sound : IsSound old) (is :
         let s1 : State = record s { next_version = s.next_version + 1; next_entry = s.next_entry + 1 } in
         let first = numbers_set old one t s sound is (s.next_version + 1) (s.next_entry + 1) (omega arith) (omega (arith, leb-true _ _ version)) (omega arith) (omega (arith, leb-true _ _ room)) refl in
         let second = version_added one new s1 (entry_row t b k s.next_entry s.next_version moment content) B first.sound first.shown at
-        (row_good s.next_entry s.next_version one first.latest) (omega arith) (omega arith) (older old t s sound is) (next_fresh old t s sound is b k) (λ plain. absurd (versioned plain)) e in
+        (row_good s.next_entry s.next_version one first.latest) (omega arith) (omega arith) (older old t s sound is) (parts_older old t s sound is) (next_fresh old t s sound is b k) (λ plain. absurd (versioned plain)) e in
         subst (λ (x : Entry). Becomes t (Some (with_bucket b (with_entries k (x ∷ listed k B) B) s1)) old new)
         (entry_shown t b k s.next_entry s.next_version moment content ∙ ap (λ id. entry id moment content) (numbered_id s.next_version (counters_good old t s sound is).0.0))
         (becomes_then t _ _ old one new first second)

@@ -4,11 +4,11 @@ use Rattle.std.specs.List.{AllByRecursion}
 use Rattle.sqlite_keyed.proofs.ListLemmas.{all-filter}
 use Rattle.sqlite_typed.specs.Tests.{bytes_eq}
 use Rattle.bh_model.specs.State.{Octets}
-use Rattle.bh_tables.specs.Typed.{TenantRow, KeyRow, BucketRow, VersionRow, Tables}
-use Rattle.bh_tables.specs.Shown.{is_tenant, is_key, is_bucket, is_version}
+use Rattle.bh_tables.specs.Typed.{TenantRow, KeyRow, BucketRow, VersionRow, UploadRow, PartRow, Tables}
+use Rattle.bh_tables.specs.Shown.{is_tenant, is_key, is_bucket, is_version, is_upload, is_part}
 use Rattle.bh_view.specs.Grouped.{first, same_number}
 use Rattle.bh_view.specs.View.{latest_of}
-use Rattle.bh_view.specs.Sound.{IsTenantRow, IsKeyRow, IsBucketRow, IsVersionRow, IsSound}
+use Rattle.bh_view.specs.Sound.{IsTenantRow, IsKeyRow, IsBucketRow, IsVersionRow, IsUploadRow, IsPartRow, IsSound}
 use Rattle.bh_view.proofs.FilterLemmas.{filter_both}
 use Rattle.bh_view.proofs.FactLemmas.{all_first}
 use Rattle.bh_view.proofs.OwnLemmas.{rows_at}
@@ -29,3 +29,9 @@ module _ (tables : Tables) (sound : IsSound tables) (t : Octets) where
 
   pub version_good : (b k : Octets) (n : ℕ) (r : VersionRow) → first (filter (is_version t b k n) tables.versions) ≡ Some r → IsVersionRow (latest_of tables) r
   version_good b k n r = first_good (λ (x : VersionRow). x.tenant) (IsVersionRow (latest_of tables)) t (λ x. bytes_eq x.bucket b && (bytes_eq x.okey k && same_number x.id n)) tables.versions r (sound.tenants t).versions.each
+
+  pub upload_good : (n : ℕ) (r : UploadRow) → first (filter (is_upload t n) tables.uploads) ≡ Some r → IsUploadRow (latest_of tables) r
+  upload_good n r = first_good (λ (x : UploadRow). x.tenant) (IsUploadRow (latest_of tables)) t (λ x. same_number x.upload n) tables.uploads r (sound.tenants t).uploads.each
+
+  pub part_good : (u n : ℕ) (r : PartRow) → first (filter (is_part t u n) tables.parts) ≡ Some r → IsPartRow (latest_of tables) r
+  part_good u n r = first_good (λ (x : PartRow). x.tenant) (IsPartRow (latest_of tables)) t (λ x. same_number x.upload u && same_number x.part n) tables.parts r (sound.tenants t).parts.each

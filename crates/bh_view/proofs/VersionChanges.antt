@@ -2,21 +2,21 @@
 use Rattle.std.proofs.Common.{◌≡◌, ◌≢◌, ℕ, zero, suc, ◌<◌, Bool, true, false, not, ◌&&◌, List, [], ◌∷◌, ◌++◌, Some, None, filter, refl, sym, ap, ◌∙◌, subst, arith}
 use Rattle.std.specs.Bool.{one_answer}
 use Rattle.std.specs.Cmp.{unsigned_Decides}
-use Rattle.std.specs.List.{AllByRecursion}
+use Rattle.std.specs.List.{AllByRecursion, list_any}
 use Rattle.std.specs.FinMap.{get, insert}
 use Rattle.std.proofs.lemmas.Bool.{and_parts}
 use Rattle.sqlite_keyed.specs.Lists.{delete_where}
-use Rattle.sqlite_keyed.proofs.ListLemmas.{all_weaker, all_both, all-filter, filter_none}
+use Rattle.sqlite_keyed.proofs.ListLemmas.{all_weaker, all_both, all-filter, filter_none, none_from_any, any_from_none}
 use Rattle.sqlite_typed.specs.Tests.{bytes_eq}
 use Rattle.bh_types.specs.declared.bucket_state.BucketState.TheVariants.{Unversioned}
 use Rattle.bh_model.specs.State.{Octets, Bucket, State}
 use Rattle.bh_model.specs.Entries.{same_id, has_id, without}
 use Rattle.bh_model.specs.Operations.{with_bucket, with_entries, listed}
-use Rattle.bh_tables.specs.Typed.{TenantRow, BucketRow, VersionRow, Tables}
+use Rattle.bh_tables.specs.Typed.{TenantRow, BucketRow, VersionRow, UploadRow, PartRow, Tables}
 use Rattle.bh_tables.specs.Shown.{is_version}
 use Rattle.bh_view.specs.Grouped.{first, same_number, matching, HasUnique}
 use Rattle.bh_view.specs.View.{at_key, named, rows_of, id_of, mode_of, entry_of, buckets_of, view, latest_of, in_bucket}
-use Rattle.bh_view.specs.Sound.{IsVersionRow, IsBelow, IsPlain, AreVersions, IsSound}
+use Rattle.bh_view.specs.Sound.{IsVersionRow, IsBelow, IsPlain, AreVersions, AreParts, IsSound}
 use Rattle.bh_view.specs.Becomes.{Becomes}
 use Rattle.bh_view.proofs.Keys.{octets, numbers}
 use Rattle.bh_view.proofs.FilterLemmas.{none_some, same_Some, push_here, push_other, filter_swap, filter_both}
@@ -92,20 +92,40 @@ module _ (latest : ℕ) (tenants : List TenantRow) (buckets : List BucketRow) (v
     given = all_both _ (IsBelow v) _ (λ r before it. all_pushed (λ x. IsBelow x r) versions v before it) tenants all.given below;
   }
 
+-- ---- parts, whose bodies are no version's
+
+module _ (latest : ℕ) (tenants : List TenantRow) (versions : List VersionRow) (uploads : List UploadRow) (parts : List PartRow) (all : AreParts latest tenants versions uploads parts) where
+  parts_with : (now : List VersionRow) → AllByRecursion (λ (p : PartRow). list_any (λ (v : VersionRow). same_number v.seq p.body) now ≡ false) parts → AreParts latest tenants now uploads parts
+  parts_with now apart = record { each = all.each; one = all.one; one_body = all.one_body; apart = apart; owned = all.owned; given = all.given }
+
+  apart_left : (test : VersionRow → Bool) → AreParts latest tenants (delete_where test versions) uploads parts
+  apart_left test = parts_with (delete_where test versions) (all_weaker _ _ (λ (p : PartRow) none. any_from_none _ _ (all-filter _ _ versions (none_from_any _ versions none))) parts all.apart)
+
+  apart_more : (v : VersionRow) → AllByRecursion (λ (p : PartRow). p.body < v.seq) parts → AreParts latest tenants (versions ++ v ∷ []) uploads parts
+  apart_more v older = parts_with (versions ++ v ∷ []) (all_both (λ (p : PartRow). list_any (λ (x : VersionRow). same_number x.seq p.body) versions ≡ false) (λ p. p.body < v.seq) _
+      (λ p none less. any_from_none _ _ (all_pushed _ versions v (none_from_any _ versions none) (is_other numbers v.seq p.body (λ e. absurd (omega (arith, less, e)))))) parts all.apart older)
+
 -- ---- the statements
 
 module _ (old new : Tables) (t : Octets) (s : State) (sound : IsSound old) (is : view old t ≡ Some s) where
   -- the versions of one tenant's bucket change
   versions_become : (b : Octets) (B : Bucket) (versions mine : List VersionRow) → ((u : Octets) → u ≢ t → rows_at own u versions ≡ rows_at own u old.versions) → rows_at own t versions ≡ mine
       → buckets_of (record (rows_of t old) { versions = mine }) ≡ insert (buckets_of (rows_of t old)) b B → AreVersions (latest_of old) (rows_of t old).tenants (rows_of t old).buckets mine
-      → new ≡ record old { versions = versions } → Becomes t (Some (with_bucket b B s)) old new
-  versions_become b B versions mine others here shows good e =
+      → AreParts (latest_of old) (rows_of t old).tenants mine (rows_of t old).uploads (rows_of t old).parts → new ≡ record old { versions = versions } → Becomes t (Some (with_bucket b B s)) old new
+  versions_become b B versions mine others here shows good apart e =
       let all = sound.tenants t in
       let after : Tables = record old { versions = versions } in
       subst (Becomes t (Some (with_bucket b B s)) old) (sym e)
       (becomes t _ old after sound refl refl refl (λ u apart i. record (rows_of u old) { versions = others u apart i })
       (buckets_shown (rows_of t old) s (sym (view_is old t) ∙ is) (rows_of t after) (λ m. insert m b B) refl refl (ap (λ l. buckets_of (record (rows_of t old) { versions = l })) here ∙ shows))
-      (record { tenants = all.tenants; keys = all.keys; buckets = all.buckets; versions = subst (AreVersions (latest_of old) (rows_of t old).tenants (rows_of t old).buckets) (sym here) good }))
+      (record {
+        tenants = all.tenants;
+        keys = all.keys;
+        buckets = all.buckets;
+        versions = subst (AreVersions (latest_of old) (rows_of t old).tenants (rows_of t old).buckets) (sym here) good;
+        uploads = all.uploads;
+        parts = subst (λ l. AreParts (latest_of old) (rows_of t old).tenants l (rows_of t old).uploads (rows_of t old).parts) (sym here) apart;
+      }))
 
   -- the rows of one id of a key taken out
   pub version_removed : (b k : Octets) (n : ℕ) (B : Bucket) → get s.buckets b ≡ Some B → new ≡ record old { versions = delete_where (is_version t b k n) old.versions }
@@ -119,11 +139,13 @@ module _ (old new : Tables) (t : Octets) (s : State) (sound : IsSound old) (is :
       (ap (λ l. buckets_of (record mine { versions = l })) (λ i. delete_where (λ v. bytes_eq v.bucket b && (bytes_eq v.okey k && same_ids v.id n i)) mine.versions)
       ∙ versions_deleted mine b k (has_id (id_of n)) B (ap (λ (x : State). get x.buckets b) (own_row old t s is).2 ∙ at))
       (versions_left (latest_of old) mine.tenants mine.buckets mine.versions (sound.tenants t).versions test)
+      (apart_left (latest_of old) mine.tenants mine.versions mine.uploads mine.parts (sound.tenants t).parts test)
 
 pub version_added : (old new : Tables) (s : State) (v : VersionRow) (B : Bucket) → IsSound old → view old v.tenant ≡ Some s → get s.buckets v.bucket ≡ Some B
-    → IsVersionRow (latest_of old) v → v.seq < s.next_entry → v.id < s.next_version → AllByRecursion (λ x. x.seq < v.seq) (rows_of v.tenant old).versions → filter (is_version v.tenant v.bucket v.okey v.id) old.versions ≡ [] → (B.mode ≡ Unversioned → IsPlain v)
+    → IsVersionRow (latest_of old) v → v.seq < s.next_entry → v.id < s.next_version → AllByRecursion (λ x. x.seq < v.seq) (rows_of v.tenant old).versions → AllByRecursion (λ (p : PartRow). p.body < v.seq) (rows_of v.tenant old).parts
+    → filter (is_version v.tenant v.bucket v.okey v.id) old.versions ≡ [] → (B.mode ≡ Unversioned → IsPlain v)
     → new ≡ record old { versions = old.versions ++ v ∷ [] } → Becomes v.tenant (Some (with_bucket v.bucket (with_entries v.okey (entry_of v ∷ listed v.okey B) B) s)) old new
-version_added old new s v B sound is at good entry version older fresh plain =
+version_added old new s v B sound is at good entry version older parts_older fresh plain =
     let t = v.tenant in
     let mine = rows_of t old in
     let row = own_row old t s is in
@@ -135,3 +157,4 @@ version_added old new s v B sound is at good entry version older fresh plain =
     (versions_more (latest_of old) mine.tenants mine.buckets mine.versions (sound.tenants t).versions v good older (one_version t v.bucket v.okey v.id old.versions ∙ fresh) (λ none. none_some (sym none ∙ bucket.1))
     (λ r there none. plain (sym (ap (λ (x : Bucket). x.mode) bucket.2) ∙ ap (λ (x : BucketRow). mode_of x.state) (same_Some (sym bucket.1 ∙ there)) ∙ none))
     (subst (AllByRecursion (IsBelow v)) (sym (own_rows old t s sound is)) (record { seq = subst (λ (x : State). v.seq < x.next_entry) (sym row.2) entry; id = subst (λ (x : State). v.id < x.next_version) (sym row.2) version }, tt)))
+    (apart_more (latest_of old) mine.tenants mine.versions mine.uploads mine.parts (sound.tenants t).parts v parts_older)

@@ -3,8 +3,8 @@ use Rattle.std.specs.Prelude.{◌≡◌, ℕ, zero, suc, ◌+◌, false, if◌th
 use Rattle.std.specs.List.{AllByRecursion, list_any, range_with_len}
 use Rattle.sqlite_keyed.specs.Lists.{delete_where}
 use Rattle.bh_model.specs.State.{Octets}
-use Rattle.bh_tables.specs.Bodies.{version_name}
-use Rattle.bh_tables.specs.Typed.{VersionRow, BlockRow, RefRow, Tables, rebodied}
+use Rattle.bh_tables.specs.Bodies.{version_name, part_name}
+use Rattle.bh_tables.specs.Typed.{VersionRow, PartRow, BlockRow, RefRow, Tables, rebodied}
 use Rattle.bh_tables.specs.Shown.{Name, same_name, ref_name, body_name, is_of_body}
 use Rattle.bh_view.specs.Grouped.{matching, same_number}
 use Rattle.bh_view.specs.Blocks.{block_at, placed, whole, ord_for, blocks_with, AreStored, AreDigests}
@@ -16,6 +16,10 @@ use Rattle.bh_view.specs.Sound.{IsSound}
 abbrev pub bodies_of : List VersionRow → List Name
 bodies_of versions = map version_name (filter (λ (v : VersionRow). same_number v.marker 0) versions)
 
+-- and those of parts
+abbrev pub bodies_in : Tables → List Name
+bodies_in tables = bodies_of tables.versions ++ map part_name tables.parts
+
 -- each body's places are 0, 1, .. without gap, each reference is of a body and has the size of its block
 pub record AreBodies (bodies : List Name) (refs : List RefRow) (blocks : List BlockRow) : Type 0 where
   pub placed : (body : Name) → map (λ (r : RefRow). r.place) (placed refs body) ≡ range_with_len 0 (length (matching same_name body_name body refs))
@@ -23,18 +27,19 @@ pub record AreBodies (bodies : List Name) (refs : List RefRow) (blocks : List Bl
   pub measured : AllByRecursion (λ (r : RefRow). r.size ≡ length (block_at blocks (ref_name r))) refs
 
 abbrev pub HasBodies : Tables → Type 0
-HasBodies tables = AreBodies (bodies_of tables.versions) tables.refs tables.blocks
+HasBodies tables = AreBodies (bodies_in tables) tables.refs tables.blocks
 
--- each version has the bytes of its body
-abbrev pub IsResolved : Tables → Type 0
-IsResolved tables = AllByRecursion (λ (v : VersionRow). v.bytes ≡ whole tables.refs tables.blocks (version_name v)) tables.versions
+-- each version and each part has the bytes of its body
+pub record IsResolved (tables : Tables) : Type 0 where
+  pub versions : AllByRecursion (λ (v : VersionRow). v.bytes ≡ whole tables.refs tables.blocks (version_name v)) tables.versions
+  pub parts : AllByRecursion (λ (p : PartRow). p.bytes ≡ whole tables.refs tables.blocks (part_name p)) tables.parts
 
--- in the midst of a write: each version has the bytes of its body, and references are sound, where `more` are bodies whose
--- versions are to come
+-- in the midst of a write: each version and part has the bytes of its body, and references are sound, where `more` are bodies
+-- whose versions or parts are to come
 pub record AreWhole (more : List Name) (tables : Tables) : Type 0 where
   pub resolved : IsResolved tables
   pub stored : AreStored tables.refs tables.blocks
-  pub bodies : AreBodies (more ++ bodies_of tables.versions) tables.refs tables.blocks
+  pub bodies : AreBodies (more ++ bodies_in tables) tables.refs tables.blocks
 
 -- all that holds of a host's tables, where blocks are named by this function
 pub record IsSoundHost (digest : Octets → Octets) (tables : Tables) : Type 0 where
@@ -44,19 +49,20 @@ pub record IsSoundHost (digest : Octets → Octets) (tables : Tables) : Type 0 w
 
 -- ---- the bytes of all bodies, but those of one
 
--- no version has the name
-abbrev pub IsUnnamed : Name → List VersionRow → Type 0
-IsUnnamed at versions = list_any (same_name at) (map version_name versions) ≡ false
+-- no version and no part has the name
+pub record IsUnnamed (at : Name) (tables : Tables) : Type 0 where
+  pub versions : list_any (same_name at) (map version_name tables.versions) ≡ false
+  pub parts : list_any (same_name at) (map part_name tables.parts) ≡ false
 
 abbrev pub set_body : Name → Octets → (Name → Octets) → Name → Octets
 set_body at bytes old body = if same_name at body then bytes else old body
 
--- a body that no version has yet is added, with these bytes: all other bodies, and all other tables, stay
+-- a body that no version or part has yet is added, with these bytes: all other bodies, and all other tables, stay
 pub record AddsBody (digest : Octets → Octets) (at : Name) (given : Octets) (old new : Tables) : Type 0 where
   pub is : new ≡ record old { refs = new.refs; blocks = new.blocks }
   pub bytes : whole new.refs new.blocks ≡ set_body at given (whole old.refs old.blocks)
   pub stored : AreStored new.refs new.blocks
-  pub bodies : AreBodies (at ∷ bodies_of old.versions) new.refs new.blocks
+  pub bodies : AreBodies (at ∷ bodies_in old) new.refs new.blocks
   pub digests : AreDigests digest old.blocks → AreDigests digest new.blocks
 
 -- ---- a body is stored

@@ -27,6 +27,8 @@ new_host min_part max_body = record {
   versions = [];
   blocks = [];
   refs = [];
+  uploads = [];
+  parts = [];
 }
 
 -- a new host is sound; no tenant is there, and the limits are those that it was made with

@@ -1,11 +1,12 @@
 -- What a new version or delete marker writes, by the state of its bucket.
-use Rattle.std.specs.Prelude.{ℕ, List, []}
+use Rattle.std.specs.Prelude.{ℕ, List, [], length}
 use Rattle.sqlite_keyed.specs.Lists.{delete_where}
+use Rattle.bh_types.specs.Checksums.{checksum_text}
 use Rattle.bh_types.specs.Counts.{Counts}
 use Rattle.bh_types.specs.declared.bucket_state.BucketState.{BucketState}
 use Rattle.bh_types.specs.declared.bucket_state.BucketState.TheVariants.{Unversioned, Enabled, Suspended}
 use Rattle.bh_model.specs.State.{Octets, Content, Content.Marker, Content.Body, content_size}
-use Rattle.bh_tables.specs.Typed.{TenantRow, VersionRow}
+use Rattle.bh_tables.specs.Typed.{TenantRow, VersionRow, PartRow}
 use Rattle.bh_tables.specs.Shown.{is_version}
 
 -- the column `id` of a new one: 0, which is `null`, unless versions are numbered
@@ -57,3 +58,7 @@ abbrev pub rows_left : BucketState → Octets → Octets → Octets → List Ver
 rows_left Unversioned tenant bucket key versions = delete_where (is_version tenant bucket key 0) versions
 rows_left Enabled tenant bucket key versions = versions
 rows_left Suspended tenant bucket key versions = delete_where (is_version tenant bucket key 0) versions
+
+-- the row of a part under an entry number
+abbrev pub part_row : Octets → ℕ → ℕ → Octets → ℕ → ℕ → PartRow
+part_row tenant upload part bytes moment body = record { tenant = tenant; upload = upload; part = part; size = length bytes; checksum = checksum_text bytes; stamp = moment; body = body; bytes = bytes }

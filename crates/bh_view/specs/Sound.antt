@@ -1,18 +1,19 @@
 -- Sound tables: the facts that each row keeps to, by itself and among the others.
-use Rattle.std.specs.Prelude.{◌≡◌, ℕ, ◌<◌, ◌≤◌, List, [], ◌∷◌, length, Option, Some, None, IsTrue}
+use Rattle.std.specs.Prelude.{◌≡◌, ℕ, ◌<◌, ◌≤◌, false, List, [], ◌∷◌, length, Some, None, IsTrue}
 use Rattle.std.specs.Str.{IsUtf8}
-use Rattle.std.specs.List.{AllByRecursion}
+use Rattle.std.specs.List.{AllByRecursion, list_any}
 use Rattle.sqlite_typed.specs.Tests.{bytes_eq}
 use Rattle.bh_types.specs.Names.{is_tenant_name, is_key_name, is_secret, is_bucket_name, is_object_key}
+use Rattle.bh_types.specs.Checksums.{checksum_text}
 use Rattle.bh_types.specs.Counts.{AreCounters}
 use Rattle.bh_types.specs.Limits.{AreLimits, IsQuota}
 use Rattle.bh_types.specs.declared.bucket_state.BucketState.TheVariants.{Unversioned}
 use Rattle.bh_model.specs.State.{Octets}
 use Rattle.bh_model.specs.Runs.{last_reading}
-use Rattle.bh_tables.specs.Typed.{HostRow, TenantRow, KeyRow, BucketRow, VersionRow, Tables}
+use Rattle.bh_tables.specs.Typed.{HostRow, TenantRow, KeyRow, BucketRow, VersionRow, UploadRow, PartRow, Tables}
 use Rattle.bh_view.specs.Grouped.{first, same_number, HasUnique, Refers}
 use Rattle.bh_view.specs.Blocks.{AreStored}
-use Rattle.bh_view.specs.View.{TenantRows, rows_of, named, in_bucket, at_key, mode_of, latest_of}
+use Rattle.bh_view.specs.View.{TenantRows, rows_of, named, in_bucket, at_key, of_upload, mode_of, latest_of}
 
 -- ---- the row of the host
 
@@ -49,16 +50,12 @@ pub record AreKeys (tenants : List TenantRow) (keys : List KeyRow) : Type 0 wher
   pub one : HasUnique bytes_eq (λ (r : KeyRow). r.name) keys
   pub owned : first tenants ≡ None → keys ≡ []
 
--- a rule of 1 to 3,650 days, or none
-abbrev pub AreDays : Option ℕ → Type 0
-AreDays None = Unit {0}
-AreDays (Some days) = (1 ≤ days) × (days ≤ 3650)
-
+-- no rule makes its uploads stale
 pub record IsBucketRow (latest : ℕ) (r : BucketRow) : Type 0 where
   pub name : IsTrue (is_bucket_name r.bucket)
   pub created : r.created ≤ latest
   pub state : r.state ≤ 2
-  pub days : AreDays r.days
+  pub days : r.days ≡ None
 
 -- one row for a name, and none without the tenant
 pub record AreBuckets (latest : ℕ) (tenants : List TenantRow) (buckets : List BucketRow) : Type 0 where
@@ -96,12 +93,44 @@ pub record AreVersions (latest : ℕ) (tenants : List TenantRow) (buckets : List
       → AllByRecursion IsPlain (in_bucket bucket versions)
   pub given : AllByRecursion (λ (r : TenantRow). AllByRecursion (λ v. IsBelow v r) versions) tenants
 
+pub record IsUploadRow (latest : ℕ) (r : UploadRow) : Type 0 where
+  pub key : IsTrue (is_object_key r.okey)
+  pub text : IsUtf8 r.okey
+  pub begun : r.begun ≤ latest
+
+-- no two rows of one number, none without its bucket, and each number was given before the tenant's next one
+pub record AreUploads (latest : ℕ) (tenants : List TenantRow) (buckets : List BucketRow) (uploads : List UploadRow) : Type 0 where
+  pub each : AllByRecursion (IsUploadRow latest) uploads
+  pub one : HasUnique same_number (λ (u : UploadRow). u.upload) uploads
+  pub owned : Refers bytes_eq (λ (r : BucketRow). r.bucket) buckets (λ (u : UploadRow). u.bucket) uploads
+  pub given : AllByRecursion (λ (r : TenantRow). AllByRecursion (λ (u : UploadRow). u.upload < r.next_upload) uploads) tenants
+
+-- its size and checksum are those of its bytes
+pub record IsPartRow (latest : ℕ) (r : PartRow) : Type 0 where
+  pub least : 1 ≤ r.part
+  pub most : r.part ≤ 10000
+  pub stamp : r.stamp ≤ latest
+  pub size : r.size ≡ length r.bytes
+  pub checksum : r.checksum ≡ checksum_text r.bytes
+
+-- no two rows of one number of an upload, none without its upload; of their bodies none is another's or a version's, and each was
+-- given before the tenant's next entry number
+pub record AreParts (latest : ℕ) (tenants : List TenantRow) (versions : List VersionRow) (uploads : List UploadRow) (parts : List PartRow) : Type 0 where
+  pub each : AllByRecursion (IsPartRow latest) parts
+  pub one : (upload : ℕ) → HasUnique same_number (λ (p : PartRow). p.part) (of_upload upload parts)
+  pub one_body : HasUnique same_number (λ (p : PartRow). p.body) parts
+  pub apart : AllByRecursion (λ (p : PartRow). list_any (λ (v : VersionRow). same_number v.seq p.body) versions ≡ false) parts
+  pub owned : Refers same_number (λ (u : UploadRow). u.upload) uploads (λ (p : PartRow). p.upload) parts
+  pub given : AllByRecursion (λ (r : TenantRow). AllByRecursion (λ (p : PartRow). p.body < r.next_entry) parts) tenants
+
 -- the rows of one tenant, of which no moment is after the last stamp
 pub record AreSound (latest : ℕ) (rows : TenantRows) : Type 0 where
   pub tenants : AreTenants rows.tenants
   pub keys : AreKeys rows.tenants rows.keys
   pub buckets : AreBuckets latest rows.tenants rows.buckets
   pub versions : AreVersions latest rows.tenants rows.buckets rows.versions
+  pub uploads : AreUploads latest rows.tenants rows.buckets rows.uploads
+  pub parts : AreParts latest rows.tenants rows.versions rows.uploads rows.parts
 
 -- ---- all tables
 

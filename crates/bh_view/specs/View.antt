@@ -1,7 +1,8 @@
 -- One tenant's rows in the tables, and the state of the private machine that they show.
 use Rattle.std.specs.Prelude.{ℕ, zero, suc, List, map, Option, option_map}
 use Rattle.std.specs.Option.{option_map_or}
-use Rattle.std.specs.FinMap.{FinMap, empty}
+use Rattle.std.specs.FinMap.{FinMap}
+use Rattle.std.specs.Ordering.{nat_cmp}
 use Rattle.sqlite_keyed.specs.Lists.{sort_by}
 use Rattle.sqlite_typed.specs.Tests.{bytes_eq}
 use Rattle.bh_types.specs.Limits.{HostLimits}
@@ -9,11 +10,11 @@ use Rattle.bh_types.specs.declared.id.VersionId.{VersionId}
 use Rattle.bh_types.specs.declared.id.VersionId.TheVariants.{Null, Numbered}
 use Rattle.bh_types.specs.declared.bucket_state.BucketState.{BucketState}
 use Rattle.bh_types.specs.declared.bucket_state.BucketState.TheVariants.{Unversioned, Enabled, Suspended}
-use Rattle.bh_model.specs.State.{Octets, octets_cmp, Content, Content.Marker, Content.Body, Entry, Bucket, State}
-use Rattle.bh_tables.specs.Typed.{HostRow, TenantRow, KeyRow, BucketRow, VersionRow, Tables}
+use Rattle.bh_model.specs.State.{Octets, octets_cmp, Content, Content.Marker, Content.Body, Entry, Part, Upload, Bucket, State}
+use Rattle.bh_tables.specs.Typed.{HostRow, TenantRow, KeyRow, BucketRow, VersionRow, UploadRow, PartRow, Tables}
 use Rattle.bh_tables.specs.Shown.{newer}
 use Rattle.bh_model.specs.FinMaps.{non_empty}
-use Rattle.bh_view.specs.Grouped.{first, matching, grouped, keyed}
+use Rattle.bh_view.specs.Grouped.{first, matching, same_number, grouped, keyed}
 
 -- the greatest stamp so far, in seconds since 1970
 unfoldable pub latest_of : Tables → ℕ
@@ -27,7 +28,7 @@ limits_in tables = option_map_or (λ (r : HostRow). record { min_part = r.min_pa
 abbrev pub with_latest : ℕ → Tables → Tables
 with_latest n tables = record tables { host = map (λ (r : HostRow). record r { latest = n }) tables.host }
 
--- the tables without a tenant's uploads that are stale at a moment. No table has uploads
+-- the tables without a tenant's uploads that are stale at a moment. No bucket has a rule that makes them stale
 abbrev pub rows_purged : Octets → ℕ → Tables → Tables
 rows_purged t at tables = tables
 
@@ -37,6 +38,8 @@ pub record TenantRows : Type 0 where
   pub keys : List KeyRow
   pub buckets : List BucketRow
   pub versions : List VersionRow
+  pub uploads : List UploadRow
+  pub parts : List PartRow
 
 abbrev pub rows_of : Octets → Tables → TenantRows
 rows_of t tables = record {
@@ -44,6 +47,8 @@ rows_of t tables = record {
   keys = matching bytes_eq (λ (r : KeyRow). r.tenant) t tables.keys;
   buckets = matching bytes_eq (λ (r : BucketRow). r.tenant) t tables.buckets;
   versions = matching bytes_eq (λ (r : VersionRow). r.tenant) t tables.versions;
+  uploads = matching bytes_eq (λ (r : UploadRow). r.tenant) t tables.uploads;
+  parts = matching bytes_eq (λ (r : PartRow). r.tenant) t tables.parts;
 }
 
 abbrev pub named : Octets → List BucketRow → List BucketRow
@@ -54,6 +59,12 @@ in_bucket = matching bytes_eq (λ v. v.bucket)
 
 abbrev pub at_key : Octets → List VersionRow → List VersionRow
 at_key = matching bytes_eq (λ v. v.okey)
+
+abbrev pub uploads_in : Octets → List UploadRow → List UploadRow
+uploads_in = matching bytes_eq (λ u. u.bucket)
+
+abbrev pub of_upload : ℕ → List PartRow → List PartRow
+of_upload = matching same_number (λ p. p.upload)
 
 -- ---- what a row shows
 
@@ -76,6 +87,9 @@ entry_of r = record { id = id_of r.id; moment = r.stamp; content = content_of r.
 abbrev pub entries_of : List VersionRow → List Entry
 entries_of rows = map entry_of (sort_by newer rows)
 
+abbrev pub part_shown : PartRow → Part
+part_shown p = record { bytes = p.bytes; moment = p.stamp }
+
 -- ---- the maps of a state
 
 abbrev pub keys_of : List KeyRow → FinMap octets_cmp Octets
@@ -84,14 +98,23 @@ keys_of = keyed octets_cmp bytes_eq (λ (r : KeyRow). r.name) (λ _ r. r.secret)
 abbrev pub objects_of : List VersionRow → FinMap octets_cmp (List Entry)
 objects_of = grouped octets_cmp bytes_eq (λ (r : VersionRow). r.okey) (λ _ rows. non_empty (entries_of rows))
 
--- no table has uploads
+abbrev pub parts_of : List PartRow → FinMap nat_cmp Part
+parts_of = keyed nat_cmp same_number (λ (p : PartRow). p.part) (λ _ p. part_shown p)
+
+abbrev pub upload_shown : List PartRow → ℕ → UploadRow → Upload
+upload_shown parts number u = record { key = u.okey; begun = u.begun; parts = parts_of (of_upload number parts) }
+
+-- uploads with these parts
+abbrev pub uploads_of : List PartRow → List UploadRow → FinMap nat_cmp Upload
+uploads_of parts = keyed nat_cmp same_number (λ (u : UploadRow). u.upload) (upload_shown parts)
+
 abbrev pub bucket_shown : TenantRows → Octets → BucketRow → Bucket
 bucket_shown rows name r = record {
   created = r.created;
   mode = mode_of r.state;
   days = r.days;
   objects = objects_of (in_bucket name rows.versions);
-  uploads = empty;
+  uploads = uploads_of rows.parts (uploads_in name rows.uploads);
 }
 
 abbrev pub buckets_of : TenantRows → FinMap octets_cmp Bucket

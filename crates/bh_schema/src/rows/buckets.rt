@@ -1,13 +1,13 @@
 ghost use Rattle.std.specs.Prelude.{◌≡◌, ◌++◌, ◌∷◌, [], ◌<◌, ◌^◌, List, true, false, None, map, filter, find, option_map, IfOk, IfErr, OnOk};
-ghost use Rattle.std.specs.List.{AllByRecursion, list_any};
+ghost use Rattle.std.specs.List.{AllByRecursion};
 ghost use Rattle.std.specs.Str.{IsUtf8};
 ghost use Rattle.sqlite_keyed.specs.Lists.{update_where, delete_where};
 ghost use Rattle.bh_types.specs.BucketStates.{state_number};
 ghost use Rattle.bh_tables.specs.Typed.{BucketRow as Stored};
-ghost use Rattle.bh_tables.specs.Shown.{is_bucket, is_in_bucket, shown_bucket, shown_entry};
+ghost use Rattle.bh_tables.specs.Shown.{is_bucket, shown_bucket, shown_entry};
 ghost use Rattle.bh_rows.specs.Means.{is_trouble};
 ghost use Rattle.bh_schema.specs.Connections.{IsClean, tables, InTransaction, StaysWithin, WasOpen, StaysOpen, ChangesNothing, Becomes, IsTrouble, IsTroubleIf};
-ghost use Rattle.bh_schema.specs.Rows.{bucket_numbers, listed_buckets, entry_in, IsNewBucket};
+ghost use Rattle.bh_schema.specs.Rows.{bucket_numbers, listed_buckets, entry_in, IsNewBucket, IsEmptyBucket};
 ghost use Rattle.bh_schema.specs.Views.{entry_seen};
 
 use crate::rows::number::number;
@@ -138,8 +138,8 @@ pub fn set_state<S: Alter>(
     )
 }
 
-/// Takes a tenant's bucket of this name away, if it is there. The store refuses to where a version is
-/// in it.
+/// Takes a tenant's bucket of this name away, if it is there. The store refuses to where a version or an
+/// upload is in it.
 pub fn delete_bucket<S: Alter>(
     connection: &mut Connection<S>,
     tenant: &str,
@@ -151,7 +151,7 @@ pub fn delete_bucket<S: Alter>(
     ensures holds { OnOk result (Becomes S.Store connection.old connection.new
         (λ rows. record rows { buckets = delete_where (is_bucket tenant.now bucket.now) rows.buckets })) }
     ensures trouble { IfErr result (IsTroubleIf S.Store connection.old connection.new
-        (list_any (is_in_bucket tenant.now bucket.now) (tables S.Store connection.old).versions ≡ false)) }
+        (IsEmptyBucket (tables S.Store connection.old) tenant.now bucket.now)) }
 {
     // Asked for what it ensures: the rows obey the schema.
     let _schema = connection.schema();

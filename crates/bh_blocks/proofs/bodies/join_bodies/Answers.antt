@@ -3,7 +3,7 @@ use Rattle.std.proofs.lemmas.Result.{on_ok_weaker}
 use Rattle.sqlite.specs.Held.{state}
 use Rattle.bh_tables.specs.Typed.{tables_in}
 use Rattle.bh_tables.specs.Bodies.{Name, placed}
-use Rattle.bh_view.specs.Bodies.{body_again, bodies_joined, AddsBody}
+use Rattle.bh_view.specs.Bodies.{body_again, AddsBody}
 use Rattle.bh_view.proofs.BodyChanges.{bodies_join}
 use Rattle.bh_schema.specs.Layer.{Standing}
 use Rattle.bh_schema.specs.Working.{tables_at}

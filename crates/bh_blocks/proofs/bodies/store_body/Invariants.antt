@@ -1,4 +1,4 @@
-use Rattle.std.proofs.Common.{◌≡◌, ℕ, ◌+◌, ◌≤◌, length}
+use Rattle.std.proofs.Common.{◌≡◌, ◌+◌, ◌≤◌, length}
 use Rattle.sqlite.specs.Held.{state}
 use Rattle.bh_view.specs.Bodies.{pieces, body_stored}
 use Rattle.bh_schema.specs.Layer.{standing, IsIntact, IsOpen, IsStateClean, IsInside, StateWithin}

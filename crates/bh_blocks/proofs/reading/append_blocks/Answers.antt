@@ -1,12 +1,11 @@
-use Rattle.std.proofs.Common.{arith, ◌≡◌, ◌+◌, ◌++◌, take, drop, length, sym, ap, ap₂, ◌∙◌, subst, append-nil}
+use Rattle.std.proofs.Common.{arith, ◌+◌, ◌++◌, drop, sym, ap, ap₂, ◌∙◌, subst, append-nil}
 use Rattle.sqlite.specs.Held.{state}
 use Rattle.bh_tables.specs.Typed.{tables_in}
-use Rattle.bh_tables.specs.Bodies.{block_at}
 use Rattle.bh_tables.specs.Shown.{shown_ref}
-use Rattle.bh_schema.specs.Layer.{Standing, standing, IsInside}
+use Rattle.bh_schema.specs.Layer.{Standing, IsInside}
 use Rattle.bh_schema.specs.Working.{tables_at}
 use Rattle.bh_schema.proofs.Storing.{within_then}
-use Rattle.bh_blocks.specs.Windows.{piece_of, IsMeasured}
+use Rattle.bh_blocks.specs.Windows.{IsMeasured}
 use Rattle.bh_blocks.proofs.Loops.{at_row, drop_end}
 use Rattle.bh_blocks.proofs.Removing.{all_at_drop}
 use Rattle.bh_blocks.proofs.WindowSteps.{shown_of, shown_none, shown_next, block_read}

@@ -3,7 +3,7 @@ use Rattle.std.specs.List.{AllByRecursion}
 use Rattle.sqlite.specs.Held.{state}
 use Rattle.bh_tables.specs.Typed.{Tables, tables_in}
 use Rattle.bh_tables.specs.Bodies.{Name, placed}
-use Rattle.bh_view.specs.Bodies.{bodies_of}
+use Rattle.bh_view.specs.Bodies.{bodies_in}
 use Rattle.bh_view.proofs.BodyLemmas.{placed_measured}
 use Rattle.bh_schema.specs.Layer.{Standing}
 use Rattle.bh_schema.specs.Working.{tables_at}
@@ -19,7 +19,7 @@ returns-clause-read g c clean bodies =
     let same : tables_at (state g.S.Store c.ref_rows.new.connection) ≡ old = ap (λ (x : Standing). tables_in x.now) (c.in_ok-rows.ensures.same was.intact) in
     let at : Name = (c.args.tenant.now, c.args.body) in
     let rs = placed old.refs at in
-    let sizes = placed_measured (bodies_of old.versions) old.refs old.blocks at bodies in
+    let sizes = placed_measured (bodies_in old) old.refs old.blocks at bodies in
     let read = step.bytes clean rs (c.deref-2.ensures.value ∙ c.in_ok-rows.ensures.rows was) (subst (λ (t : Tables). AllByRecursion (IsMeasured t.blocks) rs) (sym same) sizes) in
     read_is old.refs old.blocks at c.args.plan c.window_of-window.result.skip c.window_of-window.result.left c.in_ok-total_size.field-0 c.in_ok-bytes.bytes.items c.append_blocks.new.bytes.items sizes
     c.window_of-window.ensures (c.in_ok-total_size.ensures rs (c.deref.ensures.value ∙ c.in_ok-rows.ensures.rows was)) c.in_ok-bytes.ensures.items (read ∙ ap (λ (t : Tables). c.in_ok-bytes.bytes.items ++ shown_of t.blocks c.window_of-window.result.skip c.window_of-window.result.left rs) same)

@@ -1,4 +1,4 @@
-use Rattle.std.proofs.Common.{arith, ◌≡◌, ◌+◌, ℕ, sym, ap, ◌∙◌, drop}
+use Rattle.std.proofs.Common.{arith, ◌∙◌}
 use Rattle.bh_tables.specs.Shown.{shown_ref}
 use Rattle.bh_blocks.proofs.Loops.{at_row, drop_end}
 use Rattle.bh_blocks.proofs.WindowSteps.{size_sum, total_next, total_starts, total_ends}

@@ -2,7 +2,7 @@ use Rattle.std.proofs.Common.{◌≡◌, true, sym, ap, ◌∙◌, subst}
 use Rattle.std.specs.List.{AllByRecursion}
 use Rattle.sqlite.specs.Held.{state}
 use Rattle.bh_rows.specs.Means.{is_trouble}
-use Rattle.bh_tables.specs.Typed.{BlockRow, RefRow, Tables, tables_in}
+use Rattle.bh_tables.specs.Typed.{BlockRow, tables_in}
 use Rattle.bh_tables.specs.Shown.{is_unreferenced, unreferenced}
 use Rattle.bh_view.specs.Becomes.{KeepsBodies}
 use Rattle.bh_view.proofs.BlockChanges.{blocks_removed}

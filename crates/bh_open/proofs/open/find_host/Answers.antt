@@ -1,4 +1,4 @@
-use Rattle.std.proofs.Common.{Result, Ok, Err, IfOk, sym, ◌∙◌, ◌≡◌, true, false}
+use Rattle.std.proofs.Common.{Result, Ok, Err, IfOk, sym, ◌∙◌}
 use Rattle.sqlite.specs.Held.{state}
 use Rattle.bh_open.proofs.Steps.{was_inside, settled_when, schema_seen, seen_schema}
 use Rattle.bh_open.proofs.open.find_host.Goals as goal

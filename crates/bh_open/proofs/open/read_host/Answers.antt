@@ -1,4 +1,4 @@
-use Rattle.std.proofs.Common.{map, sym, subst, ◌≡◌, ◌∙◌}
+use Rattle.std.proofs.Common.{map, subst, ◌≡◌, ◌∙◌}
 use Rattle.std.proofs.lemmas.Result.{IfOk-weaker}
 use Rattle.bh_tables.specs.Typed.{IsHost, tables_in}
 use Rattle.bh_schema.specs.Layer.{Standing}

@@ -4,7 +4,7 @@ use Rattle.bh_machine.specs.Machine.{operated}
 use Rattle.bh_storage.specs.Answers.{answer_view}
 use Rattle.bh_schema.specs.Layer.{IsIntact, IsOpen}
 use Rattle.bh_schema.proofs.Storing.{both, parts, keeps}
-use Rattle.bh_dispatch.proofs.Storing.{seen_working, digests_seen, early_seen, still_working, carried, stored, opened}
+use Rattle.bh_dispatch.proofs.Storing.{seen_working, digests_seen, early_seen, limits_seen, still_working, carried, stored, opened}
 use Rattle.bh_dispatch.proofs.storage.HostStorageStorage.operate.Goals as goal
 
 pub operate-requires-clause-working : goal.operate-requires-clause-working
@@ -27,6 +27,6 @@ returns g c =
       within = stored g.S.Store c.args.self.now _ (keeps g.S.Store c.args.self.now.host _ refl h.within);
       opens = opened (IsIntact new) (IsOpen old) (IsOpen new) c.operate.result h.opens;
       working = still_working g.D.Digester.digest_of l old new c.operate.result (λ clean. c.requires.working (parts (h.within.follows.clean (both clean)))) h.working;
-      carries = λ clean. carried g.D.Digester.digest_of l old new answer_view c.args.tenant.now (operated c.args.at c.args.body.now c.args.operation.now) c.operate.result
-          (c.requires.working (parts (h.within.follows.clean (both clean)))) clean h.working (h.carries (both clean));
+      carries = λ clean. rw (limits_seen l old) (carried g.D.Digester.digest_of l old new answer_view c.args.tenant.now (operated l c.args.at c.args.body.now c.args.operation.now) c.operate.result
+          (c.requires.working (parts (h.within.follows.clean (both clean)))) clean h.working (h.carries (both clean)));
     }

@@ -1,0 +1,42 @@
+-- Calls over parts, in the words of the tables, in which each part has the bytes of its body.
+use Rattle.std.proofs.Common.{◌≡◌, ℕ, List, [], ◌∷◌, ◌++◌, map, filter, Bool, true, Result, IfOk, IfErr, Ordering}
+use Rattle.sqlite.specs.Order.{Row}
+use Rattle.sqlite.specs.State.{State, HasCleanDisk, IsLive, Survives, Executes, CommitsBy, CommitsShowing, Shown, FailsToQuery}
+use Rattle.sqlite.specs.declared.error.Error.{Error}
+use Rattle.sqlite_keyed.specs.Lists.{delete_where, sort_by}
+use Rattle.bh_rows.specs.Means.{is_trouble}
+use Rattle.bh_rows.specs.Scan.{no_limit}
+use Rattle.bh_rows.specs.Texts.{MayAdd, InsertText, DeleteText, SelectText, SortedText}
+use Rattle.bh_tables.specs.Schema.{host_schema, parts_table, at}
+use Rattle.bh_tables.specs.Typed.{PartColumns, part_form}
+use Rattle.bh_tables.specs.Bodies.{resolved_part, part_columns_of}
+use Rattle.bh_tables.proofs.Places.{parts}
+use Rattle.bh_tables.proofs.ResolvedLemmas.{seen_parts, seen_parts_sorted, part_added, parts_deleted}
+use Rattle.bh_tables.proofs.PartTexts.{parts_unused}
+use Rattle.bh_schema.specs.Layer.{standing, IsInside, IsStateClean}
+use Rattle.bh_schema.proofs.Calls.{Question, Write, asked, written}
+use Rattle.bh_schema.proofs.Calls as call
+
+module _ (old new : State) (inside : IsStateClean old → IsInside (standing old)) where
+  pub selected : {X : Type 0} (rows_in : X → List Row) (result : Result X Error) {sql : List ℕ} {params : Row} {m : PartColumns → Bool} {view : PartColumns → Row} → SelectText part_form host_schema 18 sql params m view no_limit
+      → (HasCleanDisk new → IfOk result (λ x. Shown sql params old new (rows_in x))) → (HasCleanDisk new → IfErr result (FailsToQuery sql params old new)) → Survives old new (CommitsShowing sql params old)
+      → Question old new rows_in (λ t. map (λ p. view (part_columns_of p)) (filter (λ p. m (part_columns_of p)) t.parts)) result
+  selected rows_in result {sql} {params} {m} {view} it ok err survives = asked _ _ (λ t. seen_parts m t.parts view) (call.selected parts old new inside rows_in result it ok err survives)
+
+  pub sorted : {X : Type 0} (rows_in : X → List Row) (result : Result X Error) {sql : List ℕ} {params : Row} {m : PartColumns → Bool} {view : PartColumns → Row} {order : PartColumns → PartColumns → Ordering}
+      → SortedText part_form host_schema 18 sql params m view order no_limit
+      → (HasCleanDisk new → IfOk result (λ x. Shown sql params old new (rows_in x))) → (HasCleanDisk new → IfErr result (FailsToQuery sql params old new)) → Survives old new (CommitsShowing sql params old)
+      → Question old new rows_in (λ t. map (λ p. view (part_columns_of p)) (sort_by (λ a b. order (part_columns_of a) (part_columns_of b)) (filter (λ p. m (part_columns_of p)) t.parts))) result
+  sorted rows_in result {sql} {params} {m} {view} {order} it ok err survives = asked _ _ (λ t. seen_parts_sorted m t.parts view order) (call.sorted parts old new inside rows_in result it ok err survives)
+
+  module _ (result : Result ℕ Error) (live : IsLive old) where
+    pub inserted : {sql : List ℕ} {params : Row} {c : PartColumns} {A : Type 0} → InsertText part_form host_schema 8 (at 18 parts_table) sql params c
+        → (IsStateClean old → A → MayAdd part_form host_schema (at 18 parts_table) (standing old).now.trees c)
+        → (HasCleanDisk new → Executes sql params old new result) → Survives old new (CommitsBy sql params old)
+        → Write old new (λ t. record t { parts = t.parts ++ resolved_part t.refs t.blocks c ∷ [] }) (λ e. A → is_trouble e ≡ true) result
+    inserted {sql} {params} {c} it may runs survives = written _ _ (λ db. part_added db c) (call.inserted parts old new inside result live it may runs survives)
+
+    pub deleted : {sql : List ℕ} {params : Row} {m : PartColumns → Bool} → DeleteText part_form host_schema 8 (at 18 parts_table) sql params m
+        → (HasCleanDisk new → Executes sql params old new result) → Survives old new (CommitsBy sql params old)
+        → Write old new (λ t. record t { parts = delete_where (λ p. m (part_columns_of p)) t.parts }) (λ e. is_trouble e ≡ true) result
+    deleted {sql} {params} {m} it runs survives = written _ _ (λ db. parts_deleted db m) (call.deleted parts old new inside result live it parts_unused runs survives)

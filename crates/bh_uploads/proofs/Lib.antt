@@ -1,0 +1,10 @@
+pub mod Taking
+pub mod DigestBytes
+pub mod Steps
+pub mod Uploads
+pub mod Beginning
+pub mod Closing
+pub mod PartSteps
+pub mod Chosen
+pub mod Planning
+pub mod Completing

@@ -1,0 +1,11 @@
+use Rattle.std.proofs.Common.{refl, arith}
+use Rattle.sqlite.specs.Held.{state}
+use Rattle.bh_schema.specs.Working.{tables_at}
+use Rattle.bh_uploads.proofs.Uploads.{number_high}
+use Rattle.bh_uploads.proofs.reads.require_upload.Goals as goal
+
+pub returns-then-number-ge-COUNTER_END-clause-decides : goal.returns-then-number-ge-COUNTER_END-clause-decides
+returns-then-number-ge-COUNTER_END-clause-decides g c clean =
+    let u = c.args.upload.now in
+    let high = c.if-number-ge-COUNTER_END.true in
+    (number_high (tables_at (state g.S.Store c.args.connection.now)) u.tenant.now u.bucket.now u.key.now c.args.number (λ low. omega (arith, low, high)) (c.requires clean).sound, refl)

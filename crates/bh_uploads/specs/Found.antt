@@ -1,0 +1,61 @@
+-- What is read of a tenant's uploads, and the numbers that they take.
+use Rattle.std.specs.Prelude.{ℕ, Bool, false, ◌&&◌, bytes_eq, List, flat_map, find, Option, Result, Ok, Err, if◌then◌else◌}
+use Rattle.std.specs.String.{string_bytes}
+use Rattle.std.specs.Option.{option_map_or}
+use Rattle.std.specs.Result.{result_map_both}
+use Rattle.bh_types.specs.Outcomes.{◌>>=◌, require}
+use Rattle.bh_types.specs.declared.bucket_state.BucketState.{BucketState}
+use Rattle.bh_types.specs.declared.id.UploadId.{UploadId}
+use Rattle.bh_types.specs.declared.refusal.Refusal.{Refusal}
+use Rattle.bh_types.specs.declared.refusal.Refusal.TheVariants.{NoSuchUpload, CounterExhausted}
+use Rattle.bh_model.specs.Counting.{can_give}
+use Rattle.bh_model.specs.Parts.{Naming, completed}
+use Rattle.bh_model.specs.State.{Octets, Content, Content.Body, State}
+use Rattle.bh_model.specs.Uploads.{find_upload}
+use Rattle.bh_tables.specs.Typed.{Tables}
+use Rattle.bh_tables.specs.Bodies.{whole}
+use Rattle.bh_tables.specs.Shown.{is_upload}
+use Rattle.bh_objects.specs.Found.{counts_in}
+use Rattle.bh_uploads.specs.Rows.{SeenUpload, seen_upload}
+use Rattle.bh_uploads.specs.declared.joining.Joined.{Joined}
+
+-- the number that a counter gives
+abbrev pub given : ℕ → Result ℕ Refusal
+given next = if can_give next then Ok next else Err CounterExhausted
+
+-- the number that the tenant's next upload takes, and that of its next part
+abbrev pub next_upload_in : Option State → Result ℕ Refusal
+next_upload_in s = do
+  c ← counts_in s
+  given c.upload
+
+abbrev pub next_entry_in : Option State → Result ℕ Refusal
+next_entry_in s = do
+  c ← counts_in s
+  given c.entry
+
+-- whether an upload was begun for this bucket and this key
+abbrev pub is_begun_for : Octets → Octets → SeenUpload → Bool
+is_begun_for bucket key u = bytes_eq u.bucket bucket && bytes_eq u.key key
+
+-- whether the tenant's upload of a number is there, and was
+abbrev pub upload_there : Octets → Octets → Octets → ℕ → Tables → Result (Unit {0}) Refusal
+upload_there tenant bucket key number tables = require (option_map_or (λ u. is_begun_for bucket key (seen_upload u)) (find (is_upload tenant number) tables.uploads) false) NoSuchUpload
+
+-- the upload of a key of a bucket: the bucket's state, and the upload's number
+abbrev pub upload_in : Octets → Octets → Option UploadId → Option State → Result (BucketState × ℕ) Refusal
+upload_in name key upload s = result_map_both (λ f. (f.bucket.mode, f.number)) (λ refusal. refusal) (find_upload name key upload s)
+
+-- with the object that parts of it make
+abbrev pub completion_in : ℕ → Octets → Octets → Option UploadId → List Naming → Option State → Result (BucketState × ℕ × Content) Refusal
+completion_in least name key upload names s = do
+  f ← find_upload name key upload s
+  content ← completed least f.upload.parts names
+  Ok (f.bucket.mode, f.number, content)
+
+-- the object that bodies make, one after another
+abbrev pub joined_bytes : Octets → Tables → List ℕ → Octets
+joined_bytes tenant tables bodies = flat_map (λ body. whole tables.refs tables.blocks (tenant, body)) bodies
+
+abbrev pub joined_content : Octets → Tables → Joined → Content
+joined_content tenant tables j = Body (joined_bytes tenant tables j.bodies.items) (string_bytes j.checksum)

@@ -1,0 +1,58 @@
+-- What the columns of uploads and parts that are read stand for, and which new rows no key forbids.
+use Rattle.std.specs.Prelude.{◌≡◌, ℕ, true, false, List, filter}
+use Rattle.std.specs.List.{list_any}
+use Rattle.std.specs.String.{string_bytes}
+use Rattle.sqlite_keyed.specs.Lists.{sort_by}
+use Rattle.bh_core.specs.declared.parts.PartRow as core
+use Rattle.bh_tables.specs.Schema.{Octets}
+use Rattle.bh_tables.specs.Typed.{UploadRow, PartColumns, PartRow, Tables}
+use Rattle.bh_tables.specs.Shown.{is_bucket, is_upload, is_part, is_part_of, has_body, by_part}
+use Rattle.bh_uploads.specs.declared.rows.uploads.UploadHead.{UploadHead}
+use Rattle.bh_uploads.specs.declared.rows.uploads.UploadRecord.{UploadRecord}
+use Rattle.bh_uploads.specs.declared.rows.parts.PartRecord.{PartRecord}
+
+-- ---- uploads
+
+pub record SeenUpload : Type 0 where
+  pub bucket : Octets
+  pub key : Octets
+  pub begun : ℕ
+
+abbrev pub seen_upload : UploadRow → SeenUpload
+seen_upload u = record { bucket = u.bucket; key = u.okey; begun = u.begun }
+
+abbrev pub upload_seen : UploadHead → SeenUpload
+upload_seen u = record { bucket = string_bytes u.bucket; key = u.key.items; begun = u.begun }
+
+abbrev pub stored_upload : UploadRecord → UploadRow
+stored_upload u = record { tenant = u.tenant.now; upload = u.upload; bucket = u.bucket.now; okey = u.okey.now; begun = u.begun }
+
+pub record IsNewUpload (tables : Tables) (tenant bucket : Octets) (upload : ℕ) : Type 0 where
+  pub free : list_any (is_upload tenant upload) tables.uploads ≡ false
+  pub owned : list_any (is_bucket tenant bucket) tables.buckets ≡ true
+
+-- ---- parts
+
+-- what the completion of an upload has to know of a part
+pub record SeenRow : Type 0 where
+  pub number : ℕ
+  pub size : ℕ
+  pub checksum : Octets
+
+abbrev pub seen_row : PartRow → SeenRow
+seen_row p = record { number = p.part; size = p.size; checksum = p.checksum }
+
+abbrev pub row_seen : core.PartRow → SeenRow
+row_seen p = record { number = p.number; size = p.size; checksum = string_bytes p.sum }
+
+abbrev pub stored_part : PartRecord → PartColumns
+stored_part p = record { tenant = p.tenant.now; upload = p.upload; part = p.number; size = p.size; checksum = p.checksum.now; stamp = p.stamp; body = p.body }
+
+-- the parts of an upload, in the order of their numbers
+abbrev pub listed_parts : Octets → ℕ → Tables → List PartRow
+listed_parts tenant upload tables = sort_by by_part (filter (is_part_of tenant upload) tables.parts)
+
+pub record IsNewPart (tables : Tables) (tenant : Octets) (upload part body : ℕ) : Type 0 where
+  pub free : list_any (is_part tenant upload part) tables.parts ≡ false
+  pub unshared : list_any (has_body (tenant, body)) tables.parts ≡ false
+  pub owned : list_any (is_upload tenant upload) tables.uploads ≡ true

@@ -1,0 +1,97 @@
+ghost use Rattle.std.specs.Prelude.{◌≡◌, ◌≤◌, ◌<◌, ◌^◌, None, IfOk, OnOk};
+ghost use Rattle.bh_model.specs.Operations.{Begun};
+ghost use Rattle.bh_model.specs.Uploads as machine;
+ghost use Rattle.bh_storage.specs.Answers.{begun_answer};
+ghost use Rattle.bh_storage.specs.Calls.{Unless, Carries};
+ghost use Rattle.bh_view.specs.View.{latest_of};
+ghost use Rattle.bh_schema.specs.Connections.{IsClean, tables, InTransaction, StaysWithin, StaysOpen, Becomes};
+ghost use Rattle.bh_schema.specs.Working.{Works, StillWorks};
+ghost use Rattle.bh_objects.specs.Found.{IsKeyText};
+ghost use Rattle.bh_uploads.specs.Writes.{upload_written};
+
+use crate::reads::next_upload;
+use crate::rows::uploads::{UploadRecord, insert_upload, set_next_upload};
+use bh_objects::reads::bucket_state;
+use bh_schema::trouble::or_trouble;
+use bh_storage::answer::BegunUpload;
+use bh_storage::error::{StepError, Trouble};
+use bh_types::bucket::BucketName;
+use bh_types::id::UploadId;
+use bh_types::key::ObjectKey;
+use bh_types::moment::Moment;
+use bh_types::names::TenantName;
+use bh_types::refusal::Refusal;
+use sqlite::{Alter, Connection};
+use std::alloc::{AllocError, Global};
+
+/// A multipart upload that is to begin.
+#[derive(Clone, Copy, Debug)]
+pub struct NewUpload<'a> {
+    pub tenant: &'a TenantName,
+    pub bucket: &'a BucketName,
+    pub key: &'a ObjectKey,
+    /// When it begins.
+    pub at: Moment,
+}
+
+/// Writes the upload of this number, which the tenant's counter has given.
+fn write_upload<S: Alter>(
+    connection: &mut Connection<S>,
+    upload: &NewUpload<'_>,
+    number: u64,
+) -> Result<(), Trouble>
+    requires inside { InTransaction S.Store connection.old }
+    requires small { number < 2 ^ 62 }
+    ensures within { StaysWithin S.Store connection.old connection.new }
+    ensures opens { OnOk result (StaysOpen S.Store connection.old connection.new) }
+    ensures holds { OnOk result (Becomes S.Store connection.old connection.new
+        (upload_written upload.now.tenant.now upload.now.bucket.now upload.now.key.now upload.now.at number)) }
+    ensures key { OnOk result (IsKeyText upload.now.key.now) }
+{
+    let tenant = upload.tenant.as_str();
+    or_trouble(set_next_upload(connection, tenant, number + 1))?;
+    let row = UploadRecord {
+        tenant,
+        upload: number,
+        bucket: upload.bucket.as_str(),
+        okey: upload.key.as_str().as_bytes(),
+        begun: upload.at.seconds(),
+    };
+    or_trouble(insert_upload(connection, &row))?;
+    Ok(())
+}
+
+/// What is told of an upload that has begun. No bucket has a rule that makes it stale.
+fn begun(alloc: Global, upload: &NewUpload<'_>, number: u64) -> Result<BegunUpload, AllocError>
+    ensures { IfOk result (λ told. begun_answer told
+        ≡ Begun upload.now.bucket.now upload.now.key.now (record { number = number }) None) }
+{
+    Ok(BegunUpload {
+        bucket: String::from_str(alloc, upload.bucket.as_str())?,
+        key: String::from_str(alloc, upload.key.as_str())?,
+        upload: UploadId { number },
+        abort: None,
+    })
+}
+
+/// S3's CreateMultipartUpload, at a moment that is not after the last stamp: NoSuchBucket, CounterExhausted.
+pub fn begin_upload<S: Alter>(
+    connection: &mut Connection<S>,
+    alloc: Global,
+    upload: &NewUpload<'_>,
+) -> Result<BegunUpload, StepError<Refusal>>
+    requires working { Works S.Store connection.old }
+    requires early { IsClean S.Store connection.old → upload.now.at ≤ latest_of (tables S.Store connection.old) }
+    ensures within { StaysWithin S.Store connection.old connection.new }
+    ensures opens { Unless result (StaysOpen S.Store connection.old connection.new) }
+    ensures working { Unless result (StillWorks S.Store connection.old connection.new) }
+    ensures carries { IsClean S.Store connection.new
+        → Carries begun_answer upload.now.tenant.now
+        (machine.create_upload upload.now.at upload.now.bucket.now upload.now.key.now)
+        (tables S.Store connection.old) (tables S.Store connection.new) result }
+{
+    bucket_state(connection, upload.tenant, upload.bucket)?;
+    let number = next_upload(connection, upload.tenant)?;
+    write_upload(connection, upload, number)?;
+    Ok(begun(alloc, upload, number)?)
+}

@@ -1,0 +1,205 @@
+ghost use Rattle.std.specs.Prelude.{◌≡◌, ◌≤◌, ◌<◌, ◌^◌, length, map, IfOk, OnOk};
+ghost use Rattle.std.specs.String.{string_bytes};
+ghost use Rattle.bh_model.specs.Entries as spec;
+ghost use Rattle.bh_model.specs.Operations.{Completed, id_told};
+ghost use Rattle.bh_model.specs.Shown.{naming_of};
+ghost use Rattle.bh_model.specs.Uploads as machine;
+ghost use Rattle.bh_storage.specs.Answers.{completed_answer};
+ghost use Rattle.bh_storage.specs.Calls.{Unless, Decides, Carries};
+ghost use Rattle.bh_view.specs.View.{view, latest_of};
+ghost use Rattle.bh_schema.specs.Connections.{IsClean, tables, InTransaction, StaysWithin, StaysOpen, Becomes};
+ghost use Rattle.bh_schema.specs.Working.{Works, StillWorks};
+ghost use Rattle.bh_objects.specs.Found.{IsKeyText};
+ghost use Rattle.bh_uploads.specs.Found.{completion_in, joined_bytes, joined_content};
+ghost use Rattle.bh_uploads.specs.Rows.{listed_parts};
+ghost use Rattle.bh_uploads.specs.Writes.{with_joined, version_written};
+
+use crate::joining::{Joined, join_named};
+use crate::reads::{NamedUpload, found_upload, upload_parts};
+use crate::writes::close_upload;
+use bh_blocks::bodies::join_bodies;
+use bh_model::entries::new_id;
+use bh_objects::ids::{row_number, told_id};
+use bh_objects::reads::{Numbers, new_numbers};
+use bh_objects::writes::{make_room, set_counters};
+use bh_schema::rows::versions::{NewVersion, insert_version};
+use bh_schema::trouble::or_trouble;
+use bh_storage::answer::CompletedUpload;
+use bh_storage::error::{StepError, Trouble};
+use bh_types::bucket_state::BucketState;
+use bh_types::counters::Counters;
+use bh_types::moment::Moment;
+use bh_types::refusal::Refusal;
+use bh_types::wanted::Named;
+use sqlite::{Alter, Connection};
+use std::alloc::{AllocError, Global};
+
+/// What an upload is completed with.
+#[derive(Drop)]
+pub struct Completion {
+    /// The state of its bucket.
+    pub mode: BucketState,
+    /// The upload's.
+    pub number: u64,
+    /// The entry numbers under which the bytes of all its parts are stored.
+    pub bodies: Vec<u64>,
+    pub joined: Joined,
+}
+
+/// What the upload that a request names is completed with: NoSuchBucket, NoSuchUpload, InvalidPartOrder, InvalidPart,
+/// EntityTooSmall. No byte of a part is read.
+fn completion_plan<S: Alter>(
+    connection: &mut Connection<S>,
+    alloc: Global,
+    upload: &NamedUpload<'_>,
+    named: &[Named],
+    least: u64,
+) -> Result<Completion, StepError<Refusal>>
+    requires { Works S.Store connection.old }
+    ensures within { StaysWithin S.Store connection.old connection.new }
+    ensures opens { Unless result (StaysOpen S.Store connection.old connection.new) }
+    ensures working { Unless result (StillWorks S.Store connection.old connection.new) }
+    ensures decides { IsClean S.Store connection.new
+        → Decides (λ c. (c.mode, c.number, joined_content upload.now.tenant.now (tables S.Store connection.old) c.joined))
+        (completion_in least upload.now.bucket.now upload.now.key.now upload.now.upload (map naming_of named.now)
+        (view (tables S.Store connection.old) upload.now.tenant.now))
+        (tables S.Store connection.old) (tables S.Store connection.new) result }
+    ensures bodies { IfOk result (λ c. IsClean S.Store connection.new
+        → c.bodies.items ≡ map (λ p. p.body) (listed_parts upload.now.tenant.now c.number (tables S.Store connection.old))) }
+    ensures size { IfOk result (λ c. IsClean S.Store connection.new
+        → c.joined.size ≡ length (joined_bytes upload.now.tenant.now (tables S.Store connection.old) c.joined.bodies.items)) }
+    ensures small { IfOk result (λ c. c.number < 2 ^ 62) }
+{
+    let found = found_upload(connection, upload)?;
+    let list = upload_parts(connection, alloc, upload.tenant, found.number)?;
+    let joined = join_named(alloc, &list, named, least)?;
+    Ok(Completion {
+        mode: found.mode,
+        number: found.number,
+        bodies: list.bodies,
+        joined,
+    })
+}
+
+/// The row of a version that is joined from parts.
+fn add_joined<S: Alter>(
+    connection: &mut Connection<S>,
+    upload: &NamedUpload<'_>,
+    at: Moment,
+    mode: BucketState,
+    counters: Counters,
+    joined: &Joined,
+) -> Result<(), Trouble>
+    requires inside { InTransaction S.Store connection.old }
+    ensures within { StaysWithin S.Store connection.old connection.new }
+    ensures opens { OnOk result (StaysOpen S.Store connection.old connection.new) }
+    ensures holds { OnOk result (Becomes S.Store connection.old connection.new
+        (with_joined mode counters upload.now.tenant.now upload.now.bucket.now upload.now.key.now at
+        joined.now.size (string_bytes joined.now.checksum))) }
+    ensures key { OnOk result (IsKeyText upload.now.key.now) }
+{
+    // No object has so many bytes.
+    if joined.size > i64::MAX as u64 {
+        return Err(Trouble::Store);
+    }
+    let version = NewVersion {
+        tenant: upload.tenant.as_str(),
+        seq: counters.entry,
+        bucket: upload.bucket.as_str(),
+        okey: upload.key.as_str().as_bytes(),
+        id: row_number(mode, counters.version),
+        stamp: at.seconds(),
+        size: joined.size,
+        checksum: joined.checksum.as_str(),
+    };
+    or_trouble(insert_version(connection, &version))?;
+    Ok(())
+}
+
+/// Puts a version that is joined from parts into a bucket of this state, under the tenant's next numbers: its body,
+/// which has the blocks of theirs, before what it replaces goes, and then its row.
+fn write_version<S: Alter>(
+    connection: &mut Connection<S>,
+    alloc: Global,
+    upload: &NamedUpload<'_>,
+    at: Moment,
+    mode: BucketState,
+    numbers: Numbers,
+    joined: &Joined,
+) -> Result<(), Trouble>
+    requires { InTransaction S.Store connection.old }
+    ensures within { StaysWithin S.Store connection.old connection.new }
+    ensures opens { OnOk result (StaysOpen S.Store connection.old connection.new) }
+    ensures holds { OnOk result (Becomes S.Store connection.old connection.new
+        (version_written mode numbers.before numbers.after upload.now.tenant.now upload.now.bucket.now upload.now.key.now at
+        joined.now.size (string_bytes joined.now.checksum) joined.now.bodies.items)) }
+    ensures key { OnOk result (IsKeyText upload.now.key.now) }
+{
+    set_counters(connection, upload.tenant, mode, numbers.after)?;
+    or_trouble(join_bodies(
+        connection,
+        alloc,
+        upload.tenant.as_str(),
+        &joined.bodies,
+        numbers.before.entry,
+    ))?;
+    make_room(connection, upload.tenant, upload.bucket, upload.key, mode)?;
+    add_joined(connection, upload, at, mode, numbers.before, joined)
+}
+
+/// What is told of an upload that is completed, where its version was this number in a bucket of this state.
+fn completed(
+    alloc: Global,
+    upload: &NamedUpload<'_>,
+    mode: BucketState,
+    version: u64,
+    checksum: String,
+) -> Result<CompletedUpload, AllocError>
+    ensures { IfOk result (λ told. completed_answer told ≡ Completed upload.now.bucket.now upload.now.key.now
+        (id_told mode (spec.new_id mode version)) (string_bytes checksum)) }
+{
+    Ok(CompletedUpload {
+        bucket: String::from_str(alloc, upload.bucket.as_str())?,
+        key: String::from_str(alloc, upload.key.as_str())?,
+        id: told_id(mode, new_id(mode, version)),
+        checksum,
+    })
+}
+
+/// S3's CompleteMultipartUpload, at a moment that is not after the last stamp: NoSuchBucket, NoSuchUpload,
+/// InvalidPartOrder, InvalidPart, EntityTooSmall where a part but the last has fewer bytes than `least`,
+/// CounterExhausted. The upload goes once its version is there. No byte of a part is read.
+pub fn complete_upload<S: Alter>(
+    connection: &mut Connection<S>,
+    alloc: Global,
+    upload: &NamedUpload<'_>,
+    at: Moment,
+    named: &[Named],
+    least: u64,
+) -> Result<CompletedUpload, StepError<Refusal>>
+    requires working { Works S.Store connection.old }
+    requires early { IsClean S.Store connection.old → at ≤ latest_of (tables S.Store connection.old) }
+    ensures within { StaysWithin S.Store connection.old connection.new }
+    ensures opens { Unless result (StaysOpen S.Store connection.old connection.new) }
+    ensures working { Unless result (StillWorks S.Store connection.old connection.new) }
+    ensures carries { IsClean S.Store connection.new
+        → Carries completed_answer upload.now.tenant.now
+        (machine.complete_upload at least upload.now.bucket.now upload.now.key.now upload.now.upload (map naming_of named.now))
+        (tables S.Store connection.old) (tables S.Store connection.new) result }
+{
+    let found = completion_plan(connection, alloc, upload, named, least)?;
+    let numbers = new_numbers(connection, upload.tenant, found.mode)?;
+    let Numbers { before, .. } = numbers;
+    write_version(
+        connection,
+        alloc,
+        upload,
+        at,
+        found.mode,
+        numbers,
+        &found.joined,
+    )?;
+    close_upload(connection, upload.tenant, found.number, &found.bodies)?;
+    let Completion { mode, joined, .. } = found;
+    Ok(completed(alloc, upload, mode, before.version, joined.checksum)?)
+}

@@ -1,0 +1,188 @@
+ghost use Rattle.std.specs.Prelude.{◌≡◌, ◌≤◌, ◌<◌, ◌^◌, OnOk};
+ghost use Rattle.std.specs.Option.{option_copied};
+ghost use Rattle.std.specs.String.{string_bytes};
+ghost use Rattle.bh_types.specs.Checksums.{checksum_text};
+ghost use Rattle.bh_model.specs.Operations.{PartStored};
+ghost use Rattle.bh_model.specs.Uploads as machine;
+ghost use Rattle.bh_storage.specs.Calls.{Unless, Carries};
+ghost use Rattle.bh_view.specs.Blocks.{AreDigests};
+ghost use Rattle.bh_view.specs.Put.{part_row};
+ghost use Rattle.bh_view.specs.View.{latest_of};
+ghost use Rattle.bh_schema.specs.Connections.{IsClean, tables, InTransaction, StaysWithin, StaysOpen, Becomes};
+ghost use Rattle.bh_schema.specs.Working.{Works, StillWorksBy};
+ghost use Rattle.bh_uploads.specs.Writes.{without_part, without_old, with_part_row, part_written};
+
+use crate::reads::{NamedUpload, found_upload, next_entry};
+use crate::rows::parts::{PartRecord, delete_part, find_body, insert_part};
+use crate::writes::drop_entry_body;
+use bh_blocks::bodies::store_body;
+use bh_objects::objects::checked_sum;
+use bh_objects::writes::set_next_entry;
+use bh_schema::host::Digester;
+use bh_schema::trouble::or_trouble;
+use bh_storage::error::{StepError, Trouble};
+use bh_types::moment::Moment;
+use bh_types::names::TenantName;
+use bh_types::refusal::Refusal;
+use sqlite::{Alter, Connection};
+use std::alloc::Global;
+
+/// The last number that a part may have.
+const LAST_PART: u32 = 10_000;
+
+/// A part that is sent whole.
+#[derive(Clone, Copy, Debug)]
+pub struct NewPart<'a> {
+    pub upload: NamedUpload<'a>,
+    /// 1 to 10,000.
+    pub number: u32,
+    /// When it is put.
+    pub at: Moment,
+    pub bytes: &'a [u8],
+}
+
+/// Takes the part of a number away, whose body this is, and then its body.
+fn drop_part<S: Alter>(
+    connection: &mut Connection<S>,
+    tenant: &TenantName,
+    upload: u64,
+    number: u32,
+    body: u64,
+) -> Result<(), Trouble>
+    requires inside { InTransaction S.Store connection.old }
+    requires small { upload < 2 ^ 62 }
+    ensures within { StaysWithin S.Store connection.old connection.new }
+    ensures opens { OnOk result (StaysOpen S.Store connection.old connection.new) }
+    ensures holds { OnOk result (Becomes S.Store connection.old connection.new (without_part tenant.now upload number body)) }
+{
+    or_trouble(delete_part(connection, tenant.as_str(), upload, u64::from(number)))?;
+    drop_entry_body(connection, tenant, body)
+}
+
+/// Takes the part of a number away, and its body, if it is there.
+fn drop_old<S: Alter>(
+    connection: &mut Connection<S>,
+    tenant: &TenantName,
+    upload: u64,
+    number: u32,
+) -> Result<(), Trouble>
+    requires inside { InTransaction S.Store connection.old }
+    requires small { upload < 2 ^ 62 }
+    ensures within { StaysWithin S.Store connection.old connection.new }
+    ensures opens { OnOk result (StaysOpen S.Store connection.old connection.new) }
+    ensures holds { OnOk result (Becomes S.Store connection.old connection.new (without_old tenant.now upload number)) }
+{
+    match or_trouble(find_body(connection, tenant.as_str(), upload, u64::from(number)))? {
+        None => Ok(()),
+        Some(body) => drop_part(connection, tenant, upload, number, body),
+    }
+}
+
+fn add_part<S: Alter>(
+    connection: &mut Connection<S>,
+    part: &NewPart<'_>,
+    upload: u64,
+    entry: u64,
+    checksum: &str,
+) -> Result<(), Trouble>
+    requires inside { InTransaction S.Store connection.old }
+    requires upload { upload < 2 ^ 62 }
+    requires entry { entry < 2 ^ 62 }
+    requires checksum { checksum.now ≡ checksum_text part.now.bytes.now }
+    ensures within { StaysWithin S.Store connection.old connection.new }
+    ensures opens { OnOk result (StaysOpen S.Store connection.old connection.new) }
+    ensures holds { OnOk result (Becomes S.Store connection.old connection.new
+        (with_part_row (part_row part.now.upload.tenant.now upload part.now.number part.now.bytes.now part.now.at entry))) }
+{
+    let row = PartRecord {
+        tenant: part.upload.tenant.as_str(),
+        upload,
+        number: u64::from(part.number),
+        size: part.bytes.len() as u64,
+        checksum,
+        stamp: part.at.seconds(),
+        body: entry,
+    };
+    or_trouble(insert_part(connection, &row))?;
+    Ok(())
+}
+
+/// Puts a part into an upload under the tenant's next entry number, with the text of its checksum: its body, in
+/// blocks of at most this size, before that of the part that it replaces goes, and then its row.
+fn write_part<S: Alter, D: Digester>(
+    connection: &mut Connection<S>,
+    digester: &D,
+    block_size: u64,
+    part: &NewPart<'_>,
+    upload: u64,
+    entry: u64,
+    checksum: &str,
+) -> Result<(), Trouble>
+    requires inside { InTransaction S.Store connection.old }
+    requires positive { 1 ≤ block_size }
+    requires upload { upload < 2 ^ 62 }
+    requires entry { entry < 2 ^ 62 }
+    requires checksum { checksum.now ≡ checksum_text part.now.bytes.now }
+    ensures within { StaysWithin S.Store connection.old connection.new }
+    ensures opens { OnOk result (StaysOpen S.Store connection.old connection.new) }
+    ensures holds { OnOk result (Becomes S.Store connection.old connection.new
+        (part_written D.digest_of block_size part.now.upload.tenant.now upload part.now.number part.now.bytes.now part.now.at entry)) }
+    ensures least { OnOk result (1 ≤ part.now.number) }
+    ensures most { OnOk result (part.now.number ≤ 10000) }
+{
+    // No request is read that has such a number.
+    if part.number < 1 || part.number > LAST_PART {
+        return Err(Trouble::Store);
+    }
+    let tenant = part.upload.tenant;
+    set_next_entry(connection, tenant, entry + 1)?;
+    or_trouble(store_body(
+        connection,
+        digester,
+        block_size,
+        tenant.as_str(),
+        entry,
+        part.bytes,
+    ))?;
+    drop_old(connection, tenant, upload, part.number)?;
+    add_part(connection, part, upload, entry, checksum)
+}
+
+/// S3's UploadPart, at a moment that is not after the last stamp, where the request may say which checksum the bytes
+/// have: NoSuchBucket, NoSuchUpload, BadDigest, CounterExhausted. The bytes are stored in blocks of at most this
+/// size. The text of their checksum is told.
+pub fn put_part<S: Alter, D: Digester>(
+    connection: &mut Connection<S>,
+    alloc: Global,
+    digester: &D,
+    block_size: u64,
+    part: &NewPart<'_>,
+    given: Option<&[u8]>,
+) -> Result<String, StepError<Refusal>>
+    requires working { Works S.Store connection.old }
+    requires digests { IsClean S.Store connection.old → AreDigests D.digest_of (tables S.Store connection.old).blocks }
+    requires positive { 1 ≤ block_size }
+    requires early { IsClean S.Store connection.old → part.now.at ≤ latest_of (tables S.Store connection.old) }
+    ensures within { StaysWithin S.Store connection.old connection.new }
+    ensures opens { Unless result (StaysOpen S.Store connection.old connection.new) }
+    ensures working { Unless result (StillWorksBy S.Store D.digest_of connection.old connection.new) }
+    ensures carries { IsClean S.Store connection.new
+        → Carries (λ checksum. PartStored (string_bytes checksum)) part.now.upload.tenant.now
+        (machine.upload_part part.now.at part.now.upload.bucket.now part.now.upload.key.now part.now.upload.upload part.now.number
+        part.now.bytes.now (option_copied given.entry))
+        (tables S.Store connection.old) (tables S.Store connection.new) result }
+{
+    let found = found_upload(connection, &part.upload)?;
+    let checksum = checked_sum(alloc, part.bytes, given)?;
+    let entry = next_entry(connection, part.upload.tenant)?;
+    write_part(
+        connection,
+        digester,
+        block_size,
+        part,
+        found.number,
+        entry,
+        checksum.as_str(),
+    )?;
+    Ok(checksum)
+}

@@ -1,0 +1,254 @@
+ghost use Rattle.std.specs.Prelude.{◌≡◌, ◌++◌, ◌∷◌, [], List, ◌<◌, ◌^◌, true, map, filter, find, option_map, IfOk, IfErr, OnOk};
+ghost use Rattle.sqlite_keyed.specs.Lists.{delete_where};
+ghost use Rattle.bh_rows.specs.Means.{is_trouble};
+ghost use Rattle.bh_tables.specs.Typed.{PartRow as Stored};
+ghost use Rattle.bh_tables.specs.Bodies.{resolved_part};
+ghost use Rattle.bh_tables.specs.Shown.{is_part, is_part_of, shown_part, shown_body};
+ghost use Rattle.bh_schema.specs.Connections.{IsClean, tables, InTransaction, StaysWithin, WasOpen, StaysOpen, ChangesNothing, Becomes, IsTrouble, IsTroubleIf};
+ghost use Rattle.bh_uploads.specs.Rows.{seen_row, row_seen, stored_part, listed_parts, IsNewPart};
+
+use bh_core::parts::PartRow;
+use bh_schema::rows::number::number;
+use sqlite::types::ToSql;
+use sqlite::{Alter, Connection, Error, Row};
+use std::alloc::Global;
+
+/// A part without its bytes.
+#[derive(Drop)]
+pub struct PartHead {
+    pub row: PartRow,
+    /// The entry number under which its bytes are stored.
+    pub body: u64,
+}
+
+/// The parts of an upload without their bytes, in the order of their numbers.
+#[derive(Drop)]
+pub struct PartList {
+    pub rows: Vec<PartRow>,
+    /// The entry numbers under which their bytes are stored.
+    pub bodies: Vec<u64>,
+}
+
+/// A part that is to be added.
+#[derive(Clone, Copy)]
+pub struct PartRecord<'a> {
+    pub tenant: &'a str,
+    pub upload: u64,
+    pub number: u64,
+    /// Bytes.
+    pub size: u64,
+    pub checksum: &'a str,
+    /// When it is put, in seconds since 1970.
+    pub stamp: u64,
+    /// The entry number under which its bytes are stored.
+    pub body: u64,
+}
+
+/// The moment is for listings.
+fn read_part(row: &Row) -> Result<PartHead, Error>
+    ensures row { IfOk result (λ head. (p : Stored) → row.now ≡ shown_part p → row_seen head.row ≡ seen_row p) }
+    ensures body { IfOk result (λ head. (p : Stored) → row.now ≡ shown_part p → head.body ≡ p.body) }
+{
+    let row_found = PartRow {
+        number: row.get(0)?,
+        size: row.get(1)?,
+        sum: row.get(2)?,
+    };
+    Ok(PartHead {
+        row: row_found,
+        body: row.get(4)?,
+    })
+}
+
+fn read_parts(alloc: Global, rows: &[Row]) -> Result<PartList, Error>
+    ensures rows { IfOk result (λ list. (ps : List Stored) → rows.now ≡ map shown_part ps
+        → map row_seen list.rows.items ≡ map seen_row ps) }
+    ensures bodies { IfOk result (λ list. (ps : List Stored) → rows.now ≡ map shown_part ps
+        → list.bodies.items ≡ map (λ p. p.body) ps) }
+{
+    let mut found = Vec::new(alloc);
+    let mut bodies = Vec::new(alloc);
+    for row in rows {
+        let head = read_part(row)?;
+        let PartHead { row: part, body } = head;
+        found.push(part)?;
+        bodies.push(body)?;
+    }
+    Ok(PartList {
+        rows: found,
+        bodies,
+    })
+}
+
+fn part_rows<S: Alter>(
+    connection: &mut Connection<S>,
+    tenant: &str,
+    upload: u64,
+) -> Result<Vec<Row>, Error>
+    requires inside { InTransaction S.Store connection.old }
+    requires small { upload < 2 ^ 63 }
+    ensures within { StaysWithin S.Store connection.old connection.new }
+    ensures opens { OnOk result (WasOpen S.Store connection.old connection.new) }
+    ensures same { OnOk result (ChangesNothing S.Store connection.old connection.new) }
+    ensures rows { IfOk result (λ rows. IsClean S.Store connection.new
+        → rows.items ≡ map shown_part (listed_parts tenant.now upload (tables S.Store connection.old))) }
+    ensures trouble { IfErr result (IsTrouble S.Store connection.old connection.new) }
+{
+    connection.query_all(
+        "SELECT number, size, sum, stamp, body FROM parts WHERE tenant = ?1 AND upload = ?2 ORDER BY number, rowid",
+        &[tenant.to_sql(), number(upload)],
+    )
+}
+
+/// All parts of an upload, in the order of their numbers.
+pub fn part_list<S: Alter>(
+    connection: &mut Connection<S>,
+    alloc: Global,
+    tenant: &str,
+    upload: u64,
+) -> Result<PartList, Error>
+    requires inside { InTransaction S.Store connection.old }
+    requires small { upload < 2 ^ 63 }
+    ensures within { StaysWithin S.Store connection.old connection.new }
+    ensures opens { OnOk result (WasOpen S.Store connection.old connection.new) }
+    ensures same { OnOk result (ChangesNothing S.Store connection.old connection.new) }
+    ensures rows { IfOk result (λ list. IsClean S.Store connection.new
+        → map row_seen list.rows.items ≡ map seen_row (listed_parts tenant.now upload (tables S.Store connection.old))) }
+    ensures bodies { IfOk result (λ list. IsClean S.Store connection.new
+        → list.bodies.items ≡ map (λ p. p.body) (listed_parts tenant.now upload (tables S.Store connection.old))) }
+{
+    let rows = part_rows(connection, tenant, upload)?;
+    read_parts(alloc, &rows)
+}
+
+fn body_rows<S: Alter>(
+    connection: &mut Connection<S>,
+    tenant: &str,
+    upload: u64,
+    part: u64,
+) -> Result<Vec<Row>, Error>
+    requires inside { InTransaction S.Store connection.old }
+    requires upload { upload < 2 ^ 63 }
+    requires part { part < 2 ^ 63 }
+    ensures within { StaysWithin S.Store connection.old connection.new }
+    ensures opens { OnOk result (WasOpen S.Store connection.old connection.new) }
+    ensures same { OnOk result (ChangesNothing S.Store connection.old connection.new) }
+    ensures rows { IfOk result (λ rows. IsClean S.Store connection.new
+        → rows.items ≡ map shown_body (filter (is_part tenant.now upload part) (tables S.Store connection.old).parts)) }
+    ensures trouble { IfErr result (IsTrouble S.Store connection.old connection.new) }
+{
+    connection.query_all(
+        "SELECT body FROM parts WHERE tenant = ?1 AND upload = ?2 AND number = ?3 ORDER BY rowid",
+        &[tenant.to_sql(), number(upload), number(part)],
+    )
+}
+
+fn read_body(row: &Row) -> Result<u64, Error>
+    ensures { IfOk result (λ body. (p : Stored) → row.now ≡ shown_body p → body ≡ p.body) }
+{
+    let body: u64 = row.get(0)?;
+    Ok(body)
+}
+
+/// The entry number under which the bytes of the part of this number are stored, if it is there.
+pub fn find_body<S: Alter>(
+    connection: &mut Connection<S>,
+    tenant: &str,
+    upload: u64,
+    part: u64,
+) -> Result<Option<u64>, Error>
+    requires inside { InTransaction S.Store connection.old }
+    requires upload { upload < 2 ^ 63 }
+    requires part { part < 2 ^ 63 }
+    ensures within { StaysWithin S.Store connection.old connection.new }
+    ensures opens { OnOk result (WasOpen S.Store connection.old connection.new) }
+    ensures same { OnOk result (ChangesNothing S.Store connection.old connection.new) }
+    ensures found { IfOk result (λ found. IsClean S.Store connection.new
+        → found ≡ option_map (λ p. p.body) (find (is_part tenant.now upload part) (tables S.Store connection.old).parts)) }
+{
+    let rows = body_rows(connection, tenant, upload, part)?;
+    match rows.first() {
+        None => Ok(None),
+        Some(row) => Ok(Some(read_body(row)?)),
+    }
+}
+
+/// Adds a part, whose bytes are those of its body.
+pub fn insert_part<S: Alter>(
+    connection: &mut Connection<S>,
+    part: &PartRecord<'_>,
+) -> Result<usize, Error>
+    requires inside { InTransaction S.Store connection.old }
+    requires upload { part.now.upload < 2 ^ 63 }
+    requires number { part.now.number < 2 ^ 63 }
+    requires size { part.now.size < 2 ^ 63 }
+    requires stamp { part.now.stamp < 2 ^ 63 }
+    requires body { part.now.body < 2 ^ 63 }
+    ensures within { StaysWithin S.Store connection.old connection.new }
+    ensures opens { OnOk result (StaysOpen S.Store connection.old connection.new) }
+    ensures holds { OnOk result (Becomes S.Store connection.old connection.new
+        (λ rows. record rows { parts = rows.parts ++ resolved_part rows.refs rows.blocks (stored_part part.now) ∷ [] })) }
+    ensures trouble { IfErr result (IsTroubleIf S.Store connection.old connection.new
+        (IsNewPart (tables S.Store connection.old) part.now.tenant.now part.now.upload part.now.number part.now.body)) }
+{
+    // Asked for what it ensures: the rows obey the schema.
+    let _schema = connection.schema();
+    connection.execute(
+        "INSERT INTO parts (tenant, upload, number, size, sum, stamp, body) VALUES (?1, ?2, ?3, ?4, ?5, ?6, ?7)",
+        &[
+            part.tenant.to_sql(),
+            number(part.upload),
+            number(part.number),
+            number(part.size),
+            part.checksum.to_sql(),
+            number(part.stamp),
+            number(part.body),
+        ],
+    )
+}
+
+/// Takes the part of a number away, if it is there.
+pub fn delete_part<S: Alter>(
+    connection: &mut Connection<S>,
+    tenant: &str,
+    upload: u64,
+    part: u64,
+) -> Result<usize, Error>
+    requires inside { InTransaction S.Store connection.old }
+    requires upload { upload < 2 ^ 63 }
+    requires part { part < 2 ^ 63 }
+    ensures within { StaysWithin S.Store connection.old connection.new }
+    ensures opens { OnOk result (StaysOpen S.Store connection.old connection.new) }
+    ensures holds { OnOk result (Becomes S.Store connection.old connection.new
+        (λ rows. record rows { parts = delete_where (is_part tenant.now upload part) rows.parts })) }
+    ensures trouble { IfErr result (IsTrouble S.Store connection.old connection.new) }
+{
+    // Asked for what it ensures: the rows obey the schema.
+    let _schema = connection.schema();
+    connection.execute(
+        "DELETE FROM parts WHERE tenant = ?1 AND upload = ?2 AND number = ?3",
+        &[tenant.to_sql(), number(upload), number(part)],
+    )
+}
+
+/// Takes all parts of an upload away.
+pub fn delete_parts<S: Alter>(
+    connection: &mut Connection<S>,
+    tenant: &str,
+    upload: u64,
+) -> Result<usize, Error>
+    requires inside { InTransaction S.Store connection.old }
+    requires small { upload < 2 ^ 63 }
+    ensures within { StaysWithin S.Store connection.old connection.new }
+    ensures opens { OnOk result (StaysOpen S.Store connection.old connection.new) }
+    ensures holds { OnOk result (Becomes S.Store connection.old connection.new
+        (λ rows. record rows { parts = delete_where (is_part_of tenant.now upload) rows.parts })) }
+    ensures trouble { IfErr result (IsTrouble S.Store connection.old connection.new) }
+{
+    // Asked for what it ensures: the rows obey the schema.
+    let _schema = connection.schema();
+    connection.execute(
+        "DELETE FROM parts WHERE tenant = ?1 AND upload = ?2",
+        &[tenant.to_sql(), number(upload)],
+    )
+}

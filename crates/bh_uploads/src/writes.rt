@@ -1,0 +1,67 @@
+ghost use Rattle.std.specs.Prelude.{◌≡◌, ◌<◌, ◌^◌, OnOk};
+ghost use Rattle.bh_schema.specs.Connections.{InTransaction, StaysWithin, StaysOpen, Becomes};
+ghost use Rattle.bh_view.specs.Bodies.{body_dropped};
+ghost use Rattle.bh_uploads.specs.Writes.{without_bodies, upload_closed};
+
+use crate::rows;
+use bh_blocks::bodies::drop_body;
+use bh_schema::trouble::or_trouble;
+use bh_storage::error::Trouble;
+use bh_types::counters::COUNTER_END;
+use bh_types::names::TenantName;
+use sqlite::{Alter, Connection};
+
+/// Takes the body of this entry number away.
+pub fn drop_entry_body<S: Alter>(
+    connection: &mut Connection<S>,
+    tenant: &TenantName,
+    body: u64,
+) -> Result<(), Trouble>
+    requires { InTransaction S.Store connection.old }
+    ensures within { StaysWithin S.Store connection.old connection.new }
+    ensures opens { OnOk result (StaysOpen S.Store connection.old connection.new) }
+    ensures holds { OnOk result (Becomes S.Store connection.old connection.new (body_dropped (tenant.now, body))) }
+{
+    // No counter gives such a number.
+    if body >= COUNTER_END {
+        return Err(Trouble::Store);
+    }
+    or_trouble(drop_body(connection, tenant.as_str(), body))?;
+    Ok(())
+}
+
+/// Takes bodies away, one after another.
+fn drop_bodies<S: Alter>(
+    connection: &mut Connection<S>,
+    tenant: &TenantName,
+    bodies: &[u64],
+) -> Result<(), Trouble>
+    requires { InTransaction S.Store connection.old }
+    ensures within { StaysWithin S.Store connection.old connection.new }
+    ensures opens { OnOk result (StaysOpen S.Store connection.old connection.new) }
+    ensures holds { OnOk result (Becomes S.Store connection.old connection.new (without_bodies tenant.now bodies.now)) }
+{
+    for body in bodies {
+        drop_entry_body(connection, tenant, *body)?;
+    }
+    Ok(())
+}
+
+/// Takes an upload away with its parts, whose bodies are these.
+pub fn close_upload<S: Alter>(
+    connection: &mut Connection<S>,
+    tenant: &TenantName,
+    number: u64,
+    bodies: &[u64],
+) -> Result<(), Trouble>
+    requires inside { InTransaction S.Store connection.old }
+    requires small { number < 2 ^ 62 }
+    ensures within { StaysWithin S.Store connection.old connection.new }
+    ensures opens { OnOk result (StaysOpen S.Store connection.old connection.new) }
+    ensures holds { OnOk result (Becomes S.Store connection.old connection.new (upload_closed tenant.now number bodies.now)) }
+{
+    or_trouble(rows::parts::delete_parts(connection, tenant.as_str(), number))?;
+    drop_bodies(connection, tenant, bodies)?;
+    or_trouble(rows::uploads::delete_upload(connection, tenant.as_str(), number))?;
+    Ok(())
+}
