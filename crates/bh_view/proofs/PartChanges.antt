@@ -48,7 +48,7 @@ module _ (old new : Tables) (t : Octets) (s : State) (sound : IsSound old) (is :
       let row = upload_row rows b B bucket n U there in
       let away = upload_elsewhere rows b B bucket n U there all.uploads.one in
       let shown : option_map (upload_shown left n) (first (at_number n (uploads_in b rows.uploads))) ≡ Some (record U { parts = change U.parts }) =
-          ap (option_map (upload_shown left n)) row.1 ∙ (λ i. Some (record (upload_shown mine n row.0) { parts = shows i })) ∙ ap (λ (x : Upload). Some (record x { parts = change x.parts })) row.2 in
+      ap (option_map (upload_shown left n)) row.1 ∙ (λ i. Some (record (upload_shown mine n row.0) { parts = shows i })) ∙ ap (λ (x : Upload). Some (record x { parts = change x.parts })) row.2 in
       uploads_become old new t s sound is b _ old.uploads rows.uploads parts left (λ u apart. refl) refl others here
       (uploads_changed rows n rows.uploads left (λ m apart. refl) same b B bucket (λ q apart. (away q apart, away q apart)) ∙ ap (λ o. insert (buckets_of rows) b (record B { uploads = set_at B.uploads n o })) shown)
       all.uploads fit e
@@ -101,12 +101,12 @@ part_put old new t s sound is b B at n U there k bytes moment low high early roo
     let left : (rows_of t two).parts ≡ delete_where test mine = mine_deleted own t test old.parts in
     let none_here : at_part k (of_upload n (delete_where test mine)) ≡ [] = ap (at_part k) (delete_mine (λ (x : PartRow). same_number x.upload n) (λ x. same_number x.part k) mine) ∙ delete_all (λ (x : PartRow). same_number x.part k) (of_upload n mine) in
     let none_shared : at_body s.next_entry (delete_where test mine) ≡ [] =
-        filter_none _ _ (all-filter _ _ mine (all_weaker _ (λ (x : PartRow). same_number x.body s.next_entry ≡ false) (λ x less. is_other numbers x.body s.next_entry (λ same. absurd (omega (arith, less, same)))) mine (parts_older old t s sound is))) in
+    filter_none _ _ (all-filter _ _ mine (all_weaker _ (λ (x : PartRow). same_number x.body s.next_entry ≡ false) (λ x less. is_other numbers x.body s.next_entry (λ same. absurd (omega (arith, less, same)))) mine (parts_older old t s sound is))) in
     let third = part_added two new t (with_bucket b B1 s1) second.sound second.shown b B1 (get_here octets s.buckets b (Some B1)) n U1 (get_here numbers B.uploads n (Some U1)) p refl refl
-        (record { least = low; most = high; stamp = subst (λ m. moment ≤ m) (sym latest) early; size = refl; checksum = refl })
-        (ap (λ l. at_part k (of_upload n l)) left ∙ none_here) (ap (at_body s.next_entry) left ∙ none_shared)
-        (any_from_none _ _ (all_weaker _ (λ (v : VersionRow). same_number v.seq s.next_entry ≡ false) (λ v less. is_other numbers v.seq s.next_entry (λ same. absurd (omega (arith, less, same)))) _ (older old t s sound is)))
-        (omega arith) e in
+    (record { least = low; most = high; stamp = subst (λ m. moment ≤ m) (sym latest) early; size = refl; checksum = refl })
+    (ap (λ l. at_part k (of_upload n l)) left ∙ none_here) (ap (at_body s.next_entry) left ∙ none_shared)
+    (any_from_none _ _ (all_weaker _ (λ (v : VersionRow). same_number v.seq s.next_entry ≡ false) (λ v less. is_other numbers v.seq s.next_entry (λ same. absurd (omega (arith, less, same)))) _ (older old t s sound is)))
+    (omega arith) e in
     subst (λ (x : State). Becomes t (Some x) old new)
     (bucket_again b B1 (with_upload n U2 B1) s1 ∙ ap (λ (m : FinMap nat_cmp Upload). with_bucket b (record B { uploads = m }) s1)
     (set_at_again numbers B.uploads n (Some U1) (Some U2) ∙ ap (λ (m : FinMap nat_cmp Part). insert B.uploads n (record U { parts = m })) (set_at_again numbers U.parts k None (Some (part_shown p)))))

@@ -97,8 +97,8 @@ module _ (old new : Tables) (t : Octets) (s : State) (sound : IsSound old) (is :
         let row = bucket_row mine b B there_before in
         let childless : of_upload u.upload mine.parts ≡ [] = all.parts.owned u.upload (ap first fresh) in
         let in_it : at_number u.upload (uploads_in b more) ≡ u ∷ [] =
-            ap (at_number u.upload) (push_here (λ (x : UploadRow). bytes_eq x.bucket b) mine.uploads u (ap (λ z. bytes_eq z b) bucket ∙ is_itself octets b))
-            ∙ push_here (λ (x : UploadRow). same_number x.upload u.upload) (uploads_in b mine.uploads) u (is_itself numbers u.upload) ∙ ap (λ l. l ++ u ∷ []) (no_uploads u.upload b mine.uploads fresh) in
+        ap (at_number u.upload) (push_here (λ (x : UploadRow). bytes_eq x.bucket b) mine.uploads u (ap (λ z. bytes_eq z b) bucket ∙ is_itself octets b))
+        ∙ push_here (λ (x : UploadRow). same_number x.upload u.upload) (uploads_in b mine.uploads) u (is_itself numbers u.upload) ∙ ap (λ l. l ++ u ∷ []) (no_uploads u.upload b mine.uploads fresh) in
         uploads_become b _ (old.uploads ++ u ∷ []) more old.parts mine.parts
         (λ w apart. others_pushed own old.uploads u w (λ same. apart (same ∙ its))) (subst (λ z. rows_at own z (old.uploads ++ u ∷ []) ≡ rows_at own z old.uploads ++ u ∷ []) its (mine_pushed own old.uploads u)) (λ w apart. refl) refl
         (uploads_changed mine u.upload more mine.parts (λ m apart. push_other (λ (x : UploadRow). same_number x.upload m) mine.uploads u (is_other numbers u.upload m apart)) (λ m apart. refl) b B there_before
@@ -159,6 +159,6 @@ upload_begun old new t s sound is b B at k moment good text early room e =
     let s1 : State = record s { next_upload = s.next_upload + 1 } in
     let first = next_upload_set old one t s sound is (s.next_upload + 1) (omega arith) (omega (arith, leb-true _ _ room)) refl in
     let second = upload_added one new t s1 first.sound first.shown b B at (record { tenant = t; upload = s.next_upload; bucket = b; okey = k; begun = moment }) refl refl
-        (record { key = good; text = text; begun = subst (λ m. moment ≤ m) (sym first.latest) early }) (omega arith)
-        (filter_none _ _ (all_weaker _ (λ (u : UploadRow). same_number u.upload s.next_upload ≡ false) (λ u less. is_other numbers u.upload s.next_upload (λ same. absurd (omega (arith, less, same)))) _ (uploads_below old t s sound is))) e in
+    (record { key = good; text = text; begun = subst (λ m. moment ≤ m) (sym first.latest) early }) (omega arith)
+    (filter_none _ _ (all_weaker _ (λ (u : UploadRow). same_number u.upload s.next_upload ≡ false) (λ u less. is_other numbers u.upload s.next_upload (λ same. absurd (omega (arith, less, same)))) _ (uploads_below old t s sound is))) e in
     becomes_then t _ _ old one new first second
