@@ -4,9 +4,10 @@
 # wrong bodies that the gate leaves out (wrong-bodies/README.md); of one crate by CRATE=bh_docs. lint: the layout of all sources.
 # bench: the program's speed and memory; lookups: the time of lookups by key at 1,000 and 100,000 rows on a file; versions:
 # that of requests on many versions and keys; serving: puts and gets over sockets beside nginx; bodies: those of small and
-# great bodies, new and known, and their memory; blocks: the time of a block among 1,000 and 100,000 (all bench/README.md).
+# great bodies, new and known, and their memory; blocks: the time of a block among 1,000 and 100,000; uploads: that of a part
+# among 1,000 and 10,000 (all bench/README.md).
 # memory: the stored run with each allocation refused in turn.
-.PHONY: demo try build test gate times wrong-bodies lint bench lookups versions serving bodies blocks memory
+.PHONY: demo try build test gate times wrong-bodies lint bench lookups versions serving bodies blocks uploads memory
 
 demo:
 	@tools/bucketd <crates/bucketd/stdin
@@ -49,6 +50,9 @@ bodies:
 
 blocks:
 	@bench/blocks.py
+
+uploads:
+	@bench/uploads.py
 
 memory:
 	@tools/memory

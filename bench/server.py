@@ -1,0 +1,79 @@
+"""`bucketd serve` on a host in a folder, asked over loopback, a connection a request."""
+import os
+import re
+import socket
+import subprocess
+import sys
+import time
+
+CREDENTIALS = b"host: h\r\nx-access-key: green$k1\r\nx-secret-key: greensecret\r\n"
+SHARED_MEMORY = "/dev/shm"
+
+
+def free_port():
+    with socket.socket() as s:
+        s.bind(("127.0.0.1", 0))
+        return s.getsockname()[1]
+
+
+class Server:
+    """`bucketd serve` on a host in a folder, which is made with the tenant green and its bucket where it isn't there."""
+
+    def __init__(self, program, folder):
+        self.file, self.port = os.path.join(folder, "host"), free_port()
+        is_new = not os.path.exists(self.file)
+        if is_new:
+            self.command(program, "init")
+            self.command(program, "tenant-add", "--tenant", "green", "--quota", str(1 << 40))
+            self.command(program, "key-add", "--tenant", "green", "--name", "k1", "--secret", "greensecret")
+        self.process = subprocess.Popen([program, "serve", "--file", self.file, "--port", str(self.port), "--count", str(1 << 40)])
+        self.wait()
+        if is_new:
+            self.ask(b"PUT", "", b"")
+
+    def command(self, program, name, *words):
+        subprocess.run([program, name, "--file", self.file, *words], check=True, stdout=subprocess.DEVNULL)
+
+    def wait(self):
+        for _ in range(500):
+            try:
+                return socket.create_connection(("127.0.0.1", self.port), timeout=5).close()
+            except ConnectionRefusedError:
+                time.sleep(0.02)
+        sys.exit("the server didn't start")
+
+    def __enter__(self):
+        return self
+
+    def __exit__(self, *_):
+        self.process.kill()
+        self.process.wait()
+
+    def ask(self, method, key, body=None, status=b"200 OK"):
+        """The milliseconds of one request, and the body of what it was answered."""
+        length = b"" if body is None else b"content-length: %d\r\n" % len(body)
+        asked = method + b" /plans%s HTTP/1.1\r\n" % key.encode() + CREDENTIALS + length + b"\r\n" + (body or b"")
+        before = time.perf_counter()
+        with socket.create_connection(("127.0.0.1", self.port)) as s:
+            s.sendall(asked)
+            parts = []
+            while part := s.recv(1 << 20):
+                parts.append(part)
+        milliseconds = 1000 * (time.perf_counter() - before)
+        answered = b"".join(parts)
+        if not answered.startswith(b"HTTP/1.1 %s\r\n" % status):
+            sys.exit(f"{method.decode()} {key}: {answered[:300]}")
+        return milliseconds, answered[answered.index(b"\r\n\r\n") + 4 :]
+
+    def put(self, key, body):
+        return self.ask(b"PUT", key, body)[0]
+
+    def get(self, key, body):
+        milliseconds, got = self.ask(b"GET", key)
+        if got != body:
+            sys.exit(f"GET {key}: other bytes")
+        return milliseconds
+
+    def memory(self, name):
+        with open(f"/proc/{self.process.pid}/status") as file:
+            return int(re.search(name + r":\s+(\d+)", file.read()).group(1)) / 1024
