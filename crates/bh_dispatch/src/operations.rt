@@ -1,5 +1,6 @@
 ghost use Rattle.std.specs.Option.{option_copied};
 ghost use Rattle.std.specs.Prelude.{◌≡◌, ◌≤◌, option_map};
+ghost use Rattle.bh_types.specs.Limits.{HostLimits};
 ghost use Rattle.bh_types.specs.Rejections.{plainly};
 ghost use Rattle.bh_machine.specs.Machine.{set_versioning, page_asked, operated, place_asked};
 ghost use Rattle.bh_model.specs.Operations as machine;
@@ -17,7 +18,7 @@ use bh_objects::copies::NewCopy;
 use bh_objects::writes::NewObject;
 use bh_objects::{buckets, copies, deletes, gets, heads, objects};
 use bh_operation::address::ObjectName;
-use bh_operation::operation::Operation;
+use bh_operation::operation::{CopySource, Operation};
 use bh_operation::page::{Page, VersionMarker};
 use bh_operation::text::Bytes;
 use bh_pages::gathering::Asked;
@@ -161,19 +162,31 @@ fn put_object<S: Alter, D: Digester>(
 
 fn copy_object<S: Alter>(
     connection: &mut Connection<S>,
-    copy: &NewCopy<'_>,
+    tenant: &TenantName,
+    at: Moment,
+    object: &ObjectName,
+    source: &CopySource,
 ) -> Result<Answer, StepError<Rejection>>
     requires working { Works S.Store connection.old }
-    requires early { IsClean S.Store connection.old → copy.now.at ≤ latest_of (tables S.Store connection.old) }
+    requires early { IsClean S.Store connection.old → at ≤ latest_of (tables S.Store connection.old) }
     ensures within { StaysWithin S.Store connection.old connection.new }
     ensures opens { Unless result (StaysOpen S.Store connection.old connection.new) }
     ensures working { Unless result (StillWorks S.Store connection.old connection.new) }
     ensures carries { IsClean S.Store connection.new
-        → Carries answer_view copy.now.tenant.now (λ s. plainly (machine.copy_object copy.now.at copy.now.bucket.now copy.now.key.now
-        copy.now.source_bucket.now copy.now.source_key.now copy.now.version s))
+        → Carries answer_view tenant.now (λ s. plainly (machine.copy_object at object.now.bucket object.now.key
+        source.now.object.bucket source.now.object.key source.now.version s))
         (tables S.Store connection.old) (tables S.Store connection.new) result }
 {
-    answers::copied(copies::copy_object(connection, copy))
+    let copy = NewCopy {
+        tenant,
+        bucket: &object.bucket,
+        key: &object.key,
+        at,
+        source_bucket: &source.object.bucket,
+        source_key: &source.object.key,
+        version: source.version,
+    };
+    answers::copied(copies::copy_object(connection, &copy))
 }
 
 fn get_object<S: Alter>(
@@ -319,9 +332,101 @@ fn list_versions<S: Alter>(
     ))
 }
 
-/// Carries out an operation of a tenant, on a host with these limits and at a moment that is not after the last stamp:
-/// NotImplemented for those that the host doesn't do yet. Bytes are stored in blocks of at most this size.
-pub fn operate<S: Alter, D: Digester>(
+/// Carries out an operation on a bucket, or on all of them. Another is trouble: `operate` sends none here.
+fn operate_bucket<S: Alter>(
+    connection: &mut Connection<S>,
+    alloc: Global,
+    tenant: &TenantName,
+    at: Moment,
+    operation: &Operation,
+    body: &[u8],
+) -> Result<Answer, StepError<Rejection>>
+    requires working { Works S.Store connection.old }
+    requires early { IsClean S.Store connection.old → at ≤ latest_of (tables S.Store connection.old) }
+    ensures within { StaysWithin S.Store connection.old connection.new }
+    ensures opens { Unless result (StaysOpen S.Store connection.old connection.new) }
+    ensures working { Unless result (StillWorks S.Store connection.old connection.new) }
+    ensures carries { (limits : HostLimits) → IsClean S.Store connection.new
+        → Carries answer_view tenant.now (operated limits at body.now operation.now)
+        (tables S.Store connection.old) (tables S.Store connection.new) result }
+{
+    match operation {
+        Operation::ListBuckets => list_buckets(connection, alloc, tenant),
+        Operation::CreateBucket(bucket) => create_bucket(connection, tenant, at, bucket),
+        Operation::HeadBucket(bucket) => head_bucket(connection, tenant, bucket),
+        Operation::DeleteBucket(bucket) => delete_bucket(connection, tenant, bucket),
+        Operation::ListObjectsV2 {
+            bucket,
+            page,
+            token,
+        } => list_objects(connection, alloc, tenant, bucket, page, bytes_of(token)),
+        Operation::ListObjectVersions {
+            bucket,
+            page,
+            after,
+        } => list_versions(connection, alloc, tenant, bucket, page, after),
+        Operation::GetBucketVersioning(bucket) => versioning(connection, tenant, bucket),
+        Operation::PutBucketVersioning(bucket) => {
+            set_versioning(connection, alloc, tenant, bucket, body)
+        }
+        _ => Err(StepError::Failed(Trouble::Store)),
+    }
+}
+
+/// Carries out an operation on an object. Another is trouble: `operate` sends none here.
+fn operate_object<S: Alter, D: Digester>(
+    connection: &mut Connection<S>,
+    alloc: Global,
+    digester: &D,
+    block_size: u64,
+    tenant: &TenantName,
+    at: Moment,
+    operation: &Operation,
+    body: &[u8],
+) -> Result<Answer, StepError<Rejection>>
+    requires working { Works S.Store connection.old }
+    requires digests { IsClean S.Store connection.old → AreDigests D.digest_of (tables S.Store connection.old).blocks }
+    requires positive { 1 ≤ block_size }
+    requires early { IsClean S.Store connection.old → at ≤ latest_of (tables S.Store connection.old) }
+    ensures within { StaysWithin S.Store connection.old connection.new }
+    ensures opens { Unless result (StaysOpen S.Store connection.old connection.new) }
+    ensures working { Unless result (StillWorksBy S.Store D.digest_of connection.old connection.new) }
+    ensures carries { (limits : HostLimits) → IsClean S.Store connection.new
+        → Carries answer_view tenant.now (operated limits at body.now operation.now)
+        (tables S.Store connection.old) (tables S.Store connection.new) result }
+{
+    match operation {
+        Operation::PutObject { object, checksum } => {
+            let (bucket, key, given) = (&object.bucket, &object.key, bytes_of(checksum));
+            let object = NewObject {
+                tenant,
+                bucket,
+                key,
+                at,
+                bytes: body,
+            };
+            put_object(connection, alloc, digester, block_size, &object, given)
+        }
+        Operation::CopyObject { object, source } => {
+            copy_object(connection, tenant, at, object, source)
+        }
+        Operation::GetObject {
+            object,
+            version,
+            range,
+        } => { get_object(connection, alloc, tenant, object, *version, bytes_of(range)) }
+        Operation::HeadObject { object, version } => {
+            head_object(connection, tenant, object, *version)
+        }
+        Operation::DeleteObject { object, version } => {
+            delete_object(connection, tenant, at, object, *version)
+        }
+        _ => Err(StepError::Failed(Trouble::Store)),
+    }
+}
+
+/// Carries out an operation on a multipart upload. Another is trouble: `operate` sends none here.
+fn operate_upload<S: Alter, D: Digester>(
     connection: &mut Connection<S>,
     alloc: Global,
     digester: &D,
@@ -344,64 +449,6 @@ pub fn operate<S: Alter, D: Digester>(
         (tables S.Store connection.old) (tables S.Store connection.new) result }
 {
     match operation {
-        Operation::ListBuckets => list_buckets(connection, alloc, tenant),
-        Operation::CreateBucket(bucket) => create_bucket(connection, tenant, at, bucket),
-        Operation::HeadBucket(bucket) => head_bucket(connection, tenant, bucket),
-        Operation::DeleteBucket(bucket) => delete_bucket(connection, tenant, bucket),
-        Operation::ListObjectsV2 {
-            bucket,
-            page,
-            token,
-        } => list_objects(connection, alloc, tenant, bucket, page, bytes_of(token)),
-        Operation::ListObjectVersions {
-            bucket,
-            page,
-            after,
-        } => list_versions(connection, alloc, tenant, bucket, page, after),
-        Operation::GetBucketVersioning(bucket) => versioning(connection, tenant, bucket),
-        Operation::PutBucketVersioning(bucket) => {
-            set_versioning(connection, alloc, tenant, bucket, body)
-        }
-        Operation::PutObject { object, checksum } => {
-            let object = NewObject {
-                tenant,
-                bucket: &object.bucket,
-                key: &object.key,
-                at,
-                bytes: body,
-            };
-            put_object(
-                connection,
-                alloc,
-                digester,
-                block_size,
-                &object,
-                bytes_of(checksum),
-            )
-        }
-        Operation::CopyObject { object, source } => {
-            let copy = NewCopy {
-                tenant,
-                bucket: &object.bucket,
-                key: &object.key,
-                at,
-                source_bucket: &source.object.bucket,
-                source_key: &source.object.key,
-                version: source.version,
-            };
-            copy_object(connection, &copy)
-        }
-        Operation::GetObject {
-            object,
-            version,
-            range,
-        } => { get_object(connection, alloc, tenant, object, *version, bytes_of(range)) }
-        Operation::HeadObject { object, version } => {
-            head_object(connection, tenant, object, *version)
-        }
-        Operation::DeleteObject { object, version } => {
-            delete_object(connection, tenant, at, object, *version)
-        }
         Operation::CreateMultipartUpload(object) => {
             uploads::begin_upload(connection, alloc, tenant, at, object)
         }
@@ -436,6 +483,60 @@ pub fn operate<S: Alter, D: Digester>(
         }
         Operation::AbortMultipartUpload { object, upload } => {
             uploads::abort_upload(connection, alloc, tenant, object, *upload)
+        }
+        _ => Err(StepError::Failed(Trouble::Store)),
+    }
+}
+
+/// Carries out an operation of a tenant, on a host with these limits and at a moment that is not after the last stamp:
+/// NotImplemented for those that the host doesn't do yet. Bytes are stored in blocks of at most this size.
+pub fn operate<S: Alter, D: Digester>(
+    connection: &mut Connection<S>,
+    alloc: Global,
+    digester: &D,
+    block_size: u64,
+    limits: &Limits,
+    tenant: &TenantName,
+    at: Moment,
+    operation: &Operation,
+    body: &[u8],
+) -> Result<Answer, StepError<Rejection>>
+    requires working { Works S.Store connection.old }
+    requires digests { IsClean S.Store connection.old → AreDigests D.digest_of (tables S.Store connection.old).blocks }
+    requires positive { 1 ≤ block_size }
+    requires early { IsClean S.Store connection.old → at ≤ latest_of (tables S.Store connection.old) }
+    ensures within { StaysWithin S.Store connection.old connection.new }
+    ensures opens { Unless result (StaysOpen S.Store connection.old connection.new) }
+    ensures working { Unless result (StillWorksBy S.Store D.digest_of connection.old connection.new) }
+    ensures carries { IsClean S.Store connection.new
+        → Carries answer_view tenant.now (operated limits.now at body.now operation.now)
+        (tables S.Store connection.old) (tables S.Store connection.new) result }
+{
+    match operation {
+        Operation::ListBuckets
+        | Operation::CreateBucket(_)
+        | Operation::HeadBucket(_)
+        | Operation::DeleteBucket(_)
+        | Operation::ListObjectsV2 { .. }
+        | Operation::ListObjectVersions { .. }
+        | Operation::GetBucketVersioning(_)
+        | Operation::PutBucketVersioning(_) => {
+            operate_bucket(connection, alloc, tenant, at, operation, body)
+        }
+        Operation::PutObject { .. }
+        | Operation::CopyObject { .. }
+        | Operation::GetObject { .. }
+        | Operation::HeadObject { .. }
+        | Operation::DeleteObject { .. } => {
+            operate_object(connection, alloc, digester, block_size, tenant, at, operation, body)
+        }
+        Operation::CreateMultipartUpload(_)
+        | Operation::UploadPart { .. }
+        | Operation::CompleteMultipartUpload { .. }
+        | Operation::AbortMultipartUpload { .. } => {
+            operate_upload(
+                connection, alloc, digester, block_size, limits, tenant, at, operation, body,
+            )
         }
         _ => Err(StepError::from(Refusal::NotImplemented)),
     }

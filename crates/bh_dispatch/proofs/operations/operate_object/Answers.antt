@@ -1,0 +1,37 @@
+use Rattle.std.proofs.Common.{sym}
+use Rattle.sqlite.specs.Held.{state}
+use Rattle.bh_dispatch.proofs.Storing.{by_any}
+use Rattle.bh_dispatch.proofs.Steps.{puts_object, copies_object, gets_object, heads_object, deletes_object}
+use Rattle.bh_dispatch.proofs.operations.operate_object.Goals as goal
+
+pub returns-in-PutObject-clause-carries : goal.returns-in-PutObject-clause-carries
+returns-in-PutObject-clause-carries g c limits clean =
+    rw (c.in-PutObject.is, puts_object limits c.args.at c.args.body.now c.in-PutObject.object c.in-PutObject.checksum, sym c.bytes_of-given.ensures) (c.put_object.ensures.carries clean)
+
+pub returns-in-CopyObject-clause-working : goal.returns-in-CopyObject-clause-working
+returns-in-CopyObject-clause-working g c = by_any g.D.Digester.digest_of (state g.S.Store c.args.connection.now) (state g.S.Store c.copy_object.new.connection) c.copy_object.result c.copy_object.ensures.working
+
+pub returns-in-CopyObject-clause-carries : goal.returns-in-CopyObject-clause-carries
+returns-in-CopyObject-clause-carries g c limits clean =
+    rw (c.in-CopyObject.is, copies_object limits c.args.at c.args.body.now c.in-CopyObject.object c.in-CopyObject.source) (c.copy_object.ensures.carries clean)
+
+pub returns-in-GetObject-clause-working : goal.returns-in-GetObject-clause-working
+returns-in-GetObject-clause-working g c = by_any g.D.Digester.digest_of (state g.S.Store c.args.connection.now) (state g.S.Store c.get_object.new.connection) c.get_object.result c.get_object.ensures.working
+
+pub returns-in-GetObject-clause-carries : goal.returns-in-GetObject-clause-carries
+returns-in-GetObject-clause-carries g c limits clean =
+    rw (c.in-GetObject.is, gets_object limits c.args.at c.args.body.now c.in-GetObject.object c.in-GetObject.version c.in-GetObject.range, sym c.bytes_of.ensures) (c.get_object.ensures.carries clean)
+
+pub returns-in-HeadObject-clause-working : goal.returns-in-HeadObject-clause-working
+returns-in-HeadObject-clause-working g c = by_any g.D.Digester.digest_of (state g.S.Store c.args.connection.now) (state g.S.Store c.head_object.new.connection) c.head_object.result c.head_object.ensures.working
+
+pub returns-in-HeadObject-clause-carries : goal.returns-in-HeadObject-clause-carries
+returns-in-HeadObject-clause-carries g c limits clean =
+    rw (c.in-HeadObject.is, heads_object limits c.args.at c.args.body.now c.in-HeadObject.object c.in-HeadObject.version) (c.head_object.ensures.carries clean)
+
+pub returns-in-DeleteObject-clause-working : goal.returns-in-DeleteObject-clause-working
+returns-in-DeleteObject-clause-working g c = by_any g.D.Digester.digest_of (state g.S.Store c.args.connection.now) (state g.S.Store c.delete_object.new.connection) c.delete_object.result c.delete_object.ensures.working
+
+pub returns-in-DeleteObject-clause-carries : goal.returns-in-DeleteObject-clause-carries
+returns-in-DeleteObject-clause-carries g c limits clean =
+    rw (c.in-DeleteObject.is, deletes_object limits c.args.at c.args.body.now c.in-DeleteObject.object c.in-DeleteObject.version) (c.delete_object.ensures.carries clean)
