@@ -1,4 +1,4 @@
-use Rattle.examples.proofs.Made.{at_rest}
+use Rattle.bh_create.proofs.Resting.{at_rest}
 use Rattle.examples.proofs.retried.retry.Goals as goal
 
 pub answers-requires : goal.answers-requires

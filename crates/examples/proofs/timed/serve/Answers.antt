@@ -1,4 +1,4 @@
-use Rattle.examples.proofs.Made.{at_rest}
+use Rattle.bh_create.proofs.Resting.{at_rest}
 use Rattle.examples.proofs.timed.serve.Goals as goal
 
 pub apply_timed-requires : goal.apply_timed-requires
