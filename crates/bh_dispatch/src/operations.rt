@@ -528,7 +528,9 @@ pub fn operate<S: Alter, D: Digester>(
         | Operation::GetObject { .. }
         | Operation::HeadObject { .. }
         | Operation::DeleteObject { .. } => {
-            operate_object(connection, alloc, digester, block_size, tenant, at, operation, body)
+            operate_object(
+                connection, alloc, digester, block_size, tenant, at, operation, body,
+            )
         }
         Operation::CreateMultipartUpload(_)
         | Operation::UploadPart { .. }
