@@ -11,11 +11,11 @@ use Rattle.bh_types.specs.declared.refusal.Refusal.TheVariants.{NotImplemented}
 use Rattle.bh_types.specs.declared.rejection.Rejection.{Rejection}
 use Rattle.bh_model.specs.Operations.{Answer, Outcome, create_bucket, head_bucket, delete_bucket, list_buckets, get_versioning, put_object, copy_object, get_object, head_object, delete_object}
 use Rattle.bh_model.specs.State.{Octets, State as Machine}
-use Rattle.bh_model.specs.Listings.{list_objects, list_versions}
+use Rattle.bh_model.specs.Listings.{list_objects, list_versions, list_uploads, list_parts}
 use Rattle.bh_model.specs.Parts.{Naming}
 use Rattle.bh_model.specs.Shown.{naming_of}
 use Rattle.bh_model.specs.Uploads.{create_upload, upload_part, complete_upload, abort_upload}
-use Rattle.bh_machine.specs.Machine.{set_versioning, page_asked, naming, finish_upload, operated, place_asked}
+use Rattle.bh_machine.specs.Machine.{set_versioning, page_asked, naming, finish_upload, operated, place_asked, upload_asked}
 use Rattle.bh_operation.specs.declared.page.Page.{Page}
 use Rattle.bh_operation.specs.declared.address.ObjectName.{ObjectName}
 use Rattle.bh_operation.specs.declared.operation.CopySource.{CopySource}
@@ -33,6 +33,8 @@ use Rattle.bh_storage.specs.Errors.{step_rejected}
 use Rattle.bh_storage.specs.declared.error.StepError.{StepError}
 use Rattle.bh_storage.specs.declared.error.StepError.TheVariants.{Refused, Failed}
 use Rattle.bh_operation.specs.declared.page.VersionMarker.{VersionMarker}
+use Rattle.bh_operation.specs.declared.page.UploadMarker.{UploadMarker}
+use Rattle.bh_operation.specs.declared.page.PartPage.{PartPage}
 
 -- ---- what an operation gave, told as an answer
 
@@ -76,6 +78,11 @@ pub lists_versions : (limits : HostLimits) (at : ℕ) (body : Octets) (bucket : 
 unfolding operated
 lists_versions limits at body bucket page after = refl
 
+pub lists_uploads : (limits : HostLimits) (at : ℕ) (body : Octets) (bucket : Octets) (page : Page) (after : Option UploadMarker) → operated limits at body (ListMultipartUploads bucket page after)
+    ≡ (λ s. plainly (list_uploads bucket (page_asked page) (option_map upload_asked after) s))
+unfolding operated
+lists_uploads limits at body bucket page after = refl
+
 pub tells_versioning : (limits : HostLimits) (at : ℕ) (body : Octets) (bucket : Octets) → operated limits at body (GetBucketVersioning bucket) ≡ (λ s. plainly (get_versioning bucket s))
 unfolding operated
 tells_versioning limits at body bucket = refl
@@ -116,6 +123,11 @@ pub puts_part : (limits : HostLimits) (at : ℕ) (body : Octets) (object : Objec
 unfolding operated
 puts_part limits at body object upload number checksum = refl
 
+pub lists_parts : (limits : HostLimits) (at : ℕ) (body : Octets) (object : ObjectName) (upload : Option UploadId) (page : PartPage)
+    → operated limits at body (ListParts object upload page) ≡ (λ s. plainly (list_parts object.bucket object.key upload page.size page.after s))
+unfolding operated
+lists_parts limits at body object upload page = refl
+
 pub completes_upload : (limits : HostLimits) (at : ℕ) (body : Octets) (object : ObjectName) (upload : Option UploadId) → operated limits at body (CompleteMultipartUpload object upload)
     ≡ (λ s. plainly (finish_upload limits at object.bucket object.key upload body s))
 unfolding operated
@@ -143,6 +155,7 @@ pub record IsNotDone (operation : Operation) : Type 0 where
   pub delete : (bucket : Octets) → operation ≡ DeleteBucket bucket → ⊥
   pub keys : (bucket : Octets) (page : Page) (token : Option Octets) → operation ≡ ListObjectsV2 bucket page token → ⊥
   pub versions : (bucket : Octets) (page : Page) (after : Option VersionMarker) → operation ≡ ListObjectVersions bucket page after → ⊥
+  pub uploads : (bucket : Octets) (page : Page) (after : Option UploadMarker) → operation ≡ ListMultipartUploads bucket page after → ⊥
   pub ask : (bucket : Octets) → operation ≡ GetBucketVersioning bucket → ⊥
   pub set : (bucket : Octets) → operation ≡ PutBucketVersioning bucket → ⊥
   pub put : (object : ObjectName) (checksum : Option Octets) → operation ≡ PutObject object checksum → ⊥
@@ -152,6 +165,7 @@ pub record IsNotDone (operation : Operation) : Type 0 where
   pub remove : (object : ObjectName) (version : Wanted) → operation ≡ DeleteObject object version → ⊥
   pub begin : (object : ObjectName) → operation ≡ CreateMultipartUpload object → ⊥
   pub part : (object : ObjectName) (upload : Option UploadId) (number : ℕ) (checksum : Option Octets) → operation ≡ UploadPart object upload number checksum → ⊥
+  pub parts : (object : ObjectName) (upload : Option UploadId) (page : PartPage) → operation ≡ ListParts object upload page → ⊥
   pub complete : (object : ObjectName) (upload : Option UploadId) → operation ≡ CompleteMultipartUpload object upload → ⊥
   pub abort : (object : ObjectName) (upload : Option UploadId) → operation ≡ AbortMultipartUpload object upload → ⊥
 
@@ -164,7 +178,7 @@ not_done limits at body s (HeadBucket x) others = absurd (others.head x refl)
 not_done limits at body s (DeleteBucket x) others = absurd (others.delete x refl)
 not_done limits at body s (ListObjectsV2 x y z) others = absurd (others.keys x y z refl)
 not_done limits at body s (ListObjectVersions x y z) others = absurd (others.versions x y z refl)
-not_done limits at body s (ListMultipartUploads x y z) others = refl
+not_done limits at body s (ListMultipartUploads x y z) others = absurd (others.uploads x y z refl)
 not_done limits at body s (GetBucketVersioning x) others = absurd (others.ask x refl)
 not_done limits at body s (PutBucketVersioning x) others = absurd (others.set x refl)
 not_done limits at body s (GetLifecycle x) others = refl
@@ -177,6 +191,6 @@ not_done limits at body s (HeadObject x y) others = absurd (others.look x y refl
 not_done limits at body s (DeleteObject x y) others = absurd (others.remove x y refl)
 not_done limits at body s (CreateMultipartUpload x) others = absurd (others.begin x refl)
 not_done limits at body s (UploadPart x y z w) others = absurd (others.part x y z w refl)
-not_done limits at body s (ListParts x y z) others = refl
+not_done limits at body s (ListParts x y z) others = absurd (others.parts x y z refl)
 not_done limits at body s (CompleteMultipartUpload x y) others = absurd (others.complete x y refl)
 not_done limits at body s (AbortMultipartUpload x y) others = absurd (others.abort x y refl)

@@ -4,7 +4,7 @@ ghost use Rattle.std.specs.Result.{result_map_both};
 ghost use Rattle.bh_storage.specs.Errors.{step_rejected};
 ghost use Rattle.bh_storage.specs.declared.answer.Answer.TheVariants as answer;
 
-use bh_docs::{BucketEntry, ObjectsPage, VersionsPage};
+use bh_docs::{BucketEntry, ObjectsPage, PartsPage, UploadsPage, VersionsPage};
 use bh_storage::answer::{
     Answer, BegunUpload, CompletedUpload, CopiedVersion, RemovedEntry, StoredVersion,
 };
@@ -74,6 +74,20 @@ pub fn versions(
     ensures { result ≡ result_map_both answer.Versions step_rejected outcome }
 {
     Ok(Answer::Versions(outcome?))
+}
+
+pub fn uploads(
+    outcome: Result<UploadsPage, StepError<Refusal>>,
+) -> Result<Answer, StepError<Rejection>>
+    ensures { result ≡ result_map_both answer.Uploads step_rejected outcome }
+{
+    Ok(Answer::Uploads(outcome?))
+}
+
+pub fn parts(outcome: Result<PartsPage, StepError<Refusal>>) -> Result<Answer, StepError<Rejection>>
+    ensures { result ≡ result_map_both answer.Parts step_rejected outcome }
+{
+    Ok(Answer::Parts(outcome?))
 }
 
 pub fn begun(

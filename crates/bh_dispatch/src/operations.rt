@@ -365,6 +365,11 @@ fn operate_bucket<S: Alter>(
             page,
             after,
         } => list_versions(connection, alloc, tenant, bucket, page, after),
+        Operation::ListMultipartUploads {
+            bucket,
+            page,
+            after,
+        } => uploads::list_uploads(connection, alloc, tenant, bucket, page, after),
         Operation::GetBucketVersioning(bucket) => versioning(connection, tenant, bucket),
         Operation::PutBucketVersioning(bucket) => {
             set_versioning(connection, alloc, tenant, bucket, body)
@@ -478,6 +483,11 @@ fn operate_upload<S: Alter, D: Digester>(
                 bytes_of(checksum),
             )
         }
+        Operation::ListParts {
+            object,
+            upload,
+            page,
+        } => { uploads::list_parts(connection, alloc, tenant, object, *upload, *page) }
         Operation::CompleteMultipartUpload { object, upload } => {
             uploads::complete_upload(connection, alloc, limits, tenant, at, object, *upload, body)
         }
@@ -519,6 +529,7 @@ pub fn operate<S: Alter, D: Digester>(
         | Operation::DeleteBucket(_)
         | Operation::ListObjectsV2 { .. }
         | Operation::ListObjectVersions { .. }
+        | Operation::ListMultipartUploads { .. }
         | Operation::GetBucketVersioning(_)
         | Operation::PutBucketVersioning(_) => {
             operate_bucket(connection, alloc, tenant, at, operation, body)
@@ -534,6 +545,7 @@ pub fn operate<S: Alter, D: Digester>(
         }
         Operation::CreateMultipartUpload(_)
         | Operation::UploadPart { .. }
+        | Operation::ListParts { .. }
         | Operation::CompleteMultipartUpload { .. }
         | Operation::AbortMultipartUpload { .. } => {
             operate_upload(

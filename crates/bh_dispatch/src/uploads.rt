@@ -1,8 +1,9 @@
 //! The operations on multipart uploads, as answers of a host's storage.
 ghost use Rattle.std.specs.Option.{option_copied};
-ghost use Rattle.std.specs.Prelude.{◌≤◌};
+ghost use Rattle.std.specs.Prelude.{◌≡◌, ◌≤◌, option_map};
 ghost use Rattle.bh_types.specs.Rejections.{plainly};
-ghost use Rattle.bh_machine.specs.Machine.{finish_upload};
+ghost use Rattle.bh_machine.specs.Machine.{finish_upload, page_asked, upload_asked};
+ghost use Rattle.bh_model.specs.Listings as listings;
 ghost use Rattle.bh_model.specs.Uploads as machine;
 ghost use Rattle.bh_view.specs.Blocks.{AreDigests};
 ghost use Rattle.bh_view.specs.View.{latest_of};
@@ -14,14 +15,18 @@ ghost use Rattle.bh_schema.specs.Working.{Works, StillWorks, StillWorksBy};
 use crate::answers;
 use bh_docs::read_complete;
 use bh_operation::address::ObjectName;
+use bh_operation::page::{Page, PartPage, UploadMarker};
+use bh_pages::gathering::Asked;
 use bh_schema::host::Digester;
 use bh_storage::answer::Answer;
-use bh_storage::error::StepError;
+use bh_storage::error::{StepError, Trouble};
+use bh_types::bucket::BucketName;
 use bh_types::id::UploadId;
 use bh_types::limits::Limits;
 use bh_types::moment::Moment;
 use bh_types::names::TenantName;
 use bh_types::rejection::Rejection;
+use bh_upload_listing::parts::PartsAsked;
 use bh_uploads::begin::NewUpload;
 use bh_uploads::parts::NewPart;
 use bh_uploads::reads::NamedUpload;
@@ -138,4 +143,81 @@ pub fn abort_upload<S: Alter>(
         upload,
     };
     answers::removed(abort::abort_upload(connection, alloc, &upload))
+}
+
+/// The marker's key, and which upload of it a page of uploads comes after.
+fn place_of(after: &Option<UploadMarker>) -> (Option<&[u8]>, Option<UploadId>)
+    ensures { option_map (λ key. record { key = key; upload = result.1 }) (option_copied result.0) ≡ option_map upload_asked after.now }
+{
+    match after {
+        Some(marker) => (Some(marker.key.as_str().as_bytes()), marker.upload),
+        None => (None, None),
+    }
+}
+
+/// A page of a listing is of 1,000 entries at most, so its size fits.
+pub fn list_uploads<S: Alter>(
+    connection: &mut Connection<S>,
+    alloc: Global,
+    tenant: &TenantName,
+    bucket: &BucketName,
+    page: &Page,
+    after: &Option<UploadMarker>,
+) -> Result<Answer, StepError<Rejection>>
+    requires { Works S.Store connection.old }
+    ensures within { StaysWithin S.Store connection.old connection.new }
+    ensures opens { Unless result (StaysOpen S.Store connection.old connection.new) }
+    ensures working { Unless result (StillWorks S.Store connection.old connection.new) }
+    ensures carries { IsClean S.Store connection.new
+        → Carries answer_view tenant.now
+        (λ s. plainly (listings.list_uploads bucket.now (page_asked page.now) (option_map upload_asked after.now) s))
+        (tables S.Store connection.old) (tables S.Store connection.new) result }
+{
+    let Ok(max) = u32::try_from(page.size) else {
+        return Err(StepError::Failed(Trouble::Store));
+    };
+    let (key, upload) = place_of(after);
+    let asked = Asked {
+        prefix: page.prefix.as_str().as_bytes(),
+        delimiter: page.delimiter.as_str().as_bytes(),
+        after: key,
+        max,
+    };
+    answers::uploads(bh_upload_listing::uploads::list_uploads(
+        connection, alloc, tenant, bucket, &asked, upload,
+    ))
+}
+
+/// A page of a listing is of 1,000 entries at most, so its size fits.
+pub fn list_parts<S: Alter>(
+    connection: &mut Connection<S>,
+    alloc: Global,
+    tenant: &TenantName,
+    object: &ObjectName,
+    upload: Option<UploadId>,
+    page: PartPage,
+) -> Result<Answer, StepError<Rejection>>
+    requires { Works S.Store connection.old }
+    ensures within { StaysWithin S.Store connection.old connection.new }
+    ensures opens { Unless result (StaysOpen S.Store connection.old connection.new) }
+    ensures working { Unless result (StillWorks S.Store connection.old connection.new) }
+    ensures carries { IsClean S.Store connection.new
+        → Carries answer_view tenant.now
+        (λ s. plainly (listings.list_parts object.now.bucket object.now.key upload page.size page.after s))
+        (tables S.Store connection.old) (tables S.Store connection.new) result }
+{
+    let Ok(max) = u32::try_from(page.size) else {
+        return Err(StepError::Failed(Trouble::Store));
+    };
+    let upload = NamedUpload {
+        tenant,
+        bucket: &object.bucket,
+        key: &object.key,
+        upload,
+    };
+    let asked = PartsAsked {
+        max,
+        after: page.after,
+    };
+    answers::parts(bh_upload_listing::parts::list_parts(connection, alloc, &upload, asked))
 }

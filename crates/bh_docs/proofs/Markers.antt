@@ -4,10 +4,9 @@ use Rattle.std.specs.Prelude.{codes}
 use Rattle.serde_json.specs.Data.{Data}
 use Rattle.bh_docs.specs.Documents.{with_member}
 use Rattle.bh_docs.specs.Pages.{uploads_with, versions_with}
-use Rattle.bh_docs.specs.declared.uploads.UploadsPage.{UploadsPage}
-use Rattle.bh_model.specs.Pages.{VersionsListed}
+use Rattle.bh_model.specs.Pages.{VersionsListed, UploadsListed}
 
-pub with_member-uploads_with : (p : UploadsPage) (name id : Option Data)
+pub with_member-uploads_with : (p : UploadsListed) (name id : Option Data)
     → with_member (codes "NextUploadIdMarker") id (with_member (codes "NextKeyMarker") name (uploads_with p None None)) ≡ uploads_with p name id
 with_member-uploads_with p None None = refl
 with_member-uploads_with p None (Some i) = refl

@@ -1,13 +1,12 @@
 -- The pages of listings as JSON data. A page says where the next one begins where it is truncated,
 -- and only there.
-use Rattle.std.specs.Prelude.{ℕ, ◌+◌, List, map, length, codes, true, false, is_some, Option, Some, None, option_map, option_and_then, string_bytes, String}
-use Rattle.std.specs.declared.alloc.Global.{Global}
+use Rattle.std.specs.Prelude.{ℕ, ◌+◌, List, map, length, codes, true, false, is_some, Option, Some, None, option_map, option_and_then, string_bytes}
 use Rattle.serde_json.specs.Data.{Data, boolean, string, object, Members, member, no_members}
 use Rattle.serde_json.specs.Written.{compact_text}
 use Rattle.bh_types.specs.Ids.{version_text, upload_text}
 use Rattle.bh_docs.specs.Documents.{natural, moment, array_of, member_if}
 use Rattle.bh_model.specs.State.{Octets}
-use Rattle.bh_model.specs.Pages.{ObjectItem, ObjectsListed, StoredItem, VersionItem, VersionNext, VersionsListed}
+use Rattle.bh_model.specs.Pages.{ObjectItem, ObjectsListed, StoredItem, VersionItem, VersionNext, VersionsListed, UploadItem, UploadNext, UploadsListed, PartItem, PartsListed}
 use Rattle.bh_types.specs.Tokens.{token_text}
 use Rattle.bh_docs.specs.declared.objects.ObjectEntry.{ObjectEntry}
 use Rattle.bh_docs.specs.declared.objects.ObjectsPage.{ObjectsPage}
@@ -170,75 +169,112 @@ versions_text p = compact_text (versions_data p)
 
 -- ---- ListMultipartUploads
 
-abbrev pub upload_data : UploadEntry → Data
+-- what contracts see of a page
+abbrev pub upload_view : UploadEntry → UploadItem
+upload_view u = record { key = string_bytes u.key; id = u.id; begun = u.initiated }
+
+abbrev pub upload_next_view : UploadsNext → UploadNext
+upload_next_view n = record { name = string_bytes n.name; id = n.id }
+
+abbrev pub uploads_view : UploadsPage → UploadsListed
+uploads_view p = record {
+  bucket = string_bytes p.bucket;
+  prefix = string_bytes p.prefix;
+  max = p.max;
+  prefixes = map prefix_view p.prefixes.items;
+  uploads = map upload_view p.uploads.items;
+  next = option_map upload_next_view p.next;
+}
+
+abbrev pub upload_data : UploadItem → Data
 upload_data u =
-    object (member (codes "Initiated") (moment u.initiated)
-    (member (codes "Key") (string (string_bytes u.key))
+    object (member (codes "Initiated") (moment u.begun)
+    (member (codes "Key") (string u.key)
     (member (codes "UploadId") (string (upload_text u.id)) no_members)))
 
+abbrev pub upload_entry_data : UploadEntry → Data
+upload_entry_data u = upload_data (upload_view u)
+
 -- Amazon S3 API Reference, ListMultipartUploads, as JSON
-abbrev pub uploads_with : UploadsPage → Option Data → Option Data → Data
+abbrev pub uploads_with : UploadsListed → Option Data → Option Data → Data
 uploads_with p name id =
-    object (member (codes "Bucket") (string (string_bytes p.bucket))
-    (member (codes "CommonPrefixes") (array_of prefix_data p.prefixes.items)
+    object (member (codes "Bucket") (string p.bucket)
+    (member (codes "CommonPrefixes") (array_of common_data p.prefixes)
     (member (codes "IsTruncated") (boolean (is_some p.next))
     (member (codes "MaxUploads") (natural p.max)
     (member_if (codes "NextKeyMarker") name
     (member_if (codes "NextUploadIdMarker") id
-    (member (codes "Prefix") (string (string_bytes p.prefix))
-    (member (codes "Uploads") (array_of upload_data p.uploads.items) no_members))))))))
+    (member (codes "Prefix") (string p.prefix)
+    (member (codes "Uploads") (array_of upload_data p.uploads) no_members))))))))
 
 -- a page with neither lists nor markers
-abbrev pub uploads_plain : UploadsPage → Data
+abbrev pub uploads_plain : UploadsListed → Data
 uploads_plain p =
-    object (member (codes "Bucket") (string (string_bytes p.bucket))
+    object (member (codes "Bucket") (string p.bucket)
     (member (codes "IsTruncated") (boolean (is_some p.next))
     (member (codes "MaxUploads") (natural p.max)
-    (member (codes "Prefix") (string (string_bytes p.prefix)) no_members))))
+    (member (codes "Prefix") (string p.prefix) no_members))))
 
-abbrev pub upload_name_data : Option UploadsNext → Option Data
-upload_name_data next = option_map (λ n. string (string_bytes n.name)) next
+abbrev pub upload_name_data : Option UploadNext → Option Data
+upload_name_data next = option_map (λ n. string n.name) next
 
-abbrev pub upload_id_data : Option UploadsNext → Option Data
+abbrev pub upload_id_data : Option UploadNext → Option Data
 upload_id_data next = option_map (λ id. string (upload_text id)) (option_and_then (λ n. n.id) next)
 
-abbrev pub uploads_data : UploadsPage → Data
+abbrev pub uploads_data : UploadsListed → Data
 uploads_data p = uploads_with p (upload_name_data p.next) (upload_id_data p.next)
 
-abbrev pub uploads_text : UploadsPage → List ℕ
+abbrev pub uploads_text : UploadsListed → List ℕ
 uploads_text p = compact_text (uploads_data p)
 
 -- ---- ListParts
 
-abbrev pub part_data : PartEntry → Data
+-- what contracts see of a page
+abbrev pub part_view : PartEntry → PartItem
+part_view p = record { number = p.number; moment = p.modified; size = p.size; checksum = string_bytes p.checksum }
+
+abbrev pub parts_view : PartsPage → PartsListed
+parts_view p = record {
+  bucket = string_bytes p.bucket;
+  key = string_bytes p.key;
+  upload = p.upload;
+  max = p.max;
+  parts = map part_view p.parts.items;
+  next = p.next;
+}
+
+abbrev pub part_data : PartItem → Data
 part_data p =
-    object (member (codes "ChecksumSHA256") (string (string_bytes p.checksum))
-    (member (codes "LastModified") (moment p.modified)
+    object (member (codes "ChecksumSHA256") (string p.checksum)
+    (member (codes "LastModified") (moment p.moment)
     (member (codes "PartNumber") (natural p.number)
     (member (codes "Size") (natural p.size) no_members))))
 
+abbrev pub part_entry_data : PartEntry → Data
+part_entry_data p = part_data (part_view p)
+
 -- Amazon S3 API Reference, ListParts, as JSON
-abbrev pub parts_with : PartsPage → Option Data → Data
+abbrev pub parts_with : PartsListed → Option Data → Data
 parts_with p number =
-    object (member (codes "Bucket") (string (string_bytes p.bucket))
+    object (member (codes "Bucket") (string p.bucket)
     (member (codes "IsTruncated") (boolean (is_some p.next))
-    (member (codes "Key") (string (string_bytes p.key))
+    (member (codes "Key") (string p.key)
     (member (codes "MaxParts") (natural p.max)
     (member_if (codes "NextPartNumberMarker") number
-    (member (codes "Parts") (array_of part_data p.parts.items)
+    (member (codes "Parts") (array_of part_data p.parts)
     (member (codes "UploadId") (string (upload_text p.upload)) no_members)))))))
 
 -- a page with neither list nor marker
-abbrev pub parts_plain : PartsPage → Data
+abbrev pub parts_plain : PartsListed → Data
 parts_plain p =
-    object (member (codes "Bucket") (string (string_bytes p.bucket))
+    object (member (codes "Bucket") (string p.bucket)
     (member (codes "IsTruncated") (boolean (is_some p.next))
-    (member (codes "Key") (string (string_bytes p.key))
+    (member (codes "Key") (string p.key)
     (member (codes "MaxParts") (natural p.max)
     (member (codes "UploadId") (string (upload_text p.upload)) no_members)))))
 
-abbrev pub parts_data : PartsPage → Data
+abbrev pub parts_data : PartsListed → Data
 parts_data p = parts_with p (option_map natural p.next)
 
-abbrev pub parts_text : PartsPage → List ℕ
+abbrev pub parts_text : PartsListed → List ℕ
 parts_text p = compact_text (parts_data p)

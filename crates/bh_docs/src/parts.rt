@@ -24,9 +24,9 @@ pub struct PartEntry {
 }
 
 impl Listed for PartEntry {
-    ghost use Rattle.bh_docs.specs.Pages.{part_data};
+    ghost use Rattle.bh_docs.specs.Pages.{part_entry_data};
 
-    ghost shown = { part_data };
+    ghost shown = { part_entry_data };
 
     fn value(&self, alloc: Global) -> Result<Value, AllocError> {
         object_of(
@@ -57,14 +57,14 @@ pub struct PartsPage {
 /// The answer to ListParts (Amazon S3 API Reference): compact JSON with its members in byte order. An error says that
 /// memory ran out.
 pub fn parts_document(alloc: Global, page: &PartsPage) -> Result<String, AllocError>
-    ensures { IfOk result (λ text. string_bytes text ≡ spec.parts_text page.now) }
+    ensures { IfOk result (λ text. string_bytes text ≡ spec.parts_text (spec.parts_view page.now)) }
 {
     let document = parts_value(alloc, page)?;
     print(alloc, &document)
 }
 
 fn parts_value(alloc: Global, page: &PartsPage) -> Result<Value, AllocError>
-    ensures { IfOk result (λ value. view value ≡ spec.parts_data page.now) }
+    ensures { IfOk result (λ value. view value ≡ spec.parts_data (spec.parts_view page.now)) }
 {
     let document = parts_without_next(alloc, page)?;
     with_shown(
@@ -76,14 +76,14 @@ fn parts_value(alloc: Global, page: &PartsPage) -> Result<Value, AllocError>
 }
 
 fn parts_without_next(alloc: Global, page: &PartsPage) -> Result<Value, AllocError>
-    ensures { IfOk result (λ value. view value ≡ spec.parts_with page.now None) }
+    ensures { IfOk result (λ value. view value ≡ spec.parts_with (spec.parts_view page.now) None) }
 {
     let document = parts_without_list(alloc, page)?;
     with_entries(alloc, document, "Parts", page.parts.as_slice())
 }
 
 fn parts_without_list(alloc: Global, page: &PartsPage) -> Result<Value, AllocError>
-    ensures { IfOk result (λ value. view value ≡ spec.parts_plain page.now) }
+    ensures { IfOk result (λ value. view value ≡ spec.parts_plain (spec.parts_view page.now)) }
 {
     object_of(
         alloc,

@@ -1,6 +1,6 @@
 //! Pages of ListMultipartUploads.
 
-ghost use Rattle.std.specs.Prelude.{◌≡◌, None, IfOk};
+ghost use Rattle.std.specs.Prelude.{◌≡◌, None, option_map, IfOk};
 ghost use Rattle.std.specs.String.{string_bytes};
 ghost use Rattle.serde_json.specs.View.{view};
 ghost use Rattle.bh_docs.specs.Members.{shown_data};
@@ -23,9 +23,9 @@ pub struct UploadEntry {
 }
 
 impl Listed for UploadEntry {
-    ghost use Rattle.bh_docs.specs.Pages.{upload_data};
+    ghost use Rattle.bh_docs.specs.Pages.{upload_entry_data};
 
-    ghost shown = { upload_data };
+    ghost shown = { upload_entry_data };
 
     fn value(&self, alloc: Global) -> Result<Value, AllocError> {
         object_of(
@@ -64,14 +64,14 @@ pub struct UploadsPage {
 /// The answer to ListMultipartUploads (Amazon S3 API Reference): compact JSON with its members in byte order. An error says
 /// that memory ran out.
 pub fn uploads_document(alloc: Global, page: &UploadsPage) -> Result<String, AllocError>
-    ensures { IfOk result (λ text. string_bytes text ≡ spec.uploads_text page.now) }
+    ensures { IfOk result (λ text. string_bytes text ≡ spec.uploads_text (spec.uploads_view page.now)) }
 {
     let document = uploads_value(alloc, page)?;
     print(alloc, &document)
 }
 
 fn uploads_value(alloc: Global, page: &UploadsPage) -> Result<Value, AllocError>
-    ensures { IfOk result (λ value. view value ≡ spec.uploads_data page.now) }
+    ensures { IfOk result (λ value. view value ≡ spec.uploads_data (spec.uploads_view page.now)) }
 {
     let document = uploads_without_next(alloc, page)?;
     let document = with_shown(alloc, document, "NextKeyMarker", &next_name(&page.next))?;
@@ -79,7 +79,7 @@ fn uploads_value(alloc: Global, page: &UploadsPage) -> Result<Value, AllocError>
 }
 
 fn uploads_without_next(alloc: Global, page: &UploadsPage) -> Result<Value, AllocError>
-    ensures { IfOk result (λ value. view value ≡ spec.uploads_with page.now None None) }
+    ensures { IfOk result (λ value. view value ≡ spec.uploads_with (spec.uploads_view page.now) None None) }
 {
     let document = uploads_without_lists(alloc, page)?;
     let document = with_entries(alloc, document, "CommonPrefixes", page.prefixes.as_slice())?;
@@ -87,7 +87,7 @@ fn uploads_without_next(alloc: Global, page: &UploadsPage) -> Result<Value, Allo
 }
 
 fn uploads_without_lists(alloc: Global, page: &UploadsPage) -> Result<Value, AllocError>
-    ensures { IfOk result (λ value. view value ≡ spec.uploads_plain page.now) }
+    ensures { IfOk result (λ value. view value ≡ spec.uploads_plain (spec.uploads_view page.now)) }
 {
     object_of(
         alloc,
@@ -101,7 +101,7 @@ fn uploads_without_lists(alloc: Global, page: &UploadsPage) -> Result<Value, All
 }
 
 fn next_name(next: &Option<UploadsNext>) -> Shown<'_>
-    ensures { shown_data result ≡ spec.upload_name_data next.now }
+    ensures { shown_data result ≡ spec.upload_name_data (option_map spec.upload_next_view next.now) }
 {
     match next {
         Some(next) => Shown::Text(next.name.as_str()),
@@ -110,7 +110,7 @@ fn next_name(next: &Option<UploadsNext>) -> Shown<'_>
 }
 
 fn next_id(next: &Option<UploadsNext>) -> Shown<'_>
-    ensures { shown_data result ≡ spec.upload_id_data next.now }
+    ensures { shown_data result ≡ spec.upload_id_data (option_map spec.upload_next_view next.now) }
 {
     match next {
         Some(UploadsNext { id: Some(id), .. }) => Shown::Upload(*id),

@@ -24,16 +24,16 @@ use Rattle.bh_listing.specs.Versions.{row_numbered, place_rows, own_rows, Beginn
 use Rattle.bh_listing.proofs.VersionViewed.{chunk_from, chunk_older}
 use Rattle.bh_listing.proofs.Looping.{past_nat, upto_nat}
 
-all_take : {X : Type 0} (P : X → Type 0) (n : ℕ) (l : List X) → AllByRecursion P l → AllByRecursion P (take n l)
+pub all_take : {X : Type 0} (P : X → Type 0) (n : ℕ) (l : List X) → AllByRecursion P l → AllByRecursion P (take n l)
 all_take P zero l all = tt
 all_take P (suc n) [] all = tt
 all_take P (suc n) (x ∷ l) all = (all.0, all_take P n l all.1)
 
-all_both : {X : Type 0} (P Q : X → Type 0) (l : List X) → AllByRecursion P l → AllByRecursion Q l → AllByRecursion (λ x. P x × Q x) l
+pub all_both : {X : Type 0} (P Q : X → Type 0) (l : List X) → AllByRecursion P l → AllByRecursion Q l → AllByRecursion (λ x. P x × Q x) l
 all_both P Q [] p q = tt
 all_both P Q (x ∷ l) p q = ((p.0, q.0), all_both P Q l p.1 q.1)
 
-last_map : {X Y : Type 0} (f : X → Y) (l : List X) (x : X) → last_of l ≡ Some x → last_of (map f l) ≡ Some (f x)
+pub last_map : {X Y : Type 0} (f : X → Y) (l : List X) (x : X) → last_of l ≡ Some x → last_of (map f l) ≡ Some (f x)
 last_map f [] x h = absurd (none_some h)
 last_map f (y ∷ []) x h = ap (λ z. Some (f z)) (some_same h)
 last_map f (y ∷ z ∷ l) x h = last_map f (z ∷ l) x h
@@ -55,11 +55,11 @@ module _ (asked : Asked) (start : Beginning) (tenant bucket : Octets) (versions 
   to_come g place = versions_to_come asked.prefix.now asked.delimiter.now (token_of asked) g (filter (is_from place) under)
 
   pub record HasRead (g : Gathered VersionItem) (place : Place) : Type 0 where
-    pub low : IsUnder asked.prefix.now place.key place.older
+    pub low : IsUnder asked.prefix.now place.key place.after
     pub short : length g.entries ≤ suc asked.max
     pub come : take (suc asked.max) whole ≡ take (suc asked.max) (g.entries ++ to_come g place)
 
-  pub begin_reading : IsUnder asked.prefix.now start.place.key start.place.older → (g : VersionGathering) → seen g ≡ nothing_after start.key → HasRead (seen g) start.place
+  pub begin_reading : IsUnder asked.prefix.now start.place.key start.place.after → (g : VersionGathering) → seen g ≡ nothing_after start.key → HasRead (seen g) start.place
   begin_reading low g is = subst (λ (h : Gathered VersionItem). HasRead h start.place) (sym is) (record { low = low; short = omega arith; come = refl })
 
   module _ (small : AreSmallKeys versions) (up : IsStrict rows) where
@@ -94,7 +94,7 @@ module _ (asked : Asked) (start : Beginning) (tenant bucket : Octets) (versions 
 
     -- past a row the prefix is behind
     row_low : (key : Octets) (seq : ℕ) (name : Option Octets) → rolled asked.prefix.now asked.delimiter.now key ≡ name → begins asked.prefix.now key ≡ true → AllByRecursion (λ b. b < 255) key
-        → IsUnder asked.prefix.now (past_row key seq name).key (past_row key seq name).older
+        → IsUnder asked.prefix.now (past_row key seq name).key (past_row key seq name).after
     row_low key seq None is begun low = begun
     row_low key seq (Some p) is begun low =
         upto_trans asked.prefix.now key (past_name p) (upto_begun asked.prefix.now key begun)
@@ -105,15 +105,15 @@ module _ (asked : Asked) (start : Beginning) (tenant bucket : Octets) (versions 
     key_low key seq (Some s) is low = upto_trans asked.prefix.now key (past_key key) (upto_begun asked.prefix.now key low) (upto_past_key key)
 
     module _ (g : Gathered VersionItem) (place : Place) (had : HasRead g place) (n : ℕ) (lines : List VersionLine)
-        (are : map seen_line lines ≡ map row_numbered (place_rows tenant bucket place.key place.older (past_name asked.prefix.now) n versions)) where
+        (are : map seen_line lines ≡ map row_numbered (place_rows tenant bucket place.key place.after (past_name asked.prefix.now) n versions)) where
       abbrev chunk : List Numbered
-      chunk = chunk_at n place.key place.older
+      chunk = chunk_at n place.key place.after
 
       are_chunk : map seen_line lines ≡ chunk
-      are_chunk = are ∙ chunk_is n place.key place.older had.low
+      are_chunk = are ∙ chunk_is n place.key place.after had.low
 
       pub lines_under : AreUnder asked lines
-      lines_under = begun lines (subst (AllByRecursion IsFine) (sym are_chunk) (chunk_fine n place.key place.older))
+      lines_under = begun lines (subst (AllByRecursion IsFine) (sym are_chunk) (chunk_fine n place.key place.after))
         where
           begun : (l : List VersionLine) → AllByRecursion IsFine (map seen_line l) → AllByRecursion (λ (l : VersionLine). begins asked.prefix.now l.key.items ≡ true) l
           begun [] all = tt
@@ -132,23 +132,23 @@ module _ (asked : Asked) (start : Beginning) (tenant bucket : Octets) (versions 
         -- the page is full
         pub full_page : asked.max < length next.entries → next.entries ≡ take (suc asked.max) whole
         full_page over = ap (λ (h : Gathered VersionItem). h.entries) (sym next_is)
-            ∙ sym (chunk_full asked.prefix.now asked.delimiter.now (token_of asked) under strict fine asked.max whole g place.key place.older n had.come had.short (subst (λ (h : Gathered VersionItem). asked.max < length h.entries) (sym next_is) over))
+            ∙ sym (chunk_full asked.prefix.now asked.delimiter.now (token_of asked) under strict fine asked.max whole g place.key place.after n had.come had.short (subst (λ (h : Gathered VersionItem). asked.max < length h.entries) (sym next_is) over))
 
         -- no rows are left
-        pub last_page : place.older ≡ None → length lines < n → next.entries ≡ take (suc asked.max) whole
+        pub last_page : place.after ≡ None → length lines < n → next.entries ≡ take (suc asked.max) whole
         last_page is few = ap (λ (h : Gathered VersionItem). h.entries) (sym next_is)
-            ∙ sym (chunk_ends asked.prefix.now asked.delimiter.now (token_of asked) under strict fine asked.max whole g place.key place.older n had.come had.short is (fewer few))
+            ∙ sym (chunk_ends asked.prefix.now asked.delimiter.now (token_of asked) under strict fine asked.max whole g place.key place.after n had.come had.short is (fewer few))
 
         abbrev Come : Gathered VersionItem → Place → Type 0
         Come h at = take (suc asked.max) whole ≡ take (suc asked.max) (h.entries ++ to_come h at)
 
         -- reading goes on past the older entries of a key
-        pub next_key : (seq : ℕ) → place.older ≡ Some seq → length lines < n → HasRead next (at_key (past_key place.key))
+        pub next_key : (seq : ℕ) → place.after ≡ Some seq → length lines < n → HasRead next (at_key (past_key place.key))
         next_key seq is few = record {
-          low = key_low place.key seq place.older is had.low;
-          short = subst (λ (h : Gathered VersionItem). length h.entries ≤ suc asked.max) next_is (chunk_short asked.prefix.now asked.delimiter.now (token_of asked) under strict fine asked.max whole g place.key place.older n had.come had.short);
+          low = key_low place.key seq place.after is had.low;
+          short = subst (λ (h : Gathered VersionItem). length h.entries ≤ suc asked.max) next_is (chunk_short asked.prefix.now asked.delimiter.now (token_of asked) under strict fine asked.max whole g place.key place.after n had.come had.short);
           come = subst (λ (h : Gathered VersionItem). Come h (at_key (past_key place.key))) next_is
-              (chunk_past asked.prefix.now asked.delimiter.now (token_of asked) under strict fine asked.max whole g place.key place.older n had.come had.short seq is (fewer few));
+              (chunk_past asked.prefix.now asked.delimiter.now (token_of asked) under strict fine asked.max whole g place.key place.after n had.come had.short seq is (fewer few));
         }
 
         -- or past the last row
@@ -156,12 +156,12 @@ module _ (asked : Asked) (start : Beginning) (tenant bucket : Octets) (versions 
             → HasRead next (past_row row.key.items row.seq (rolled asked.prefix.now asked.delimiter.now row.key.items))
         next_row few row last =
             let there : last_of chunk ≡ Some (seen_line row) = ap last_of (sym are_chunk) ∙ last_map seen_line lines row last in
-            let good : IsFine (seen_line row) = last_all IsFine chunk (seen_line row) there (chunk_fine n place.key place.older) in
+            let good : IsFine (seen_line row) = last_all IsFine chunk (seen_line row) there (chunk_fine n place.key place.after) in
             record {
               low = row_low row.key.items row.seq (rolled asked.prefix.now asked.delimiter.now row.key.items) refl good.0 good.1;
               short = more few;
               come = subst (λ (h : Gathered VersionItem). Come h (past_row row.key.items row.seq (rolled asked.prefix.now asked.delimiter.now row.key.items))) next_is
-                  (chunk_on asked.prefix.now asked.delimiter.now (token_of asked) under strict fine asked.max whole g place.key place.older n had.come had.short (seen_line row) there
+                  (chunk_on asked.prefix.now asked.delimiter.now (token_of asked) under strict fine asked.max whole g place.key place.after n had.come had.short (seen_line row) there
                   (subst (λ (h : Gathered VersionItem). length h.entries ≤ asked.max) (sym next_is) few) good);
             }
           where
@@ -172,7 +172,7 @@ module _ (asked : Asked) (start : Beginning) (tenant bucket : Octets) (versions 
 
 module _ (asked : Asked) (start : Beginning) (tenant bucket : Octets) (versions : List VersionRow) (small : AreSmallKeys versions) (up : IsStrict (own_rows tenant bucket versions)) (before : VersionReading)
     (had : HasRead asked start tenant bucket versions (seen before.gathering) (seen_place before.place)) (lines : List VersionLine)
-    (are : map seen_line lines ≡ map row_numbered (place_rows tenant bucket before.place.key.items before.place.older (past_name asked.prefix.now) before.count versions)) where
+    (are : map seen_line lines ≡ map row_numbered (place_rows tenant bucket before.place.key.items before.place.after (past_name asked.prefix.now) before.count versions)) where
   pub turn_under : AreUnder asked lines
   turn_under = lines_under asked start tenant bucket versions small up (seen before.gathering) (seen_place before.place) had before.count lines are
 
@@ -193,21 +193,21 @@ module _ (asked : Asked) (start : Beginning) (tenant bucket : Octets) (versions 
     full over = full_page asked start tenant bucket versions small up (seen before.gathering) (seen_place before.place) had before.count lines are (seen after.gathering) took.added
         (subst (λ k. asked.max < k) (sym (length-map after.gathering.entries.items seen_entry)) (past_nat _ _ over))
 
-    last : before.place.older ≡ None → nat_lt (length lines) before.count ≡ true → shown ≡ take (suc asked.max) listing
+    last : before.place.after ≡ None → nat_lt (length lines) before.count ≡ true → shown ≡ take (suc asked.max) listing
     last is few = last_page asked start tenant bucket versions small up (seen before.gathering) (seen_place before.place) had before.count lines are (seen after.gathering) took.added is (past_nat _ _ few)
 
     -- the page has all that it takes, or no rows are left
     pub turn_ended : ended ≡ true → shown ≡ take (suc asked.max) listing
     turn_ended is = go (nat_lt asked.max count) refl
       where
-        few_left : (older : Option ℕ) → before.place.older ≡ older → is_none (past_few (record { key = before.place.key.items; older = older })) ≡ true → nat_lt (length lines) before.count ≡ true → shown ≡ take (suc asked.max) listing
+        few_left : (older : Option ℕ) → before.place.after ≡ older → is_none (past_few (record { key = before.place.key.items; after = older })) ≡ true → nat_lt (length lines) before.count ≡ true → shown ≡ take (suc asked.max) listing
         few_left None at none few = last at few
         few_left (Some seq) at none few = absurd (true≢false (sym none))
 
         ends : nat_lt asked.max count ≡ false → (t : Bool) → nat_lt (length lines) before.count ≡ t → shown ≡ take (suc asked.max) listing
         ends room true e =
             let it = took.ends room in
-            few_left before.place.older refl (ap is_none (sym (it.1.few e)) ∙ sym it.0 ∙ is) e
+            few_left before.place.after refl (ap is_none (sym (it.1.few e)) ∙ sym it.0 ∙ is) e
         ends room false e =
             let it = took.ends room in
             absurd (true≢false (sym (sym it.0 ∙ is) ∙ (it.1.on e).1))
@@ -220,8 +220,8 @@ module _ (asked : Asked) (start : Beginning) (tenant bucket : Octets) (versions 
     pub turn_on : ended ≡ false → HasRead asked start tenant bucket versions (seen after.gathering) (seen_place after.place)
     turn_on is = go (nat_lt asked.max count) refl
       where
-        past_key_on : (older : Option ℕ) → before.place.older ≡ older → nat_lt (length lines) before.count ≡ true → (next : Option Place) → is_none next ≡ false
-            → next ≡ past_few (record { key = before.place.key.items; older = older }) → IfSome next (λ place. seen_place after.place ≡ place) → Read (seen_place after.place)
+        past_key_on : (older : Option ℕ) → before.place.after ≡ older → nat_lt (length lines) before.count ≡ true → (next : Option Place) → is_none next ≡ false
+            → next ≡ past_few (record { key = before.place.key.items; after = older }) → IfSome next (λ place. seen_place after.place ≡ place) → Read (seen_place after.place)
         past_key_on None at few next none is there = absurd (true≢false (sym (ap is_none is) ∙ none))
         past_key_on (Some seq) at few next none is there =
             subst Read (sym (subst (λ o. IfSome o (λ place. seen_place after.place ≡ place)) is there))
@@ -238,7 +238,7 @@ module _ (asked : Asked) (start : Beginning) (tenant bucket : Octets) (versions 
             row_under row is = last_all (λ (l : VersionLine). begins asked.prefix.now l.key.items ≡ true) lines row is turn_under
 
         on : nat_lt asked.max count ≡ false → (t : Bool) → nat_lt (length lines) before.count ≡ t → Read (seen_place after.place)
-        on room true e = let it = took.ends room in past_key_on before.place.older refl e took.next (sym it.0 ∙ is) (it.1.few e) it.2
+        on room true e = let it = took.ends room in past_key_on before.place.after refl e took.next (sym it.0 ∙ is) (it.1.few e) it.2
         on room false e = let it = took.ends room in past_row_on room took.next (sym it.0 ∙ is) (it.1.on e).0 it.2
 
         go : (t : Bool) → nat_lt asked.max count ≡ t → Read (seen_place after.place)

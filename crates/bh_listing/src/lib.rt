@@ -4,6 +4,6 @@
 mod lines;
 pub mod objects;
 mod rows;
-mod told;
+pub mod told;
 mod told_versions;
 pub mod versions;

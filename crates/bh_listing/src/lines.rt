@@ -103,10 +103,10 @@ fn rows_at<S: Alter>(
     ensures same { OnOk result (ChangesNothing S.Store connection.old connection.new) }
     ensures rows { IfOk result (λ rows. IsClean S.Store connection.new
         → rows.items ≡ map shown_numbered
-        (place_rows tenant.now bucket.now place.now.key.items place.now.older upto.now count (tables S.Store connection.old).versions)) }
+        (place_rows tenant.now bucket.now place.now.key.items place.now.after upto.now count (tables S.Store connection.old).versions)) }
 {
     let key = place.key.as_slice();
-    match place.older {
+    match place.after {
         None => or_trouble(numbered_rows(connection, tenant, bucket, key, upto, count)),
         Some(seq) if seq < 1 << 63 => {
             or_trouble(older_rows(connection, tenant, bucket, key, seq, count))
@@ -134,7 +134,7 @@ pub fn lines_at<S: Alter>(
     ensures same { OnOk result (ChangesNothing S.Store connection.old connection.new) }
     ensures lines { IfOk result (λ lines. IsClean S.Store connection.new
         → map versions.seen_line lines.items ≡ map row_numbered
-        (place_rows tenant.now bucket.now place.now.key.items place.now.older upto.now count (tables S.Store connection.old).versions)) }
+        (place_rows tenant.now bucket.now place.now.key.items place.now.after upto.now count (tables S.Store connection.old).versions)) }
 {
     let rows = rows_at(connection, tenant, bucket, place, upto, count)?;
     or_trouble(read_versions(alloc, &rows))

@@ -66,7 +66,7 @@ fn start_past(alloc: Global, asked: &Asked<'_>) -> Result<Start, AllocError>
 {
     let key = asked.start(alloc)?;
     Ok(Start {
-        place: Place { key, older: None },
+        place: Place { key, after: None },
         key: None,
     })
 }
@@ -78,7 +78,7 @@ fn start_older(alloc: Global, key: &[u8], seq: u64) -> Result<Start, AllocError>
     Ok(Start {
         place: Place {
             key: Vec::from_slice(alloc, key)?,
-            older: Some(seq),
+            after: Some(seq),
         },
         key: Some(Vec::from_slice(alloc, key)?),
     })
@@ -122,7 +122,7 @@ fn start_of<S: Alter>(
     ensures within { StaysWithin S.Store connection.old connection.new }
     ensures opens { OnOk result (StaysOpen S.Store connection.old connection.new) }
     ensures same { OnOk result (ChangesNothing S.Store connection.old connection.new) }
-    ensures under { IfOk result (λ start. IsUnder asked.now.prefix.now start.place.key.items start.place.older) }
+    ensures under { IfOk result (λ start. IsUnder asked.now.prefix.now start.place.key.items start.place.after) }
     ensures begins { IfOk result (λ start. IsClean S.Store connection.new
         → listed_from asked.now (seen_start start) (own_rows tenant.now bucket.now (tables S.Store connection.old).versions)
         ≡ versions_of_rows asked.now version (own_rows tenant.now bucket.now (tables S.Store connection.old).versions)) }
@@ -146,7 +146,7 @@ fn gather_versions<S: Alter>(
     start: Start,
 ) -> Result<Vec<ListedVersion>, Trouble>
     requires working { Works S.Store connection.old }
-    requires under { IsUnder asked.now.prefix.now start.place.key.items start.place.older }
+    requires under { IsUnder asked.now.prefix.now start.place.key.items start.place.after }
     ensures within { StaysWithin S.Store connection.old connection.new }
     ensures opens { OnOk result (StaysOpen S.Store connection.old connection.new) }
     ensures same { OnOk result (ChangesNothing S.Store connection.old connection.new) }

@@ -46,8 +46,8 @@ use Rattle.bh_operation.specs.Refused.{is_operation_refusal}
 use Rattle.bh_operation.specs.declared.operation.Operation.{Operation}
 use Rattle.bh_operation.specs.declared.operation.Operation.TheVariants as op
 use Rattle.bh_operation.proofs.Refused.{operation_only}
-use Rattle.bh_model.specs.Listings.{objects_listed, list_objects, versions_listed, list_versions}
-use Rattle.bh_machine.specs.Machine.{Act, Acted, page_asked, place_asked, set_versioning, operated, requested, asked, ordered, change, naming, finish_upload}
+use Rattle.bh_model.specs.Listings.{objects_listed, list_objects, versions_listed, list_versions, uploads_listed, list_uploads, parts_listed, list_parts}
+use Rattle.bh_machine.specs.Machine.{Act, Acted, page_asked, place_asked, upload_asked, set_versioning, operated, requested, asked, ordered, change, naming, finish_upload}
 use Rattle.bh_machine.specs.Refused.{StepRefusals, is_step_refusal as may}
 
 abbrev Only : {X : Type 0} → Result X Refusal → Type 0
@@ -354,7 +354,9 @@ operated_only limits now body (op.ListObjectsV2 bucket page token) s =
 operated_only limits now body (op.ListObjectVersions bucket page after) s =
     plainly_told (list_versions bucket (page_asked page) (option_map place_asked after) s)
     (then_only may (versions_listed bucket (page_asked page) (option_map place_asked after) s) _ (then_only may (tenant_bucket bucket s) _ (found_bucket bucket s) (λ _. tt)) (λ _. tt))
-operated_only limits now body (op.ListMultipartUploads bucket page after) s = refl
+operated_only limits now body (op.ListMultipartUploads bucket page after) s =
+    plainly_told (list_uploads bucket (page_asked page) (option_map upload_asked after) s)
+    (then_only may (uploads_listed bucket (page_asked page) (option_map upload_asked after) s) _ (then_only may (tenant_bucket bucket s) _ (found_bucket bucket s) (λ _. tt)) (λ _. tt))
 operated_only limits now body (op.GetBucketVersioning bucket) s = plainly_told (get_versioning bucket s) (bucket_only bucket s _ (λ f. tt))
 operated_only limits now body (op.PutBucketVersioning bucket) s = plainly_told (set_versioning bucket body s) (set_only bucket body s)
 operated_only limits now body (op.GetLifecycle bucket) s = refl
@@ -368,7 +370,9 @@ operated_only limits now body (op.DeleteObject object version) s = plainly_told 
 operated_only limits now body (op.CreateMultipartUpload object) s = plainly_told (create_upload now object.bucket object.key s) (begun_only now object.bucket object.key s)
 operated_only limits now body (op.UploadPart object upload number checksum) s =
     plainly_told (upload_part now object.bucket object.key upload number body checksum s) (part_stored_only now object.bucket object.key upload number body checksum s)
-operated_only limits now body (op.ListParts object upload page) s = refl
+operated_only limits now body (op.ListParts object upload page) s =
+    plainly_told (list_parts object.bucket object.key upload page.size page.after s)
+    (then_only may (parts_listed object.bucket object.key upload page.size page.after s) _ (then_only may (find_upload object.bucket object.key upload s) _ (upload_found object.bucket object.key upload s) (λ _. tt)) (λ _. tt))
 operated_only limits now body (op.CompleteMultipartUpload object upload) s =
     plainly_told (finish_upload limits now object.bucket object.key upload body s) (finished_only limits now object.bucket object.key upload body s)
 operated_only limits now body (op.AbortMultipartUpload object upload) s = plainly_told (abort_upload object.bucket object.key upload s) (aborted_only object.bucket object.key upload s)

@@ -14,7 +14,7 @@ use Rattle.bh_http.specs.Credentials.{owner, key_given, secret_given}
 use Rattle.bh_http.specs.Reading.{Reads}
 use Rattle.bh_http.specs.Views.{Taken}
 use Rattle.bh_model.specs.Credentials.{authenticate}
-use Rattle.bh_model.specs.Listings.{list_objects, list_versions}
+use Rattle.bh_model.specs.Listings.{list_objects, list_versions, list_uploads, list_parts}
 use Rattle.bh_model.specs.Pages as pages
 use Rattle.bh_model.specs.Operations.{Answer, Outcome, add_tenant, add_key, remove_key, create_bucket, head_bucket, delete_bucket, list_buckets, get_versioning, put_versioning, put_object, copy_object, get_object, head_object, delete_object}
 use Rattle.bh_model.specs.Parts.{Naming}
@@ -23,9 +23,10 @@ use Rattle.bh_model.specs.State.{Octets, State}
 use Rattle.bh_model.specs.Uploads.{create_upload, upload_part, complete_upload, abort_upload}
 use Rattle.bh_operation.specs.Operations.{operation}
 use Rattle.bh_operation.specs.declared.page.Page.{Page}
+use Rattle.bh_operation.specs.declared.page.UploadMarker.{UploadMarker}
 use Rattle.bh_operation.specs.declared.page.VersionMarker.{VersionMarker}
 use Rattle.bh_operation.specs.declared.operation.Operation.{Operation}
-use Rattle.bh_operation.specs.declared.operation.Operation.TheVariants.{ListBuckets, CreateBucket, HeadBucket, DeleteBucket, ListObjectsV2, GetBucketVersioning, PutBucketVersioning, PutObject, CopyObject, GetObject, HeadObject, DeleteObject, ListObjectVersions, CreateMultipartUpload, UploadPart, CompleteMultipartUpload, AbortMultipartUpload}
+use Rattle.bh_operation.specs.declared.operation.Operation.TheVariants.{ListBuckets, CreateBucket, HeadBucket, DeleteBucket, ListObjectsV2, GetBucketVersioning, PutBucketVersioning, PutObject, CopyObject, GetObject, HeadObject, DeleteObject, ListObjectVersions, ListMultipartUploads, CreateMultipartUpload, UploadPart, ListParts, CompleteMultipartUpload, AbortMultipartUpload}
 
 -- ---- acts
 
@@ -64,6 +65,9 @@ page_asked page = record { prefix = page.prefix; delimiter = page.delimiter; max
 abbrev pub place_asked : VersionMarker → pages.VersionPlace
 place_asked marker = record { key = marker.key; version = marker.version }
 
+abbrev pub upload_asked : UploadMarker → pages.UploadPlace
+upload_asked marker = record { key = marker.key; upload = marker.upload }
+
 -- a part as a document names it
 abbrev pub naming : ℕ × Option Octets → Naming
 naming part = record { number = part.0; checksum = part.1 }
@@ -83,6 +87,7 @@ operated limits now body (HeadBucket bucket) s = plainly (head_bucket bucket s)
 operated limits now body (DeleteBucket bucket) s = plainly (delete_bucket bucket s)
 operated limits now body (ListObjectsV2 bucket page token) s = plainly (list_objects bucket (page_asked page) token s)
 operated limits now body (ListObjectVersions bucket page after) s = plainly (list_versions bucket (page_asked page) (option_map place_asked after) s)
+operated limits now body (ListMultipartUploads bucket page after) s = plainly (list_uploads bucket (page_asked page) (option_map upload_asked after) s)
 operated limits now body (GetBucketVersioning bucket) s = plainly (get_versioning bucket s)
 operated limits now body (PutBucketVersioning bucket) s = plainly (set_versioning bucket body s)
 operated limits now body (PutObject object checksum) s = plainly (put_object now object.bucket object.key body checksum s)
@@ -94,6 +99,7 @@ operated limits now body (DeleteObject object version) s = plainly (delete_objec
 operated limits now body (CreateMultipartUpload object) s = plainly (create_upload now object.bucket object.key s)
 operated limits now body (UploadPart object upload number checksum) s =
     plainly (upload_part now object.bucket object.key upload number body checksum s)
+operated limits now body (ListParts object upload page) s = plainly (list_parts object.bucket object.key upload page.size page.after s)
 operated limits now body (CompleteMultipartUpload object upload) s = plainly (finish_upload limits now object.bucket object.key upload body s)
 operated limits now body (AbortMultipartUpload object upload) s = plainly (abort_upload object.bucket object.key upload s)
 operated limits now body other s = Err (plain NotImplemented)

@@ -1,11 +1,13 @@
 -- What the listings of a bucket make of a tenant's state.
-use Rattle.std.specs.Prelude.{Option, Result, Ok}
+use Rattle.std.specs.Prelude.{ℕ, Option, Result, Ok}
 use Rattle.std.specs.FinMap.{entries}
 use Rattle.bh_types.specs.Outcomes.{◌>>=◌}
+use Rattle.bh_types.specs.declared.id.UploadId.{UploadId}
 use Rattle.bh_types.specs.declared.refusal.Refusal.{Refusal}
 use Rattle.bh_model.specs.State.{Octets, State}
-use Rattle.bh_model.specs.Operations.{Outcome, Objects, Versions, tenant_bucket}
-use Rattle.bh_model.specs.Pages.{Asked, ObjectsListed, objects_page, objects_told, VersionPlace, VersionsListed, versions_page, versions_told}
+use Rattle.bh_model.specs.Operations.{Outcome, Objects, Versions, Uploads, Parts, tenant_bucket}
+use Rattle.bh_model.specs.Pages.{Asked, ObjectsListed, objects_page, objects_told, VersionPlace, VersionsListed, versions_page, versions_told, UploadPlace, UploadsListed, uploads_page, uploads_told, PartsListed, parts_page, parts_told}
+use Rattle.bh_model.specs.Uploads.{find_upload}
 
 -- after the name that a token gives
 -- Amazon S3 API Reference, ListObjectsV2
@@ -30,3 +32,27 @@ abbrev pub list_versions : Octets → Asked → Option VersionPlace → Option S
 list_versions name asked marker s = do
   page ← versions_listed name asked marker s
   Ok (Versions page, s)
+
+-- after a key, or after one of its uploads
+-- Amazon S3 API Reference, ListMultipartUploads
+abbrev pub uploads_listed : Octets → Asked → Option UploadPlace → Option State → Result UploadsListed Refusal
+uploads_listed name asked marker s = do
+  f ← tenant_bucket name s
+  Ok (uploads_told name asked (uploads_page asked marker (entries f.1.uploads)))
+
+abbrev pub list_uploads : Octets → Asked → Option UploadPlace → Option State → Result Outcome Refusal
+list_uploads name asked marker s = do
+  page ← uploads_listed name asked marker s
+  Ok (Uploads page, s)
+
+-- at most `max` parts, after the one of the number `marker`
+-- Amazon S3 API Reference, ListParts
+abbrev pub parts_listed : Octets → Octets → Option UploadId → ℕ → ℕ → Option State → Result PartsListed Refusal
+parts_listed name key upload max marker s = do
+  f ← find_upload name key upload s
+  Ok (parts_told name key (record { number = f.number }) max (parts_page max marker (entries f.upload.parts)))
+
+abbrev pub list_parts : Octets → Octets → Option UploadId → ℕ → ℕ → Option State → Result Outcome Refusal
+list_parts name key upload max marker s = do
+  page ← parts_listed name key upload max marker s
+  Ok (Parts page, s)

@@ -27,14 +27,15 @@ use Rattle.bh_types.specs.Ranges.{range_of, cut}
 use Rattle.bh_types.specs.Rejections.{plainly}
 use Rattle.bh_model.specs.Counting.{counts, with_counts, after_entry, after_delete}
 use Rattle.bh_model.specs.Entries.{Version, has_id, is_version, added, deleted, new_id, lookup}
-use Rattle.bh_model.specs.Pages.{ObjectsListed, VersionsListed}
+use Rattle.bh_model.specs.Pages.{ObjectsListed, VersionsListed, UploadsListed, PartsListed}
 use Rattle.bh_model.specs.Parts.{is_checksum}
 
 -- what is told where nothing is refused. An id is told where the bucket is or was versioned. `Removed` says whether a
 -- marker was made or taken out. `Head` and `Object` tell the whole object's size, `Object` with the bytes that its plan
 -- names. `Copied` tells the moment of the copy. Buckets are told with their moments, in the order of their names,
--- and `Objects` and `Versions` a page of a bucket's objects, and of its versions. `Begun` and `Completed` name the object
--- of an upload; `Begun` tells when the upload will be stale, where its bucket has a rule
+-- and `Objects`, `Versions` and `Uploads` a page of a bucket's objects, of its versions and of its uploads; `Parts` a
+-- page of an upload's parts. `Begun` and `Completed` name the object of an upload; `Begun` tells when the upload will
+-- be stale, where its bucket has a rule
 pub data Answer : Type 0 where
   Done : Answer
   Removed : (id : Option VersionId) (marker : Bool) → Answer
@@ -46,6 +47,8 @@ pub data Answer : Type 0 where
   Versioning : (mode : BucketState) → Answer
   Objects : (page : ObjectsListed) → Answer
   Versions : (page : VersionsListed) → Answer
+  Uploads : (page : UploadsListed) → Answer
+  Parts : (page : PartsListed) → Answer
   Begun : (bucket key : Octets) (upload : UploadId) (abort : Option ℕ) → Answer
   PartStored : (checksum : Octets) → Answer
   Completed : (bucket key : Octets) (id : Option VersionId) (checksum : Octets) → Answer

@@ -1,11 +1,14 @@
 -- Pages of a listing: keys under a prefix, where the keys that share a part up to a delimiter stand as one name.
-use Rattle.std.specs.Prelude.{ℕ, Bool, true, false, ◌==◌, ◌&&◌, nat_lt, List, [], ◌∷◌, ◌++◌, length, map, flat_map, take, drop, Option, Some, None, option_map, if◌then◌else◌}
+use Rattle.std.specs.Prelude.{ℕ, Bool, true, false, ◌==◌, ◌&&◌, ◌||◌, nat_lt, List, [], ◌∷◌, ◌++◌, length, map, flat_map, take, drop, Option, Some, None, option_map, if◌then◌else◌}
 use Rattle.std.specs.List.{filter, filter_map}
-use Rattle.std.specs.Ordering.{is_eq, is_lt, is_le}
+use Rattle.std.specs.Ordering.{is_eq, is_gt, is_lt, is_le, nat_cmp, ordering_then}
+use Rattle.std.specs.declared.cmp.Ordering.{Ordering}
+use Rattle.bh_types.specs.declared.id.UploadId.{UploadId}
 use Rattle.bh_types.specs.declared.id.VersionId.{VersionId}
 use Rattle.bh_types.specs.declared.wanted.Wanted.{Wanted}
 use Rattle.bh_types.specs.declared.wanted.Wanted.TheVariants.{Current, Named, Unknown}
-use Rattle.bh_model.specs.State.{Octets, octets_cmp, Content, Content.Marker, Content.Body, Entry}
+use Rattle.bh_types.specs.Checksums.{checksum_text}
+use Rattle.bh_model.specs.State.{Octets, octets_cmp, Content, Content.Marker, Content.Body, Entry, Part, Upload}
 use Rattle.bh_model.specs.Entries.{same_id}
 
 abbrev pub same : Octets → Octets → Bool
@@ -249,4 +252,118 @@ versions_told bucket asked page = record {
   prefixes = flat_map common_in page.shown;
   versions = flat_map single_in page.shown;
   next = option_map version_next page.next;
+}
+
+-- ---- ListMultipartUploads: the uploads in the order of their keys, those of a key in the order of their numbers
+-- Amazon S3 API Reference, ListMultipartUploads
+
+-- an upload that is neither completed nor aborted; it was begun so many seconds after 1970
+pub record UploadItem : Type 0 where
+  pub key : Octets
+  pub id : UploadId
+  pub begun : ℕ
+
+abbrev pub upload_order : UploadItem → UploadItem → Ordering
+upload_order a b = ordering_then (octets_cmp a.key b.key) (nat_cmp a.id.number b.id.number)
+
+abbrev pub put_upload : UploadItem → List UploadItem → List UploadItem
+put_upload u [] = u ∷ []
+put_upload u (v ∷ uploads) = if is_gt (upload_order u v) then v ∷ put_upload u uploads else u ∷ v ∷ uploads
+
+abbrev pub in_key_order : List UploadItem → List UploadItem
+in_key_order [] = []
+in_key_order (u ∷ uploads) = put_upload u (in_key_order uploads)
+
+abbrev pub upload_item : ℕ × Upload → UploadItem
+upload_item u = record { key = u.1.key; id = record { number = u.0 }; begun = u.1.begun }
+
+abbrev pub all_uploads : List (ℕ × Upload) → List UploadItem
+all_uploads numbered = in_key_order (map upload_item numbered)
+
+-- after all uploads of a key, or after those up to one of them
+pub record UploadPlace : Type 0 where
+  pub key : Octets
+  pub upload : Option UploadId
+
+-- whether an upload of the marker's own key comes after the one that it names
+abbrev pub is_later : Option UploadId → UploadItem → Bool
+is_later None u = false
+is_later (Some id) u = nat_lt id.number u.id.number
+
+-- greater keys, and greater numbers of the marker's own key; a rolled-up name has to be greater than the marker's key
+abbrev pub passes_upload : Option UploadPlace → Listed UploadItem → Bool
+passes_upload None e = true
+passes_upload (Some marker) (Single u) = is_before marker.key u.key || (same marker.key u.key && is_later marker.upload u)
+passes_upload (Some marker) (Common name) = is_before marker.key name
+
+abbrev pub uploads_page : Asked → Option UploadPlace → List (ℕ × Upload) → Paged (Listed UploadItem)
+uploads_page asked marker numbered =
+    paged asked.max (entries_after asked.prefix asked.delimiter (λ u. u.key) (passes_upload marker) (all_uploads numbered))
+
+-- where the page after a truncated one begins: after an upload, or after all that is under a rolled-up name
+pub record UploadNext : Type 0 where
+  pub name : Octets
+  pub id : Option UploadId
+
+abbrev pub upload_next : Listed UploadItem → UploadNext
+upload_next (Single u) = record { name = u.key; id = Some u.id }
+upload_next (Common name) = record { name = name; id = None }
+
+-- CommonPrefixes and Uploads, and where the next page begins, where this one is truncated
+pub record UploadsListed : Type 0 where
+  pub bucket : Octets
+  pub prefix : Octets
+  pub max : ℕ
+  pub prefixes : List Octets
+  pub uploads : List UploadItem
+  pub next : Option UploadNext
+
+abbrev pub uploads_told : Octets → Asked → Paged (Listed UploadItem) → UploadsListed
+uploads_told bucket asked page = record {
+  bucket = bucket;
+  prefix = asked.prefix;
+  max = asked.max;
+  prefixes = flat_map common_in page.shown;
+  uploads = flat_map single_in page.shown;
+  next = option_map upload_next page.next;
+}
+
+-- ---- ListParts: the parts of an upload in the order of their numbers
+-- Amazon S3 API Reference, ListParts
+
+-- a part; its moment is in seconds since 1970
+pub record PartItem : Type 0 where
+  pub number : ℕ
+  pub moment : ℕ
+  -- in bytes
+  pub size : ℕ
+  pub checksum : Octets
+
+abbrev pub part_item : ℕ × Part → PartItem
+part_item p = record { number = p.0; moment = p.1.moment; size = length p.1.bytes; checksum = checksum_text p.1.bytes }
+
+-- the parts with greater numbers than the marker's
+abbrev pub parts_after : ℕ → List (ℕ × Part) → List PartItem
+parts_after marker parts = map part_item (filter (λ (p : ℕ × Part). nat_lt marker p.0) parts)
+
+abbrev pub parts_page : ℕ → ℕ → List (ℕ × Part) → Paged PartItem
+parts_page max marker parts = paged max (parts_after marker parts)
+
+-- Parts, and the number of the last one, where the page is truncated
+pub record PartsListed : Type 0 where
+  pub bucket : Octets
+  pub key : Octets
+  pub upload : UploadId
+  pub max : ℕ
+  pub parts : List PartItem
+  pub next : Option ℕ
+
+abbrev pub parts_told : Octets → Octets → UploadId → ℕ → Paged PartItem → PartsListed
+parts_told bucket key upload max page = record {
+  bucket = bucket;
+  key = key;
+  upload = upload;
+  max = max;
+  parts = page.shown;
+  next = option_map (λ (p : PartItem). p.number) page.next;
 }

@@ -1,8 +1,9 @@
 -- The pages that worked rows give, computed.
 use Rattle.std.proofs.Common.{◌≡◌, ℕ, codes, List, [], ◌∷◌, map, Option, Some, None, option_map, refl}
 use Rattle.bh_types.specs.declared.id.VersionId.TheVariants.{Null, Numbered}
-use Rattle.bh_model.specs.State.{Octets, Content.Marker, Content.Body, Entry}
-use Rattle.bh_model.specs.Pages.{Asked, Paged, Listed, ObjectItem, name_of, rolled, objects_page, objects_told}
+use Rattle.std.specs.FinMap.{empty}
+use Rattle.bh_model.specs.State.{Octets, Content.Marker, Content.Body, Entry, Part, Upload}
+use Rattle.bh_model.specs.Pages.{Asked, Paged, Listed, Listed.Single, Listed.Common, ObjectItem, UploadItem, PartItem, name_of, rolled, objects_page, objects_told, uploads_page, parts_page}
 
 abbrev names : Paged (Listed ObjectItem) → List Octets × Option Octets
 names p = (map (name_of (λ o. o.key)) p.shown, option_map (name_of (λ (o : ObjectItem). o.key)) p.next)
@@ -70,3 +71,55 @@ told_apart : objects_told (codes "docs") (asked [] (codes "/") 2) (objects_page 
   next = Some (codes "a/");
 }
 told_apart = refl
+
+-- ---- uploads: 1 of b, 2 and 3 of a, 4 of a/1
+
+abbrev begun : Octets → Upload
+begun key = record { key = key; begun = 0; parts = empty }
+
+abbrev four : List (ℕ × Upload)
+four = (1, begun (codes "b")) ∷ (2, begun (codes "a")) ∷ (3, begun (codes "a")) ∷ (4, begun (codes "a/1")) ∷ []
+
+abbrev upload : Octets → ℕ → Listed UploadItem
+upload key n = Single (record { key = key; id = record { number = n }; begun = 0 })
+
+first_upload : uploads_page (asked [] [] 1) None four ≡ record { shown = upload (codes "a") 2 ∷ []; next = Some (upload (codes "a") 2) }
+first_upload = refl
+
+-- after both markers
+second_upload : uploads_page (asked [] [] 1) (Some (record { key = codes "a"; upload = Some (record { number = 2 }) })) four ≡ record { shown = upload (codes "a") 3 ∷ []; next = Some (upload (codes "a") 3) }
+second_upload = refl
+
+-- after a key alone
+greater_keys : uploads_page (asked [] [] 9) (Some (record { key = codes "a"; upload = None })) four ≡ record { shown = upload (codes "a/1") 4 ∷ upload (codes "b") 1 ∷ []; next = None }
+greater_keys = refl
+
+rolled_uploads : uploads_page (asked [] (codes "/") 3) None four ≡ record { shown = upload (codes "a") 2 ∷ upload (codes "a") 3 ∷ Common (codes "a/") ∷ []; next = Some (Common (codes "a/")) }
+rolled_uploads = refl
+
+-- the name of the marker's key passes no more
+rolled_behind : uploads_page (asked [] (codes "/") 3) (Some (record { key = codes "a/1"; upload = Some (record { number = 1 }) })) four ≡ record { shown = upload (codes "b") 1 ∷ []; next = None }
+rolled_behind = refl
+
+no_uploads : uploads_page (asked [] [] 0) None four ≡ record { shown = []; next = None }
+no_uploads = refl
+
+-- ---- parts 1, 2, 5 and 10,000
+
+abbrev numbers : Paged PartItem → List ℕ × Option ℕ
+numbers p = (map (λ (x : PartItem). x.number) p.shown, option_map (λ (x : PartItem). x.number) p.next)
+
+abbrev stored : ℕ → ℕ × Part
+stored n = (n, record { bytes = []; moment = 0 })
+
+abbrev four_parts : List (ℕ × Part)
+four_parts = stored 1 ∷ stored 2 ∷ stored 5 ∷ stored 10000 ∷ []
+
+first_parts : numbers (parts_page 2 0 four_parts) ≡ (1 ∷ 2 ∷ [], Some 2)
+first_parts = refl
+
+last_parts : numbers (parts_page 2 2 four_parts) ≡ (5 ∷ 10000 ∷ [], None)
+last_parts = refl
+
+no_parts : numbers (parts_page 0 0 four_parts) ≡ ([], None)
+no_parts = refl

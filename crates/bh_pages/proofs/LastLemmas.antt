@@ -1,5 +1,5 @@
 -- The last of a list.
-use Rattle.std.proofs.Common.{◌≡◌, ℕ, zero, suc, ◌-◌, ◌<◌, ◌≤◌, List, [], ◌∷◌, length, slice_index_or, Some, refl, sym, ap, ◌∙◌, subst, arith}
+use Rattle.std.proofs.Common.{◌≡◌, ℕ, suc, ◌-◌, ◌≤◌, List, [], ◌∷◌, length, slice_index_or, Some, sym, ap, ◌∙◌, arith}
 use Rattle.bh_model.specs.Pages.{last_of}
 
 last_index : {X : Type 0} (l : List X) (y x : X) → x ≡ slice_index_or (y ∷ l) (length l) x → last_of (y ∷ l) ≡ Some x

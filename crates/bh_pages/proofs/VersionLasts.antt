@@ -7,7 +7,7 @@ use Rattle.bh_pages.specs.declared.versions.Place as program
 use Rattle.bh_pages.specs.declared.versions.VersionLine.{VersionLine}
 use Rattle.bh_pages.specs.Versions.{seen_place, past_row, PastLast}
 
-pub some_lines : (l : List VersionLine) → false ≡ (length l == 0) → 1 ≤ length l
+pub some_lines : {X : Type 0} (l : List X) → false ≡ (length l == 0) → 1 ≤ length l
 some_lines l h = least (length l) (λ e. true≢false (sym (ap (λ n. n == 0) e) ∙ sym h))
   where
     least : (n : ℕ) → n ≢ 0 → 1 ≤ n

@@ -8,17 +8,17 @@ use Rattle.std.proofs.lemmas.List.{take-append-drop, length-take, take_all, appe
 use Rattle.std.proofs.Math.ListN.{drop_of_length-le}
 use Rattle.std.proofs.Math.Seq.{take-append_seam}
 use Rattle.bh_model.specs.State.{Octets, octets_cmp}
-use Rattle.bh_model.specs.Pages.{Listed, Listed.Single, Listed.Common, VersionItem, begins, is_upto, is_before, is_name, same, joined, as_listed, rolled, last_of, passes_version}
+use Rattle.bh_model.specs.Pages.{Listed, Listed.Common, VersionItem, begins, is_upto, is_before, is_name, same, joined, as_listed, rolled, last_of, passes_version}
 use Rattle.bh_pages.specs.Gathered.{Gathered, with_entry, past_key, past_name}
 use Rattle.bh_pages.specs.Versions.{Numbered, row_key, spot, Place, is_from, is_older, at_key, after_entry, past_row, version_after, items_next, version_entry, with_passing, with_version, with_versions, versions_to_come}
 use Rattle.bh_pages.proofs.Bytes.{upto_trans, upto_begun, same_is, before_past_name, begins_between, rolled_begins, rolled_again, some_same, none_some}
 use Rattle.bh_pages.proofs.Skipping.{entry_step, key_kept, grown}
-use Rattle.bh_pages.proofs.VersionRows.{IsStrict, precedes, precedes_key, all_map, filter_narrow, filter_whole, filter_passes, before_upto, rest_is, older_split, strict_filter}
+use Rattle.bh_pages.proofs.VersionRows.{IsStrict, precedes_key, all_map, filter_narrow, filter_whole, filter_passes, before_upto, rest_is, older_split, strict_filter}
 
-over : (a b : ℕ) → nat_lt a b ≡ true → b ≤ a → ⊥
+pub over : (a b : ℕ) → nat_lt a b ≡ true → b ≤ a → ⊥
 over a b h k = grind (arith, nat_tests, h, k)
 
-past_lt : (a b : ℕ) → nat_lt a b ≡ true → a < b
+pub past_lt : (a b : ℕ) → nat_lt a b ≡ true → a < b
 past_lt a b h = grind (arith, nat_tests, h)
 
 -- the key before a text
@@ -30,15 +30,25 @@ other_key : (at : Octets) (key : Option Octets) (k : Octets) → IsBelow at key 
 other_key at None k below h = refl
 other_key at (Some j) k below h = elim (same j k) as (λ t. same j k ≡ t → t ≡ false) [ true ↦ λ e. absurd (true≢false (sym h ∙ subst (λ z. is_upto at z ≡ false) (same_is j k e) below)) | false ↦ λ _. refl ] refl
 
-turned_before : (o : Ordering) → is_le o ≡ false → is_lt (ordering_reverse o) ≡ true
+pub turned_before : (o : Ordering) → is_le o ≡ false → is_lt (ordering_reverse o) ≡ true
 turned_before Less h = absurd (true≢false h)
 turned_before Equal h = absurd (true≢false h)
 turned_before Greater h = refl
 
-less_key : (a b : Ordering) → is_lt a ≡ true → is_lt (ordering_then a b) ≡ true
+pub less_key : (a b : Ordering) → is_lt a ≡ true → is_lt (ordering_then a b) ≡ true
 less_key Less b h = refl
 less_key Equal b h = absurd (true≢false (sym h))
 less_key Greater b h = absurd (true≢false (sym h))
+
+-- of a full page nothing more is seen
+pub full_page : {E : Type 0} (max : ℕ) (es more other : List E) → max < length es → length es ≤ suc max → take (suc max) (es ++ more) ≡ take (suc max) (es ++ other)
+full_page max es more other full short =
+    let is : length es ≡ suc max = omega (arith, full, short) in
+    subst (λ n. take n (es ++ more) ≡ take n (es ++ other)) is (take-append_seam es more ∙ sym (take-append_seam es other))
+
+-- where a page has room for one more, it has room afterwards
+pub fits : (max a b : ℕ) → nat_lt max a ≡ false → b ≤ suc a → b ≤ suc max
+fits max a b h k = grind (arith, nat_tests, h, k)
 
 module _ (prefix delimiter : Octets) (marker : Option Octets) where
   abbrev come : Gathered VersionItem → List Numbered → List (Listed VersionItem)
@@ -84,11 +94,6 @@ module _ (prefix delimiter : Octets) (marker : Option Octets) where
     | false ↦ omega arith
   ]
 
-  full_page : (max : ℕ) (es more other : List (Listed VersionItem)) → max < length es → length es ≤ suc max → take (suc max) (es ++ more) ≡ take (suc max) (es ++ other)
-  full_page max es more other full short =
-      let is : length es ≡ suc max = omega (arith, full, short) in
-      subst (λ n. take n (es ++ more) ≡ take n (es ++ other)) is (take-append_seam es more ∙ sym (take-append_seam es other))
-
   abbrev Stepped : ℕ → Gathered VersionItem → Gathered VersionItem → List Numbered → List Numbered → Type 0
   Stepped max g h whole rest = (take (suc max) (g.entries ++ come g whole) ≡ take (suc max) (h.entries ++ come h rest)) × (length h.entries ≤ suc max)
 
@@ -100,11 +105,8 @@ module _ (prefix delimiter : Octets) (marker : Option Octets) where
           → Stepped max g (cond t g (rowed max (turn g r) chunk)) (r ∷ (chunk ++ rest)) rest
       go true e more = (full_page max g.entries _ _ (past_lt max (length g.entries) e) short, short)
       go false e more =
-          let small : length (turn g r).entries ≤ suc max = fits (length g.entries) (length (turn g r).entries) e (row_grown g r) in
+          let small : length (turn g r).entries ≤ suc max = fits max (length g.entries) (length (turn g r).entries) e (row_grown g r) in
           (ap (take (suc max)) (version_step g r (chunk ++ rest)) ∙ (more small).0, (more small).1)
-        where
-          fits : (a b : ℕ) → nat_lt max a ≡ false → b ≤ suc a → b ≤ suc max
-          fits a b h k = grind (arith, nat_tests, h, k)
 
   -- ---- after the last row of a chunk that leaves room, its rolled-up name is listed or not let through
 
@@ -209,7 +211,7 @@ module _ (prefix delimiter : Octets) (marker : Option Octets) where
     left_over n key (Some seq) = drop n (filter (is_older key seq) rows) ++ from (at_key (past_key key))
 
     abbrev placed : Octets → Option ℕ → Place
-    placed key older = record { key = key; older = older }
+    placed key older = record { key = key; after = older }
 
     split : (n : ℕ) (key : Octets) (older : Option ℕ) → take n (rows_at key older) ++ left_over n key older ≡ from (placed key older)
     split n key None = take-append-drop n (from (at_key key))

@@ -3,8 +3,9 @@ use Rattle.std.specs.Prelude.{◌≡◌, ℕ, ◌+◌, ◌≤◌, List, [], ◌�
 use Rattle.std.specs.Option.{option_map_or}
 use Rattle.std.specs.List.{AllByRecursion}
 use Rattle.std.specs.FinMap.{FinMap, entries}
-use Rattle.bh_model.specs.State.{Octets, octets_cmp, Entry}
-use Rattle.bh_model.specs.Pages.{Listed, Paged, ObjectItem, name_of, entries_after, after_name, objects_in, objects_page}
+use Rattle.std.specs.Ordering.{nat_cmp}
+use Rattle.bh_model.specs.State.{Octets, octets_cmp, Entry, Part}
+use Rattle.bh_model.specs.Pages.{Listed, Paged, ObjectItem, name_of, entries_after, after_name, objects_in, objects_page, PartItem, parts_after, parts_page}
 
 abbrev pub total : List ℕ → ℕ
 total [] = 0
@@ -27,3 +28,15 @@ all_objects prefix delimiter keys = entries_after prefix delimiter (λ (o : Obje
 abbrev pub PagesChain : Type 0
 PagesChain = (prefix delimiter : Octets) (objects : FinMap octets_cmp (List Entry)) (sizes : List ℕ) → AllByRecursion (λ m. 1 ≤ m) sizes
     → chained (λ (o : ObjectItem). o.key) (objects_paged prefix delimiter (entries objects)) sizes None ≡ take (total sizes) (all_objects prefix delimiter (entries objects))
+
+-- what the pages of parts of these sizes show, one after another, each after the last number of the page before, until one is not
+-- truncated
+abbrev pub parts_chained : List (ℕ × Part) → List ℕ → ℕ → List PartItem
+parts_chained parts [] marker = []
+parts_chained parts (m ∷ sizes) marker =
+    (parts_page m marker parts).shown ++ option_map_or (λ (p : PartItem). parts_chained parts sizes p.number) (parts_page m marker parts).next []
+
+-- they show the first of all parts after the marker, so many as the sizes make together
+abbrev pub PartsChain : Type 0
+PartsChain = (parts : FinMap nat_cmp Part) (sizes : List ℕ) (marker : ℕ) → AllByRecursion (λ m. 1 ≤ m) sizes
+    → parts_chained (entries parts) sizes marker ≡ take (total sizes) (parts_after marker (entries parts))

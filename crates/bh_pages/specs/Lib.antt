@@ -3,3 +3,5 @@ pub mod Seen
 pub mod Reading
 pub mod Laws
 pub mod Versions
+pub mod Places
+pub mod Uploads

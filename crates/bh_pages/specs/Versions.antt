@@ -1,15 +1,16 @@
 -- What is gathered of a page of versions, row by row in the order of keys, those of a key by falling entry numbers.
-use Rattle.std.specs.Prelude.{◌≡◌, ℕ, zero, suc, pos, nat_lt, Bool, true, false, not, ◌&&◌, ◌||◌, int_lt, List, [], ◌∷◌, length, map, Option, Some, None, option_map, is_none, IfSome, if◌then◌else◌, string_bytes}
+use Rattle.std.specs.Prelude.{◌≡◌, ℕ, zero, suc, pos, nat_lt, Bool, true, false, not, ◌&&◌, int_lt, List, [], ◌∷◌, length, map, Option, Some, None, option_map, is_none, IfSome, if◌then◌else◌, string_bytes}
 use Rattle.std.specs.List.{filter, AllByRecursion}
-use Rattle.std.specs.Ordering.{is_lt, int_cmp, ordering_then}
+use Rattle.std.specs.Ordering.{int_cmp}
 use Rattle.std.specs.declared.cmp.Ordering.{Ordering}
 use Rattle.bh_types.specs.declared.id.VersionId.{VersionId}
 use Rattle.bh_types.specs.declared.id.VersionId.TheVariants.{Null, Numbered as Given}
-use Rattle.bh_model.specs.State.{Octets, octets_cmp}
-use Rattle.bh_model.specs.Pages.{Listed, Listed.Single, Listed.Common, begins, is_name, is_upto, same, joined, entry_of, rolled, last_of, StoredItem, VersionItem, passes_version}
-use Rattle.bh_pages.specs.Gathered.{Gathered, with_entry, past_key, past_name}
+use Rattle.bh_model.specs.State.{Octets}
+use Rattle.bh_model.specs.Pages.{Listed, Listed.Single, Listed.Common, begins, is_name, same, joined, entry_of, rolled, last_of, StoredItem, VersionItem, passes_version}
+use Rattle.bh_pages.specs.Gathered.{Gathered, with_entry}
+use Rattle.bh_pages.specs.Places as places
+pub use Rattle.bh_pages.specs.Places.{Spot, Place, at_key, after_entry, past_row, past_few}
 use Rattle.bh_pages.specs.Seen.{token_of}
-use Rattle.bh_pages.specs.Reading.{IsCount}
 use Rattle.bh_pages.specs.declared.gathering.Asked.{Asked}
 use Rattle.bh_pages.specs.declared.versions.Place as program
 use Rattle.bh_pages.specs.declared.versions.VersionLine.{VersionLine}
@@ -35,42 +36,22 @@ items_next key (r ∷ rows) = version_after key r ∷ items_next (Some (row_key 
 
 -- ---- places between rows
 
--- a key and an entry number of it
-abbrev pub Spot : Type 0
-Spot = Octets × ℕ
+-- the entries of a key stand by falling numbers
+abbrev pub falling : ℕ → ℕ → Ordering
+falling m n = int_cmp (pos n) (pos m)
+
+abbrev pub entry_number : Numbered → ℕ
+entry_number r = r.0
 
 abbrev pub spot : Numbered → Spot
-spot r = (row_key r, r.0)
-
-abbrev pub spot_order : Spot → Spot → Ordering
-spot_order a b = ordering_then (octets_cmp a.0 b.0) (int_cmp (pos b.1) (pos a.1))
-
--- from a key on, or after one of its entries
-pub record Place : Type 0 where
-  pub key : Octets
-  pub older : Option ℕ
-
-abbrev pub follows : Octets → Option ℕ → Spot → Bool
-follows key None s = is_upto key s.0
-follows key (Some seq) s = is_lt (spot_order (key, seq) s)
+spot = places.spot falling row_key entry_number
 
 abbrev pub is_from : Place → Numbered → Bool
-is_from place r = follows place.key place.older (spot r)
+is_from = places.is_from falling row_key entry_number
 
 -- the older entries of a key
 abbrev pub is_older : Octets → ℕ → Numbered → Bool
 is_older key seq r = same (row_key r) key && int_lt (pos r.0) (pos seq)
-
-abbrev pub at_key : Octets → Place
-at_key key = record { key = key; older = None }
-
-abbrev pub after_entry : Octets → ℕ → Place
-after_entry key seq = record { key = key; older = Some seq }
-
--- a row of a rolled-up name is followed by what is past that name
-abbrev pub past_row : Octets → ℕ → Option Octets → Place
-past_row key seq None = after_entry key seq
-past_row key seq (Some name) = at_key (past_name name)
 
 -- ---- what is gathered
 
@@ -125,7 +106,7 @@ abbrev pub seen : VersionGathering → Gathered VersionItem
 seen g = record { key = option_map (λ k. k.items) g.key; name = option_map (λ n. n.items) g.name; entries = map seen_entry g.entries.items }
 
 abbrev pub seen_place : program.Place → Place
-seen_place p = record { key = p.key.items; older = p.older }
+seen_place p = record { key = p.key.items; after = p.after }
 
 abbrev pub row_added : Asked → Gathered VersionItem → Numbered → Gathered VersionItem
 row_added asked = with_version asked.prefix.now asked.delimiter.now (token_of asked)
@@ -146,10 +127,6 @@ pub record PastLast (asked : Asked) (lines : List VersionLine) (place : Place) :
   pub row : VersionLine
   pub last : last_of lines ≡ Some row
   pub is : begins asked.prefix.now row.key.items ≡ true → place ≡ past_row row.key.items row.seq (rolled asked.prefix.now asked.delimiter.now row.key.items)
-
--- after fewer rows than were asked for, older ones of a key are followed by the keys after it, and those of keys by none
-abbrev pub past_few : Place → Option Place
-past_few place = option_map (λ _. at_key (past_key place.key)) place.older
 
 -- where reading goes on after these rows, if any can be left
 pub record GoesOn (asked : Asked) (old : Place) (lines : List VersionLine) (count : ℕ) (new : Option Place) : Type 0 where

@@ -1,8 +1,14 @@
 //! Laws of the definitions, each the contract of a function that does nothing.
-ghost use Rattle.bh_pages.specs.Laws.{PagesChain};
+ghost use Rattle.bh_pages.specs.Laws.{PagesChain, PartsChain};
 
 /// Pages of a listing of objects that are chained by their tokens show each entry once and in order, however large
 /// they are.
 pub fn pages_chain()
     ensures { PagesChain }
+{}
+
+/// Pages of a listing of an upload's parts that are chained by their numbers show each part once and in order, however
+/// large they are.
+pub fn parts_chain()
+    ensures { PartsChain }
 {}

@@ -5,4 +5,5 @@ pub mod gathering;
 pub mod laws;
 pub mod names;
 pub mod reading;
+pub mod uploads;
 pub mod versions;

@@ -63,7 +63,7 @@ pub struct VersionGathering {
 pub struct Place {
     pub key: Vec<u8>,
     /// `None` for before all entries of the key, else after the one of this number.
-    pub older: Option<u64>,
+    pub after: Option<u64>,
 }
 
 /// How far the reading of a page has come.
@@ -176,11 +176,11 @@ fn past_row(alloc: Global, asked: &Asked<'_>, line: &VersionLine) -> Result<Plac
     match name_end(asked.prefix, asked.delimiter, line.key.as_slice()) {
         None => Ok(Place {
             key: Vec::from_slice(alloc, line.key.as_slice())?,
-            older: Some(line.seq),
+            after: Some(line.seq),
         }),
         Some(end) => Ok(Place {
             key: past(alloc, &line.key[..end], 255)?,
-            older: None,
+            after: None,
         }),
     }
 }
@@ -209,11 +209,11 @@ fn place_after(
     if lines.len() as u64 >= count {
         return Ok(Some(past_last(alloc, asked, lines)?));
     }
-    if place.older.is_none() {
+    if place.after.is_none() {
         return Ok(None);
     }
     let key = past(alloc, place.key.as_slice(), 0)?;
-    Ok(Some(Place { key, older: None }))
+    Ok(Some(Place { key, after: None }))
 }
 
 impl VersionReading {

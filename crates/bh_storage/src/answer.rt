@@ -1,4 +1,4 @@
-use bh_docs::{BucketEntry, ObjectsPage, VersionsPage};
+use bh_docs::{BucketEntry, ObjectsPage, PartsPage, UploadsPage, VersionsPage};
 use bh_types::bucket_state::BucketState;
 use bh_types::id::{UploadId, VersionId};
 use bh_types::moment::Moment;
@@ -21,6 +21,10 @@ pub enum Answer {
     Objects(ObjectsPage),
     /// A page of a bucket's versions and delete markers.
     Versions(VersionsPage),
+    /// A page of a bucket's uploads.
+    Uploads(UploadsPage),
+    /// A page of an upload's parts.
+    Parts(PartsPage),
     Begun(BegunUpload),
     /// A part was put: the base64 (RFC 4648) of the SHA-256 digest (FIPS 180-4) of its bytes.
     PartStored(String),

@@ -28,6 +28,7 @@ returns-in_default g c =
       delete = no.not-DeleteBucket;
       keys = no.not-ListObjectsV2;
       versions = no.not-ListObjectVersions;
+      uploads = no.not-ListMultipartUploads;
       ask = no.not-GetBucketVersioning;
       set = no.not-PutBucketVersioning;
       put = no.not-PutObject;
@@ -37,6 +38,7 @@ returns-in_default g c =
       remove = no.not-DeleteObject;
       begin = no.not-CreateMultipartUpload;
       part = no.not-UploadPart;
+      parts = no.not-ListParts;
       complete = no.not-CompleteMultipartUpload;
       abort = no.not-AbortMultipartUpload;
     } in

@@ -1,5 +1,5 @@
 use Rattle.std.proofs.Common.{sym}
-use Rattle.bh_dispatch.proofs.Steps.{lists_buckets, creates_bucket, heads_bucket, deletes_bucket, lists_objects, lists_versions, tells_versioning, sets_versioning}
+use Rattle.bh_dispatch.proofs.Steps.{lists_buckets, creates_bucket, heads_bucket, deletes_bucket, lists_objects, lists_versions, lists_uploads, tells_versioning, sets_versioning}
 use Rattle.bh_dispatch.proofs.operations.operate_bucket.Goals as goal
 
 pub returns-in-ListBuckets-clause-carries : goal.returns-in-ListBuckets-clause-carries
@@ -25,6 +25,10 @@ returns-in-ListObjectsV2-clause-carries g c limits clean =
 pub returns-in-ListObjectVersions-clause-carries : goal.returns-in-ListObjectVersions-clause-carries
 returns-in-ListObjectVersions-clause-carries g c limits clean =
     rw (c.in-ListObjectVersions.is, lists_versions limits c.args.at c.args.body.now c.in-ListObjectVersions.bucket c.in-ListObjectVersions.page c.in-ListObjectVersions.after) (c.list_versions.ensures.carries clean)
+
+pub returns-in-ListMultipartUploads-clause-carries : goal.returns-in-ListMultipartUploads-clause-carries
+returns-in-ListMultipartUploads-clause-carries g c limits clean =
+    rw (c.in-ListMultipartUploads.is, lists_uploads limits c.args.at c.args.body.now c.in-ListMultipartUploads.bucket c.in-ListMultipartUploads.page c.in-ListMultipartUploads.after) (c.list_uploads.ensures.carries clean)
 
 pub returns-in-GetBucketVersioning-clause-carries : goal.returns-in-GetBucketVersioning-clause-carries
 returns-in-GetBucketVersioning-clause-carries g c limits clean =

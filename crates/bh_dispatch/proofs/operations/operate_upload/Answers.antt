@@ -1,7 +1,7 @@
 use Rattle.std.proofs.Common.{sym}
 use Rattle.sqlite.specs.Held.{state}
 use Rattle.bh_dispatch.proofs.Storing.{by_any}
-use Rattle.bh_dispatch.proofs.Steps.{begins_upload, puts_part, completes_upload, aborts_upload}
+use Rattle.bh_dispatch.proofs.Steps.{begins_upload, puts_part, lists_parts, completes_upload, aborts_upload}
 use Rattle.bh_dispatch.proofs.operations.operate_upload.Goals as goal
 
 pub returns-in-CreateMultipartUpload-clause-working : goal.returns-in-CreateMultipartUpload-clause-working
@@ -14,6 +14,13 @@ returns-in-CreateMultipartUpload-clause-carries g c clean =
 pub returns-in-UploadPart-clause-carries : goal.returns-in-UploadPart-clause-carries
 returns-in-UploadPart-clause-carries g c clean =
     rw (c.in-UploadPart.is, puts_part c.args.limits.now c.args.at c.args.body.now c.in-UploadPart.object c.in-UploadPart.upload c.in-UploadPart.number c.in-UploadPart.checksum, sym c.bytes_of.ensures) (c.put_part.ensures.carries clean)
+
+pub returns-in-ListParts-clause-working : goal.returns-in-ListParts-clause-working
+returns-in-ListParts-clause-working g c = by_any g.D.Digester.digest_of (state g.S.Store c.args.connection.now) (state g.S.Store c.list_parts.new.connection) c.list_parts.result c.list_parts.ensures.working
+
+pub returns-in-ListParts-clause-carries : goal.returns-in-ListParts-clause-carries
+returns-in-ListParts-clause-carries g c clean =
+    rw (c.in-ListParts.is, lists_parts c.args.limits.now c.args.at c.args.body.now c.in-ListParts.object c.in-ListParts.upload c.in-ListParts.page) (c.list_parts.ensures.carries clean)
 
 pub returns-in-CompleteMultipartUpload-clause-working : goal.returns-in-CompleteMultipartUpload-clause-working
 returns-in-CompleteMultipartUpload-clause-working g c = by_any g.D.Digester.digest_of (state g.S.Store c.args.connection.now) (state g.S.Store c.complete_upload.new.connection) c.complete_upload.result c.complete_upload.ensures.working

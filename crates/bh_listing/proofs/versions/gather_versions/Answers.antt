@@ -59,7 +59,7 @@ returns-then-branch-clause-gathered g c = λ clean.
     let small = small_keys (tables_at old) sound in
     let strict = own_strict (tables_at old) c.args.tenant.now c.args.bucket.now sound in
     let had = c.reading.invariant.read before in
-    let are = lines_are c.args.asked.now c.args.tenant.now c.args.bucket.now (tables_at (state g.S.Store c.reading.connection)).versions (tables_at old).versions c.reading.reading.place.key.items c.reading.reading.place.older
+    let are = lines_are c.args.asked.now c.args.tenant.now c.args.bucket.now (tables_at (state g.S.Store c.reading.connection)).versions (tables_at old).versions c.reading.reading.place.key.items c.reading.reading.place.after
     c.in_ok-upto.upto.items c.as_slice.result.now c.in_ok-lines.lines.items c.as_slice-in-reading.result.now c.reading.reading.count c.as_slice.ensures.value c.reading.invariant.upto c.as_slice-in-reading.ensures.value
     (ap (λ (t : Tables). t.versions) (same_tables old (state g.S.Store c.reading.connection) (c.reading.invariant.far.same before.intact))) (c.in_ok-lines.ensures.lines clean) in
     let took = c.in_ok-take.ensures.took (turn_under c.args.asked.now (seen_start c.args.start) c.args.tenant.now c.args.bucket.now (tables_at old).versions small strict c.reading.reading had c.as_slice-in-reading.result.now are) in
@@ -78,7 +78,7 @@ reading-preserved g c =
           let small = small_keys (tables_at old) sound in
           let strict = own_strict (tables_at old) c.args.tenant.now c.args.bucket.now sound in
           let had = c.reading.invariant.read before in
-          let are = lines_are c.args.asked.now c.args.tenant.now c.args.bucket.now (tables_at (state g.S.Store c.reading.connection)).versions (tables_at old).versions c.reading.reading.place.key.items c.reading.reading.place.older
+          let are = lines_are c.args.asked.now c.args.tenant.now c.args.bucket.now (tables_at (state g.S.Store c.reading.connection)).versions (tables_at old).versions c.reading.reading.place.key.items c.reading.reading.place.after
           c.in_ok-upto.upto.items c.as_slice.result.now c.in_ok-lines.lines.items c.as_slice-in-reading.result.now c.reading.reading.count c.as_slice.ensures.value c.reading.invariant.upto c.as_slice-in-reading.ensures.value
           (ap (λ (t : Tables). t.versions) (same_tables old (state g.S.Store c.reading.connection) (c.reading.invariant.far.same before.intact))) (c.in_ok-lines.ensures.lines clean) in
           let took = c.in_ok-take.ensures.took (turn_under c.args.asked.now (seen_start c.args.start) c.args.tenant.now c.args.bucket.now (tables_at old).versions small strict c.reading.reading had c.as_slice-in-reading.result.now are) in

@@ -9,7 +9,7 @@ use Rattle.bh_listing.proofs.versions.start_of.Goals as goal
 
 pub returns-in_default-clause-under : goal.returns-in_default-clause-under
 returns-in_default-clause-under g c =
-    subst (λ (b : Beginning). IsUnder c.args.asked.now.prefix.now b.place.key b.place.older) (sym c.in_ok-start_past.ensures) (start_low c.args.asked.now.prefix.now (token_of c.args.asked.now))
+    subst (λ (b : Beginning). IsUnder c.args.asked.now.prefix.now b.place.key b.place.after) (sym c.in_ok-start_past.ensures) (start_low c.args.asked.now.prefix.now (token_of c.args.asked.now))
 
 pub returns-in_default-clause-begins : goal.returns-in_default-clause-begins
 returns-in_default-clause-begins g c clean =
@@ -26,7 +26,7 @@ returns-in_ok-start_older-in-Some-2-clause-begins g c clean =
 
 pub returns-in_ok-start_past-in-None-clause-under : goal.returns-in_ok-start_past-in-None-clause-under
 returns-in_ok-start_past-in-None-clause-under g c =
-    subst (λ (b : Beginning). IsUnder c.args.asked.now.prefix.now b.place.key b.place.older) (sym c.in_ok-start_past-in-None.ensures) (start_low c.args.asked.now.prefix.now (token_of c.args.asked.now))
+    subst (λ (b : Beginning). IsUnder c.args.asked.now.prefix.now b.place.key b.place.after) (sym c.in_ok-start_past-in-None.ensures) (start_low c.args.asked.now.prefix.now (token_of c.args.asked.now))
 
 pub returns-in_ok-start_past-in-None-clause-begins : goal.returns-in_ok-start_past-in-None-clause-begins
 returns-in_ok-start_past-in-None-clause-begins g c clean =

@@ -1,0 +1,88 @@
+-- What is gathered of a page of uploads, row by row in the order of keys, those of a key in the order of their numbers.
+use Rattle.std.specs.Prelude.{◌≡◌, ℕ, nat_lt, Bool, true, false, List, [], length, map, Option, Some, None, option_map, is_none, IfSome}
+use Rattle.std.specs.List.{AllByRecursion}
+use Rattle.std.specs.Ordering.{nat_cmp}
+use Rattle.bh_model.specs.State.{Octets}
+use Rattle.bh_model.specs.Pages.{Listed, Listed.Single, Listed.Common, UploadItem, begins, is_before, rolled, last_of}
+use Rattle.bh_pages.specs.Gathered.{Gathered}
+use Rattle.bh_pages.specs.Seen.{token_of}
+use Rattle.bh_pages.specs.Places as places
+use Rattle.bh_pages.specs.Places.{Place, past_row, past_few}
+use Rattle.bh_pages.specs.Versions.{seen_place}
+use Rattle.bh_pages.specs.declared.gathering.Asked.{Asked}
+use Rattle.bh_pages.specs.declared.uploads.UploadLine.{UploadLine}
+use Rattle.bh_pages.specs.declared.uploads.ListedUpload as listed
+use Rattle.bh_pages.specs.declared.uploads.UploadGathering.{UploadGathering}
+use Rattle.bh_pages.specs.declared.uploads.UploadReading.{UploadReading}
+
+abbrev pub upload_key : UploadItem → Octets
+upload_key u = u.key
+
+abbrev pub upload_number : UploadItem → ℕ
+upload_number u = u.id.number
+
+-- from a place on, and of a key after a number
+abbrev pub is_from : Place → UploadItem → Bool
+is_from = places.is_from nat_cmp upload_key upload_number
+
+abbrev pub is_behind : Octets → ℕ → UploadItem → Bool
+is_behind = places.is_behind nat_cmp upload_key upload_number
+
+abbrev pub IsStrict : List UploadItem → Type 0
+IsStrict = places.IsStrict nat_cmp upload_key upload_number
+
+-- of uploads behind the marker all are listed, and names that are greater than the marker's key
+abbrev pub passes_name : Option Octets → Listed UploadItem → Bool
+passes_name None e = true
+passes_name (Some marker) (Single u) = true
+passes_name (Some marker) (Common name) = is_before marker name
+
+-- ---- what is gathered
+
+module _ (asked : Asked) where
+  abbrev pub upload_added : Gathered UploadItem → UploadItem → Gathered UploadItem
+  upload_added = places.with_next upload_key asked.prefix.now asked.delimiter.now (passes_name (token_of asked))
+
+  abbrev pub uploads_added : Gathered UploadItem → List UploadItem → Gathered UploadItem
+  uploads_added = places.with_items upload_key asked.prefix.now asked.delimiter.now (passes_name (token_of asked)) asked.max
+
+  abbrev pub uploads_to_come : Gathered UploadItem → List UploadItem → List (Listed UploadItem)
+  uploads_to_come = places.left_of upload_key asked.prefix.now asked.delimiter.now (passes_name (token_of asked))
+
+-- ---- what the program's values show
+
+abbrev pub seen_line : UploadLine → UploadItem
+seen_line l = record { key = l.key.items; id = record { number = l.number }; begun = l.begun }
+
+abbrev pub seen_entry : listed.ListedUpload → Listed UploadItem
+seen_entry (listed.TheVariants.Upload u) = Single (seen_line u)
+seen_entry (listed.TheVariants.Common name) = Common name.items
+
+abbrev pub seen : UploadGathering → Gathered UploadItem
+seen g = record { key = None; name = option_map (λ n. n.items) g.name; entries = map seen_entry g.entries.items }
+
+abbrev pub nothing : Gathered UploadItem
+nothing = record { key = None; name = None; entries = [] }
+
+-- ---- how far reading has come
+
+abbrev pub AreUnder : Asked → List UploadLine → Type 0
+AreUnder asked lines = AllByRecursion (λ l. begins asked.prefix.now l.key.items ≡ true) lines
+
+-- past the last of these rows
+pub record PastLast (asked : Asked) (lines : List UploadLine) (place : Place) : Type 0 where
+  pub row : UploadLine
+  pub last : last_of lines ≡ Some row
+  pub is : begins asked.prefix.now row.key.items ≡ true → place ≡ past_row row.key.items row.number (rolled asked.prefix.now asked.delimiter.now row.key.items)
+
+-- where reading goes on after these rows, if any can be left
+pub record GoesOn (asked : Asked) (old : Place) (lines : List UploadLine) (count : ℕ) (new : Option Place) : Type 0 where
+  pub few : nat_lt (length lines) count ≡ true → new ≡ past_few old
+  pub on : nat_lt (length lines) count ≡ false → IfSome new (PastLast asked lines) × (is_none new ≡ false)
+
+-- the rows were taken in; the page is full, or reading has ended, or goes on at a place
+pub record TookUploads (asked : Asked) (old : UploadReading) (lines : List UploadLine) (new : UploadReading) (ended : Bool) : Type 0 where
+  pub added : seen new.gathering ≡ uploads_added asked (seen old.gathering) (map seen_line lines)
+  pub next : Option Place
+  pub full : nat_lt asked.max (length new.gathering.entries.items) ≡ true → ended ≡ true
+  pub ends : nat_lt asked.max (length new.gathering.entries.items) ≡ false → (ended ≡ is_none next) × GoesOn asked (seen_place old.place) lines old.count next × IfSome next (λ place. seen_place new.place ≡ place)

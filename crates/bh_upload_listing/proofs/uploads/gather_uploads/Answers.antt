@@ -1,0 +1,90 @@
+use Rattle.std.proofs.Common.{◌≤◌, ◌<◌, ℕ, ap, sym, ◌∙◌, subst, arith, map}
+use Rattle.sqlite.specs.Held.{state}
+use Rattle.bh_tables.specs.Typed.{Tables}
+use Rattle.bh_schema.specs.Working.{tables_at}
+use Rattle.bh_objects.proofs.Working.{same_tables}
+use Rattle.bh_pages.specs.Uploads.{seen, seen_entry}
+use Rattle.bh_pages.specs.Versions.{seen_place}
+use Rattle.bh_listing.proofs.Looping.{none_so_far, within_so_far, more_so_far, still_inside}
+use Rattle.bh_upload_listing.proofs.Looping.{HasRead, begin_reading, lines_are, turn_under, turn_ended, turn_on}
+use Rattle.bh_upload_listing.proofs.Viewed.{own_strict, small_keys, small_items}
+use Rattle.bh_upload_listing.proofs.uploads.gather_uploads.Goals as goal
+
+pub reading-init : goal.reading-init
+reading-init g c =
+    let old = state g.S.Store c.args.connection.now in
+    record {
+      far = none_so_far old c.requires.working;
+      upto = c.in_ok-upto.ensures;
+      count = c.begin-reading.ensures.count;
+      read = λ clean. subst (λ p. HasRead c.args.asked.now (seen_place c.args.place) c.args.tenant.now c.args.bucket.now (tables_at old).uploads (seen c.begin-reading.result.gathering) (seen_place p)) (sym c.begin-reading.ensures.place)
+          (begin_reading c.args.asked.now (seen_place c.args.place) c.args.tenant.now c.args.bucket.now (tables_at old).uploads c.requires.under c.begin-reading.result.gathering c.begin-reading.ensures.gathering);
+    }
+
+pub lines_at-requires-clause-inside : goal.lines_at-requires-clause-inside
+lines_at-requires-clause-inside g c = still_inside (state g.S.Store c.args.connection.now) (state g.S.Store c.reading.connection) c.requires.working c.reading.invariant.far
+
+pub lines_at-requires-clause-small : goal.lines_at-requires-clause-small
+lines_at-requires-clause-small g c = low c.reading.reading.count c.reading.invariant.count.few
+  where
+    low : (n : ℕ) → n ≤ 64 → n < 9223372036854775808
+    low n h = omega (arith, h)
+
+pub returns-in_err-lines-clause-within : goal.returns-in_err-lines-clause-within
+returns-in_err-lines-clause-within g c =
+    within_so_far (state g.S.Store c.args.connection.now) (state g.S.Store c.reading.connection) (state g.S.Store c.lines_at.new.connection) c.reading.invariant.far c.in_err-lines.ensures.within
+
+pub returns-in_err-take-clause-within : goal.returns-in_err-take-clause-within
+returns-in_err-take-clause-within g c =
+    within_so_far (state g.S.Store c.args.connection.now) (state g.S.Store c.reading.connection) (state g.S.Store c.lines_at.new.connection) c.reading.invariant.far c.in_ok-lines.ensures.within
+
+pub returns-then-branch-clause-within : goal.returns-then-branch-clause-within
+returns-then-branch-clause-within g c =
+    within_so_far (state g.S.Store c.args.connection.now) (state g.S.Store c.reading.connection) (state g.S.Store c.lines_at.new.connection) c.reading.invariant.far c.in_ok-lines.ensures.within
+
+pub returns-then-branch-clause-opens : goal.returns-then-branch-clause-opens
+returns-then-branch-clause-opens g c =
+    (more_so_far (state g.S.Store c.args.connection.now) (state g.S.Store c.reading.connection) (state g.S.Store c.lines_at.new.connection) c.reading.invariant.far c.in_ok-lines.ensures.within c.in_ok-lines.ensures.opens c.in_ok-lines.ensures.same).opens
+
+pub returns-then-branch-clause-same : goal.returns-then-branch-clause-same
+returns-then-branch-clause-same g c =
+    (more_so_far (state g.S.Store c.args.connection.now) (state g.S.Store c.reading.connection) (state g.S.Store c.lines_at.new.connection) c.reading.invariant.far c.in_ok-lines.ensures.within c.in_ok-lines.ensures.opens c.in_ok-lines.ensures.same).same
+
+pub returns-then-branch-clause-gathered : goal.returns-then-branch-clause-gathered
+returns-then-branch-clause-gathered g c = λ clean.
+    let old = state g.S.Store c.args.connection.now in
+    let before = c.in_ok-lines.ensures.within.follows.clean clean in
+    let sound = (c.requires.working (c.reading.invariant.far.within.follows.clean before)).sound in
+    let small = small_keys (tables_at old) c.args.tenant.now c.args.bucket.now sound in
+    let fine = small_items (tables_at old) c.args.tenant.now c.args.bucket.now sound in
+    let strict = own_strict (tables_at old) c.args.tenant.now c.args.bucket.now sound in
+    let had = c.reading.invariant.read before in
+    let are = lines_are c.args.asked.now c.args.tenant.now c.args.bucket.now (tables_at (state g.S.Store c.reading.connection)).uploads (tables_at old).uploads c.reading.reading.place.key.items c.reading.reading.place.after
+    c.in_ok-upto.upto.items c.as_slice.result.now c.in_ok-lines.lines.items c.as_slice-in-reading.result.now c.reading.reading.count c.as_slice.ensures.value c.reading.invariant.upto c.as_slice-in-reading.ensures.value
+    (ap (λ (t : Tables). t.uploads) (same_tables old (state g.S.Store c.reading.connection) (c.reading.invariant.far.same before.intact))) (c.in_ok-lines.ensures.lines clean) in
+    let took = c.in_ok-take.ensures.took (turn_under c.args.asked.now (seen_place c.args.place) c.args.tenant.now c.args.bucket.now (tables_at old).uploads small fine strict c.reading.reading had c.as_slice-in-reading.result.now are) in
+    ap (λ v. map seen_entry v.items) c.into_entries.ensures ∙ turn_ended c.args.asked.now (seen_place c.args.place) c.args.tenant.now c.args.bucket.now (tables_at old).uploads small fine strict c.reading.reading had c.as_slice-in-reading.result.now are c.take.new.self c.in_ok-take.field-0 took c.if-branch.true
+
+pub reading-preserved : goal.reading-preserved
+reading-preserved g c =
+    let old = state g.S.Store c.args.connection.now in
+    record {
+      far = more_so_far old (state g.S.Store c.reading.connection) (state g.S.Store c.lines_at.new.connection) c.reading.invariant.far c.in_ok-lines.ensures.within c.in_ok-lines.ensures.opens c.in_ok-lines.ensures.same;
+      upto = c.reading.invariant.upto;
+      count = c.in_ok-take.ensures.count c.reading.invariant.count;
+      read = λ clean.
+          let before = c.in_ok-lines.ensures.within.follows.clean clean in
+          let sound = (c.requires.working (c.reading.invariant.far.within.follows.clean before)).sound in
+          let small = small_keys (tables_at old) c.args.tenant.now c.args.bucket.now sound in
+          let fine = small_items (tables_at old) c.args.tenant.now c.args.bucket.now sound in
+          let strict = own_strict (tables_at old) c.args.tenant.now c.args.bucket.now sound in
+          let had = c.reading.invariant.read before in
+          let are = lines_are c.args.asked.now c.args.tenant.now c.args.bucket.now (tables_at (state g.S.Store c.reading.connection)).uploads (tables_at old).uploads c.reading.reading.place.key.items c.reading.reading.place.after
+          c.in_ok-upto.upto.items c.as_slice.result.now c.in_ok-lines.lines.items c.as_slice-in-reading.result.now c.reading.reading.count c.as_slice.ensures.value c.reading.invariant.upto c.as_slice-in-reading.ensures.value
+          (ap (λ (t : Tables). t.uploads) (same_tables old (state g.S.Store c.reading.connection) (c.reading.invariant.far.same before.intact))) (c.in_ok-lines.ensures.lines clean) in
+          let took = c.in_ok-take.ensures.took (turn_under c.args.asked.now (seen_place c.args.place) c.args.tenant.now c.args.bucket.now (tables_at old).uploads small fine strict c.reading.reading had c.as_slice-in-reading.result.now are) in
+          turn_on c.args.asked.now (seen_place c.args.place) c.args.tenant.now c.args.bucket.now (tables_at old).uploads small fine strict c.reading.reading had c.as_slice-in-reading.result.now are c.take.new.self c.in_ok-take.field-0 took c.if-branch.false;
+    }
+
+pub returns-clause-within : goal.returns-clause-within
+returns-clause-within g c = c.reading.invariant.far.within

@@ -1,0 +1,8 @@
+//! S3's listings of uploads and of their parts over a host's SQL tables, by seeks.
+#![tactic(auto)]
+
+mod lines;
+pub mod parts;
+mod rows;
+mod told_uploads;
+pub mod uploads;

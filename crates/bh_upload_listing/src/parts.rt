@@ -1,0 +1,190 @@
+//! The parts of an upload, a page at a time.
+
+ghost use Rattle.std.specs.Prelude.{◌≡◌, ◌<◌, ◌^◌, map, option_map, take, IfOk, OnOk};
+ghost use Rattle.bh_tables.specs.Typed.{PartRow};
+ghost use Rattle.bh_schema.specs.Connections.{IsClean, tables, InTransaction, StaysWithin, StaysOpen, ChangesNothing};
+ghost use Rattle.bh_schema.specs.Working.{Works, StillWorks};
+ghost use Rattle.bh_model.specs.Listings.{list_parts};
+ghost use Rattle.bh_model.specs.Operations.{Parts};
+ghost use Rattle.bh_model.specs.Pages.{PartItem, paged, parts_told};
+ghost use Rattle.bh_storage.specs.Calls.{Unless, Carries};
+ghost use Rattle.bh_docs.specs.Pages.{part_view, parts_view};
+ghost use Rattle.bh_upload_listing.specs.Rows.{shown_part, part_item, parts_from};
+ghost use Rattle.bh_upload_listing.specs.Parts.{seen_part};
+
+use crate::rows::part_rows;
+use bh_docs::{PartEntry, PartsPage};
+use bh_schema::trouble::or_trouble;
+use bh_storage::error::{StepError, Trouble};
+use bh_types::id::UploadId;
+use bh_types::moment::Moment;
+use bh_types::refusal::Refusal;
+use bh_uploads::reads::{NamedUpload, found_upload};
+use sqlite::{Alter, Connection, Error, Row};
+use std::alloc::{AllocError, Global};
+
+/// Which page of an upload's parts is asked for.
+#[derive(Clone, Copy, Debug)]
+pub struct PartsAsked {
+    /// How many parts the page has at most.
+    pub max: u32,
+    /// The number that the page comes after; 0 for all parts.
+    pub after: u64,
+}
+
+/// A part, as its row has it.
+#[derive(Drop)]
+pub struct PartLine {
+    pub number: u32,
+    /// In bytes.
+    pub size: u64,
+    pub checksum: String,
+    /// When it was put, in seconds since 1970.
+    pub stamp: u64,
+}
+
+fn read_line(row: &Row) -> Result<PartLine, Error>
+    ensures { IfOk result (λ line. (p : PartRow) → row.now ≡ shown_part p → seen_part line ≡ part_item p) }
+{
+    Ok(PartLine {
+        number: row.get(0)?,
+        size: row.get(1)?,
+        checksum: row.get(2)?,
+        stamp: row.get(3)?,
+    })
+}
+
+fn read_lines(alloc: Global, rows: &[Row]) -> Result<Vec<PartLine>, Error>
+    ensures { IfOk result (λ lines. (ps : _) → rows.now ≡ map shown_part ps → map seen_part lines.items ≡ map part_item ps) }
+{
+    let mut lines = Vec::with_capacity(alloc, rows.len())?;
+    for row in rows {
+        let line = read_line(row)?;
+        lines.push(line)?;
+    }
+    Ok(lines)
+}
+
+/// The first parts of an upload with a greater number than this, at most as many as that, by number.
+fn part_lines<S: Alter>(
+    connection: &mut Connection<S>,
+    alloc: Global,
+    tenant: &str,
+    upload: u64,
+    after: u64,
+    count: u64,
+) -> Result<Vec<PartLine>, Trouble>
+    requires inside { InTransaction S.Store connection.old }
+    requires upload { upload < 2 ^ 62 }
+    requires early { after < 2 ^ 63 }
+    requires small { count < 2 ^ 63 }
+    ensures within { StaysWithin S.Store connection.old connection.new }
+    ensures opens { OnOk result (StaysOpen S.Store connection.old connection.new) }
+    ensures same { OnOk result (ChangesNothing S.Store connection.old connection.new) }
+    ensures lines { IfOk result (λ lines. IsClean S.Store connection.new
+        → map seen_part lines.items ≡ map part_item (parts_from tenant.now upload after count (tables S.Store connection.old).parts)) }
+{
+    let rows = or_trouble(part_rows(connection, tenant, upload, after, count))?;
+    or_trouble(read_lines(alloc, &rows))
+}
+
+/// A part, as it is told. A moment that is none can't be read.
+fn part_entry(alloc: Global, line: &PartLine) -> Result<PartEntry, Trouble>
+    ensures { IfOk result (λ entry. part_view entry ≡ seen_part line.now) }
+{
+    let Some(modified) = Moment::new(line.stamp) else {
+        return Err(Trouble::Store);
+    };
+    Ok(PartEntry {
+        checksum: String::from_str(alloc, line.checksum.as_str())?,
+        modified,
+        number: line.number,
+        size: line.size,
+    })
+}
+
+fn part_entries(alloc: Global, lines: &[PartLine]) -> Result<Vec<PartEntry>, Trouble>
+    ensures { IfOk result (λ parts. map part_view parts.items ≡ map seen_part lines.now) }
+{
+    let mut parts = Vec::new(alloc);
+    for line in lines {
+        let part = part_entry(alloc, line)?;
+        parts.push(part).map_err(AllocError::from)?;
+    }
+    Ok(parts)
+}
+
+/// The parts that a page shows.
+fn shown_lines(lines: &[PartLine], max: u32) -> &[PartLine]
+    ensures { result.now ≡ take max lines.now }
+{
+    if lines.len() > max as usize {
+        &lines[..max as usize]
+    } else {
+        lines
+    }
+}
+
+/// The number after which the next page begins, where this one is truncated.
+fn next_number(lines: &[PartLine], max: u32) -> Option<u32>
+    ensures { result ≡ option_map (λ (p : PartItem). p.number) (paged max (map seen_part lines.now)).next }
+{
+    if max == 0 || lines.len() <= max as usize {
+        return None;
+    }
+    Some(lines[max as usize - 1].number)
+}
+
+/// What a page tells of these parts, which are those that it takes, and one more, if there is one.
+fn told_parts(
+    alloc: Global,
+    upload: &NamedUpload<'_>,
+    number: u64,
+    max: u32,
+    lines: &[PartLine],
+) -> Result<PartsPage, Trouble>
+    ensures { IfOk result (λ page. parts_view page
+        ≡ parts_told upload.now.bucket.now upload.now.key.now (record { number = number }) max (paged max (map seen_part lines.now))) }
+{
+    let shown = shown_lines(lines, max);
+    Ok(PartsPage {
+        bucket: String::from_str(alloc, upload.bucket.as_str())?,
+        key: String::from_str(alloc, upload.key.as_str())?,
+        upload: UploadId { number },
+        max,
+        parts: part_entries(alloc, shown)?,
+        next: next_number(lines, max),
+    })
+}
+
+/// S3's ListParts, a page of an upload's parts: NoSuchBucket, NoSuchUpload.
+pub fn list_parts<S: Alter>(
+    connection: &mut Connection<S>,
+    alloc: Global,
+    upload: &NamedUpload<'_>,
+    asked: PartsAsked,
+) -> Result<PartsPage, StepError<Refusal>>
+    requires working { Works S.Store connection.old }
+    ensures within { StaysWithin S.Store connection.old connection.new }
+    ensures opens { Unless result (StaysOpen S.Store connection.old connection.new) }
+    ensures working { Unless result (StillWorks S.Store connection.old connection.new) }
+    ensures carries { IsClean S.Store connection.new
+        → Carries (λ page. Parts (parts_view page)) upload.now.tenant.now
+        (list_parts upload.now.bucket.now upload.now.key.now upload.now.upload asked.max asked.after)
+        (tables S.Store connection.old) (tables S.Store connection.new) result }
+{
+    // A marker has at most ten digits.
+    if asked.after >= 1 << 63 {
+        return Err(StepError::Failed(Trouble::Store));
+    }
+    let found = found_upload(connection, upload)?;
+    let lines = part_lines(
+        connection,
+        alloc,
+        upload.tenant.as_str(),
+        found.number,
+        asked.after,
+        u64::from(asked.max) + 1,
+    )?;
+    Ok(told_parts(alloc, upload, found.number, asked.max, &lines)?)
+}

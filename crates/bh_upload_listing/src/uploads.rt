@@ -1,0 +1,171 @@
+//! The uploads of a bucket, a page at a time.
+
+ghost use Rattle.std.specs.Prelude.{◌≡◌, ◌^◌, min, suc, map, option_map, take, IfOk, OnOk};
+ghost use Rattle.bh_schema.specs.Connections.{IsClean, tables, StaysWithin, StaysOpen, ChangesNothing};
+ghost use Rattle.bh_schema.specs.Working.{Works, StillWorks};
+ghost use Rattle.bh_model.specs.Listings.{list_uploads};
+ghost use Rattle.bh_model.specs.Operations.{Uploads};
+ghost use Rattle.bh_storage.specs.Calls.{Unless, Carries};
+ghost use Rattle.bh_pages.specs.Seen.{token_of};
+ghost use Rattle.bh_pages.specs.Uploads.{seen_entry};
+ghost use Rattle.bh_pages.specs.Versions.{seen_place};
+ghost use Rattle.bh_docs.specs.Pages.{uploads_view};
+ghost use Rattle.bh_listing.specs.Told.{asked_view};
+ghost use Rattle.bh_listing.specs.Versions.{IsUnder};
+ghost use Rattle.bh_upload_listing.specs.Rows.{own_items};
+ghost use Rattle.bh_upload_listing.specs.Places.{place_view, uploads_of_items, marked, place_by, listed_from};
+
+use crate::lines::lines_at;
+use crate::told_uploads::told_uploads;
+use bh_docs::UploadsPage;
+use bh_objects::reads::bucket_state;
+use bh_pages::gathering::{Asked, past};
+use bh_pages::uploads::{ListedUpload, UploadReading};
+use bh_pages::versions::Place;
+use bh_storage::error::{StepError, Trouble};
+use bh_types::bucket::BucketName;
+use bh_types::counters::COUNTER_END;
+use bh_types::id::UploadId;
+use bh_types::names::TenantName;
+use bh_types::refusal::Refusal;
+use sqlite::{Alter, Connection};
+use std::alloc::{AllocError, Global};
+
+/// The number after which uploads are later than this one. No counter gives 2^62.
+fn number_of(id: UploadId) -> u64
+    ensures { result ≡ min id.number (2 ^ 62) }
+{
+    if id.number < COUNTER_END {
+        id.number
+    } else {
+        COUNTER_END
+    }
+}
+
+/// The marker's key and a number, where the page comes after one upload of a key under the prefix.
+fn marked_upload<'a>(asked: &Asked<'a>, upload: Option<UploadId>) -> Option<(&'a [u8], u64)>
+    ensures { option_map (λ m. (m.0.now, m.1)) result ≡ marked asked.now.prefix.now (token_of asked.now) upload }
+{
+    let Some(key) = asked.after else {
+        return None;
+    };
+    let Some(id) = upload else {
+        return None;
+    };
+    if key.starts_with(asked.prefix) {
+        Some((key, number_of(id)))
+    } else {
+        None
+    }
+}
+
+/// Where a page begins: after an upload of a key, or after all that the marker's key has, if there is a marker.
+fn start_place(
+    alloc: Global,
+    asked: &Asked<'_>,
+    upload: Option<UploadId>,
+) -> Result<Place, AllocError>
+    ensures is { IfOk result (λ place. seen_place place
+        ≡ place_by asked.now (marked asked.now.prefix.now (token_of asked.now) upload)) }
+    ensures under { IfOk result (λ place. IsUnder asked.now.prefix.now place.key.items place.after) }
+{
+    match marked_upload(asked, upload) {
+        Some((key, number)) => Ok(Place {
+            key: Vec::from_slice(alloc, key)?,
+            after: Some(number),
+        }),
+        None => Ok(Place {
+            key: asked.start(alloc)?,
+            after: None,
+        }),
+    }
+}
+
+/// What a page takes of a bucket's uploads from a place on, and one entry more, if there is one.
+fn gather_uploads<S: Alter>(
+    connection: &mut Connection<S>,
+    alloc: Global,
+    tenant: &str,
+    bucket: &str,
+    asked: &Asked<'_>,
+    place: Place,
+) -> Result<Vec<ListedUpload>, Trouble>
+    requires working { Works S.Store connection.old }
+    requires under { IsUnder asked.now.prefix.now place.key.items place.after }
+    ensures within { StaysWithin S.Store connection.old connection.new }
+    ensures opens { OnOk result (StaysOpen S.Store connection.old connection.new) }
+    ensures same { OnOk result (ChangesNothing S.Store connection.old connection.new) }
+    ensures gathered { IfOk result (λ entries. IsClean S.Store connection.new
+        → map seen_entry entries.items ≡ take (suc asked.now.max)
+        (listed_from asked.now (seen_place place) (own_items tenant.now bucket.now (tables S.Store connection.old).uploads))) }
+{
+    let upto = past(alloc, asked.prefix, 255)?;
+    let mut reading = UploadReading::begin(alloc, asked, place);
+    'reading: for _ in 0..u64::MAX {
+        let lines = lines_at(
+            connection,
+            alloc,
+            tenant,
+            bucket,
+            &reading.place,
+            upto.as_slice(),
+            reading.count,
+        )?;
+        if reading.take(alloc, asked, lines.as_slice())? {
+            return Ok(reading.into_entries());
+        }
+    }
+    // So many rows there are not.
+    Err(Trouble::Store)
+}
+
+/// What a page of a bucket's uploads takes, and one entry more, if there is one.
+fn page_entries<S: Alter>(
+    connection: &mut Connection<S>,
+    alloc: Global,
+    tenant: &str,
+    bucket: &str,
+    asked: &Asked<'_>,
+    upload: Option<UploadId>,
+) -> Result<Vec<ListedUpload>, Trouble>
+    requires working { Works S.Store connection.old }
+    ensures within { StaysWithin S.Store connection.old connection.new }
+    ensures opens { OnOk result (StaysOpen S.Store connection.old connection.new) }
+    ensures same { OnOk result (ChangesNothing S.Store connection.old connection.new) }
+    ensures gathered { IfOk result (λ entries. IsClean S.Store connection.new
+        → map seen_entry entries.items ≡ take (suc asked.now.max)
+        (uploads_of_items asked.now upload (own_items tenant.now bucket.now (tables S.Store connection.old).uploads))) }
+{
+    let place = start_place(alloc, asked, upload)?;
+    gather_uploads(connection, alloc, tenant, bucket, asked, place)
+}
+
+/// S3's ListMultipartUploads, a page of a bucket's uploads: NoSuchBucket.
+pub fn list_uploads<S: Alter>(
+    connection: &mut Connection<S>,
+    alloc: Global,
+    tenant: &TenantName,
+    bucket: &BucketName,
+    asked: &Asked<'_>,
+    upload: Option<UploadId>,
+) -> Result<UploadsPage, StepError<Refusal>>
+    requires working { Works S.Store connection.old }
+    ensures within { StaysWithin S.Store connection.old connection.new }
+    ensures opens { Unless result (StaysOpen S.Store connection.old connection.new) }
+    ensures working { Unless result (StillWorks S.Store connection.old connection.new) }
+    ensures carries { IsClean S.Store connection.new
+        → Carries (λ page. Uploads (uploads_view page)) tenant.now
+        (list_uploads bucket.now (asked_view asked.now) (place_view asked.now upload))
+        (tables S.Store connection.old) (tables S.Store connection.new) result }
+{
+    bucket_state(connection, tenant, bucket)?;
+    let entries = page_entries(
+        connection,
+        alloc,
+        tenant.as_str(),
+        bucket.as_str(),
+        asked,
+        upload,
+    )?;
+    Ok(told_uploads(alloc, bucket.as_str(), asked, &entries)?)
+}
