@@ -32,9 +32,9 @@ use Rattle.bh_storage.specs.declared.error.StepError.{StepError}
 use Rattle.bh_storage.specs.declared.error.StepError.TheVariants.{Refused, Failed}
 use Rattle.bh_schema.specs.Rows.{SeenHead, seen_head}
 use Rattle.bh_objects.specs.Answers.{head_looked}
-use Rattle.bh_objects.specs.Copies.{version_read, with_copied, copy_written}
+use Rattle.bh_objects.specs.Copies.{version_read, copy_written}
 use Rattle.bh_objects.specs.Found.{mode_in, numbers_in, IsKeyText, with_entry}
-use Rattle.bh_objects.specs.Writes.{with_counters, with_room, with_columns}
+use Rattle.bh_objects.specs.Writes.{with_counters, with_room, with_version, with_columns}
 use Rattle.bh_objects.proofs.Getting.{its, sized, row_bytes, found_version, refused_version}
 use Rattle.bh_objects.proofs.Putting.{HasBucket, has_bucket, has_numbers, next_unnamed}
 use Rattle.bh_objects.proofs.Written.{HasRowsOf, becomes_so, IsHostOf, is_added}
@@ -82,7 +82,7 @@ module _ (tables : Tables) (t b k : Octets) (sound : IsSound tables) (mode : Buc
 
 -- its row is that of an object with the source's bytes
 copied_row : (mode : BucketState) (before : Counts) (t b k : Octets) (moment : ℕ) (head : SeenHead) (bytes : Octets) (tables : Tables) → head.size ≡ length bytes
-    → with_copied mode before t b k moment head tables ≡ with_columns mode before t b k moment (Body bytes head.checksum) tables
+    → with_version mode before t b k moment head.size head.checksum tables ≡ with_columns mode before t b k moment (Body bytes head.checksum) tables
 copied_row mode before t b k moment head bytes tables size = ap (λ n. record tables {
   versions = tables.versions ++ resolved tables.refs tables.blocks (record {
     tenant = t;
@@ -213,7 +213,7 @@ module _ {Y : Type 0} (told : Y → Answer) (at : ℕ) (t b k sb sk : Octets) (w
 
 -- the writes of a copy, one after another
 pub copy_chain : (mode : BucketState) (before after : Counts) (t b k : Octets) (at : ℕ) (head : SeenHead) (old one two three new : Tables)
-    → one ≡ with_counters mode after t old → two ≡ body_copied (t, head.seq) (t, before.entry) one → three ≡ with_room mode t b k two → new ≡ with_copied mode before t b k at head three
+    → one ≡ with_counters mode after t old → two ≡ body_copied (t, head.seq) (t, before.entry) one → three ≡ with_room mode t b k two → new ≡ with_version mode before t b k at head.size head.checksum three
     → new ≡ copy_written mode before after t b k at head old
 copy_chain mode before after t b k at head old one two three new is1 is2 is3 is4 =
-    is4 ∙ ap (with_copied mode before t b k at head) (is3 ∙ ap (with_room mode t b k) (is2 ∙ ap (body_copied (t, head.seq) (t, before.entry)) is1))
+    is4 ∙ ap (with_version mode before t b k at head.size head.checksum) (is3 ∙ ap (with_room mode t b k) (is2 ∙ ap (body_copied (t, head.seq) (t, before.entry)) is1))

@@ -41,6 +41,22 @@ with_columns mode before tenant bucket key moment content tables = record tables
   versions = tables.versions ++ resolved tables.refs tables.blocks (columns_of (entry_row tenant bucket key before.entry (row_number mode before.version) moment content)) ∷ [];
 }
 
+-- the row of a version of this size and checksum, which has the bytes of its body
+abbrev pub with_version : BucketState → Counts → Octets → Octets → Octets → ℕ → ℕ → Octets → Tables → Tables
+with_version mode before tenant bucket key moment size checksum tables = record tables {
+  versions = tables.versions ++ resolved tables.refs tables.blocks (record {
+    tenant = tenant;
+    seq = before.entry;
+    bucket = bucket;
+    okey = key;
+    id = row_number mode before.version;
+    marker = 0;
+    stamp = moment;
+    size = size;
+    checksum = checksum;
+  }) ∷ [];
+}
+
 -- ---- a put
 
 -- an object, whose body is stored before what it replaces goes

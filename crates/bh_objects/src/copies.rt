@@ -8,22 +8,21 @@ ghost use Rattle.bh_schema.specs.Connections.{IsClean, tables, InTransaction, St
 ghost use Rattle.bh_schema.specs.Views.{head_seen};
 ghost use Rattle.bh_schema.specs.Working.{Works, StillWorks};
 ghost use Rattle.bh_objects.specs.Found.{IsKeyText};
-ghost use Rattle.bh_objects.specs.Copies.{version_read, with_copied, copy_written};
+ghost use Rattle.bh_objects.specs.Copies.{version_read, copy_written};
 
 use crate::heads::wanted_head;
-use crate::ids::{row_number, told_id};
+use crate::ids::told_id;
 use crate::reads::{Numbers, bucket_state, new_numbers};
-use crate::writes::{make_room, set_counters};
+use crate::writes::{AddedVersion, add_version, make_room, set_counters};
 use bh_blocks::bodies::copy_body;
 use bh_model::entries::new_id;
-use bh_schema::rows;
-use bh_schema::rows::versions::{NewVersion, VersionHead};
+use bh_schema::rows::versions::VersionHead;
 use bh_schema::trouble::or_trouble;
 use bh_storage::answer::CopiedVersion;
 use bh_storage::error::{StepError, Trouble};
 use bh_types::bucket::BucketName;
 use bh_types::bucket_state::BucketState;
-use bh_types::counters::{COUNTER_END, Counters};
+use bh_types::counters::COUNTER_END;
 use bh_types::key::ObjectKey;
 use bh_types::moment::Moment;
 use bh_types::names::TenantName;
@@ -83,39 +82,6 @@ fn source_head<S: Alter>(
     }
 }
 
-/// The row of a copy, with the size and the checksum of its source.
-fn add_copy<S: Alter>(
-    connection: &mut Connection<S>,
-    copy: &NewCopy<'_>,
-    mode: BucketState,
-    counters: Counters,
-    head: &VersionHead,
-) -> Result<(), Trouble>
-    requires inside { InTransaction S.Store connection.old }
-    ensures within { StaysWithin S.Store connection.old connection.new }
-    ensures opens { OnOk result (StaysOpen S.Store connection.old connection.new) }
-    ensures holds { OnOk result (Becomes S.Store connection.old connection.new
-        (with_copied mode counters copy.now.tenant.now copy.now.bucket.now copy.now.key.now copy.now.at (head_seen head.now))) }
-    ensures key { OnOk result (IsKeyText copy.now.key.now) }
-{
-    // No object has so many bytes.
-    if head.size > i64::MAX as u64 {
-        return Err(Trouble::Store);
-    }
-    let version = NewVersion {
-        tenant: copy.tenant.as_str(),
-        seq: counters.entry,
-        bucket: copy.bucket.as_str(),
-        okey: copy.key.as_str().as_bytes(),
-        id: row_number(mode, counters.version),
-        stamp: copy.at.seconds(),
-        size: head.size,
-        checksum: head.checksum.as_str(),
-    };
-    or_trouble(rows::versions::insert_version(connection, &version))?;
-    Ok(())
-}
-
 /// Puts a copy of a version into a bucket of this state, under the tenant's next numbers: its body, which has the
 /// source's blocks, before what it replaces goes, since that may be the source, and then its row.
 fn write_copy<S: Alter>(
@@ -146,7 +112,15 @@ fn write_copy<S: Alter>(
         numbers.before.entry,
     ))?;
     make_room(connection, copy.tenant, copy.bucket, copy.key, mode)?;
-    add_copy(connection, copy, mode, numbers.before, head)
+    let version = AddedVersion {
+        tenant: copy.tenant,
+        bucket: copy.bucket,
+        key: copy.key,
+        at: copy.at,
+        size: head.size,
+        checksum: head.checksum.as_str(),
+    };
+    add_version(connection, &version, mode, numbers.before)
 }
 
 /// S3's CopyObject, at a moment that is not after the last stamp: NoSuchBucket of the copy's bucket and then of the

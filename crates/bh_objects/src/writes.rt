@@ -5,7 +5,7 @@ ghost use Rattle.bh_model.specs.State.{Content.Marker, Content.Body};
 ghost use Rattle.bh_tables.specs.Shown.{is_tenant};
 ghost use Rattle.bh_schema.specs.Connections.{InTransaction, StaysWithin, StaysOpen, Becomes};
 ghost use Rattle.bh_objects.specs.Found.{IsKeyText};
-ghost use Rattle.bh_objects.specs.Writes.{with_counters, without_entry, without_null, with_room, with_columns, object_written, marker_written};
+ghost use Rattle.bh_objects.specs.Writes.{with_counters, without_entry, without_null, with_room, with_version, with_columns, object_written, marker_written};
 
 use crate::heads::numbered_head;
 use crate::ids::row_number;
@@ -151,6 +151,53 @@ pub fn make_room<S: Alter>(
     }
 }
 
+/// A version that is added to a key, whose body is stored.
+pub struct AddedVersion<'a> {
+    pub tenant: &'a TenantName,
+    pub bucket: &'a BucketName,
+    pub key: &'a ObjectKey,
+    /// When it is added.
+    pub at: Moment,
+    /// In bytes.
+    pub size: u64,
+    /// The base64 (RFC 4648) of its SHA-256 digest (FIPS 180-4), or what is told of one joined from parts.
+    pub checksum: &'a str,
+}
+
+/// The row of a version in a bucket of this state.
+pub fn add_version<S: Alter>(
+    connection: &mut Connection<S>,
+    version: &AddedVersion<'_>,
+    mode: BucketState,
+    counters: Counters,
+) -> Result<(), Trouble>
+    requires inside { InTransaction S.Store connection.old }
+    ensures within { StaysWithin S.Store connection.old connection.new }
+    ensures opens { OnOk result (StaysOpen S.Store connection.old connection.new) }
+    ensures holds { OnOk result (Becomes S.Store connection.old connection.new
+        (with_version mode counters version.now.tenant.now version.now.bucket.now version.now.key.now version.now.at
+        version.now.size version.now.checksum.now)) }
+    ensures key { OnOk result (IsKeyText version.now.key.now) }
+{
+    // No object has so many bytes.
+    if version.size > i64::MAX as u64 {
+        return Err(Trouble::Store);
+    }
+    let row = NewVersion {
+        tenant: version.tenant.as_str(),
+        seq: counters.entry,
+        bucket: version.bucket.as_str(),
+        okey: version.key.as_str().as_bytes(),
+        id: row_number(mode, counters.version),
+        stamp: version.at.seconds(),
+        size: version.size,
+        checksum: version.checksum,
+    };
+    or_trouble(rows::versions::insert_version(connection, &row))?;
+    Ok(())
+}
+
+/// The row of an object that is sent whole.
 fn add_object<S: Alter>(
     connection: &mut Connection<S>,
     object: &NewObject<'_>,
@@ -165,20 +212,17 @@ fn add_object<S: Alter>(
     ensures holds { OnOk result (Becomes S.Store connection.old connection.new
         (with_columns mode counters object.now.tenant.now object.now.bucket.now object.now.key.now object.now.at
         (Body object.now.bytes.now (checksum_text object.now.bytes.now)))) }
-    ensures key { IsKeyText object.now.key.now }
+    ensures key { OnOk result (IsKeyText object.now.key.now) }
 {
-    let version = NewVersion {
-        tenant: object.tenant.as_str(),
-        seq: counters.entry,
-        bucket: object.bucket.as_str(),
-        okey: object.key.as_str().as_bytes(),
-        id: row_number(mode, counters.version),
-        stamp: object.at.seconds(),
+    let version = AddedVersion {
+        tenant: object.tenant,
+        bucket: object.bucket,
+        key: object.key,
+        at: object.at,
         size: object.bytes.len() as u64,
         checksum,
     };
-    or_trouble(rows::versions::insert_version(connection, &version))?;
-    Ok(())
+    add_version(connection, &version, mode, counters)
 }
 
 /// Puts an object into a bucket of this state, under the tenant's next numbers, with the text of its

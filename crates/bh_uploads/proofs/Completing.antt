@@ -33,12 +33,12 @@ use Rattle.bh_view.proofs.WriteLemmas.{same_resolved, same_unnamed}
 use Rattle.bh_storage.specs.Calls.{GivesStep}
 use Rattle.bh_blocks.proofs.BodySteps.{flat_named}
 use Rattle.bh_objects.specs.Found.{numbers_in, IsKeyText, with_entry}
-use Rattle.bh_objects.specs.Writes.{with_counters, with_room}
+use Rattle.bh_objects.specs.Writes.{with_counters, with_room, with_version}
 use Rattle.bh_objects.proofs.Putting.{has_numbers}
 use Rattle.bh_objects.proofs.Written.{becomes_so, IsHostOf, is_added}
 use Rattle.bh_uploads.specs.Found.{upload_in, completion_in, joined_bytes}
 use Rattle.bh_uploads.specs.Rows.{listed_parts}
-use Rattle.bh_uploads.specs.Writes.{with_joined, version_written, upload_closed}
+use Rattle.bh_uploads.specs.Writes.{version_written, upload_closed}
 use Rattle.bh_uploads.proofs.Closing.{closes}
 use Rattle.bh_uploads.proofs.Uploads.{HasUpload, has_upload}
 
@@ -124,7 +124,7 @@ module _ (old middle new : Tables) (host : IsHostOf old) (resolved : IsResolved 
       let joined = bodies_joined sources its counted in
       let adds : (digest : Octets → Octets) → AddsBody digest its bytes counted joined = λ digest. subst (λ b. AddsBody digest its b counted joined) (flat_named (whole old.refs old.blocks) (λ (body : ℕ). (t, body)) chosen)
       (bodies_join counted its (same_resolved old counted refl refl refl refl host.resolved) host.sound.stored host.bodies (same_unnamed old counted refl refl refl refl its free) digest sources) in
-      let is = e ∙ ap (λ m. with_joined B.mode c t name key at m checksum (with_room B.mode t name key joined)) sized in
+      let is = e ∙ ap (λ m. with_version B.mode c t name key at m checksum (with_room B.mode t name key joined)) sized in
       let it = λ (digest : Octets → Octets). is_added old host B.mode c after t name key at free digest bytes checksum joined middle (adds digest) (shares_same its old joined refl) is in
       let target = with_entry B.mode c after t name key at content old in
       let version : Version = record { id = Null; moment = at; bytes = bytes; checksum = checksum } in
@@ -175,7 +175,7 @@ aborts old new host t name key id mode n found bodies are e =
 
 -- the writes of a version, one after another
 pub version_chain : (mode : BucketState) (before after : Counts) (t b k : Octets) (at size : ℕ) (checksum : Octets) (bodies : List ℕ) (old one two three new : Tables)
-    → one ≡ with_counters mode after t old → two ≡ bodies_joined (map (λ (body : ℕ). (t, body)) bodies) (t, before.entry) one → three ≡ with_room mode t b k two → new ≡ with_joined mode before t b k at size checksum three
+    → one ≡ with_counters mode after t old → two ≡ bodies_joined (map (λ (body : ℕ). (t, body)) bodies) (t, before.entry) one → three ≡ with_room mode t b k two → new ≡ with_version mode before t b k at size checksum three
     → new ≡ version_written mode before after t b k at size checksum bodies old
 version_chain mode before after t b k at size checksum bodies old one two three new x y z w =
-    w ∙ ap (with_joined mode before t b k at size checksum) (z ∙ ap (with_room mode t b k) (y ∙ ap (bodies_joined (map (λ (body : ℕ). (t, body)) bodies) (t, before.entry)) x))
+    w ∙ ap (with_version mode before t b k at size checksum) (z ∙ ap (with_room mode t b k) (y ∙ ap (bodies_joined (map (λ (body : ℕ). (t, body)) bodies) (t, before.entry)) x))

@@ -5,12 +5,12 @@ use Rattle.sqlite_keyed.specs.Lists.{update_where, delete_where}
 use Rattle.bh_types.specs.Counts.{Counts}
 use Rattle.bh_types.specs.declared.bucket_state.BucketState.{BucketState}
 use Rattle.bh_model.specs.State.{Octets}
-use Rattle.bh_tables.specs.Bodies.{resolved, resolved_part, part_columns_of}
+use Rattle.bh_tables.specs.Bodies.{resolved_part, part_columns_of}
 use Rattle.bh_tables.specs.Typed.{PartRow, Tables}
 use Rattle.bh_tables.specs.Shown.{is_tenant, is_upload, is_part, is_part_of}
 use Rattle.bh_view.specs.Bodies.{pieces, body_stored, body_dropped, bodies_joined}
-use Rattle.bh_view.specs.Put.{row_number, part_row}
-use Rattle.bh_objects.specs.Writes.{with_counters, with_room}
+use Rattle.bh_view.specs.Put.{part_row}
+use Rattle.bh_objects.specs.Writes.{with_counters, with_room, with_version}
 
 -- ---- an upload is begun
 
@@ -49,26 +49,10 @@ part_written digest size tenant upload part bytes moment entry tables =
 
 -- ---- an upload is completed
 
--- the row of a version that is joined from parts
-abbrev pub with_joined : BucketState → Counts → Octets → Octets → Octets → ℕ → ℕ → Octets → Tables → Tables
-with_joined mode before tenant bucket key moment size checksum tables = record tables {
-  versions = tables.versions ++ resolved tables.refs tables.blocks (record {
-    tenant = tenant;
-    seq = before.entry;
-    bucket = bucket;
-    okey = key;
-    id = row_number mode before.version;
-    marker = 0;
-    stamp = moment;
-    size = size;
-    checksum = checksum;
-  }) ∷ [];
-}
-
--- its body has the blocks of the bodies of parts, before what it replaces goes
+-- a version that is joined: its body has the blocks of the bodies of parts, before what it replaces goes
 abbrev pub version_written : BucketState → Counts → Counts → Octets → Octets → Octets → ℕ → ℕ → Octets → List ℕ → Tables → Tables
 version_written mode before after tenant bucket key moment size checksum bodies tables =
-    with_joined mode before tenant bucket key moment size checksum
+    with_version mode before tenant bucket key moment size checksum
     (with_room mode tenant bucket key (bodies_joined (map (λ body. (tenant, body)) bodies) (tenant, before.entry) (with_counters mode after tenant tables)))
 
 -- ---- an upload goes

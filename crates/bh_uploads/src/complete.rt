@@ -12,22 +12,20 @@ ghost use Rattle.bh_schema.specs.Working.{Works, StillWorks};
 ghost use Rattle.bh_objects.specs.Found.{IsKeyText};
 ghost use Rattle.bh_uploads.specs.Found.{completion_in, joined_bytes, joined_content};
 ghost use Rattle.bh_uploads.specs.Rows.{listed_parts};
-ghost use Rattle.bh_uploads.specs.Writes.{with_joined, version_written};
+ghost use Rattle.bh_uploads.specs.Writes.{version_written};
 
 use crate::joining::{Joined, join_named};
 use crate::reads::{NamedUpload, found_upload, upload_parts};
 use crate::writes::close_upload;
 use bh_blocks::bodies::join_bodies;
 use bh_model::entries::new_id;
-use bh_objects::ids::{row_number, told_id};
+use bh_objects::ids::told_id;
 use bh_objects::reads::{Numbers, new_numbers};
-use bh_objects::writes::{make_room, set_counters};
-use bh_schema::rows::versions::{NewVersion, insert_version};
+use bh_objects::writes::{AddedVersion, add_version, make_room, set_counters};
 use bh_schema::trouble::or_trouble;
 use bh_storage::answer::CompletedUpload;
 use bh_storage::error::{StepError, Trouble};
 use bh_types::bucket_state::BucketState;
-use bh_types::counters::Counters;
 use bh_types::moment::Moment;
 use bh_types::refusal::Refusal;
 use bh_types::wanted::Named;
@@ -81,41 +79,6 @@ fn completion_plan<S: Alter>(
     })
 }
 
-/// The row of a version that is joined from parts.
-fn add_joined<S: Alter>(
-    connection: &mut Connection<S>,
-    upload: &NamedUpload<'_>,
-    at: Moment,
-    mode: BucketState,
-    counters: Counters,
-    joined: &Joined,
-) -> Result<(), Trouble>
-    requires inside { InTransaction S.Store connection.old }
-    ensures within { StaysWithin S.Store connection.old connection.new }
-    ensures opens { OnOk result (StaysOpen S.Store connection.old connection.new) }
-    ensures holds { OnOk result (Becomes S.Store connection.old connection.new
-        (with_joined mode counters upload.now.tenant.now upload.now.bucket.now upload.now.key.now at
-        joined.now.size (string_bytes joined.now.checksum))) }
-    ensures key { OnOk result (IsKeyText upload.now.key.now) }
-{
-    // No object has so many bytes.
-    if joined.size > i64::MAX as u64 {
-        return Err(Trouble::Store);
-    }
-    let version = NewVersion {
-        tenant: upload.tenant.as_str(),
-        seq: counters.entry,
-        bucket: upload.bucket.as_str(),
-        okey: upload.key.as_str().as_bytes(),
-        id: row_number(mode, counters.version),
-        stamp: at.seconds(),
-        size: joined.size,
-        checksum: joined.checksum.as_str(),
-    };
-    or_trouble(insert_version(connection, &version))?;
-    Ok(())
-}
-
 /// Puts a version that is joined from parts into a bucket of this state, under the tenant's next numbers: its body,
 /// which has the blocks of theirs, before what it replaces goes, and then its row.
 fn write_version<S: Alter>(
@@ -144,7 +107,15 @@ fn write_version<S: Alter>(
         numbers.before.entry,
     ))?;
     make_room(connection, upload.tenant, upload.bucket, upload.key, mode)?;
-    add_joined(connection, upload, at, mode, numbers.before, joined)
+    let version = AddedVersion {
+        tenant: upload.tenant,
+        bucket: upload.bucket,
+        key: upload.key,
+        at,
+        size: joined.size,
+        checksum: joined.checksum.as_str(),
+    };
+    add_version(connection, &version, mode, numbers.before)
 }
 
 /// What is told of an upload that is completed, where its version was this number in a bucket of this state.
