@@ -23,6 +23,12 @@ pub fn carry_out(rt: &HostRuntime, line: Line) -> Result<Printed, Fault> {
             quota,
             at,
         } => command_on(rt, file.as_str(), at, Command::TenantAdd { tenant, quota }),
+        Line::Quota {
+            file,
+            tenant,
+            quota,
+            at,
+        } => command_on(rt, file.as_str(), at, Command::Quota { tenant, quota }),
         Line::KeyAdd {
             file,
             tenant,
@@ -61,7 +67,7 @@ pub fn carry_out(rt: &HostRuntime, line: Line) -> Result<Printed, Fault> {
                 timeout,
             },
         ),
-        Line::Quota { .. } | Line::Usage { .. } | Line::Report { .. } | Line::Sweep { .. } => Ok(
+        Line::Usage { .. } | Line::Report { .. } | Line::Sweep { .. } => Ok(
             Printed::refusal(rt.alloc(), Refusal::NotImplemented)?,
         ),
     }

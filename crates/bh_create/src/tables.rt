@@ -2,7 +2,7 @@ ghost use Rattle.std.specs.Prelude.{◌≡◌, true, IfErr};
 ghost use Rattle.sqlite.specs.Held.{state};
 ghost use Rattle.bh_rows.specs.Means.{is_trouble};
 ghost use Rattle.bh_tables.specs.Schema.{no_schema};
-ghost use Rattle.bh_tables.specs.Made.{with_host, with_tenants, with_keys, with_buckets, with_versions, with_blocks, with_refs, with_newest, with_refs_by_block, with_uploads, with_parts, with_uploads_by_key};
+ghost use Rattle.bh_tables.specs.Made.{with_host, with_tenants, with_keys, with_buckets, with_versions, with_blocks, with_refs, with_newest, with_refs_by_block, with_uploads, with_parts, with_uploads_by_key, with_uploads_by_moment};
 ghost use Rattle.bh_schema.specs.Layer.{IsIntact, IsStateClean};
 ghost use Rattle.bh_create.specs.Creation.{IsMaking, Makes};
 
@@ -137,6 +137,17 @@ fn create_uploads_by_key<S: Alter>(connection: &mut Connection<S>) -> Result<usi
     )
 }
 
+fn create_uploads_by_moment<S: Alter>(connection: &mut Connection<S>) -> Result<usize, Error>
+    requires { IsStateClean (state S.Store connection.old) → IsMaking with_uploads_by_key (state S.Store connection.old) }
+    ensures makes { Makes with_uploads_by_moment (state S.Store connection.old) (state S.Store connection.new) result }
+    ensures trouble { IfErr result (λ e. IsIntact (state S.Store connection.new) → is_trouble e ≡ true) }
+{
+    connection.execute(
+        "CREATE INDEX uploads_by_moment ON uploads (tenant, bucket, begun, upload)",
+        &[],
+    )
+}
+
 fn create_accounts<S: Alter>(connection: &mut Connection<S>) -> Result<usize, Error>
     requires { IsStateClean (state S.Store connection.old) → IsMaking no_schema (state S.Store connection.old) }
     ensures makes { Makes with_keys (state S.Store connection.old) (state S.Store connection.new) result }
@@ -169,18 +180,19 @@ fn create_indexes<S: Alter>(connection: &mut Connection<S>) -> Result<usize, Err
 
 fn create_multipart<S: Alter>(connection: &mut Connection<S>) -> Result<usize, Error>
     requires { IsStateClean (state S.Store connection.old) → IsMaking with_refs_by_block (state S.Store connection.old) }
-    ensures makes { Makes with_uploads_by_key (state S.Store connection.old) (state S.Store connection.new) result }
+    ensures makes { Makes with_uploads_by_moment (state S.Store connection.old) (state S.Store connection.new) result }
     ensures trouble { IfErr result (λ e. IsIntact (state S.Store connection.new) → is_trouble e ≡ true) }
 {
     create_uploads(connection)?;
     create_parts(connection)?;
-    create_uploads_by_key(connection)
+    create_uploads_by_key(connection)?;
+    create_uploads_by_moment(connection)
 }
 
 /// Makes the tables of a host and their indexes, with no row.
 pub fn create_tables<S: Alter>(connection: &mut Connection<S>) -> Result<(), Error>
     requires { IsStateClean (state S.Store connection.old) → IsMaking no_schema (state S.Store connection.old) }
-    ensures makes { Makes with_uploads_by_key (state S.Store connection.old) (state S.Store connection.new) result }
+    ensures makes { Makes with_uploads_by_moment (state S.Store connection.old) (state S.Store connection.new) result }
     ensures trouble { IfErr result (λ e. IsIntact (state S.Store connection.new) → is_trouble e ≡ true) }
 {
     create_accounts(connection)?;

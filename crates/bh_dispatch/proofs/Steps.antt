@@ -1,5 +1,5 @@
 -- Steps of the machine as operations, and refusals with what they tell.
-use Rattle.std.proofs.Common.{◌≡◌, ℕ, List, map, Option, Result, Ok, Err, refl, ap, sym, ◌∙◌, option_map}
+use Rattle.std.proofs.Common.{◌≡◌, ℕ, List, map, Option, Result, Ok, Err, refl, ap, sym, ◌∙◌, option_map, ◌≤◌, ◌&&◌, ℤ, pos, negsuc, true, false, true≢false, is_ok, nat_le, subst, if◌then◌else◌}
 use Rattle.std.specs.Result.{result_map_both}
 use Rattle.std.proofs.lemmas.Simd.{map-map}
 use Rattle.bh_types.specs.Limits.{HostLimits}
@@ -7,15 +7,15 @@ use Rattle.bh_types.specs.Outcomes.{◌>>=◌}
 use Rattle.bh_types.specs.Rejections.{plain, plainly}
 use Rattle.bh_types.specs.declared.id.UploadId.{UploadId}
 use Rattle.bh_types.specs.declared.refusal.Refusal.{Refusal}
-use Rattle.bh_types.specs.declared.refusal.Refusal.TheVariants.{NotImplemented}
+use Rattle.bh_types.specs.declared.refusal.Refusal.TheVariants.{NotImplemented, InvalidArgument}
 use Rattle.bh_types.specs.declared.rejection.Rejection.{Rejection}
-use Rattle.bh_model.specs.Operations.{Answer, Outcome, create_bucket, head_bucket, delete_bucket, list_buckets, get_versioning, put_object, copy_object, get_object, head_object, delete_object}
+use Rattle.bh_model.specs.Operations.{Answer, Outcome, create_bucket, head_bucket, delete_bucket, list_buckets, get_versioning, put_object, copy_object, get_object, head_object, delete_object, get_lifecycle, put_lifecycle, delete_lifecycle}
 use Rattle.bh_model.specs.State.{Octets, State as Machine}
 use Rattle.bh_model.specs.Listings.{list_objects, list_versions, list_uploads, list_parts}
 use Rattle.bh_model.specs.Parts.{Naming}
 use Rattle.bh_model.specs.Shown.{naming_of}
 use Rattle.bh_model.specs.Uploads.{create_upload, upload_part, complete_upload, abort_upload}
-use Rattle.bh_machine.specs.Machine.{set_versioning, page_asked, naming, finish_upload, operated, place_asked, upload_asked}
+use Rattle.bh_machine.specs.Machine.{set_versioning, page_asked, naming, finish_upload, operated, place_asked, upload_asked, set_lifecycle}
 use Rattle.bh_operation.specs.declared.page.Page.{Page}
 use Rattle.bh_operation.specs.declared.address.ObjectName.{ObjectName}
 use Rattle.bh_operation.specs.declared.operation.CopySource.{CopySource}
@@ -23,7 +23,9 @@ use Rattle.bh_operation.specs.declared.operation.Operation.{Operation}
 use Rattle.bh_operation.specs.declared.operation.Operation.TheVariants.{ListBuckets, Usage, CreateBucket, HeadBucket, DeleteBucket, ListObjectsV2, ListObjectVersions, ListMultipartUploads, GetBucketVersioning, PutBucketVersioning, GetLifecycle, PutLifecycle, DeleteLifecycle, PutObject, CopyObject, GetObject, HeadObject, DeleteObject, CreateMultipartUpload, UploadPart, ListParts, CompleteMultipartUpload, AbortMultipartUpload}
 use Rattle.bh_types.specs.declared.wanted.Named.{Named}
 use Rattle.bh_types.specs.declared.wanted.Wanted.{Wanted}
-use Rattle.bh_docs.specs.Requests.{named_view, complete_of}
+use Rattle.std.proofs.lemmas.Bool.{and_parts, leb-true}
+use Rattle.bh_docs.specs.Shapes.{lifecycle_shape}
+use Rattle.bh_docs.specs.Requests.{named_view, complete_of, lifecycle_of, ranged, document_of, or_malformed}
 use Rattle.bh_tables.specs.Typed.{Tables}
 use Rattle.bh_storage.specs.Answers.{answer_view}
 use Rattle.bh_storage.specs.declared.answer.Answer.{Answer as Told}
@@ -90,6 +92,45 @@ tells_versioning limits at body bucket = refl
 pub sets_versioning : (limits : HostLimits) (at : ℕ) (body : Octets) (bucket : Octets) → operated limits at body (PutBucketVersioning bucket) ≡ (λ s. plainly (set_versioning bucket body s))
 unfolding operated
 sets_versioning limits at body bucket = refl
+
+pub tells_rule : (limits : HostLimits) (at : ℕ) (body : Octets) (bucket : Octets) → operated limits at body (GetLifecycle bucket) ≡ (λ s. plainly (get_lifecycle bucket s))
+unfolding operated
+tells_rule limits at body bucket = refl
+
+pub sets_rule : (limits : HostLimits) (at : ℕ) (body : Octets) (bucket : Octets) → operated limits at body (PutLifecycle bucket) ≡ (λ s. plainly (set_lifecycle bucket body s))
+unfolding operated
+sets_rule limits at body bucket = refl
+
+pub clears_rule : (limits : HostLimits) (at : ℕ) (body : Octets) (bucket : Octets) → operated limits at body (DeleteLifecycle bucket) ≡ (λ s. plainly (delete_lifecycle bucket s))
+unfolding operated
+clears_rule limits at body bucket = refl
+
+-- where the document tells days
+pub rules : (bucket body : Octets) (days : ℕ) → lifecycle_of body ≡ Ok days → ◌≡◌ {A = Option Machine → Result Outcome Rejection} (λ s. plainly (put_lifecycle bucket days s)) (λ s. plainly (set_lifecycle bucket body s))
+rules bucket body days is =
+    let after : Result ℕ Refusal → Option Machine → Result Outcome Rejection = λ r s. plainly (r >>= (λ d. put_lifecycle bucket d s)) in
+    ap after (sym is)
+
+-- they are in their range
+ranged_in : (low high : ℕ) (z : ℤ) (n : ℕ) → ranged low high z ≡ Ok n → (low ≤ n) × (n ≤ high)
+ranged_in low high (negsuc m) n is = absurd (true≢false (sym (ap is_ok is)))
+ranged_in low high (pos m) n is = elim (nat_le low m && nat_le m high) as (λ b. (nat_le low m && nat_le m high) ≡ b → (if b then Ok m else Err InvalidArgument) ≡ Ok n → (low ≤ n) × (n ≤ high)) [
+  | true ↦ λ e same.
+      let both = and_parts _ _ e in
+      let it : m ≡ n = cc in
+      subst (λ k. (low ≤ k) × (k ≤ high)) it (leb-true _ _ both.0, leb-true _ _ both.1)
+  | false ↦ λ e same. absurd (true≢false (sym (ap is_ok same)))
+] refl is
+
+then_ok : {A B : Type 0} (r : Result A Refusal) (f : A → Result B Refusal) (b : B) → (r >>= f) ≡ Ok b → (a : A) × (f a ≡ Ok b)
+then_ok (Ok a) f b e = (a, e)
+then_ok (Err x) f b e = absurd (true≢false (sym (ap is_ok e)))
+
+pub lifecycle_range : (body : Octets) (n : ℕ) → lifecycle_of body ≡ Ok n → (1 ≤ n) × (n ≤ 3650)
+lifecycle_range body n is =
+    let document = then_ok (document_of body) (λ d. or_malformed (lifecycle_shape d) >>= ranged 1 3650) n is in
+    let days = then_ok (or_malformed (lifecycle_shape document.0)) (ranged 1 3650) n document.1 in
+    ranged_in 1 3650 days.0 n days.1
 
 pub puts_object : (limits : HostLimits) (at : ℕ) (body : Octets) (object : ObjectName) (checksum : Option Octets) → operated limits at body (PutObject object checksum) ≡ (λ s. plainly (put_object at object.bucket object.key body checksum s))
 unfolding operated
@@ -158,6 +199,9 @@ pub record IsNotDone (operation : Operation) : Type 0 where
   pub uploads : (bucket : Octets) (page : Page) (after : Option UploadMarker) → operation ≡ ListMultipartUploads bucket page after → ⊥
   pub ask : (bucket : Octets) → operation ≡ GetBucketVersioning bucket → ⊥
   pub set : (bucket : Octets) → operation ≡ PutBucketVersioning bucket → ⊥
+  pub rule : (bucket : Octets) → operation ≡ GetLifecycle bucket → ⊥
+  pub rule_set : (bucket : Octets) → operation ≡ PutLifecycle bucket → ⊥
+  pub rule_cleared : (bucket : Octets) → operation ≡ DeleteLifecycle bucket → ⊥
   pub put : (object : ObjectName) (checksum : Option Octets) → operation ≡ PutObject object checksum → ⊥
   pub copy : (object : ObjectName) (source : CopySource) → operation ≡ CopyObject object source → ⊥
   pub get : (object : ObjectName) (version : Wanted) (range : Option Octets) → operation ≡ GetObject object version range → ⊥
@@ -181,9 +225,9 @@ not_done limits at body s (ListObjectVersions x y z) others = absurd (others.ver
 not_done limits at body s (ListMultipartUploads x y z) others = absurd (others.uploads x y z refl)
 not_done limits at body s (GetBucketVersioning x) others = absurd (others.ask x refl)
 not_done limits at body s (PutBucketVersioning x) others = absurd (others.set x refl)
-not_done limits at body s (GetLifecycle x) others = refl
-not_done limits at body s (PutLifecycle x) others = refl
-not_done limits at body s (DeleteLifecycle x) others = refl
+not_done limits at body s (GetLifecycle x) others = absurd (others.rule x refl)
+not_done limits at body s (PutLifecycle x) others = absurd (others.rule_set x refl)
+not_done limits at body s (DeleteLifecycle x) others = absurd (others.rule_cleared x refl)
 not_done limits at body s (PutObject x y) others = absurd (others.put x y refl)
 not_done limits at body s (CopyObject x y) others = absurd (others.copy x y refl)
 not_done limits at body s (GetObject x y z) others = absurd (others.get x y z refl)

@@ -1,5 +1,5 @@
 -- From the words of a connection to those of a host's storage.
-use Rattle.std.proofs.Common.{◌≡◌, ℕ, ◌≤◌, true, Option, Result, Ok, Err, refl, sym, ap, ◌∙◌, subst}
+use Rattle.std.proofs.Common.{◌≡◌, ℕ, ◌≤◌, true, Option, Result, Ok, Err, refl, sym, ap, ◌∙◌, subst, OnOk}
 use Rattle.sqlite.specs.State.{State}
 use Rattle.sqlite_trees.specs.declared.store.Store.{Ghosts}
 use Rattle.bh_types.specs.Limits.{HostLimits}
@@ -8,8 +8,8 @@ use Rattle.bh_tables.specs.Typed.{Tables}
 use Rattle.bh_view.specs.Blocks.{AreDigests}
 use Rattle.bh_view.specs.Bodies.{IsSoundHost}
 use Rattle.bh_view.specs.Sound.{IsSound}
-use Rattle.bh_view.specs.View.{latest_of, limits_in}
-use Rattle.bh_view.proofs.PurgeLemmas.{view_purged}
+use Rattle.bh_view.specs.View.{latest_of, limits_in, rows_purged}
+use Rattle.bh_view.proofs.PurgeLemmas.{rows_gone}
 use Rattle.bh_storage.specs.declared.error.StepError.{StepError}
 use Rattle.bh_storage.specs.declared.error.StepError.TheVariants.{Refused, Failed}
 use Rattle.bh_storage.specs.Calls as calls
@@ -79,9 +79,26 @@ pub stored : {S D : Type 0} (g : Ghosts S) (old new : HostStorage S D) → Keeps
     → calls.Within (λ (h : HostStorage S D). IsIntact g h.host) (λ (h : HostStorage S D). IsOpen g h.host) (λ (h : HostStorage S D). seen g h.host) (λ (h : HostStorage S D). left g h.host) old new
 stored g old new k = record { intact = k.intact; opened = k.opened; survives = k.survives; kept = k.kept; limits = k.limits }
 
--- no bucket has a rule that makes its uploads stale, so there is nothing to purge
-pub purges : (tables : Tables) (t : Octets) (at : ℕ) → IsSound tables → calls.Purges t at tables tables
-purges tables t at sound = record { is = refl; own = sym (view_purged tables t at sound); others = λ u apart. refl; latest = refl }
+-- what is left without the stale uploads shows the purged state
+pub purges : (old new : Tables) (t : Octets) (at : ℕ) → IsSound old → new ≡ rows_purged t at old → calls.Purges t at old new
+purges old new t at sound is =
+    let change = rows_gone old new t at sound is in
+    record { is = is; own = change.shown; others = change.others; latest = change.latest }
+
+module _ (digest : Octets → Octets) (l : HostLimits) (old new : State) where
+  pub works_after : {X E : Type 0} (result : Result X E) → (AreBoth new → IsAtWork digest l old) → OnOk result (IsStateClean new → StillWorking old new) → OnOk result (AreBoth new → IsAtWork digest l new)
+  works_after (Ok x) was h = λ clean. working_seen digest l old new (was clean) (h (both clean) digest)
+  works_after (Err e) was h = tt
+
+  pub purged_after : {X E : Type 0} (result : Result X E) (t : Octets) (at : ℕ) → (AreBoth new → IsAtWork digest l old) → OnOk result (IsStateClean new → StillWorking old new) → OnOk result (IsStateClean new → tables_at new ≡ rows_purged t at (tables_at old))
+      → OnOk result (AreBoth new → calls.Purges t at (seen_in l old).now (seen_in l new).now)
+  purged_after (Ok x) t at was still h = λ clean.
+      rw (shows_in l old (was clean), (shown_now l new (still (both clean) digest).is).0) (purges (tables_at old) (tables_at new) t at (seen_working digest l old (was clean)).sound (h (both clean)))
+  purged_after (Err e) t at was still h = tt
+
+pub opened_ok : {X E : Type 0} (I A B : Type 0) (result : Result X E) → OnOk result (I → A → B) → OnOk result (A → I → B)
+opened_ok I A B (Ok x) h = λ up intact. h intact up
+opened_ok I A B (Err e) h = tt
 
 -- ---- a call whose promise holds of all functions holds of this one
 

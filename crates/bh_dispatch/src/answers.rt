@@ -60,6 +60,12 @@ pub fn versioning(
     Ok(Answer::Versioning(outcome?))
 }
 
+pub fn lifecycle(outcome: Result<u16, StepError<Refusal>>) -> Result<Answer, StepError<Rejection>>
+    ensures { result ≡ result_map_both answer.Lifecycle step_rejected outcome }
+{
+    Ok(Answer::Lifecycle(outcome?))
+}
+
 pub fn objects(
     outcome: Result<ObjectsPage, StepError<Refusal>>,
 ) -> Result<Answer, StepError<Rejection>>

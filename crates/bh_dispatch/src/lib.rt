@@ -3,6 +3,7 @@
 #![tactic(auto)]
 
 mod answers;
+pub mod lifecycle;
 pub mod operations;
 pub mod storage;
 pub mod uploads;

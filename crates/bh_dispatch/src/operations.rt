@@ -12,7 +12,7 @@ ghost use Rattle.bh_storage.specs.Calls.{Unless, Carries};
 ghost use Rattle.bh_schema.specs.Connections.{IsClean, tables, StaysWithin, StaysOpen};
 ghost use Rattle.bh_schema.specs.Working.{Works, StillWorks, StillWorksBy};
 
-use crate::{answers, uploads};
+use crate::{answers, lifecycle, uploads};
 use bh_docs::read_versioning;
 use bh_objects::copies::NewCopy;
 use bh_objects::writes::NewObject;
@@ -533,6 +533,9 @@ pub fn operate<S: Alter, D: Digester>(
         | Operation::GetBucketVersioning(_)
         | Operation::PutBucketVersioning(_) => {
             operate_bucket(connection, alloc, tenant, at, operation, body)
+        }
+        Operation::GetLifecycle(_) | Operation::PutLifecycle(_) | Operation::DeleteLifecycle(_) => {
+            lifecycle::operate_lifecycle(connection, alloc, tenant, operation, body)
         }
         Operation::PutObject { .. }
         | Operation::CopyObject { .. }

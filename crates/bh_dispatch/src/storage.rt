@@ -65,9 +65,8 @@ impl<S: Alter + Drop, D: Digester + Drop> Storage for HostStorage<S, D> {
         self.host.stamp_reading(reading)
     }
 
-    // No bucket has a rule that makes its uploads stale.
-    fn purge(&mut self, _tenant: &TenantName, _at: Moment) -> Result<(), Trouble> {
-        Ok(())
+    fn purge(&mut self, alloc: Global, tenant: &TenantName, at: Moment) -> Result<(), Trouble> {
+        bh_uploads::purge::purge(&mut self.host.connection, alloc, tenant, at)
     }
 
     fn authenticate(
@@ -105,6 +104,9 @@ impl<S: Alter + Drop, D: Digester + Drop> Storage for HostStorage<S, D> {
         match command {
             Command::TenantAdd { tenant, quota } => {
                 self.host.tenant_add(alloc, tenant.as_str(), *quota)
+            }
+            Command::Quota { tenant, quota } => {
+                self.host.quota_set(alloc, tenant.as_str(), *quota)
             }
             Command::KeyAdd {
                 tenant,

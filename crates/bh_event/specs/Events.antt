@@ -2,19 +2,21 @@
 use Rattle.std.specs.Prelude.{ℕ, List}
 use Rattle.std.specs.String.{string_bytes}
 use Rattle.bh_event.specs.declared.event.Command.{Command}
-use Rattle.bh_event.specs.declared.event.Command.TheVariants.{TenantAdd, KeyAdd, KeyRemove}
+use Rattle.bh_event.specs.declared.event.Command.TheVariants.{TenantAdd, Quota, KeyAdd, KeyRemove}
 use Rattle.bh_event.specs.declared.event.Event.{Event}
 use Rattle.bh_event.specs.declared.event.Event.TheVariants as event
 
 -- what an operator orders; names and secrets are bytes
 pub data Order : Type 0 where
   AddTenant : (tenant : List ℕ) (quota : ℕ) → Order
+  SetQuota : (tenant : List ℕ) (quota : ℕ) → Order
   AddKey : (tenant : List ℕ) (name : List ℕ) (secret : List ℕ) → Order
   RemoveKey : (tenant : List ℕ) (name : List ℕ) → Order
 
 -- the tenant that an order names
 abbrev pub tenant_of : Order → List ℕ
 tenant_of (AddTenant tenant quota) = tenant
+tenant_of (SetQuota tenant quota) = tenant
 tenant_of (AddKey tenant name secret) = tenant
 tenant_of (RemoveKey tenant name) = tenant
 
@@ -30,6 +32,7 @@ pub record Arrival : Type 0 where
 
 abbrev pub order_of : Command → Order
 order_of (TenantAdd tenant quota) = AddTenant (string_bytes tenant) quota
+order_of (Quota tenant quota) = SetQuota (string_bytes tenant) quota
 order_of (KeyAdd tenant name secret) = AddKey (string_bytes tenant) (string_bytes name) (string_bytes secret)
 order_of (KeyRemove tenant name) = RemoveKey (string_bytes tenant) (string_bytes name)
 

@@ -19,6 +19,7 @@ flaw_of_request d =
 abbrev pub flaw_of_command : List ℕ → Flaw
 flaw_of_command op =
     if bytes_eq op (codes "tenant-add") then WrongMembers
+    else if bytes_eq op (codes "quota") then WrongMembers
     else if bytes_eq op (codes "key-add") then WrongMembers
     else if bytes_eq op (codes "key-remove") then WrongMembers
     else UnknownCommand

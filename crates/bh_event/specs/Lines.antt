@@ -8,7 +8,7 @@ use Rattle.serde_json.specs.Data.{Data}
 use Rattle.serde_json.specs.Events.{members_len}
 use Rattle.serde_json.specs.Find.{get, as_object, as_str, as_number, as_u64}
 use Rattle.serde_json.specs.Read.{read}
-use Rattle.bh_event.specs.Events.{Order, AddTenant, AddKey, RemoveKey, Message, Requested, Ordered, Arrival}
+use Rattle.bh_event.specs.Events.{Order, AddTenant, SetQuota, AddKey, RemoveKey, Message, Requested, Ordered, Arrival}
 
 abbrev pub text_at : List ℕ → Data → Option (List ℕ)
 text_at key d = option_and_then as_str (get key d)
@@ -36,6 +36,13 @@ tenant_add_in d =
     then option_and_then (λ tenant. option_map (AddTenant tenant) (number_at (codes "quota") d)) (text_at (codes "tenant") d)
     else None
 
+-- {"at":n,"op":"quota","quota":n,"tenant":t}
+abbrev pub quota_in : Data → Option Order
+quota_in d =
+    if has_members 4 d
+    then option_and_then (λ tenant. option_map (SetQuota tenant) (number_at (codes "quota") d)) (text_at (codes "tenant") d)
+    else None
+
 -- {"at":n,"name":k,"op":"key-add","secret":s,"tenant":t}
 abbrev pub key_add_in : Data → Option Order
 key_add_in d =
@@ -56,6 +63,7 @@ key_remove_in d =
 abbrev pub order_named : Data → List ℕ → Option Order
 order_named d op =
     if bytes_eq op (codes "tenant-add") then tenant_add_in d
+    else if bytes_eq op (codes "quota") then quota_in d
     else if bytes_eq op (codes "key-add") then key_add_in d
     else if bytes_eq op (codes "key-remove") then key_remove_in d
     else None

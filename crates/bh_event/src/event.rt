@@ -10,6 +10,11 @@ pub enum Command {
         tenant: String,
         quota: u64,
     },
+    /// Another quota of a tenant, in bytes.
+    Quota {
+        tenant: String,
+        quota: u64,
+    },
     /// An access key of a tenant.
     KeyAdd {
         tenant: String,
@@ -30,6 +35,7 @@ impl Command {
     {
         match self {
             Command::TenantAdd { tenant, .. } => tenant.as_str(),
+            Command::Quota { tenant, .. } => tenant.as_str(),
             Command::KeyAdd { tenant, .. } => tenant.as_str(),
             Command::KeyRemove { tenant, .. } => tenant.as_str(),
         }

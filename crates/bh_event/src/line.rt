@@ -70,6 +70,7 @@ fn command_in(alloc: Global, document: &Value) -> Result<Option<Command>, AllocE
 {
     match text_at(document, "op") {
         Some("tenant-add") => tenant_add_in(alloc, document),
+        Some("quota") => quota_in(alloc, document),
         Some("key-add") => key_add_in(alloc, document),
         Some("key-remove") => key_remove_in(alloc, document),
         _ => Ok(None),
@@ -88,6 +89,20 @@ fn tenant_add_in(alloc: Global, document: &Value) -> Result<Option<Command>, All
     };
     let tenant = String::from_str(alloc, tenant)?;
     Ok(Some(Command::TenantAdd { tenant, quota }))
+}
+
+fn quota_in(alloc: Global, document: &Value) -> Result<Option<Command>, AllocError>
+    ensures { IfOk result (λ found. option_map order_of found ≡ spec.quota_in (view document.now)) }
+{
+    if !has_members(document, 4) {
+        return Ok(None);
+    }
+    let (Some(tenant), Some(quota)) = (text_at(document, "tenant"), number_at(document, "quota"))
+    else {
+        return Ok(None);
+    };
+    let tenant = String::from_str(alloc, tenant)?;
+    Ok(Some(Command::Quota { tenant, quota }))
 }
 
 fn key_add_in(alloc: Global, document: &Value) -> Result<Option<Command>, AllocError>

@@ -58,7 +58,19 @@ if_ordered (Ok bytes) order (Err (Refused e)) P Q told p go = go bytes.items p t
 if_ordered (Ok bytes) order (Err (Failed trouble)) P Q told p go = absurd told
 if_ordered (Err e) order outcome P Q told p go = tt
 
+pub if_asked : {X Y : Type 0} (r : Result (Vec ℕ Global) Y) (shown : X → Answer) (act : Act) (outcome : Result X (StepError Rejection)) (P : Type 0) (Q : List ℕ → Type 0)
+    → IfOk r (λ bytes. Tells shown act outcome bytes.items) → Unless outcome P → ((bytes : List ℕ) → P → Tells shown act outcome bytes → Q bytes) → IfOk r (λ bytes. Q bytes.items)
+if_asked (Ok bytes) shown act (Ok x) P Q told p go = go bytes.items p told
+if_asked (Ok bytes) shown act (Err (Refused e)) P Q told p go = go bytes.items p told
+if_asked (Ok bytes) shown act (Err (Failed trouble)) P Q told p go = absurd told
+if_asked (Err e) shown act outcome P Q told p go = tt
+
 -- ---- an act of a tenant: its stale uploads go, and then comes the change
+
+-- no block goes with the stale uploads
+shared_purged : (t : Octets) (m : ℕ) (old new : Tables) → KeepsShared (rows_purged t m old) new → KeepsShared old new
+unfolding rows_purged
+shared_purged t m old new k = record { added = k.added; grown = k.grown; named = k.named }
 
 -- the tables in which the change found its owner
 module _ (limits : HostLimits) (t : Octets) (m : ℕ) (act : Act) (old mid new : Tables) (reply : List ℕ) where
@@ -81,7 +93,7 @@ module _ (limits : HostLimits) (t : Octets) (m : ℕ) (act : Act) (old mid new :
         });
         latest = latest ∙ purges.latest;
         same_limits = kept;
-        shared = subst (λ (x : Tables). KeepsShared x new) purges.is shared;
+        shared = shared_purged t m old new (subst (λ (x : Tables). KeepsShared x new) purges.is shared);
       }
 
   turned_refused : (e : Rejection) → owner_of act ≡ Some t → Purges t m old mid → change limits m act (view mid t) ≡ Err e → new ≡ mid
@@ -99,7 +111,7 @@ module _ (limits : HostLimits) (t : Octets) (m : ℕ) (act : Act) (old mid new :
         });
         latest = ap latest_of same ∙ purges.latest;
         same_limits = kept;
-        shared = shared_none old new (same ∙ purges.is);
+        shared = shared_purged t m old new (shared_none (rows_purged t m old) new (same ∙ purges.is));
       }
 
 owner_is : (r : Taken) (key : AccessKeyId) → key_given r ≡ Some key → owner_of (Asked (Ok r)) ≡ Some key.tenant

@@ -4,12 +4,12 @@ ghost use Rattle.bh_docs.specs.Documents.{bucket_view};
 ghost use Rattle.bh_docs.specs.Pages.{page_view, versions_view, uploads_view, parts_view};
 ghost use Rattle.bh_http.specs.Answers.{response_view};
 ghost use Rattle.bh_host.specs.Replies as spec;
-ghost use Rattle.bh_model.specs.Operations.{Buckets, Versioning, Objects, Versions, Uploads, Parts, PartStored};
+ghost use Rattle.bh_model.specs.Operations.{Buckets, Versioning, Objects, Versions, Lifecycle, Uploads, Parts, PartStored};
 ghost use Rattle.bh_storage.specs.Answers.{answer_view, removed_answer, stored_answer, copied_answer, head_answer, found_answer, begun_answer, completed_answer};
 
 use bh_docs::{
     BucketEntry, ObjectsPage, PartsPage, UploadsPage, VersionsPage, begun_document,
-    buckets_document, completed_document, copied_document, objects_document, parts_document,
+    buckets_document, completed_document, copied_document, lifecycle_document, objects_document, parts_document,
     uploads_document, versioning_document, versions_document,
 };
 use bh_http::StatusCode;
@@ -40,6 +40,7 @@ pub fn response_to(alloc: Global, answer: Answer) -> Result<Response, AllocError
         Answer::Versions(page) => versions(alloc, &page),
         Answer::Uploads(page) => uploads(alloc, &page),
         Answer::Parts(page) => parts(alloc, &page),
+        Answer::Lifecycle(days) => lifecycle(alloc, days),
         Answer::Begun(upload) => begun(alloc, &upload),
         Answer::PartStored(checksum) => Ok(part_stored(alloc, checksum)),
         Answer::Completed(upload) => completed(alloc, &upload),
@@ -129,6 +130,13 @@ fn versioning(alloc: Global, state: BucketState) -> Result<Response, AllocError>
     ensures { IfOk result (λ response. response_view response ≡ spec.response_to (Versioning state)) }
 {
     let document = versioning_document(alloc, state)?;
+    Ok(Response::with_document(alloc, StatusCode::OK, document.into_bytes()))
+}
+
+fn lifecycle(alloc: Global, days: u16) -> Result<Response, AllocError>
+    ensures { IfOk result (λ response. response_view response ≡ spec.response_to (Lifecycle days)) }
+{
+    let document = lifecycle_document(alloc, days)?;
     Ok(Response::with_document(alloc, StatusCode::OK, document.into_bytes()))
 }
 

@@ -57,7 +57,7 @@ fn serve_tenant<H: Storage>(
         → Turned (H.seen host.old).limits (Asked (Ok (request_view request.now))) at
         (H.seen host.old).now (H.seen host.new).now bytes.items) }
 {
-    host.purge(&key.tenant, at)?;
+    host.purge(alloc, &key.tenant, at)?;
     let outcome = requested(alloc, host, key, at, request);
     request_text(alloc, request, outcome)
 }
@@ -152,7 +152,7 @@ fn serve_named_command<H: Storage>(
         → Turned (H.seen host.old).limits (Commanded (order_of command.now)) at
         (H.seen host.old).now (H.seen host.new).now bytes.items) }
 {
-    host.purge(tenant, at)?;
+    host.purge(alloc, tenant, at)?;
     let outcome = host.command(alloc, command);
     order_text(alloc, command, outcome)
 }

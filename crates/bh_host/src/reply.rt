@@ -206,6 +206,7 @@ fn line_of(alloc: Global, command: &Command) -> Result<String, AllocError>
 {
     match command {
         Command::TenantAdd { tenant, .. } => format!(in alloc; "tenant {tenant}"),
+        Command::Quota { tenant, quota } => format!(in alloc; "quota {tenant} {quota}"),
         Command::KeyAdd { tenant, name, .. } => format!(in alloc; "key {tenant}${name}"),
         Command::KeyRemove { tenant, name } => format!(in alloc; "removed {tenant}${name}"),
     }

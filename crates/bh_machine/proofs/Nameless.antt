@@ -1,7 +1,7 @@
 -- An order that names no tenant.
 use Rattle.std.proofs.Common.{◌≡◌, false, Option, Some, None, Err, refl, rules, inl, inr}
 use Rattle.std.proofs.lemmas.Bool.{cases_Bool}
-use Rattle.bh_event.specs.Events.{Order, AddTenant, AddKey, RemoveKey, tenant_of}
+use Rattle.bh_event.specs.Events.{Order, AddTenant, SetQuota, AddKey, RemoveKey, tenant_of}
 use Rattle.bh_model.specs.State.{Octets}
 use Rattle.bh_types.specs.AccessKeys.{tenant_named}
 use Rattle.bh_types.specs.Names.{is_tenant_name}
@@ -19,6 +19,7 @@ unnamed text none = elim (cases_Bool (is_tenant_name text)) [
 
 refused : (order : Order) → is_tenant_name (tenant_of order) ≡ false → ordered order None ≡ Err InvalidName
 refused (AddTenant tenant quota) bad = rw bad refl
+refused (SetQuota tenant quota) bad = rw bad refl
 refused (AddKey tenant name secret) bad = rw bad refl
 refused (RemoveKey tenant name) bad = rw bad refl
 

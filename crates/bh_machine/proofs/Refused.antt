@@ -23,9 +23,9 @@ use Rattle.bh_types.specs.declared.refusal.Refusal.{Refusal}
 use Rattle.bh_types.specs.declared.refusal.Refusal.TheVariants.{BadRequest, NotImplemented, MissingContentLength, EntityTooLarge, AccessDenied, InvalidAccessKeyId, InvalidUri, InvalidBucketName, KeyTooLong, InvalidArgument, MalformedJson, NoSuchBucket, NoSuchKey, NoSuchVersion, NoSuchUpload, MethodNotAllowed, BucketAlreadyOwnedByYou, BucketNotEmpty, InvalidBucketState, NoSuchLifecycleConfiguration, InvalidPart, InvalidPartOrder, EntityTooSmall, QuotaExceeded, InvalidRange, BadDigest, IncompleteBody, InvalidRequest, CounterExhausted, ClockOutOfRange, ServiceUnavailable, TenantExists, NoSuchTenant, KeyExists, NoSuchKeyName, InvalidName, InvalidQuota, NotAHostFile, Unavailable}
 use Rattle.bh_types.specs.declared.rejection.Rejection.{Rejection}
 use Rattle.bh_types.proofs.Refusing.{then_only, if_only, require_only, ok_or_only, weaker_only}
-use Rattle.bh_docs.specs.Requests.{or_malformed, ranged, document_of, versioning_of, in_range, in_ranges, complete_of}
-use Rattle.bh_docs.specs.Shapes.{Part as Shape, data_of, versioning_shape, complete_shape}
-use Rattle.bh_event.specs.Events.{Order, AddTenant, AddKey, RemoveKey, Message, Requested, Ordered}
+use Rattle.bh_docs.specs.Requests.{or_malformed, ranged, document_of, versioning_of, in_range, in_ranges, complete_of, lifecycle_of}
+use Rattle.bh_docs.specs.Shapes.{Part as Shape, data_of, versioning_shape, complete_shape, lifecycle_shape}
+use Rattle.bh_event.specs.Events.{Order, AddTenant, SetQuota, AddKey, RemoveKey, Message, Requested, Ordered}
 use Rattle.bh_http.specs.Credentials.{key_field, secret_field, secret_of_both, secret_given, key_given}
 use Rattle.bh_http.specs.Fields.{Occurrence, Missing, Once, Repeated}
 use Rattle.bh_http.specs.Refused.{is_reading_refusal}
@@ -36,7 +36,7 @@ use Rattle.bh_model.specs.Counting.{counts, can_give, can_number, after_entry, a
 use Rattle.bh_model.specs.Credentials.{authenticate, secret_of}
 use Rattle.bh_model.specs.Entries.{Version, has_id, lookup, opened, found_named}
 use Rattle.bh_model.specs.FinMaps.{is_empty}
-use Rattle.bh_model.specs.Operations.{Outcome, added_tenant, tenant_bucket, listed, not_found, wanted_version, source_refusal, source_version, out_of_range, planned, create_bucket, head_bucket, delete_bucket, get_versioning, put_object, copy_object, get_object, head_object, delete_object}
+use Rattle.bh_model.specs.Operations.{Outcome, added_tenant, tenant_bucket, listed, not_found, wanted_version, source_refusal, source_version, out_of_range, planned, create_bucket, head_bucket, delete_bucket, get_versioning, put_object, copy_object, get_object, head_object, delete_object, get_lifecycle, delete_lifecycle}
 use Rattle.bh_model.specs.Parts.{Naming, ascends, is_checksum, checked, choice, chosen, are_large, completed}
 use Rattle.bh_model.specs.Runs.{settled, purged_tenant}
 use Rattle.bh_model.specs.State.{Octets, Content, Content.Marker, Content.Body, Entry, Part, Bucket, State}
@@ -47,7 +47,7 @@ use Rattle.bh_operation.specs.declared.operation.Operation.{Operation}
 use Rattle.bh_operation.specs.declared.operation.Operation.TheVariants as op
 use Rattle.bh_operation.proofs.Refused.{operation_only}
 use Rattle.bh_model.specs.Listings.{objects_listed, list_objects, versions_listed, list_versions, uploads_listed, list_uploads, parts_listed, list_parts}
-use Rattle.bh_machine.specs.Machine.{Act, Acted, page_asked, place_asked, upload_asked, set_versioning, operated, requested, asked, ordered, change, naming, finish_upload}
+use Rattle.bh_machine.specs.Machine.{Act, Acted, page_asked, place_asked, upload_asked, set_versioning, operated, requested, asked, ordered, change, naming, finish_upload, set_lifecycle}
 use Rattle.bh_machine.specs.Refused.{StepRefusals, is_step_refusal as may}
 
 abbrev Only : {X : Type 0} → Result X Refusal → Type 0
@@ -321,6 +321,17 @@ ranged_only : (low high : ℕ) (n : ℤ) → Only (ranged low high n)
 ranged_only low high (pos n) = if_only may (nat_le low n && nat_le n high) n InvalidArgument refl
 ranged_only low high (negsuc n) = refl
 
+lifecycle_only : (body : Octets) → Only (lifecycle_of body)
+lifecycle_only body =
+    then_only may (document_of body) _ (or_malformed_only (data_of body))
+    (λ document. then_only may (or_malformed (lifecycle_shape document)) _ (or_malformed_only (lifecycle_shape document)) (λ days. ranged_only 1 3650 days))
+
+rule_set_only : (bucket body : Octets) (s : Option State) → Only (set_lifecycle bucket body s)
+rule_set_only bucket body s = then_only may (lifecycle_of body) _ (lifecycle_only body) (λ days. bucket_only bucket s _ (λ f. tt))
+
+rule_only : (bucket : Octets) (s : Option State) → Only (get_lifecycle bucket s)
+rule_only bucket s = bucket_only bucket s _ (λ f. then_only may (ok_or f.1.days NoSuchLifecycleConfiguration) _ (ok_or_only may f.1.days NoSuchLifecycleConfiguration refl) (λ days. tt))
+
 in_ranges_only : (parts : List Shape) → Only (in_ranges parts)
 in_ranges_only [] = tt
 in_ranges_only (part ∷ rest) =
@@ -359,9 +370,9 @@ operated_only limits now body (op.ListMultipartUploads bucket page after) s =
     (then_only may (uploads_listed bucket (page_asked page) (option_map upload_asked after) s) _ (then_only may (tenant_bucket bucket s) _ (found_bucket bucket s) (λ _. tt)) (λ _. tt))
 operated_only limits now body (op.GetBucketVersioning bucket) s = plainly_told (get_versioning bucket s) (bucket_only bucket s _ (λ f. tt))
 operated_only limits now body (op.PutBucketVersioning bucket) s = plainly_told (set_versioning bucket body s) (set_only bucket body s)
-operated_only limits now body (op.GetLifecycle bucket) s = refl
-operated_only limits now body (op.PutLifecycle bucket) s = refl
-operated_only limits now body (op.DeleteLifecycle bucket) s = refl
+operated_only limits now body (op.GetLifecycle bucket) s = plainly_told (get_lifecycle bucket s) (rule_only bucket s)
+operated_only limits now body (op.PutLifecycle bucket) s = plainly_told (set_lifecycle bucket body s) (rule_set_only bucket body s)
+operated_only limits now body (op.DeleteLifecycle bucket) s = plainly_told (delete_lifecycle bucket s) (bucket_only bucket s _ (λ f. tt))
 operated_only limits now body (op.CopyObject object source) s =
     plainly_told (copy_object now object.bucket object.key source.object.bucket source.object.key source.version s)
     (copied_only now object.bucket object.key source.object.bucket source.object.key source.version s)
@@ -399,6 +410,10 @@ ordered_only (AddTenant tenant quota) s =
     then_only may (require (is_tenant_name tenant) InvalidName) _ (require_only may (is_tenant_name tenant) InvalidName refl)
     (λ _. then_only may (require (nat_le quota (2 ^ 60)) InvalidQuota) _ (require_only may (nat_le quota (2 ^ 60)) InvalidQuota refl)
     (λ _. then_only may (require (is_none s) TenantExists) _ (require_only may (is_none s) TenantExists refl) (λ _. tt)))
+ordered_only (SetQuota tenant quota) s =
+    then_only may (require (is_tenant_name tenant) InvalidName) _ (require_only may (is_tenant_name tenant) InvalidName refl)
+    (λ _. then_only may (require (nat_le quota (2 ^ 60)) InvalidQuota) _ (require_only may (nat_le quota (2 ^ 60)) InvalidQuota refl)
+    (λ _. then_only may (added_tenant s) _ (ok_or_only may s NoSuchTenant refl) (λ t. tt)))
 ordered_only (AddKey tenant name secret) s =
     then_only may (require (is_tenant_name tenant && is_key_name name && is_secret secret) InvalidName) _ (require_only may (is_tenant_name tenant && is_key_name name && is_secret secret) InvalidName refl)
     (λ _. then_only may (added_tenant s) _ (ok_or_only may s NoSuchTenant refl)

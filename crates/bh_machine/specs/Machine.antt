@@ -8,15 +8,15 @@ use Rattle.bh_types.specs.declared.id.UploadId.{UploadId}
 use Rattle.bh_types.specs.declared.refusal.Refusal.{Refusal}
 use Rattle.bh_types.specs.declared.refusal.Refusal.TheVariants.{InvalidAccessKeyId, NotImplemented}
 use Rattle.bh_types.specs.declared.rejection.Rejection.{Rejection}
-use Rattle.bh_docs.specs.Requests.{versioning_of, complete_of}
-use Rattle.bh_event.specs.Events.{Order, AddTenant, AddKey, RemoveKey, tenant_of, Message, Requested, Ordered}
+use Rattle.bh_docs.specs.Requests.{versioning_of, lifecycle_of, complete_of}
+use Rattle.bh_event.specs.Events.{Order, AddTenant, SetQuota, AddKey, RemoveKey, tenant_of, Message, Requested, Ordered}
 use Rattle.bh_http.specs.Credentials.{owner, key_given, secret_given}
 use Rattle.bh_http.specs.Reading.{Reads}
 use Rattle.bh_http.specs.Views.{Taken}
 use Rattle.bh_model.specs.Credentials.{authenticate}
 use Rattle.bh_model.specs.Listings.{list_objects, list_versions, list_uploads, list_parts}
 use Rattle.bh_model.specs.Pages as pages
-use Rattle.bh_model.specs.Operations.{Answer, Outcome, add_tenant, add_key, remove_key, create_bucket, head_bucket, delete_bucket, list_buckets, get_versioning, put_versioning, put_object, copy_object, get_object, head_object, delete_object}
+use Rattle.bh_model.specs.Operations.{Answer, Outcome, add_tenant, set_quota, add_key, remove_key, create_bucket, head_bucket, delete_bucket, list_buckets, get_versioning, put_versioning, get_lifecycle, put_lifecycle, delete_lifecycle, put_object, copy_object, get_object, head_object, delete_object}
 use Rattle.bh_model.specs.Parts.{Naming}
 use Rattle.bh_model.specs.Runs as runs
 use Rattle.bh_model.specs.State.{Octets, State}
@@ -26,7 +26,7 @@ use Rattle.bh_operation.specs.declared.page.Page.{Page}
 use Rattle.bh_operation.specs.declared.page.UploadMarker.{UploadMarker}
 use Rattle.bh_operation.specs.declared.page.VersionMarker.{VersionMarker}
 use Rattle.bh_operation.specs.declared.operation.Operation.{Operation}
-use Rattle.bh_operation.specs.declared.operation.Operation.TheVariants.{ListBuckets, CreateBucket, HeadBucket, DeleteBucket, ListObjectsV2, GetBucketVersioning, PutBucketVersioning, PutObject, CopyObject, GetObject, HeadObject, DeleteObject, ListObjectVersions, ListMultipartUploads, CreateMultipartUpload, UploadPart, ListParts, CompleteMultipartUpload, AbortMultipartUpload}
+use Rattle.bh_operation.specs.declared.operation.Operation.TheVariants.{ListBuckets, CreateBucket, HeadBucket, DeleteBucket, ListObjectsV2, GetBucketVersioning, PutBucketVersioning, PutObject, CopyObject, GetObject, HeadObject, DeleteObject, ListObjectVersions, ListMultipartUploads, CreateMultipartUpload, UploadPart, ListParts, CompleteMultipartUpload, AbortMultipartUpload, GetLifecycle, PutLifecycle, DeleteLifecycle}
 
 -- ---- acts
 
@@ -56,6 +56,12 @@ abbrev pub set_versioning : Octets → Octets → Option State → Result Outcom
 set_versioning bucket body s = do
   mode ← versioning_of body
   put_versioning bucket mode s
+
+-- the document says after how many days uploads of the bucket go
+abbrev pub set_lifecycle : Octets → Octets → Option State → Result Outcome Refusal
+set_lifecycle bucket body s = do
+  days ← lifecycle_of body
+  put_lifecycle bucket days s
 
 -- the page that a request asks for
 abbrev pub page_asked : Page → pages.Asked
@@ -90,6 +96,9 @@ operated limits now body (ListObjectVersions bucket page after) s = plainly (lis
 operated limits now body (ListMultipartUploads bucket page after) s = plainly (list_uploads bucket (page_asked page) (option_map upload_asked after) s)
 operated limits now body (GetBucketVersioning bucket) s = plainly (get_versioning bucket s)
 operated limits now body (PutBucketVersioning bucket) s = plainly (set_versioning bucket body s)
+operated limits now body (GetLifecycle bucket) s = plainly (get_lifecycle bucket s)
+operated limits now body (PutLifecycle bucket) s = plainly (set_lifecycle bucket body s)
+operated limits now body (DeleteLifecycle bucket) s = plainly (delete_lifecycle bucket s)
 operated limits now body (PutObject object checksum) s = plainly (put_object now object.bucket object.key body checksum s)
 operated limits now body (CopyObject object source) s =
     plainly (copy_object now object.bucket object.key source.object.bucket source.object.key source.version s)
@@ -121,6 +130,7 @@ asked limits now (Err refusal) s = Err (plain refusal)
 
 abbrev pub ordered : Order → Option State → Result Outcome Refusal
 ordered (AddTenant tenant quota) s = add_tenant tenant quota s
+ordered (SetQuota tenant quota) s = set_quota tenant quota s
 ordered (AddKey tenant name secret) s = add_key tenant name secret s
 ordered (RemoveKey tenant name) s = remove_key tenant name s
 

@@ -12,7 +12,7 @@ use Rattle.bh_types.specs.declared.bucket_state.BucketState.{BucketState}
 use Rattle.bh_types.specs.declared.bucket_state.BucketState.TheVariants.{Unversioned, Enabled, Suspended}
 use Rattle.bh_types.specs.declared.range.RangePlan.{RangePlan}
 use Rattle.bh_types.specs.declared.refusal.Refusal.{Refusal}
-use Rattle.bh_types.specs.declared.refusal.Refusal.TheVariants.{NoSuchBucket, MethodNotAllowed, BucketAlreadyOwnedByYou, BucketNotEmpty, BadDigest, InvalidRequest, TenantExists, NoSuchTenant, KeyExists, NoSuchKeyName, InvalidName, InvalidQuota}
+use Rattle.bh_types.specs.declared.refusal.Refusal.TheVariants.{NoSuchBucket, MethodNotAllowed, BucketAlreadyOwnedByYou, BucketNotEmpty, BadDigest, NoSuchLifecycleConfiguration, InvalidRequest, TenantExists, NoSuchTenant, KeyExists, NoSuchKeyName, InvalidName, InvalidQuota}
 use Rattle.bh_types.specs.declared.rejection.Detail.{Detail}
 use Rattle.bh_types.specs.declared.rejection.Detail.TheVariants.{Nothing, CurrentMarker, NamedMarker, ObjectSize}
 use Rattle.bh_types.specs.declared.rejection.Rejection.{Rejection}
@@ -34,8 +34,8 @@ use Rattle.bh_model.specs.Parts.{is_checksum}
 -- marker was made or taken out. `Head` and `Object` tell the whole object's size, `Object` with the bytes that its plan
 -- names. `Copied` tells the moment of the copy. Buckets are told with their moments, in the order of their names,
 -- and `Objects`, `Versions` and `Uploads` a page of a bucket's objects, of its versions and of its uploads; `Parts` a
--- page of an upload's parts. `Begun` and `Completed` name the object of an upload; `Begun` tells when the upload will
--- be stale, where its bucket has a rule
+-- page of an upload's parts. `Lifecycle` tells a bucket's rule. `Begun` and `Completed` name the object of an upload;
+-- `Begun` tells when the upload will be stale, where its bucket has a rule
 pub data Answer : Type 0 where
   Done : Answer
   Removed : (id : Option VersionId) (marker : Bool) → Answer
@@ -49,6 +49,7 @@ pub data Answer : Type 0 where
   Versions : (page : VersionsListed) → Answer
   Uploads : (page : UploadsListed) → Answer
   Parts : (page : PartsListed) → Answer
+  Lifecycle : (days : ℕ) → Answer
   Begun : (bucket key : Octets) (upload : UploadId) (abort : Option ℕ) → Answer
   PartStored : (checksum : Octets) → Answer
   Completed : (bucket key : Octets) (id : Option VersionId) (checksum : Octets) → Answer
@@ -90,6 +91,13 @@ add_tenant name quota s = do
   _ ← require (nat_le quota (2 ^ 60)) InvalidQuota
   _ ← require (is_none s) TenantExists
   Ok (Done, Some (new_tenant quota))
+
+abbrev pub set_quota : Octets → ℕ → Option State → Result Outcome Refusal
+set_quota name quota s = do
+  _ ← require (is_tenant_name name) InvalidName
+  _ ← require (nat_le quota (2 ^ 60)) InvalidQuota
+  t ← added_tenant s
+  Ok (Done, Some (record t { quota = quota }))
 
 abbrev pub add_key : Octets → Octets → Octets → Option State → Result Outcome Refusal
 add_key tenant name secret s = do
@@ -143,6 +151,27 @@ abbrev pub put_versioning : Octets → BucketState → Option State → Result O
 put_versioning name mode s = do
   f ← tenant_bucket name s
   Ok (Done, Some (with_bucket name (record f.1 { mode = mode }) f.0))
+
+-- Amazon S3 API Reference, GetBucketLifecycleConfiguration
+abbrev pub get_lifecycle : Octets → Option State → Result Outcome Refusal
+get_lifecycle name s = do
+  f ← tenant_bucket name s
+  days ← ok_or f.1.days NoSuchLifecycleConfiguration
+  Ok (Lifecycle days, s)
+
+-- the rule makes uploads stale that were begun before it, too
+-- Amazon S3 API Reference, PutBucketLifecycleConfiguration
+abbrev pub put_lifecycle : Octets → ℕ → Option State → Result Outcome Refusal
+put_lifecycle name days s = do
+  f ← tenant_bucket name s
+  Ok (Done, Some (with_bucket name (record f.1 { days = Some days }) f.0))
+
+-- a bucket without a rule stays as it is
+-- Amazon S3 API Reference, DeleteBucketLifecycle
+abbrev pub delete_lifecycle : Octets → Option State → Result Outcome Refusal
+delete_lifecycle name s = do
+  f ← tenant_bucket name s
+  Ok (Removed None false, Some (with_bucket name (record f.1 { days = None }) f.0))
 
 -- the bucket with a new entry in front of its key's, whose id depends on the next version number
 abbrev pub with_content : ℕ → Octets → ℕ → Content → Bucket → Bucket

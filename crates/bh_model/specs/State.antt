@@ -1,5 +1,5 @@
 -- The state of one tenant's private machine. It is made of finite maps, so two states that answer alike are equal values.
-use Rattle.std.specs.Prelude.{ℕ, ◌+◌, Bool, false, nat_le, List, length, Option, Some, None, if◌then◌else◌}
+use Rattle.std.specs.Prelude.{ℕ, ◌+◌, ◌-◌, ◌*◌, ◌/◌, Bool, false, nat_le, List, length, Option, Some, None, if◌then◌else◌}
 use Rattle.std.specs.List.{sum_by}
 use Rattle.std.specs.Ordering.{nat_cmp}
 use Rattle.std.specs.declared.cmp.Ordering.{Ordering}
@@ -97,6 +97,10 @@ used s = total bucket_used s.buckets
 abbrev pub is_stale : Option ℕ → ℕ → ℕ → Bool
 is_stale None begun now = false
 is_stale (Some days) begun now = nat_le (abort_moment begun days) now
+
+-- so what was begun before this moment is
+abbrev pub stale_before : ℕ → ℕ → ℕ
+stale_before days now = 86400 * (now / 86400 - days)
 
 -- an upload, if it is not stale
 abbrev pub fresh : Option ℕ → ℕ → Upload → Option Upload

@@ -1,20 +1,23 @@
 -- A call inside a transaction, in the words of the layer.
-use Rattle.std.proofs.Common.{◌≡◌, inl, inr, ℕ, List, [], ◌∷◌, ◌++◌, map, filter, Bool, true, IsTrue, None, Ok, Err, Result, OnOk, OnErr, IfOk, IfErr, Ordering, refl, sym, ap, ◌∙◌, true≢false, subst, take}
+use Rattle.std.proofs.Common.{◌≡◌, inl, inr, ℕ, List, [], ◌∷◌, ◌++◌, map, filter, Bool, true, IsTrue, None, Ok, Err, Result, OnOk, OnErr, IfOk, IfErr, Ordering, refl, sym, ap, ◌∙◌, true≢false, subst, take, pos, ◌<◌, ◌^◌, sum_by}
 use Rattle.sqlite.specs.Order.{Row}
 use Rattle.sqlite.specs.Tree.{Trees}
 use Rattle.sqlite.specs.Effect.{Database}
 use Rattle.sqlite.specs.State.{State, HasCleanDisk, IsLive, IsUnchanged, Survives, Executes, CommitsBy, CommitsShowing, Shown, FailsToQuery}
 use Rattle.sqlite.specs.declared.error.Error.{Error}
+use Rattle.sqlite.specs.declared.error.Error.TheVariants.{SqliteFailure}
+use Rattle.sqlite.specs.declared.error.ErrorCode.TheVariants.{OutOfMemory}
+use Rattle.sqlite.specs.declared.types.Value.TheVariants.{Int}
 use Rattle.sqlite_keyed.specs.Lists.{update_where, delete_where, sort_by}
 use Rattle.bh_rows.specs.Keys.{AreUnused}
 use Rattle.bh_rows.specs.Means.{is_trouble, IsUndone, IsOutside, Asks, StaysInside, Changes}
 use Rattle.bh_rows.specs.Scan.{no_limit}
-use Rattle.bh_rows.specs.Texts.{MayAdd, MayChange, InsertText, UpdateText, DeleteText, SelectText, SortedText}
+use Rattle.bh_rows.specs.Texts.{MayAdd, MayChange, InsertText, UpdateText, DeleteText, SelectText, SortedText, SumText}
 use Rattle.bh_tables.specs.Schema.{host_schema}
 use Rattle.bh_tables.specs.Typed.{IsHost, IsReady, Tables, tables_in, tables}
 use Rattle.bh_tables.proofs.Places.{Place, Goes}
 use Rattle.bh_tables.proofs.Terms.{one_row}
-use Rattle.bh_tables.proofs.Statements.{Writes, Shows}
+use Rattle.bh_tables.proofs.Statements.{Writes, Shows, Sums, told_as}
 use Rattle.bh_tables.proofs.Statements as statement
 use Rattle.bh_schema.specs.Layer.{Standing, standing, IsIntact, IsOpen, IsStateClean, Leaves, IsInside, Holds, KeepsDisk, LeavesNothingNew, IsStandingSettled, StateWithin, Unwinds}
 use Rattle.bh_schema.proofs.TurnLemmas.{follows, unwinds}
@@ -200,10 +203,41 @@ write old new change allowed result inside it = record {
   trouble = if_error old new result allowed it.errors;
 }
 
+-- what is said of a sum: an error is trouble where it is not too wide
+pub record Total {X : Type 0} (old new : State) (rows_in : X → List Row) (total : Tables → ℕ) (result : Result X Error) : Type 0 where
+  pub within : StateWithin old new
+  pub opens : OnOk result (IsIntact new → IsOpen old × IsOpen new)
+  pub same : OnOk result (IsIntact new → standing new ≡ standing old)
+  pub rows : IfOk result (λ x. IsStateClean new → rows_in x ≡ (Int (pos (total (tables_in (standing old).now))) ∷ []) ∷ [])
+  pub trouble : IfErr result (λ e. IsIntact new → (standing old).limit ≡ None → total (tables_in (standing old).now) < 2 ^ 63 → is_trouble e ≡ true)
+
+-- any error that is trouble
+abbrev any_trouble : Error
+any_trouble = SqliteFailure OutOfMemory
+
+pub totalled : {X : Type 0} (old new : State) (rows_in : X → List Row) (total : Tables → ℕ) (result : Result X Error) → (IsStateClean old → IsInside (standing old)) → Sums old new rows_in total result → Total old new rows_in total result
+unfolding standing
+totalled old new rows_in total result inside it =
+    let asks = it.asks any_trouble refl in
+    record {
+      within = asks_within old new (λ c. (inside c).inside) (told_as any_trouble result) asks;
+      opens = answered _ result (asks_opens old new (λ c. (inside c).inside) (told_as any_trouble result) asks);
+      same = answered _ result (asks_same old new (λ c. (inside c).inside) (told_as any_trouble result) asks);
+      rows = if_clean new result (λ x. rows_in x ≡ (Int (pos (total (tables old))) ∷ []) ∷ []) it.rows;
+      trouble = if_error old new result (λ e. total (tables old) < 2 ^ 63 → is_trouble e ≡ true) it.trouble;
+    }
+  where
+    answered : {X : Type 0} (P : Type 0) (r : Result X Error) → OnOk (told_as any_trouble r) P → OnOk r P
+    answered P (Ok x) h = h
+    answered P (Err e) h = tt
+
 -- ---- the same, said in other words
 
 pub asked : {X : Type 0} {old new : State} {rows_in : X → List Row} {result : Result X Error} (f g : Tables → List Row) → ((t : Tables) → f t ≡ g t) → Question old new rows_in f result → Question old new rows_in g result
 asked {X} {old} {new} {rows_in} {result} f g same = subst (λ shown. Question old new rows_in shown result) (λ i t. same t i)
+
+pub totalled_so : {X : Type 0} {old new : State} {rows_in : X → List Row} {result : Result X Error} (f g : Tables → ℕ) → ((t : Tables) → f t ≡ g t) → Total old new rows_in f result → Total old new rows_in g result
+totalled_so {X} {old} {new} {rows_in} {result} f g same = subst (λ total. Total old new rows_in total result) (λ i t. same t i)
 
 pub written : {old new : State} {allowed : Error → Type 0} {result : Result ℕ Error} (f g : Tables → Tables) → ((db : Database) → f (tables_in db) ≡ g (tables_in db)) → Write old new f allowed result → Write old new g allowed result
 written {old} {new} {allowed} {result} f g same w = record {
@@ -231,6 +265,11 @@ module _ {T : Type 0} (p : Place T) (old new : State) (inside : IsStateClean old
       → (HasCleanDisk new → IfOk result (λ x. Shown sql params old new (rows_in x))) → (HasCleanDisk new → IfErr result (FailsToQuery sql params old new)) → Survives old new (CommitsShowing sql params old)
       → Question old new rows_in (λ t. take 1 (map view (sort_by order (filter m (p.rows t))))) result
   selected_first rows_in result it ok err survives = question old new rows_in _ result inside (statement.selected_first p old new (ready old inside) rows_in result _ _ _ _ _ it ok err survives)
+
+  pub summed : {X : Type 0} (rows_in : X → List Row) (result : Result X Error) {sql : List ℕ} {params : Row} {m : T → Bool} {size : T → ℕ} → SumText p.form host_schema p.table.tree sql params m size
+      → (HasCleanDisk new → IfOk result (λ x. Shown sql params old new (rows_in x))) → (HasCleanDisk new → IfErr result (FailsToQuery sql params old new)) → Survives old new (CommitsShowing sql params old)
+      → Total old new rows_in (λ t. sum_by size (filter m (p.rows t))) result
+  summed rows_in result it ok err survives = totalled old new rows_in _ result inside (statement.summed p old new (ready old inside) rows_in result _ _ _ _ it ok err survives)
 
   module _ (result : Result ℕ Error) (live : IsLive old) where
     pub inserted : {sql : List ℕ} {params : Row} {x : T} {A : Type 0} → InsertText p.form host_schema p.number p.table sql params x → (IsStateClean old → A → MayAdd p.form host_schema p.table (standing old).now.trees x)

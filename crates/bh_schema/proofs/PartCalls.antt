@@ -1,21 +1,30 @@
 -- Calls over parts, in the words of the tables, in which each part has the bytes of its body.
-use Rattle.std.proofs.Common.{◌≡◌, ℕ, List, [], ◌∷◌, ◌++◌, map, filter, Bool, true, Result, IfOk, IfErr, Ordering}
+use Rattle.std.proofs.Common.{◌≡◌, ℕ, List, [], ◌∷◌, ◌++◌, map, filter, Bool, true, Result, IfOk, IfErr, Ordering, ◌+◌, sum_by, cond, false, refl, sym, ap, ◌∙◌}
+use Rattle.std.proofs.lemmas.List.Sums.{sum_by-cons}
 use Rattle.sqlite.specs.Order.{Row}
 use Rattle.sqlite.specs.State.{State, HasCleanDisk, IsLive, Survives, Executes, CommitsBy, CommitsShowing, Shown, FailsToQuery}
 use Rattle.sqlite.specs.declared.error.Error.{Error}
 use Rattle.sqlite_keyed.specs.Lists.{delete_where, sort_by}
 use Rattle.bh_rows.specs.Means.{is_trouble}
 use Rattle.bh_rows.specs.Scan.{no_limit}
-use Rattle.bh_rows.specs.Texts.{MayAdd, InsertText, DeleteText, SelectText, SortedText}
+use Rattle.bh_rows.specs.Texts.{MayAdd, InsertText, DeleteText, SelectText, SortedText, SumText}
 use Rattle.bh_tables.specs.Schema.{host_schema, parts_table, at}
-use Rattle.bh_tables.specs.Typed.{PartColumns, part_form}
+use Rattle.bh_tables.specs.Typed.{PartColumns, part_form, PartRow}
 use Rattle.bh_tables.specs.Bodies.{resolved_part, part_columns_of}
 use Rattle.bh_tables.proofs.Places.{parts}
 use Rattle.bh_tables.proofs.ResolvedLemmas.{seen_parts, seen_parts_sorted, part_added, parts_deleted}
 use Rattle.bh_tables.proofs.PartTexts.{parts_unused}
 use Rattle.bh_schema.specs.Layer.{standing, IsInside, IsStateClean}
-use Rattle.bh_schema.proofs.Calls.{Question, Write, asked, written}
+use Rattle.bh_schema.proofs.Calls.{Question, Write, asked, written, Total, totalled_so}
 use Rattle.bh_schema.proofs.Calls as call
+
+-- sizes of the stored columns are those of the rows
+sum_seen : (m : PartColumns → Bool) (size : PartColumns → ℕ) (xs : List PartRow) → sum_by size (filter m (map part_columns_of xs)) ≡ sum_by (λ x. size (part_columns_of x)) (filter (λ x. m (part_columns_of x)) xs)
+sum_seen m size [] = refl
+sum_seen m size (x ∷ xs) = elim (m (part_columns_of x)) as (λ b. sum_by size (cond b (part_columns_of x ∷ filter m (map part_columns_of xs)) (filter m (map part_columns_of xs))) ≡ sum_by (λ y. size (part_columns_of y)) (cond b (x ∷ filter (λ y. m (part_columns_of y)) xs) (filter (λ y. m (part_columns_of y)) xs))) [
+  | true ↦ sum_by-cons size (part_columns_of x) (filter m (map part_columns_of xs)) ∙ ap (λ n. size (part_columns_of x) + n) (sum_seen m size xs) ∙ sym (sum_by-cons (λ y. size (part_columns_of y)) x (filter (λ y. m (part_columns_of y)) xs))
+  | false ↦ sum_seen m size xs
+]
 
 module _ (old new : State) (inside : IsStateClean old → IsInside (standing old)) where
   pub selected : {X : Type 0} (rows_in : X → List Row) (result : Result X Error) {sql : List ℕ} {params : Row} {m : PartColumns → Bool} {view : PartColumns → Row} → SelectText part_form host_schema 18 sql params m view no_limit
@@ -28,6 +37,11 @@ module _ (old new : State) (inside : IsStateClean old → IsInside (standing old
       → (HasCleanDisk new → IfOk result (λ x. Shown sql params old new (rows_in x))) → (HasCleanDisk new → IfErr result (FailsToQuery sql params old new)) → Survives old new (CommitsShowing sql params old)
       → Question old new rows_in (λ t. map (λ p. view (part_columns_of p)) (sort_by (λ a b. order (part_columns_of a) (part_columns_of b)) (filter (λ p. m (part_columns_of p)) t.parts))) result
   sorted rows_in result {sql} {params} {m} {view} {order} it ok err survives = asked _ _ (λ t. seen_parts_sorted m t.parts view order) (call.sorted parts old new inside rows_in result it ok err survives)
+
+  pub summed : {X : Type 0} (rows_in : X → List Row) (result : Result X Error) {sql : List ℕ} {params : Row} {m : PartColumns → Bool} {size : PartColumns → ℕ} → SumText part_form host_schema 18 sql params m size
+      → (HasCleanDisk new → IfOk result (λ x. Shown sql params old new (rows_in x))) → (HasCleanDisk new → IfErr result (FailsToQuery sql params old new)) → Survives old new (CommitsShowing sql params old)
+      → Total old new rows_in (λ t. sum_by (λ x. size (part_columns_of x)) (filter (λ x. m (part_columns_of x)) t.parts)) result
+  summed rows_in result {sql} {params} {m} {size} it ok err survives = totalled_so _ _ (λ t. sum_seen m size t.parts) (call.summed parts old new inside rows_in result it ok err survives)
 
   module _ (result : Result ℕ Error) (live : IsLive old) where
     pub inserted : {sql : List ℕ} {params : Row} {c : PartColumns} {A : Type 0} → InsertText part_form host_schema 8 (at 18 parts_table) sql params c

@@ -1,13 +1,14 @@
 -- What is seen of a tenant, and the step that adds one.
 use Rattle.std.proofs.Common.{◌≡◌, ◌≤◌, ℕ, nat_le, ◌^◌, Bool, true, false, List, [], ◌∷◌, ◌++◌, find, Option, Some, None, option_map, is_some, IsTrue, Result, Ok, Err, refl, sym, ap, ◌∙◌, subst}
 use Rattle.sqlite.specs.State.{State}
+use Rattle.sqlite_keyed.specs.Lists.{update_where}
 use Rattle.sqlite_keyed.proofs.SliceLemmas.{is_some-map}
 use Rattle.bh_types.specs.Limits.{HostLimits}
 use Rattle.bh_types.specs.Names.{is_tenant_name}
 use Rattle.bh_types.specs.declared.refusal.Refusal.{Refusal}
-use Rattle.bh_types.specs.declared.refusal.Refusal.TheVariants.{TenantExists}
+use Rattle.bh_types.specs.declared.refusal.Refusal.TheVariants.{TenantExists, NoSuchTenant}
 use Rattle.bh_model.specs.State.{Octets, State as Machine, new_tenant}
-use Rattle.bh_model.specs.Operations.{Done, add_tenant}
+use Rattle.bh_model.specs.Operations.{Done, add_tenant, set_quota}
 use Rattle.bh_tables.specs.Typed.{TenantRow, VersionRow, PartRow, BlockRow, RefRow, Tables, tables_in}
 use Rattle.bh_tables.specs.Shown.{is_tenant}
 use Rattle.bh_view.specs.Bodies.{IsSoundHost}
@@ -15,7 +16,7 @@ use Rattle.bh_view.specs.View.{view}
 use Rattle.bh_view.specs.Becomes.{Becomes}
 use Rattle.bh_view.proofs.FindLemmas.{first_find, tenant_found}
 use Rattle.bh_view.proofs.SharedLemmas.{shared_same}
-use Rattle.bh_view.proofs.TenantChanges.{tenant_added}
+use Rattle.bh_view.proofs.TenantChanges.{tenant_added, quota_set}
 use Rattle.bh_storage.specs.Calls.{IsWorking, GivesStep}
 use Rattle.bh_schema.specs.Layer.{standing, Holds}
 use Rattle.bh_schema.specs.Storage.{seen_in}
@@ -51,6 +52,12 @@ adds_tenant t quota s name few none = rw (required (is_tenant_name t) _ name, re
 pub tenant_exists : (t : Octets) (quota : ℕ) (s : Option Machine) → IsTrue (is_tenant_name t) → nat_le quota (2 ^ 60) ≡ true → is_some s ≡ true → add_tenant t quota s ≡ Err TenantExists
 tenant_exists t quota s name few there = let it = some_of s there in rw (required (is_tenant_name t) _ name, required (nat_le quota (2 ^ 60)) _ few, it.1) refl
 
+pub sets_quota : (t : Octets) (quota : ℕ) (s : Option Machine) (x : Machine) → IsTrue (is_tenant_name t) → nat_le quota (2 ^ 60) ≡ true → s ≡ Some x → set_quota t quota s ≡ Ok (Done, Some (record x { quota = quota }))
+sets_quota t quota s x name few there = rw (required (is_tenant_name t) _ name, required (nat_le quota (2 ^ 60)) _ few, there) refl
+
+pub quota_of_nobody : (t : Octets) (quota : ℕ) (s : Option Machine) → IsTrue (is_tenant_name t) → nat_le quota (2 ^ 60) ≡ true → s ≡ None → set_quota t quota s ≡ Err NoSuchTenant
+quota_of_nobody t quota s name few none = rw (required (is_tenant_name t) _ name, required (nat_le quota (2 ^ 60)) _ few, none) refl
+
 pub gives_of : {Y : Type 0} (t : Octets) (step : Option Machine → Result (Y × Option Machine) Refusal) (y : Y) (s : Option Machine) (old new : Tables) → step (view old t) ≡ Ok (y, s) → Becomes t s old new → bodied new ≡ bodied old → GivesStep t step y old new
 gives_of t step y s old new given b same = record {
   gives = given ∙ ap (λ v. Ok (y, v)) (sym b.shown);
@@ -75,6 +82,14 @@ pub tenant_becomes : {digest : Octets → Octets} (l : HostLimits) (old new : St
 tenant_becomes l old new t quota working none name few h =
     tenant_added (seen_in l old).now (seen_in l new).now t quota working.sound.sound none name few ((holds_seen _ _ new h).0
     ∙ ap (λ (x : Tables). record x { tenants = x.tenants ++ record { tenant = t; quota = quota; next_version = 1; next_upload = 1; next_entry = 1 } ∷ [] }) (sym (shows_in _ old working)))
+
+-- a tenant's quota that was set
+pub quota_becomes : {digest : Octets → Octets} (l : HostLimits) (old new : State) (t : Octets) (quota : ℕ) (s : Machine) → IsWorking (IsSoundHost digest) (seen_in l old) → view (seen_in l old).now t ≡ Some s → quota ≤ 2 ^ 60
+    → Holds (record (tables_in (standing old).now) { tenants = update_where (is_tenant t) (λ r. record r { quota = quota }) (tables_in (standing old).now).tenants }) (standing new)
+    → Becomes t (Some (record s { quota = quota })) (seen_in l old).now (seen_in l new).now
+quota_becomes l old new t quota s working is few h =
+    quota_set (seen_in l old).now (seen_in l new).now t s working.sound.sound is quota few ((holds_seen _ _ new h).0
+    ∙ ap (λ (x : Tables). record x { tenants = update_where (is_tenant t) (λ r. record r { quota = quota }) x.tenants }) (sym (shows_in _ old working)))
 
 -- the tables that a write holds, after questions that changed nothing
 pub holds_after : (old mid new : State) (change : Tables → Tables) → standing mid ≡ standing old → Holds (change (tables_in (standing mid).now)) (standing new) → Holds (change (tables_in (standing old).now)) (standing new)

@@ -1,24 +1,33 @@
 -- Calls over versions, in the words of the tables, in which each version has the bytes of its body.
-use Rattle.std.proofs.Common.{◌≡◌, ℕ, List, [], ◌∷◌, ◌++◌, map, filter, Bool, true, Result, IfOk, IfErr, Ordering, ap, take}
+use Rattle.std.proofs.Common.{◌≡◌, ℕ, List, [], ◌∷◌, ◌++◌, map, filter, Bool, true, Result, IfOk, IfErr, Ordering, ap, take, ◌+◌, sum_by, cond, false, refl, sym, ◌∙◌}
+use Rattle.std.proofs.lemmas.List.Sums.{sum_by-cons}
 use Rattle.sqlite.specs.Order.{Row}
 use Rattle.sqlite.specs.State.{State, HasCleanDisk, IsLive, Survives, Executes, CommitsBy, CommitsShowing, Shown, FailsToQuery}
 use Rattle.sqlite.specs.declared.error.Error.{Error}
 use Rattle.sqlite_keyed.specs.Lists.{delete_where, sort_by}
 use Rattle.bh_rows.specs.Means.{is_trouble}
 use Rattle.bh_rows.specs.Scan.{no_limit}
-use Rattle.bh_rows.specs.Texts.{MayAdd, InsertText, DeleteText, SelectText, SortedText}
+use Rattle.bh_rows.specs.Texts.{MayAdd, InsertText, DeleteText, SelectText, SortedText, SumText}
 use Rattle.bh_tables.specs.Schema.{host_schema, versions_table, at}
-use Rattle.bh_tables.specs.Typed.{VersionColumns, version_form}
+use Rattle.bh_tables.specs.Typed.{VersionColumns, version_form, VersionRow}
 use Rattle.bh_tables.specs.Bodies.{resolved, columns_of}
 use Rattle.bh_tables.proofs.Places.{versions}
 use Rattle.bh_tables.proofs.ResolvedLemmas.{seen, seen_sorted, version_added, versions_deleted}
 use Rattle.bh_tables.proofs.Terms.{one_row}
 use Rattle.bh_tables.proofs.VersionTexts.{versions_unused}
 use Rattle.bh_schema.specs.Layer.{standing, IsInside, IsStateClean}
-use Rattle.bh_schema.proofs.Calls.{Question, Write, asked, written}
+use Rattle.bh_schema.proofs.Calls.{Question, Write, asked, written, Total, totalled_so}
 use Rattle.bh_schema.proofs.Calls as call
 
 -- ---- the kinds of texts
+
+-- sizes of the stored columns are those of the rows
+sum_seen : (m : VersionColumns → Bool) (size : VersionColumns → ℕ) (xs : List VersionRow) → sum_by size (filter m (map columns_of xs)) ≡ sum_by (λ x. size (columns_of x)) (filter (λ x. m (columns_of x)) xs)
+sum_seen m size [] = refl
+sum_seen m size (x ∷ xs) = elim (m (columns_of x)) as (λ b. sum_by size (cond b (columns_of x ∷ filter m (map columns_of xs)) (filter m (map columns_of xs))) ≡ sum_by (λ y. size (columns_of y)) (cond b (x ∷ filter (λ y. m (columns_of y)) xs) (filter (λ y. m (columns_of y)) xs))) [
+  | true ↦ sum_by-cons size (columns_of x) (filter m (map columns_of xs)) ∙ ap (λ n. size (columns_of x) + n) (sum_seen m size xs) ∙ sym (sum_by-cons (λ y. size (columns_of y)) x (filter (λ y. m (columns_of y)) xs))
+  | false ↦ sum_seen m size xs
+]
 
 module _ (old new : State) (inside : IsStateClean old → IsInside (standing old)) where
   pub selected : {X : Type 0} (rows_in : X → List Row) (result : Result X Error) {sql : List ℕ} {params : Row} {m : VersionColumns → Bool} {view : VersionColumns → Row} → SelectText version_form host_schema 7 sql params m view no_limit
@@ -31,6 +40,11 @@ module _ (old new : State) (inside : IsStateClean old → IsInside (standing old
       → (HasCleanDisk new → IfOk result (λ x. Shown sql params old new (rows_in x))) → (HasCleanDisk new → IfErr result (FailsToQuery sql params old new)) → Survives old new (CommitsShowing sql params old)
       → Question old new rows_in (λ t. take 1 (map (λ v. view (columns_of v)) (sort_by (λ a b. order (columns_of a) (columns_of b)) (filter (λ v. m (columns_of v)) t.versions)))) result
   selected_first rows_in result {sql} {params} {m} {view} {order} it ok err survives = asked _ _ (λ t. ap (take 1) (seen_sorted m t.versions view order)) (call.selected_first versions old new inside rows_in result it ok err survives)
+
+  pub summed : {X : Type 0} (rows_in : X → List Row) (result : Result X Error) {sql : List ℕ} {params : Row} {m : VersionColumns → Bool} {size : VersionColumns → ℕ} → SumText version_form host_schema 7 sql params m size
+      → (HasCleanDisk new → IfOk result (λ x. Shown sql params old new (rows_in x))) → (HasCleanDisk new → IfErr result (FailsToQuery sql params old new)) → Survives old new (CommitsShowing sql params old)
+      → Total old new rows_in (λ t. sum_by (λ x. size (columns_of x)) (filter (λ x. m (columns_of x)) t.versions)) result
+  summed rows_in result {sql} {params} {m} {size} it ok err survives = totalled_so _ _ (λ t. sum_seen m size t.versions) (call.summed versions old new inside rows_in result it ok err survives)
 
   module _ (result : Result ℕ Error) (live : IsLive old) where
     pub inserted : {sql : List ℕ} {params : Row} {c : VersionColumns} {A : Type 0} → InsertText version_form host_schema 4 (at 7 versions_table) sql params c

@@ -4,7 +4,7 @@ use Rattle.std.specs.List.{list_any}
 use Rattle.sqlite_keyed.specs.Lists.{sort_by}
 use Rattle.bh_tables.specs.Schema.{Octets}
 use Rattle.bh_tables.specs.Typed.{HostRow, TenantRow, KeyRow, BucketRow, VersionRow, Tables}
-use Rattle.bh_tables.specs.Shown.{is_tenant, is_key, is_bucket, is_owned_bucket, by_bucket, is_entry, is_version, is_at, is_in_bucket, is_upload_in, newer}
+use Rattle.bh_tables.specs.Shown.{is_tenant, is_key, is_bucket, is_owned_bucket, by_bucket, is_entry, is_version, is_at, is_in_bucket, is_upload_in, newer, is_ruled}
 use Rattle.bh_view.specs.Grouped.{first}
 use Rattle.bh_schema.specs.declared.rows.tenants.TenantNumbers.{TenantNumbers}
 use Rattle.bh_schema.specs.declared.rows.buckets.BucketNumbers.{BucketNumbers}
@@ -31,6 +31,13 @@ listed_buckets tenant tables = sort_by by_bucket (filter (is_owned_bucket tenant
 -- a bucket's name, and when it was made in seconds since 1970
 abbrev pub entry_in : BucketRow → Octets × ℕ
 entry_in b = (b.bucket, b.created)
+
+-- those that have a rule, and their rules
+abbrev pub listed_rules : Octets → Tables → List BucketRow
+listed_rules tenant tables = sort_by by_bucket (filter (is_ruled tenant) tables.buckets)
+
+abbrev pub rule_in : BucketRow → Octets × Option ℕ
+rule_in b = (b.bucket, b.days)
 
 -- the columns of a version but its bytes
 pub record SeenHead : Type 0 where

@@ -5,6 +5,8 @@ pub mod host;
 pub mod keys;
 pub mod known;
 pub mod number;
+pub mod rules;
+pub mod sizes;
 pub mod tenants;
 pub mod transactions;
 pub mod uploads;

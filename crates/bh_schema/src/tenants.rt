@@ -1,9 +1,9 @@
-ghost use Rattle.bh_model.specs.Operations.{Done, add_tenant};
+ghost use Rattle.bh_model.specs.Operations.{Done, add_tenant, set_quota};
 ghost use Rattle.bh_storage.specs.Calls.{Unless, Carries};
 ghost use Rattle.bh_schema.specs.Storage.{IsClean, seen, Works, Keeps, StaysOpen, KeepsSettings};
 
 use crate::host::{Digester, Host};
-use crate::rows::tenants::{find_tenant, insert_tenant};
+use crate::rows::tenants::{find_tenant, insert_tenant, set_quota};
 use crate::texts::is_tenant;
 use crate::trouble::or_trouble;
 use bh_storage::error::StepError;
@@ -40,6 +40,36 @@ impl<S: Alter + Drop, D: Digester + Drop> Host<S, D> {
             return Err(StepError::Refused(Refusal::TenantExists));
         }
         or_trouble(insert_tenant(&mut self.connection, tenant, quota))?;
+        Ok(())
+    }
+
+    /// Sets a tenant's quota in bytes, also below what it uses: InvalidName, InvalidQuota, NoSuchTenant.
+    pub fn quota_set(
+        &mut self,
+        alloc: Global,
+        tenant: &str,
+        quota: u64,
+    ) -> Result<(), StepError<Refusal>>
+        requires { Works S.Store D.digest_of self.old }
+        ensures within { Keeps S.Store self.old self.new }
+        ensures opens { Unless result (StaysOpen S.Store self.old self.new) }
+        ensures working { Unless result (Works S.Store D.digest_of self.new) }
+        ensures carries { IsClean S.Store self.new
+            → Carries (λ _. Done) tenant.now (set_quota tenant.now quota)
+            (seen S.Store self.old).now (seen S.Store self.new).now result }
+        ensures settings { KeepsSettings S.Store self.old self.new }
+    {
+        if !is_tenant(alloc, tenant)? {
+            return Err(StepError::Refused(Refusal::InvalidName));
+        }
+        if !is_quota(quota) {
+            return Err(StepError::Refused(Refusal::InvalidQuota));
+        }
+        let found = or_trouble(find_tenant(&mut self.connection, tenant))?;
+        if found.is_none() {
+            return Err(StepError::Refused(Refusal::NoSuchTenant));
+        }
+        or_trouble(set_quota(&mut self.connection, tenant, quota))?;
         Ok(())
     }
 }

@@ -25,6 +25,8 @@ pub enum Answer {
     Uploads(UploadsPage),
     /// A page of an upload's parts.
     Parts(PartsPage),
+    /// The days after which a bucket's uploads go that are left unfinished.
+    Lifecycle(u16),
     Begun(BegunUpload),
     /// A part was put: the base64 (RFC 4648) of the SHA-256 digest (FIPS 180-4) of its bytes.
     PartStored(String),

@@ -1,5 +1,5 @@
 -- The texts over buckets.
-use Rattle.std.proofs.Common.{◌≡◌, ◌≤◌, nat_le, ℕ, ℤ, pos, codes, [], ◌∷◌, ◌&&◌, true, false, Option, None, Some, refl, sym, ap, ap₂, ◌∙◌}
+use Rattle.std.proofs.Common.{arith, ◌≡◌, ◌≤◌, nat_le, ℕ, ℤ, pos, codes, [], ◌∷◌, ◌&&◌, true, false, Option, None, Some, refl, sym, ap, ap₂, ◌∙◌, is_some, int_le}
 use Rattle.std.specs.List.{list_any}
 use Rattle.std.proofs.lemmas.Bool.{leb-true, and_parts}
 use Rattle.sqlite.specs.Collation.TheVariants.{Binary}
@@ -7,14 +7,18 @@ use Rattle.sqlite.specs.declared.types.Value.TheVariants.{Null, Int, Text}
 use Rattle.sqlite.specs.Edit.{next_rowid}
 use Rattle.sqlite.specs.Effect.{Database}
 use Rattle.sqlite.specs.Listing.{understood}
-use Rattle.sqlite.specs.Term.{lit, col}
-use Rattle.sqlite_sql.specs.declared.ops.CompareOp.TheVariants.{Eq}
+use Rattle.sqlite.specs.Term.{lit, col, op2}
+use Rattle.sqlite_sql.specs.declared.ops.CompareOp.TheVariants.{Eq, Ge}
 use Rattle.sqlite_value.specs.Keys.{plain, first_key}
 use Rattle.sqlite_value.proofs.OrderLemmas.{value_cmp-Int, value_cmp-Text}
-use Rattle.sqlite_schema.specs.Rules.{agree}
+use Rattle.sqlite_schema.specs.Rules.{agree, passes_checks}
 use Rattle.sqlite_tied.specs.Compute.{everything}
-use Rattle.sqlite_typed.specs.Tests.{bytes_eq}
-use Rattle.sqlite_typed.proofs.TestLemmas.{same_bytes, at_texts, last_term, then_term, then_key, last_key}
+use Rattle.sqlite_sql.specs.declared.ops.BinaryOp.TheVariants.{Compare}
+use Rattle.sqlite_sql.specs.Ops.{binary}
+use Rattle.sqlite_typed.specs.Columns.{or_null}
+use Rattle.sqlite_typed.specs.Tests.{bytes_eq, both_and}
+use Rattle.std.proofs.lemmas.Int.{ints}
+use Rattle.sqlite_typed.proofs.TestLemmas.{truth_or, same_bytes, at_texts, last_term, then_term, then_key, last_key, at_ints, at_nullable}
 use Rattle.bh_rows.specs.Form.{put, typed}
 use Rattle.bh_rows.specs.Keys.{Pointer, points_at, Suits}
 use Rattle.bh_rows.specs.Scan.{by_rowid, no_limit}
@@ -24,10 +28,10 @@ use Rattle.bh_rows.proofs.FormLemmas.{any_typed}
 use Rattle.bh_tables.specs.Schema.{Octets, host_schema, buckets_table, at}
 use Rattle.bh_tables.specs.Typed.{BucketRow, VersionColumns, UploadRow, bucket_form, tenant_form, version_form, upload_form, number, IsHost, tables_in}
 use Rattle.bh_tables.specs.Bodies.{bare}
-use Rattle.bh_tables.specs.Shown.{is_bucket, is_in_bucket, is_upload_in, is_owned_bucket, is_tenant, by_bucket, shown_bucket, shown_entry}
+use Rattle.bh_tables.specs.Shown.{is_bucket, is_in_bucket, is_upload_in, is_owned_bucket, is_tenant, by_bucket, shown_bucket, shown_entry, is_ruled, shown_rule}
 use Rattle.bh_tables.proofs.Places.{Goes, buckets}
 use Rattle.bh_tables.proofs.ResolvedLemmas.{any_resolved}
-use Rattle.bh_tables.proofs.Checked.{bucket_checked}
+use Rattle.bh_tables.proofs.Checked.{bucket_checked, bucket_checked_still}
 use Rattle.bh_tables.proofs.Terms.{is}
 
 -- ---- a bucket of a tenant, whose name no other bucket of the tenant has, may be added
@@ -91,6 +95,15 @@ pub state_may : (tenant bucket : Octets) (state : ℕ) → state ≤ 2 → MayCh
 unfolding everything
 state_may tenant bucket state low = record { suits = λ id b found was. bucket_suits id (record b { state = state }) b.days low; unwatched = λ id b found. refl }
 
+-- a bucket with other days
+other_days : (id : ℤ) (b : BucketRow) (days : Option ℕ) → passes_checks (at 5 buckets_table) (put bucket_form (id, b)) ≡ true → Suits (at 5 buckets_table) (put bucket_form (id, record b { days = days }))
+other_days id b None was = record { typed = refl; present = refl; checked = bucket_checked_still id b None was }
+other_days id b (Some n) was = record { typed = refl; present = refl; checked = bucket_checked_still id b (Some n) was }
+
+pub days_may : (tenant bucket : Octets) (days : Option ℕ) → MayChange bucket_form host_schema (at 5 buckets_table) (is_bucket tenant bucket) (λ b. record b { days = days })
+unfolding everything
+days_may tenant bucket days = record { suits = λ id b found was. other_days id b days was.checked; unwatched = λ id b found. refl }
+
 -- ---- the texts
 
 pub bucket_shown : (tenant bucket : Octets) → SelectText bucket_form host_schema 5 (codes "SELECT created, state, days FROM buckets WHERE tenant = ?1 AND bucket = ?2 ORDER BY rowid") (Text tenant ∷ Text bucket ∷ []) (is_bucket tenant bucket) shown_bucket no_limit
@@ -151,4 +164,52 @@ bucket_deleted tenant bucket = record {
   means = record { is = refl; plain = (refl, refl); unlisted = refl; whole = refl; given = refl };
   accepts = refl;
   tests = λ id b. then_term (at_texts false Eq b.tenant tenant) (last_term (at_texts false Eq b.bucket bucket));
+}
+
+-- ---- rules
+
+has_days : (o : Option ℕ) → truth_or false (binary (Compare Ge Binary) (or_null number o) (number 0)) ≡ is_some o
+has_days o = at_nullable number false Ge (λ a b. int_le (pos b) (pos a)) (λ a b. at_ints false Ge (pos a) (pos b)) o (Some 0) ∙ go o
+  where
+    go : (o : Option ℕ) → both_and (λ a b. int_le (pos b) (pos a)) o (Some 0) ≡ is_some o
+    go None = refl
+    go (Some n) = grind (arith, ints)
+
+pub rules_listed : (tenant : Octets) → SortedText bucket_form host_schema 5 (codes "SELECT bucket, days FROM buckets WHERE tenant = ?1 AND days >= 0 ORDER BY bucket, rowid") (Text tenant ∷ []) (is_ruled tenant) shown_rule by_bucket no_limit
+unfolding understood everything
+rules_listed tenant = record {
+  test = is 1 0 ∷ op2 (Compare Ge Binary) (col 1 5) (lit (Int (pos 0))) ∷ [];
+  show = col 1 2 ∷ col 1 5 ∷ [];
+  keys = (col 1 2, record { collation = Binary; descending = false }) ∷ by_rowid;
+  names = codes "bucket" ∷ codes "days" ∷ [];
+  means = record { is = refl; plain = (refl, refl); unlisted = refl; whole = refl; given = refl };
+  low = refl;
+  accepts = refl;
+  tests = λ id b. then_term (at_texts false Eq b.tenant tenant) (last_term (has_days b.days));
+  shows = λ id b. refl;
+  orders = λ a b. then_key (value_cmp-Text a.1.bucket b.1.bucket) (last_key (value_cmp-Int a.0 b.0));
+}
+
+pub days_set : (tenant bucket : Octets) (days : ℕ) → UpdateText bucket_form host_schema 3 (at 5 buckets_table) (codes "UPDATE buckets SET days = ?3 WHERE tenant = ?1 AND bucket = ?2") (Text tenant ∷ Text bucket ∷ number days ∷ [])
+    (is_bucket tenant bucket) (λ b. record b { days = Some days })
+unfolding understood everything
+days_set tenant bucket days = record {
+  test = is 1 0 ∷ is 2 1 ∷ [];
+  show = col 1 0 ∷ col 1 0 ∷ col 1 1 ∷ col 1 2 ∷ col 1 3 ∷ col 1 4 ∷ col 0 2 ∷ [];
+  means = record { is = refl; plain = (refl, refl); unlisted = refl; whole = refl; given = refl };
+  accepts = refl;
+  tests = λ id b. then_term (at_texts false Eq b.tenant tenant) (last_term (at_texts false Eq b.bucket bucket));
+  shows = λ id b. refl;
+}
+
+pub days_cleared : (tenant bucket : Octets) → UpdateText bucket_form host_schema 3 (at 5 buckets_table) (codes "UPDATE buckets SET days = NULL WHERE tenant = ?1 AND bucket = ?2") (Text tenant ∷ Text bucket ∷ [])
+    (is_bucket tenant bucket) (λ b. record b { days = None })
+unfolding understood everything
+days_cleared tenant bucket = record {
+  test = is 1 0 ∷ is 2 1 ∷ [];
+  show = col 1 0 ∷ col 1 0 ∷ col 1 1 ∷ col 1 2 ∷ col 1 3 ∷ col 1 4 ∷ lit Null ∷ [];
+  means = record { is = refl; plain = (refl, refl); unlisted = refl; whole = refl; given = refl };
+  accepts = refl;
+  tests = λ id b. then_term (at_texts false Eq b.tenant tenant) (last_term (at_texts false Eq b.bucket bucket));
+  shows = λ id b. refl;
 }

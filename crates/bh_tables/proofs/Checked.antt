@@ -40,6 +40,10 @@ tenant_checked id t = both_true (natural t.quota) (both_true (natural t.next_ver
 pub bucket_checked : (id : Rattle.std.proofs.Common.ℤ) (b : BucketRow) → b.state ≤ 2 → passes_checks buckets_table (Int id ∷ bucket_columns b) ≡ true
 bucket_checked id b low = both_true (natural b.created) (both_true (natural b.state) (both_true (at_most b.state 2 low) (both_true (maybe_natural b.days) refl)))
 
+-- and stays so under another rule
+pub bucket_checked_still : (id : Rattle.std.proofs.Common.ℤ) (b : BucketRow) (days : Option ℕ) → passes_checks buckets_table (Int id ∷ bucket_columns b) ≡ true → passes_checks buckets_table (Int id ∷ bucket_columns (record b { days = days })) ≡ true
+bucket_checked_still id b days was = both_true (natural b.created) (both_true (natural b.state) (both_true (and_parts _ _ (and_parts _ _ (and_parts _ _ was).1).1).0 (both_true (maybe_natural days) refl)))
+
 pub version_checked : (id : Rattle.std.proofs.Common.ℤ) (v : VersionColumns) → is_marked_right (bare v) ≡ true → passes_checks versions_table (Int id ∷ version_columns v) ≡ true
 version_checked id v right = both_true (natural v.seq) (both_true (natural v.id) (both_true (natural v.marker) (both_true (natural v.stamp) (both_true (natural v.size) (both_true (twice _ (
     at_or true _ _ (at_ints true Eq (pos v.marker) (pos 0)) (at_and true _ _ (at_ints true Eq (pos v.size) (pos 0)) (at_texts true Eq v.checksum [])) ∙ right)) refl)))))

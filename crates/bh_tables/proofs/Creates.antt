@@ -9,8 +9,8 @@ use Rattle.bh_rows.proofs.CreateLemmas.{Makes}
 use Rattle.bh_rows.proofs.CreateErrors.{IsFree}
 use Rattle.bh_rows.specs.Index.{Indexes}
 use Rattle.bh_rows.proofs.IndexErrors.{IsFreeIndex}
-use Rattle.bh_tables.specs.Schema.{Octets, no_schema, host_schema, host_table, tenants_table, keys_table, buckets_table, versions_table, blocks_table, refs_table, uploads_table, parts_table, at, newest, refs_by_block, uploads_by_key}
-use Rattle.bh_tables.specs.Made.{with_host, with_tenants, with_keys, with_buckets, with_versions, with_blocks, with_refs, with_newest, with_refs_by_block, with_uploads, with_parts, with_uploads_by_key}
+use Rattle.bh_tables.specs.Schema.{Octets, no_schema, host_schema, host_table, tenants_table, keys_table, buckets_table, versions_table, blocks_table, refs_table, uploads_table, parts_table, at, newest, refs_by_block, uploads_by_key, uploads_by_moment}
+use Rattle.bh_tables.specs.Made.{with_host, with_tenants, with_keys, with_buckets, with_versions, with_blocks, with_refs, with_newest, with_refs_by_block, with_uploads, with_parts, with_uploads_by_key, with_uploads_by_moment}
 
 abbrev host_text : Octets
 host_text = codes "CREATE TABLE host (id INTEGER PRIMARY KEY CHECK (id = 1), version INTEGER NOT NULL CHECK (version >= 0), latest INTEGER NOT NULL CHECK (latest >= 0), min_part INTEGER NOT NULL CHECK (min_part >= 0), max_body INTEGER NOT NULL CHECK (max_body >= 0)) STRICT"
@@ -144,7 +144,18 @@ pub free_uploads_by_key : IsFreeIndex with_parts uploads_by_key_text (at 16 uplo
 unfolding everything fits_kind is_free_name begins same_name value_cmp Ieee.lt Ieee.is_nan
 free_uploads_by_key = record { text = refl; name = refl; owner = refl; own = refl; free = refl; few = refl; narrow = refl; key_narrow = refl; fit = refl; any = refl }
 
+abbrev uploads_by_moment_text : Octets
+uploads_by_moment_text = codes "CREATE INDEX uploads_by_moment ON uploads (tenant, bucket, begun, upload)"
+
+pub makes_uploads_by_moment : Indexes with_uploads_by_key uploads_by_moment_text 7 (at 16 uploads_table) uploads_by_moment
+unfolding understood everything
+makes_uploads_by_moment = record { means = record { is = refl; plain = (refl, refl); unlisted = refl; whole = refl; given = refl }; text = refl; is_table = refl; defined = refl }
+
+pub free_uploads_by_moment : IsFreeIndex with_uploads_by_key uploads_by_moment_text (at 16 uploads_table) uploads_by_moment
+unfolding everything fits_kind is_free_name begins same_name value_cmp Ieee.lt Ieee.is_nan
+free_uploads_by_moment = record { text = refl; name = refl; owner = refl; own = refl; free = refl; few = refl; narrow = refl; key_narrow = refl; fit = refl; any = refl }
+
 -- these are all
-pub all_made : with_uploads_by_key ≡ host_schema
+pub all_made : with_uploads_by_moment ≡ host_schema
 unfolding everything
 all_made = refl

@@ -18,12 +18,12 @@ use Rattle.sqlite_typed.proofs.TestLemmas.{at_texts, at_ints, last_term, then_te
 use Rattle.bh_rows.specs.Form.{put, typed}
 use Rattle.bh_rows.specs.Keys.{AreUnused}
 use Rattle.bh_rows.specs.Scan.{no_limit, by_rowid}
-use Rattle.bh_rows.specs.Texts.{MayAdd, InsertText, DeleteText, SelectText, SortedText}
+use Rattle.bh_rows.specs.Texts.{MayAdd, InsertText, DeleteText, SelectText, SortedText, SumText}
 use Rattle.bh_rows.proofs.FormLemmas.{any_typed}
 use Rattle.bh_tables.specs.Schema.{Octets, host_schema, parts_table, at}
 use Rattle.bh_tables.specs.Typed.{PartColumns, PartRow, part_form, part_columns, upload_form, number, IsHost, tables_in}
 use Rattle.bh_tables.specs.Bodies.{bare_part, resolved_part}
-use Rattle.bh_tables.specs.Shown.{is_upload, is_part, is_part_of, has_body, by_part, shown_part, shown_body}
+use Rattle.bh_tables.specs.Shown.{is_upload, is_part, is_part_of, has_body, by_part, shown_part, shown_body, is_part_used}
 use Rattle.bh_tables.proofs.ResolvedLemmas.{any_resolved_part}
 use Rattle.bh_tables.proofs.Checked.{part_checked}
 use Rattle.bh_tables.proofs.Terms.{is}
@@ -118,4 +118,17 @@ parts_deleted tenant upload = record {
   means = record { is = refl; plain = (refl, refl); unlisted = refl; whole = refl; given = refl };
   accepts = refl;
   tests = λ id p. then_term (at_texts false Eq p.tenant tenant) (last_term (at_ints false Eq (pos p.upload) (pos upload)));
+}
+
+pub parts_summed : (tenant : Octets) → SumText part_form host_schema 18 (codes "SELECT coalesce(sum(size), 0) FROM parts WHERE tenant = ?1") (Text tenant ∷ []) (λ p. is_part_used tenant (bare_part p)) (λ p. p.size)
+unfolding understood everything
+parts_summed tenant = record {
+  test = is 1 0 ∷ [];
+  argument = col 1 4;
+  names = codes "coalesce(sum(size), 0)" ∷ [];
+  means = record { is = refl; plain = (refl, refl); unlisted = refl; whole = refl; given = refl };
+  low = refl;
+  accepts = refl;
+  tests = λ id p. last_term (at_texts false Eq p.tenant tenant);
+  reads = λ id p. refl;
 }

@@ -1,16 +1,20 @@
 -- What a text over one table does to all of a host's tables: the lemmas on texts, once for every table.
-use Rattle.std.proofs.Common.{◌≡◌, ℕ, List, [], ◌∷◌, ◌++◌, map, filter, Bool, true, None, Ok, Err, Result, OnOk, IfOk, IfErr, IsTrue, Ordering, subst, take}
+use Rattle.std.proofs.Common.{◌≡◌, ℕ, List, [], ◌∷◌, ◌++◌, map, filter, Bool, true, None, Ok, Err, Result, OnOk, IfOk, IfErr, IsTrue, Ordering, subst, take, pos, ◌<◌, ◌≤◌, ◌^◌, ◌⊎◌, inl, inr, sum_by, length, arith, refl, ap}
 use Rattle.sqlite.specs.Order.{Row}
 use Rattle.sqlite.specs.Tree.{Trees}
 use Rattle.sqlite.specs.State.{State, HasCleanDisk, IsLive, Survives, Executes, CommitsBy, CommitsShowing, Shown, FailsToQuery}
 use Rattle.sqlite.specs.declared.error.Error.{Error}
+use Rattle.sqlite.specs.declared.error.Error.TheVariants.{SqliteFailure}
+use Rattle.sqlite.specs.declared.error.ErrorCode.TheVariants.{IntegerOverflow}
+use Rattle.sqlite.specs.declared.types.Value.TheVariants.{Int}
 use Rattle.sqlite_keyed.specs.Lists.{update_where, delete_where, sort_by}
 use Rattle.bh_rows.specs.Form.{typed}
 use Rattle.bh_rows.specs.Keys.{AreUnused}
 use Rattle.bh_rows.specs.Means.{is_trouble, Asks, Changes}
 use Rattle.bh_rows.specs.Scan.{no_limit}
-use Rattle.bh_rows.specs.Texts.{IsReadyAt, Leaves, MayAdd, MayChange, InsertText, UpdateText, DeleteText, SelectText, SortedText}
-use Rattle.bh_rows.proofs.CallLemmas.{clean_before}
+use Rattle.bh_rows.specs.Texts.{IsReadyAt, Leaves, MayAdd, MayChange, InsertText, UpdateText, DeleteText, SelectText, SortedText, SumText}
+use Rattle.bh_rows.proofs.CallLemmas.{clean_before, shown_same, shown_open, query_up, query_undone, shows_outside}
+use Rattle.bh_rows.proofs.TotalLemmas.{summed_fails}
 use Rattle.bh_rows.proofs.TextLemmas as text
 use Rattle.bh_tables.specs.Schema.{host_schema}
 use Rattle.bh_tables.specs.Typed.{IsHost, IsReady, Tables, tables}
@@ -27,6 +31,17 @@ pub record Writes (old new : State) (change : Tables → Tables) (allowed : Erro
 pub record Shows {X : Type 0} (old new : State) (rows_in : X → List Row) (shown : Tables → List Row) (result : Result X Error) : Type 0 where
   pub asks : Asks old new result
   pub rows : HasCleanDisk new → IfOk result (λ x. rows_in x ≡ shown (tables old))
+
+-- an error told as another
+abbrev pub told_as : {X : Type 0} → Error → Result X Error → Result X Error
+told_as other (Ok x) = Ok x
+told_as other (Err e) = Err other
+
+-- how a sum may end, and its one row: as any question, but that it may be too wide
+pub record Sums {X : Type 0} (old new : State) (rows_in : X → List Row) (total : Tables → ℕ) (result : Result X Error) : Type 0 where
+  pub asks : (other : Error) → is_trouble other ≡ true → Asks old new (told_as other result)
+  pub rows : HasCleanDisk new → IfOk result (λ x. rows_in x ≡ (Int (pos (total (tables old))) ∷ []) ∷ [])
+  pub trouble : HasCleanDisk new → old.step_limit ≡ None → IfErr result (λ e. total (tables old) < 2 ^ 63 → is_trouble e ≡ true)
 
 -- an answer's rows, and an error under a premise
 module _ {X : Type 0} (result : Result X Error) where
@@ -113,3 +128,34 @@ module _ {T : Type 0} (p : Place T) (old new : State) (ready : IsReady old) wher
     asks = text.sorted_asks p.form host_schema p.table.tree old new ready_at sql params m view order one_row it rows_in result ok err survives;
     rows = λ clean. subst (λ l. IfOk result (λ x. rows_in x ≡ take 1 (map view (sort_by order (filter m l))))) (p.rows_are old.now) (text.select_sorted p.form host_schema p.table.tree old new ready_at sql params m view order one_row it rows_in result ok survives clean);
   }
+
+  -- the sum of the rows that pass
+  pub summed : {X : Type 0} (rows_in : X → List Row) (result : Result X Error) (sql : List ℕ) (params : Row) (m : T → Bool) (size : T → ℕ) → SumText p.form host_schema p.table.tree sql params m size
+      → (HasCleanDisk new → IfOk result (λ x. Shown sql params old new (rows_in x))) → (HasCleanDisk new → IfErr result (FailsToQuery sql params old new)) → Survives old new (CommitsShowing sql params old)
+      → Sums old new rows_in (λ t. sum_by size (filter m (p.rows t))) result
+  summed {X} rows_in result sql params m size it ok err survives = record {
+    asks = λ other bad. ends other bad result ok err;
+    rows = λ clean. subst (λ l. IfOk result (λ x. rows_in x ≡ (Int (pos (sum_by size (filter m l))) ∷ []) ∷ [])) (p.rows_are old.now) (text.sum_rows p.form host_schema p.table.tree old new ready_at sql params m size it rows_in result ok survives clean);
+    trouble = λ clean unlimited. narrow result (summed_fails p.form sql host_schema p.table.tree it.test it.argument it.names (length params) it.means it.low params m it.tests size it.reads old new ready_at refl it.accepts result err survives clean unlimited);
+  }
+    where
+      ends : (other : Error) → is_trouble other ≡ true → (r : Result X Error) → (HasCleanDisk new → IfOk r (λ x. Shown sql params old new (rows_in x))) → (HasCleanDisk new → IfErr r (FailsToQuery sql params old new)) → Asks old new (told_as other r)
+      ends other bad (Ok x) ok err = record {
+        same = λ clean. shown_same sql params old new host_schema (ready_at (clean_before old new _ survives clean) (shown_open sql params old new _ (ok clean))).0 _ (length params) it.means (rows_in x) (ok clean);
+        undone = λ _. tt;
+        trouble = λ _ _. tt;
+        up = query_up sql params old new rows_in (Ok x) ok err;
+        survives = shows_outside sql params old new survives;
+      }
+      ends other bad (Err e) ok err = record {
+        same = λ _. tt;
+        undone = λ clean. query_undone sql params old new e (err clean);
+        trouble = λ _ _. bad;
+        up = query_up sql params old new rows_in (Err e) ok err;
+        survives = shows_outside sql params old new survives;
+      }
+
+      narrow : (r : Result X Error) → IfErr r (λ e. (is_trouble e ≡ true) ⊎ ((e ≡ SqliteFailure IntegerOverflow) × (2 ^ 63 ≤ sum_by size (filter m stored)))) → IfErr r (λ e. sum_by size (filter m (p.rows (tables old))) < 2 ^ 63 → is_trouble e ≡ true)
+      narrow (Ok x) h = tt
+      narrow (Err e) (inl bad) = λ _. bad
+      narrow (Err e) (inr wide) = λ small. let same = ap (λ l. sum_by size (filter m l)) (p.rows_are old.now) in let big = wide.1 in absurd (omega (arith, big, small, same))

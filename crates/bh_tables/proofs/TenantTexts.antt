@@ -95,3 +95,18 @@ numbers_set tenant version entry = record {
 pub numbers_may : (tenant : Octets) (version entry : ℕ) → MayChange tenant_form host_schema (at 1 tenants_table) (is_tenant tenant) (λ t. record t { next_version = version; next_entry = entry })
 unfolding everything
 numbers_may tenant version entry = record { suits = λ id t found was. tenant_suits id (record t { next_version = version; next_entry = entry }); unwatched = λ id t found. refl }
+
+pub quota_set : (tenant : Octets) (n : ℕ) → UpdateText tenant_form host_schema 1 (at 1 tenants_table) (codes "UPDATE tenants SET quota = ?2 WHERE tenant = ?1") (Text tenant ∷ number n ∷ []) (is_tenant tenant) (λ t. record t { quota = n })
+unfolding understood everything
+quota_set tenant n = record {
+  test = is 1 0 ∷ [];
+  show = col 1 0 ∷ col 1 0 ∷ col 1 1 ∷ col 0 1 ∷ col 1 3 ∷ col 1 4 ∷ col 1 5 ∷ [];
+  means = record { is = refl; plain = (refl, refl); unlisted = refl; whole = refl; given = refl };
+  accepts = refl;
+  tests = λ id t. last_term (at_texts false Eq t.tenant tenant);
+  shows = λ id t. refl;
+}
+
+pub quota_may : (tenant : Octets) (n : ℕ) → MayChange tenant_form host_schema (at 1 tenants_table) (is_tenant tenant) (λ t. record t { quota = n })
+unfolding everything
+quota_may tenant n = record { suits = λ id t found was. tenant_suits id (record t { quota = n }); unwatched = λ id t found. refl }

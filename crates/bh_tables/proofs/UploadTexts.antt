@@ -9,8 +9,9 @@ use Rattle.sqlite.specs.declared.types.Value.TheVariants.{Null, Text}
 use Rattle.sqlite.specs.Edit.{next_rowid}
 use Rattle.sqlite.specs.Effect.{Database}
 use Rattle.sqlite.specs.Listing.{understood}
-use Rattle.sqlite.specs.Term.{lit, col}
-use Rattle.sqlite_sql.specs.declared.ops.CompareOp.TheVariants.{Eq}
+use Rattle.sqlite.specs.Term.{lit, col, op2}
+use Rattle.sqlite_sql.specs.declared.ops.BinaryOp.TheVariants.{Compare}
+use Rattle.sqlite_sql.specs.declared.ops.CompareOp.TheVariants.{Eq, Lt}
 use Rattle.sqlite_value.specs.Keys.{plain, ascending, first_key}
 use Rattle.sqlite_value.proofs.OrderLemmas.{value_cmp-Int, value_cmp-Blob}
 use Rattle.sqlite_schema.specs.Rules.{agree}
@@ -28,7 +29,7 @@ use Rattle.bh_rows.proofs.ScanLemmas.{then_assoc}
 use Rattle.bh_tables.specs.Schema.{Octets, host_schema, tenants_table, uploads_table, at}
 use Rattle.bh_tables.specs.Typed.{UploadRow, PartColumns, bucket_form, tenant_form, upload_form, upload_columns, part_form, number, IsHost, tables_in}
 use Rattle.bh_tables.specs.Bodies.{bare_part}
-use Rattle.bh_tables.specs.Shown.{is_tenant, is_bucket, is_upload, is_upload_in, is_part_of, by_key, shown_upload, shown_number}
+use Rattle.bh_tables.specs.Shown.{is_tenant, is_bucket, is_upload, is_upload_in, is_part_of, by_key, shown_upload, shown_number, is_begun_before, by_begun}
 use Rattle.bh_tables.proofs.Checked.{upload_checked, tenant_checked}
 use Rattle.bh_tables.proofs.PartTexts.{any_in_parts}
 use Rattle.bh_tables.proofs.Places.{Goes, uploads}
@@ -101,6 +102,22 @@ bucket_upload_shown tenant bucket = record {
   tests = λ id u. then_term (at_texts false Eq u.tenant tenant) (last_term (at_texts false Eq u.bucket bucket));
   shows = λ id u. refl;
   orders = λ a b. then_key (value_cmp-Blob a.1.okey b.1.okey) (then_key (value_cmp-Int (pos a.1.upload) (pos b.1.upload)) (last_key (value_cmp-Int a.0 b.0))) ∙ sym (then_assoc (bytes_cmp a.1.okey b.1.okey) (int_cmp (pos a.1.upload) (pos b.1.upload)) (int_cmp a.0 b.0));
+}
+
+pub stale_listed : (tenant bucket : Octets) (moment : ℕ)
+    → SortedText upload_form host_schema 16 (codes "SELECT upload FROM uploads WHERE tenant = ?1 AND bucket = ?2 AND begun < ?3 ORDER BY begun, upload, rowid") (Text tenant ∷ Text bucket ∷ number moment ∷ []) (is_begun_before tenant bucket moment) shown_number by_begun no_limit
+unfolding understood everything
+stale_listed tenant bucket moment = record {
+  test = is 1 0 ∷ is 3 1 ∷ op2 (Compare Lt Binary) (col 1 5) (col 0 2) ∷ [];
+  show = col 1 2 ∷ [];
+  keys = (col 1 5, ascending Binary) ∷ (col 1 2, ascending Binary) ∷ by_rowid;
+  names = codes "upload" ∷ [];
+  means = record { is = refl; plain = (refl, refl); unlisted = refl; whole = refl; given = refl };
+  low = refl;
+  accepts = refl;
+  tests = λ id u. then_term (at_texts false Eq u.tenant tenant) (then_term (at_texts false Eq u.bucket bucket) (last_term (at_ints false Lt (pos u.begun) (pos moment))));
+  shows = λ id u. refl;
+  orders = λ a b. then_key (value_cmp-Int (pos a.1.begun) (pos b.1.begun)) (then_key (value_cmp-Int (pos a.1.upload) (pos b.1.upload)) (last_key (value_cmp-Int a.0 b.0))) ∙ sym (then_assoc (int_cmp (pos a.1.begun) (pos b.1.begun)) (int_cmp (pos a.1.upload) (pos b.1.upload)) (int_cmp a.0 b.0));
 }
 
 pub upload_inserted : (u : UploadRow) → InsertText upload_form host_schema 7 (at 16 uploads_table) (codes "INSERT INTO uploads (tenant, upload, bucket, okey, begun) VALUES (?1, ?2, ?3, ?4, ?5)") (upload_columns u) u

@@ -19,13 +19,13 @@ use Rattle.sqlite_typed.specs.Tests.{bytes_cmp}
 use Rattle.bh_rows.specs.Form.{put, typed}
 use Rattle.bh_rows.specs.Keys.{AreUnused}
 use Rattle.bh_rows.specs.Scan.{no_limit, by_rowid}
-use Rattle.bh_rows.specs.Texts.{MayAdd, InsertText, DeleteText, SelectText, SortedText}
+use Rattle.bh_rows.specs.Texts.{MayAdd, InsertText, DeleteText, SelectText, SortedText, SumText}
 use Rattle.bh_rows.proofs.FormLemmas.{any_typed}
 use Rattle.bh_rows.proofs.ScanLemmas.{then_assoc}
 use Rattle.bh_tables.specs.Schema.{Octets, host_schema, versions_table, at}
 use Rattle.bh_tables.specs.Typed.{VersionColumns, VersionRow, version_form, bucket_form, number, IsHost, tables_in}
 use Rattle.bh_tables.specs.Bodies.{bare, resolved}
-use Rattle.bh_tables.specs.Shown.{is_version, is_at, is_in_bucket, is_entry, is_bucket, is_marked_right, newer, by_id, shown_head, shown_seq}
+use Rattle.bh_tables.specs.Shown.{is_version, is_at, is_in_bucket, is_entry, is_bucket, is_marked_right, newer, by_id, shown_head, shown_seq, is_version_of}
 use Rattle.bh_tables.proofs.ResolvedLemmas.{any_resolved}
 use Rattle.bh_tables.proofs.Checked.{version_checked}
 use Rattle.bh_tables.proofs.Terms.{is, one_row}
@@ -145,4 +145,17 @@ version_deleted tenant bucket okey version = record {
   means = record { is = refl; plain = (refl, refl); unlisted = refl; whole = refl; given = refl };
   accepts = refl;
   tests = λ id v. then_term (at_texts false Eq v.tenant tenant) (then_term (at_texts false Eq v.bucket bucket) (then_term (at_blobs false Eq v.okey okey) (last_term (at_ints false Eq (pos v.id) (pos version)))));
+}
+
+pub versions_summed : (tenant : Octets) → SumText version_form host_schema 7 (codes "SELECT coalesce(sum(size), 0) FROM versions WHERE tenant = ?1") (Text tenant ∷ []) (λ v. is_version_of tenant (bare v)) (λ v. v.size)
+unfolding understood everything
+versions_summed tenant = record {
+  test = is 1 0 ∷ [];
+  argument = col 1 8;
+  names = codes "coalesce(sum(size), 0)" ∷ [];
+  means = record { is = refl; plain = (refl, refl); unlisted = refl; whole = refl; given = refl };
+  low = refl;
+  accepts = refl;
+  tests = λ id v. last_term (at_texts false Eq v.tenant tenant);
+  reads = λ id v. refl;
 }

@@ -1,7 +1,7 @@
 -- The schema as its tables and indexes are made, one after another.
 use Rattle.sqlite.specs.Schema.{Schema}
 use Rattle.sqlite.specs.Change.{created, indexed}
-use Rattle.bh_tables.specs.Schema.{no_schema, host_table, tenants_table, keys_table, buckets_table, versions_table, blocks_table, refs_table, uploads_table, parts_table, at, newest, refs_by_block, uploads_by_key}
+use Rattle.bh_tables.specs.Schema.{no_schema, host_table, tenants_table, keys_table, buckets_table, versions_table, blocks_table, refs_table, uploads_table, parts_table, at, newest, refs_by_block, uploads_by_key, uploads_by_moment}
 
 abbrev pub with_host : Schema
 with_host = created no_schema host_table
@@ -38,3 +38,6 @@ with_parts = created with_uploads parts_table
 
 abbrev pub with_uploads_by_key : Schema
 with_uploads_by_key = indexed with_parts (at 16 uploads_table) uploads_by_key
+
+abbrev pub with_uploads_by_moment : Schema
+with_uploads_by_moment = indexed with_uploads_by_key (at 16 uploads_table) uploads_by_moment

@@ -128,6 +128,10 @@ refs_by_block = record { name = codes "refs_by_block"; tree = 0; table = 12; col
 abbrev pub uploads_by_key : Index
 uploads_by_key = record { name = codes "uploads_by_key"; tree = 0; table = 16; columns = 1 ∷ 3 ∷ 4 ∷ 2 ∷ []; order = record { digits = 0 }; is_unique = false }
 
+-- uploads by bucket, moment of beginning and number
+abbrev pub uploads_by_moment : Index
+uploads_by_moment = record { name = codes "uploads_by_moment"; tree = 0; table = 16; columns = 1 ∷ 3 ∷ 5 ∷ 2 ∷ []; order = record { digits = 0 }; is_unique = false }
+
 abbrev pub no_schema : Schema
 no_schema = record { tables = []; indexes = []; views = [] }
 
@@ -140,6 +144,6 @@ host_schema = record {
       ∷ auto (codes "sqlite_autoindex_versions_2") 9 7 (1 ∷ 3 ∷ 4 ∷ 5 ∷ []) ∷ auto (codes "sqlite_autoindex_blocks_1") 11 10 (1 ∷ 2 ∷ [])
       ∷ auto (codes "sqlite_autoindex_refs_1") 13 12 (1 ∷ 2 ∷ 3 ∷ []) ∷ record newest { tree = 14 } ∷ record refs_by_block { tree = 15 }
       ∷ auto (codes "sqlite_autoindex_uploads_1") 17 16 (1 ∷ 2 ∷ []) ∷ auto (codes "sqlite_autoindex_parts_1") 19 18 (1 ∷ 2 ∷ 3 ∷ [])
-      ∷ auto (codes "sqlite_autoindex_parts_2") 20 18 (1 ∷ 7 ∷ []) ∷ record uploads_by_key { tree = 21 } ∷ [];
+      ∷ auto (codes "sqlite_autoindex_parts_2") 20 18 (1 ∷ 7 ∷ []) ∷ record uploads_by_key { tree = 21 } ∷ record uploads_by_moment { tree = 22 } ∷ [];
   views = [];
 }

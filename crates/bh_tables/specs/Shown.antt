@@ -1,5 +1,5 @@
 -- Which rows a text finds, and what it shows of each.
-use Rattle.std.specs.Prelude.{ℕ, Bool, ◌&&◌, ◌||◌, not, pos, List, [], ◌∷◌, filter, take}
+use Rattle.std.specs.Prelude.{ℕ, Bool, ◌&&◌, ◌||◌, not, pos, List, [], ◌∷◌, filter, take, is_some, int_lt}
 use Rattle.std.specs.List.{list_any}
 use Rattle.std.specs.Ordering.{int_eq, int_cmp, ordering_then}
 use Rattle.std.specs.declared.cmp.Ordering.{Ordering}
@@ -119,6 +119,26 @@ has_body q p = same_name (part_name p) q
 abbrev pub by_part : PartRow → PartRow → Ordering
 by_part a b = int_cmp (pos a.part) (pos b.part)
 
+-- one of this bucket that was begun before a moment
+abbrev pub is_begun_before : Octets → Octets → ℕ → UploadRow → Bool
+is_begun_before tenant bucket moment u = bytes_eq u.tenant tenant && (bytes_eq u.bucket bucket && int_lt (pos u.begun) (pos moment))
+
+-- by moment of beginning and number, the order of the index on moments
+abbrev pub by_begun : UploadRow → UploadRow → Ordering
+by_begun a b = ordering_then (int_cmp (pos a.begun) (pos b.begun)) (int_cmp (pos a.upload) (pos b.upload))
+
+-- a bucket of a tenant with a rule for uploads that are left unfinished
+abbrev pub is_ruled : Octets → BucketRow → Bool
+is_ruled tenant b = bytes_eq b.tenant tenant && is_some b.days
+
+-- ---- the rows of a tenant, whose sizes are added up
+
+abbrev pub is_version_of : Octets → VersionRow → Bool
+is_version_of tenant v = bytes_eq v.tenant tenant
+
+abbrev pub is_part_used : Octets → PartRow → Bool
+is_part_used tenant p = bytes_eq p.tenant tenant
+
 -- ---- the rows of a listing
 
 -- the buckets of a tenant
@@ -146,6 +166,10 @@ shown_bucket b = number b.created ∷ number b.state ∷ or_null number b.days �
 -- in a listing
 abbrev pub shown_entry : BucketRow → Row
 shown_entry b = Text b.bucket ∷ number b.created ∷ []
+
+-- a bucket's rule
+abbrev pub shown_rule : BucketRow → Row
+shown_rule b = Text b.bucket ∷ or_null number b.days ∷ []
 
 -- a version without its bytes
 abbrev pub shown_head : VersionRow → Row

@@ -2,7 +2,7 @@
 use Rattle.std.proofs.Common.{◌≡◌, ℕ, ◌≤◌, true, false, is_ok, true≢false, Option, Some, None, option_map, Result, Ok, Err, refl, sym, ap, ◌∙◌, subst}
 use Rattle.std.specs.FinMap.{get}
 use Rattle.std.specs.Result.{result_map_both}
-use Rattle.bh_types.specs.declared.bucket_state.BucketState.{BucketState}
+use Rattle.bh_types.specs.Moments.{abort_moment}
 use Rattle.bh_types.specs.declared.refusal.Refusal.{Refusal}
 use Rattle.bh_types.specs.declared.refusal.Refusal.TheVariants.{CounterExhausted}
 use Rattle.bh_model.specs.Counting.{can_give}
@@ -23,34 +23,27 @@ use Rattle.sqlite_keyed.proofs.ListLemmas.{all-filter}
 use Rattle.bh_storage.specs.Calls.{GivesStep, Carries, Decides}
 use Rattle.bh_storage.specs.declared.error.StepError.{StepError}
 use Rattle.bh_storage.specs.declared.error.StepError.TheVariants.{Refused, Failed}
-use Rattle.bh_objects.specs.Found.{mode_in, IsKeyText}
-use Rattle.bh_objects.proofs.Putting.{HasBucket, has_bucket}
-use Rattle.bh_uploads.specs.Found.{next_upload_in}
+use Rattle.bh_objects.specs.Found.{IsKeyText}
+use Rattle.bh_uploads.specs.Found.{rule_in, next_upload_in}
+use Rattle.bh_uploads.proofs.Rules.{HasRule, has_rule, no_bucket}
 use Rattle.bh_uploads.specs.Writes.{upload_written}
 use Rattle.bh_uploads.proofs.Uploads.{has_upload_number, no_upload_number}
 
--- no bucket has a rule
-pub no_rule : (tables : Tables) (t : Octets) (s : State) → IsSound tables → view tables t ≡ Some s → (b : Octets) (B : Bucket) → get s.buckets b ≡ Some B → B.days ≡ None
-no_rule tables t s sound is b B at =
-    let row = bucket_row (rows_of t tables) b B (there_before tables tables t s sound is b B at) in
-    sym (ap (λ (x : Bucket). x.days) row.2) ∙ (all_first _ _ row.0 row.1 (all-filter _ _ _ (sound.tenants t).buckets.each)).days
-
 -- what is given, and what stays of the tables
-abbrev pub Begins : Tables → Tables → Octets → Octets → Octets → ℕ → ℕ → Type 0
-Begins old new t b k at n = GivesStep t (create_upload at b k) (Begun b k (record { number = n }) None) old new × IsSound new × (limits_in new ≡ limits_in old)
+abbrev pub Begins : Tables → Tables → Octets → Octets → Octets → ℕ → Option ℕ → ℕ → Type 0
+Begins old new t b k at days n = GivesStep t (create_upload at b k) (Begun b k (record { number = n }) (option_map (abort_moment at) days)) old new × IsSound new × (limits_in new ≡ limits_in old)
 
-module _ (old new : Tables) (t b k : Octets) (at : ℕ) (sound : IsSound old) (early : at ≤ latest_of old) (key : IsKeyText k) (mode : BucketState) (found : mode_in b (view old t) ≡ Ok mode) where
-  goes : (h : HasBucket b (view old t) mode) (n : ℕ) → h.state.next_upload ≡ n → can_give h.state.next_upload ≡ true → new ≡ upload_written t b k at n old → Begins old new t b k at n
+module _ (old new : Tables) (t b k : Octets) (at : ℕ) (sound : IsSound old) (early : at ≤ latest_of old) (key : IsKeyText k) (days : Option ℕ) (found : rule_in b (view old t) ≡ Ok days) where
+  goes : (h : HasRule b (view old t) days) (n : ℕ) → h.state.next_upload ≡ n → can_give h.state.next_upload ≡ true → new ≡ upload_written t b k at n old → Begins old new t b k at days n
   goes h n number room e =
       let s = h.state in
-      let days = no_rule old t s sound h.added b h.bucket h.there in
       let change = upload_begun old new t s sound h.added b h.bucket h.there k at key.key key.valid early room (e ∙ ap (λ m. upload_written t b k at m old) (sym number)) in
-      let gives : create_upload at b k (view old t) ≡ Ok (Begun b k (record { number = s.next_upload }) None, view new t) = rw (h.added, change.shown, h.there, room, days) refl in
-      (record { gives = gives ∙ ap (λ m. Ok (Begun b k (record { number = m }) None, view new t)) number; others = change.others; latest = change.latest; shared = shared_same old new (ap (λ (x : Tables). x.blocks) e) }, change.sound, change.limits)
+      let gives : create_upload at b k (view old t) ≡ Ok (Begun b k (record { number = s.next_upload }) (option_map (abort_moment at) days), view new t) = rw (h.added, change.shown, h.there, room, h.its) refl in
+      (record { gives = gives ∙ ap (λ m. Ok (Begun b k (record { number = m }) (option_map (abort_moment at) days), view new t)) number; others = change.others; latest = change.latest; shared = shared_same old new (ap (λ (x : Tables). x.blocks) e) }, change.sound, change.limits)
 
-  pub begins : (n : ℕ) → next_upload_in (view old t) ≡ Ok n → new ≡ upload_written t b k at n old → Begins old new t b k at n
+  pub begins : (n : ℕ) → next_upload_in (view old t) ≡ Ok n → new ≡ upload_written t b k at n old → Begins old new t b k at days n
   begins n read e =
-      let h = has_bucket b (view old t) mode found in
+      let h = has_rule b (view old t) days found in
       let number = has_upload_number (view old t) h.state n h.added read in
       goes h n number.1 number.0 e
 
@@ -60,29 +53,17 @@ begun_bodies old new t b k at n e bodies = same_bodies old new (ap (λ (x : Tabl
 
 -- ---- refusals
 
--- the bucket is not there
-pub no_bucket : (b : Octets) (v : Option State) (x : Refusal) → mode_in b v ≡ Err x → tenant_bucket b v ≡ Err x
-no_bucket b v x e = go (tenant_bucket b v) e
-  where
-    fault : Result BucketState Refusal → Refusal
-    fault (Ok mode) = x
-    fault (Err y) = y
-
-    go : (r : Result (State × Bucket) Refusal) → result_map_both (λ (f : State × Bucket). f.1.mode) (λ refusal. refusal) r ≡ Err x → r ≡ Err x
-    go (Ok f) e = absurd (true≢false (ap is_ok e))
-    go (Err y) e = ap (λ r. Err (fault r)) e
-
 module _ {Y : Type 0} (told : Y → Answer) (at : ℕ) (t b k : Octets) (old new : Tables) where
-  pub bucket_failed : {X : Type 0} (shows : X → BucketState) (error : StepError Refusal) → Decides shows (mode_in b (view old t)) old new (Err error) → Carries told t (create_upload at b k) old new (Err error)
+  pub bucket_failed : {X : Type 0} (shows : X → Option ℕ) (error : StepError Refusal) → Decides shows (rule_in b (view old t)) old new (Err error) → Carries told t (create_upload at b k) old new (Err error)
   bucket_failed shows (Refused x) d = (rw (no_bucket b (view old t) x d.0) refl, d.1)
   bucket_failed shows (Failed trouble) d = tt
 
   -- no number is left
-  pub number_failed : {X : Type 0} (shows : X → ℕ) (mode : BucketState) → mode_in b (view old t) ≡ Ok mode → (middle : Tables) → middle ≡ old → (error : StepError Refusal)
+  pub number_failed : {X : Type 0} (shows : X → ℕ) (days : Option ℕ) → rule_in b (view old t) ≡ Ok days → (middle : Tables) → middle ≡ old → (error : StepError Refusal)
       → Decides shows (next_upload_in (view middle t)) middle new (Err error) → Carries told t (create_upload at b k) old new (Err error)
-  number_failed shows mode found middle same (Refused x) d =
-      let h = has_bucket b (view old t) mode found in
+  number_failed shows days found middle same (Refused x) d =
+      let h = has_rule b (view old t) days found in
       let none = no_upload_number (view old t) h.state x h.added (ap (λ (y : Tables). next_upload_in (view y t)) (sym same) ∙ d.0) in
       let refused : create_upload at b k (view old t) ≡ Err CounterExhausted = rw (h.added, h.there, none.0) refl in
       (refused ∙ ap (λ r. Err r) none.1, d.1 ∙ same)
-  number_failed shows mode found middle same (Failed trouble) d = tt
+  number_failed shows days found middle same (Failed trouble) d = tt

@@ -73,7 +73,7 @@ module _ (old : Tables) (t : Octets) (n : ℕ) (sound : IsSound old) where
       (all-filter _ (λ (p : PartRow). same_number p.upload n) (rows_of t old).parts (taken_unnamed old t sound (is_part_of t n))))
 
   module _ (bodies : List ℕ) (are : bodies ≡ map (λ (p : PartRow). p.body) (listed_parts t n old)) where
-    bodies_unnamed : AllByRecursion (λ (body : ℕ). IsUnnamed (t, body) (without_parts t n old)) bodies
+    pub bodies_unnamed : AllByRecursion (λ (body : ℕ). IsUnnamed (t, body) (without_parts t n old)) bodies
     bodies_unnamed = subst (AllByRecursion (λ (body : ℕ). IsUnnamed (t, body) (without_parts t n old))) (sym are)
         (all_map (λ (body : ℕ). IsUnnamed (t, body) (without_parts t n old)) (λ (p : PartRow). p.body) (listed_parts t n old) (all-sort_by by_part _ gone unnamed_then))
 
@@ -84,7 +84,7 @@ module _ (old : Tables) (t : Octets) (n : ℕ) (sound : IsSound old) where
         let listed = all_unmap (λ (body : ℕ). same_name q (t, body) ≡ false) (λ (p : PartRow). p.body) (listed_parts t n old) (subst (AllByRecursion (λ (body : ℕ). same_name q (t, body) ≡ false)) are each) in
         each_unnamed part_name q gone (all_both _ _ _ (λ (p : PartRow) other its. ap (λ z. same_name q (z, p.body)) its ∙ other) gone (all-unsorted by_part (λ (p : PartRow). same_name q (t, p.body) ≡ false) gone listed) its_tenant)
 
-    taken_whole : (more : List Name) → AreWhole more old → AreWhole (names t bodies ++ more) (without_parts t n old)
+    pub taken_whole : (more : List Name) → AreWhole more old → AreWhole (names t bodies ++ more) (without_parts t n old)
     taken_whole more w =
         let x = without_parts t n old in
         let taken = parts_taken old (is_part_of t n) more w in

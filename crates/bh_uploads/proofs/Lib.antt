@@ -2,8 +2,11 @@ pub mod Taking
 pub mod DigestBytes
 pub mod Steps
 pub mod Uploads
+pub mod Rules
 pub mod Beginning
 pub mod Closing
+pub mod Gone
+pub mod Staleness
 pub mod PartSteps
 pub mod Chosen
 pub mod Planning

@@ -1,5 +1,5 @@
 -- What stands at places of a list, one place after another.
-use Rattle.std.proofs.Common.{◌≡◌, ℕ, zero, suc, ◌+◌, ◌<◌, add-one, arith, List, [], ◌∷◌, ◌++◌, length, take, drop, get_or, map, slice_get, Some, refl, sym, ap, ◌∙◌, sum_by}
+use Rattle.std.proofs.Common.{◌≡◌, ℕ, zero, suc, ◌+◌, ◌<◌, add-one, arith, List, [], ◌∷◌, ◌++◌, length, take, drop, get_or, map, slice_get, Some, refl, sym, ap, ◌∙◌, sum_by, flat_map, append_assoc, append-nil}
 use Rattle.std.specs.List.{cons_option}
 use Rattle.std.proofs.lemmas.List.Elements.{filter_map-append}
 use Rattle.std.proofs.lemmas.List.Sums.{sum_by-append, sum_by-cons}
@@ -53,3 +53,34 @@ drop_last [] zero high = refl
 drop_last [] (suc i) high = refl
 drop_last (x ∷ xs) zero high = absurd (high (omega arith))
 drop_last (x ∷ xs) (suc i) high = drop_last xs i (λ low. high (omega (arith, low)))
+
+-- the item at a place, and those after it
+drop_here : {A : Type 0} (xs : List A) (i : ℕ) (x d : A) → i < length xs → x ≡ get_or xs i d → drop i xs ≡ x ∷ drop (i + 1) xs
+drop_here {A} xs i x d low here = go xs i low here ∙ ap (λ n. x ∷ drop n xs) (sym (add-one i))
+  where
+    go : (xs : List A) (i : ℕ) → i < length xs → x ≡ get_or xs i d → drop i xs ≡ x ∷ drop (suc i) xs
+    go [] i low here = absurd (omega (arith, low))
+    go (y ∷ ys) zero low here = ap (λ z. z ∷ ys) (sym here)
+    go (y ∷ ys) (suc i) low here = go ys i (omega (arith, low)) here
+
+drop_past : {A : Type 0} (xs : List A) (i : ℕ) → (i < length xs → ⊥) → drop i xs ≡ []
+drop_past [] zero high = refl
+drop_past [] (suc i) high = refl
+drop_past (x ∷ xs) zero high = absurd (high (omega arith))
+drop_past (x ∷ xs) (suc i) high = drop_past xs i (λ low. high (omega (arith, low)))
+
+-- what several items make, one after the other
+module _ {A B : Type 0} (f : A → List B) (xs : List A) where
+  pub flat_next : (i : ℕ) (x d : A) (so_far found all : List B) → i < length xs → x ≡ get_or xs i d → found ≡ f x → so_far ++ flat_map f (drop i xs) ≡ all → (so_far ++ found) ++ flat_map f (drop (i + 1) xs) ≡ all
+  flat_next i x d so_far found all low here is sum =
+      append_assoc so_far found (flat_map f (drop (i + 1) xs))
+      ∙ ap (λ l. so_far ++ (l ++ flat_map f (drop (i + 1) xs))) is
+      ∙ ap (λ l. so_far ++ flat_map f l) (sym (drop_here xs i x d low here))
+      ∙ sum
+
+  pub flat_all : (i : ℕ) (so_far all : List B) → (i < length xs → ⊥) → so_far ++ flat_map f (drop i xs) ≡ all → so_far ≡ all
+  flat_all i so_far all high sum = sym (append-nil so_far) ∙ ap (λ l. so_far ++ flat_map f l) (sym (drop_past xs i high)) ∙ sum
+
+pub flat_named : {A B C : Type 0} (g : B → List C) (f : A → B) (xs : List A) → flat_map g (map f xs) ≡ flat_map (λ x. g (f x)) xs
+flat_named g f [] = refl
+flat_named g f (x ∷ xs) = ap (λ l. g (f x) ++ l) (flat_named g f xs)

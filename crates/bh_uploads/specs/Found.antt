@@ -11,6 +11,7 @@ use Rattle.bh_types.specs.declared.refusal.Refusal.TheVariants.{NoSuchUpload, Co
 use Rattle.bh_model.specs.Counting.{can_give}
 use Rattle.bh_model.specs.Parts.{Naming, completed}
 use Rattle.bh_model.specs.State.{Octets, Content, Content.Body, State}
+use Rattle.bh_model.specs.Operations.{tenant_bucket}
 use Rattle.bh_model.specs.Uploads.{find_upload}
 use Rattle.bh_tables.specs.Typed.{Tables}
 use Rattle.bh_tables.specs.Bodies.{whole}
@@ -18,6 +19,10 @@ use Rattle.bh_tables.specs.Shown.{is_upload}
 use Rattle.bh_objects.specs.Found.{counts_in}
 use Rattle.bh_uploads.specs.Rows.{SeenUpload, seen_upload}
 use Rattle.bh_uploads.specs.declared.joining.Joined.{Joined}
+
+-- the rule of a tenant's bucket, if it has one
+abbrev pub rule_in : Octets → Option State → Result (Option ℕ) Refusal
+rule_in name s = result_map_both (λ f. f.1.days) (λ refusal. refusal) (tenant_bucket name s)
 
 -- the number that a counter gives
 abbrev pub given : ℕ → Result ℕ Refusal

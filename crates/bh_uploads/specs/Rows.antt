@@ -6,7 +6,7 @@ use Rattle.sqlite_keyed.specs.Lists.{sort_by}
 use Rattle.bh_core.specs.declared.parts.PartRow as core
 use Rattle.bh_tables.specs.Schema.{Octets}
 use Rattle.bh_tables.specs.Typed.{UploadRow, PartColumns, PartRow, Tables}
-use Rattle.bh_tables.specs.Shown.{is_bucket, is_upload, is_part, is_part_of, has_body, by_part}
+use Rattle.bh_tables.specs.Shown.{is_bucket, is_upload, is_part, is_part_of, has_body, by_part, is_begun_before, by_begun}
 use Rattle.bh_uploads.specs.declared.rows.uploads.UploadHead.{UploadHead}
 use Rattle.bh_uploads.specs.declared.rows.uploads.UploadRecord.{UploadRecord}
 use Rattle.bh_uploads.specs.declared.rows.parts.PartRecord.{PartRecord}
@@ -26,6 +26,10 @@ upload_seen u = record { bucket = string_bytes u.bucket; key = u.key.items; begu
 
 abbrev pub stored_upload : UploadRecord → UploadRow
 stored_upload u = record { tenant = u.tenant.now; upload = u.upload; bucket = u.bucket.now; okey = u.okey.now; begun = u.begun }
+
+-- the uploads of a bucket that were begun before a moment, the first begun first
+abbrev pub begun_before : Octets → Octets → ℕ → List UploadRow → List UploadRow
+begun_before tenant bucket moment uploads = sort_by by_begun (filter (is_begun_before tenant bucket moment) uploads)
 
 pub record IsNewUpload (tables : Tables) (tenant bucket : Octets) (upload : ℕ) : Type 0 where
   pub free : list_any (is_upload tenant upload) tables.uploads ≡ false

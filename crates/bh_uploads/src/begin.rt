@@ -1,28 +1,30 @@
-ghost use Rattle.std.specs.Prelude.{◌≡◌, ◌≤◌, ◌<◌, ◌^◌, None, IfOk, OnOk};
+ghost use Rattle.std.specs.Prelude.{◌≡◌, ◌≤◌, ◌<◌, ◌^◌, IfOk, OnOk, option_map};
+ghost use Rattle.bh_types.specs.Moments as spec;
 ghost use Rattle.bh_model.specs.Operations.{Begun};
 ghost use Rattle.bh_model.specs.Uploads as machine;
 ghost use Rattle.bh_storage.specs.Answers.{begun_answer};
 ghost use Rattle.bh_storage.specs.Calls.{Unless, Carries};
+ghost use Rattle.bh_view.specs.Sound.{AreDays};
 ghost use Rattle.bh_view.specs.View.{latest_of};
 ghost use Rattle.bh_schema.specs.Connections.{IsClean, tables, InTransaction, StaysWithin, StaysOpen, Becomes};
 ghost use Rattle.bh_schema.specs.Working.{Works, StillWorks};
 ghost use Rattle.bh_objects.specs.Found.{IsKeyText};
 ghost use Rattle.bh_uploads.specs.Writes.{upload_written};
 
+use crate::lifecycle::bucket_rule;
 use crate::reads::next_upload;
 use crate::rows::uploads::{UploadRecord, insert_upload, set_next_upload};
-use bh_objects::reads::bucket_state;
 use bh_schema::trouble::or_trouble;
 use bh_storage::answer::BegunUpload;
 use bh_storage::error::{StepError, Trouble};
 use bh_types::bucket::BucketName;
 use bh_types::id::UploadId;
 use bh_types::key::ObjectKey;
-use bh_types::moment::Moment;
+use bh_types::moment::{Moment, abort_moment};
 use bh_types::names::TenantName;
 use bh_types::refusal::Refusal;
 use sqlite::{Alter, Connection};
-use std::alloc::{AllocError, Global};
+use std::alloc::Global;
 
 /// A multipart upload that is to begin.
 #[derive(Clone, Copy, Debug)]
@@ -61,16 +63,39 @@ fn write_upload<S: Alter>(
     Ok(())
 }
 
-/// What is told of an upload that has begun. No bucket has a rule that makes it stale.
-fn begun(alloc: Global, upload: &NewUpload<'_>, number: u64) -> Result<BegunUpload, AllocError>
+/// When an upload will be stale, where its bucket has a rule.
+fn abort_at(begun: Moment, days: Option<u16>) -> Result<Option<Moment>, Trouble>
+    requires { AreDays days }
+    ensures { IfOk result (λ at. at ≡ option_map (spec.abort_moment begun) days) }
+{
+    match days {
+        None => Ok(None),
+        Some(days) => {
+            // No stamp is after the last reading of a clock.
+            if begun.seconds() > 250_000_000_000 {
+                return Err(Trouble::Store);
+            }
+            Ok(Some(abort_moment(begun, days)))
+        }
+    }
+}
+
+/// What is told of an upload that has begun in a bucket with this rule.
+fn begun(
+    alloc: Global,
+    upload: &NewUpload<'_>,
+    number: u64,
+    days: Option<u16>,
+) -> Result<BegunUpload, Trouble>
+    requires { AreDays days }
     ensures { IfOk result (λ told. begun_answer told
-        ≡ Begun upload.now.bucket.now upload.now.key.now (record { number = number }) None) }
+        ≡ Begun upload.now.bucket.now upload.now.key.now (record { number = number }) (option_map (spec.abort_moment upload.now.at) days)) }
 {
     Ok(BegunUpload {
         bucket: String::from_str(alloc, upload.bucket.as_str())?,
         key: String::from_str(alloc, upload.key.as_str())?,
         upload: UploadId { number },
-        abort: None,
+        abort: abort_at(upload.at, days)?,
     })
 }
 
@@ -90,8 +115,8 @@ pub fn begin_upload<S: Alter>(
         (machine.create_upload upload.now.at upload.now.bucket.now upload.now.key.now)
         (tables S.Store connection.old) (tables S.Store connection.new) result }
 {
-    bucket_state(connection, upload.tenant, upload.bucket)?;
+    let days = bucket_rule(connection, upload.tenant, upload.bucket)?;
     let number = next_upload(connection, upload.tenant)?;
     write_upload(connection, upload, number)?;
-    Ok(begun(alloc, upload, number)?)
+    Ok(begun(alloc, upload, number, days)?)
 }

@@ -1,4 +1,5 @@
-//! S3's multipart uploads over a host's SQL tables: begun, their parts put, completed, aborted.
+//! S3's multipart uploads over a host's SQL tables: begun, their parts put, completed, aborted, and what goes
+//! by the rules of buckets.
 #![tactic(auto)]
 
 pub mod abort;
@@ -6,7 +7,9 @@ pub mod begin;
 pub mod complete;
 pub mod counting;
 pub mod joining;
+pub mod lifecycle;
 pub mod parts;
+pub mod purge;
 pub mod reads;
 pub mod rows;
 pub mod writes;

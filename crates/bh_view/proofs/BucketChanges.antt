@@ -1,5 +1,5 @@
 -- A row of `buckets` added, changed or taken out: the tenant's buckets with an empty one more, with another state of one, or without one.
-use Rattle.std.proofs.Common.{◌≡◌, ◌≢◌, ℕ, ◌≤◌, Bool, true, false, true≢false, List, [], ◌∷◌, ◌++◌, Some, None, IsTrue, refl, sym, ap, ◌∙◌, subst, arith}
+use Rattle.std.proofs.Common.{◌≡◌, ◌≢◌, ℕ, ◌≤◌, Bool, true, false, true≢false, List, [], ◌∷◌, ◌++◌, Some, None, IsTrue, refl, sym, ap, ◌∙◌, subst, arith, Option}
 use Rattle.std.specs.List.{AllByRecursion}
 use Rattle.std.specs.FinMap.{FinMap, get, insert, remove}
 use Rattle.std.proofs.lemmas.Bool.{and_parts}
@@ -14,7 +14,7 @@ use Rattle.bh_tables.specs.Typed.{TenantRow, BucketRow, VersionRow, UploadRow, T
 use Rattle.bh_tables.specs.Shown.{is_bucket}
 use Rattle.bh_view.specs.Grouped.{first, Refers}
 use Rattle.bh_view.specs.View.{mode_of, rows_of, bucket_shown, buckets_of, view, latest_of, named, in_bucket, uploads_in}
-use Rattle.bh_view.specs.Sound.{IsPlain, AreBuckets, AreVersions, AreUploads, AreSound, IsSound}
+use Rattle.bh_view.specs.Sound.{IsPlain, AreBuckets, AreVersions, AreUploads, AreSound, IsSound, AreDays}
 use Rattle.bh_view.specs.Becomes.{Becomes}
 use Rattle.bh_view.proofs.Keys.{octets}
 use Rattle.bh_view.proofs.FilterLemmas.{none_some, same_Some, none_mapped, push_other, delete_other, update_other, first_updated}
@@ -71,7 +71,7 @@ bucket_added old new t s b at sound is none good early e =
     (subst (λ l. AreSound (latest_of old) (record mine { buckets = l })) (sym here) (record {
       tenants = all.tenants;
       keys = all.keys;
-      buckets = record { each = all_pushed _ _ r all.buckets.each (record { name = good; created = early; state = omega arith; days = refl }); one = unique_pushed octets name _ r all.buckets.one fresh; owned = λ gone. absurd (none_some (sym gone ∙ row.1)) };
+      buckets = record { each = all_pushed _ _ r all.buckets.each (record { name = good; created = early; state = omega arith; days = tt }); one = unique_pushed octets name _ r all.buckets.one fresh; owned = λ gone. absurd (none_some (sym gone ∙ row.1)) };
       versions = record { each = all.versions.each; one_seq = all.versions.one_seq; one_id = all.versions.one_id; owned = refers_grown octets name (λ (v : VersionRow). v.bucket) mine.buckets mine.versions r all.versions.owned; unversioned = unversioned_grown (latest_of old) mine.tenants mine.buckets mine.versions all.versions r fresh; given = all.versions.given };
       uploads = uploads_kept (latest_of old) mine.tenants mine.buckets (mine.buckets ++ r ∷ []) mine.uploads all.uploads (refers_grown octets name (λ (u : UploadRow). u.bucket) mine.buckets mine.uploads r all.uploads.owned);
       parts = all.parts;
@@ -149,3 +149,41 @@ module _ (old new : Tables) (t : Octets) (s : State) (sound : IsSound old) (is :
         })
         (record { each = all.versions.each; one_seq = all.versions.one_seq; one_id = all.versions.one_id; owned = refers_updated octets name (λ (v : VersionRow). v.bucket) mine.buckets mine.versions is_it with_state (λ x. refl) all.versions.owned; unversioned = unversioned_set; given = all.versions.given })
         (refers_updated octets name (λ (u : UploadRow). u.bucket) mine.buckets mine.uploads is_it with_state (λ x. refl) all.uploads.owned)
+
+  -- ---- another rule
+
+  module _ (b : Octets) (B : Bucket) (at : get s.buckets b ≡ Some B) (d : Option ℕ) (good : AreDays d) where
+    abbrev named_so : BucketRow → Bool
+    named_so r = bytes_eq r.bucket b
+
+    abbrev with_days : BucketRow → BucketRow
+    with_days r = record r { days = d }
+
+    shown_before : get (buckets_of (rows_of t old)) b ≡ Some B
+    shown_before = ap (λ (x : State). get x.buckets b) (own_row old t s is).2 ∙ at
+
+    unversioned_still : (q : Octets) (r : BucketRow) → first (named q (update_where named_so with_days (rows_of t old).buckets)) ≡ Some r → mode_of r.state ≡ Unversioned → AllByRecursion IsPlain (in_bucket q (rows_of t old).versions)
+    unversioned_still q r there zero = elim (bytes_eq b q) as (λ h. bytes_eq b q ≡ h → AllByRecursion IsPlain (in_bucket q (rows_of t old).versions)) [
+      | true ↦ λ e.
+          let row = bucket_row (rows_of t old) b B shown_before in
+          let here = (octets.decides b q).0 e in
+          let set = first_updated named_so with_days (λ x. refl) (rows_of t old).buckets row.0 row.1 in
+          let same = same_Some (sym set ∙ ap (λ z. first (named z (update_where named_so with_days (rows_of t old).buckets))) here ∙ there) in
+          subst (λ z. AllByRecursion IsPlain (in_bucket z (rows_of t old).versions)) here ((sound.tenants t).versions.unversioned b row.0 row.1 (ap (λ (x : BucketRow). mode_of x.state) same ∙ zero))
+      | false ↦ λ e. (sound.tenants t).versions.unversioned q r (ap first (sym (update_other (λ x. bytes_eq x.bucket q) named_so with_days (λ x here. is_other octets x.bucket b (apart_from b q x.bucket e here)) (λ x here. ap (λ z. bytes_eq z q) ((octets.decides x.bucket b).0 here) ∙ e) (rows_of t old).buckets)) ∙ there) zero
+    ] refl
+
+    pub days_changed : new ≡ record old { buckets = update_where (is_bucket t b) with_days old.buckets } → Becomes t (Some (with_bucket b (record B { days = d }) s)) old new
+    days_changed =
+        let mine = rows_of t old in
+        let all = sound.tenants t in
+        buckets_become _ (update_where named_so with_days mine.buckets) (λ m. insert m b (record B { days = d }))
+        (others_updated own t (is_bucket t b) (λ r h. within_own own t r (and_parts _ _ h).0) with_days (λ x. refl) old.buckets)
+        (mine_updated own t named_so with_days (λ x. refl) old.buckets) (bucket_updated mine with_days (λ (x : Bucket). record x { days = d }) b (λ x. refl) (λ x. refl) B shown_before)
+        (record {
+          each = all_updated _ named_so with_days (λ r fine. record { name = fine.name; created = fine.created; state = fine.state; days = good }) _ all.buckets.each;
+          one = unique_updated octets name _ named_so with_days (λ x. refl) all.buckets.one;
+          owned = λ gone. ap (update_where named_so with_days) (all.buckets.owned gone);
+        })
+        (record { each = all.versions.each; one_seq = all.versions.one_seq; one_id = all.versions.one_id; owned = refers_updated octets name (λ (v : VersionRow). v.bucket) mine.buckets mine.versions named_so with_days (λ x. refl) all.versions.owned; unversioned = unversioned_still; given = all.versions.given })
+        (refers_updated octets name (λ (u : UploadRow). u.bucket) mine.buckets mine.uploads named_so with_days (λ x. refl) all.uploads.owned)

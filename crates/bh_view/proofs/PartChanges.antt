@@ -1,12 +1,11 @@
 -- Rows of `parts` added or taken out: an upload with a part in place of one of its number.
-use Rattle.std.proofs.Common.{◌≡◌, ◌≢◌, ℕ, ◌+◌, ◌≤◌, ◌<◌, ◌&&◌, true, false, leb-true, List, [], ◌∷◌, ◌++◌, length, Some, None, option_map, refl, sym, ap, ◌∙◌, subst, arith}
+use Rattle.std.proofs.Common.{◌≡◌, ◌≢◌, ℕ, ◌+◌, ◌≤◌, ◌<◌, ◌&&◌, true, false, leb-true, List, [], ◌∷◌, ◌++◌, Some, None, option_map, refl, sym, ap, ◌∙◌, subst, arith}
 use Rattle.std.specs.List.{AllByRecursion, list_any}
 use Rattle.std.specs.Ordering.{nat_cmp}
 use Rattle.std.specs.FinMap.{FinMap, get, insert, remove}
 use Rattle.std.proofs.lemmas.Bool.{and_parts}
 use Rattle.sqlite_keyed.specs.Lists.{update_where, delete_where}
 use Rattle.sqlite_keyed.proofs.ListLemmas.{all_weaker, all-filter, filter_none, any_from_none}
-use Rattle.bh_types.specs.Checksums.{checksum_text}
 use Rattle.bh_model.specs.FinMaps.{set_at}
 use Rattle.bh_model.specs.State.{Octets, Part, Upload, Bucket, State}
 use Rattle.bh_model.specs.Counting.{can_give}

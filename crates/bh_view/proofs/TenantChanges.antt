@@ -90,6 +90,11 @@ module _ (old new : Tables) (t : Octets) (s : State) (sound : IsSound old) (is :
       (λ r fine shows. let high : AtMost (row_counts r) c = subst (λ (x : State). AtMost (counts x) c) (sym shows) up in
       (record { name = fine.name; quota = fine.quota; counters = good }, high))
 
+  -- another quota
+  pub quota_set : (n : ℕ) → IsQuota n → new ≡ record old { tenants = update_where (is_tenant t) (λ r. record r { quota = n }) old.tenants } → Becomes t (Some (record s { quota = n })) old new
+  quota_set n few = tenant_updated (λ r. record r { quota = n }) (λ (x : State). record x { quota = n }) (λ r. refl) (λ r. refl)
+      (λ r fine shows. (record { name = fine.name; quota = few; counters = fine.counters }, (omega arith, omega arith, omega arith)))
+
   -- the number of the next entry alone, which does not go back
   pub next_entry_set : (n : ℕ) → s.next_entry ≤ n → n ≤ 2 ^ 62 → new ≡ record old { tenants = update_where (is_tenant t) (λ r. record r { next_entry = n }) old.tenants } → Becomes t (Some (record s { next_entry = n })) old new
   next_entry_set n up high = tenant_updated (λ r. record r { next_entry = n }) (λ (x : State). record x { next_entry = n }) (λ r. refl) (λ r. refl)

@@ -36,7 +36,7 @@ own u = u.tenant
 -- ---- sound rows stay sound
 
 module _ (latest : ℕ) (tenants : List TenantRow) (buckets : List BucketRow) (uploads : List UploadRow) (all : AreUploads latest tenants buckets uploads) where
-  uploads_left : (test : UploadRow → Bool) → AreUploads latest tenants buckets (delete_where test uploads)
+  pub uploads_left : (test : UploadRow → Bool) → AreUploads latest tenants buckets (delete_where test uploads)
   uploads_left test = record {
     each = all-filter _ _ uploads all.each;
     one = unique_deleted numbers (λ (u : UploadRow). u.upload) uploads test all.one;

@@ -18,7 +18,7 @@ abbrev pub at_number : ℕ → List UploadRow → List UploadRow
 at_number = matching same_number (λ u. u.upload)
 
 -- of a list that is not longer than one, a row that passes a test is all
-all_of_one : {T : Type 0} (p : T → Bool) (xs : List T) → length xs ≤ 1 → (x : T) → first (filter p xs) ≡ Some x → xs ≡ x ∷ []
+pub all_of_one : {T : Type 0} (p : T → Bool) (xs : List T) → length xs ≤ 1 → (x : T) → first (filter p xs) ≡ Some x → xs ≡ x ∷ []
 all_of_one p [] short x there = absurd (none_some there)
 all_of_one p (y ∷ []) short x there = elim (p y) as (λ b. first (cond b (y ∷ []) []) ≡ Some x → y ∷ [] ≡ x ∷ []) [ true ↦ λ e. same e | false ↦ λ e. absurd (none_some e) ] there
   where

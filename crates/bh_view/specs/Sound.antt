@@ -1,5 +1,5 @@
 -- Sound tables: the facts that each row keeps to, by itself and among the others.
-use Rattle.std.specs.Prelude.{◌≡◌, ℕ, ◌<◌, ◌≤◌, false, List, [], ◌∷◌, length, Some, None, IsTrue}
+use Rattle.std.specs.Prelude.{◌≡◌, ℕ, ◌<◌, ◌≤◌, false, List, [], ◌∷◌, length, Option, Some, None, IsTrue}
 use Rattle.std.specs.Str.{IsUtf8}
 use Rattle.std.specs.List.{AllByRecursion, list_any}
 use Rattle.sqlite_typed.specs.Tests.{bytes_eq}
@@ -50,12 +50,16 @@ pub record AreKeys (tenants : List TenantRow) (keys : List KeyRow) : Type 0 wher
   pub one : HasUnique bytes_eq (λ (r : KeyRow). r.name) keys
   pub owned : first tenants ≡ None → keys ≡ []
 
--- no rule makes its uploads stale
+-- a rule is of 1 to 3,650 days
+abbrev pub AreDays : Option ℕ → Type 0
+AreDays None = Unit {0}
+AreDays (Some days) = (1 ≤ days) × (days ≤ 3650)
+
 pub record IsBucketRow (latest : ℕ) (r : BucketRow) : Type 0 where
   pub name : IsTrue (is_bucket_name r.bucket)
   pub created : r.created ≤ latest
   pub state : r.state ≤ 2
-  pub days : r.days ≡ None
+  pub days : AreDays r.days
 
 -- one row for a name, and none without the tenant
 pub record AreBuckets (latest : ℕ) (tenants : List TenantRow) (buckets : List BucketRow) : Type 0 where

@@ -1,18 +1,19 @@
 -- One tenant's rows in the tables, and the state of the private machine that they show.
-use Rattle.std.specs.Prelude.{ℕ, zero, suc, List, map, Option, option_map}
+use Rattle.std.specs.Prelude.{ℕ, zero, suc, Bool, ◌&&◌, List, map, find, Option, option_map, option_and_then}
+use Rattle.std.specs.List.{list_any}
 use Rattle.std.specs.Option.{option_map_or}
 use Rattle.std.specs.FinMap.{FinMap}
 use Rattle.std.specs.Ordering.{nat_cmp}
-use Rattle.sqlite_keyed.specs.Lists.{sort_by}
+use Rattle.sqlite_keyed.specs.Lists.{sort_by, delete_where}
 use Rattle.sqlite_typed.specs.Tests.{bytes_eq}
 use Rattle.bh_types.specs.Limits.{HostLimits}
 use Rattle.bh_types.specs.declared.id.VersionId.{VersionId}
 use Rattle.bh_types.specs.declared.id.VersionId.TheVariants.{Null, Numbered}
 use Rattle.bh_types.specs.declared.bucket_state.BucketState.{BucketState}
 use Rattle.bh_types.specs.declared.bucket_state.BucketState.TheVariants.{Unversioned, Enabled, Suspended}
-use Rattle.bh_model.specs.State.{Octets, octets_cmp, Content, Content.Marker, Content.Body, Entry, Part, Upload, Bucket, State}
-use Rattle.bh_tables.specs.Typed.{HostRow, TenantRow, KeyRow, BucketRow, VersionRow, UploadRow, PartRow, Tables}
-use Rattle.bh_tables.specs.Shown.{newer}
+use Rattle.bh_model.specs.State.{Octets, octets_cmp, Content, Content.Marker, Content.Body, Entry, Part, Upload, Bucket, State, is_stale}
+use Rattle.bh_tables.specs.Typed.{HostRow, TenantRow, KeyRow, BucketRow, VersionRow, RefRow, UploadRow, PartRow, Tables}
+use Rattle.bh_tables.specs.Shown.{part_name, is_bucket, is_upload, is_of_body, newer}
 use Rattle.bh_model.specs.FinMaps.{non_empty}
 use Rattle.bh_view.specs.Grouped.{first, matching, same_number, grouped, keyed}
 
@@ -28,9 +29,38 @@ limits_in tables = option_map_or (λ (r : HostRow). record { min_part = r.min_pa
 abbrev pub with_latest : ℕ → Tables → Tables
 with_latest n tables = record tables { host = map (λ (r : HostRow). record r { latest = n }) tables.host }
 
--- the tables without a tenant's uploads that are stale at a moment. No bucket has a rule that makes them stale
-abbrev pub rows_purged : Octets → ℕ → Tables → Tables
-rows_purged t at tables = tables
+-- ---- uploads that go
+
+-- whether a tenant's upload of a number goes, and so a part of it
+abbrev pub goes : Octets → (ℕ → Bool) → UploadRow → Bool
+goes t gone u = bytes_eq u.tenant t && gone u.upload
+
+abbrev pub part_goes : Octets → (ℕ → Bool) → PartRow → Bool
+part_goes t gone p = bytes_eq p.tenant t && gone p.upload
+
+-- whether a reference is of the body of a part that goes
+abbrev pub ref_goes : Octets → (ℕ → Bool) → List PartRow → RefRow → Bool
+ref_goes t gone parts r = list_any (λ p. part_goes t gone p && is_of_body (part_name p) r) parts
+
+-- the tables without a tenant's uploads of these numbers: their parts go, and the references of the parts' bodies
+abbrev pub without_uploads : Octets → (ℕ → Bool) → Tables → Tables
+without_uploads t gone tables = record tables {
+  uploads = delete_where (goes t gone) tables.uploads;
+  parts = delete_where (part_goes t gone) tables.parts;
+  refs = delete_where (ref_goes t gone tables.parts) tables.refs;
+}
+
+-- the rule of a tenant's bucket, if it has one
+abbrev pub days_in : Octets → Octets → List BucketRow → Option ℕ
+days_in t b buckets = option_and_then (λ (r : BucketRow). r.days) (find (is_bucket t b) buckets)
+
+-- whether a tenant's upload of a number is stale at a moment, by the rule of its bucket
+abbrev pub is_stale_in : Octets → ℕ → Tables → ℕ → Bool
+is_stale_in t at tables n = list_any (λ u. is_upload t n u && is_stale (days_in t u.bucket tables.buckets) u.begun at) tables.uploads
+
+-- the tables without a tenant's uploads that are stale at a moment
+unfoldable pub rows_purged : Octets → ℕ → Tables → Tables
+rows_purged t at tables = without_uploads t (is_stale_in t at tables) tables
 
 -- one tenant's rows of each table; `tenants` has its own row, or none
 pub record TenantRows : Type 0 where

@@ -126,6 +126,7 @@ fn http_text(alloc: Global, reading: u64, bytes: &[u8]) -> Answer {
 fn command_text(alloc: Global, reading: u64, command: &Command) -> Answer {
     let (what, tenant, name, secret) = match command {
         Command::TenantAdd { tenant, .. } => ("tenant-add", tenant.as_str(), "", ""),
+        Command::Quota { tenant, .. } => ("quota", tenant.as_str(), "", ""),
         Command::KeyAdd {
             tenant,
             name,

@@ -96,6 +96,28 @@ pub fn insert_tenant<S: Alter>(
     )
 }
 
+/// Sets the tenant's quota in bytes.
+pub fn set_quota<S: Alter>(
+    connection: &mut Connection<S>,
+    tenant: &str,
+    quota: u64,
+) -> Result<usize, Error>
+    requires inside { InTransaction S.Store connection.old }
+    requires small { quota < 2 ^ 63 }
+    ensures within { StaysWithin S.Store connection.old connection.new }
+    ensures opens { OnOk result (StaysOpen S.Store connection.old connection.new) }
+    ensures holds { OnOk result (Becomes S.Store connection.old connection.new
+        (λ rows. record rows { tenants = update_where (is_tenant tenant.now) (λ t. record t { quota = quota }) rows.tenants })) }
+    ensures trouble { IfErr result (IsTrouble S.Store connection.old connection.new) }
+{
+    // Asked for what it ensures: the rows obey the schema.
+    let _schema = connection.schema();
+    connection.execute(
+        "UPDATE tenants SET quota = ?2 WHERE tenant = ?1",
+        &[tenant.to_sql(), number(quota)],
+    )
+}
+
 /// Sets the number that the tenant's next version, marker or part takes.
 pub fn set_next_entry<S: Alter>(
     connection: &mut Connection<S>,

@@ -1,15 +1,16 @@
-ghost use Rattle.std.specs.Prelude.{◌≡◌, ◌++◌, ◌∷◌, [], ◌<◌, ◌^◌, false, true, map, filter, find, option_map, IfOk, IfErr, OnOk};
+ghost use Rattle.std.specs.Prelude.{◌≡◌, ◌++◌, ◌∷◌, [], List, ◌<◌, ◌^◌, false, true, map, filter, find, option_map, IfOk, IfErr, OnOk};
 ghost use Rattle.std.specs.List.{list_any};
 ghost use Rattle.sqlite_keyed.specs.Lists.{update_where, delete_where};
 ghost use Rattle.bh_rows.specs.Means.{is_trouble};
 ghost use Rattle.bh_tables.specs.Typed.{UploadRow as Stored};
-ghost use Rattle.bh_tables.specs.Shown.{is_tenant, is_upload, is_part_of, shown_upload};
+ghost use Rattle.bh_tables.specs.Shown.{is_tenant, is_upload, is_part_of, shown_upload, shown_number};
 ghost use Rattle.bh_schema.specs.Connections.{IsClean, tables, InTransaction, StaysWithin, WasOpen, StaysOpen, ChangesNothing, Becomes, IsTrouble, IsTroubleIf};
-ghost use Rattle.bh_uploads.specs.Rows.{seen_upload, upload_seen, stored_upload, IsNewUpload};
+ghost use Rattle.bh_uploads.specs.Rows.{seen_upload, upload_seen, stored_upload, begun_before, IsNewUpload};
 
 use bh_schema::rows::number::number;
 use sqlite::types::ToSql;
 use sqlite::{Alter, Connection, Error, Row};
+use std::alloc::Global;
 
 /// What an upload was begun for, and when.
 #[derive(Drop)]
@@ -84,6 +85,64 @@ pub fn find_upload<S: Alter>(
         None => Ok(None),
         Some(row) => Ok(Some(read_upload(row)?)),
     }
+}
+
+fn read_number(row: &Row) -> Result<u64, Error>
+    ensures { IfOk result (λ n. (u : Stored) → row.now ≡ shown_number u → n ≡ u.upload) }
+{
+    let number: u64 = row.get(0)?;
+    Ok(number)
+}
+
+fn read_numbers(alloc: Global, rows: &[Row]) -> Result<Vec<u64>, Error>
+    ensures { IfOk result (λ list. (us : List Stored) → rows.now ≡ map shown_number us → list.items ≡ map (λ u. u.upload) us) }
+{
+    let mut numbers = Vec::new(alloc);
+    for row in rows {
+        numbers.push(read_number(row)?)?;
+    }
+    Ok(numbers)
+}
+
+fn stale_rows<S: Alter>(
+    connection: &mut Connection<S>,
+    tenant: &str,
+    bucket: &str,
+    moment: u64,
+) -> Result<Vec<Row>, Error>
+    requires inside { InTransaction S.Store connection.old }
+    requires small { moment < 2 ^ 63 }
+    ensures within { StaysWithin S.Store connection.old connection.new }
+    ensures opens { OnOk result (WasOpen S.Store connection.old connection.new) }
+    ensures same { OnOk result (ChangesNothing S.Store connection.old connection.new) }
+    ensures rows { IfOk result (λ rows. IsClean S.Store connection.new
+        → rows.items ≡ map shown_number (begun_before tenant.now bucket.now moment (tables S.Store connection.old).uploads)) }
+    ensures trouble { IfErr result (IsTrouble S.Store connection.old connection.new) }
+{
+    connection.query_all(
+        "SELECT upload FROM uploads WHERE tenant = ?1 AND bucket = ?2 AND begun < ?3 ORDER BY begun, upload, rowid",
+        &[tenant.to_sql(), bucket.to_sql(), number(moment)],
+    )
+}
+
+/// The numbers of a bucket's uploads that were begun before a moment, the first begun first.
+pub fn stale_list<S: Alter>(
+    connection: &mut Connection<S>,
+    alloc: Global,
+    tenant: &str,
+    bucket: &str,
+    moment: u64,
+) -> Result<Vec<u64>, Error>
+    requires inside { InTransaction S.Store connection.old }
+    requires small { moment < 2 ^ 63 }
+    ensures within { StaysWithin S.Store connection.old connection.new }
+    ensures opens { OnOk result (WasOpen S.Store connection.old connection.new) }
+    ensures same { OnOk result (ChangesNothing S.Store connection.old connection.new) }
+    ensures numbers { IfOk result (λ list. IsClean S.Store connection.new
+        → list.items ≡ map (λ u. u.upload) (begun_before tenant.now bucket.now moment (tables S.Store connection.old).uploads)) }
+{
+    let rows = stale_rows(connection, tenant, bucket, moment)?;
+    read_numbers(alloc, &rows)
 }
 
 /// Adds an upload.

@@ -14,6 +14,13 @@ returns-in-ListBuckets-clause-working g c =
 pub returns-in-ListBuckets-clause-carries : goal.returns-in-ListBuckets-clause-carries
 returns-in-ListBuckets-clause-carries g c = c.operate_bucket.ensures.carries c.args.limits.now
 
+pub returns-in-GetLifecycle-clause-working : goal.returns-in-GetLifecycle-clause-working
+returns-in-GetLifecycle-clause-working g c =
+    by_any g.D.Digester.digest_of (state g.S.Store c.args.connection.now) (state g.S.Store c.operate_lifecycle.new.connection) c.operate_lifecycle.result c.operate_lifecycle.ensures.working
+
+pub returns-in-GetLifecycle-clause-carries : goal.returns-in-GetLifecycle-clause-carries
+returns-in-GetLifecycle-clause-carries g c = c.operate_lifecycle.ensures.carries c.args.limits.now c.args.at
+
 pub returns-in-PutObject-clause-carries : goal.returns-in-PutObject-clause-carries
 returns-in-PutObject-clause-carries g c = c.operate_object.ensures.carries c.args.limits.now
 
@@ -31,6 +38,9 @@ returns-in_default g c =
       uploads = no.not-ListMultipartUploads;
       ask = no.not-GetBucketVersioning;
       set = no.not-PutBucketVersioning;
+      rule = no.not-GetLifecycle;
+      rule_set = no.not-PutLifecycle;
+      rule_cleared = no.not-DeleteLifecycle;
       put = no.not-PutObject;
       copy = no.not-CopyObject;
       get = no.not-GetObject;

@@ -1,0 +1,13 @@
+use Rattle.std.proofs.Common.{Some}
+use Rattle.sqlite.specs.Held.{state}
+use Rattle.bh_tables.proofs.Places.{buckets}
+use Rattle.bh_tables.proofs.BucketTexts.{days_set, days_may}
+use Rattle.bh_schema.proofs.Calls.{updated}
+use Rattle.bh_schema.proofs.rows.rules.set_days.Goals as goal
+
+pub returns : goal.returns
+returns g c =
+    let h = rw (c.to_sql.ensures, c.to_sql-2.ensures, c.number.ensures, c.from.ensures) at c.execute.ensures in
+    let old = state g.S.Store c.args.connection.now in
+    let w = updated buckets old (state g.S.Store c.execute.new.self) c.requires.inside c.execute.result c.schema-schema.ensures.live (days_set c.args.tenant.now c.args.bucket.now c.args.days) (days_may c.args.tenant.now c.args.bucket.now (Some c.args.days)) h.runs h.survives in
+    record { within = w.within; opens = w.opens; holds = w.holds; trouble = w.trouble }

@@ -1,0 +1,126 @@
+//! The rule of a bucket for uploads that are left unfinished.
+ghost use Rattle.std.specs.Prelude.{◌≡◌, ◌≤◌, None, false, IfOk};
+ghost use Rattle.bh_model.specs.Operations as machine;
+ghost use Rattle.bh_storage.specs.Answers.{removed_answer};
+ghost use Rattle.bh_storage.specs.Calls.{Unless, Carries, Decides};
+ghost use Rattle.bh_view.specs.Sound.{AreDays};
+ghost use Rattle.bh_view.specs.View.{view};
+ghost use Rattle.bh_schema.specs.Connections.{IsClean, tables, StaysWithin, StaysOpen};
+ghost use Rattle.bh_schema.specs.Working.{Works, StillWorks};
+ghost use Rattle.bh_uploads.specs.Found.{rule_in};
+
+use bh_objects::reads::bucket_state;
+use bh_schema::rows;
+use bh_schema::trouble::or_trouble;
+use bh_storage::answer::RemovedEntry;
+use bh_storage::error::{StepError, Trouble};
+use bh_types::bucket::BucketName;
+use bh_types::names::TenantName;
+use bh_types::refusal::Refusal;
+use sqlite::{Alter, Connection};
+
+/// The days of a rule, as a column has them: 1 to 3,650.
+fn days_of(days: Option<u64>) -> Result<Option<u16>, Trouble>
+    ensures same { IfOk result (λ d. d ≡ days) }
+    ensures range { IfOk result (λ d. AreDays d) }
+{
+    match days {
+        None => Ok(None),
+        Some(days) => {
+            if days == 0 || days > 3_650 {
+                return Err(Trouble::Store);
+            }
+            Ok(Some(days as u16))
+        }
+    }
+}
+
+/// The rule of a tenant's bucket, if it has one: NoSuchBucket.
+pub fn bucket_rule<S: Alter>(
+    connection: &mut Connection<S>,
+    tenant: &TenantName,
+    bucket: &BucketName,
+) -> Result<Option<u16>, StepError<Refusal>>
+    requires { Works S.Store connection.old }
+    ensures within { StaysWithin S.Store connection.old connection.new }
+    ensures opens { Unless result (StaysOpen S.Store connection.old connection.new) }
+    ensures working { Unless result (StillWorks S.Store connection.old connection.new) }
+    ensures decides { IsClean S.Store connection.new
+        → Decides (λ days. days) (rule_in bucket.now (view (tables S.Store connection.old) tenant.now))
+        (tables S.Store connection.old) (tables S.Store connection.new) result }
+    ensures range { IfOk result (λ days. AreDays days) }
+{
+    match or_trouble(rows::buckets::find_bucket(connection, tenant.as_str(), bucket.as_str()))? {
+        Some(numbers) => match days_of(numbers.days) {
+            Ok(days) => Ok(days),
+            Err(trouble) => Err(StepError::Failed(trouble)),
+        },
+        None => Err(StepError::Refused(Refusal::NoSuchBucket)),
+    }
+}
+
+/// S3's GetBucketLifecycleConfiguration: NoSuchBucket, NoSuchLifecycleConfiguration. After so many days an upload that
+/// is left unfinished goes.
+pub fn lifecycle<S: Alter>(
+    connection: &mut Connection<S>,
+    tenant: &TenantName,
+    bucket: &BucketName,
+) -> Result<u16, StepError<Refusal>>
+    requires { Works S.Store connection.old }
+    ensures within { StaysWithin S.Store connection.old connection.new }
+    ensures opens { Unless result (StaysOpen S.Store connection.old connection.new) }
+    ensures working { Unless result (StillWorks S.Store connection.old connection.new) }
+    ensures carries { IsClean S.Store connection.new
+        → Carries (λ days. machine.Lifecycle days) tenant.now (machine.get_lifecycle bucket.now)
+        (tables S.Store connection.old) (tables S.Store connection.new) result }
+{
+    match bucket_rule(connection, tenant, bucket) {
+        Ok(Some(days)) => Ok(days),
+        Ok(None) => Err(StepError::Refused(Refusal::NoSuchLifecycleConfiguration)),
+        Err(error) => Err(error),
+    }
+}
+
+/// S3's PutBucketLifecycleConfiguration: NoSuchBucket. The rule holds of uploads that were begun before, too.
+pub fn set_lifecycle<S: Alter>(
+    connection: &mut Connection<S>,
+    tenant: &TenantName,
+    bucket: &BucketName,
+    days: u16,
+) -> Result<(), StepError<Refusal>>
+    requires working { Works S.Store connection.old }
+    requires least { 1 ≤ days }
+    requires most { days ≤ 3650 }
+    ensures within { StaysWithin S.Store connection.old connection.new }
+    ensures opens { Unless result (StaysOpen S.Store connection.old connection.new) }
+    ensures working { Unless result (StillWorks S.Store connection.old connection.new) }
+    ensures carries { IsClean S.Store connection.new
+        → Carries (λ _. machine.Done) tenant.now (machine.put_lifecycle bucket.now days)
+        (tables S.Store connection.old) (tables S.Store connection.new) result }
+{
+    bucket_state(connection, tenant, bucket)?;
+    or_trouble(rows::rules::set_days(connection, tenant.as_str(), bucket.as_str(), days))?;
+    Ok(())
+}
+
+/// S3's DeleteBucketLifecycle: NoSuchBucket. A bucket without a rule stays as it is.
+pub fn delete_lifecycle<S: Alter>(
+    connection: &mut Connection<S>,
+    tenant: &TenantName,
+    bucket: &BucketName,
+) -> Result<RemovedEntry, StepError<Refusal>>
+    requires working { Works S.Store connection.old }
+    ensures within { StaysWithin S.Store connection.old connection.new }
+    ensures opens { Unless result (StaysOpen S.Store connection.old connection.new) }
+    ensures working { Unless result (StillWorks S.Store connection.old connection.new) }
+    ensures carries { IsClean S.Store connection.new
+        → Carries removed_answer tenant.now (machine.delete_lifecycle bucket.now)
+        (tables S.Store connection.old) (tables S.Store connection.new) result }
+{
+    bucket_state(connection, tenant, bucket)?;
+    or_trouble(rows::rules::clear_days(connection, tenant.as_str(), bucket.as_str()))?;
+    Ok(RemovedEntry {
+        id: None,
+        marker: false,
+    })
+}

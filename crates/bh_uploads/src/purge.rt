@@ -1,0 +1,168 @@
+//! What goes by the rules of buckets.
+ghost use Rattle.std.specs.Prelude.{◌≡◌, ◌++◌, ◌<◌, ◌^◌, map, flat_map, IfOk, OnOk};
+ghost use Rattle.bh_view.specs.View.{without_uploads, rows_purged};
+ghost use Rattle.bh_view.specs.Grouped.{same_number};
+ghost use Rattle.bh_schema.specs.Connections.{IsClean, tables, InTransaction, StaysWithin, WasOpen, StaysOpen, ChangesNothing};
+ghost use Rattle.bh_schema.specs.Rows.{rule_in, listed_rules};
+ghost use Rattle.bh_schema.specs.Views.{rule_seen};
+ghost use Rattle.bh_schema.specs.Working.{Works, StillWorks};
+ghost use Rattle.bh_uploads.specs.Purging.{stale_by, is_among};
+
+use crate::reads::upload_parts;
+use crate::rows::uploads::stale_list;
+use crate::writes::close_upload;
+use bh_core::uploads::stale_before;
+use bh_schema::rows::rules::{BucketRule, rule_list};
+use bh_schema::trouble::or_trouble;
+use bh_storage::error::Trouble;
+use bh_types::counters::COUNTER_END;
+use bh_types::moment::Moment;
+use bh_types::names::TenantName;
+use sqlite::{Alter, Connection};
+use std::alloc::Global;
+
+/// A number that a column can hold.
+fn in_range(number: u64) -> Result<u64, Trouble>
+    ensures same { IfOk result (λ n. n ≡ number) }
+    ensures small { IfOk result (λ n. n < 2 ^ 62) }
+{
+    if number >= COUNTER_END {
+        return Err(Trouble::Store);
+    }
+    Ok(number)
+}
+
+/// The numbers of the uploads of a bucket that are stale at a moment, by its rule.
+fn rule_stale<S: Alter>(
+    connection: &mut Connection<S>,
+    alloc: Global,
+    tenant: &TenantName,
+    rule: &BucketRule,
+    at: Moment,
+) -> Result<Vec<u64>, Trouble>
+    requires inside { InTransaction S.Store connection.old }
+    ensures within { StaysWithin S.Store connection.old connection.new }
+    ensures opens { OnOk result (StaysOpen S.Store connection.old connection.new) }
+    ensures same { OnOk result (ChangesNothing S.Store connection.old connection.new) }
+    ensures numbers { IfOk result (λ list. IsClean S.Store connection.new
+        → list.items ≡ stale_by tenant.now at (tables S.Store connection.old).uploads (rule_seen rule.now)) }
+{
+    match rule.days {
+        None => Ok(Vec::new(alloc)),
+        Some(days) => {
+            let before = in_range(stale_before(days, at))?;
+            or_trouble(stale_list(connection, alloc, tenant.as_str(), rule.bucket.as_str(), before))
+        }
+    }
+}
+
+fn append(numbers: &mut Vec<u64>, mut more: Vec<u64>) -> Result<(), Trouble>
+    ensures { OnOk result (numbers.new.items ≡ numbers.old.items ++ more.items) }
+{
+    numbers.append(&mut more)?;
+    Ok(())
+}
+
+/// The numbers of a tenant's uploads that are stale by these rules, one rule after the other.
+fn stale_of_rules<S: Alter>(
+    connection: &mut Connection<S>,
+    alloc: Global,
+    tenant: &TenantName,
+    rules: &[BucketRule],
+    at: Moment,
+) -> Result<Vec<u64>, Trouble>
+    requires inside { InTransaction S.Store connection.old }
+    ensures within { StaysWithin S.Store connection.old connection.new }
+    ensures opens { OnOk result (StaysOpen S.Store connection.old connection.new) }
+    ensures same { OnOk result (ChangesNothing S.Store connection.old connection.new) }
+    ensures numbers { IfOk result (λ list. IsClean S.Store connection.new → list.items
+        ≡ flat_map (λ rule. stale_by tenant.now at (tables S.Store connection.old).uploads (rule_seen rule)) rules.now) }
+{
+    let mut numbers = Vec::new(alloc);
+    for rule in rules {
+        let found = rule_stale(connection, alloc, tenant, rule, at)?;
+        append(&mut numbers, found)?;
+    }
+    Ok(numbers)
+}
+
+/// The numbers of a tenant's uploads that are stale at a moment.
+fn stale_numbers<S: Alter>(
+    connection: &mut Connection<S>,
+    alloc: Global,
+    tenant: &TenantName,
+    at: Moment,
+) -> Result<Vec<u64>, Trouble>
+    requires inside { InTransaction S.Store connection.old }
+    ensures within { StaysWithin S.Store connection.old connection.new }
+    ensures opens { OnOk result (StaysOpen S.Store connection.old connection.new) }
+    ensures same { OnOk result (ChangesNothing S.Store connection.old connection.new) }
+    ensures numbers { IfOk result (λ list. IsClean S.Store connection.new → list.items
+        ≡ flat_map (stale_by tenant.now at (tables S.Store connection.old).uploads)
+        (map rule_in (listed_rules tenant.now (tables S.Store connection.old)))) }
+{
+    let rules = or_trouble(rule_list(connection, alloc, tenant.as_str()))?;
+    let numbers = stale_of_rules(connection, alloc, tenant, &rules, at)?;
+    Ok(numbers)
+}
+
+/// Takes a tenant's upload of a number away with its parts, if it is there.
+fn remove_upload<S: Alter>(
+    connection: &mut Connection<S>,
+    alloc: Global,
+    tenant: &TenantName,
+    number: u64,
+) -> Result<(), Trouble>
+    requires { Works S.Store connection.old }
+    ensures within { StaysWithin S.Store connection.old connection.new }
+    ensures opens { OnOk result (StaysOpen S.Store connection.old connection.new) }
+    ensures working { OnOk result (StillWorks S.Store connection.old connection.new) }
+    ensures removed { OnOk result (IsClean S.Store connection.new → tables S.Store connection.new
+        ≡ without_uploads tenant.now (λ n. same_number n number) (tables S.Store connection.old)) }
+{
+    let number = in_range(number)?;
+    let list = upload_parts(connection, alloc, tenant, number)?;
+    close_upload(connection, tenant, number, &list.bodies)?;
+    Ok(())
+}
+
+/// Takes a tenant's uploads of these numbers away with their parts.
+fn remove_uploads<S: Alter>(
+    connection: &mut Connection<S>,
+    alloc: Global,
+    tenant: &TenantName,
+    numbers: &[u64],
+) -> Result<(), Trouble>
+    requires { Works S.Store connection.old }
+    ensures within { StaysWithin S.Store connection.old connection.new }
+    ensures opens { OnOk result (StaysOpen S.Store connection.old connection.new) }
+    ensures working { OnOk result (StillWorks S.Store connection.old connection.new) }
+    ensures removed { OnOk result (IsClean S.Store connection.new → tables S.Store connection.new
+        ≡ without_uploads tenant.now (is_among numbers.now) (tables S.Store connection.old)) }
+{
+    for number in numbers {
+        remove_upload(connection, alloc, tenant, *number)?;
+    }
+    Ok(())
+}
+
+/// Takes a tenant's uploads that are stale at a moment away, by the rules of their buckets (Amazon S3 API Reference,
+/// AbortIncompleteMultipartUpload): their parts go, and the references of these to blocks, and no block. Where
+/// nothing is stale, it is one seek for the tenant's rules and one for each of them.
+pub fn purge<S: Alter>(
+    connection: &mut Connection<S>,
+    alloc: Global,
+    tenant: &TenantName,
+    at: Moment,
+) -> Result<(), Trouble>
+    requires { Works S.Store connection.old }
+    ensures within { StaysWithin S.Store connection.old connection.new }
+    ensures opens { OnOk result (StaysOpen S.Store connection.old connection.new) }
+    ensures working { OnOk result (StillWorks S.Store connection.old connection.new) }
+    ensures purges { OnOk result (IsClean S.Store connection.new
+        → tables S.Store connection.new ≡ rows_purged tenant.now at (tables S.Store connection.old)) }
+{
+    let numbers = stale_numbers(connection, alloc, tenant, at)?;
+    remove_uploads(connection, alloc, tenant, &numbers)?;
+    Ok(())
+}
