@@ -4,10 +4,11 @@ pub mod Pages
 pub mod Counting
 pub mod Entries
 pub mod Parts
+pub mod Quotas
+pub mod Usage
 pub mod Credentials
 pub mod Operations
 pub mod Listings
-pub mod Quotas
 pub mod Runs
 pub mod Laws
 pub mod Uploads

@@ -1,11 +1,11 @@
 -- What contracts see of an answer.
 use Rattle.std.specs.Prelude.{map}
 use Rattle.std.specs.String.{string_bytes}
-use Rattle.bh_docs.specs.Documents.{bucket_view}
+use Rattle.bh_docs.specs.Documents.{bucket_view, usage_view}
 use Rattle.bh_docs.specs.Pages.{page_view, versions_view, uploads_view, parts_view}
 use Rattle.bh_model.specs.Operations as model
 use Rattle.bh_storage.specs.declared.answer.Answer.{Answer}
-use Rattle.bh_storage.specs.declared.answer.Answer.TheVariants.{Done, Removed, Stored, Copied, Head, Found, Buckets, Versioning, Objects, Versions, Uploads, Parts, Begun, PartStored, Completed, Lifecycle}
+use Rattle.bh_storage.specs.declared.answer.Answer.TheVariants.{Done, Removed, Stored, Copied, Head, Found, Buckets, Versioning, Objects, Versions, Uploads, Parts, Begun, PartStored, Completed, Lifecycle, Used}
 use Rattle.bh_storage.specs.declared.answer.RemovedEntry.{RemovedEntry}
 use Rattle.bh_storage.specs.declared.answer.StoredVersion.{StoredVersion}
 use Rattle.bh_storage.specs.declared.answer.CopiedVersion.{CopiedVersion}
@@ -52,3 +52,4 @@ answer_view (Lifecycle days) = model.Lifecycle days
 answer_view (Begun upload) = begun_answer upload
 answer_view (PartStored checksum) = model.PartStored (string_bytes checksum)
 answer_view (Completed upload) = completed_answer upload
+answer_view (Used usage) = model.Used (usage_view usage)
