@@ -1,6 +1,6 @@
 -- What a tenant uses, counted.
-use Rattle.std.specs.Prelude.{ℕ, ◌+◌, Bool, not, List, [], ◌∷◌, length, filter, if◌then◌else◌}
-use Rattle.std.specs.List.{sum_by}
+use Rattle.std.specs.Prelude.{ℕ, Bool, not, List, [], ◌∷◌, length, if◌then◌else◌}
+use Rattle.std.specs.List.{filter, sum_by}
 use Rattle.std.specs.FinMap.{len}
 use Rattle.bh_model.specs.Entries.{is_version}
 use Rattle.bh_model.specs.FinMaps.{total}
