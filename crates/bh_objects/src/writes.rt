@@ -152,6 +152,7 @@ pub fn make_room<S: Alter>(
 }
 
 /// A version that is added to a key, whose body is stored.
+#[derive(Clone, Copy, Debug)]
 pub struct AddedVersion<'a> {
     pub tenant: &'a TenantName,
     pub bucket: &'a BucketName,
