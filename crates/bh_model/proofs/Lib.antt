@@ -6,3 +6,4 @@ pub mod PartLemmas
 pub mod KeyLemmas
 pub mod ObjectLemmas
 pub mod UploadLemmas
+pub mod UsedLemmas
