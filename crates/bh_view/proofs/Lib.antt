@@ -43,3 +43,4 @@ pub mod UploadLemmas
 pub mod PartLemmas
 pub mod UploadChanges
 pub mod PartChanges
+pub mod QuotaLemmas
