@@ -102,23 +102,23 @@ copied_row mode before t b k moment head bytes tables size = ap (λ n. record ta
 abbrev copy_then : ℕ → Octets → Octets → Version → State → Bucket → Counts × Counts → Result Outcome Refusal
 copy_then at b k version s B n = Ok (copied at version s.next_version B, Some (with_bucket b (with_copy at k s.next_version version B) (with_counts n.1 s)))
 
+abbrev copy_from : ℕ → Octets → Octets → Result (State × Bucket) Refusal → Result Version Refusal → Result Outcome Refusal
+copy_from at b k r from = do
+  f ← r
+  v ← from
+  _ ← require_quota b (with_copy at k f.0.next_version v f.1) f.0
+  c ← after_entry f.1.mode (counts f.0)
+  Ok (copied at v f.0.next_version f.1, Some (with_bucket b (with_copy at k f.0.next_version v f.1) (with_counts c f.0)))
+
 copy_shape : (at : ℕ) (b k sb sk : Octets) (wanted : Wanted) (v : Option State) (mode : BucketState) (h : HasBucket b v mode) (version : Version) → source_version sb sk wanted v ≡ Ok version
     → copy_object at b k sb sk wanted v ≡ ◌>>=◌ {B = Outcome} (entry_numbers_in mode b k (length version.bytes) v) (copy_then at b k version h.state h.bucket)
 copy_shape at b k sb sk wanted v mode h version source =
     let s = h.state in
     let B = h.bucket in
     let then : Counts → Result Outcome Refusal = λ c. copy_then at b k version s B (c, c) in
-    let asks : copy_from (tenant_bucket b v) (Ok version) ≡ ◌>>=◌ {B = Outcome} (require_quota b (with_copy at k s.next_version version B) s) (λ _. ◌>>=◌ {B = Outcome} (after_entry B.mode (counts s)) then) = rw (h.added, h.there) refl in
-    ap (copy_from (tenant_bucket b v)) source ∙ asks ∙ entry_asked s b k B h.there at s.next_version (Body version.bytes version.checksum) then
+    let asks : copy_from at b k (tenant_bucket b v) (Ok version) ≡ ◌>>=◌ {B = Outcome} (require_quota b (with_copy at k s.next_version version B) s) (λ _. ◌>>=◌ {B = Outcome} (after_entry B.mode (counts s)) then) = rw (h.added, h.there) refl in
+    ap (copy_from at b k (tenant_bucket b v)) source ∙ asks ∙ entry_asked s b k B h.there at s.next_version (Body version.bytes version.checksum) then
     ∙ (λ i. ◌>>=◌ {B = Outcome} (entry_numbers_in (h.its i) b k (length version.bytes) (sym h.added i)) (λ n. then n.1))
-  where
-    abbrev copy_from : Result (State × Bucket) Refusal → Result Version Refusal → Result Outcome Refusal
-    copy_from r from = do
-      f ← r
-      w ← from
-      _ ← require_quota b (with_copy at k f.0.next_version w f.1) f.0
-      c ← after_entry f.1.mode (counts f.0)
-      Ok (copied at w f.0.next_version f.1, Some (with_bucket b (with_copy at k f.0.next_version w f.1) (with_counts c f.0)))
 
 -- what a copy gives, and what stays of the tables
 abbrev pub Copies : Tables → Tables → Octets → Octets → Octets → Octets → Octets → Wanted → ℕ → SeenHead → BucketState → Counts → Type 0
@@ -170,21 +170,13 @@ module _ (old new : Tables) (t b k sb sk : Octets) (wanted : Wanted) (at : ℕ) 
 -- ---- refusals
 
 module _ (at : ℕ) (b k sb sk : Octets) (wanted : Wanted) where
-  abbrev copy_of : Result (State × Bucket) Refusal → Result Version Refusal → Result Outcome Refusal
-  copy_of r from = do
-    f ← r
-    v ← from
-    _ ← require_quota b (with_copy at k f.0.next_version v f.1) f.0
-    c ← after_entry f.1.mode (counts f.0)
-    Ok (copied at v f.0.next_version f.1, Some (with_bucket b (with_copy at k f.0.next_version v f.1) (with_counts c f.0)))
-
   -- its bucket is not there
   pub bucket_refuses : (v : Option State) (x : Refusal) → mode_in b v ≡ Err x → copy_object at b k sb sk wanted v ≡ Err x
   bucket_refuses None x e = ap (λ r. Err (refusal_or r x)) e
   bucket_refuses (Some s) x e = go (get s.buckets b) e
     where
       go : (o : Option Bucket) → result_map_both (λ (f : State × Bucket). f.1.mode) (λ refusal. refusal) (ok_or (option_map (λ b. (s, b)) o) NoSuchBucket) ≡ Err x
-          → copy_of (ok_or (option_map (λ b. (s, b)) o) NoSuchBucket) (source_version sb sk wanted (Some s)) ≡ Err x
+          → copy_from at b k (ok_or (option_map (λ b. (s, b)) o) NoSuchBucket) (source_version sb sk wanted (Some s)) ≡ Err x
       go None e = ap (λ r. Err (refusal_or r x)) e
       go (Some B) e = absurd (true≢false (ap is_ok e))
 
@@ -192,8 +184,8 @@ module _ (at : ℕ) (b k sb sk : Octets) (wanted : Wanted) where
     pub source_refuses : (x : Refusal) → source_version sb sk wanted v ≡ Err x → copy_object at b k sb sk wanted v ≡ Err x
     source_refuses x e =
         let h = has_bucket b v mode found in
-        let last : copy_of (tenant_bucket b v) (Err x) ≡ Err x = rw (h.added, h.there) refl in
-        ap (copy_of (tenant_bucket b v)) e ∙ last
+        let last : copy_from at b k (tenant_bucket b v) (Err x) ≡ Err x = rw (h.added, h.there) refl in
+        ap (copy_from at b k (tenant_bucket b v)) e ∙ last
 
     -- there is no room, or no number is left
     pub numbers_refuse : (version : Version) → source_version sb sk wanted v ≡ Ok version → (x : Refusal) → entry_numbers_in mode b k (length version.bytes) v ≡ Err x → copy_object at b k sb sk wanted v ≡ Err x
@@ -220,10 +212,10 @@ module _ {Y : Type 0} (told : Y → Answer) (at : ℕ) (t b k sb sk : Octets) (w
 
     pub numbers_failed : {X : Type 0} (shows : X → Counts × Counts) (version : Version) → source_version sb sk wanted (view middle t) ≡ Ok version → (n : ℕ) → n ≡ length version.bytes → (last : Tables) → last ≡ middle → (error : StepError Refusal)
         → Decides shows (entry_numbers_in mode b k n (view last t)) last new (Err error) → Carries told t (copy_object at b k sb sk wanted) old new (Err error)
-    numbers_failed shows version source n sized last two (Refused x) d =
+    numbers_failed shows version source n same_size last two (Refused x) d =
         (numbers_refuse at b k sb sk wanted (view old t) mode found version (ap (λ (y : Tables). source_version sb sk wanted (view y t)) (sym one) ∙ source) x
-        (ap (λ m. entry_numbers_in mode b k m (view old t)) (sym sized) ∙ ap (λ (y : Tables). entry_numbers_in mode b k n (view y t)) (sym (two ∙ one)) ∙ d.0), d.1 ∙ two ∙ one)
-    numbers_failed shows version source n sized last two (Failed trouble) d = tt
+        (ap (λ m. entry_numbers_in mode b k m (view old t)) (sym same_size) ∙ ap (λ (y : Tables). entry_numbers_in mode b k n (view y t)) (sym (two ∙ one)) ∙ d.0), d.1 ∙ two ∙ one)
+    numbers_failed shows version source n same_size last two (Failed trouble) d = tt
 
 -- the writes of a copy, one after another
 pub copy_chain : (mode : BucketState) (before after : Counts) (t b k : Octets) (at : ℕ) (head : SeenHead) (old one two three new : Tables)

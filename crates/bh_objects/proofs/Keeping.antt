@@ -32,11 +32,8 @@ module _ (s : State) (b k : Octets) (B : Bucket) (there : get s.buckets b ≡ So
       ∙ go (room_in (replaced_size B.mode (listed k B)) (content_size content) (Some s)) (after_entry B.mode (counts s))
       ∙ (rw there refl)
     where
-      abbrev both : Counts → Result (Counts × Counts) Refusal
-      both a = Ok (counts s, a)
-
       go : (r : Result (Unit {0}) Refusal) (x : Result Counts Refusal) → ◌>>=◌ {B = X} r (λ _. ◌>>=◌ {B = X} x then)
-          ≡ ◌>>=◌ {B = X} (◌>>=◌ {B = Counts × Counts} r (λ _. ◌>>=◌ {B = Counts × Counts} x both)) (λ n. then n.1)
+          ≡ ◌>>=◌ {B = X} (◌>>=◌ {B = Counts × Counts} r (λ _. ◌>>=◌ {B = Counts × Counts} x (λ a. Ok (counts s, a)))) (λ n. then n.1)
       go (Err e) x = refl
       go (Ok u) (Err e) = refl
       go (Ok u) (Ok a) = refl

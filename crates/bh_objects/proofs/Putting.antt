@@ -11,7 +11,7 @@ use Rattle.bh_model.specs.State.{Octets, Content.Body, State, Bucket}
 use Rattle.bh_types.specs.Checksums.{checksum_text}
 use Rattle.bh_model.specs.Counting.{counts, with_counts, after_entry}
 use Rattle.bh_model.specs.Entries.{new_id}
-use Rattle.bh_model.specs.Operations.{Outcome, Stored, id_told, put_object, require_quota, stored, with_bucket, with_object, listed}
+use Rattle.bh_model.specs.Operations.{Answer, Outcome, Stored, id_told, put_object, require_quota, stored, with_bucket, with_object, listed}
 use Rattle.bh_model.specs.Parts.{is_checksum}
 use Rattle.bh_tables.specs.Typed.{Tables}
 use Rattle.bh_view.specs.View.{view, latest_of, limits_in}
@@ -19,7 +19,9 @@ use Rattle.bh_view.specs.Sound.{IsSound}
 use Rattle.bh_view.specs.Becomes.{KeepsShared}
 use Rattle.bh_view.proofs.PutLemmas.{object_put}
 use Rattle.bh_model.specs.Quotas.{replaced_size}
-use Rattle.bh_storage.specs.Calls.{GivesStep}
+use Rattle.bh_storage.specs.Calls.{GivesStep, Decides, Carries}
+use Rattle.bh_storage.specs.declared.error.StepError.{StepError}
+use Rattle.bh_storage.specs.declared.error.StepError.TheVariants.{Refused, Failed}
 use Rattle.bh_view.specs.Blocks.{AreDigests}
 use Rattle.bh_view.specs.Bodies.{HasBodies, IsUnnamed}
 use Rattle.bh_view.proofs.BodyNames.{next_unnamed as unnamed}
@@ -85,6 +87,13 @@ pub put_refused : (at : ℕ) (b k bytes : Octets) (given : Option Octets) (old :
 put_refused at b k bytes given old mode found right x e =
     let h = has_bucket b old mode found in
     put_shape at b k bytes given old mode h right ∙ ap (λ r. ◌>>=◌ {B = Outcome} r (λ n. Ok (stored bytes h.state.next_version h.bucket, Some (with_bucket b (with_object at k h.state.next_version bytes h.bucket) (with_counts n.1 h.state))))) e
+
+pub put_failed : {X Y : Type 0} (shown : X → Counts × Counts) (told : Y → Answer) (t : Octets) (at : ℕ) (b k bytes : Octets) (given : Option Octets) (old middle new : Tables) (mode : BucketState)
+    → mode_in b (view old t) ≡ Ok mode → is_checksum given bytes ≡ true → middle ≡ old → (error : StepError Refusal)
+    → Decides shown (entry_numbers_in mode b k (length bytes) (view middle t)) middle new (Err error) → Carries told t (put_object at b k bytes given) old new (Err error)
+put_failed shown told t at b k bytes given old middle new mode found right same (Refused x) d =
+    (put_refused at b k bytes given (view old t) mode found right x (ap (λ (y : Tables). entry_numbers_in mode b k (length bytes) (view y t)) (sym same) ∙ d.0), d.1 ∙ same)
+put_failed shown told t at b k bytes given old middle new mode found right same (Failed trouble) d = tt
 
 -- the sum that was given, if one was, is right
 pub sum_right : (given : Option Octets) (bytes text : Octets) → sum_given given bytes ≡ Ok text → is_checksum given bytes ≡ true

@@ -13,7 +13,7 @@ use Rattle.bh_schema.specs.Layer.{IsStateClean}
 use Rattle.bh_schema.specs.Views.{head_seen}
 use Rattle.bh_schema.specs.Working.{tables_at}
 use Rattle.bh_objects.specs.Copies.{version_read, copy_written}
-use Rattle.bh_objects.specs.Found.{entry_numbers_in}
+use Rattle.bh_objects.specs.Found.{mode_in, entry_numbers_in}
 use Rattle.bh_objects.specs.declared.reads.Numbers.{Numbers}
 use Rattle.bh_objects.proofs.Working.{host_at, works_then, unless_then}
 use Rattle.bh_objects.proofs.Copying.{Copies, copies_body, bucket_failed, source_failed, numbers_failed}
@@ -89,6 +89,12 @@ returns-in_err-numbers-clause-carries g c clean =
 
 pub source_head-requires : goal.source_head-requires
 source_head-requires g c clean = (c.in_ok-mode.ensures.working clean (λ bytes. bytes)).is
+
+pub entry_numbers-requires-clause-there : goal.entry_numbers-requires-clause-there
+entry_numbers-requires-clause-there g c clean =
+    let two = c.in_ok-head.ensures.decides clean in
+    let one = c.in_ok-mode.ensures.decides (c.in_ok-head.ensures.within.follows.clean clean) in
+    ap (λ (x : Tables). mode_in c.args.copy.now.bucket.now (view x c.args.copy.now.tenant.now)) (two.1 ∙ one.1) ∙ one.0
 
 pub entry_numbers-requires-clause-working : goal.entry_numbers-requires-clause-working
 entry_numbers-requires-clause-working g c clean = (c.in_ok-head.ensures.working clean (λ bytes. bytes)).is

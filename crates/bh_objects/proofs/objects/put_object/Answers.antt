@@ -8,14 +8,16 @@ use Rattle.bh_model.specs.Entries.{new_id}
 use Rattle.bh_model.specs.Operations.{id_told}
 use Rattle.bh_tables.specs.Typed.{Tables}
 use Rattle.bh_view.specs.View.{view}
+use Rattle.bh_storage.specs.Answers.{stored_answer}
 use Rattle.bh_schema.specs.Layer.{IsStateClean}
 use Rattle.bh_schema.specs.Working.{tables_at}
 use Rattle.bh_view.specs.Blocks.{AreDigests}
 use Rattle.bh_view.specs.Bodies.{HasBodies}
-use Rattle.bh_objects.specs.Found.{entry_numbers_in}
+use Rattle.bh_objects.specs.Found.{mode_in, entry_numbers_in}
 use Rattle.bh_objects.specs.Writes.{object_written}
+use Rattle.bh_objects.specs.declared.reads.Numbers.{Numbers}
 use Rattle.bh_objects.proofs.Working.{host_at, works_then, any_unless, unless_then}
-use Rattle.bh_objects.proofs.Putting.{Puts, puts_pieces, sum_right}
+use Rattle.bh_objects.proofs.Putting.{Puts, puts_pieces, put_failed, sum_right}
 use Rattle.bh_objects.proofs.objects.put_object.Given as given
 use Rattle.bh_objects.proofs.objects.put_object.Goals as goal
 
@@ -60,6 +62,11 @@ returns-in_err-mode-clause-working g c =
 pub returns-in_err-checksum-clause-working : goal.returns-in_err-checksum-clause-working
 returns-in_err-checksum-clause-working g c = any_unless c.from_residual-in_err-checksum.result _ (λ clean. c.in_ok-mode.ensures.working clean g.D.Digester.digest_of)
 
+pub entry_numbers-requires-clause-there : goal.entry_numbers-requires-clause-there
+entry_numbers-requires-clause-there g c clean =
+    let one = c.in_ok-mode.ensures.decides clean in
+    ap (λ (x : Tables). mode_in c.args.object.now.bucket.now (view x c.args.object.now.tenant.now)) one.1 ∙ one.0
+
 pub entry_numbers-requires-clause-working : goal.entry_numbers-requires-clause-working
 entry_numbers-requires-clause-working g c clean = (c.in_ok-mode.ensures.working clean (λ bytes. bytes)).is
 
@@ -71,3 +78,12 @@ returns-in_err-numbers-clause-working g c =
 
 pub write_object-requires-clause-inside : goal.write_object-requires-clause-inside
 write_object-requires-clause-inside g c clean = (c.in_ok-numbers.ensures.working clean (λ bytes. bytes)).is.inside
+
+pub returns-in_err-numbers-clause-carries : goal.returns-in_err-numbers-clause-carries
+returns-in_err-numbers-clause-carries g c clean =
+    let p = err_from_is_err_and c.from_residual-in_err-numbers.result c.from_residual-in_err-numbers.ensures.1 in
+    let object = c.args.object.now in
+    let one = c.in_ok-mode.ensures.decides (c.in_err-numbers.ensures.within.follows.clean clean) in
+    rw (p.1, p.2) (put_failed (λ (numbers : Numbers). (numbers.before, numbers.after)) stored_answer object.tenant.now object.at object.bucket.now object.key.now object.bytes.now (option_copied c.args.given)
+    (tables_at (state g.S.Store c.args.connection.now)) (tables_at (state g.S.Store c.bucket_state.new.connection)) (tables_at (state g.S.Store c.entry_numbers.new.connection)) c.in_ok-mode.mode one.0
+    (sum_right (option_copied c.args.given) object.bytes.now (string_bytes c.in_ok-checksum.checksum) c.in_ok-checksum.ensures.answers) one.1 c.in_err-numbers.field-0.0 (c.in_err-numbers.ensures.decides clean))
