@@ -7,3 +7,4 @@ pub mod KeyLemmas
 pub mod ObjectLemmas
 pub mod UploadLemmas
 pub mod UsedLemmas
+pub mod QuotaLemmas
