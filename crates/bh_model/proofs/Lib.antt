@@ -8,3 +8,4 @@ pub mod ObjectLemmas
 pub mod UploadLemmas
 pub mod UsedLemmas
 pub mod QuotaLemmas
+pub mod BoundLemmas

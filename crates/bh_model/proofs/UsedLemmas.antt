@@ -89,10 +89,10 @@ module _ {K X : Type 0} {R : K → K → Ordering} (order : IsTotalOrder R) (sam
   total_set_at m k None = omega (arith, total_removed m k)
   total_set_at m k (Some v) = total_inserted m k v
 
-octets_total : IsTotalOrder octets_cmp
+pub octets_total : IsTotalOrder octets_cmp
 octets_total = nat_list_cmp_total
 
-octets_same : IsAntisymmetric octets_cmp
+pub octets_same : IsAntisymmetric octets_cmp
 octets_same = slice_cmp-IsAntisymmetric nat_cmp-IsAntisymmetric
 
 -- ---- a tenant's buckets
@@ -121,7 +121,7 @@ used_with_entries key entries b =
 null_apart : (entries : List Entry) → size_of (without Null entries) + null_size entries ≡ size_of entries
 null_apart entries = omega (arith, sum_by-filter_both (has_id Null) (λ e. not (has_id Null e)) (λ _. refl) entry_size entries)
 
-kept_size : (mode : BucketState) (entries : List Entry) → size_of (kept mode entries) + replaced_size mode entries ≡ size_of entries
+pub kept_size : (mode : BucketState) (entries : List Entry) → size_of (kept mode entries) + replaced_size mode entries ≡ size_of entries
 kept_size Unversioned entries = null_apart entries
 kept_size Enabled entries = omega arith
 kept_size Suspended entries = null_apart entries

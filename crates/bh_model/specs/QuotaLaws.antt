@@ -11,9 +11,10 @@ use Rattle.bh_model.specs.Uploads.{create_upload, upload_part, complete_upload, 
 
 -- ---- against the quota
 
--- the quota stays, and afterwards no more is used than before, or no more than the quota
+-- the quota stays, and afterwards no more is used than before, or no more than the quota; no tenant comes or goes
 abbrev pub FitsQuota : Option State → Option State → Type 0
-FitsQuota None s = Unit {0}
+FitsQuota None None = Unit {0}
+FitsQuota None (Some t) = ⊥
 FitsQuota (Some s) None = ⊥
 FitsQuota (Some s) (Some t) = (t.quota ≡ s.quota) × (used t ≤ max (used s) s.quota)
 
