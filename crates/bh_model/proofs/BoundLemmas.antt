@@ -1,25 +1,24 @@
 -- That no operation takes a tenant above its quota, or above the greatest quota.
-use Rattle.std.proofs.Common.{◌≡◌, ℕ, ◌+◌, ◌^◌, ◌≤◌, max, nat_le, Bool, true, false, cond, ◌&&◌, List, Option, Some, None, option_map, option_and_then, is_none, is_some, sum_by, ok_or, Result, Ok, Err, refl, sym, ap, subst, ◌∙◌, arith, nat_cmp, bytes_eq, leb-true}
+use Rattle.std.proofs.Common.{◌≡◌, ℕ, ◌+◌, ◌^◌, ◌≤◌, max, nat_le, Bool, true, false, cond, ◌&&◌, List, Option, Some, None, option_map, option_and_then, is_none, is_some, sum_by, ok_or, Result, Ok, Err, refl, sym, ap, subst, arith, nat_cmp, bytes_eq, leb-true}
 use Rattle.std.specs.Result.{IfOk}
 use Rattle.std.specs.Option.{option_map_or}
 use Rattle.std.specs.Cmp.{nat_cmp_total}
-use Rattle.std.specs.FinMap.{FinMap, nat_cmp-IsAntisymmetric, get, insert, remove}
+use Rattle.std.specs.FinMap.{nat_cmp-IsAntisymmetric, get, remove}
 use Rattle.std.proofs.Math.Nat.{max-le, le_trans}
 use Rattle.bh_types.specs.Names.{is_tenant_name, is_key_name, is_secret}
-use Rattle.bh_types.specs.Outcomes.{◌>>=◌, require}
+use Rattle.bh_types.specs.Outcomes.{◌>>=◌}
 use Rattle.bh_types.specs.declared.id.UploadId.{UploadId}
 use Rattle.bh_types.specs.declared.refusal.Refusal.{Refusal}
 use Rattle.bh_types.specs.declared.refusal.Refusal.TheVariants.{InvalidName, InvalidQuota, TenantExists, KeyExists, NoSuchKeyName, NoSuchBucket, BucketAlreadyOwnedByYou, BucketNotEmpty, BadDigest, QuotaExceeded, NoSuchUpload}
-use Rattle.bh_types.specs.declared.bucket_state.BucketState.{BucketState}
 use Rattle.bh_types.specs.declared.wanted.Wanted.{Wanted}
 use Rattle.bh_model.specs.FinMaps.{is_empty, total}
-use Rattle.bh_model.specs.State.{Octets, octets_cmp, Content, Part, Upload, Bucket, State, new_tenant, new_bucket, content_size, entry_size, part_size, upload_used, bucket_used, used, purged}
-use Rattle.bh_model.specs.Counting.{counts, with_counts, after_entry, after_delete}
+use Rattle.bh_model.specs.State.{Octets, octets_cmp, Content, Part, Upload, Bucket, State, new_tenant, new_bucket, content_size, entry_size, part_size, upload_used, bucket_used, used}
+use Rattle.bh_model.specs.Counting.{counts, after_entry, after_delete}
 use Rattle.bh_model.specs.Entries.{deleted}
 use Rattle.bh_model.specs.Parts.{Naming, is_checksum, completed}
-use Rattle.bh_model.specs.Runs.{purged_tenant, settled, step}
-use Rattle.bh_model.specs.Quotas.{keeps_quota, replaced_size}
-use Rattle.bh_model.specs.Operations.{Outcome, add_key, remove_key, create_bucket, put_object, copy_object, delete_object, listed, tenant_bucket, with_bucket, with_object, with_copy, with_deleted, require_quota, source_version, add_tenant, set_quota}
+use Rattle.bh_model.specs.Runs.{purged_tenant, settled}
+use Rattle.bh_model.specs.Quotas.{keeps_quota}
+use Rattle.bh_model.specs.Operations.{Outcome, add_key, remove_key, create_bucket, put_object, copy_object, delete_object, listed, tenant_bucket, with_bucket, with_object, with_copy, with_deleted, source_version, add_tenant, set_quota}
 use Rattle.bh_model.specs.Uploads.{FoundUpload, of_key, found_upload, find_upload, with_upload, without_upload, with_stored, with_completed, new_upload, after_begin, after_part, create_upload, upload_part, complete_upload}
 use Rattle.bh_model.specs.QuotaLaws.{FitsQuota, AlwaysFits, QuotaHolds, IsBounded, StaysBounded, UsedStaysBounded, StepsStayBounded}
 use Rattle.bh_model.proofs.KeyLemmas.{tested}

@@ -1,28 +1,26 @@
 -- What an operation leaves used, against what was used before and against the quota.
-use Rattle.std.proofs.Common.{◌≡◌, ℕ, suc, ◌+◌, ◌≤◌, ◌<◌, max, nat_lt, Bool, true, false, cond, not, ◌&&◌, T, List, [], ◌∷◌, map, filter, length, sum_by, Option, Some, None, option_map, option_and_then, ok_or, Result, Ok, Err, refl, sym, ap, subst, ◌∙◌, arith, Ordering, nat_cmp, is_eq, ltb-true}
+use Rattle.std.proofs.Common.{◌≡◌, ℕ, suc, ◌≤◌, ◌<◌, max, nat_lt, Bool, true, false, cond, not, ◌&&◌, T, List, [], ◌∷◌, map, filter, length, sum_by, Option, Some, None, option_and_then, ok_or, Result, Ok, Err, refl, sym, ap, subst, ◌∙◌, arith, Ordering, nat_cmp, is_eq, ltb-true}
 use Rattle.std.specs.Result.{IfOk}
 use Rattle.std.specs.Option.{option_map_or}
 use Rattle.std.specs.Ordering.{eq_by_cmp}
-use Rattle.std.specs.List.{flat_map}
 use Rattle.std.specs.Cmp.{IsTotalOrder, Equal-is, nat_cmp_total}
 use Rattle.std.proofs.lemmas.Bool.Decides.{nat_tests}
 use Rattle.std.proofs.lemmas.List.Sums.{sum_by-cons}
 use Rattle.std.proofs.lemmas.List.Concat.{length-flat_map}
 use Rattle.std.proofs.lemmas.List.Filters.{sum_by-filter_both}
-use Rattle.std.specs.FinMap.{FinMap, IsAntisymmetric, nat_cmp-IsAntisymmetric, empty, entries, entries_sorted, find, get, get-entries, get-remove, is_sorted, len, len-entries, len-empty, remove}
+use Rattle.std.specs.FinMap.{FinMap, IsAntisymmetric, nat_cmp-IsAntisymmetric, empty, entries, entries_sorted, find, get, get-entries, get-remove, is_sorted, len-entries, len-empty, remove}
 use Rattle.std.specs.FinMap.Entries.{below_all}
-use Rattle.bh_types.specs.Outcomes.{◌>>=◌, require}
+use Rattle.bh_types.specs.Outcomes.{◌>>=◌}
 use Rattle.bh_types.specs.declared.bucket_state.BucketState.{BucketState}
 use Rattle.bh_types.specs.declared.bucket_state.BucketState.TheVariants.{Unversioned, Enabled, Suspended}
 use Rattle.bh_types.specs.declared.id.VersionId.TheVariants.{Null}
-use Rattle.bh_types.specs.declared.refusal.Refusal.{Refusal}
 use Rattle.bh_types.specs.declared.refusal.Refusal.TheVariants.{InvalidPart, InvalidPartOrder, EntityTooSmall}
 use Rattle.bh_types.specs.declared.wanted.Wanted.{Wanted}
 use Rattle.bh_types.specs.declared.wanted.Wanted.TheVariants.{Current, Named, Unknown}
 use Rattle.bh_model.specs.FinMaps.{adjusted, total}
-use Rattle.bh_model.specs.State.{Octets, Content, Content.Marker, Entry, Part, Upload, Bucket, State, content_size, entry_size, part_size, upload_used, bucket_used, used, is_stale, fresh, purged_bucket, purged}
-use Rattle.bh_model.specs.Entries.{has_id, is_version, kept, added, deleted, new_id, without, without_null_version}
-use Rattle.bh_model.specs.Parts.{Naming, ascends, is_checksum, checked, choice, chosen, are_large, joined, completed}
+use Rattle.bh_model.specs.State.{Octets, Content.Marker, Entry, Part, Upload, Bucket, State, content_size, entry_size, part_size, upload_used, bucket_used, used, is_stale, fresh, purged_bucket, purged}
+use Rattle.bh_model.specs.Entries.{has_id, is_version, kept, added, deleted, new_id}
+use Rattle.bh_model.specs.Parts.{Naming, ascends, is_checksum, checked, choice, chosen, are_large, completed}
 use Rattle.bh_model.specs.Quotas.{fits_quota}
 use Rattle.bh_model.proofs.MapLemmas.{left, right, find_below, get-adjusted}
 use Rattle.std.proofs.lemmas.Cmp.{tied_itself}
@@ -63,7 +61,7 @@ module _ {K : Type 0} {R : K → K → Ordering} (order : IsTotalOrder R) (same 
     sums [] up n h = omega arith
     sums (e ∷ es) up n h =
         let here : f e.1 ≤ option_map_or g (get n e.0) 0 = subst (λ b. option_map_or f (cond b (Some e.1) (find R e.0 es)) 0 ≤ option_map_or g (get n e.0) 0) (itself e.0) (h e.0) in
-        let rest : sum_by (λ e. f e.1) es ≤ total g (remove n e.0) = sums es (right _ _ up) (remove n e.0) below in
+        let rest : sum_by (λ e. f e.1) es ≤ total g (remove n e.0) = sums es (right (below_all R e.0 es) (is_sorted R es) up) (remove n e.0) below in
         omega (arith, here, rest, sum_by-cons (λ e. f e.1) e es, total_removed order same g n e.0)
       where
         itself : (q : K) → eq_by_cmp R q q ≡ true
