@@ -7,3 +7,5 @@ pub mod KeyLemmas
 pub mod ObjectLemmas
 pub mod UploadLemmas
 pub mod UsedLemmas
+pub mod QuotaLemmas
+pub mod BoundLemmas

@@ -1,5 +1,5 @@
 -- What one change makes of the sum over a map's values, and so of what a tenant uses.
-use Rattle.std.proofs.Common.{◌≡◌, ℕ, ◌+◌, zero-add, Bool, true, false, cond, not, T, List, [], ◌∷◌, filter, sum_by, Option, Some, None, unwrap_or, refl, sym, ap, subst, ◌∙◌, arith, Ordering, is_eq, nat_cmp}
+use Rattle.std.proofs.Common.{◌≡◌, ℕ, ◌+◌, true, false, cond, not, T, List, [], ◌∷◌, sum_by, Option, Some, None, unwrap_or, refl, sym, ap, subst, ◌∙◌, arith, Ordering, is_eq}
 use Rattle.std.specs.Option.{option_map_or}
 use Rattle.std.specs.Ordering.{eq_by_cmp}
 use Rattle.std.specs.Cmp.{IsTotalOrder, Equal-is, nat_cmp_total}
@@ -36,7 +36,7 @@ module _ {K X : Type 0} {R : K → K → Ordering} (order : IsTotalOrder R) (sam
   split : (k : K) (es : List (K × X)) → T (is_sorted R es) → sum_by size es ≡ size_at k es + sum_by size (others k es)
   split k [] up = refl
   split k (e ∷ es) up =
-      let rest : sum_by size es ≡ size_at k es + sum_by size (others k es) = split k es (right _ _ up) in
+      let rest : sum_by size es ≡ size_at k es + sum_by size (others k es) = split k es (right (below_all R e.0 es) (is_sorted R es) up) in
       elim (eq_by_cmp R k e.0) as (λ b. eq_by_cmp R k e.0 ≡ b → sum_by size (e ∷ es) ≡ option_map_or f (cond b (Some e.1) (find R k es)) 0 + sum_by size (cond (not b) (e ∷ others k es) (others k es))) [
         | true ↦ λ t.
             let none : find R k es ≡ None = find_below R k es (subst (λ q. T (below_all R q es)) (sym (same k e.0 ((Equal-is _).0 t))) (left _ _ up)) in
@@ -89,10 +89,10 @@ module _ {K X : Type 0} {R : K → K → Ordering} (order : IsTotalOrder R) (sam
   total_set_at m k None = omega (arith, total_removed m k)
   total_set_at m k (Some v) = total_inserted m k v
 
-octets_total : IsTotalOrder octets_cmp
+pub octets_total : IsTotalOrder octets_cmp
 octets_total = nat_list_cmp_total
 
-octets_same : IsAntisymmetric octets_cmp
+pub octets_same : IsAntisymmetric octets_cmp
 octets_same = slice_cmp-IsAntisymmetric nat_cmp-IsAntisymmetric
 
 -- ---- a tenant's buckets
@@ -121,7 +121,7 @@ used_with_entries key entries b =
 null_apart : (entries : List Entry) → size_of (without Null entries) + null_size entries ≡ size_of entries
 null_apart entries = omega (arith, sum_by-filter_both (has_id Null) (λ e. not (has_id Null e)) (λ _. refl) entry_size entries)
 
-kept_size : (mode : BucketState) (entries : List Entry) → size_of (kept mode entries) + replaced_size mode entries ≡ size_of entries
+pub kept_size : (mode : BucketState) (entries : List Entry) → size_of (kept mode entries) + replaced_size mode entries ≡ size_of entries
 kept_size Unversioned entries = null_apart entries
 kept_size Enabled entries = omega arith
 kept_size Suspended entries = null_apart entries

@@ -13,4 +13,5 @@ pub mod Runs
 pub mod Laws
 pub mod Uploads
 pub mod UploadLaws
+pub mod QuotaLaws
 pub mod Shown
