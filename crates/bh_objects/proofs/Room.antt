@@ -83,7 +83,7 @@ decides_on shown whole last old middle new (Err (Refused r)) same is d = (is ∙
 decides_on shown whole last old middle new (Err (Failed trouble)) same is d = tt
 
 -- the room is not there
-pub room_failed : {X : Type 0} (shown : X → Counts × Counts) (whole : Tables → Result (Counts × Counts) Refusal) (room : Tables → Result (Unit {0}) Refusal) (next : Unit {0} → Result (Counts × Counts) Refusal) (old middle new : Tables) (error : StepError Refusal)
-    → middle ≡ old → whole old ≡ ◌>>=◌ {B = Counts × Counts} (room old) next → Decides {X = Unit {0}} (λ _. tt) (room middle) middle new (Err error) → Decides shown (whole old) old new (Err error)
+pub room_failed : {X Y : Type 0} (shown : X → Y) (whole : Tables → Result Y Refusal) (room : Tables → Result (Unit {0}) Refusal) (next : Unit {0} → Result Y Refusal) (old middle new : Tables) (error : StepError Refusal)
+    → middle ≡ old → whole old ≡ ◌>>=◌ {B = Y} (room old) next → Decides {X = Unit {0}} (λ _. tt) (room middle) middle new (Err error) → Decides shown (whole old) old new (Err error)
 room_failed shown whole room next old middle new (Refused x) same is d = (is ∙ room_refuses (room old) next x (ap room (sym same) ∙ d.0), d.1 ∙ same)
 room_failed shown whole room next old middle new (Failed trouble) same is d = tt

@@ -201,5 +201,6 @@ shown_number u = number u.upload ∷ []
 abbrev pub shown_part : PartRow → Row
 shown_part p = number p.part ∷ number p.size ∷ Text p.checksum ∷ number p.stamp ∷ number p.body ∷ []
 
+-- where its bytes are stored, and how many
 abbrev pub shown_body : PartRow → Row
-shown_body p = number p.body ∷ []
+shown_body p = number p.body ∷ number p.size ∷ []
