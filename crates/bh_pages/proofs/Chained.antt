@@ -4,7 +4,7 @@ use Rattle.std.specs.List.{AllByRecursion}
 use Rattle.std.specs.FinMap.{entries, entries_sorted}
 use Rattle.bh_model.specs.State.{Octets, octets_cmp, Content, Content.Marker, Content.Body, Entry}
 use Rattle.bh_model.specs.Pages.{Listed, is_before, paged, joined, entry_of, name_of, entries_after, after_name, ObjectItem, objects_in}
-use Rattle.bh_pages.specs.Laws.{total, chained, object_marked, PagesChain}
+use Rattle.bh_pages.specs.Laws.{total, chained, object_key, object_marked, PagesChain}
 use Rattle.bh_pages.proofs.Filters.{keep_all}
 use Rattle.bh_pages.proofs.Pairs.{Pairs, Rises, sorted_pairs}
 use Rattle.bh_pages.proofs.Resuming.{chain_entries}
@@ -37,9 +37,6 @@ objects_ascend ((key, es) ∷ keys) up = go es (objects_ascend keys up.1)
         one : (c : Content) → Pairs Before (objects_in keys) → Pairs Before (objects_in ((key, record e { content = c } ∷ es) ∷ keys))
         one Marker rest = rest
         one (Body bytes checksum) rest = (objects_above key keys up.0, rest)
-
-abbrev object_key : ObjectItem → Octets
-object_key o = o.key
 
 module _ (prefix delimiter : Octets) (items : List ObjectItem) (up : Pairs Before items) where
   abbrev listing : Option Octets → List (Listed ObjectItem)

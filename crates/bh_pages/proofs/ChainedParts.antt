@@ -6,7 +6,7 @@ use Rattle.std.specs.Ordering.{is_lt}
 use Rattle.std.proofs.lemmas.Bool.Decides.{nat_tests}
 use Rattle.bh_model.specs.State.{Part}
 use Rattle.bh_model.specs.Pages.{PartItem, last_of, part_item, parts_after}
-use Rattle.bh_pages.specs.Laws.{PartsChain}
+use Rattle.bh_pages.specs.Laws.{part_number, PartsChain}
 use Rattle.bh_pages.proofs.Bytes.{none_some, some_same}
 use Rattle.bh_pages.proofs.Pairs.{Pairs, Rises, sorted_pairs}
 use Rattle.bh_pages.proofs.Chaining.{all_last, chain}
@@ -104,4 +104,4 @@ numbers_climb (e ∷ es) up = (below es up.0, numbers_climb es up.1)
 pub parts_chain : PartsChain
 parts_chain parts sizes marker some =
     let climb = numbers_climb (entries parts) (sorted_pairs nat_cmp (entries parts) (entries_sorted parts)) in
-    chain (λ (p : PartItem). p.number) (λ n. parts_after n (entries parts)) (parts_after marker (entries parts)) (behind (entries parts) climb marker) sizes some 0 marker refl
+    chain part_number (λ n. parts_after n (entries parts)) (parts_after marker (entries parts)) (behind (entries parts) climb marker) sizes some 0 marker refl

@@ -1,19 +1,20 @@
 -- Pages of uploads that are chained by their markers show each entry once and in order.
-use Rattle.std.proofs.Common.{◌≡◌, ℕ, ◌≤◌, nat_lt, Bool, true, false, true≢false, cond, ◌&&◌, ◌||◌, List, [], ◌∷◌, map, filter, take, Option, None, Some, refl, sym, ap, ◌∙◌, arith, Ordering, Less, Equal, Greater, nat_cmp}
+use Rattle.std.proofs.Common.{◌≡◌, ℕ, ◌≤◌, nat_lt, Bool, true, false, true≢false, cond, ◌&&◌, ◌||◌, List, [], ◌∷◌, map, filter, take, Option, None, refl, sym, ap, ◌∙◌, arith, Ordering, Less, Equal, Greater, nat_cmp}
 use Rattle.std.specs.List.{AllByRecursion}
 use Rattle.std.specs.FinMap.{entries, entries_sorted}
 use Rattle.std.specs.Ordering.{is_eq, is_lt, is_gt, ordering_then, ordering_reverse}
 use Rattle.std.proofs.lemmas.Bool.Decides.{nat_tests}
 use Rattle.std.proofs.lemmas.Cmp.{nat_cmp_total}
 use Rattle.bh_model.specs.State.{Octets, octets_cmp, Upload}
-use Rattle.bh_model.specs.Pages.{Listed, Listed.Single, Listed.Common, is_before, same, paged, joined, entry_of, name_of, entries_after, UploadItem, UploadPlace, upload_order, put_upload, in_key_order, upload_item, all_uploads, passes_upload, upload_next}
-use Rattle.bh_pages.specs.Laws.{total, chained, upload_place, upload_marked, UploadsChain}
+use Rattle.bh_model.specs.Pages.{Listed, Listed.Single, Listed.Common, is_before, same, paged, joined, entry_of, name_of, entries_after, UploadItem, UploadPlace, upload_order, put_upload, in_key_order, upload_item, all_uploads, passes_upload}
+use Rattle.bh_pages.specs.Laws.{total, chained, upload_marked, UploadsChain}
 use Rattle.bh_pages.specs.Uploads.{upload_key, upload_number}
+use Rattle.bh_pages.proofs.Before.{less_not_equal}
 use Rattle.bh_pages.proofs.Filters.{all_map, keep_all}
 use Rattle.bh_pages.proofs.Pairs.{Pairs, Rises, sorted_pairs}
 use Rattle.bh_pages.proofs.Placing.{spot_total, precedes_trans, precedes_key, not_back, not_itself}
 use Rattle.bh_pages.proofs.Resuming.{chain_entries}
-use Rattle.bh_pages.proofs.Coming.{under, leads, led_resumes, past_name}
+use Rattle.bh_pages.proofs.Coming.{under, leads, led_resumes}
 
 abbrev is_ahead : UploadItem → UploadItem → Bool
 is_ahead u v = is_lt (upload_order u v)
@@ -72,14 +73,9 @@ numbered_others : (l : List (ℕ × Upload)) → Pairs (Rises nat_cmp) l → Pai
 numbered_others [] up = tt
 numbered_others (u ∷ l) up = (each l up.0, numbered_others l up.1)
   where
-    other : (o : Ordering) → is_lt o ≡ true → is_eq o ≡ false
-    other Less h = refl
-    other Equal h = absurd (true≢false (sym h))
-    other Greater h = refl
-
     each : (k : List (ℕ × Upload)) → AllByRecursion (Rises nat_cmp u) k → AllByRecursion (IsOther (upload_item u)) (map upload_item k)
     each [] all = tt
-    each (v ∷ k) all = (other (nat_cmp u.0 v.0) all.0, each k all.1)
+    each (v ∷ k) all = (less_not_equal (nat_cmp u.0 v.0) all.0, each k all.1)
 
 -- ---- what passes the marker of an entry
 
@@ -115,7 +111,7 @@ module _ (prefix delimiter : Octets) (items : List UploadItem) (up : Pairs Ahead
   chained_listing : (sizes : List ℕ) → AllByRecursion (λ m. 1 ≤ m) sizes → chained upload_marked (λ m marker. paged m (listing marker)) sizes None ≡ take (total sizes) (listing None)
   chained_listing =
       let rule = led_resumes prefix delimiter upload_key Ahead past past_common (λ u n. refl) (λ u. past_ahead u u ∙ not_itself nat_cmp nat_cmp_total upload_key upload_number (spot u)) (λ u v h. past_ahead u v ∙ h)
-          (λ u v h. past_ahead v u ∙ not_back nat_cmp nat_cmp_total upload_key upload_number (spot u) (spot v) h) in
+      (λ u v h. past_ahead v u ∙ not_back nat_cmp nat_cmp_total upload_key upload_number (spot u) (spot v) h) in
       chain_entries (entry_of prefix delimiter upload_key) (λ e l. filter (past e) (map (entry_of prefix delimiter upload_key) l)) upload_marked listing (under prefix delimiter upload_key items)
       (rule (under prefix delimiter upload_key items) (leads prefix delimiter upload_key Ahead (λ u v h. precedes_key nat_cmp nat_cmp_total upload_key upload_number (spot u) (spot v) h) items up))
       None (ap (joined None) (keep_all (map (entry_of prefix delimiter upload_key) (under prefix delimiter upload_key items)))) (λ e. refl)

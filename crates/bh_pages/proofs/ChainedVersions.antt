@@ -1,5 +1,5 @@
 -- Pages of versions that are chained by their markers show each entry once and in order.
-use Rattle.std.proofs.Common.{◌≡◌, ◌⊎◌, inl, inr, ℕ, suc, ◌≤◌, Bool, true, false, true≢false, cond, ◌==◌, List, [], ◌∷◌, ◌++◌, length, map, filter, take, Option, None, Some, refl, sym, ap, subst, ◌∙◌, arith, Ordering, Less, Equal, Greater}
+use Rattle.std.proofs.Common.{◌≡◌, ◌⊎◌, inl, inr, ℕ, ◌≤◌, Bool, true, false, true≢false, cond, ◌==◌, List, [], ◌∷◌, ◌++◌, length, map, filter, take, Option, None, Some, refl, sym, ap, subst, ◌∙◌, arith, Ordering, Less, Equal, Greater}
 use Rattle.std.specs.List.{AllByRecursion}
 use Rattle.std.specs.FinMap.{entries, entries_sorted}
 use Rattle.std.specs.Ordering.{is_eq, is_lt, is_le, ordering_reverse}
@@ -7,13 +7,12 @@ use Rattle.std.proofs.lemmas.Bool.Decides.{nat_tests}
 use Rattle.std.proofs.lemmas.Cmp.{nat_list_cmp_total, tied_itself}
 use Rattle.bh_types.specs.declared.id.VersionId.{VersionId}
 use Rattle.bh_types.specs.declared.id.VersionId.TheVariants.{Null, Numbered}
-use Rattle.bh_types.specs.declared.wanted.Wanted.TheVariants.{Named}
 use Rattle.bh_model.specs.State.{Octets, octets_cmp, Entry}
 use Rattle.bh_model.specs.Entries.{same_id, has_id}
 use Rattle.bh_model.specs.Pages.{Listed, Listed.Single, Listed.Common, is_before, is_upto, same, begins, rolled, as_listed, paged, joined, entry_of, entries_after, VersionItem, VersionPlace, version_item, versions_of, all_versions, after_id, versions_after, passes_version, key_of}
-use Rattle.bh_pages.specs.Laws.{total, chained, version_marked, HaveOwnIds, VersionsChain}
+use Rattle.bh_pages.specs.Laws.{total, chained, version_key, version_marked, HaveOwnIds, VersionsChain}
 use Rattle.bh_pages.proofs.Bytes.{same_number, upto_self, upto_begun, rolled_begins}
-use Rattle.bh_pages.proofs.Before.{less_not_same, before_upto}
+use Rattle.bh_pages.proofs.Before.{less_not_equal, less_not_same, before_upto}
 use Rattle.bh_pages.proofs.Filters.{all_map, filter_none, filter_whole, filter_passes, keep_all}
 use Rattle.bh_pages.proofs.Pairs.{Pairs, all_append, pairs_append, Rises, sorted_pairs}
 use Rattle.bh_pages.proofs.VersionLists.{after_through}
@@ -27,9 +26,6 @@ Follows v w = (is_before v.key w.key ≡ true) ⊎ ((v.key ≡ w.key) × (same_i
 key_up : (v w : VersionItem) → Follows v w → is_upto v.key w.key ≡ true
 key_up v w (inl before) = upto_before v.key w.key before
 key_up v w (inr both) = ap (is_upto v.key) (sym both.0) ∙ upto_self v.key
-
-abbrev version_key : VersionItem → Octets
-version_key v = v.key
 
 same_self : (k : Octets) → same k k ≡ true
 same_self k = ap is_eq (tied_itself nat_list_cmp_total k)
@@ -58,12 +54,7 @@ greater k = filter (λ (v : VersionItem). is_before k v.key)
 -- an earlier version is not after a later one
 one_skips : (v w : VersionItem) → Follows v w → (l : List VersionItem) → versions_after (version_marked (Single w)) (v ∷ l) ≡ versions_after (version_marked (Single w)) l
 one_skips v w (inl before) l =
-    λ i. after_id w.id (cond (apart (octets_cmp v.key w.key) before i) (v ∷ own w.key l) (own w.key l)) ++ cond (before_back v.key w.key before i) (v ∷ greater w.key l) (greater w.key l)
-  where
-    apart : (o : Ordering) → is_lt o ≡ true → is_eq o ≡ false
-    apart Less h = refl
-    apart Equal h = absurd (true≢false (sym h))
-    apart Greater h = refl
+    λ i. after_id w.id (cond (less_not_equal (octets_cmp v.key w.key) before i) (v ∷ own w.key l) (own w.key l)) ++ cond (before_back v.key w.key before i) (v ∷ greater w.key l) (greater w.key l)
 one_skips v w (inr both) l =
     (λ i. after_id w.id (cond ((ap (λ k. same k w.key) both.0 ∙ same_self w.key) i) (v ∷ own w.key l) (own w.key l)) ++ cond (not_before v.key w.key (key_up v w (inr both)) i) (v ∷ greater w.key l) (greater w.key l))
     ∙ ap (λ t. cond t (own w.key l) (after_id w.id (own w.key l)) ++ greater w.key l) both.1
@@ -103,7 +94,7 @@ module _ (prefix delimiter : Octets) where
   left e l = filter (passes_version (key_of (version_marked e))) (map entry (versions_after (version_marked e) l))
 
   abbrev Led : VersionItem → VersionItem → Type 0
-  Led = Leads prefix delimiter version_key Follows (λ v w h. key_up v w h)
+  Led = Leads prefix delimiter version_key Follows
 
   abbrev AreUnder : List VersionItem → Type 0
   AreUnder l = AllByRecursion (λ (v : VersionItem). begins prefix v.key ≡ true) l

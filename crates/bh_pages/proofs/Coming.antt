@@ -1,6 +1,6 @@
 -- The entries of items that stand in the order of their keys: each comes before those of later items, or shares its rolled-up name
 -- with them.
-use Rattle.std.proofs.Common.{◌≡◌, ◌⊎◌, inl, inr, ℕ, Bool, true, false, true≢false, cond, not, ◌==◌, ◌&&◌, List, [], ◌∷◌, ◌++◌, map, filter, Option, Some, None, refl, sym, ap, subst, ◌∙◌, Ordering, Less, Equal, Greater, nat_cmp}
+use Rattle.std.proofs.Common.{◌≡◌, ◌⊎◌, inl, inr, Bool, true, false, true≢false, cond, not, ◌==◌, ◌&&◌, List, [], ◌∷◌, map, filter, Option, Some, None, refl, sym, ap, subst, ◌∙◌, Ordering, Less, Equal, Greater, nat_cmp}
 use Rattle.std.specs.List.{AllByRecursion}
 use Rattle.std.specs.FinMap.{nat_cmp-IsAntisymmetric}
 use Rattle.std.specs.Ordering.{is_eq, is_lt, is_le, ordering_then, ordering_reverse}
@@ -9,7 +9,7 @@ use Rattle.std.proofs.lemmas.Cmp.{nat_list_cmp_total, nat_cmp_total, tied_itself
 use Rattle.bh_model.specs.State.{Octets, octets_cmp}
 use Rattle.bh_model.specs.Pages.{Listed, Listed.Single, Listed.Common, same, is_before, is_upto, begins, rolled, as_listed, name_of, joined, entry_of}
 use Rattle.bh_pages.proofs.Bytes.{same_number, upto_trans, upto_self, both, upto_begun, none_some, some_same, rolled_begins, rolled_again}
-use Rattle.bh_pages.proofs.Before.{before_upto}
+use Rattle.bh_pages.proofs.Before.{less_not_equal, before_upto}
 use Rattle.bh_pages.proofs.Filters.{filter_whole, filter_same}
 use Rattle.bh_pages.proofs.Pairs.{Pairs}
 use Rattle.bh_pages.proofs.Resuming.{Resumes, so_far}
@@ -60,7 +60,7 @@ before_back a b h = not_before a b (upto_before a b h)
 pub before_self : (a : Octets) → is_before a a ≡ false
 before_self a = not_before a a (upto_self a)
 
-pub before_trans : (a b c : Octets) → is_before a b ≡ true → is_before b c ≡ true → is_before a c ≡ true
+before_trans : (a b c : Octets) → is_before a b ≡ true → is_before b c ≡ true → is_before a c ≡ true
 before_trans a b c h k = before_upto a b c h (upto_before b c k)
 
 above : (a b : Octets) → is_upto b a ≡ false → is_before a b ≡ true
@@ -110,20 +110,20 @@ module _ {T : Type 0} (prefix delimiter : Octets) (key : T → Octets) where
   abbrev pub under : List T → List T
   under = filter (λ x. begins prefix (key x))
 
-  module _ (R : T → T → Type 0) (keys : (x y : T) → R x y → is_upto (key x) (key y) ≡ true) where
-    abbrev pub Leads : T → T → Type 0
-    Leads x y = R x y × Comes (entry x) (entry y)
+  abbrev pub Leads : (T → T → Type 0) → T → T → Type 0
+  Leads R x y = R x y × Comes (entry x) (entry y)
 
-    pub leads : (items : List T) → Pairs R items → Pairs Leads (under items)
+  module _ (R : T → T → Type 0) (keys : (x y : T) → R x y → is_upto (key x) (key y) ≡ true) where
+    pub leads : (items : List T) → Pairs R items → Pairs (Leads R) (under items)
     leads [] up = tt
-    leads (x ∷ items) up = elim (begins prefix (key x)) as (λ t. begins prefix (key x) ≡ t → Pairs Leads (cond t (x ∷ under items) (under items))) [
+    leads (x ∷ items) up = elim (begins prefix (key x)) as (λ t. begins prefix (key x) ≡ t → Pairs (Leads R) (cond t (x ∷ under items) (under items))) [
       | true ↦ λ b. (all_led b items up.0, leads items up.1)
       | false ↦ λ b. leads items up.1
     ] refl
       where
-        all_led : begins prefix (key x) ≡ true → (ys : List T) → AllByRecursion (R x) ys → AllByRecursion (Leads x) (under ys)
+        all_led : begins prefix (key x) ≡ true → (ys : List T) → AllByRecursion (R x) ys → AllByRecursion (Leads R x) (under ys)
         all_led bx [] all = tt
-        all_led bx (y ∷ ys) all = elim (begins prefix (key y)) as (λ t. begins prefix (key y) ≡ t → AllByRecursion (Leads x) (cond t (y ∷ under ys) (under ys))) [
+        all_led bx (y ∷ ys) all = elim (begins prefix (key y)) as (λ t. begins prefix (key y) ≡ t → AllByRecursion (Leads R x) (cond t (y ∷ under ys) (under ys))) [
           | true ↦ λ b. ((all.0, entry_comes x y bx b (keys x y all.0)), all_led bx ys all.1)
           | false ↦ λ b. all_led bx ys all.1
         ] refl
@@ -144,18 +144,13 @@ module _ {T : Type 0} (prefix delimiter : Octets) (key : T → Octets) where
   all_later n e p [] all ones = tt
   all_later n e p (f ∷ es) all ones = (later n e f p all.0 ones.0, all_later n e p es all.1 ones.1)
 
-  after_name : (n : Octets) (es : List (Listed T)) → Pairs Comes es → AllByRecursion (Comes (Common n)) es → joined None (filter (past_name n) es) ≡ joined (Some n) es
-  after_name n [] up all = refl
-  after_name n (Single x ∷ es) up all =
+  after_common : (n : Octets) (es : List (Listed T)) → Pairs Comes es → AllByRecursion (Comes (Common n)) es → joined None (filter (past_name n) es) ≡ joined (Some n) es
+  after_common n [] up all = refl
+  after_common n (Single x ∷ es) up all =
       ap (λ t. joined None (cond t (Single x ∷ filter (past_name n) es) (filter (past_name n) es))) all.0
       ∙ ap (λ l. Single x ∷ joined None l) (filter_whole (past_name n) es (all_later n (Single x) all.0 es up.0 all.1))
-  after_name n (Common m ∷ es) up all = go all.0 (after_name n es up.1 all.1)
+  after_common n (Common m ∷ es) up all = go all.0 (after_common n es up.1 all.1)
     where
-      other : (o : Ordering) → is_lt o ≡ true → is_eq o ≡ false
-      other Less h = refl
-      other Equal h = absurd (true≢false (sym h))
-      other Greater h = refl
-
       go : Comes (Common n) (Common m) → joined None (filter (past_name n) es) ≡ joined (Some n) es → joined None (filter (past_name n) (Common m ∷ es)) ≡ joined (Some n) (Common m ∷ es)
       go (inl is) more =
           ap (λ t. joined None (cond t (Common m ∷ filter (past_name n) es) (filter (past_name n) es))) (ap (is_before n) (sym is) ∙ before_self n)
@@ -163,20 +158,20 @@ module _ {T : Type 0} (prefix delimiter : Octets) (key : T → Octets) where
       go (inr before) more =
           ap (λ t. joined None (cond t (Common m ∷ filter (past_name n) es) (filter (past_name n) es))) before
           ∙ ap (λ l. Common m ∷ joined (Some m) l) (filter_whole (past_name n) es (all_later n (Common m) before es up.0 all.1))
-          ∙ ap (λ t. cond t (joined (Some n) es) (Common m ∷ joined (Some m) es)) (sym (other (octets_cmp n m) before))
+          ∙ ap (λ t. cond t (joined (Some n) es) (Common m ∷ joined (Some m) es)) (sym (less_not_equal (octets_cmp n m) before))
 
   all_come : (R : T → T → Type 0) (x : T) (e : Listed T) (l : List T) → AllByRecursion (λ y. R x y × Comes e (entry y)) l → AllByRecursion (Comes e) (map entry l)
   all_come R x e [] all = tt
   all_come R x e (y ∷ l) all = (all.0.1, all_come R x e l all.1)
 
-  pairs_come : (R : T → T → Type 0) (l : List T) → Pairs (λ x y. R x y × Comes (entry x) (entry y)) l → Pairs Comes (map entry l)
+  pairs_come : (R : T → T → Type 0) (l : List T) → Pairs (Leads R) l → Pairs Comes (map entry l)
   pairs_come R [] up = tt
   pairs_come R (x ∷ l) up = (all_come R x (entry x) l up.0, pairs_come R l up.1)
 
   -- the items after one of this name
-  pub after_rolled : (R : T → T → Type 0) (x : T) (n : Octets) (l : List T) → Pairs (λ x y. R x y × Comes (entry x) (entry y)) l → AllByRecursion (λ y. R x y × Comes (Common n) (entry y)) l
+  pub after_rolled : (R : T → T → Type 0) (x : T) (n : Octets) (l : List T) → Pairs (Leads R) l → AllByRecursion (λ y. R x y × Comes (Common n) (entry y)) l
       → joined None (filter (past_name n) (map entry l)) ≡ joined (Some n) (map entry l)
-  after_rolled R x n l up all = after_name n (map entry l) (pairs_come R l up) (all_come R x (Common n) l all)
+  after_rolled R x n l up all = after_common n (map entry l) (pairs_come R l up) (all_come R x (Common n) l all)
 
   -- ---- where the entries that are left pass a test
 
@@ -185,10 +180,7 @@ module _ {T : Type 0} (prefix delimiter : Octets) (key : T → Octets) where
     abbrev pub left : Listed T → List T → List (Listed T)
     left e l = filter (past e) (map entry l)
 
-    abbrev IsLed : T → T → Type 0
-    IsLed x y = R x y × Comes (entry x) (entry y)
-
-    behind : (x y : T) → IsLed x y → past (entry y) (entry x) ≡ false
+    behind : (x y : T) → Leads R x y → past (entry y) (entry x) ≡ false
     behind x y led = go (rolled prefix delimiter (key x)) (rolled prefix delimiter (key y)) led.1
       where
         go : (o p : Option Octets) → Comes (as_listed x o) (as_listed y p) → past (as_listed y p) (as_listed x o) ≡ false
@@ -198,7 +190,7 @@ module _ {T : Type 0} (prefix delimiter : Octets) (key : T → Octets) where
         go (Some n) (Some m) (inl is) = from_name m (Common n) ∙ ap (is_before m) is ∙ before_self m
         go (Some n) (Some m) (inr before) = from_name m (Common n) ∙ before_back n m before
 
-    skipped : (x : T) (l : List T) → AllByRecursion (IsLed x) l → AllByRecursion (λ y. (k : List T) → left (entry y) (x ∷ k) ≡ left (entry y) k) l
+    skipped : (x : T) (l : List T) → AllByRecursion (Leads R x) l → AllByRecursion (λ y. (k : List T) → left (entry y) (x ∷ k) ≡ left (entry y) k) l
     skipped x [] all = tt
     skipped x (y ∷ l) all = (λ k. ap (λ t. cond t (entry x ∷ left (entry y) k) (left (entry y) k)) (behind x y all.0), skipped x l all.1)
 
@@ -214,7 +206,7 @@ module _ {T : Type 0} (prefix delimiter : Octets) (key : T → Octets) where
     all_named n [] = tt
     all_named n (e ∷ es) = (from_name n e, all_named n es)
 
-    here : (x : T) (l : List T) → AllByRecursion (IsLed x) l → Pairs IsLed l → joined None (left (entry x) (x ∷ l)) ≡ joined (so_far (entry x)) (map entry l)
+    here : (x : T) (l : List T) → AllByRecursion (Leads R x) l → Pairs (Leads R) l → joined None (left (entry x) (x ∷ l)) ≡ joined (so_far (entry x)) (map entry l)
     here x l all up = go (rolled prefix delimiter (key x)) all
       where
         go : (o : Option Octets) → AllByRecursion (λ y. R x y × Comes (as_listed x o) (entry y)) l → joined None (filter (past (as_listed x o)) (as_listed x o ∷ map entry l)) ≡ joined (so_far (as_listed x o)) (map entry l)
@@ -225,6 +217,6 @@ module _ {T : Type 0} (prefix delimiter : Octets) (key : T → Octets) where
             ap (λ t. joined None (cond t (Common n ∷ filter (past (Common n)) (map entry l)) (filter (past (Common n)) (map entry l)))) (from_name n (Common n) ∙ before_self n)
             ∙ ap (joined None) (filter_same (past (Common n)) (past_name n) (map entry l) (all_named n (map entry l))) ∙ after_rolled R x n l up all
 
-    pub led_resumes : (l : List T) → Pairs IsLed l → Resumes entry left l
+    pub led_resumes : (l : List T) → Pairs (Leads R) l → Resumes entry left l
     led_resumes [] up = tt
     led_resumes (x ∷ l) up = ((skipped x l up.0, here x l up.0 up.1), led_resumes l up.1)

@@ -1,5 +1,5 @@
 -- What is left of a listing after one of its entries: the entries that follow it.
-use Rattle.std.proofs.Common.{◌≡◌, ℕ, zero, suc, ◌≤◌, Bool, true, false, cond, List, [], ◌∷◌, map, take, drop, Option, Some, None, refl, sym, ap, subst, ◌∙◌}
+use Rattle.std.proofs.Common.{◌≡◌, ℕ, zero, suc, ◌≤◌, true, false, cond, List, [], ◌∷◌, map, take, drop, Option, Some, None, sym, ap, subst, ◌∙◌}
 use Rattle.std.specs.List.{AllByRecursion}
 use Rattle.bh_model.specs.State.{Octets}
 use Rattle.bh_model.specs.Pages.{Listed, Listed.Single, Listed.Common, is_name, joined, last_of, paged}
@@ -59,9 +59,9 @@ module _ {T : Type 0} (entry : T → Listed T) (left : Listed T → List T → L
       go (Single y) here d e h more = step x l (Single y) (joined None (map entry l)) here (skips None) (more None) d e h
       go (Common n) here d e h more = elim (is_name n last) as (λ t. last_of (take d (cond t (joined last (map entry l)) (Common n ∷ joined (Some n) (map entry l)))) ≡ Some e
           → joined None (left e (x ∷ l)) ≡ drop d (cond t (joined last (map entry l)) (Common n ∷ joined (Some n) (map entry l)))) [
-        | true ↦ λ h. ap (joined None) (all_last (Skips x) d (joined last (map entry l)) e (skips last) h l) ∙ more last d e h
-        | false ↦ λ h. step x l (Common n) (joined (Some n) (map entry l)) here (skips (Some n)) (more (Some n)) d e h
-      ] h
+            | true ↦ λ h. ap (joined None) (all_last (Skips x) d (joined last (map entry l)) e (skips last) h l) ∙ more last d e h
+            | false ↦ λ h. step x l (Common n) (joined (Some n) (map entry l)) here (skips (Some n)) (more (Some n)) d e h
+          ] h
 
   -- pages of such items' entries, each of which shows what is left after the last entry of the one before
   pub chain_entries : {M : Type 0} (marked : Listed T → M) (rest : M → List (Listed T)) (l : List T) → Resumes l → (start : M) → rest start ≡ joined None (map entry l) → ((e : Listed T) → rest (marked e) ≡ joined None (left e l))
