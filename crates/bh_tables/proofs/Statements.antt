@@ -1,5 +1,6 @@
 -- What a text over one table does to all of a host's tables: the lemmas on texts, once for every table.
 use Rattle.std.proofs.Common.{◌≡◌, ℕ, List, [], ◌∷◌, ◌++◌, map, filter, Bool, true, None, Ok, Err, Result, OnOk, IfOk, IfErr, IsTrue, Ordering, subst, take, pos, ◌<◌, ◌≤◌, ◌^◌, ◌⊎◌, inl, inr, sum_by, length, arith, refl}
+use Rattle.std.proofs.lemmas.List.Sums.{sum_by-cons}
 use Rattle.sqlite.specs.Order.{Row}
 use Rattle.sqlite.specs.Tree.{Trees}
 use Rattle.sqlite.specs.Command.TheVariants.{Select}
@@ -53,6 +54,11 @@ module _ {X : Type 0} (result : Result X Error) where
       go : {A : Type 0} (r : Result X Error) → (A → IfErr r (λ e. is_trouble e ≡ true)) → IfErr r (λ e. A → is_trouble e ≡ true)
       go (Ok x) h = tt
       go (Err e) h = h
+
+-- a sum of 1 for each row is how many there are
+pub ones : {X : Type 0} (xs : List X) → sum_by (λ _. 1) xs ≡ length xs
+ones [] = refl
+ones {X} (x ∷ xs) = let rest = ones xs in omega (arith, rest, sum_by-cons (λ (_ : X). 1) x xs)
 
 -- a sum that is too wide is no trouble, but it is no small one either
 pub if_narrow : {X : Type 0} (total : ℕ) (r : Result X Error) → IfErr r (λ e. (is_trouble e ≡ true) ⊎ ((e ≡ SqliteFailure IntegerOverflow) × (2 ^ 63 ≤ total))) → IfErr r (λ e. total < 2 ^ 63 → is_trouble e ≡ true)

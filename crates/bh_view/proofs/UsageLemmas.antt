@@ -39,13 +39,6 @@ use Rattle.bh_view.proofs.ViewLemmas.{own_row}
 abbrev one_if : Bool → ℕ
 one_if b = cond b 1 0
 
-one_more : (n : ℕ) → 1 + n ≡ suc n
-one_more n = omega arith
-
-ones : {X : Type 0} (xs : List X) → sum_by (λ _. 1) xs ≡ length xs
-ones [] = refl
-ones {X} (x ∷ xs) = sum_by-cons (λ (_ : X). 1) x xs ∙ ap (λ n. 1 + n) (ones xs) ∙ one_more (length xs)
-
 zeros : {X : Type 0} (w : X → ℕ) (xs : List X) → AllByRecursion (λ x. w x ≡ 0) xs → sum_by w xs ≡ 0
 zeros w [] all = refl
 zeros w (x ∷ xs) all = omega (arith, sum_by-cons w x xs, all.0, zeros w xs all.1)
