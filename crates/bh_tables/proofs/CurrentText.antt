@@ -43,7 +43,7 @@ use Rattle.bh_rows.proofs.FormLemmas.{stored, keyed, picked}
 use Rattle.bh_tables.specs.Schema.{Octets, host_schema}
 use Rattle.bh_tables.specs.Typed.{VersionColumns, VersionRow, version_form, IsHost, IsReady, tables}
 use Rattle.bh_tables.specs.Bodies.{bare, columns_of}
-use Rattle.bh_tables.specs.Shown.{is_later, is_current}
+use Rattle.bh_tables.specs.Shown.{is_later, current_versions}
 use Rattle.bh_tables.proofs.Places.{versions}
 use Rattle.bh_tables.proofs.ResolvedLemmas.{any_stored}
 use Rattle.bh_tables.proofs.Statements.{Sums, sum_ends, if_narrow}
@@ -148,14 +148,14 @@ module _ (db : Trees) (held : AreRows version_form (db 7)) (tenant : Octets) whe
 
 -- ---- of the tables, in which each version has the bytes of its body
 
-seen : (tenant : Octets) (rows : List VersionRow) → length (filter (current tenant (map columns_of rows)) (map columns_of rows)) ≡ length (filter (is_current tenant rows) rows)
+seen : (tenant : Octets) (rows : List VersionRow) → length (filter (current tenant (map columns_of rows)) (map columns_of rows)) ≡ length (current_versions tenant rows)
 seen tenant rows =
     ap length (filter-map (current tenant (map columns_of rows)) columns_of rows) ∙ length-map _ columns_of
     ∙ ap (λ (m : VersionRow → Bool). length (filter m rows)) (λ i v. bytes_eq v.tenant tenant && (int_eq (pos v.marker) (pos 0) && not (any_stored (later (columns_of v)) rows i)))
 
 module _ (old new : State) (ready : IsReady old) (tenant : Octets) where
   abbrev number : ℕ
-  number = length (filter (is_current tenant (tables old).versions) (tables old).versions)
+  number = length (current_versions tenant (tables old).versions)
 
   stored_number : length (filter (current tenant (typed version_form (old.now.trees 7))) (typed version_form (old.now.trees 7))) ≡ number
   stored_number = ap (λ l. length (filter (current tenant l) l)) (versions.rows_are old.now) ∙ seen tenant (tables old).versions
@@ -172,7 +172,7 @@ module _ (old new : State) (ready : IsReady old) (tenant : Octets) where
   -- how many of a tenant's versions are the newest entries of their keys
   pub current_counted : {X : Type 0} (rows_in : X → List Row) (result : Result X Error) → (HasCleanDisk new → IfOk result (λ x. Shown sql (Text tenant ∷ []) old new (rows_in x)))
       → (HasCleanDisk new → IfErr result (FailsToQuery sql (Text tenant ∷ []) old new)) → Survives old new (CommitsShowing sql (Text tenant ∷ []) old)
-      → Sums old new rows_in (λ t. length (filter (is_current tenant t.versions) t.versions)) result
+      → Sums old new rows_in (λ t. length (current_versions tenant t.versions)) result
   current_counted {X} rows_in result ok err survives = record {
     asks = λ other bad. sum_ends old new ready sql (Text tenant ∷ []) means rows_in survives other bad result ok err;
     rows = λ clean. answer result ok clean;

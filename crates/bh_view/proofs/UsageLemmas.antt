@@ -18,7 +18,8 @@ use Rattle.bh_model.specs.State.{Octets, Entry, Bucket, State, entry_size, uploa
 use Rattle.bh_model.specs.Entries.{is_body, is_version}
 use Rattle.bh_model.specs.Usage.{version_count, marker_count, object_count, of_keys, of_uploads}
 use Rattle.bh_tables.specs.Typed.{BucketRow, VersionRow, UploadRow, Tables}
-use Rattle.bh_tables.specs.Shown.{has_marker, is_later, is_current, is_owned_bucket, is_owned_upload, is_version_of, is_part_used, newer}
+use Rattle.bh_tables.specs.Shown.{has_marker, is_later, current_versions, is_owned_bucket, is_owned_upload, is_version_of, is_part_used, newer}
+use Rattle.bh_tables.proofs.Statements.{ones}
 use Rattle.bh_view.specs.Grouped.{first, matching, same_number, HasUnique}
 use Rattle.bh_view.specs.View.{TenantRows, rows_of, content_of, entry_of, entries_of, upload_shown, uploads_of, bucket_shown, buckets_of, view, latest_of, in_bucket, at_key, uploads_in, named}
 use Rattle.bh_view.specs.Sound.{IsVersionRow, AreSound, IsSound}
@@ -208,7 +209,7 @@ module _ (tables : Tables) (t : Octets) (s : State) (sound : IsSound tables) (is
         ∙ sym (sum_by-IsPermutation (λ v. one_if (no_marker v && not (outdone ordered v))) ordered group (IsPermutation-sort_by newer newer_total group))
         ∙ sum_by_agree _ _ group (all_weaker IsHere _ (λ v lies. ap (λ c. one_if (no_marker v && not c)) (sym (outdone_is v lies))) group here)
 
-  pub objects_counted : of_keys object_count s ≡ length (filter (is_current t tables.versions) tables.versions)
+  pub objects_counted : of_keys object_count s ≡ length (current_versions t tables.versions)
   objects_counted = of_keys_is object_count refl (λ v. one_if (no_marker v && not (list_any (is_later v) tables.versions))) newest_counted ∙ of_tenant (is_version_of t) (λ v. no_marker v && not (list_any (is_later v) tables.versions)) tables.versions
 
   pub version_bytes_summed : of_keys (sum_by entry_size) s ≡ sum_by (λ v. v.size) (filter (is_version_of t) tables.versions)

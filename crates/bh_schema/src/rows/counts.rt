@@ -1,6 +1,6 @@
 ghost use Rattle.std.specs.Prelude.{◌≡◌, ◌∷◌, [], ◌<◌, ◌^◌, length, filter, IfOk, IfErr, OnOk};
 ghost use Rattle.bh_tables.specs.Typed.{number as stored};
-ghost use Rattle.bh_tables.specs.Shown.{is_owned_bucket, is_owned_upload, has_marker, is_current};
+ghost use Rattle.bh_tables.specs.Shown.{is_owned_bucket, is_owned_upload, has_marker, current_versions};
 ghost use Rattle.bh_schema.specs.Connections.{IsClean, tables, InTransaction, StaysWithin, WasOpen, ChangesNothing, IsTroubleIf};
 
 use crate::rows::number::number;
@@ -8,10 +8,7 @@ use crate::rows::sizes::read_total;
 use sqlite::types::ToSql;
 use sqlite::{Alter, Connection, Error, Row};
 
-fn bucket_rows<S: Alter>(
-    connection: &mut Connection<S>,
-    tenant: &str,
-) -> Result<Vec<Row>, Error>
+fn bucket_rows<S: Alter>(connection: &mut Connection<S>, tenant: &str) -> Result<Vec<Row>, Error>
     requires inside { InTransaction S.Store connection.old }
     ensures within { StaysWithin S.Store connection.old connection.new }
     ensures opens { OnOk result (WasOpen S.Store connection.old connection.new) }
@@ -27,10 +24,7 @@ fn bucket_rows<S: Alter>(
     )
 }
 
-fn upload_rows<S: Alter>(
-    connection: &mut Connection<S>,
-    tenant: &str,
-) -> Result<Vec<Row>, Error>
+fn upload_rows<S: Alter>(connection: &mut Connection<S>, tenant: &str) -> Result<Vec<Row>, Error>
     requires inside { InTransaction S.Store connection.old }
     ensures within { StaysWithin S.Store connection.old connection.new }
     ensures opens { OnOk result (WasOpen S.Store connection.old connection.new) }
@@ -68,18 +62,15 @@ fn entry_rows<S: Alter>(
 }
 
 // An index has the entries of each key with the greatest seq first, so the inner SELECT reads one row at most.
-fn current_rows<S: Alter>(
-    connection: &mut Connection<S>,
-    tenant: &str,
-) -> Result<Vec<Row>, Error>
+fn current_rows<S: Alter>(connection: &mut Connection<S>, tenant: &str) -> Result<Vec<Row>, Error>
     requires inside { InTransaction S.Store connection.old }
     ensures within { StaysWithin S.Store connection.old connection.new }
     ensures opens { OnOk result (WasOpen S.Store connection.old connection.new) }
     ensures same { OnOk result (ChangesNothing S.Store connection.old connection.new) }
     ensures rows { IfOk result (λ rows. IsClean S.Store connection.new
-        → rows.items ≡ (stored (length (filter (is_current tenant.now (tables S.Store connection.old).versions) (tables S.Store connection.old).versions)) ∷ []) ∷ []) }
+        → rows.items ≡ (stored (length (current_versions tenant.now (tables S.Store connection.old).versions)) ∷ []) ∷ []) }
     ensures trouble { IfErr result (IsTroubleIf S.Store connection.old connection.new
-        (length (filter (is_current tenant.now (tables S.Store connection.old).versions) (tables S.Store connection.old).versions) < 2 ^ 63)) }
+        (length (current_versions tenant.now (tables S.Store connection.old).versions) < 2 ^ 63)) }
 {
     connection.query_all(
         "SELECT coalesce(sum(1), 0) FROM versions WHERE tenant = ?1 AND marker = 0 AND NOT EXISTS (SELECT 1 FROM versions AS later WHERE later.tenant = versions.tenant AND later.bucket = versions.bucket AND later.okey = versions.okey AND later.seq > versions.seq)",
@@ -154,9 +145,9 @@ pub fn object_count<S: Alter>(connection: &mut Connection<S>, tenant: &str) -> R
     ensures opens { OnOk result (WasOpen S.Store connection.old connection.new) }
     ensures same { OnOk result (ChangesNothing S.Store connection.old connection.new) }
     ensures count { IfOk result (λ n. IsClean S.Store connection.new
-        → n ≡ length (filter (is_current tenant.now (tables S.Store connection.old).versions) (tables S.Store connection.old).versions)) }
+        → n ≡ length (current_versions tenant.now (tables S.Store connection.old).versions)) }
     ensures trouble { IfErr result (IsTroubleIf S.Store connection.old connection.new
-        (length (filter (is_current tenant.now (tables S.Store connection.old).versions) (tables S.Store connection.old).versions) < 2 ^ 63)) }
+        (length (current_versions tenant.now (tables S.Store connection.old).versions) < 2 ^ 63)) }
 {
     let rows = current_rows(connection, tenant)?;
     read_total(&rows)
