@@ -20,7 +20,6 @@ use Rattle.bh_machine.specs.Machine.{set_versioning, page_asked, naming, finish_
 use Rattle.bh_operation.specs.declared.page.Page.{Page}
 use Rattle.bh_operation.specs.declared.address.ObjectName.{ObjectName}
 use Rattle.bh_operation.specs.declared.operation.CopySource.{CopySource}
-use Rattle.bh_operation.specs.declared.operation.Operation.{Operation}
 use Rattle.bh_operation.specs.declared.operation.Operation.TheVariants.{ListBuckets, Usage, CreateBucket, HeadBucket, DeleteBucket, ListObjectsV2, ListObjectVersions, ListMultipartUploads, GetBucketVersioning, PutBucketVersioning, GetLifecycle, PutLifecycle, DeleteLifecycle, PutObject, CopyObject, GetObject, HeadObject, DeleteObject, CreateMultipartUpload, UploadPart, ListParts, CompleteMultipartUpload, AbortMultipartUpload}
 use Rattle.bh_types.specs.declared.wanted.Named.{Named}
 use Rattle.bh_types.specs.declared.wanted.Wanted.{Wanted}

@@ -15,7 +15,7 @@ use bh_storage::answer::Answer;
 use bh_storage::error::{StepError, Trouble};
 use bh_types::names::TenantName;
 use bh_types::refusal::Refusal;
-use bh_usage::usage::usage;
+use bh_usage::usage;
 use sqlite::{Alter, Connection};
 use std::alloc::Global;
 
@@ -63,7 +63,7 @@ pub fn show_usage<S: Alter>(
         (tables S.Store connection.old) (tables S.Store connection.new) result }
 {
     match TenantName::read(alloc, tenant)? {
-        Some(tenant) => answers::shown(usage(connection, alloc, &tenant)),
+        Some(tenant) => answers::shown(usage(connection, &tenant)),
         None => Err(StepError::Refused(Refusal::InvalidName)),
     }
 }

@@ -54,7 +54,6 @@ fn list_buckets<S: Alter>(
 
 fn usage<S: Alter>(
     connection: &mut Connection<S>,
-    alloc: Global,
     tenant: &TenantName,
 ) -> Result<Answer, StepError<Rejection>>
     requires { Works S.Store connection.old }
@@ -65,7 +64,7 @@ fn usage<S: Alter>(
         → Carries answer_view tenant.now (λ s. plainly (machine.tell_usage s))
         (tables S.Store connection.old) (tables S.Store connection.new) result }
 {
-    answers::used(bh_usage::usage::usage(connection, alloc, tenant))
+    answers::used(bh_usage::usage(connection, tenant))
 }
 
 fn create_bucket<S: Alter>(
@@ -570,6 +569,6 @@ pub fn operate<S: Alter, D: Digester>(
                 connection, alloc, digester, block_size, limits, tenant, at, operation, body,
             )
         }
-        Operation::Usage => usage(connection, alloc, tenant),
+        Operation::Usage => usage(connection, tenant),
     }
 }
