@@ -70,9 +70,10 @@ pub fn carry_out(rt: &HostRuntime, line: Line) -> Result<Printed, Fault> {
                 timeout,
             },
         ),
-        Line::Report { .. } | Line::Sweep { .. } => Ok(
-            Printed::refusal(rt.alloc(), Refusal::NotImplemented)?,
-        ),
+        Line::Report { .. } | Line::Sweep { .. } => Ok(Printed::refusal(
+            rt.alloc(),
+            Refusal::NotImplemented,
+        )?),
     }
 }
 

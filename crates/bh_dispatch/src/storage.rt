@@ -100,11 +100,7 @@ impl<S: Alter + Drop, D: Digester + Drop> Storage for HostStorage<S, D> {
         )
     }
 
-    fn command(
-        &mut self,
-        alloc: Global,
-        command: &Command,
-    ) -> Result<Answer, StepError<Refusal>> {
+    fn command(&mut self, alloc: Global, command: &Command) -> Result<Answer, StepError<Refusal>> {
         match command {
             Command::Usage { tenant } => {
                 commands::show_usage(&mut self.host.connection, alloc, tenant.as_str())

@@ -28,4 +28,4 @@ returns-in-Usage-clause-carries g c clean =
     let h = c.show_usage.ensures in
     let t = c.as_str.result.now in
     rw (c.in-Usage.is, sym c.as_str.ensures.value) (carried digest c.args.self.now.host.limits old new answer_view t (show_usage t) c.show_usage.result
-        (c.requires (parts (h.within.follows.clean (both clean)))) clean (by_any digest old new c.show_usage.result h.working) (h.carries (both clean)))
+    (c.requires (parts (h.within.follows.clean (both clean)))) clean (by_any digest old new c.show_usage.result h.working) (h.carries (both clean)))
