@@ -85,12 +85,7 @@ pub trait Storage {
         ensures stamps { IfOk result (λ m. Clean IsIntact IsOpen self.new → Stamps reading m (seen self.old).now (seen self.new).now) };
 
     /// Takes away a tenant's uploads that are stale at a moment.
-    fn purge(
-        &mut self,
-        alloc: Global,
-        tenant: &TenantName,
-        at: Moment,
-    ) -> Result<(), Trouble>
+    fn purge(&mut self, alloc: Global, tenant: &TenantName, at: Moment) -> Result<(), Trouble>
         requires { Clean IsIntact IsOpen self.old → IsWorking IsSound (seen self.old) }
         ensures within { Within IsIntact IsOpen seen left self.old self.new }
         ensures opens { OnOk result (IsOpen self.old → IsIntact self.new → IsOpen self.new) }
