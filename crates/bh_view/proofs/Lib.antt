@@ -24,6 +24,7 @@ pub mod DeleteLemmas
 pub mod RowLemmas
 pub mod PurgeLemmas
 pub mod UsedLemmas
+pub mod UsageLemmas
 pub mod JoinLemmas
 pub mod NameLemmas
 pub mod OrdinalLemmas
