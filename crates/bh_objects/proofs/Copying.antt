@@ -145,7 +145,7 @@ module _ (old new : Tables) (t b k sb sk : Octets) (wanted : Wanted) (at : ℕ) 
       let change = becomes_so t _ old target new (copy_put old target t h.state host.sound h.added b k h.bucket h.there at early key.key key.valid its_version after room refl) has in
       let own : HasBucket b (view old t) h.bucket.mode = record { state = h.state; bucket = h.bucket; added = h.added; there = h.there; its = refl } in
       let made = copy_shape at b k sb sk wanted (view old t) h.bucket.mode own its_version source ∙ ap (λ n. ◌>>=◌ {B = Outcome} (entry_numbers_in h.bucket.mode b k n (view old t)) (copy_then at b k its_version h.state h.bucket)) (sym size)
-          ∙ ap (λ r. ◌>>=◌ {B = Outcome} r (copy_then at b k its_version h.state h.bucket)) read in
+      ∙ ap (λ r. ◌>>=◌ {B = Outcome} r (copy_then at b k its_version h.state h.bucket)) read in
       (record { gives = made ∙ ap (λ (v : Option State). Ok (copied at its_version h.state.next_version h.bucket, v)) (sym change.shown); others = change.others; latest = change.latest; shared = shared }, change.sound, change.limits)
 
   copies : (mode : BucketState) (c : Counts) → mode_in b (view old t) ≡ Ok mode → entry_numbers_in mode b k head.size (view old t) ≡ Ok (c, after) → HasRowsOf (with_entry mode c after t b k at content old) new → KeepsShared old new → Made mode c
@@ -212,9 +212,11 @@ module _ {Y : Type 0} (told : Y → Answer) (at : ℕ) (t b k sb sk : Octets) (w
 
     pub numbers_failed : {X : Type 0} (shows : X → Counts × Counts) (version : Version) → source_version sb sk wanted (view middle t) ≡ Ok version → (n : ℕ) → n ≡ length version.bytes → (last : Tables) → last ≡ middle → (error : StepError Refusal)
         → Decides shows (entry_numbers_in mode b k n (view last t)) last new (Err error) → Carries told t (copy_object at b k sb sk wanted) old new (Err error)
-    numbers_failed shows version source n same_size last two (Refused x) d =
-        (numbers_refuse at b k sb sk wanted (view old t) mode found version (ap (λ (y : Tables). source_version sb sk wanted (view y t)) (sym one) ∙ source) x
-        (ap (λ m. entry_numbers_in mode b k m (view old t)) (sym same_size) ∙ ap (λ (y : Tables). entry_numbers_in mode b k n (view y t)) (sym (two ∙ one)) ∙ d.0), d.1 ∙ two ∙ one)
+    numbers_failed shows version source n same_size last two (Refused x) d = (
+      numbers_refuse at b k sb sk wanted (view old t) mode found version (ap (λ (y : Tables). source_version sb sk wanted (view y t)) (sym one) ∙ source) x
+          (ap (λ m. entry_numbers_in mode b k m (view old t)) (sym same_size) ∙ ap (λ (y : Tables). entry_numbers_in mode b k n (view y t)) (sym (two ∙ one)) ∙ d.0),
+      d.1 ∙ two ∙ one,
+    )
     numbers_failed shows version source n same_size last two (Failed trouble) d = tt
 
 -- the writes of a copy, one after another

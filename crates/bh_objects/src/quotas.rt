@@ -22,10 +22,7 @@ use bh_types::refusal::Refusal;
 use sqlite::{Alter, Connection};
 
 /// How many bytes a tenant's versions and parts have: two sums over the tenant's own rows.
-fn used_bytes<S: Alter>(
-    connection: &mut Connection<S>,
-    tenant: &TenantName,
-) -> Result<u64, Trouble>
+fn used_bytes<S: Alter>(connection: &mut Connection<S>, tenant: &TenantName) -> Result<u64, Trouble>
     requires { InTransaction S.Store connection.old }
     ensures within { StaysWithin S.Store connection.old connection.new }
     ensures opens { OnOk result (WasOpen S.Store connection.old connection.new) }
@@ -54,8 +51,8 @@ fn used_after(before: u64, replaced: u64, added: u64) -> Result<u64, Trouble>
     }
 }
 
-/// Whether a tenant of this quota may replace so many bytes by so many: QuotaExceeded.
-fn require_under<S: Alter>(
+/// Whether a tenant of this quota may replace so many bytes by so many, by what is used: QuotaExceeded.
+fn require_sum<S: Alter>(
     connection: &mut Connection<S>,
     tenant: &TenantName,
     quota: u64,
@@ -76,6 +73,30 @@ fn require_under<S: Alter>(
         Ok(())
     } else {
         Err(StepError::Refused(Refusal::QuotaExceeded))
+    }
+}
+
+/// Whether a tenant of this quota may replace so many bytes by so many: QuotaExceeded. What takes no more than it
+/// replaces is let through, and nothing is added up for it.
+fn require_under<S: Alter>(
+    connection: &mut Connection<S>,
+    tenant: &TenantName,
+    quota: u64,
+    replaced: u64,
+    added: u64,
+) -> Result<(), StepError<Refusal>>
+    requires { Works S.Store connection.old }
+    ensures within { StaysWithin S.Store connection.old connection.new }
+    ensures opens { Unless result (StaysOpen S.Store connection.old connection.new) }
+    ensures working { Unless result (StillWorks S.Store connection.old connection.new) }
+    ensures decides { IsClean S.Store connection.new
+        → Decides (λ _. tt) (room_under quota (bytes_in tenant.now (tables S.Store connection.old)) replaced added)
+        (tables S.Store connection.old) (tables S.Store connection.new) result }
+{
+    if added <= replaced {
+        Ok(())
+    } else {
+        require_sum(connection, tenant, quota, replaced, added)
     }
 }
 
