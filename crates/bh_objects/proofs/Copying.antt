@@ -33,7 +33,7 @@ use Rattle.bh_storage.specs.declared.error.StepError.TheVariants.{Refused, Faile
 use Rattle.bh_schema.specs.Rows.{SeenHead, seen_head}
 use Rattle.bh_objects.specs.Answers.{head_looked}
 use Rattle.bh_objects.specs.Copies.{version_read, copy_written}
-use Rattle.bh_objects.specs.Found.{mode_in, numbers_in, IsKeyText, with_entry, entry_numbers_in}
+use Rattle.bh_objects.specs.Found.{mode_in, IsKeyText, with_entry, entry_numbers_in}
 use Rattle.bh_objects.specs.Writes.{with_counters, with_room, with_version, with_columns}
 use Rattle.bh_objects.proofs.Keeping.{entry_asked}
 use Rattle.bh_objects.proofs.Getting.{its, sized, row_bytes, found_version, refused_version}

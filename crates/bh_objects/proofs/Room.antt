@@ -1,7 +1,5 @@
 -- What was read of a tenant's rows, as the quota in the machine's words.
-use Rattle.std.proofs.Common.{◌≡◌, ℕ, Bool, true, false, Option, Some, None, option_map, ok_or, find, Result, Ok, Err, refl, sym, ap, ◌∙◌, subst}
-use Rattle.std.specs.FinMap.{get}
-use Rattle.std.specs.Option.{option_map_or}
+use Rattle.std.proofs.Common.{◌≡◌, ℕ, Option, Some, None, option_map, find, Result, Ok, Err, refl, sym, ap, ◌∙◌}
 use Rattle.bh_types.specs.Counts.{Counts}
 use Rattle.bh_types.specs.Outcomes.{◌>>=◌}
 use Rattle.bh_types.specs.declared.bucket_state.BucketState.{BucketState}
@@ -10,12 +8,12 @@ use Rattle.bh_types.specs.declared.refusal.Refusal.{Refusal}
 use Rattle.bh_types.specs.declared.refusal.Refusal.TheVariants.{NoSuchBucket}
 use Rattle.bh_model.specs.Operations.{listed}
 use Rattle.bh_model.specs.Quotas.{replaced_size}
-use Rattle.bh_model.specs.State.{Octets, State, used}
+use Rattle.bh_model.specs.State.{Octets, used}
 use Rattle.bh_storage.specs.Calls.{Decides}
 use Rattle.bh_storage.specs.declared.error.StepError.{StepError}
 use Rattle.bh_storage.specs.declared.error.StepError.TheVariants.{Refused, Failed}
-use Rattle.bh_tables.specs.Typed.{Tables, TenantRow, VersionRow}
-use Rattle.bh_tables.specs.Shown.{is_tenant, is_version}
+use Rattle.bh_tables.specs.Typed.{Tables, TenantRow}
+use Rattle.bh_tables.specs.Shown.{is_tenant}
 use Rattle.bh_view.specs.Sound.{IsSound}
 use Rattle.bh_view.specs.View.{view, rows_of, state_of}
 use Rattle.bh_view.proofs.BucketLemmas.{row_of}
