@@ -112,7 +112,7 @@ module _ (digest : Octets → Octets) (l : HostLimits) (old new : State) where
   works_after (Ok x) t at was still h = λ clean.
       let sound = (seen_working digest l old (was clean)).sound in
       working_seen digest l old new (was clean) (still (both clean) digest)
-          (purged_bounded (tables_at old) (tables_at new) t at (purges (tables_at old) (tables_at new) t at sound (h (both clean))) (bounded_seen digest l old (was clean)))
+      (purged_bounded (tables_at old) (tables_at new) t at (purges (tables_at old) (tables_at new) t at sound (h (both clean))) (bounded_seen digest l old (was clean)))
   works_after (Err e) t at was still h = tt
 
   pub purged_after : {X E : Type 0} (result : Result X E) (t : Octets) (at : ℕ) → (AreBoth new → IsAtWork digest l old) → OnOk result (IsStateClean new → StillWorking old new) → OnOk result (IsStateClean new → tables_at new ≡ rows_purged t at (tables_at old))

@@ -43,8 +43,8 @@ pub record AreWhole (more : List Name) (tables : Tables) : Type 0 where
   pub stored : AreStored tables.refs tables.blocks
   pub bodies : AreBodies (more ++ bodies_in tables) tables.refs tables.blocks
 
--- each tenant's quota is at most 2^60 bytes, and so is what it uses: sums over its rows stay below 2^63, which the store's
--- numbers end at
+-- each tenant's quota is at most 2^60 bytes, and so is what it uses. So the sums of sizes over a tenant's rows stay below
+-- 2^63, from where on the store could not add them up
 abbrev pub AreBounded : Tables → Type 0
 AreBounded tables = (t : Octets) → IsBounded (view tables t)
 
