@@ -64,7 +64,7 @@ module _ (s : Option State) (bound : IsBounded s) where
   rule_read : (bucket : Octets) → Holds (get_lifecycle bucket s)
   rule_read bucket = then_holds (tenant_bucket bucket s) _ (λ f. then_holds (ok_or f.1.days NoSuchLifecycleConfiguration) _ (λ days. bound))
 
-  operated_bounded : (limits : HostLimits) (now : ℕ) (body : Octets) (operation : Operation) → Holds (operated limits now body operation s)
+  pub operated_bounded : (limits : HostLimits) (now : ℕ) (body : Octets) (operation : Operation) → Holds (operated limits now body operation s)
   unfolding operated
   operated_bounded limits now body op.ListBuckets = bound
   operated_bounded limits now body (op.CreateBucket bucket) = plainly_holds (create_bucket now bucket s) (used_stays_bounded.create_bucket_bounded now bucket s bound)
@@ -114,7 +114,7 @@ module _ (s : Option State) (bound : IsBounded s) where
   asked_bounded limits now (Ok request) = requested_bounded limits now request
   asked_bounded limits now (Err refusal) = tt
 
-  ordered_bounded : (order : Order) → Holds (ordered order s)
+  pub ordered_bounded : (order : Order) → Holds (ordered order s)
   ordered_bounded (AddTenant tenant quota) = used_stays_bounded.add_tenant_bounded tenant quota s bound
   ordered_bounded (SetQuota tenant quota) = used_stays_bounded.set_quota_bounded tenant quota s bound
   ordered_bounded (AddKey tenant name secret) = used_stays_bounded.add_key_bounded tenant name secret s bound

@@ -45,3 +45,4 @@ pub mod PartLemmas
 pub mod UploadChanges
 pub mod PartChanges
 pub mod QuotaLemmas
+pub mod BoundLemmas

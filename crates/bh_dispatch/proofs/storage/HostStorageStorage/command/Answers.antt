@@ -1,6 +1,8 @@
 use Rattle.std.proofs.Common.{refl, sym}
 use Rattle.sqlite.specs.Held.{state}
+use Rattle.bh_event.specs.Events.{ShowUsage}
 use Rattle.bh_model.specs.Operations.{show_usage}
+use Rattle.bh_machine.proofs.Bounded.{ordered_bounded}
 use Rattle.bh_storage.specs.Answers.{answer_view}
 use Rattle.bh_schema.proofs.Storing.{both, parts, keeps}
 use Rattle.bh_dispatch.proofs.Storing.{seen_working, still_working, carried, stored, by_any}
@@ -18,7 +20,8 @@ returns-in-Usage-clause-working g c =
     let old = state g.S.Store c.args.self.now.host.connection in
     let new = state g.S.Store c.show_usage.new.connection in
     let h = c.show_usage.ensures in
-    still_working digest c.args.self.now.host.limits old new c.show_usage.result (λ clean. c.requires (parts (h.within.follows.clean (both clean)))) (by_any digest old new c.show_usage.result h.working)
+    let t = c.as_str.result.now in
+    still_working digest c.args.self.now.host.limits old new answer_view t (show_usage t) c.show_usage.result (λ s bound. ordered_bounded s bound (ShowUsage t)) (λ clean. c.requires (parts (h.within.follows.clean (both clean)))) (by_any digest old new c.show_usage.result h.working) h.carries
 
 pub returns-in-Usage-clause-carries : goal.returns-in-Usage-clause-carries
 returns-in-Usage-clause-carries g c clean =
