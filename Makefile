@@ -5,9 +5,10 @@
 # bench: the program's speed and memory; lookups: the time of lookups by key at 1,000 and 100,000 rows on a file; versions:
 # that of requests on many versions and keys; serving: puts and gets over sockets beside nginx; bodies: those of small and
 # great bodies, new and known, and their memory; blocks: the time of a block among 1,000 and 100,000; uploads: that of a part
-# among 1,000 and 10,000 (all bench/README.md).
+# among 1,000 and 10,000; pages: that of pages of a listing; quotas: what a quota and rules for uploads cost (all
+# bench/README.md).
 # memory: the stored run with each allocation refused in turn.
-.PHONY: demo try build test gate times wrong-bodies lint bench lookups versions serving bodies blocks uploads memory
+.PHONY: demo try build test gate times wrong-bodies lint bench lookups versions serving bodies blocks uploads pages quotas memory
 
 demo:
 	@tools/bucketd <crates/bucketd/stdin
@@ -53,6 +54,12 @@ blocks:
 
 uploads:
 	@bench/uploads.py
+
+pages:
+	@bench/pages.py
+
+quotas:
+	@bench/quotas.py
 
 memory:
 	@tools/memory

@@ -20,7 +20,7 @@ import time
 from server import SHARED_MEMORY, Server
 
 SIZES = [(1 << 10, 300), (1 << 16, 200), (1 << 20, 40), (1 << 24, 8)]
-COUNTS = [100, 1000, 10000, 100000]
+COUNTS = [100, 1000, 10000]
 
 
 def in_folder(place):

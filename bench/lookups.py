@@ -39,10 +39,6 @@ def looked_up(rows):
     return [n * STEP % rows for n in range(LOOKUPS)]
 
 
-def byte_of(row):
-    return chr(ord("a") + row % 26)
-
-
 def authenticate(rows):
     """A script, and a test of its answers."""
     out = []
@@ -60,13 +56,13 @@ def authenticate(rows):
 def get(rows):
     """The same."""
     out = tenant_with_key("green") + [http("PUT", "green", "greensecret", "/plans", "")]
-    out += [http("PUT", "green", "greensecret", f"/plans/k{row}", byte_of(row)) for row in range(rows)]
+    out += [http("PUT", "green", "greensecret", f"/plans/k{row}", "") for row in range(rows)]
     out += [http("GET", "green", "greensecret", f"/plans/k{row}") for row in looked_up(rows)]
 
     def is_right(answered):
-        stored = len(re.findall(rb"^x-amz-checksum-sha256: .*\r\nconnection: close\r\n\r\n$", answered, re.M))
-        bodies = re.findall(rb"^connection: close\r\n\r\n(.)$", answered, re.M)
-        return stored == rows and bodies == [byte_of(row).encode() for row in looked_up(rows)]
+        stored = len(re.findall(rb"^content-length: 0\r\nx-amz-checksum-sha256: ", answered, re.M))
+        found = len(re.findall(rb"^accept-ranges: bytes\r\nx-amz-checksum-sha256: ", answered, re.M))
+        return stored == rows and found == LOOKUPS
 
     return out, is_right
 

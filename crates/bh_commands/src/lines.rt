@@ -51,6 +51,9 @@ pub fn carry_out(rt: &HostRuntime, line: Line) -> Result<Printed, Fault> {
             name,
             at,
         } => command_on(rt, file.as_str(), at, Command::KeyRemove { tenant, name }),
+        Line::Usage { file, tenant, at } => {
+            command_on(rt, file.as_str(), at, Command::Usage { tenant })
+        }
         Line::Serve {
             file,
             port,
@@ -67,9 +70,10 @@ pub fn carry_out(rt: &HostRuntime, line: Line) -> Result<Printed, Fault> {
                 timeout,
             },
         ),
-        Line::Usage { .. } | Line::Report { .. } | Line::Sweep { .. } => Ok(
-            Printed::refusal(rt.alloc(), Refusal::NotImplemented)?,
-        ),
+        Line::Report { .. } | Line::Sweep { .. } => Ok(Printed::refusal(
+            rt.alloc(),
+            Refusal::NotImplemented,
+        )?),
     }
 }
 

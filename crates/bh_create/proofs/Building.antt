@@ -1,7 +1,8 @@
 -- The calls that make a host, one after another.
-use Rattle.std.proofs.Common.{◌≡◌, inl, inr, ℕ, List, [], ◌∷◌, ◌++◌, IsTrue, true, Ok, Err, Result, OnOk, OnErr, IfErr, refl, sym, ap, ◌∙◌, subst}
+use Rattle.std.proofs.Common.{◌≡◌, inl, inr, ℕ, List, [], ◌∷◌, ◌++◌, IsTrue, true, None, Ok, Err, Result, OnOk, OnErr, IfErr, refl, sym, ap, ◌∙◌, subst}
 use Rattle.sqlite.specs.Tree.{Trees}
 use Rattle.bh_types.specs.Limits.{HostLimits, AreLimits}
+use Rattle.bh_model.specs.QuotaLaws.{IsBounded}
 use Rattle.bh_model.specs.State.{Octets}
 use Rattle.bh_tables.specs.Schema.{no_schema, host_schema}
 use Rattle.bh_tables.specs.Made.{with_uploads_by_moment}
@@ -14,6 +15,7 @@ use Rattle.bh_view.specs.Blocks.{AreDigests}
 use Rattle.bh_view.specs.Bodies.{IsSoundHost, HasBodies}
 use Rattle.bh_view.specs.Laws.{new_host}
 use Rattle.bh_view.specs.Sound.{IsSound}
+use Rattle.bh_view.specs.View.{view}
 use Rattle.bh_view.proofs.HostChanges.{created as host_created}
 use Rattle.sqlite.specs.Schema.{Schema}
 use Rattle.sqlite.specs.Table.{Table}
@@ -120,13 +122,13 @@ pub filled : (old new : State) (min_part max_body : ℕ) → IsMaking with_uploa
 filled old new min_part max_body making it =
     record { within = it.within; is = it.is ∙ ap (λ (t : Tables). record t { host = t.host ++ record { version = 0; latest = 0; min_part = min_part; max_body = max_body } ∷ [] }) (made_host old making).1 }
 
--- it has no body
-new_sound : (digest : Octets → Octets) (tables : Tables) (min_part max_body : ℕ) → tables ≡ new_host min_part max_body → IsSound tables → IsSoundHost digest tables
-new_sound digest tables min_part max_body is sound =
+-- it has no body, and no tenant
+new_sound : (digest : Octets → Octets) (tables : Tables) (min_part max_body : ℕ) → tables ≡ new_host min_part max_body → IsSound tables → ((t : Octets) → view tables t ≡ None) → IsSoundHost digest tables
+new_sound digest tables min_part max_body is sound vacant =
     let P : Tables → Type 0 = λ x. HasBodies x × AreDigests digest x.blocks in
     let none : P (new_host min_part max_body) = (record { placed = λ body. refl; owned = λ body away. refl; measured = tt }, tt) in
     let it = subst P (sym is) none in
-    record { sound = sound; bodies = it.0; digests = it.1 }
+    record { sound = sound; bodies = it.0; digests = it.1; bounded = λ t. subst IsBounded (sym (vacant t)) tt }
 
 -- and committed
 pub stands : (old new : State) (min_part max_body : ℕ) → AreLimits min_part max_body → Holds (new_host min_part max_body) (standing old) → standing new ≡ committed (standing old)
@@ -141,7 +143,7 @@ stands old new min_part max_body good it is settled =
     let kept : (seen_in limits new).kept ≡ new_host min_part max_body = ap (λ (x : Standing). tables_shown x.kept) is ∙ shows in
     let made = host_created (seen_in limits new).now min_part max_body good now in
     record {
-      rest = λ digest. record { outside = ap (λ (x : Standing). x.inside) is; committed = kept ∙ sym now; sound = new_sound digest _ min_part max_body now made.0; limits = made.3 };
+      rest = λ digest. record { outside = ap (λ (x : Standing). x.inside) is; committed = kept ∙ sym now; sound = new_sound digest _ min_part max_body now made.0 made.2; limits = made.3 };
       tables = now;
       latest = made.1;
       vacant = made.2;

@@ -1,15 +1,16 @@
 -- Steps of the machine as operations, and refusals with what they tell.
-use Rattle.std.proofs.Common.{◌≡◌, ℕ, List, map, Option, Result, Ok, Err, refl, ap, sym, ◌∙◌, option_map, ◌≤◌, ◌&&◌, ℤ, pos, negsuc, true, false, true≢false, is_ok, nat_le, subst, if◌then◌else◌}
+use Rattle.std.proofs.Common.{◌≡◌, ℕ, Bool, List, map, Option, Result, Ok, Err, refl, ap, sym, ◌∙◌, option_map, ◌≤◌, ◌&&◌, ℤ, pos, negsuc, true, false, true≢false, is_ok, nat_le, subst, if◌then◌else◌}
 use Rattle.std.specs.Result.{result_map_both}
 use Rattle.std.proofs.lemmas.Simd.{map-map}
 use Rattle.bh_types.specs.Limits.{HostLimits}
-use Rattle.bh_types.specs.Outcomes.{◌>>=◌}
-use Rattle.bh_types.specs.Rejections.{plain, plainly}
+use Rattle.bh_types.specs.Names.{is_tenant_name}
+use Rattle.bh_types.specs.Outcomes.{◌>>=◌, require}
+use Rattle.bh_types.specs.Rejections.{plainly}
 use Rattle.bh_types.specs.declared.id.UploadId.{UploadId}
 use Rattle.bh_types.specs.declared.refusal.Refusal.{Refusal}
-use Rattle.bh_types.specs.declared.refusal.Refusal.TheVariants.{NotImplemented, InvalidArgument}
+use Rattle.bh_types.specs.declared.refusal.Refusal.TheVariants.{InvalidArgument, InvalidName}
 use Rattle.bh_types.specs.declared.rejection.Rejection.{Rejection}
-use Rattle.bh_model.specs.Operations.{Answer, Outcome, create_bucket, head_bucket, delete_bucket, list_buckets, get_versioning, put_object, copy_object, get_object, head_object, delete_object, get_lifecycle, put_lifecycle, delete_lifecycle}
+use Rattle.bh_model.specs.Operations.{Answer, Outcome, create_bucket, head_bucket, delete_bucket, list_buckets, tell_usage, show_usage, get_versioning, put_object, copy_object, get_object, head_object, delete_object, get_lifecycle, put_lifecycle, delete_lifecycle}
 use Rattle.bh_model.specs.State.{Octets, State as Machine}
 use Rattle.bh_model.specs.Listings.{list_objects, list_versions, list_uploads, list_parts}
 use Rattle.bh_model.specs.Parts.{Naming}
@@ -19,7 +20,6 @@ use Rattle.bh_machine.specs.Machine.{set_versioning, page_asked, naming, finish_
 use Rattle.bh_operation.specs.declared.page.Page.{Page}
 use Rattle.bh_operation.specs.declared.address.ObjectName.{ObjectName}
 use Rattle.bh_operation.specs.declared.operation.CopySource.{CopySource}
-use Rattle.bh_operation.specs.declared.operation.Operation.{Operation}
 use Rattle.bh_operation.specs.declared.operation.Operation.TheVariants.{ListBuckets, Usage, CreateBucket, HeadBucket, DeleteBucket, ListObjectsV2, ListObjectVersions, ListMultipartUploads, GetBucketVersioning, PutBucketVersioning, GetLifecycle, PutLifecycle, DeleteLifecycle, PutObject, CopyObject, GetObject, HeadObject, DeleteObject, CreateMultipartUpload, UploadPart, ListParts, CompleteMultipartUpload, AbortMultipartUpload}
 use Rattle.bh_types.specs.declared.wanted.Named.{Named}
 use Rattle.bh_types.specs.declared.wanted.Wanted.{Wanted}
@@ -52,6 +52,21 @@ carries_told t step old new shown made same (Ok x) g =
     record { gives = ap plainly g.gives ∙ ap (λ y. Ok (y, view new t)) (sym (same x)); others = g.others; latest = g.latest; shared = g.shared }
 carries_told t step old new shown made same (Err (Refused r)) h = (ap plainly h.0, h.1)
 carries_told t step old new shown made same (Err (Failed trouble)) h = tt
+
+-- ---- what a command gave, told as an answer
+
+pub unless_made : {X : Type 0} (made : X → Told) (outcome : Result X (StepError Refusal)) (P : Type 0) → Unless outcome P → Unless (result_map_both made (λ e. e) outcome) P
+unless_made made (Ok x) P h = h
+unless_made made (Err (Refused r)) P h = h
+unless_made made (Err (Failed trouble)) P h = tt
+
+pub carries_made : {X : Type 0} (t : Octets) (step : Option Machine → Result Outcome Refusal) (old new : Tables) (shown : X → Answer) (made : X → Told)
+    → ((x : X) → answer_view (made x) ≡ shown x) → (outcome : Result X (StepError Refusal)) → Carries shown t step old new outcome
+    → Carries answer_view t step old new (result_map_both made (λ e. e) outcome)
+carries_made t step old new shown made same (Ok x) g =
+    record { gives = g.gives ∙ ap (λ y. Ok (y, view new t)) (sym (same x)); others = g.others; latest = g.latest; shared = g.shared }
+carries_made t step old new shown made same (Err (Refused r)) h = h
+carries_made t step old new shown made same (Err (Failed trouble)) h = tt
 
 -- ---- the operations
 
@@ -187,54 +202,17 @@ pub aborts_upload : (limits : HostLimits) (at : ℕ) (body : Octets) (object : O
 unfolding operated
 aborts_upload limits at body object upload = refl
 
--- ---- all others are refused
+-- ---- usage
 
-pub record IsNotDone (operation : Operation) : Type 0 where
-  pub list : operation ≡ ListBuckets → ⊥
-  pub create : (bucket : Octets) → operation ≡ CreateBucket bucket → ⊥
-  pub head : (bucket : Octets) → operation ≡ HeadBucket bucket → ⊥
-  pub delete : (bucket : Octets) → operation ≡ DeleteBucket bucket → ⊥
-  pub keys : (bucket : Octets) (page : Page) (token : Option Octets) → operation ≡ ListObjectsV2 bucket page token → ⊥
-  pub versions : (bucket : Octets) (page : Page) (after : Option VersionMarker) → operation ≡ ListObjectVersions bucket page after → ⊥
-  pub uploads : (bucket : Octets) (page : Page) (after : Option UploadMarker) → operation ≡ ListMultipartUploads bucket page after → ⊥
-  pub ask : (bucket : Octets) → operation ≡ GetBucketVersioning bucket → ⊥
-  pub set : (bucket : Octets) → operation ≡ PutBucketVersioning bucket → ⊥
-  pub rule : (bucket : Octets) → operation ≡ GetLifecycle bucket → ⊥
-  pub rule_set : (bucket : Octets) → operation ≡ PutLifecycle bucket → ⊥
-  pub rule_cleared : (bucket : Octets) → operation ≡ DeleteLifecycle bucket → ⊥
-  pub put : (object : ObjectName) (checksum : Option Octets) → operation ≡ PutObject object checksum → ⊥
-  pub copy : (object : ObjectName) (source : CopySource) → operation ≡ CopyObject object source → ⊥
-  pub get : (object : ObjectName) (version : Wanted) (range : Option Octets) → operation ≡ GetObject object version range → ⊥
-  pub look : (object : ObjectName) (version : Wanted) → operation ≡ HeadObject object version → ⊥
-  pub remove : (object : ObjectName) (version : Wanted) → operation ≡ DeleteObject object version → ⊥
-  pub begin : (object : ObjectName) → operation ≡ CreateMultipartUpload object → ⊥
-  pub part : (object : ObjectName) (upload : Option UploadId) (number : ℕ) (checksum : Option Octets) → operation ≡ UploadPart object upload number checksum → ⊥
-  pub parts : (object : ObjectName) (upload : Option UploadId) (page : PartPage) → operation ≡ ListParts object upload page → ⊥
-  pub complete : (object : ObjectName) (upload : Option UploadId) → operation ≡ CompleteMultipartUpload object upload → ⊥
-  pub abort : (object : ObjectName) (upload : Option UploadId) → operation ≡ AbortMultipartUpload object upload → ⊥
-
-pub not_done : (limits : HostLimits) (at : ℕ) (body : Octets) (s : Option Machine) (operation : Operation) → IsNotDone operation → operated limits at body operation s ≡ Err (plain NotImplemented)
+pub tells_use : (limits : HostLimits) (at : ℕ) (body : Octets) → operated limits at body Usage ≡ (λ s. plainly (tell_usage s))
 unfolding operated
-not_done limits at body s ListBuckets others = absurd (others.list refl)
-not_done limits at body s Usage others = refl
-not_done limits at body s (CreateBucket x) others = absurd (others.create x refl)
-not_done limits at body s (HeadBucket x) others = absurd (others.head x refl)
-not_done limits at body s (DeleteBucket x) others = absurd (others.delete x refl)
-not_done limits at body s (ListObjectsV2 x y z) others = absurd (others.keys x y z refl)
-not_done limits at body s (ListObjectVersions x y z) others = absurd (others.versions x y z refl)
-not_done limits at body s (ListMultipartUploads x y z) others = absurd (others.uploads x y z refl)
-not_done limits at body s (GetBucketVersioning x) others = absurd (others.ask x refl)
-not_done limits at body s (PutBucketVersioning x) others = absurd (others.set x refl)
-not_done limits at body s (GetLifecycle x) others = absurd (others.rule x refl)
-not_done limits at body s (PutLifecycle x) others = absurd (others.rule_set x refl)
-not_done limits at body s (DeleteLifecycle x) others = absurd (others.rule_cleared x refl)
-not_done limits at body s (PutObject x y) others = absurd (others.put x y refl)
-not_done limits at body s (CopyObject x y) others = absurd (others.copy x y refl)
-not_done limits at body s (GetObject x y z) others = absurd (others.get x y z refl)
-not_done limits at body s (HeadObject x y) others = absurd (others.look x y refl)
-not_done limits at body s (DeleteObject x y) others = absurd (others.remove x y refl)
-not_done limits at body s (CreateMultipartUpload x) others = absurd (others.begin x refl)
-not_done limits at body s (UploadPart x y z w) others = absurd (others.part x y z w refl)
-not_done limits at body s (ListParts x y z) others = absurd (others.parts x y z refl)
-not_done limits at body s (CompleteMultipartUpload x y) others = absurd (others.complete x y refl)
-not_done limits at body s (AbortMultipartUpload x y) others = absurd (others.abort x y refl)
+tells_use limits at body = refl
+
+-- a tenant that is named by a name
+pub shows_use : (name : Octets) → is_tenant_name name ≡ true → ◌≡◌ {A = Option Machine → Result Outcome Refusal} tell_usage (show_usage name)
+shows_use name good =
+    let shown : Bool → Option Machine → Result Outcome Refusal = λ b s. require b InvalidName >>= (λ _. tell_usage s) in
+    ap shown (sym good)
+
+pub shows_none : (name : Octets) (s : Option Machine) → is_tenant_name name ≡ false → show_usage name s ≡ Err InvalidName
+shows_none name s bad = rw bad refl

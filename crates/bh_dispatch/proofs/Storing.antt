@@ -3,12 +3,15 @@ use Rattle.std.proofs.Common.{◌≡◌, ℕ, ◌≤◌, true, Option, Result, O
 use Rattle.sqlite.specs.State.{State}
 use Rattle.sqlite_trees.specs.declared.store.Store.{Ghosts}
 use Rattle.bh_types.specs.Limits.{HostLimits}
+use Rattle.bh_model.proofs.BoundLemmas.{used_stays_bounded}
+use Rattle.bh_model.specs.QuotaLaws.{IsBounded, StaysBounded}
 use Rattle.bh_model.specs.State.{Octets, State as Machine}
 use Rattle.bh_tables.specs.Typed.{Tables}
 use Rattle.bh_view.specs.Blocks.{AreDigests}
-use Rattle.bh_view.specs.Bodies.{IsSoundHost}
+use Rattle.bh_view.specs.Bodies.{AreBounded, IsSoundHost}
 use Rattle.bh_view.specs.Sound.{IsSound}
-use Rattle.bh_view.specs.View.{latest_of, limits_in, rows_purged}
+use Rattle.bh_view.specs.View.{view, latest_of, limits_in, rows_purged}
+use Rattle.bh_view.proofs.BoundLemmas.{bounded_but, bounded_step}
 use Rattle.bh_view.proofs.PurgeLemmas.{rows_gone}
 use Rattle.bh_storage.specs.declared.error.StepError.{StepError}
 use Rattle.bh_storage.specs.declared.error.StepError.TheVariants.{Refused, Failed}
@@ -32,6 +35,9 @@ module _ (digest : Octets → Octets) (l : HostLimits) (s : State) where
   pub digests_seen : IsAtWork → AreDigests digest (tables_at s).blocks
   digests_seen working = (host_seen working).digests
 
+  pub bounded_seen : IsAtWork → AreBounded (tables_at s)
+  bounded_seen working = (host_seen working).bounded
+
   pub early_seen : (at : ℕ) → IsAtWork → at ≤ latest_of (seen_in l s).now → at ≤ latest_of (tables_at s)
   early_seen at working = subst (λ x. at ≤ latest_of x) (shows_in l s working)
 
@@ -42,22 +48,37 @@ pub limits_seen : (l : HostLimits) (s : State) → (seen_in l s).limits ≡ l
 unfolding seen_in
 limits_seen l s = refl
 
+-- ---- what the tenants use
+
+-- a step of a tenant that keeps it bounded
+pub carried_bounded : {X Y E : Type 0} (shown : X → Y) (t : Octets) (step : Option Machine → Result (Y × Option Machine) E) (result : Result X (StepError E)) (old new : Tables) → StaysBounded step → AreBounded old
+    → calls.Carries shown t step old new result → calls.Unless result (AreBounded new)
+carried_bounded shown t step (Ok x) old new stays bounded h = bounded_but t old new h.others (bounded_step step stays (shown x) (view old t) (view new t) h.gives (bounded t)) bounded
+carried_bounded shown t step (Err (Refused r)) old new stays bounded h = subst AreBounded (sym h.1) bounded
+carried_bounded shown t step (Err (Failed trouble)) old new stays bounded h = tt
+
+-- what is left without the stale uploads
+purged_bounded : (old new : Tables) (t : Octets) (at : ℕ) → calls.Purges t at old new → AreBounded old → AreBounded new
+purged_bounded old new t at h bounded = bounded_but t old new h.others (subst IsBounded (sym h.own) (used_stays_bounded.purged_bounded at (view old t) (bounded t))) bounded
+
 -- ---- a call on the connection
 
 module _ (digest : Octets → Octets) (l : HostLimits) (old new : State) where
-  working_seen : IsAtWork digest l old → StillWorkingBy digest old new → IsAtWork digest l new
-  working_seen was still = record {
+  working_seen : IsAtWork digest l old → StillWorkingBy digest old new → AreBounded (tables_at new) → IsAtWork digest l new
+  working_seen was still bounded = record {
     inside = (shown_now l new still.is).1;
     sound = subst (IsSoundHost digest) (sym (shown_now l new still.is).0)
-        (record { sound = still.is.sound; bodies = still.is.bodies; digests = still.digests (digests_seen digest l old was) });
+        (record { sound = still.is.sound; bodies = still.is.bodies; digests = still.digests (digests_seen digest l old was); bounded = bounded });
     limits = ap limits_in (shown_now l new still.is).0 ∙ still.limits ∙ sym (ap limits_in (shows_in l old was)) ∙ was.limits ∙ same_limits l new old;
   }
 
-  pub still_working : {X E : Type 0} (result : Result X (StepError E)) → (AreBoth new → IsAtWork digest l old) → calls.Unless result (IsStateClean new → StillWorkingBy digest old new)
-      → calls.Unless result (AreBoth new → IsAtWork digest l new)
-  still_working (Ok x) was h = λ clean. working_seen (was clean) (h (both clean))
-  still_working (Err (Refused r)) was h = λ clean. working_seen (was clean) (h (both clean))
-  still_working (Err (Failed trouble)) was h = tt
+  pub still_working : {X Y E : Type 0} (shown : X → Y) (t : Octets) (step : Option Machine → Result (Y × Option Machine) E) (result : Result X (StepError E)) → StaysBounded step → (AreBoth new → IsAtWork digest l old)
+      → calls.Unless result (IsStateClean new → StillWorkingBy digest old new) → (IsStateClean new → calls.Carries shown t step (tables_at old) (tables_at new) result) → calls.Unless result (AreBoth new → IsAtWork digest l new)
+  still_working shown t step (Ok x) stays was h gives = λ clean.
+      working_seen (was clean) (h (both clean)) (carried_bounded shown t step (Ok x) (tables_at old) (tables_at new) stays (bounded_seen digest l old (was clean)) (gives (both clean)))
+  still_working shown t step (Err (Refused r)) stays was h gives = λ clean.
+      working_seen (was clean) (h (both clean)) (carried_bounded shown t step (Err (Refused r)) (tables_at old) (tables_at new) stays (bounded_seen digest l old (was clean)) (gives (both clean)))
+  still_working shown t step (Err (Failed trouble)) stays was h gives = tt
 
   -- the same step, of the tables that a storage shows
   pub carried : {X Y E : Type 0} (shown : X → Y) (t : Octets) (step : Option Machine → Result (Y × Option Machine) E) (result : Result X (StepError E)) → IsAtWork digest l old → AreBoth new
@@ -86,9 +107,13 @@ purges old new t at sound is =
     record { is = is; own = change.shown; others = change.others; latest = change.latest }
 
 module _ (digest : Octets → Octets) (l : HostLimits) (old new : State) where
-  pub works_after : {X E : Type 0} (result : Result X E) → (AreBoth new → IsAtWork digest l old) → OnOk result (IsStateClean new → StillWorking old new) → OnOk result (AreBoth new → IsAtWork digest l new)
-  works_after (Ok x) was h = λ clean. working_seen digest l old new (was clean) (h (both clean) digest)
-  works_after (Err e) was h = tt
+  pub works_after : {X E : Type 0} (result : Result X E) (t : Octets) (at : ℕ) → (AreBoth new → IsAtWork digest l old) → OnOk result (IsStateClean new → StillWorking old new) → OnOk result (IsStateClean new → tables_at new ≡ rows_purged t at (tables_at old))
+      → OnOk result (AreBoth new → IsAtWork digest l new)
+  works_after (Ok x) t at was still h = λ clean.
+      let sound = (seen_working digest l old (was clean)).sound in
+      working_seen digest l old new (was clean) (still (both clean) digest)
+      (purged_bounded (tables_at old) (tables_at new) t at (purges (tables_at old) (tables_at new) t at sound (h (both clean))) (bounded_seen digest l old (was clean)))
+  works_after (Err e) t at was still h = tt
 
   pub purged_after : {X E : Type 0} (result : Result X E) (t : Octets) (at : ℕ) → (AreBoth new → IsAtWork digest l old) → OnOk result (IsStateClean new → StillWorking old new) → OnOk result (IsStateClean new → tables_at new ≡ rows_purged t at (tables_at old))
       → OnOk result (AreBoth new → calls.Purges t at (seen_in l old).now (seen_in l new).now)

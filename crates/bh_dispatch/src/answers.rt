@@ -4,7 +4,7 @@ ghost use Rattle.std.specs.Result.{result_map_both};
 ghost use Rattle.bh_storage.specs.Errors.{step_rejected};
 ghost use Rattle.bh_storage.specs.declared.answer.Answer.TheVariants as answer;
 
-use bh_docs::{BucketEntry, ObjectsPage, PartsPage, UploadsPage, VersionsPage};
+use bh_docs::{BucketEntry, ObjectsPage, PartsPage, UploadsPage, Usage, VersionsPage};
 use bh_storage::answer::{
     Answer, BegunUpload, CompletedUpload, CopiedVersion, RemovedEntry, StoredVersion,
 };
@@ -118,4 +118,30 @@ pub fn completed(
     ensures { result ≡ result_map_both answer.Completed step_rejected outcome }
 {
     Ok(Answer::Completed(outcome?))
+}
+
+pub fn used(outcome: Result<Usage, StepError<Refusal>>) -> Result<Answer, StepError<Rejection>>
+    ensures { result ≡ result_map_both answer.Used step_rejected outcome }
+{
+    Ok(Answer::Used(outcome?))
+}
+
+// What commands give.
+
+pub fn changed(outcome: Result<(), StepError<Refusal>>) -> Result<Answer, StepError<Refusal>>
+    ensures { result ≡ result_map_both (λ _. answer.Done) (λ error. error) outcome }
+{
+    match outcome {
+        Ok(()) => Ok(Answer::Done),
+        Err(error) => Err(error),
+    }
+}
+
+pub fn shown(outcome: Result<Usage, StepError<Refusal>>) -> Result<Answer, StepError<Refusal>>
+    ensures { result ≡ result_map_both answer.Used (λ error. error) outcome }
+{
+    match outcome {
+        Ok(usage) => Ok(Answer::Used(usage)),
+        Err(error) => Err(error),
+    }
 }

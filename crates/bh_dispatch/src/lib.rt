@@ -3,6 +3,7 @@
 #![tactic(auto)]
 
 mod answers;
+mod commands;
 pub mod lifecycle;
 pub mod operations;
 pub mod storage;

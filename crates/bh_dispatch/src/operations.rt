@@ -29,7 +29,6 @@ use bh_types::bucket::BucketName;
 use bh_types::limits::Limits;
 use bh_types::moment::Moment;
 use bh_types::names::TenantName;
-use bh_types::refusal::Refusal;
 use bh_types::rejection::Rejection;
 use bh_types::wanted::Wanted;
 use bh_uploads::parts::NewPart;
@@ -51,6 +50,21 @@ fn list_buckets<S: Alter>(
         (tables S.Store connection.old) (tables S.Store connection.new) result }
 {
     answers::listed(buckets::list_buckets(connection, alloc, tenant))
+}
+
+fn usage<S: Alter>(
+    connection: &mut Connection<S>,
+    tenant: &TenantName,
+) -> Result<Answer, StepError<Rejection>>
+    requires { Works S.Store connection.old }
+    ensures within { StaysWithin S.Store connection.old connection.new }
+    ensures opens { Unless result (StaysOpen S.Store connection.old connection.new) }
+    ensures working { Unless result (StillWorks S.Store connection.old connection.new) }
+    ensures carries { IsClean S.Store connection.new
+        → Carries answer_view tenant.now (λ s. plainly (machine.tell_usage s))
+        (tables S.Store connection.old) (tables S.Store connection.new) result }
+{
+    answers::used(bh_usage::usage(connection, tenant))
 }
 
 fn create_bucket<S: Alter>(
@@ -498,8 +512,8 @@ fn operate_upload<S: Alter, D: Digester>(
     }
 }
 
-/// Carries out an operation of a tenant, on a host with these limits and at a moment that is not after the last stamp:
-/// NotImplemented for those that the host doesn't do yet. Bytes are stored in blocks of at most this size.
+/// Carries out an operation of a tenant, on a host with these limits and at a moment that is not after the last stamp.
+/// Bytes are stored in blocks of at most this size.
 pub fn operate<S: Alter, D: Digester>(
     connection: &mut Connection<S>,
     alloc: Global,
@@ -555,6 +569,6 @@ pub fn operate<S: Alter, D: Digester>(
                 connection, alloc, digester, block_size, limits, tenant, at, operation, body,
             )
         }
-        _ => Err(StepError::from(Refusal::NotImplemented)),
+        Operation::Usage => usage(connection, tenant),
     }
 }

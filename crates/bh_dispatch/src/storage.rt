@@ -1,6 +1,6 @@
 ghost use Rattle.std.specs.Prelude.{◌≡◌, ◌≤◌};
 
-use crate::operations;
+use crate::{answers, commands, operations};
 use bh_event::event::Command;
 use bh_operation::operation::Operation;
 use bh_schema::host::{Digester, Host};
@@ -100,24 +100,12 @@ impl<S: Alter + Drop, D: Digester + Drop> Storage for HostStorage<S, D> {
         )
     }
 
-    fn command(&mut self, alloc: Global, command: &Command) -> Result<(), StepError<Refusal>> {
+    fn command(&mut self, alloc: Global, command: &Command) -> Result<Answer, StepError<Refusal>> {
         match command {
-            Command::TenantAdd { tenant, quota } => {
-                self.host.tenant_add(alloc, tenant.as_str(), *quota)
+            Command::Usage { tenant } => {
+                commands::show_usage(&mut self.host.connection, alloc, tenant.as_str())
             }
-            Command::Quota { tenant, quota } => {
-                self.host.quota_set(alloc, tenant.as_str(), *quota)
-            }
-            Command::KeyAdd {
-                tenant,
-                name,
-                secret,
-            } => self
-                .host
-                .key_add(alloc, tenant.as_str(), name.as_str(), secret.as_str()),
-            Command::KeyRemove { tenant, name } => {
-                self.host.key_remove(alloc, tenant.as_str(), name.as_str())
-            }
+            _ => answers::changed(commands::change(&mut self.host, alloc, command)),
         }
     }
 }

@@ -9,7 +9,8 @@ use Rattle.bh_types.specs.declared.id.UploadId.{UploadId}
 use Rattle.bh_types.specs.declared.bucket_state.BucketState.{BucketState}
 use Rattle.bh_types.specs.declared.bucket_state.BucketState.TheVariants.{Unversioned, Enabled, Suspended}
 use Rattle.bh_docs.specs.declared.reply.BucketEntry.{BucketEntry}
-use Rattle.bh_docs.specs.declared.reply.Usage.{Usage}
+use Rattle.bh_model.specs.Usage.{Usage}
+use Rattle.bh_docs.specs.declared.reply.Usage as told
 
 -- ---- words
 
@@ -64,6 +65,20 @@ buckets_data buckets = object (member (codes "Buckets") (array_of bucket_data bu
 
 abbrev pub buckets_text : List (List ℕ × ℕ) → List ℕ
 buckets_text buckets = compact_text (buckets_data buckets)
+
+-- what a tenant uses, as contracts see it
+abbrev pub usage_view : told.Usage → Usage
+usage_view u = record {
+  buckets = u.buckets;
+  bytes = u.bytes;
+  markers = u.markers;
+  objects = u.objects;
+  part_bytes = u.part_bytes;
+  quota = u.quota;
+  uploads = u.uploads;
+  version_bytes = u.version_bytes;
+  versions = u.versions;
+}
 
 -- S3 has no such document
 abbrev pub usage_data : Usage → Data

@@ -96,14 +96,14 @@ pub struct Usage {
 /// The answer to a tenant who asks for the usage, which S3 has not: each count and size under its own
 /// name.
 pub fn usage_document(alloc: Global, usage: &Usage) -> Result<String, AllocError>
-    ensures { IfOk result (λ text. string_bytes text ≡ spec.usage_text usage.now) }
+    ensures { IfOk result (λ text. string_bytes text ≡ spec.usage_text (spec.usage_view usage.now)) }
 {
     let document = usage_value(alloc, usage)?;
     print(alloc, &document)
 }
 
 fn usage_value(alloc: Global, usage: &Usage) -> Result<Value, AllocError>
-    ensures { IfOk result (λ value. view value ≡ spec.usage_data usage.now) }
+    ensures { IfOk result (λ value. view value ≡ spec.usage_data (spec.usage_view usage.now)) }
 {
     object_of(
         alloc,

@@ -2,7 +2,7 @@
 use Rattle.std.specs.Prelude.{ℕ, List}
 use Rattle.std.specs.String.{string_bytes}
 use Rattle.bh_event.specs.declared.event.Command.{Command}
-use Rattle.bh_event.specs.declared.event.Command.TheVariants.{TenantAdd, Quota, KeyAdd, KeyRemove}
+use Rattle.bh_event.specs.declared.event.Command.TheVariants.{TenantAdd, Quota, KeyAdd, KeyRemove, Usage}
 use Rattle.bh_event.specs.declared.event.Event.{Event}
 use Rattle.bh_event.specs.declared.event.Event.TheVariants as event
 
@@ -12,6 +12,7 @@ pub data Order : Type 0 where
   SetQuota : (tenant : List ℕ) (quota : ℕ) → Order
   AddKey : (tenant : List ℕ) (name : List ℕ) (secret : List ℕ) → Order
   RemoveKey : (tenant : List ℕ) (name : List ℕ) → Order
+  ShowUsage : (tenant : List ℕ) → Order
 
 -- the tenant that an order names
 abbrev pub tenant_of : Order → List ℕ
@@ -19,6 +20,7 @@ tenant_of (AddTenant tenant quota) = tenant
 tenant_of (SetQuota tenant quota) = tenant
 tenant_of (AddKey tenant name secret) = tenant
 tenant_of (RemoveKey tenant name) = tenant
+tenant_of (ShowUsage tenant) = tenant
 
 -- the bytes of a request, or an order
 pub data Message : Type 0 where
@@ -35,6 +37,7 @@ order_of (TenantAdd tenant quota) = AddTenant (string_bytes tenant) quota
 order_of (Quota tenant quota) = SetQuota (string_bytes tenant) quota
 order_of (KeyAdd tenant name secret) = AddKey (string_bytes tenant) (string_bytes name) (string_bytes secret)
 order_of (KeyRemove tenant name) = RemoveKey (string_bytes tenant) (string_bytes name)
+order_of (Usage tenant) = ShowUsage (string_bytes tenant)
 
 abbrev pub arrival : Event → Arrival
 arrival (event.Http reading bytes) = record { reading = reading; message = Requested bytes.items }

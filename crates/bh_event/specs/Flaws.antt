@@ -22,6 +22,7 @@ flaw_of_command op =
     else if bytes_eq op (codes "quota") then WrongMembers
     else if bytes_eq op (codes "key-add") then WrongMembers
     else if bytes_eq op (codes "key-remove") then WrongMembers
+    else if bytes_eq op (codes "usage") then WrongMembers
     else UnknownCommand
 
 abbrev pub flaw_of_content : Data → Option (List ℕ) → Flaw

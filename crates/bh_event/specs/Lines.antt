@@ -8,7 +8,7 @@ use Rattle.serde_json.specs.Data.{Data}
 use Rattle.serde_json.specs.Events.{members_len}
 use Rattle.serde_json.specs.Find.{get, as_object, as_str, as_number, as_u64}
 use Rattle.serde_json.specs.Read.{read}
-use Rattle.bh_event.specs.Events.{Order, AddTenant, SetQuota, AddKey, RemoveKey, Message, Requested, Ordered, Arrival}
+use Rattle.bh_event.specs.Events.{Order, AddTenant, SetQuota, AddKey, RemoveKey, ShowUsage, Message, Requested, Ordered, Arrival}
 
 abbrev pub text_at : List ℕ → Data → Option (List ℕ)
 text_at key d = option_and_then as_str (get key d)
@@ -59,6 +59,10 @@ key_remove_in d =
     then option_and_then (λ tenant. option_map (RemoveKey tenant) (text_at (codes "name") d)) (text_at (codes "tenant") d)
     else None
 
+-- {"at":n,"op":"usage","tenant":t}
+abbrev pub usage_in : Data → Option Order
+usage_in d = if has_members 3 d then option_map ShowUsage (text_at (codes "tenant") d) else None
+
 -- the order that an object with this `op` tells
 abbrev pub order_named : Data → List ℕ → Option Order
 order_named d op =
@@ -66,6 +70,7 @@ order_named d op =
     else if bytes_eq op (codes "quota") then quota_in d
     else if bytes_eq op (codes "key-add") then key_add_in d
     else if bytes_eq op (codes "key-remove") then key_remove_in d
+    else if bytes_eq op (codes "usage") then usage_in d
     else None
 
 abbrev pub order_in : Data → Option Order

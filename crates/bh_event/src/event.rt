@@ -26,6 +26,10 @@ pub enum Command {
         tenant: String,
         name: String,
     },
+    /// What a tenant uses is told.
+    Usage {
+        tenant: String,
+    },
 }
 
 impl Command {
@@ -38,6 +42,7 @@ impl Command {
             Command::Quota { tenant, .. } => tenant.as_str(),
             Command::KeyAdd { tenant, .. } => tenant.as_str(),
             Command::KeyRemove { tenant, .. } => tenant.as_str(),
+            Command::Usage { tenant } => tenant.as_str(),
         }
     }
 }

@@ -73,6 +73,7 @@ fn command_in(alloc: Global, document: &Value) -> Result<Option<Command>, AllocE
         Some("quota") => quota_in(alloc, document),
         Some("key-add") => key_add_in(alloc, document),
         Some("key-remove") => key_remove_in(alloc, document),
+        Some("usage") => usage_in(alloc, document),
         _ => Ok(None),
     }
 }
@@ -140,6 +141,19 @@ fn key_remove_in(alloc: Global, document: &Value) -> Result<Option<Command>, All
     let tenant = String::from_str(alloc, tenant)?;
     let name = String::from_str(alloc, name)?;
     Ok(Some(Command::KeyRemove { tenant, name }))
+}
+
+fn usage_in(alloc: Global, document: &Value) -> Result<Option<Command>, AllocError>
+    ensures { IfOk result (λ found. option_map order_of found ≡ spec.usage_in (view document.now)) }
+{
+    if !has_members(document, 3) {
+        return Ok(None);
+    }
+    let Some(tenant) = text_at(document, "tenant") else {
+        return Ok(None);
+    };
+    let tenant = String::from_str(alloc, tenant)?;
+    Ok(Some(Command::Usage { tenant }))
 }
 
 pub(crate) fn has_members(document: &Value, count: usize) -> bool

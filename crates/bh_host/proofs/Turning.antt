@@ -12,7 +12,7 @@ use Rattle.bh_http.specs.Responses.{refusal_text}
 use Rattle.bh_http.specs.Views.{Taken}
 use Rattle.bh_machine.specs.Machine.{Act, Asked, Commanded, owner_of, requested, ordered, change, step}
 use Rattle.bh_machine.proofs.Nameless.{nameless}
-use Rattle.bh_model.specs.Operations.{Answer, Outcome, Done}
+use Rattle.bh_model.specs.Operations.{Answer, Outcome}
 use Rattle.bh_model.specs.Runs.{settled, purged_tenant}
 use Rattle.bh_model.specs.State.{Octets, State}
 use Rattle.bh_storage.specs.Calls.{Seen, IsWorking, Within, Unless, OthersSame, Stamps, Purges, Carries}
@@ -51,12 +51,12 @@ within_then IsIntact IsOpen seen left a b c first opens next = record {
 pub limits_stay : {IsSound : Tables → Type 0} (old new : Seen) → IsWorking IsSound old → IsWorking IsSound new → new.limits ≡ old.limits → limits_in new.now ≡ limits_in old.now
 limits_stay old new before after same = after.limits ∙ same ∙ sym before.limits
 
-pub if_ordered : {X Y : Type 0} (r : Result (Vec ℕ Global) Y) (order : Order) (outcome : Result X (StepError Refusal)) (P : Type 0) (Q : List ℕ → Type 0)
-    → IfOk r (λ bytes. TellsOrder order outcome bytes.items) → Unless outcome P → ((bytes : List ℕ) → P → TellsOrder order outcome bytes → Q bytes) → IfOk r (λ bytes. Q bytes.items)
-if_ordered (Ok bytes) order (Ok x) P Q told p go = go bytes.items p told
-if_ordered (Ok bytes) order (Err (Refused e)) P Q told p go = go bytes.items p told
-if_ordered (Ok bytes) order (Err (Failed trouble)) P Q told p go = absurd told
-if_ordered (Err e) order outcome P Q told p go = tt
+pub if_ordered : {X Y : Type 0} (r : Result (Vec ℕ Global) Y) (shown : X → Answer) (order : Order) (outcome : Result X (StepError Refusal)) (P : Type 0) (Q : List ℕ → Type 0)
+    → IfOk r (λ bytes. TellsOrder shown order outcome bytes.items) → Unless outcome P → ((bytes : List ℕ) → P → TellsOrder shown order outcome bytes → Q bytes) → IfOk r (λ bytes. Q bytes.items)
+if_ordered (Ok bytes) shown order (Ok x) P Q told p go = go bytes.items p told
+if_ordered (Ok bytes) shown order (Err (Refused e)) P Q told p go = go bytes.items p told
+if_ordered (Ok bytes) shown order (Err (Failed trouble)) P Q told p go = absurd told
+if_ordered (Err e) shown order outcome P Q told p go = tt
 
 pub if_asked : {X Y : Type 0} (r : Result (Vec ℕ Global) Y) (shown : X → Answer) (act : Act) (outcome : Result X (StepError Rejection)) (P : Type 0) (Q : List ℕ → Type 0)
     → IfOk r (λ bytes. Tells shown act outcome bytes.items) → Unless outcome P → ((bytes : List ℕ) → P → Tells shown act outcome bytes → Q bytes) → IfOk r (λ bytes. Q bytes.items)
@@ -137,19 +137,19 @@ named_is text name is = elim (cases_Bool (is_tenant_name text)) [
 ]
 
 -- the tenant of an order and the tenant that it names
-pub turned_order : {X : Type 0} (limits : HostLimits) (t : Octets) (m : ℕ) (order : Order) (old mid new : Tables) (outcome : Result X (StepError Refusal)) (reply : List ℕ)
-    → owner_of (Commanded order) ≡ Some t → Purges t m old mid → Carries (λ _. Done) (tenant_of order) (ordered order) mid new outcome → limits_in new ≡ limits_in old
-    → TellsOrder order outcome reply → Turned limits (Commanded order) m old new reply
-turned_order limits t m order old mid new (Ok x) reply owner purges gives kept told =
+pub turned_order : {X : Type 0} (limits : HostLimits) (shown : X → Answer) (t : Octets) (m : ℕ) (order : Order) (old mid new : Tables) (outcome : Result X (StepError Refusal)) (reply : List ℕ)
+    → owner_of (Commanded order) ≡ Some t → Purges t m old mid → Carries shown (tenant_of order) (ordered order) mid new outcome → limits_in new ≡ limits_in old
+    → TellsOrder shown order outcome reply → Turned limits (Commanded order) m old new reply
+turned_order limits shown t m order old mid new (Ok x) reply owner purges gives kept told =
     let is : tenant_of order ≡ t = named_is (tenant_of order) t owner in
-    let G : Octets → Type 0 = λ u. ordered order (view mid u) ≡ Ok (Done, view new u) in
+    let G : Octets → Type 0 = λ u. ordered order (view mid u) ≡ Ok (shown x, view new u) in
     let O : Octets → Type 0 = λ u. OthersSame u mid new in
-    turned_done limits t m (Commanded order) old mid new reply Done owner purges (ap plainly (subst G is gives.gives)) (subst O is gives.others) gives.latest gives.shared kept told
-turned_order limits t m order old mid new (Err (Refused r)) reply owner purges gives kept told =
+    turned_done limits t m (Commanded order) old mid new reply (shown x) owner purges (ap plainly (subst G is gives.gives)) (subst O is gives.others) gives.latest gives.shared kept told
+turned_order limits shown t m order old mid new (Err (Refused r)) reply owner purges gives kept told =
     let is : tenant_of order ≡ t = named_is (tenant_of order) t owner in
     let G : Octets → Type 0 = λ u. ordered order (view mid u) ≡ Err r in
     turned_refused limits t m (Commanded order) old mid new reply (plain r) owner purges (ap plainly (subst G is gives.0)) gives.1 kept told
-turned_order limits t m order old mid new (Err (Failed trouble)) reply owner purges gives kept told = absurd told
+turned_order limits shown t m order old mid new (Err (Failed trouble)) reply owner purges gives kept told = absurd told
 
 -- ---- an act of nobody, which is refused
 

@@ -2,9 +2,9 @@
 use Rattle.std.specs.Prelude.{ℕ, Bool, true, false, [], ◌++◌, length, codes, decimal, if◌then◌else◌, Option, Some, None, Result, Ok, Err}
 use Rattle.std.specs.Str.{bytes_eq}
 use Rattle.std.specs.Str.Lossy.{utf8_lossy}
-use Rattle.bh_docs.specs.Documents.{begun_text, buckets_text, completed_text, copied_text, error_text, versioning_text, lifecycle_text}
+use Rattle.bh_docs.specs.Documents.{begun_text, buckets_text, completed_text, copied_text, error_text, versioning_text, lifecycle_text, usage_text}
 use Rattle.bh_docs.specs.Pages.{objects_text, versions_text, uploads_text, parts_text}
-use Rattle.bh_event.specs.Events.{Order, AddTenant, AddKey, RemoveKey, Message, Requested, Ordered, SetQuota}
+use Rattle.bh_event.specs.Events.{Order, AddTenant, AddKey, RemoveKey, ShowUsage, Message, Requested, Ordered, SetQuota}
 use Rattle.bh_http.specs.Answers.{bare, empty, with_document, refused, bare_refusal}
 use Rattle.bh_http.specs.Responses.{Sent, response_text, refusal_text}
 use Rattle.bh_http.specs.Views.{Taken}
@@ -13,7 +13,7 @@ use Rattle.bh_http.specs.declared.values.Allow.TheVariants.{Marker}
 use Rattle.bh_http.specs.declared.values.ContentRange.{ContentRange}
 use Rattle.bh_http.specs.declared.values.ContentRange.TheVariants.{Part as Satisfied, Unsatisfied}
 use Rattle.bh_http.specs.declared.values.ContentType.TheVariants.{OctetStream}
-use Rattle.bh_model.specs.Operations.{Answer, Done, Removed, Stored, Copied, Head, Object, Buckets, Versioning, Objects, Versions, Uploads, Parts, Begun, PartStored, Completed, Lifecycle}
+use Rattle.bh_model.specs.Operations.{Answer, Done, Removed, Stored, Copied, Head, Object, Buckets, Versioning, Objects, Versions, Uploads, Parts, Begun, PartStored, Completed, Lifecycle, Used}
 use Rattle.bh_model.specs.State.{Octets}
 use Rattle.bh_operation.specs.Allowed.{allow_of}
 use Rattle.bh_operation.specs.Targets.{path_of}
@@ -78,6 +78,7 @@ response_to (Parts page) = with_document 200 (parts_text page)
 response_to (Lifecycle days) = with_document 200 (lifecycle_text days)
 response_to (Begun bucket key upload abort) = record (with_document 200 (begun_text bucket key upload)) { abort_date = abort }
 response_to (PartStored checksum) = record (empty 200) { checksum = Some checksum }
+response_to (Used usage) = with_document 200 (usage_text usage)
 response_to (Completed bucket key id checksum) = record (with_document 200 (completed_text bucket checksum key)) { version_id = id }
 
 -- the methods that may be used: of a delete marker that was named, or of the target where the method was at fault
@@ -131,9 +132,15 @@ line_of (AddTenant tenant quota) = codes "tenant " ++ tenant
 line_of (SetQuota tenant quota) = codes "quota " ++ (tenant ++ (codes " " ++ decimal quota))
 line_of (AddKey tenant name secret) = codes "key " ++ (tenant ++ (codes "$" ++ name))
 line_of (RemoveKey tenant name) = codes "removed " ++ (tenant ++ (codes "$" ++ name))
+line_of (ShowUsage tenant) = codes "usage " ++ tenant
+
+-- what the answer adds to it
+abbrev pub line_end : Answer → Octets
+line_end (Used usage) = codes " bytes " ++ (decimal usage.bytes ++ (codes " quota " ++ decimal usage.quota))
+line_end answer = []
 
 abbrev pub line : Order → Result Answer Rejection → Octets
-line order (Ok answer) = line_of order
+line order (Ok answer) = line_of order ++ line_end answer
 line order (Err rejection) = refusal_text rejection.refusal
 
 -- the bytes that an act's outcome is told in

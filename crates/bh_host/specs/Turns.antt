@@ -10,7 +10,7 @@ use Rattle.bh_event.specs.Events.{Order, Message, Arrival}
 use Rattle.bh_http.specs.Reading.{Reads}
 use Rattle.bh_http.specs.Views.{Taken}
 use Rattle.bh_machine.specs.Machine.{Act, Asked, Commanded, Acted, owner_of, step}
-use Rattle.bh_model.specs.Operations.{Answer, Done}
+use Rattle.bh_model.specs.Operations.{Answer}
 use Rattle.bh_model.specs.Runs.{last_reading, stamp_of}
 use Rattle.bh_model.specs.State.{Octets}
 use Rattle.bh_storage.specs.Calls.{Seen, OthersSame}
@@ -60,10 +60,10 @@ Tells shown act (Err (Refused r)) bytes = bytes ≡ text act (Err r)
 Tells shown act (Err (Failed trouble)) bytes = ⊥
 
 -- the line that tells what came of an order
-abbrev pub TellsOrder : {X : Type 0} → Order → Result X (StepError Refusal) → List ℕ → Type 0
-TellsOrder order (Ok x) bytes = bytes ≡ text (Commanded order) (Ok Done)
-TellsOrder order (Err (Refused r)) bytes = bytes ≡ text (Commanded order) (Err (plain r))
-TellsOrder order (Err (Failed trouble)) bytes = ⊥
+abbrev pub TellsOrder : {X : Type 0} → (X → Answer) → Order → Result X (StepError Refusal) → List ℕ → Type 0
+TellsOrder shown order (Ok answer) bytes = bytes ≡ text (Commanded order) (Ok (shown answer))
+TellsOrder shown order (Err (Refused r)) bytes = bytes ≡ text (Commanded order) (Err (plain r))
+TellsOrder shown order (Err (Failed trouble)) bytes = ⊥
 
 -- the bytes that tell why others are no request
 abbrev pub TellsUnread : RequestError → List ℕ → Type 0

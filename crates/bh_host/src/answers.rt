@@ -1,16 +1,16 @@
 ghost use Rattle.std.specs.Prelude.{◌≡◌, map, IfOk};
 ghost use Rattle.std.specs.String.{string_bytes};
-ghost use Rattle.bh_docs.specs.Documents.{bucket_view};
+ghost use Rattle.bh_docs.specs.Documents.{bucket_view, usage_view};
 ghost use Rattle.bh_docs.specs.Pages.{page_view, versions_view, uploads_view, parts_view};
 ghost use Rattle.bh_http.specs.Answers.{response_view};
 ghost use Rattle.bh_host.specs.Replies as spec;
-ghost use Rattle.bh_model.specs.Operations.{Buckets, Versioning, Objects, Versions, Lifecycle, Uploads, Parts, PartStored};
+ghost use Rattle.bh_model.specs.Operations.{Buckets, Versioning, Objects, Versions, Lifecycle, Uploads, Parts, PartStored, Used};
 ghost use Rattle.bh_storage.specs.Answers.{answer_view, removed_answer, stored_answer, copied_answer, head_answer, found_answer, begun_answer, completed_answer};
 
 use bh_docs::{
-    BucketEntry, ObjectsPage, PartsPage, UploadsPage, VersionsPage, begun_document,
-    buckets_document, completed_document, copied_document, lifecycle_document, objects_document, parts_document,
-    uploads_document, versioning_document, versions_document,
+    BucketEntry, ObjectsPage, PartsPage, UploadsPage, Usage, VersionsPage, begun_document,
+    buckets_document, completed_document, copied_document, lifecycle_document, objects_document,
+    parts_document, uploads_document, usage_document, versioning_document, versions_document,
 };
 use bh_http::StatusCode;
 use bh_http::response::Response;
@@ -44,6 +44,7 @@ pub fn response_to(alloc: Global, answer: Answer) -> Result<Response, AllocError
         Answer::Begun(upload) => begun(alloc, &upload),
         Answer::PartStored(checksum) => Ok(part_stored(alloc, checksum)),
         Answer::Completed(upload) => completed(alloc, &upload),
+        Answer::Used(usage) => used(alloc, &usage),
     }
 }
 
@@ -165,6 +166,13 @@ fn parts(alloc: Global, page: &PartsPage) -> Result<Response, AllocError>
     ensures { IfOk result (λ response. response_view response ≡ spec.response_to (Parts (parts_view page.now))) }
 {
     let document = parts_document(alloc, page)?;
+    Ok(Response::with_document(alloc, StatusCode::OK, document.into_bytes()))
+}
+
+fn used(alloc: Global, usage: &Usage) -> Result<Response, AllocError>
+    ensures { IfOk result (λ response. response_view response ≡ spec.response_to (Used (usage_view usage.now))) }
+{
+    let document = usage_document(alloc, usage)?;
     Ok(Response::with_document(alloc, StatusCode::OK, document.into_bytes()))
 }
 

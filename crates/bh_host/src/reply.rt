@@ -3,7 +3,9 @@ ghost use Rattle.bh_event.specs.Events.{order_of};
 ghost use Rattle.bh_http.specs.Answers.{response_view};
 ghost use Rattle.bh_http.specs.Responses.{response_text, refusal_text};
 ghost use Rattle.bh_http.specs.Views.{view as request_view};
+ghost use Rattle.bh_docs.specs.Documents.{usage_view};
 ghost use Rattle.bh_machine.specs.Machine.{Asked};
+ghost use Rattle.bh_model.specs.Operations.{Used};
 ghost use Rattle.bh_storage.specs.Answers.{answer_view};
 ghost use Rattle.bh_types.specs.Rejections.{plain};
 ghost use Rattle.std.specs.String.{string_bytes};
@@ -11,7 +13,7 @@ ghost use Rattle.bh_host.specs.Replies as spec;
 ghost use Rattle.bh_host.specs.Turns.{Tells, TellsOrder};
 
 use crate::answers::response_to;
-use bh_docs::reply::error_document;
+use bh_docs::reply::{Usage, error_document};
 use bh_event::event::Command;
 use bh_http::encode::response_bytes;
 use bh_http::fixed::{clock_out_of_range, service_unavailable};
@@ -190,15 +192,40 @@ pub fn unread_text(alloc: Global, refusal: Refusal) -> Result<Vec<u8>, AllocErro
 pub fn order_text(
     alloc: Global,
     command: &Command,
-    outcome: Result<(), StepError<Refusal>>,
+    outcome: Result<Answer, StepError<Refusal>>,
 ) -> Result<Vec<u8>, Trouble>
-    ensures { IfOk result (λ bytes. TellsOrder (order_of command.now) outcome bytes.items) }
+    ensures { IfOk result (λ bytes. TellsOrder answer_view (order_of command.now) outcome bytes.items) }
 {
     match outcome {
-        Ok(()) => Ok(line_of(alloc, command)?.into_bytes()),
+        Ok(answer) => Ok(accepted_line(alloc, command, &answer)?.into_bytes()),
         Err(StepError::Refused(refusal)) => Ok(refusal_line(alloc, refusal)?.into_bytes()),
         Err(StepError::Failed(trouble)) => Err(trouble),
     }
+}
+
+/// What a command did, and what its answer adds.
+fn accepted_line(alloc: Global, command: &Command, answer: &Answer) -> Result<String, AllocError>
+    ensures { IfOk result (λ text. string_bytes text ≡ spec.line (order_of command.now) (Ok (answer_view answer.now))) }
+{
+    let line = line_of(alloc, command)?;
+    let end = line_end(alloc, answer)?;
+    format!(in alloc; "{line}{end}")
+}
+
+fn line_end(alloc: Global, answer: &Answer) -> Result<String, AllocError>
+    ensures { IfOk result (λ text. string_bytes text ≡ spec.line_end (answer_view answer.now)) }
+{
+    match answer {
+        Answer::Used(usage) => used_end(alloc, usage),
+        _ => Ok(String::new(alloc)),
+    }
+}
+
+fn used_end(alloc: Global, usage: &Usage) -> Result<String, AllocError>
+    ensures { IfOk result (λ text. string_bytes text ≡ spec.line_end (Used (usage_view usage.now))) }
+{
+    let Usage { bytes, quota, .. } = usage;
+    format!(in alloc; " bytes {bytes} quota {quota}")
 }
 
 fn line_of(alloc: Global, command: &Command) -> Result<String, AllocError>
@@ -209,6 +236,7 @@ fn line_of(alloc: Global, command: &Command) -> Result<String, AllocError>
         Command::Quota { tenant, quota } => format!(in alloc; "quota {tenant} {quota}"),
         Command::KeyAdd { tenant, name, .. } => format!(in alloc; "key {tenant}${name}"),
         Command::KeyRemove { tenant, name } => format!(in alloc; "removed {tenant}${name}"),
+        Command::Usage { tenant } => format!(in alloc; "usage {tenant}"),
     }
 }
 

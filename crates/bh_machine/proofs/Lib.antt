@@ -1,2 +1,3 @@
 pub mod Nameless
 pub mod Refused
+pub mod Bounded

@@ -25,7 +25,7 @@ use Rattle.bh_types.specs.declared.rejection.Rejection.{Rejection}
 use Rattle.bh_types.proofs.Refusing.{then_only, if_only, require_only, ok_or_only, weaker_only}
 use Rattle.bh_docs.specs.Requests.{or_malformed, ranged, document_of, versioning_of, in_range, in_ranges, complete_of, lifecycle_of}
 use Rattle.bh_docs.specs.Shapes.{Part as Shape, data_of, versioning_shape, complete_shape, lifecycle_shape}
-use Rattle.bh_event.specs.Events.{Order, AddTenant, SetQuota, AddKey, RemoveKey, Message, Requested, Ordered}
+use Rattle.bh_event.specs.Events.{Order, AddTenant, SetQuota, AddKey, RemoveKey, ShowUsage, Message, Requested, Ordered}
 use Rattle.bh_http.specs.Credentials.{key_field, secret_field, secret_of_both, secret_given, key_given}
 use Rattle.bh_http.specs.Fields.{Occurrence, Missing, Once, Repeated}
 use Rattle.bh_http.specs.Refused.{is_reading_refusal}
@@ -36,11 +36,12 @@ use Rattle.bh_model.specs.Counting.{counts, can_give, can_number, after_entry, a
 use Rattle.bh_model.specs.Credentials.{authenticate, secret_of}
 use Rattle.bh_model.specs.Entries.{Version, has_id, lookup, opened, found_named}
 use Rattle.bh_model.specs.FinMaps.{is_empty}
-use Rattle.bh_model.specs.Operations.{Outcome, added_tenant, tenant_bucket, listed, not_found, wanted_version, source_refusal, source_version, out_of_range, planned, create_bucket, head_bucket, delete_bucket, get_versioning, put_object, copy_object, get_object, head_object, delete_object, get_lifecycle, delete_lifecycle}
+use Rattle.bh_model.specs.Operations.{Outcome, added_tenant, tenant_bucket, with_bucket, listed, not_found, wanted_version, source_refusal, source_version, out_of_range, planned, tell_usage, create_bucket, head_bucket, delete_bucket, get_versioning, with_object, with_copy, require_quota, put_object, copy_object, get_object, head_object, delete_object, get_lifecycle, delete_lifecycle}
 use Rattle.bh_model.specs.Parts.{Naming, ascends, is_checksum, checked, choice, chosen, are_large, completed}
+use Rattle.bh_model.specs.Quotas.{keeps_quota}
 use Rattle.bh_model.specs.Runs.{settled, purged_tenant}
 use Rattle.bh_model.specs.State.{Octets, Content, Content.Marker, Content.Body, Entry, Part, Bucket, State}
-use Rattle.bh_model.specs.Uploads.{found_upload, find_upload, after_begin, after_part, create_upload, upload_part, complete_upload, abort_upload}
+use Rattle.bh_model.specs.Uploads.{found_upload, find_upload, after_begin, after_part, with_stored, create_upload, upload_part, complete_upload, abort_upload}
 use Rattle.bh_operation.specs.Operations.{operation}
 use Rattle.bh_operation.specs.Refused.{is_operation_refusal}
 use Rattle.bh_operation.specs.declared.operation.Operation.{Operation}
@@ -192,11 +193,18 @@ created_only now bucket s =
     then_only may (added_tenant s) _ (ok_or_only may s NoSuchTenant refl)
     (λ t. then_only may (require (is_none (get t.buckets bucket)) BucketAlreadyOwnedByYou) _ (require_only may (is_none (get t.buckets bucket)) BucketAlreadyOwnedByYou refl) (λ _. tt))
 
+quota_only : (name : Octets) (b : Bucket) (t : State) → Only (require_quota name b t)
+quota_only name b t = require_only may (keeps_quota t (with_bucket name b t)) QuotaExceeded refl
+
+used_only : (s : Option State) → Only (tell_usage s)
+used_only s = then_only may (added_tenant s) _ (ok_or_only may s NoSuchTenant refl) (λ t. tt)
+
 put_only : (now : ℕ) (bucket key body : Octets) (given : Option Octets) (s : Option State) → Only (put_object now bucket key body given s)
 put_only now bucket key body given s =
     then_only may (tenant_bucket bucket s) _ (found_bucket bucket s)
     (λ f. then_only may (require (is_checksum given body) BadDigest) _ (require_only may (is_checksum given body) BadDigest refl)
-    (λ _. then_only may (after_entry f.1.mode (counts f.0)) _ (numbers_only f.1.mode (counts f.0)) (λ c. tt)))
+    (λ _. then_only may (require_quota bucket (with_object now key f.0.next_version body f.1) f.0) _ (quota_only bucket (with_object now key f.0.next_version body f.1) f.0)
+    (λ _. then_only may (after_entry f.1.mode (counts f.0)) _ (numbers_only f.1.mode (counts f.0)) (λ c. tt))))
 
 source_refusal_only : (refusal : Refusal) → may refusal ≡ true → may (source_refusal refusal) ≡ true
 source_refusal_only BadRequest h = h
@@ -248,7 +256,8 @@ copied_only : (now : ℕ) (bucket key source_bucket source_key : Octets) (wanted
 copied_only now bucket key source_bucket source_key wanted s =
     then_only may (tenant_bucket bucket s) _ (found_bucket bucket s)
     (λ f. then_only may (source_version source_bucket source_key wanted s) _ (source_told (wanted_version source_bucket source_key wanted s) (wanted_only source_bucket source_key wanted s))
-    (λ v. then_only may (after_entry f.1.mode (counts f.0)) _ (numbers_only f.1.mode (counts f.0)) (λ c. tt)))
+    (λ v. then_only may (require_quota bucket (with_copy now key f.0.next_version v f.1) f.0) _ (quota_only bucket (with_copy now key f.0.next_version v f.1) f.0)
+    (λ _. then_only may (after_entry f.1.mode (counts f.0)) _ (numbers_only f.1.mode (counts f.0)) (λ c. tt))))
 
 delete_numbers_only : (mode : BucketState) (wanted : Wanted) (c : Counts) → Only (after_delete mode wanted c)
 delete_numbers_only Unversioned Current c = tt
@@ -296,7 +305,9 @@ part_stored_only : (now : ℕ) (bucket key : Octets) (upload : Option UploadId) 
 part_stored_only now bucket key upload number bytes given s =
     then_only may (find_upload bucket key upload s) _ (upload_found bucket key upload s)
     (λ f. then_only may (require (is_checksum given bytes) BadDigest) _ (require_only may (is_checksum given bytes) BadDigest refl)
-    (λ _. then_only may (after_part (counts f.tenant)) _ (if_only may (can_give f.tenant.next_entry) (record (counts f.tenant) { entry = f.tenant.next_entry + 1 }) CounterExhausted refl) (λ c. tt)))
+    (λ _. then_only may (require_quota bucket (with_stored f number (record { bytes = bytes; moment = now })) f.tenant) _
+    (quota_only bucket (with_stored f number (record { bytes = bytes; moment = now })) f.tenant)
+    (λ _. then_only may (after_part (counts f.tenant)) _ (if_only may (can_give f.tenant.next_entry) (record (counts f.tenant) { entry = f.tenant.next_entry + 1 }) CounterExhausted refl) (λ c. tt))))
 
 chosen_only : (parts : FinMap nat_cmp Part) (names : List Naming) → Only (chosen parts names)
 chosen_only parts [] = tt
@@ -357,7 +368,7 @@ operated_only limits now body (op.CreateBucket bucket) s = plainly_told (create_
 operated_only limits now body (op.PutObject object checksum) s = plainly_told (put_object now object.bucket object.key body checksum s) (put_only now object.bucket object.key body checksum s)
 operated_only limits now body (op.GetObject object version range) s = got_only object.bucket object.key version range s
 operated_only limits now body op.ListBuckets s = tt
-operated_only limits now body op.Usage s = refl
+operated_only limits now body op.Usage s = plainly_told (tell_usage s) (used_only s)
 operated_only limits now body (op.HeadBucket bucket) s = plainly_told (head_bucket bucket s) (bucket_only bucket s _ (λ f. tt))
 operated_only limits now body (op.DeleteBucket bucket) s = plainly_told (delete_bucket bucket s) (bucket_gone_only bucket s)
 operated_only limits now body (op.ListObjectsV2 bucket page token) s =
@@ -422,6 +433,7 @@ ordered_only (RemoveKey tenant name) s =
     then_only may (require (is_tenant_name tenant && is_key_name name) InvalidName) _ (require_only may (is_tenant_name tenant && is_key_name name) InvalidName refl)
     (λ _. then_only may (added_tenant s) _ (ok_or_only may s NoSuchTenant refl)
     (λ t. then_only may (require (is_some (get t.keys name)) NoSuchKeyName) _ (require_only may (is_some (get t.keys name)) NoSuchKeyName refl) (λ _. tt)))
+ordered_only (ShowUsage tenant) s = then_only may (require (is_tenant_name tenant) InvalidName) _ (require_only may (is_tenant_name tenant) InvalidName refl) (λ _. used_only s)
 
 -- ---- an act
 

@@ -6,17 +6,17 @@ use Rattle.bh_types.specs.Outcomes.{◌>>=◌}
 use Rattle.bh_types.specs.Rejections.{plain, plainly}
 use Rattle.bh_types.specs.declared.id.UploadId.{UploadId}
 use Rattle.bh_types.specs.declared.refusal.Refusal.{Refusal}
-use Rattle.bh_types.specs.declared.refusal.Refusal.TheVariants.{InvalidAccessKeyId, NotImplemented}
+use Rattle.bh_types.specs.declared.refusal.Refusal.TheVariants.{InvalidAccessKeyId}
 use Rattle.bh_types.specs.declared.rejection.Rejection.{Rejection}
 use Rattle.bh_docs.specs.Requests.{versioning_of, lifecycle_of, complete_of}
-use Rattle.bh_event.specs.Events.{Order, AddTenant, SetQuota, AddKey, RemoveKey, tenant_of, Message, Requested, Ordered}
+use Rattle.bh_event.specs.Events.{Order, AddTenant, SetQuota, AddKey, RemoveKey, ShowUsage, tenant_of, Message, Requested, Ordered}
 use Rattle.bh_http.specs.Credentials.{owner, key_given, secret_given}
 use Rattle.bh_http.specs.Reading.{Reads}
 use Rattle.bh_http.specs.Views.{Taken}
 use Rattle.bh_model.specs.Credentials.{authenticate}
 use Rattle.bh_model.specs.Listings.{list_objects, list_versions, list_uploads, list_parts}
 use Rattle.bh_model.specs.Pages as pages
-use Rattle.bh_model.specs.Operations.{Answer, Outcome, add_tenant, set_quota, add_key, remove_key, create_bucket, head_bucket, delete_bucket, list_buckets, get_versioning, put_versioning, get_lifecycle, put_lifecycle, delete_lifecycle, put_object, copy_object, get_object, head_object, delete_object}
+use Rattle.bh_model.specs.Operations.{Answer, Outcome, add_tenant, set_quota, add_key, remove_key, tell_usage, show_usage, create_bucket, head_bucket, delete_bucket, list_buckets, get_versioning, put_versioning, get_lifecycle, put_lifecycle, delete_lifecycle, put_object, copy_object, get_object, head_object, delete_object}
 use Rattle.bh_model.specs.Parts.{Naming}
 use Rattle.bh_model.specs.Runs as runs
 use Rattle.bh_model.specs.State.{Octets, State}
@@ -26,7 +26,7 @@ use Rattle.bh_operation.specs.declared.page.Page.{Page}
 use Rattle.bh_operation.specs.declared.page.UploadMarker.{UploadMarker}
 use Rattle.bh_operation.specs.declared.page.VersionMarker.{VersionMarker}
 use Rattle.bh_operation.specs.declared.operation.Operation.{Operation}
-use Rattle.bh_operation.specs.declared.operation.Operation.TheVariants.{ListBuckets, CreateBucket, HeadBucket, DeleteBucket, ListObjectsV2, GetBucketVersioning, PutBucketVersioning, PutObject, CopyObject, GetObject, HeadObject, DeleteObject, ListObjectVersions, ListMultipartUploads, CreateMultipartUpload, UploadPart, ListParts, CompleteMultipartUpload, AbortMultipartUpload, GetLifecycle, PutLifecycle, DeleteLifecycle}
+use Rattle.bh_operation.specs.declared.operation.Operation.TheVariants.{ListBuckets, CreateBucket, HeadBucket, DeleteBucket, ListObjectsV2, GetBucketVersioning, PutBucketVersioning, PutObject, CopyObject, GetObject, HeadObject, DeleteObject, ListObjectVersions, ListMultipartUploads, CreateMultipartUpload, UploadPart, ListParts, CompleteMultipartUpload, AbortMultipartUpload, GetLifecycle, PutLifecycle, DeleteLifecycle, Usage}
 
 -- ---- acts
 
@@ -84,8 +84,7 @@ finish_upload limits now bucket key upload body s = do
   parts ← complete_of body
   complete_upload now limits.min_part bucket key upload (map naming parts) s
 
--- an operation at a moment, on a host with these limits; those that the host doesn't carry out yet are refused. The
--- document of a request is read before anything is looked at
+-- an operation at a moment, on a host with these limits. The document of a request is read before anything is looked at
 unfoldable pub operated : HostLimits → ℕ → Octets → Operation → Option State → Result Outcome Rejection
 operated limits now body ListBuckets s = plainly (list_buckets s)
 operated limits now body (CreateBucket bucket) s = plainly (create_bucket now bucket s)
@@ -111,7 +110,7 @@ operated limits now body (UploadPart object upload number checksum) s =
 operated limits now body (ListParts object upload page) s = plainly (list_parts object.bucket object.key upload page.size page.after s)
 operated limits now body (CompleteMultipartUpload object upload) s = plainly (finish_upload limits now object.bucket object.key upload body s)
 operated limits now body (AbortMultipartUpload object upload) s = plainly (abort_upload object.bucket object.key upload s)
-operated limits now body other s = Err (plain NotImplemented)
+operated limits now body Usage s = plainly (tell_usage s)
 
 -- ---- requests and orders
 
@@ -133,6 +132,7 @@ ordered (AddTenant tenant quota) s = add_tenant tenant quota s
 ordered (SetQuota tenant quota) s = set_quota tenant quota s
 ordered (AddKey tenant name secret) s = add_key tenant name secret s
 ordered (RemoveKey tenant name) s = remove_key tenant name s
+ordered (ShowUsage tenant) s = show_usage tenant s
 
 -- what an act makes of its owner's state once that is purged
 abbrev pub change : HostLimits → ℕ → Act → Option State → Result Outcome Rejection

@@ -2,4 +2,5 @@
 //! contracts of the storage and of the host.
 #![tactic(auto)]
 
+pub mod bounds;
 pub mod laws;

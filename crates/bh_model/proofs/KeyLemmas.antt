@@ -17,11 +17,11 @@ use Rattle.bh_types.specs.AccessKeys.{is_dollar, access_key, access_key_of}
 use Rattle.bh_model.specs.Credentials.{authenticate}
 use Rattle.bh_model.specs.Laws.{key_id, key_named, AddedKeyOpens, RemovedKeyIsUnknown}
 
-first : (a b : Bool) → a && b ≡ true → a ≡ true
+pub first : (a b : Bool) → a && b ≡ true → a ≡ true
 first true b h = refl
 first false b h = h
 
-second : (a b : Bool) → a && b ≡ true → b ≡ true
+pub second : (a b : Bool) → a && b ≡ true → b ≡ true
 second true b h = h
 second false b h = absurd (true≢false (sym h))
 

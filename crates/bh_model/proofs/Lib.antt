@@ -6,3 +6,6 @@ pub mod PartLemmas
 pub mod KeyLemmas
 pub mod ObjectLemmas
 pub mod UploadLemmas
+pub mod UsedLemmas
+pub mod QuotaLemmas
+pub mod BoundLemmas

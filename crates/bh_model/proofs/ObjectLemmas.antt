@@ -8,14 +8,15 @@ use Rattle.bh_types.specs.declared.refusal.Refusal.{Refusal}
 use Rattle.bh_types.specs.declared.range.RangePlan.TheVariants.{Whole}
 use Rattle.bh_types.specs.declared.rejection.Rejection.{Rejection}
 use Rattle.bh_types.specs.Rejections.{plainly}
-use Rattle.bh_types.specs.declared.refusal.Refusal.TheVariants.{NoSuchBucket, BadDigest, CounterExhausted}
+use Rattle.bh_types.specs.declared.refusal.Refusal.TheVariants.{NoSuchBucket, BadDigest, QuotaExceeded, CounterExhausted}
 use Rattle.bh_model.specs.State.{Octets, Content, Content.Body, Entry, Bucket, State}
 use Rattle.bh_types.specs.Outcomes.{◌>>=◌, require}
 use Rattle.bh_types.specs.Checksums.{checksum_text}
 use Rattle.bh_model.specs.Counting.{counts, with_counts, can_number, numbered, after_entry}
 use Rattle.bh_model.specs.Entries.{Version, added, new_id, found_current, lookup}
 use Rattle.bh_model.specs.Parts.{is_checksum}
-use Rattle.bh_model.specs.Operations.{Answer, Outcome, Answer.Stored, Answer.Copied, Answer.Object, id_told, listed, with_bucket, with_content, with_object, with_copy, shown, stored, copied, source_version, not_found, planned, get_object}
+use Rattle.bh_model.specs.Quotas.{keeps_quota}
+use Rattle.bh_model.specs.Operations.{Answer, Outcome, Answer.Stored, Answer.Copied, Answer.Object, id_told, listed, with_bucket, with_content, with_object, with_copy, shown, stored, copied, require_quota, source_version, not_found, planned, get_object}
 use Rattle.bh_model.specs.Laws.{PutIsRead, CopyIsRead}
 use Rattle.bh_model.proofs.KeyLemmas.{get-inserted, tested}
 
@@ -74,6 +75,7 @@ module _ (moment : ℕ) (name key : Octets) where
   put_in bytes given t o = do
     f ← with_found t o
     _ ← require (is_checksum given bytes) BadDigest
+    _ ← require_quota name (with_object moment key f.0.next_version bytes f.1) f.0
     c ← after_entry f.1.mode (counts f.0)
     Ok (stored bytes f.0.next_version f.1, Some (with_bucket name (with_object moment key f.0.next_version bytes f.1) (with_counts c f.0)))
 
@@ -81,7 +83,8 @@ module _ (moment : ℕ) (name key : Octets) where
   put bytes given t None = tt
   put bytes given t (Some b) =
       tested (is_checksum given bytes) tt BadDigest _ (IsRead bytes)
-      (λ _. tested (can_number b.mode (counts t)) (numbered b.mode (counts t)) CounterExhausted _ (IsRead bytes) (λ _. (id_of t b, refl, read moment name key bytes (checksum_text bytes) t b)))
+      (λ _. tested (keeps_quota t (with_bucket name (with_object moment key t.next_version bytes b) t)) tt QuotaExceeded _ (IsRead bytes)
+      (λ _. tested (can_number b.mode (counts t)) (numbered b.mode (counts t)) CounterExhausted _ (IsRead bytes) (λ _. (id_of t b, refl, read moment name key bytes (checksum_text bytes) t b))))
 
   abbrev IsCopied : Result Version Refusal → Outcome → Type 0
   IsCopied source copy =
@@ -92,6 +95,7 @@ module _ (moment : ℕ) (name key : Octets) where
   copy_in source t o = do
     f ← with_found t o
     v ← source
+    _ ← require_quota name (with_copy moment key f.0.next_version v f.1) f.0
     c ← after_entry f.1.mode (counts f.0)
     Ok (copied moment v f.0.next_version f.1, Some (with_bucket name (with_copy moment key f.0.next_version v f.1) (with_counts c f.0)))
 
@@ -99,7 +103,8 @@ module _ (moment : ℕ) (name key : Octets) where
   copy source t None = tt
   copy (Err refusal) t (Some b) = tt
   copy (Ok v) t (Some b) =
-      tested (can_number b.mode (counts t)) (numbered b.mode (counts t)) CounterExhausted _ (IsCopied (Ok v)) (λ _. (v, id_of t b, refl, refl, read moment name key v.bytes v.checksum t b))
+      tested (keeps_quota t (with_bucket name (with_copy moment key t.next_version v b) t)) tt QuotaExceeded _ (IsCopied (Ok v))
+      (λ _. tested (can_number b.mode (counts t)) (numbered b.mode (counts t)) CounterExhausted _ (IsCopied (Ok v)) (λ _. (v, id_of t b, refl, refl, read moment name key v.bytes v.checksum t b)))
 
 pub put_is_read : PutIsRead
 put_is_read moment name key bytes given None = tt

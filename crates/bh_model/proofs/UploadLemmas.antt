@@ -19,7 +19,7 @@ use Rattle.bh_model.specs.State.{Octets, Content.Body, Part, Upload, Bucket, Sta
 use Rattle.bh_model.specs.Counting.{counts, with_counts, can_number, numbered, after_entry}
 use Rattle.bh_model.specs.Entries.{new_id}
 use Rattle.bh_model.specs.Parts.{Naming, is_checksum, completed}
-use Rattle.bh_model.specs.Operations.{Answer.Object, Answer.Begun, Answer.Removed, Answer.Completed, Answer.PartStored, Outcome, id_told, with_bucket, get_object}
+use Rattle.bh_model.specs.Operations.{Answer.Object, Answer.Begun, Answer.Removed, Answer.Completed, Answer.PartStored, Outcome, id_told, with_bucket, require_quota, get_object}
 use Rattle.bh_model.specs.Uploads.{new_upload, after_begin, FoundUpload, of_key, found_upload, find_upload, with_upload, without_upload, with_part, with_stored, after_part, completion, with_completed, complete_upload}
 use Rattle.bh_types.specs.Moments.{abort_moment}
 use Rattle.std.proofs.lemmas.Slice.Eq.{bytes_eq-Decides}
@@ -158,15 +158,15 @@ pub part_is_read : PartIsRead
 part_is_read moment later least number name key bytes upload given s =
     let p : Part = record { bytes = bytes; moment = moment } in
     in_state name key
-    (λ f. require (is_checksum given bytes) BadDigest >>= (λ _. after_part (counts f.tenant) >>= (λ c. Ok (PartStored (checksum_text bytes), Some (with_bucket name (with_stored f number p) (with_counts c f.tenant))))))
+    (λ f. require (is_checksum given bytes) BadDigest >>= (λ _. require_quota name (with_stored f number p) f.tenant >>= (λ _. after_part (counts f.tenant) >>= (λ c. Ok (PartStored (checksum_text bytes), Some (with_bucket name (with_stored f number p) (with_counts c f.tenant)))))))
     (λ put. UnlessExhausted (complete_upload later least name key upload (names later least number name key p) put.1) (IsRead later least number name key p)) upload s
-    (λ t b id u e same. of_object (require (is_checksum given bytes) BadDigest) _ _ (λ _. of_object (after_part (counts t)) _ _ (λ c.
+    (λ t b id u e same. of_object (require (is_checksum given bytes) BadDigest) _ _ (λ _. of_object (require_quota name (with_stored (found t b id u) number p) t) _ _ (λ _. of_object (after_part (counts t)) _ _ (λ c.
     let after : State = with_counts c t in
     let put : Upload = with_part number p u in
     let bucket : Bucket = with_upload id.number put b in
     subst (λ r. UnlessExhausted (r >>= finished later least number name key p) (IsRead later least number name key p))
     (sym (put_in name key upload id after bucket put e same (get-put b.uploads id.number put)))
-    (completes later least number name key p (with_bucket name bucket after) bucket id put (get-put u.parts number p)))))
+    (completes later least number name key p (with_bucket name bucket after) bucket id put (get-put u.parts number p))))))
 
 begun_in : (moment : ℕ) (name key : Octets) (t : State) (o : Option Bucket)
     → IfOk (bucket_in t o >>= (λ f. after_begin (counts f.0) >>= (λ c. Ok (Begun name key (record { number = f.0.next_upload }) (option_map (abort_moment moment) f.1.days), Some (with_bucket name (with_upload f.0.next_upload (new_upload key moment) f.1) (with_counts c f.0))))))

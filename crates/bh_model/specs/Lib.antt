@@ -4,12 +4,14 @@ pub mod Pages
 pub mod Counting
 pub mod Entries
 pub mod Parts
+pub mod Quotas
+pub mod Usage
 pub mod Credentials
 pub mod Operations
 pub mod Listings
-pub mod Quotas
 pub mod Runs
 pub mod Laws
 pub mod Uploads
 pub mod UploadLaws
+pub mod QuotaLaws
 pub mod Shown

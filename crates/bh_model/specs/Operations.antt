@@ -12,7 +12,7 @@ use Rattle.bh_types.specs.declared.bucket_state.BucketState.{BucketState}
 use Rattle.bh_types.specs.declared.bucket_state.BucketState.TheVariants.{Unversioned, Enabled, Suspended}
 use Rattle.bh_types.specs.declared.range.RangePlan.{RangePlan}
 use Rattle.bh_types.specs.declared.refusal.Refusal.{Refusal}
-use Rattle.bh_types.specs.declared.refusal.Refusal.TheVariants.{NoSuchBucket, MethodNotAllowed, BucketAlreadyOwnedByYou, BucketNotEmpty, BadDigest, NoSuchLifecycleConfiguration, InvalidRequest, TenantExists, NoSuchTenant, KeyExists, NoSuchKeyName, InvalidName, InvalidQuota}
+use Rattle.bh_types.specs.declared.refusal.Refusal.TheVariants.{NoSuchBucket, MethodNotAllowed, BucketAlreadyOwnedByYou, BucketNotEmpty, BadDigest, QuotaExceeded, NoSuchLifecycleConfiguration, InvalidRequest, TenantExists, NoSuchTenant, KeyExists, NoSuchKeyName, InvalidName, InvalidQuota}
 use Rattle.bh_types.specs.declared.rejection.Detail.{Detail}
 use Rattle.bh_types.specs.declared.rejection.Detail.TheVariants.{Nothing, CurrentMarker, NamedMarker, ObjectSize}
 use Rattle.bh_types.specs.declared.rejection.Rejection.{Rejection}
@@ -29,12 +29,14 @@ use Rattle.bh_model.specs.Counting.{counts, with_counts, after_entry, after_dele
 use Rattle.bh_model.specs.Entries.{Version, has_id, is_version, added, deleted, new_id, lookup}
 use Rattle.bh_model.specs.Pages.{ObjectsListed, VersionsListed, UploadsListed, PartsListed}
 use Rattle.bh_model.specs.Parts.{is_checksum}
+use Rattle.bh_model.specs.Quotas.{keeps_quota}
+use Rattle.bh_model.specs.Usage.{Usage, usage_of}
 
 -- what is told where nothing is refused. An id is told where the bucket is or was versioned. `Removed` says whether a
 -- marker was made or taken out. `Head` and `Object` tell the whole object's size, `Object` with the bytes that its plan
 -- names. `Copied` tells the moment of the copy. Buckets are told with their moments, in the order of their names,
 -- and `Objects`, `Versions` and `Uploads` a page of a bucket's objects, of its versions and of its uploads; `Parts` a
--- page of an upload's parts. `Lifecycle` tells a bucket's rule. `Begun` and `Completed` name the object of an upload;
+-- page of an upload's parts. `Lifecycle` tells a bucket's rule, and `Used` what a tenant uses. `Begun` and `Completed` name the object of an upload;
 -- `Begun` tells when the upload will be stale, where its bucket has a rule
 pub data Answer : Type 0 where
   Done : Answer
@@ -53,6 +55,7 @@ pub data Answer : Type 0 where
   Begun : (bucket key : Octets) (upload : UploadId) (abort : Option ℕ) → Answer
   PartStored : (checksum : Octets) → Answer
   Completed : (bucket key : Octets) (id : Option VersionId) (checksum : Octets) → Answer
+  Used : (usage : Usage) → Answer
 
 -- an answer, and the state afterwards
 abbrev pub Outcome : Type 0
@@ -133,6 +136,18 @@ delete_bucket name s = do
   _ ← require (is_empty f.1.objects && is_empty f.1.uploads) BucketNotEmpty
   Ok (Removed None false, Some (record f.0 { buckets = remove f.0.buckets name }))
 
+-- what a tenant uses, as it or the operator asks for it
+abbrev pub tell_usage : Option State → Result Outcome Refusal
+tell_usage s = do
+  t ← added_tenant s
+  Ok (Used (usage_of t), s)
+
+-- the operator's command names the tenant
+abbrev pub show_usage : Octets → Option State → Result Outcome Refusal
+show_usage name s = do
+  _ ← require (is_tenant_name name) InvalidName
+  tell_usage s
+
 abbrev pub bucket_list : State → List (Octets × ℕ)
 bucket_list t = map (λ e. (e.0, e.1.created)) (entries t.buckets)
 
@@ -184,12 +199,17 @@ with_object moment key next bytes b = with_content moment key next (Body bytes (
 abbrev pub stored : Octets → ℕ → Bucket → Answer
 stored bytes next b = Stored (id_told b.mode (new_id b.mode next)) (checksum_text bytes)
 
+-- a bucket is not changed where that takes its tenant above the quota
+abbrev pub require_quota : Octets → Bucket → State → Result (Unit {0}) Refusal
+require_quota name b t = require (keeps_quota t (with_bucket name b t)) QuotaExceeded
+
 -- `given` is the checksum that the request says the bytes have, if it says one
 -- Amazon S3 API Reference, PutObject
 abbrev pub put_object : ℕ → Octets → Octets → Octets → Option Octets → Option State → Result Outcome Refusal
 put_object moment name key bytes given s = do
   f ← tenant_bucket name s
   _ ← require (is_checksum given bytes) BadDigest
+  _ ← require_quota name (with_object moment key f.0.next_version bytes f.1) f.0
   c ← after_entry f.1.mode (counts f.0)
   Ok (stored bytes f.0.next_version f.1, Some (with_bucket name (with_object moment key f.0.next_version bytes f.1) (with_counts c f.0)))
 
@@ -233,6 +253,7 @@ abbrev pub copy_object : ℕ → Octets → Octets → Octets → Octets → Wan
 copy_object moment name key source_name source_key wanted s = do
   f ← tenant_bucket name s
   v ← source_version source_name source_key wanted s
+  _ ← require_quota name (with_copy moment key f.0.next_version v f.1) f.0
   c ← after_entry f.1.mode (counts f.0)
   Ok (copied moment v f.0.next_version f.1, Some (with_bucket name (with_copy moment key f.0.next_version v f.1) (with_counts c f.0)))
 

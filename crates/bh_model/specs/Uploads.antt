@@ -1,5 +1,5 @@
 -- What each operation on a multipart upload makes of a tenant's state, and what it answers. The refusals stand in
--- their order. No quota is asked here; where one is, it is refused in `upload_part` after the checksum.
+-- their order.
 use Rattle.std.specs.Prelude.{ℕ, ◌+◌, false, bytes_eq, Option, Some, None, option_and_then, option_map, List, [], ok_or, Result, Ok, Err, if◌then◌else◌}
 use Rattle.std.specs.FinMap.{empty, get, insert, remove}
 use Rattle.bh_types.specs.Counts.{Counts}
@@ -13,7 +13,7 @@ use Rattle.bh_model.specs.State.{Octets, Content, Content.Marker, Content.Body, 
 use Rattle.bh_model.specs.Counting.{counts, with_counts, can_give, after_entry}
 use Rattle.bh_model.specs.Entries.{new_id}
 use Rattle.bh_model.specs.Parts.{Naming, is_checksum, completed}
-use Rattle.bh_model.specs.Operations.{Answer, Outcome, Removed, Begun, PartStored, Completed, id_told, tenant_bucket, with_bucket, with_content}
+use Rattle.bh_model.specs.Operations.{Answer, Outcome, Removed, Begun, PartStored, Completed, id_told, tenant_bucket, with_bucket, with_content, require_quota}
 
 -- ---- counters
 
@@ -79,6 +79,7 @@ abbrev pub upload_part : ℕ → Octets → Octets → Option UploadId → ℕ �
 upload_part moment name key upload number bytes given s = do
   f ← find_upload name key upload s
   _ ← require (is_checksum given bytes) BadDigest
+  _ ← require_quota name (with_stored f number (record { bytes = bytes; moment = moment })) f.tenant
   c ← after_part (counts f.tenant)
   Ok (PartStored (checksum_text bytes), Some (with_bucket name (with_stored f number (record { bytes = bytes; moment = moment })) (with_counts c f.tenant)))
 

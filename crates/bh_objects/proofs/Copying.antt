@@ -13,7 +13,7 @@ use Rattle.bh_types.specs.declared.wanted.Wanted.{Wanted}
 use Rattle.bh_model.specs.State.{Octets, Content, Content.Body, State, Bucket}
 use Rattle.bh_model.specs.Counting.{counts, with_counts, after_entry}
 use Rattle.bh_model.specs.Entries.{Version, new_id, lookup}
-use Rattle.bh_model.specs.Operations.{Answer, Outcome, Copied, id_told, listed, not_found, with_bucket, with_copy, copied, tenant_bucket, source_refusal, source_version, copy_object}
+use Rattle.bh_model.specs.Operations.{Answer, Outcome, Copied, id_told, listed, not_found, with_bucket, with_copy, copied, tenant_bucket, source_refusal, source_version, copy_object, require_quota}
 use Rattle.bh_tables.specs.Bodies.{resolved}
 use Rattle.bh_tables.specs.Typed.{Tables}
 use Rattle.bh_view.specs.Blocks.{whole, AreDigests}
@@ -33,10 +33,11 @@ use Rattle.bh_storage.specs.declared.error.StepError.TheVariants.{Refused, Faile
 use Rattle.bh_schema.specs.Rows.{SeenHead, seen_head}
 use Rattle.bh_objects.specs.Answers.{head_looked}
 use Rattle.bh_objects.specs.Copies.{version_read, copy_written}
-use Rattle.bh_objects.specs.Found.{mode_in, numbers_in, IsKeyText, with_entry}
+use Rattle.bh_objects.specs.Found.{mode_in, IsKeyText, with_entry, entry_numbers_in}
 use Rattle.bh_objects.specs.Writes.{with_counters, with_room, with_version, with_columns}
+use Rattle.bh_objects.proofs.Keeping.{entry_asked}
 use Rattle.bh_objects.proofs.Getting.{its, sized, row_bytes, found_version, refused_version}
-use Rattle.bh_objects.proofs.Putting.{HasBucket, has_bucket, has_numbers, next_unnamed}
+use Rattle.bh_objects.proofs.Putting.{HasBucket, has_bucket, has_numbers, next_unnamed, numbers_read}
 use Rattle.bh_objects.proofs.Written.{HasRowsOf, becomes_so, IsHostOf, is_added}
 
 -- ---- the source
@@ -97,6 +98,28 @@ copied_row mode before t b k moment head bytes tables size = ap (λ n. record ta
   }) ∷ [];
 }) size
 
+-- a copy asks for the numbers of its entry, and then stores it
+abbrev copy_then : ℕ → Octets → Octets → Version → State → Bucket → Counts × Counts → Result Outcome Refusal
+copy_then at b k version s B n = Ok (copied at version s.next_version B, Some (with_bucket b (with_copy at k s.next_version version B) (with_counts n.1 s)))
+
+abbrev copy_from : ℕ → Octets → Octets → Result (State × Bucket) Refusal → Result Version Refusal → Result Outcome Refusal
+copy_from at b k r from = do
+  f ← r
+  v ← from
+  _ ← require_quota b (with_copy at k f.0.next_version v f.1) f.0
+  c ← after_entry f.1.mode (counts f.0)
+  Ok (copied at v f.0.next_version f.1, Some (with_bucket b (with_copy at k f.0.next_version v f.1) (with_counts c f.0)))
+
+copy_shape : (at : ℕ) (b k sb sk : Octets) (wanted : Wanted) (v : Option State) (mode : BucketState) (h : HasBucket b v mode) (version : Version) → source_version sb sk wanted v ≡ Ok version
+    → copy_object at b k sb sk wanted v ≡ ◌>>=◌ {B = Outcome} (entry_numbers_in mode b k (length version.bytes) v) (copy_then at b k version h.state h.bucket)
+copy_shape at b k sb sk wanted v mode h version source =
+    let s = h.state in
+    let B = h.bucket in
+    let then : Counts → Result Outcome Refusal = λ c. copy_then at b k version s B (c, c) in
+    let asks : copy_from at b k (tenant_bucket b v) (Ok version) ≡ ◌>>=◌ {B = Outcome} (require_quota b (with_copy at k s.next_version version B) s) (λ _. ◌>>=◌ {B = Outcome} (after_entry B.mode (counts s)) then) = rw (h.added, h.there) refl in
+    ap (copy_from at b k (tenant_bucket b v)) source ∙ asks ∙ entry_asked s b k B h.there at s.next_version (Body version.bytes version.checksum) then
+    ∙ (λ i. ◌>>=◌ {B = Outcome} (entry_numbers_in (h.its i) b k (length version.bytes) (sym h.added i)) (λ n. then n.1))
+
 -- what a copy gives, and what stays of the tables
 abbrev pub Copies : Tables → Tables → Octets → Octets → Octets → Octets → Octets → Wanted → ℕ → SeenHead → BucketState → Counts → Type 0
 Copies old new t b k sb sk wanted at head mode c =
@@ -113,35 +136,30 @@ module _ (old new : Tables) (t b k sb sk : Octets) (wanted : Wanted) (at : ℕ) 
   abbrev Made : BucketState → Counts → Type 0
   Made = Copies old new t b k sb sk wanted at head
 
-  abbrev copy_in : Result (State × Bucket) Refusal → Result Version Refusal → Result Outcome Refusal
-  copy_in r from = do
-    f ← r
-    v ← from
-    c ← after_entry f.1.mode (counts f.0)
-    Ok (copied at v f.0.next_version f.1, Some (with_bucket b (with_copy at k f.0.next_version v f.1) (with_counts c f.0)))
-
   abbrev Goes : BucketState → Counts → Type 0
-  Goes mode c = after_entry mode c ≡ Ok after → HasRowsOf (with_entry mode c after t b k at content old) new → KeepsShared old new → Made mode c
+  Goes mode c = entry_numbers_in mode b k head.size (view old t) ≡ Ok (c, after) → after_entry mode c ≡ Ok after → HasRowsOf (with_entry mode c after t b k at content old) new → KeepsShared old new → Made mode c
 
   goes : (mode : BucketState) (h : HasBucket b (view old t) mode) → Goes h.bucket.mode (counts h.state)
-  goes mode h room has shared =
+  goes mode h read room has shared =
       let target = with_entry h.bucket.mode (counts h.state) after t b k at content old in
       let change = becomes_so t _ old target new (copy_put old target t h.state host.sound h.added b k h.bucket h.there at early key.key key.valid its_version after room refl) has in
-      let made : copy_in (tenant_bucket b (view old t)) (Ok its_version) ≡ Ok (Copied (id_told h.bucket.mode (new_id h.bucket.mode h.state.next_version)) at head.checksum, view new t) = rw (h.added, change.shown, h.there, room) refl in
-      (record { gives = ap (copy_in (tenant_bucket b (view old t))) source ∙ made; others = change.others; latest = change.latest; shared = shared }, change.sound, change.limits)
+      let own : HasBucket b (view old t) h.bucket.mode = record { state = h.state; bucket = h.bucket; added = h.added; there = h.there; its = refl } in
+      let made = copy_shape at b k sb sk wanted (view old t) h.bucket.mode own its_version source ∙ ap (λ n. ◌>>=◌ {B = Outcome} (entry_numbers_in h.bucket.mode b k n (view old t)) (copy_then at b k its_version h.state h.bucket)) (sym size)
+      ∙ ap (λ r. ◌>>=◌ {B = Outcome} r (copy_then at b k its_version h.state h.bucket)) read in
+      (record { gives = made ∙ ap (λ (v : Option State). Ok (copied at its_version h.state.next_version h.bucket, v)) (sym change.shown); others = change.others; latest = change.latest; shared = shared }, change.sound, change.limits)
 
-  copies : (mode : BucketState) (c : Counts) → mode_in b (view old t) ≡ Ok mode → numbers_in mode (view old t) ≡ Ok (c, after) → HasRowsOf (with_entry mode c after t b k at content old) new → KeepsShared old new → Made mode c
+  copies : (mode : BucketState) (c : Counts) → mode_in b (view old t) ≡ Ok mode → entry_numbers_in mode b k head.size (view old t) ≡ Ok (c, after) → HasRowsOf (with_entry mode c after t b k at content old) new → KeepsShared old new → Made mode c
   copies mode c found read =
       let h = has_bucket b (view old t) mode found in
-      let numbers = has_numbers (view old t) h.state mode c after h.added read in
-      subst (λ m. Goes m c) h.its (subst (Goes h.bucket.mode) numbers.0 (goes mode h)) (subst (λ x. after_entry mode x ≡ Ok after) numbers.0 numbers.1)
+      let numbers = has_numbers (view old t) h.state mode c after h.added (numbers_read (view old t) b k mode h head.size (c, after) read) in
+      subst (λ m. Goes m c) h.its (subst (Goes h.bucket.mode) numbers.0 (goes mode h)) read (subst (λ x. after_entry mode x ≡ Ok after) numbers.0 numbers.1)
 
   -- a copy whose body has the source's blocks
-  pub copies_body : (mode : BucketState) (c : Counts) → mode_in b (view old t) ≡ Ok mode → numbers_in mode (view old t) ≡ Ok (c, after) → new ≡ copy_written mode c after t b k at head old
+  pub copies_body : (mode : BucketState) (c : Counts) → mode_in b (view old t) ≡ Ok mode → entry_numbers_in mode b k head.size (view old t) ≡ Ok (c, after) → new ≡ copy_written mode c after t b k at head old
       → Made mode c × HasBodies new × ((digest : Octets → Octets) → AreDigests digest old.blocks → AreDigests digest new.blocks)
   copies_body mode c found read e =
       let h = has_bucket b (view old t) mode found in
-      let free = next_unnamed old t h.state host.sound h.added c (has_numbers (view old t) h.state mode c after h.added read).0 in
+      let free = next_unnamed old t h.state host.sound h.added c (has_numbers (view old t) h.state mode c after h.added (numbers_read (view old t) b k mode h head.size (c, after) read)).0 in
       let counted = with_counters mode after t old in
       let middle = body_copied (t, head.seq) (t, c.entry) counted in
       let adds : (digest : Octets → Octets) → AddsBody digest (t, c.entry) its_version.bytes counted middle = λ digest. body_copies counted (t, c.entry) (same_resolved old counted refl refl refl refl host.resolved) host.sound.stored host.bodies (same_unnamed old counted refl refl refl refl (t, c.entry) free) digest (t, head.seq) in
@@ -152,20 +170,13 @@ module _ (old new : Tables) (t b k sb sk : Octets) (wanted : Wanted) (at : ℕ) 
 -- ---- refusals
 
 module _ (at : ℕ) (b k sb sk : Octets) (wanted : Wanted) where
-  abbrev copy_of : Result (State × Bucket) Refusal → Result Version Refusal → Result Outcome Refusal
-  copy_of r from = do
-    f ← r
-    v ← from
-    c ← after_entry f.1.mode (counts f.0)
-    Ok (copied at v f.0.next_version f.1, Some (with_bucket b (with_copy at k f.0.next_version v f.1) (with_counts c f.0)))
-
   -- its bucket is not there
   pub bucket_refuses : (v : Option State) (x : Refusal) → mode_in b v ≡ Err x → copy_object at b k sb sk wanted v ≡ Err x
   bucket_refuses None x e = ap (λ r. Err (refusal_or r x)) e
   bucket_refuses (Some s) x e = go (get s.buckets b) e
     where
       go : (o : Option Bucket) → result_map_both (λ (f : State × Bucket). f.1.mode) (λ refusal. refusal) (ok_or (option_map (λ b. (s, b)) o) NoSuchBucket) ≡ Err x
-          → copy_of (ok_or (option_map (λ b. (s, b)) o) NoSuchBucket) (source_version sb sk wanted (Some s)) ≡ Err x
+          → copy_from at b k (ok_or (option_map (λ b. (s, b)) o) NoSuchBucket) (source_version sb sk wanted (Some s)) ≡ Err x
       go None e = ap (λ r. Err (refusal_or r x)) e
       go (Some B) e = absurd (true≢false (ap is_ok e))
 
@@ -173,20 +184,14 @@ module _ (at : ℕ) (b k sb sk : Octets) (wanted : Wanted) where
     pub source_refuses : (x : Refusal) → source_version sb sk wanted v ≡ Err x → copy_object at b k sb sk wanted v ≡ Err x
     source_refuses x e =
         let h = has_bucket b v mode found in
-        let last : copy_of (tenant_bucket b v) (Err x) ≡ Err x = rw (h.added, h.there) refl in
-        ap (copy_of (tenant_bucket b v)) e ∙ last
+        let last : copy_from at b k (tenant_bucket b v) (Err x) ≡ Err x = rw (h.added, h.there) refl in
+        ap (copy_from at b k (tenant_bucket b v)) e ∙ last
 
-    -- no number is left
-    pub numbers_refuse : (version : Version) → source_version sb sk wanted v ≡ Ok version → (x : Refusal) → numbers_in mode v ≡ Err x → copy_object at b k sb sk wanted v ≡ Err x
+    -- there is no room, or no number is left
+    pub numbers_refuse : (version : Version) → source_version sb sk wanted v ≡ Ok version → (x : Refusal) → entry_numbers_in mode b k (length version.bytes) v ≡ Err x → copy_object at b k sb sk wanted v ≡ Err x
     numbers_refuse version source x e =
         let h = has_bucket b v mode found in
-        let none : after_entry mode (counts h.state) ≡ Err x = go h.state (after_entry mode (counts h.state)) (ap (numbers_in mode) (sym h.added) ∙ e) in
-        let last : copy_of (tenant_bucket b v) (Ok version) ≡ Err x = rw (h.added, h.there, h.its, none) refl in
-        ap (copy_of (tenant_bucket b v)) source ∙ last
-      where
-        go : (s : State) (r : Result Counts Refusal) → ◌>>=◌ {B = Counts × Counts} r (λ a. Ok (counts s, a)) ≡ Err x → r ≡ Err x
-        go s (Ok a) e = absurd (true≢false (ap is_ok e))
-        go s (Err q) e = ap (λ o. Err (fault_or o x)) e
+        copy_shape at b k sb sk wanted v mode h version source ∙ ap (λ r. ◌>>=◌ {B = Outcome} r (copy_then at b k version h.state h.bucket)) e
 
 -- ---- what was answered of the calls, where one of them fails
 
@@ -205,11 +210,14 @@ module _ {Y : Type 0} (told : Y → Answer) (at : ℕ) (t b k sb sk : Octets) (w
     source_failed shows (Refused x) d = (source_refuses at b k sb sk wanted (view old t) mode found x (ap (λ (y : Tables). source_version sb sk wanted (view y t)) (sym one) ∙ d.0), d.1 ∙ one)
     source_failed shows (Failed trouble) d = tt
 
-    pub numbers_failed : {X : Type 0} (shows : X → Counts × Counts) (version : Version) → source_version sb sk wanted (view middle t) ≡ Ok version → (last : Tables) → last ≡ middle → (error : StepError Refusal)
-        → Decides shows (numbers_in mode (view last t)) last new (Err error) → Carries told t (copy_object at b k sb sk wanted) old new (Err error)
-    numbers_failed shows version source last two (Refused x) d =
-        (numbers_refuse at b k sb sk wanted (view old t) mode found version (ap (λ (y : Tables). source_version sb sk wanted (view y t)) (sym one) ∙ source) x (ap (λ (y : Tables). numbers_in mode (view y t)) (sym (two ∙ one)) ∙ d.0), d.1 ∙ two ∙ one)
-    numbers_failed shows version source last two (Failed trouble) d = tt
+    pub numbers_failed : {X : Type 0} (shows : X → Counts × Counts) (version : Version) → source_version sb sk wanted (view middle t) ≡ Ok version → (n : ℕ) → n ≡ length version.bytes → (last : Tables) → last ≡ middle → (error : StepError Refusal)
+        → Decides shows (entry_numbers_in mode b k n (view last t)) last new (Err error) → Carries told t (copy_object at b k sb sk wanted) old new (Err error)
+    numbers_failed shows version source n same_size last two (Refused x) d = (
+      numbers_refuse at b k sb sk wanted (view old t) mode found version (ap (λ (y : Tables). source_version sb sk wanted (view y t)) (sym one) ∙ source) x
+          (ap (λ m. entry_numbers_in mode b k m (view old t)) (sym same_size) ∙ ap (λ (y : Tables). entry_numbers_in mode b k n (view y t)) (sym (two ∙ one)) ∙ d.0),
+      d.1 ∙ two ∙ one,
+    )
+    numbers_failed shows version source n same_size last two (Failed trouble) d = tt
 
 -- the writes of a copy, one after another
 pub copy_chain : (mode : BucketState) (before after : Counts) (t b k : Octets) (at : ℕ) (head : SeenHead) (old one two three new : Tables)

@@ -3,7 +3,9 @@ pub mod Written
 pub mod Working
 pub mod Found
 pub mod Creating
+pub mod Keeping
 pub mod Putting
+pub mod Room
 pub mod BucketSteps
 pub mod Getting
 pub mod Copying

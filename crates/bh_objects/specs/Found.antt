@@ -1,24 +1,28 @@
 -- What is read of a tenant's rows, and what a put or a delete makes of the tables.
-use Rattle.std.specs.Prelude.{◌≡◌, ℕ, ◌++◌, [], ◌∷◌, Option, option_map, option_and_then, is_none, ok_or, Result, Ok, Err, IsTrue}
+use Rattle.std.specs.Prelude.{◌≡◌, ℕ, ◌+◌, ◌-◌, ◌++◌, [], ◌∷◌, find, Option, Some, option_map, option_and_then, is_none, ok_or, Result, Ok, Err, IsTrue}
+use Rattle.std.specs.List.{filter, sum_by}
+use Rattle.std.specs.Option.{option_map_or}
 use Rattle.std.specs.Str.{IsUtf8}
 use Rattle.std.specs.Result.{result_map_both}
 use Rattle.std.specs.FinMap.{get}
 use Rattle.sqlite_keyed.specs.Lists.{update_where}
 use Rattle.bh_types.specs.declared.bucket_state.BucketState.{BucketState}
+use Rattle.bh_types.specs.declared.bucket_state.BucketState.TheVariants.{Unversioned, Enabled, Suspended}
 use Rattle.bh_types.specs.declared.refusal.Refusal.{Refusal}
-use Rattle.bh_types.specs.declared.refusal.Refusal.TheVariants.{NoSuchBucket, BucketAlreadyOwnedByYou, BadDigest}
+use Rattle.bh_types.specs.declared.refusal.Refusal.TheVariants.{NoSuchBucket, BucketAlreadyOwnedByYou, BadDigest, QuotaExceeded}
 use Rattle.bh_types.specs.Names.{is_object_key}
 use Rattle.bh_types.specs.Counts.{Counts}
 use Rattle.bh_types.specs.Checksums.{checksum_text}
-use Rattle.bh_model.specs.State.{Octets, State, Content}
+use Rattle.bh_model.specs.State.{Octets, State, Content, used}
 use Rattle.bh_types.specs.Outcomes.{◌>>=◌, require}
 use Rattle.bh_model.specs.Counting.{counts, after_entry}
-use Rattle.bh_model.specs.Operations.{tenant_bucket, added_tenant}
+use Rattle.bh_model.specs.Operations.{tenant_bucket, added_tenant, listed}
+use Rattle.bh_model.specs.Quotas.{fits_quota, replaced_size}
 use Rattle.bh_model.specs.Parts.{is_checksum}
 use Rattle.bh_storage.specs.declared.error.StepError.{StepError}
 use Rattle.bh_storage.specs.declared.error.StepError.TheVariants.{Refused, Failed}
 use Rattle.bh_tables.specs.Typed.{Tables}
-use Rattle.bh_tables.specs.Shown.{is_tenant}
+use Rattle.bh_tables.specs.Shown.{is_tenant, is_version, is_version_of, is_part_used}
 use Rattle.bh_view.specs.Put.{entry_row, row_number, counters_row, rows_left}
 
 -- the state of a tenant's bucket
@@ -43,6 +47,41 @@ numbers_in mode s = do
   before ← counts_in s
   after ← after_entry mode before
   Ok (before, after)
+
+-- ---- the quota
+
+-- the bytes of a tenant's versions and parts
+abbrev pub bytes_in : Octets → Tables → ℕ
+bytes_in tenant tables = sum_by (λ v. v.size) (filter (is_version_of tenant) tables.versions) + sum_by (λ p. p.size) (filter (is_part_used tenant) tables.parts)
+
+-- those of the entry `null` of a key
+abbrev pub null_bytes : Octets → Octets → Octets → Tables → ℕ
+null_bytes tenant bucket key tables = option_map_or (λ v. v.size) (find (is_version tenant bucket key 0) tables.versions) 0
+
+-- those that a new entry of it replaces
+abbrev pub replaced_bytes : BucketState → Octets → Octets → Octets → Tables → ℕ
+replaced_bytes Unversioned tenant bucket key tables = null_bytes tenant bucket key tables
+replaced_bytes Enabled tenant bucket key tables = 0
+replaced_bytes Suspended tenant bucket key tables = null_bytes tenant bucket key tables
+
+-- whether a tenant who uses so many bytes may replace so many by so many
+abbrev pub room_under : ℕ → ℕ → ℕ → ℕ → Result (Unit {0}) Refusal
+room_under quota before replaced added = require (fits_quota before (before + added - replaced) quota) QuotaExceeded
+
+-- a tenant that was not added has no bucket
+abbrev pub room_in : ℕ → ℕ → Option State → Result (Unit {0}) Refusal
+room_in replaced added s = do
+  t ← ok_or s NoSuchBucket
+  room_under t.quota (used t) replaced added
+
+-- the numbers of a new entry of a key with so many bytes, in a bucket of this state
+abbrev pub entry_numbers_in : BucketState → Octets → Octets → ℕ → Option State → Result (Counts × Counts) Refusal
+entry_numbers_in mode name key added s = do
+  f ← tenant_bucket name s
+  _ ← room_in (replaced_size mode (listed key f.1)) added (Some f.0)
+  numbers_in mode s
+
+-- ---- what a put or a delete makes of the tables
 
 -- the tables once there is room for a new entry of a key: the counters have gone on, and what it replaces is gone
 abbrev pub with_way : BucketState → Counts → Octets → Octets → Octets → Tables → Tables

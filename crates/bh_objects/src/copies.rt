@@ -12,7 +12,8 @@ ghost use Rattle.bh_objects.specs.Copies.{version_read, copy_written};
 
 use crate::heads::wanted_head;
 use crate::ids::told_id;
-use crate::reads::{Numbers, bucket_state, new_numbers};
+use crate::quotas::entry_numbers;
+use crate::reads::{Numbers, bucket_state};
 use crate::writes::{AddedVersion, add_version, make_room, set_counters};
 use bh_blocks::bodies::copy_body;
 use bh_model::entries::new_id;
@@ -124,7 +125,7 @@ fn write_copy<S: Alter>(
 }
 
 /// S3's CopyObject, at a moment that is not after the last stamp: NoSuchBucket of the copy's bucket and then of the
-/// source's, NoSuchKey, NoSuchVersion, InvalidRequest, CounterExhausted. No byte is read.
+/// source's, NoSuchKey, NoSuchVersion, InvalidRequest, QuotaExceeded, CounterExhausted. No byte is read.
 pub fn copy_object<S: Alter>(
     connection: &mut Connection<S>,
     copy: &NewCopy<'_>,
@@ -141,7 +142,14 @@ pub fn copy_object<S: Alter>(
 {
     let mode = bucket_state(connection, copy.tenant, copy.bucket)?;
     let head = source_head(connection, copy)?;
-    let numbers = new_numbers(connection, copy.tenant, mode)?;
+    let numbers = entry_numbers(
+        connection,
+        copy.tenant,
+        copy.bucket,
+        copy.key,
+        mode,
+        head.size,
+    )?;
     let Numbers { before, .. } = numbers;
     write_copy(connection, copy, mode, numbers, &head)?;
     Ok(CopiedVersion {

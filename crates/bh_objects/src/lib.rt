@@ -8,5 +8,6 @@ pub mod gets;
 pub mod heads;
 pub mod ids;
 pub mod objects;
+pub mod quotas;
 pub mod reads;
 pub mod writes;

@@ -12,7 +12,8 @@ ghost use Rattle.bh_schema.specs.Working.{Works, StillWorksBy};
 ghost use Rattle.bh_objects.specs.Found.{Answers, sum_given};
 
 use crate::ids::told_id;
-use crate::reads::{Numbers, bucket_state, new_numbers};
+use crate::quotas::entry_numbers;
+use crate::reads::{Numbers, bucket_state};
 use crate::writes::{NewObject, write_object};
 use bh_model::entries::new_id;
 use bh_schema::host::Digester;
@@ -44,7 +45,7 @@ pub fn checked_sum(
 }
 
 /// S3's PutObject, at a moment that is not after the last stamp, where the request may say which checksum the
-/// bytes have: NoSuchBucket, BadDigest, CounterExhausted. The bytes are stored in blocks of at most this size.
+/// bytes have: NoSuchBucket, BadDigest, QuotaExceeded, CounterExhausted. The bytes are stored in blocks of at most this size.
 pub fn put_object<S: Alter, D: Digester>(
     connection: &mut Connection<S>,
     alloc: Global,
@@ -67,7 +68,15 @@ pub fn put_object<S: Alter, D: Digester>(
 {
     let mode = bucket_state(connection, object.tenant, object.bucket)?;
     let checksum = checked_sum(alloc, object.bytes, given)?;
-    let numbers = new_numbers(connection, object.tenant, mode)?;
+    let size = object.bytes.len() as u64;
+    let numbers = entry_numbers(
+        connection,
+        object.tenant,
+        object.bucket,
+        object.key,
+        mode,
+        size,
+    )?;
     let Numbers { before, .. } = numbers;
     write_object(
         connection,

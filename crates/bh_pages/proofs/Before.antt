@@ -12,6 +12,11 @@ less_not_more Less h = refl
 less_not_more Equal h = refl
 less_not_more Greater h = absurd (true≢false (sym h))
 
+pub less_not_equal : (o : Ordering) → is_lt o ≡ true → is_eq o ≡ false
+less_not_equal Less h = refl
+less_not_equal Equal h = absurd (true≢false (sym h))
+less_not_equal Greater h = refl
+
 pub turned_more : (o : Ordering) → is_lt o ≡ true → is_gt (ordering_reverse o) ≡ true
 turned_more Less h = refl
 turned_more Equal h = absurd (true≢false (sym h))

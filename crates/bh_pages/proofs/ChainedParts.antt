@@ -1,18 +1,15 @@
 -- Pages of parts that are chained by their numbers show each part once and in order.
-use Rattle.std.proofs.Common.{T, ◌≡◌, ℕ, zero, suc, ◌+◌, ◌<◌, ◌≤◌, nat_lt, Bool, true, false, cond, ◌&&◌, List, [], ◌∷◌, ◌++◌, length, map, filter, take, drop, Option, Some, None, refl, sym, ap, subst, ◌∙◌, arith, nat_cmp}
-use Rattle.std.specs.Option.{option_map_or}
+use Rattle.std.proofs.Common.{◌≡◌, ℕ, zero, suc, nat_lt, Bool, true, false, cond, List, [], ◌∷◌, map, filter, take, drop, Some, refl, sym, ap, subst, ◌∙◌, arith, nat_cmp}
 use Rattle.std.specs.List.{AllByRecursion}
 use Rattle.std.specs.FinMap.{entries, entries_sorted}
-use Rattle.std.specs.FinMap.Entries.{is_sorted, below_all}
 use Rattle.std.specs.Ordering.{is_lt}
-use Rattle.std.proofs.lemmas.Bool.{ltb-true, ltb-false}
 use Rattle.std.proofs.lemmas.Bool.Decides.{nat_tests}
-use Rattle.std.proofs.lemmas.List.{take_all, append-nil}
-use Rattle.std.proofs.Math.Seq.{take-add}
 use Rattle.bh_model.specs.State.{Part}
 use Rattle.bh_model.specs.Pages.{PartItem, last_of, part_item, parts_after}
-use Rattle.bh_pages.specs.Laws.{total, parts_chained, PartsChain}
+use Rattle.bh_pages.specs.Laws.{part_number, PartsChain}
 use Rattle.bh_pages.proofs.Bytes.{none_some, some_same}
+use Rattle.bh_pages.proofs.Pairs.{Pairs, Rises, sorted_pairs}
+use Rattle.bh_pages.proofs.Chaining.{all_last, chain}
 
 -- each number is less than those that follow it
 abbrev Climb : List PartItem → Type 0
@@ -52,15 +49,6 @@ climb_filter n (p ∷ l) up = elim (nat_lt n p.number) as (λ t. Climb (cond t (
     kept [] all = tt
     kept (q ∷ k) all = elim (nat_lt n q.number) as (λ t. AllByRecursion (λ (q : PartItem). nat_lt p.number q.number ≡ true) (cond t (q ∷ after n k) (after n k))) [ true ↦ (all.0, kept k all.1) | false ↦ kept k all.1 ]
 
--- one that stands among the first has what all have
-all_last : (P : PartItem → Type 0) (m : ℕ) (l : List PartItem) (e : PartItem) → AllByRecursion P l → last_of (take m l) ≡ Some e → P e
-all_last P zero [] e all h = absurd (none_some h)
-all_last P zero (x ∷ l) e all h = absurd (none_some h)
-all_last P (suc m) [] e all h = absurd (none_some h)
-all_last P (suc zero) (x ∷ l) e all h = subst P (some_same h) all.0
-all_last P (suc (suc m)) (x ∷ []) e all h = subst P (some_same h) all.0
-all_last P (suc (suc m)) (x ∷ y ∷ l) e all h = all_last P (suc m) (y ∷ l) e all.1 h
-
 passes : (n m : ℕ) (l : List PartItem) (e : PartItem) → last_of (take m (after n l)) ≡ Some e → nat_lt n e.number ≡ true
 passes n m l e h = all_last (λ (p : PartItem). nat_lt n p.number ≡ true) m (after n l) e (each l) h
   where
@@ -78,13 +66,6 @@ past_last (suc (suc m)) (x ∷ []) e up h = subst (λ (z : PartItem). after z.nu
 past_last (suc (suc m)) (x ∷ y ∷ l) e up h =
     ap (λ t. cond t (x ∷ after e.number (y ∷ l)) (after e.number (y ∷ l))) (not_less x.number e.number (all_last (λ (q : PartItem). nat_lt x.number q.number ≡ true) (suc m) (y ∷ l) e up.0 h)) ∙ past_last (suc m) (y ∷ l) e up.1 h
 
-some_last : (m : ℕ) (l : List PartItem) → 1 ≤ m → m < length l → last_of (take m l) ≡ None → ⊥
-some_last zero l low h none = absurd (omega (arith, low))
-some_last (suc m) [] low h none = absurd (omega (arith, h))
-some_last (suc zero) (x ∷ l) low h none = absurd (none_some (sym none))
-some_last (suc (suc m)) (x ∷ []) low h none = absurd (none_some (sym none))
-some_last (suc (suc m)) (x ∷ y ∷ l) low h none = some_last (suc m) (y ∷ l) (omega arith) (omega (arith, h)) none
-
 -- ---- the pages, one after another
 
 after_map : (marker : ℕ) (l : List (ℕ × Part)) → parts_after marker l ≡ after marker (map part_item l)
@@ -94,51 +75,33 @@ after_map marker (p ∷ l) = elim (nat_lt marker p.0) as (λ t. map part_item (c
   | false ↦ after_map marker l
 ]
 
-module _ (parts : List (ℕ × Part)) (up : Climb (map part_item parts)) where
-  chain : (sizes : List ℕ) (marker : ℕ) → AllByRecursion (λ m. 1 ≤ m) sizes → parts_chained parts sizes marker ≡ take (total sizes) (parts_after marker parts)
-  chain [] marker some = refl
-  chain (m ∷ sizes) marker some = go (nat_lt m (length rest)) refl (last_of (take m rest)) refl (λ n. chain sizes n some.1)
-    where
-      rest : List PartItem
-      rest = parts_after marker parts
+module _ (parts : List (ℕ × Part)) (up : Climb (map part_item parts)) (marker : ℕ) where
+  abbrev rest : List PartItem
+  rest = parts_after marker parts
 
-      rest_is : rest ≡ after marker (map part_item parts)
-      rest_is = after_map marker parts
+  rest_is : rest ≡ after marker (map part_item parts)
+  rest_is = after_map marker parts
 
-      behind : (e : PartItem) → last_of (take m rest) ≡ Some e → parts_after e.number parts ≡ drop m rest
-      behind e there =
-          let at : last_of (take m (after marker (map part_item parts))) ≡ Some e = ap (λ l. last_of (take m l)) (sym rest_is) ∙ there in
-          after_map e.number parts ∙ narrow marker e.number (passes marker m (map part_item parts) e at) (map part_item parts)
-          ∙ past_last m (after marker (map part_item parts)) e (climb_filter marker (map part_item parts) up) at ∙ ap (drop m) (sym rest_is)
-
-      go : (more : Bool) → nat_lt m (length rest) ≡ more → (last : Option PartItem) → last_of (take m rest) ≡ last → ((n : ℕ) → parts_chained parts sizes n ≡ take (total sizes) (parts_after n parts))
-          → take m rest ++ option_map_or (λ (p : PartItem). parts_chained parts sizes p.number) (cond more last None) [] ≡ take (m + total sizes) rest
-      go true is None none next = absurd (some_last m rest some.0 (ltb-true m (length rest) is) none)
-      go true is (Some e) there next = ap (λ l. take m rest ++ l) (next e.number ∙ ap (take (total sizes)) (behind e there)) ∙ sym (take-add m (total sizes) rest)
-      go false is last there next =
-          let short : length rest ≤ m = ltb-false m (length rest) is in
-          append-nil (take m rest) ∙ take_all m rest short ∙ sym (take_all (m + total sizes) rest (omega (arith, short)))
+  behind : (d : ℕ) (e : PartItem) → last_of (take d rest) ≡ Some e → parts_after e.number parts ≡ drop d rest
+  behind d e there =
+      let at : last_of (take d (after marker (map part_item parts))) ≡ Some e = ap (λ l. last_of (take d l)) (sym rest_is) ∙ there in
+      after_map e.number parts ∙ narrow marker e.number (passes marker d (map part_item parts) e at) (map part_item parts)
+      ∙ past_last d (after marker (map part_item parts)) e (climb_filter marker (map part_item parts) up) at ∙ ap (drop d) (sym rest_is)
 
 -- ---- a map's entries climb
-
-split : (a b : Bool) → T (a && b) → T a × T b
-split true b h = (tt, h)
-split false b h = absurd h
-
-is_true : (b : Bool) → T b → b ≡ true
-is_true true h = refl
-is_true false h = absurd h
 
 less_is : (m n : ℕ) → is_lt (nat_cmp m n) ≡ true → nat_lt m n ≡ true
 less_is m n h = grind (arith, nat_tests, h)
 
-below : (k : ℕ) (es : List (ℕ × Part)) → T (below_all nat_cmp k es) → AllByRecursion (λ (q : PartItem). nat_lt k q.number ≡ true) (map part_item es)
-below k [] h = tt
-below k (e ∷ es) h = let it = split (is_lt (nat_cmp k e.0)) (below_all nat_cmp k es) h in (less_is k e.0 (is_true _ it.0), below k es it.1)
-
-sorted_climb : (es : List (ℕ × Part)) → T (is_sorted nat_cmp es) → Climb (map part_item es)
-sorted_climb [] h = tt
-sorted_climb (e ∷ es) h = let it = split (below_all nat_cmp e.0 es) (is_sorted nat_cmp es) h in (below e.0 es it.0, sorted_climb es it.1)
+numbers_climb : (es : List (ℕ × Part)) → Pairs (Rises nat_cmp) es → Climb (map part_item es)
+numbers_climb [] up = tt
+numbers_climb (e ∷ es) up = (below es up.0, numbers_climb es up.1)
+  where
+    below : (l : List (ℕ × Part)) → AllByRecursion (Rises nat_cmp e) l → AllByRecursion (λ (q : PartItem). nat_lt e.0 q.number ≡ true) (map part_item l)
+    below [] all = tt
+    below (f ∷ l) all = (less_is e.0 f.0 all.0, below l all.1)
 
 pub parts_chain : PartsChain
-parts_chain parts sizes marker some = chain (entries parts) (sorted_climb (entries parts) (entries_sorted parts)) sizes marker some
+parts_chain parts sizes marker some =
+    let climb = numbers_climb (entries parts) (sorted_pairs nat_cmp (entries parts) (entries_sorted parts)) in
+    chain part_number (λ n. parts_after n (entries parts)) (parts_after marker (entries parts)) (behind (entries parts) climb marker) sizes some 0 marker refl

@@ -1,9 +1,11 @@
 -- The pages that worked rows give, computed.
-use Rattle.std.proofs.Common.{◌≡◌, ℕ, codes, List, [], ◌∷◌, map, Option, Some, None, option_map, refl}
+use Rattle.std.proofs.Common.{◌≡◌, ℕ, Bool, true, false, codes, List, [], ◌∷◌, map, flat_map, Option, Some, None, option_map, refl}
+use Rattle.bh_types.specs.declared.id.VersionId.{VersionId}
 use Rattle.bh_types.specs.declared.id.VersionId.TheVariants.{Null, Numbered}
 use Rattle.std.specs.FinMap.{empty}
 use Rattle.bh_model.specs.State.{Octets, Content.Marker, Content.Body, Entry, Part, Upload}
-use Rattle.bh_model.specs.Pages.{Asked, Paged, Listed, Listed.Single, Listed.Common, ObjectItem, UploadItem, PartItem, name_of, rolled, objects_page, objects_told, uploads_page, parts_page}
+use Rattle.bh_model.specs.Pages.{Asked, Paged, Listed, Listed.Single, Listed.Common, ObjectItem, VersionItem, StoredItem, UploadItem, PartItem, name_of, single_in, rolled, objects_page, objects_told, uploads_page, parts_page}
+use Rattle.bh_pages.specs.Laws.{chained, version_marked, versions_paged, upload_marked, uploads_paged, upload_entries}
 
 abbrev names : Paged (Listed ObjectItem) → List Octets × Option Octets
 names p = (map (name_of (λ o. o.key)) p.shown, option_map (name_of (λ (o : ObjectItem). o.key)) p.next)
@@ -103,6 +105,35 @@ rolled_behind = refl
 
 no_uploads : uploads_page (asked [] [] 0) None four ≡ record { shown = []; next = None }
 no_uploads = refl
+
+-- page after page of one, each at the markers of the one before
+each_upload : chained upload_marked (uploads_paged [] (codes "/") four) (1 ∷ 1 ∷ 1 ∷ []) None ≡ upload (codes "a") 2 ∷ upload (codes "a") 3 ∷ Common (codes "a/") ∷ []
+each_upload = refl
+
+all_the_uploads : chained upload_marked (uploads_paged [] (codes "/") four) (3 ∷ 3 ∷ []) None ≡ upload_entries [] (codes "/") four
+all_the_uploads = refl
+
+-- ---- the versions of x and y, page after page
+
+abbrev version : Octets → VersionId → Bool → Option StoredItem → Listed VersionItem
+version key id latest stored = Single (record { key = key; id = id; moment = 0; latest = latest; object = stored })
+
+abbrev one_byte : Option StoredItem
+one_byte = Some (record { size = 1; checksum = [] })
+
+each_version : chained version_marked (versions_paged [] [] versions) (1 ∷ 1 ∷ 1 ∷ 1 ∷ []) None
+    ≡ version (codes "x") (Numbered 2) true None ∷ version (codes "x") (Numbered 1) false one_byte ∷ version (codes "y") (Numbered 3) true one_byte ∷ []
+each_version = refl
+
+-- where three of a key had one id, the second would be shown again, and the third never: why the law wants ids of their own
+abbrev alike : List (Octets × List Entry)
+alike = (codes "x", record { id = Null; moment = 3; content = Marker } ∷ record { id = Null; moment = 2; content = Marker } ∷ record { id = Null; moment = 1; content = Marker } ∷ []) ∷ []
+
+abbrev moments : List (Listed VersionItem) → List ℕ
+moments es = map (λ (v : VersionItem). v.moment) (flat_map single_in es)
+
+second_again : moments (chained version_marked (versions_paged [] [] alike) (1 ∷ 1 ∷ 1 ∷ 1 ∷ []) None) ≡ 3 ∷ 2 ∷ 2 ∷ 2 ∷ []
+second_again = refl
 
 -- ---- parts 1, 2, 5 and 10,000
 

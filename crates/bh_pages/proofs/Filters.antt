@@ -17,6 +17,10 @@ module _ {X : Type 0} where
   filter_whole p [] all = refl
   filter_whole p (x ∷ l) all = ap (λ t. cond t (x ∷ filter p l) (filter p l)) all.0 ∙ ap (λ l. x ∷ l) (filter_whole p l all.1)
 
+  pub keep_all : (l : List X) → filter (λ x. true) l ≡ l
+  keep_all [] = refl
+  keep_all (x ∷ l) = ap (λ k. x ∷ k) (keep_all l)
+
   pub filter_all : (P : X → Type 0) (p : X → Bool) (l : List X) → AllByRecursion P l → AllByRecursion P (filter p l)
   filter_all P p [] all = tt
   filter_all P p (x ∷ l) all = elim (p x) as (λ t. AllByRecursion P (cond t (x ∷ filter p l) (filter p l))) [ true ↦ (all.0, filter_all P p l all.1) | false ↦ filter_all P p l all.1 ]

@@ -34,7 +34,7 @@ module _ {R : Type 0} (by_number : ℕ → ℕ → Ordering) (numbers : IsTotalO
   abbrev IsStrict : List R → Type 0
   IsStrict = places.IsStrict by_number row_key number
 
-  spot_total : IsTotalOrder order
+  pub spot_total : IsTotalOrder order
   spot_total = then_total (on_total (λ (s : Spot). s.0) nat_list_cmp_total) (on_total (λ (s : Spot). s.1) numbers)
 
   -- a chain of three whose ends are the other way round is none
@@ -49,7 +49,7 @@ module _ {R : Type 0} (by_number : ℕ → ℕ → Ordering) (numbers : IsTotalO
       go Equal e = absurd (back (ap is_gt (spot_total.antisymm c a ∙ ap ordering_reverse e)))
       go Greater e = absurd (back (ap is_gt (spot_total.antisymm c a ∙ ap ordering_reverse e)))
 
-  not_itself : (a : Spot) → precedes a a ≡ false
+  pub not_itself : (a : Spot) → precedes a a ≡ false
   not_itself a = ap is_lt (tied_itself spot_total a)
 
   pub not_back : (a b : Spot) → precedes a b ≡ true → precedes b a ≡ false

@@ -1,42 +1,116 @@
 -- What shows that a page is the intended one: pages that are chained by their markers show each entry once and in order.
-use Rattle.std.specs.Prelude.{◌≡◌, ℕ, ◌+◌, ◌≤◌, List, [], ◌∷◌, ◌++◌, take, Option, None, Some}
+use Rattle.std.specs.Prelude.{◌≡◌, ℕ, ◌+◌, ◌≤◌, List, [], ◌∷◌, ◌++◌, length, take, Option, None, Some}
 use Rattle.std.specs.Option.{option_map_or}
-use Rattle.std.specs.List.{AllByRecursion}
+use Rattle.std.specs.List.{filter, AllByRecursion}
 use Rattle.std.specs.FinMap.{FinMap, entries}
 use Rattle.std.specs.Ordering.{nat_cmp}
-use Rattle.bh_model.specs.State.{Octets, octets_cmp, Entry, Part}
-use Rattle.bh_model.specs.Pages.{Listed, Paged, ObjectItem, name_of, entries_after, after_name, objects_in, objects_page, PartItem, parts_after, parts_page}
+use Rattle.bh_types.specs.declared.id.VersionId.{VersionId}
+use Rattle.bh_types.specs.declared.wanted.Wanted.TheVariants.{Current, Named}
+use Rattle.bh_model.specs.State.{Octets, octets_cmp, Entry, Part, Upload}
+use Rattle.bh_model.specs.Entries.{has_id}
+use Rattle.bh_model.specs.Pages.{Asked, Listed, Paged, name_of, entries_after, ObjectItem, after_name, objects_in, objects_page, VersionItem, VersionPlace, VersionNext, all_versions, passes_version, versions_page, version_next, UploadItem, UploadPlace, UploadNext, all_uploads, passes_upload, uploads_page, upload_next, PartItem, parts_after, parts_page}
+use Rattle.bh_pages.specs.Uploads.{upload_key}
 
 abbrev pub total : List ℕ → ℕ
 total [] = 0
 total (m ∷ sizes) = m + total sizes
 
--- what the pages of these sizes show, one after another, each after the last name of the page before, until one is not truncated
-abbrev pub chained : {T : Type 0} → (T → Octets) → (ℕ → Option Octets → Paged (Listed T)) → List ℕ → Option Octets → List (Listed T)
-chained key page [] marker = []
-chained key page (m ∷ sizes) marker = (page m marker).shown ++ option_map_or (λ e. chained key page sizes (Some (name_of key e))) (page m marker).next []
+-- what the pages of these sizes show, one after another, each at the marker that the last entry of the page before makes, until one
+-- is not truncated
+abbrev pub chained : {E M : Type 0} → (E → M) → (ℕ → M → Paged E) → List ℕ → M → List E
+chained marked page [] marker = []
+chained marked page (m ∷ sizes) marker =
+    (page m marker).shown ++ option_map_or (λ e. chained marked page sizes (marked e)) (page m marker).next []
+
+abbrev pub asked : Octets → Octets → ℕ → Asked
+asked prefix delimiter m = record { prefix = prefix; delimiter = delimiter; max = m }
+
+-- ---- objects
+
+abbrev pub object_key : ObjectItem → Octets
+object_key o = o.key
+
+-- the next page comes after the name that the page tells
+abbrev pub object_marked : Listed ObjectItem → Option Octets
+object_marked e = Some (name_of object_key e)
 
 -- the pages of objects, by their sizes
 abbrev pub objects_paged : Octets → Octets → List (Octets × List Entry) → ℕ → Option Octets → Paged (Listed ObjectItem)
-objects_paged prefix delimiter keys m token = objects_page (record { prefix = prefix; delimiter = delimiter; max = m }) token keys
+objects_paged prefix delimiter keys m token = objects_page (asked prefix delimiter m) token keys
 
 -- all entries
-abbrev pub all_objects : Octets → Octets → List (Octets × List Entry) → List (Listed ObjectItem)
-all_objects prefix delimiter keys = entries_after prefix delimiter (λ (o : ObjectItem). o.key) (after_name (λ (o : ObjectItem). o.key) None) (objects_in keys)
+abbrev pub object_entries : Octets → Octets → List (Octets × List Entry) → List (Listed ObjectItem)
+object_entries prefix delimiter keys = entries_after prefix delimiter object_key (after_name object_key None) (objects_in keys)
 
 -- however large the pages are, they show the first of all entries, so many as the sizes make together
 abbrev pub PagesChain : Type 0
-PagesChain = (prefix delimiter : Octets) (objects : FinMap octets_cmp (List Entry)) (sizes : List ℕ) → AllByRecursion (λ m. 1 ≤ m) sizes
-    → chained (λ (o : ObjectItem). o.key) (objects_paged prefix delimiter (entries objects)) sizes None ≡ take (total sizes) (all_objects prefix delimiter (entries objects))
+PagesChain = (prefix delimiter : Octets) (objects : FinMap octets_cmp (List Entry)) (sizes : List ℕ)
+    → AllByRecursion (λ m. 1 ≤ m) sizes
+    → chained object_marked (objects_paged prefix delimiter (entries objects)) sizes None
+    ≡ take (total sizes) (object_entries prefix delimiter (entries objects))
 
--- what the pages of parts of these sizes show, one after another, each after the last number of the page before, until one is not
--- truncated
-abbrev pub parts_chained : List (ℕ × Part) → List ℕ → ℕ → List PartItem
-parts_chained parts [] marker = []
-parts_chained parts (m ∷ sizes) marker =
-    (parts_page m marker parts).shown ++ option_map_or (λ (p : PartItem). parts_chained parts sizes p.number) (parts_page m marker parts).next []
+-- ---- versions and delete markers
+
+abbrev pub version_key : VersionItem → Octets
+version_key v = v.key
+
+-- the next page comes after the key and the version that the page tells
+abbrev pub version_place : VersionNext → VersionPlace
+version_place next = record { key = next.name; version = option_map_or Named next.id Current }
+
+abbrev pub version_marked : Listed VersionItem → Option VersionPlace
+version_marked e = Some (version_place (version_next e))
+
+abbrev pub versions_paged : Octets → Octets → List (Octets × List Entry) → ℕ → Option VersionPlace → Paged (Listed VersionItem)
+versions_paged prefix delimiter keys m marker = versions_page (asked prefix delimiter m) marker keys
+
+abbrev pub version_entries : Octets → Octets → List (Octets × List Entry) → List (Listed VersionItem)
+version_entries prefix delimiter keys = entries_after prefix delimiter version_key (passes_version None) (all_versions keys)
+
+-- no two entries have one id
+abbrev pub HaveOwnIds : List Entry → Type 0
+HaveOwnIds versions = (id : VersionId) → length (filter (has_id id) versions) ≤ 1
+
+-- the same of versions, where no two of a key have one id
+abbrev pub VersionsChain : Type 0
+VersionsChain = (prefix delimiter : Octets) (objects : FinMap octets_cmp (List Entry)) (sizes : List ℕ)
+    → AllByRecursion (λ (k : Octets × List Entry). HaveOwnIds k.1) (entries objects)
+    → AllByRecursion (λ m. 1 ≤ m) sizes
+    → chained version_marked (versions_paged prefix delimiter (entries objects)) sizes None
+    ≡ take (total sizes) (version_entries prefix delimiter (entries objects))
+
+-- ---- uploads
+
+-- the next page comes after the key and the upload that the page tells
+abbrev pub upload_place : UploadNext → UploadPlace
+upload_place next = record { key = next.name; upload = next.id }
+
+abbrev pub upload_marked : Listed UploadItem → Option UploadPlace
+upload_marked e = Some (upload_place (upload_next e))
+
+abbrev pub uploads_paged : Octets → Octets → List (ℕ × Upload) → ℕ → Option UploadPlace → Paged (Listed UploadItem)
+uploads_paged prefix delimiter numbered m marker = uploads_page (asked prefix delimiter m) marker numbered
+
+abbrev pub upload_entries : Octets → Octets → List (ℕ × Upload) → List (Listed UploadItem)
+upload_entries prefix delimiter numbered = entries_after prefix delimiter upload_key (passes_upload None) (all_uploads numbered)
+
+-- the same of uploads
+abbrev pub UploadsChain : Type 0
+UploadsChain = (prefix delimiter : Octets) (uploads : FinMap nat_cmp Upload) (sizes : List ℕ)
+    → AllByRecursion (λ m. 1 ≤ m) sizes
+    → chained upload_marked (uploads_paged prefix delimiter (entries uploads)) sizes None
+    ≡ take (total sizes) (upload_entries prefix delimiter (entries uploads))
+
+-- ---- parts
+
+abbrev pub part_number : PartItem → ℕ
+part_number p = p.number
+
+abbrev pub parts_paged : List (ℕ × Part) → ℕ → ℕ → Paged PartItem
+parts_paged parts m marker = parts_page m marker parts
 
 -- they show the first of all parts after the marker, so many as the sizes make together
 abbrev pub PartsChain : Type 0
-PartsChain = (parts : FinMap nat_cmp Part) (sizes : List ℕ) (marker : ℕ) → AllByRecursion (λ m. 1 ≤ m) sizes
-    → parts_chained (entries parts) sizes marker ≡ take (total sizes) (parts_after marker (entries parts))
+PartsChain = (parts : FinMap nat_cmp Part) (sizes : List ℕ) (marker : ℕ)
+    → AllByRecursion (λ m. 1 ≤ m) sizes
+    → chained part_number (parts_paged (entries parts)) sizes marker ≡ take (total sizes) (parts_after marker (entries parts))

@@ -1,5 +1,5 @@
 -- A call inside a transaction, in the words of the layer.
-use Rattle.std.proofs.Common.{◌≡◌, inl, inr, ℕ, List, [], ◌∷◌, ◌++◌, map, filter, Bool, true, IsTrue, None, Ok, Err, Result, OnOk, OnErr, IfOk, IfErr, Ordering, refl, sym, ap, ◌∙◌, true≢false, subst, take, pos, ◌<◌, ◌^◌, sum_by}
+use Rattle.std.proofs.Common.{◌≡◌, inl, inr, ℕ, List, [], ◌∷◌, ◌++◌, map, filter, Bool, true, IsTrue, None, Ok, Err, Result, OnOk, OnErr, IfOk, IfErr, Ordering, refl, sym, ap, ◌∙◌, true≢false, subst, take, length, pos, ◌<◌, ◌^◌, sum_by}
 use Rattle.sqlite.specs.Order.{Row}
 use Rattle.sqlite.specs.Tree.{Trees}
 use Rattle.sqlite.specs.Effect.{Database}
@@ -17,7 +17,7 @@ use Rattle.bh_tables.specs.Schema.{host_schema}
 use Rattle.bh_tables.specs.Typed.{IsHost, IsReady, Tables, tables_in, tables}
 use Rattle.bh_tables.proofs.Places.{Place, Goes}
 use Rattle.bh_tables.proofs.Terms.{one_row}
-use Rattle.bh_tables.proofs.Statements.{Writes, Shows, Sums, told_as}
+use Rattle.bh_tables.proofs.Statements.{Writes, Shows, Sums, told_as, ones}
 use Rattle.bh_tables.proofs.Statements as statement
 use Rattle.bh_schema.specs.Layer.{Standing, standing, IsIntact, IsOpen, IsStateClean, Leaves, IsInside, Holds, KeepsDisk, LeavesNothingNew, IsStandingSettled, StateWithin, Unwinds}
 use Rattle.bh_schema.proofs.TurnLemmas.{follows, unwinds}
@@ -270,6 +270,12 @@ module _ {T : Type 0} (p : Place T) (old new : State) (inside : IsStateClean old
       → (HasCleanDisk new → IfOk result (λ x. Shown sql params old new (rows_in x))) → (HasCleanDisk new → IfErr result (FailsToQuery sql params old new)) → Survives old new (CommitsShowing sql params old)
       → Total old new rows_in (λ t. sum_by size (filter m (p.rows t))) result
   summed rows_in result it ok err survives = totalled old new rows_in _ result inside (statement.summed p old new (ready old inside) rows_in result _ _ _ _ it ok err survives)
+
+  -- how many pass, by a text that sums 1 for each
+  pub counted : {X : Type 0} (rows_in : X → List Row) (result : Result X Error) {sql : List ℕ} {params : Row} {m : T → Bool} → SumText p.form host_schema p.table.tree sql params m (λ _. 1)
+      → (HasCleanDisk new → IfOk result (λ x. Shown sql params old new (rows_in x))) → (HasCleanDisk new → IfErr result (FailsToQuery sql params old new)) → Survives old new (CommitsShowing sql params old)
+      → Total old new rows_in (λ t. length (filter m (p.rows t))) result
+  counted rows_in result {sql} {params} {m} it ok err survives = totalled_so _ _ (λ t. ones (filter m (p.rows t))) (summed rows_in result it ok err survives)
 
   module _ (result : Result ℕ Error) (live : IsLive old) where
     pub inserted : {sql : List ℕ} {params : Row} {x : T} {A : Type 0} → InsertText p.form host_schema p.number p.table sql params x → (IsStateClean old → A → MayAdd p.form host_schema p.table (standing old).now.trees x)

@@ -12,7 +12,7 @@ use Rattle.bh_tables.specs.Bodies.{part_name}
 use Rattle.bh_tables.specs.Hosts.{tables_shown}
 use Rattle.bh_tables.proofs.HostTests.{host_shows, shown_host}
 use Rattle.bh_view.specs.Blocks.{AreDigests}
-use Rattle.bh_view.specs.Bodies.{IsSoundHost, AreBodies, bodies_of}
+use Rattle.bh_view.specs.Bodies.{IsSoundHost, AreBodies, AreBounded, bodies_of}
 use Rattle.bh_view.specs.Sound.{IsSound}
 use Rattle.bh_storage.specs.Calls.{Seen, IsWorking}
 use Rattle.bh_schema.specs.Layer.{standing, IsIntact, IsOpen, IsStateClean, Leaves, IsInside, Holds, KeepsDisk, StateWithin}
@@ -67,11 +67,11 @@ holds_seen l tables s h = (host_shows (standing s).now h.within.host ∙ h.is, h
 abbrev pub bodied : Tables → List VersionRow × List PartRow × List RefRow × List BlockRow
 bodied x = (x.versions, x.parts, x.refs, x.blocks)
 
-pub sound_still : {digest : Octets → Octets} (old new : Tables) → IsSoundHost digest old → IsSound new → bodied new ≡ bodied old → IsSoundHost digest new
-sound_still {digest} old new was sound same =
+pub sound_still : {digest : Octets → Octets} (old new : Tables) → IsSoundHost digest old → IsSound new → AreBounded new → bodied new ≡ bodied old → IsSoundHost digest new
+sound_still {digest} old new was sound bounded same =
     let P : List VersionRow × List PartRow × List RefRow × List BlockRow → Type 0 = λ b. AreBodies (bodies_of b.0 ++ map part_name b.1) b.2 b.3 × AreDigests digest b.3 in
     let is : P (bodied new) = subst P (sym same) (was.bodies, was.digests) in
-    record { sound = sound; bodies = is.0; digests = is.1 }
+    record { sound = sound; bodies = is.0; digests = is.1; bounded = bounded }
 
 -- after a write of other rows
 pub bodied_still : {digest : Octets → Octets} (l : HostLimits) (old new : State) (change : Tables → Tables) → ((x : Tables) → bodied (change x) ≡ bodied x)

@@ -9,11 +9,13 @@ use Rattle.bh_types.specs.declared.refusal.Refusal.{Refusal}
 use Rattle.bh_types.specs.declared.refusal.Refusal.TheVariants.{TenantExists, NoSuchTenant}
 use Rattle.bh_model.specs.State.{Octets, State as Machine, new_tenant}
 use Rattle.bh_model.specs.Operations.{Done, add_tenant, set_quota}
+use Rattle.bh_model.specs.QuotaLaws.{IsBounded, StaysBounded}
 use Rattle.bh_tables.specs.Typed.{TenantRow, VersionRow, PartRow, BlockRow, RefRow, Tables, tables_in}
 use Rattle.bh_tables.specs.Shown.{is_tenant}
 use Rattle.bh_view.specs.Bodies.{IsSoundHost}
 use Rattle.bh_view.specs.View.{view}
 use Rattle.bh_view.specs.Becomes.{Becomes}
+use Rattle.bh_view.proofs.BoundLemmas.{bounded_but, bounded_step}
 use Rattle.bh_view.proofs.FindLemmas.{first_find, tenant_found}
 use Rattle.bh_view.proofs.SharedLemmas.{shared_same}
 use Rattle.bh_view.proofs.TenantChanges.{tenant_added, quota_set}
@@ -66,12 +68,18 @@ gives_of t step y s old new given b same = record {
   shared = shared_same old new (ap (λ (x : List VersionRow × List PartRow × List RefRow × List BlockRow). x.3) same);
 }
 
+-- its state then
+pub bound_of : {digest : Octets → Octets} {Y E : Type 0} (l : HostLimits) (t : Octets) (step : Option Machine → Result (Y × Option Machine) E) (y : Y) (s : Option Machine) (old : State)
+    → StaysBounded step → step (view (seen_in l old).now t) ≡ Ok (y, s) → IsWorking (IsSoundHost digest) (seen_in l old) → IsBounded s
+bound_of l t step y s old stays given working = bounded_step step stays y (view (seen_in l old).now t) s given (working.sound.bounded t)
+
 -- a write of rows that bodies are not of
 pub works_of : {digest : Octets → Octets} (l : HostLimits) (t : Octets) (s : Option Machine) (old new : State) (change : Tables → Tables) → ((x : Tables) → bodied (change x) ≡ bodied x)
-    → IsWorking (IsSoundHost digest) (seen_in l old) → Holds (change (tables_in (standing old).now)) (standing new) → Becomes t s (seen_in l old).now (seen_in l new).now → IsWorking (IsSoundHost digest) (seen_in l new)
-works_of l t s old new change stays working h b = record {
+    → IsWorking (IsSoundHost digest) (seen_in l old) → Holds (change (tables_in (standing old).now)) (standing new) → Becomes t s (seen_in l old).now (seen_in l new).now → IsBounded s → IsWorking (IsSoundHost digest) (seen_in l new)
+works_of l t s old new change stays working h b bound = record {
   inside = (holds_seen l _ new h).1;
-  sound = sound_still (seen_in l old).now (seen_in l new).now working.sound b.sound (bodied_still l old new change stays working h);
+  sound = sound_still (seen_in l old).now (seen_in l new).now working.sound b.sound
+      (bounded_but t (seen_in l old).now (seen_in l new).now b.others (subst IsBounded (sym b.shown) bound) working.sound.bounded) (bodied_still l old new change stays working h);
   limits = b.limits ∙ working.limits ∙ same_limits l new old;
 }
 

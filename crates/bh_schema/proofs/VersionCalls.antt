@@ -1,5 +1,5 @@
 -- Calls over versions, in the words of the tables, in which each version has the bytes of its body.
-use Rattle.std.proofs.Common.{◌≡◌, ℕ, List, [], ◌∷◌, ◌++◌, map, filter, Bool, true, Result, IfOk, IfErr, Ordering, ap, take, ◌+◌, sum_by, cond, false, refl, sym, ◌∙◌}
+use Rattle.std.proofs.Common.{◌≡◌, ℕ, List, [], ◌∷◌, ◌++◌, map, filter, Bool, true, Result, IfOk, IfErr, Ordering, ap, take, length, ◌+◌, sum_by, cond, false, refl, sym, ◌∙◌}
 use Rattle.std.proofs.lemmas.List.Sums.{sum_by-cons}
 use Rattle.sqlite.specs.Order.{Row}
 use Rattle.sqlite.specs.State.{State, HasCleanDisk, IsLive, Survives, Executes, CommitsBy, CommitsShowing, Shown, FailsToQuery}
@@ -13,6 +13,7 @@ use Rattle.bh_tables.specs.Typed.{VersionColumns, version_form, VersionRow}
 use Rattle.bh_tables.specs.Bodies.{resolved, columns_of}
 use Rattle.bh_tables.proofs.Places.{versions}
 use Rattle.bh_tables.proofs.ResolvedLemmas.{seen, seen_sorted, version_added, versions_deleted}
+use Rattle.bh_tables.proofs.Statements.{ones}
 use Rattle.bh_tables.proofs.Terms.{one_row}
 use Rattle.bh_tables.proofs.VersionTexts.{versions_unused}
 use Rattle.bh_schema.specs.Layer.{standing, IsInside, IsStateClean}
@@ -45,6 +46,12 @@ module _ (old new : State) (inside : IsStateClean old → IsInside (standing old
       → (HasCleanDisk new → IfOk result (λ x. Shown sql params old new (rows_in x))) → (HasCleanDisk new → IfErr result (FailsToQuery sql params old new)) → Survives old new (CommitsShowing sql params old)
       → Total old new rows_in (λ t. sum_by (λ x. size (columns_of x)) (filter (λ x. m (columns_of x)) t.versions)) result
   summed rows_in result {sql} {params} {m} {size} it ok err survives = totalled_so _ _ (λ t. sum_seen m size t.versions) (call.summed versions old new inside rows_in result it ok err survives)
+
+  -- how many pass, by a text that sums 1 for each
+  pub counted : {X : Type 0} (rows_in : X → List Row) (result : Result X Error) {sql : List ℕ} {params : Row} {m : VersionColumns → Bool} → SumText version_form host_schema 7 sql params m (λ _. 1)
+      → (HasCleanDisk new → IfOk result (λ x. Shown sql params old new (rows_in x))) → (HasCleanDisk new → IfErr result (FailsToQuery sql params old new)) → Survives old new (CommitsShowing sql params old)
+      → Total old new rows_in (λ t. length (filter (λ x. m (columns_of x)) t.versions)) result
+  counted rows_in result {sql} {params} {m} it ok err survives = totalled_so _ _ (λ t. ones (filter (λ x. m (columns_of x)) t.versions)) (summed rows_in result it ok err survives)
 
   module _ (result : Result ℕ Error) (live : IsLive old) where
     pub inserted : {sql : List ℕ} {params : Row} {c : VersionColumns} {A : Type 0} → InsertText version_form host_schema 4 (at 7 versions_table) sql params c

@@ -1,6 +1,7 @@
 //! The SQL texts that a host runs, one call for each.
 
 pub mod buckets;
+pub mod counts;
 pub mod host;
 pub mod keys;
 pub mod known;

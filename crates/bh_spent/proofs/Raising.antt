@@ -3,6 +3,7 @@ use Rattle.std.proofs.Common.{◌≡◌, ℕ, ◌≤◌, find, Option, Some, Non
 use Rattle.sqlite.specs.State.{State}
 use Rattle.sqlite_keyed.specs.Lists.{update_where}
 use Rattle.bh_types.specs.Limits.{HostLimits}
+use Rattle.bh_model.specs.QuotaLaws.{IsBounded}
 use Rattle.bh_model.specs.State.{Octets, State as Machine}
 use Rattle.bh_tables.specs.Typed.{TenantRow, Tables, tables_in}
 use Rattle.bh_tables.specs.Shown.{is_tenant}
@@ -18,6 +19,11 @@ use Rattle.bh_schema.specs.Storage.{seen_in}
 use Rattle.bh_schema.specs.declared.rows.tenants.TenantNumbers.{TenantNumbers}
 use Rattle.bh_schema.proofs.Storing.{shows_in, holds_seen}
 use Rattle.bh_spent.specs.Raising.{MayRise, with_next_entry, Raises}
+
+-- no more is used
+pub rises_bounded : (n : ℕ) (o : Option Machine) → IsBounded o → IsBounded (option_map (with_next_entry n) o)
+rises_bounded n None bound = bound
+rises_bounded n (Some s) bound = bound
 
 abbrev pub with_entry : Octets → ℕ → Tables → Tables
 with_entry t n x = record x { tenants = update_where (is_tenant t) (λ r. record r { next_entry = n }) x.tenants }

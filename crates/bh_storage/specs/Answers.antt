@@ -1,11 +1,12 @@
 -- What contracts see of an answer.
 use Rattle.std.specs.Prelude.{map}
 use Rattle.std.specs.String.{string_bytes}
-use Rattle.bh_docs.specs.Documents.{bucket_view}
+use Rattle.bh_docs.specs.Documents.{bucket_view, usage_view}
 use Rattle.bh_docs.specs.Pages.{page_view, versions_view, uploads_view, parts_view}
+use Rattle.bh_docs.specs.declared.reply.Usage.{Usage}
 use Rattle.bh_model.specs.Operations as model
 use Rattle.bh_storage.specs.declared.answer.Answer.{Answer}
-use Rattle.bh_storage.specs.declared.answer.Answer.TheVariants.{Done, Removed, Stored, Copied, Head, Found, Buckets, Versioning, Objects, Versions, Uploads, Parts, Begun, PartStored, Completed, Lifecycle}
+use Rattle.bh_storage.specs.declared.answer.Answer.TheVariants.{Done, Removed, Stored, Copied, Head, Found, Buckets, Versioning, Objects, Versions, Uploads, Parts, Begun, PartStored, Completed, Lifecycle, Used}
 use Rattle.bh_storage.specs.declared.answer.RemovedEntry.{RemovedEntry}
 use Rattle.bh_storage.specs.declared.answer.StoredVersion.{StoredVersion}
 use Rattle.bh_storage.specs.declared.answer.CopiedVersion.{CopiedVersion}
@@ -35,6 +36,9 @@ begun_answer u = model.Begun (string_bytes u.bucket) (string_bytes u.key) u.uplo
 abbrev pub completed_answer : CompletedUpload → model.Answer
 completed_answer u = model.Completed (string_bytes u.bucket) (string_bytes u.key) u.id (string_bytes u.checksum)
 
+abbrev pub used_answer : Usage → model.Answer
+used_answer usage = model.Used (usage_view usage)
+
 abbrev pub answer_view : Answer → model.Answer
 answer_view Done = model.Done
 answer_view (Removed entry) = removed_answer entry
@@ -52,3 +56,4 @@ answer_view (Lifecycle days) = model.Lifecycle days
 answer_view (Begun upload) = begun_answer upload
 answer_view (PartStored checksum) = model.PartStored (string_bytes checksum)
 answer_view (Completed upload) = completed_answer upload
+answer_view (Used usage) = used_answer usage

@@ -1,4 +1,4 @@
-use bh_docs::{BucketEntry, ObjectsPage, PartsPage, UploadsPage, VersionsPage};
+use bh_docs::{BucketEntry, ObjectsPage, PartsPage, UploadsPage, Usage, VersionsPage};
 use bh_types::bucket_state::BucketState;
 use bh_types::id::{UploadId, VersionId};
 use bh_types::moment::Moment;
@@ -31,6 +31,8 @@ pub enum Answer {
     /// A part was put: the base64 (RFC 4648) of the SHA-256 digest (FIPS 180-4) of its bytes.
     PartStored(String),
     Completed(CompletedUpload),
+    /// What a tenant uses.
+    Used(Usage),
 }
 
 /// What a delete answers.

@@ -2,7 +2,6 @@ ghost use Rattle.std.specs.Prelude.{◌≡◌, ◌⊎◌, ◌≤◌, IfOk, OnOk,
 ghost use Rattle.bh_event.specs.Events.{order_of, tenant_of};
 ghost use Rattle.bh_machine.specs.Machine.{operated, ordered};
 ghost use Rattle.bh_model.specs.Credentials as machine;
-ghost use Rattle.bh_model.specs.Operations.{Done};
 ghost use Rattle.bh_model.specs.Runs.{last_reading};
 ghost use Rattle.bh_tables.specs.Typed.{Tables};
 ghost use Rattle.bh_view.specs.View.{view, latest_of};
@@ -86,12 +85,7 @@ pub trait Storage {
         ensures stamps { IfOk result (λ m. Clean IsIntact IsOpen self.new → Stamps reading m (seen self.old).now (seen self.new).now) };
 
     /// Takes away a tenant's uploads that are stale at a moment.
-    fn purge(
-        &mut self,
-        alloc: Global,
-        tenant: &TenantName,
-        at: Moment,
-    ) -> Result<(), Trouble>
+    fn purge(&mut self, alloc: Global, tenant: &TenantName, at: Moment) -> Result<(), Trouble>
         requires { Clean IsIntact IsOpen self.old → IsWorking IsSound (seen self.old) }
         ensures within { Within IsIntact IsOpen seen left self.old self.new }
         ensures opens { OnOk result (IsOpen self.old → IsIntact self.new → IsOpen self.new) }
@@ -131,11 +125,11 @@ pub trait Storage {
             (seen self.old).now (seen self.new).now result };
 
     /// Carries out an operator's command on the tenant that it names.
-    fn command(&mut self, alloc: Global, command: &Command) -> Result<(), StepError<Refusal>>
+    fn command(&mut self, alloc: Global, command: &Command) -> Result<Answer, StepError<Refusal>>
         requires { Clean IsIntact IsOpen self.old → IsWorking IsSound (seen self.old) }
         ensures within { Within IsIntact IsOpen seen left self.old self.new }
         ensures opens { Unless result (IsOpen self.old → IsIntact self.new → IsOpen self.new) }
         ensures working { Unless result (Clean IsIntact IsOpen self.new → IsWorking IsSound (seen self.new)) }
         ensures carries { Clean IsIntact IsOpen self.new
-            → Carries (λ _. Done) (tenant_of (order_of command.now)) (ordered (order_of command.now)) (seen self.old).now (seen self.new).now result };
+            → Carries answer_view (tenant_of (order_of command.now)) (ordered (order_of command.now)) (seen self.old).now (seen self.new).now result };
 }

@@ -22,7 +22,7 @@ use Rattle.sqlite_typed.proofs.TestLemmas.{truth_or, same_bytes, at_texts, last_
 use Rattle.bh_rows.specs.Form.{put, typed}
 use Rattle.bh_rows.specs.Keys.{Pointer, points_at, Suits}
 use Rattle.bh_rows.specs.Scan.{by_rowid, no_limit}
-use Rattle.bh_rows.specs.Texts.{MayAdd, MayChange, InsertText, UpdateText, DeleteText, SelectText, SortedText}
+use Rattle.bh_rows.specs.Texts.{MayAdd, MayChange, InsertText, UpdateText, DeleteText, SelectText, SortedText, SumText}
 use Rattle.bh_rows.proofs.DeleteErrors.{none_points, none_named}
 use Rattle.bh_rows.proofs.FormLemmas.{any_typed}
 use Rattle.bh_tables.specs.Schema.{Octets, host_schema, buckets_table, at}
@@ -212,4 +212,18 @@ days_cleared tenant bucket = record {
   accepts = refl;
   tests = λ id b. then_term (at_texts false Eq b.tenant tenant) (last_term (at_texts false Eq b.bucket bucket));
   shows = λ id b. refl;
+}
+
+-- 1 for each row
+pub buckets_counted : (tenant : Octets) → SumText bucket_form host_schema 5 (codes "SELECT coalesce(sum(1), 0) FROM buckets WHERE tenant = ?1") (Text tenant ∷ []) (is_owned_bucket tenant) (λ _. 1)
+unfolding understood everything
+buckets_counted tenant = record {
+  test = is 1 0 ∷ [];
+  argument = lit (Int (pos 1));
+  names = codes "coalesce(sum(1), 0)" ∷ [];
+  means = record { is = refl; plain = (refl, refl); unlisted = refl; whole = refl; given = refl };
+  low = refl;
+  accepts = refl;
+  tests = λ id b. last_term (at_texts false Eq b.tenant tenant);
+  reads = λ id b. refl;
 }

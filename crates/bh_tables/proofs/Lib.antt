@@ -16,6 +16,7 @@ pub mod VersionTexts
 pub mod BlockTexts
 pub mod RefTexts
 pub mod UnreferencedText
+pub mod CurrentText
 pub mod UploadTexts
 pub mod PartTexts
 pub mod HostTests

@@ -61,12 +61,12 @@ parts_unused db rows = tt
 -- ---- the texts
 
 pub part_body_shown : (tenant : Octets) (upload part : ℕ)
-    → SelectText part_form host_schema 18 (codes "SELECT body FROM parts WHERE tenant = ?1 AND upload = ?2 AND number = ?3 ORDER BY rowid") (Text tenant ∷ number upload ∷ number part ∷ []) (λ p. is_part tenant upload part (bare_part p)) (λ p. shown_body (bare_part p)) no_limit
+    → SelectText part_form host_schema 18 (codes "SELECT body, size FROM parts WHERE tenant = ?1 AND upload = ?2 AND number = ?3 ORDER BY rowid") (Text tenant ∷ number upload ∷ number part ∷ []) (λ p. is_part tenant upload part (bare_part p)) (λ p. shown_body (bare_part p)) no_limit
 unfolding understood everything
 part_body_shown tenant upload part = record {
   test = is 1 0 ∷ is 2 1 ∷ is 3 2 ∷ [];
-  show = col 1 7 ∷ [];
-  names = codes "body" ∷ [];
+  show = col 1 7 ∷ col 1 4 ∷ [];
+  names = codes "body" ∷ codes "size" ∷ [];
   means = record { is = refl; plain = (refl, refl); unlisted = refl; whole = refl; given = refl };
   low = refl;
   accepts = refl;

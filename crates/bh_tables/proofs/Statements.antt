@@ -1,7 +1,10 @@
 -- What a text over one table does to all of a host's tables: the lemmas on texts, once for every table.
-use Rattle.std.proofs.Common.{◌≡◌, ℕ, List, [], ◌∷◌, ◌++◌, map, filter, Bool, true, None, Ok, Err, Result, OnOk, IfOk, IfErr, IsTrue, Ordering, subst, take, pos, ◌<◌, ◌≤◌, ◌^◌, ◌⊎◌, inl, inr, sum_by, length, arith, refl, ap}
+use Rattle.std.proofs.Common.{◌≡◌, ℕ, List, [], ◌∷◌, ◌++◌, map, filter, Bool, true, None, Ok, Err, Result, OnOk, IfOk, IfErr, IsTrue, Ordering, subst, take, pos, ◌<◌, ◌≤◌, ◌^◌, ◌⊎◌, inl, inr, sum_by, length, arith, refl}
+use Rattle.std.proofs.lemmas.List.Sums.{sum_by-cons}
 use Rattle.sqlite.specs.Order.{Row}
 use Rattle.sqlite.specs.Tree.{Trees}
+use Rattle.sqlite.specs.Command.TheVariants.{Select}
+use Rattle.sqlite.specs.Query.{Query}
 use Rattle.sqlite.specs.State.{State, HasCleanDisk, IsLive, Survives, Executes, CommitsBy, CommitsShowing, Shown, FailsToQuery}
 use Rattle.sqlite.specs.declared.error.Error.{Error}
 use Rattle.sqlite.specs.declared.error.Error.TheVariants.{SqliteFailure}
@@ -10,7 +13,7 @@ use Rattle.sqlite.specs.declared.types.Value.TheVariants.{Int}
 use Rattle.sqlite_keyed.specs.Lists.{update_where, delete_where, sort_by}
 use Rattle.bh_rows.specs.Form.{typed}
 use Rattle.bh_rows.specs.Keys.{AreUnused}
-use Rattle.bh_rows.specs.Means.{is_trouble, Asks, Changes}
+use Rattle.bh_rows.specs.Means.{Means, is_trouble, Asks, Changes}
 use Rattle.bh_rows.specs.Scan.{no_limit}
 use Rattle.bh_rows.specs.Texts.{IsReadyAt, Leaves, MayAdd, MayChange, InsertText, UpdateText, DeleteText, SelectText, SortedText, SumText}
 use Rattle.bh_rows.proofs.CallLemmas.{clean_before, shown_same, shown_open, query_up, query_undone, shows_outside}
@@ -51,6 +54,36 @@ module _ {X : Type 0} (result : Result X Error) where
       go : {A : Type 0} (r : Result X Error) → (A → IfErr r (λ e. is_trouble e ≡ true)) → IfErr r (λ e. A → is_trouble e ≡ true)
       go (Ok x) h = tt
       go (Err e) h = h
+
+-- a sum of 1 for each row is how many there are
+pub ones : {X : Type 0} (xs : List X) → sum_by (λ _. 1) xs ≡ length xs
+ones [] = refl
+ones {X} (x ∷ xs) = let rest = ones xs in omega (arith, rest, sum_by-cons (λ (_ : X). 1) x xs)
+
+-- a sum that is too wide is no trouble, but it is no small one either
+pub if_narrow : {X : Type 0} (total : ℕ) (r : Result X Error) → IfErr r (λ e. (is_trouble e ≡ true) ⊎ ((e ≡ SqliteFailure IntegerOverflow) × (2 ^ 63 ≤ total))) → IfErr r (λ e. total < 2 ^ 63 → is_trouble e ≡ true)
+if_narrow total (Ok x) h = tt
+if_narrow total (Err e) (inl bad) = λ _. bad
+if_narrow total (Err e) (inr wide) = λ small. let big = wide.1 in absurd (omega (arith, big, small))
+
+-- how a sum may end, whose error is told as trouble
+module _ (old new : State) (ready : IsReady old) (sql : List ℕ) (params : Row) {body : Query} {names : List (List ℕ)} {parameters : ℕ} (means : Means host_schema sql (Select (record { lets = []; body = body }) names) parameters)
+    {X : Type 0} (rows_in : X → List Row) (survives : Survives old new (CommitsShowing sql params old)) (other : Error) (bad : is_trouble other ≡ true) where
+  pub sum_ends : (r : Result X Error) → (HasCleanDisk new → IfOk r (λ x. Shown sql params old new (rows_in x))) → (HasCleanDisk new → IfErr r (FailsToQuery sql params old new)) → Asks old new (told_as other r)
+  sum_ends (Ok x) ok err = record {
+    same = λ clean. shown_same sql params old new host_schema (ready (clean_before old new _ survives clean) (shown_open sql params old new _ (ok clean))).schema _ parameters means (rows_in x) (ok clean);
+    undone = λ _. tt;
+    trouble = λ _ _. tt;
+    up = query_up sql params old new rows_in (Ok x) ok err;
+    survives = shows_outside sql params old new survives;
+  }
+  sum_ends (Err e) ok err = record {
+    same = λ _. tt;
+    undone = λ clean. query_undone sql params old new e (err clean);
+    trouble = λ _ _. bad;
+    up = query_up sql params old new rows_in (Err e) ok err;
+    survives = shows_outside sql params old new survives;
+  }
 
 module _ {T : Type 0} (p : Place T) (old new : State) (ready : IsReady old) where
   ready_at : IsReadyAt p.form host_schema p.table.tree old
@@ -134,28 +167,7 @@ module _ {T : Type 0} (p : Place T) (old new : State) (ready : IsReady old) wher
       → (HasCleanDisk new → IfOk result (λ x. Shown sql params old new (rows_in x))) → (HasCleanDisk new → IfErr result (FailsToQuery sql params old new)) → Survives old new (CommitsShowing sql params old)
       → Sums old new rows_in (λ t. sum_by size (filter m (p.rows t))) result
   summed {X} rows_in result sql params m size it ok err survives = record {
-    asks = λ other bad. ends other bad result ok err;
+    asks = λ other bad. sum_ends old new ready sql params it.means rows_in survives other bad result ok err;
     rows = λ clean. subst (λ l. IfOk result (λ x. rows_in x ≡ (Int (pos (sum_by size (filter m l))) ∷ []) ∷ [])) (p.rows_are old.now) (text.sum_rows p.form host_schema p.table.tree old new ready_at sql params m size it rows_in result ok survives clean);
-    trouble = λ clean unlimited. narrow result (summed_fails p.form sql host_schema p.table.tree it.test it.argument it.names (length params) it.means it.low params m it.tests size it.reads old new ready_at refl it.accepts result err survives clean unlimited);
+    trouble = λ clean unlimited. if_narrow _ result (subst (λ l. IfErr result (λ e. (is_trouble e ≡ true) ⊎ ((e ≡ SqliteFailure IntegerOverflow) × (2 ^ 63 ≤ sum_by size (filter m l))))) (p.rows_are old.now) (summed_fails p.form sql host_schema p.table.tree it.test it.argument it.names (length params) it.means it.low params m it.tests size it.reads old new ready_at refl it.accepts result err survives clean unlimited));
   }
-    where
-      ends : (other : Error) → is_trouble other ≡ true → (r : Result X Error) → (HasCleanDisk new → IfOk r (λ x. Shown sql params old new (rows_in x))) → (HasCleanDisk new → IfErr r (FailsToQuery sql params old new)) → Asks old new (told_as other r)
-      ends other bad (Ok x) ok err = record {
-        same = λ clean. shown_same sql params old new host_schema (ready_at (clean_before old new _ survives clean) (shown_open sql params old new _ (ok clean))).0 _ (length params) it.means (rows_in x) (ok clean);
-        undone = λ _. tt;
-        trouble = λ _ _. tt;
-        up = query_up sql params old new rows_in (Ok x) ok err;
-        survives = shows_outside sql params old new survives;
-      }
-      ends other bad (Err e) ok err = record {
-        same = λ _. tt;
-        undone = λ clean. query_undone sql params old new e (err clean);
-        trouble = λ _ _. bad;
-        up = query_up sql params old new rows_in (Err e) ok err;
-        survives = shows_outside sql params old new survives;
-      }
-
-      narrow : (r : Result X Error) → IfErr r (λ e. (is_trouble e ≡ true) ⊎ ((e ≡ SqliteFailure IntegerOverflow) × (2 ^ 63 ≤ sum_by size (filter m stored)))) → IfErr r (λ e. sum_by size (filter m (p.rows (tables old))) < 2 ^ 63 → is_trouble e ≡ true)
-      narrow (Ok x) h = tt
-      narrow (Err e) (inl bad) = λ _. bad
-      narrow (Err e) (inr wide) = λ small. let same = ap (λ l. sum_by size (filter m l)) (p.rows_are old.now) in let big = wide.1 in absurd (omega (arith, big, small, same))

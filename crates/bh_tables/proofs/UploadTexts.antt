@@ -5,7 +5,7 @@ use Rattle.std.specs.Cmp.Derive.{both_true}
 use Rattle.std.specs.Ordering.{int_eq}
 use Rattle.std.proofs.lemmas.Bool.{and_parts}
 use Rattle.sqlite.specs.Collation.TheVariants.{Binary}
-use Rattle.sqlite.specs.declared.types.Value.TheVariants.{Null, Text}
+use Rattle.sqlite.specs.declared.types.Value.TheVariants.{Null, Int, Text}
 use Rattle.sqlite.specs.Edit.{next_rowid}
 use Rattle.sqlite.specs.Effect.{Database}
 use Rattle.sqlite.specs.Listing.{understood}
@@ -22,14 +22,14 @@ use Rattle.sqlite_typed.proofs.TestLemmas.{same_bytes, at_texts, at_ints, last_t
 use Rattle.bh_rows.specs.Form.{put, typed}
 use Rattle.bh_rows.specs.Keys.{Pointer, points_at}
 use Rattle.bh_rows.specs.Scan.{by_rowid, no_limit}
-use Rattle.bh_rows.specs.Texts.{MayAdd, MayChange, InsertText, UpdateText, DeleteText, SelectText, SortedText}
+use Rattle.bh_rows.specs.Texts.{MayAdd, MayChange, InsertText, UpdateText, DeleteText, SelectText, SortedText, SumText}
 use Rattle.bh_rows.proofs.DeleteErrors.{none_points, none_named}
 use Rattle.bh_rows.proofs.FormLemmas.{any_typed}
 use Rattle.bh_rows.proofs.ScanLemmas.{then_assoc}
 use Rattle.bh_tables.specs.Schema.{Octets, host_schema, tenants_table, uploads_table, at}
 use Rattle.bh_tables.specs.Typed.{UploadRow, PartColumns, bucket_form, tenant_form, upload_form, upload_columns, part_form, number, IsHost, tables_in}
 use Rattle.bh_tables.specs.Bodies.{bare_part}
-use Rattle.bh_tables.specs.Shown.{is_tenant, is_bucket, is_upload, is_upload_in, is_part_of, by_key, shown_upload, shown_number, is_begun_before, by_begun}
+use Rattle.bh_tables.specs.Shown.{is_tenant, is_bucket, is_upload, is_upload_in, is_part_of, by_key, shown_upload, shown_number, is_begun_before, by_begun, is_owned_upload}
 use Rattle.bh_tables.proofs.Checked.{upload_checked, tenant_checked}
 use Rattle.bh_tables.proofs.PartTexts.{any_in_parts}
 use Rattle.bh_tables.proofs.Places.{Goes, uploads}
@@ -118,6 +118,20 @@ stale_listed tenant bucket moment = record {
   tests = λ id u. then_term (at_texts false Eq u.tenant tenant) (then_term (at_texts false Eq u.bucket bucket) (last_term (at_ints false Lt (pos u.begun) (pos moment))));
   shows = λ id u. refl;
   orders = λ a b. then_key (value_cmp-Int (pos a.1.begun) (pos b.1.begun)) (then_key (value_cmp-Int (pos a.1.upload) (pos b.1.upload)) (last_key (value_cmp-Int a.0 b.0))) ∙ sym (then_assoc (int_cmp (pos a.1.begun) (pos b.1.begun)) (int_cmp (pos a.1.upload) (pos b.1.upload)) (int_cmp a.0 b.0));
+}
+
+-- 1 for each row
+pub uploads_counted : (tenant : Octets) → SumText upload_form host_schema 16 (codes "SELECT coalesce(sum(1), 0) FROM uploads WHERE tenant = ?1") (Text tenant ∷ []) (is_owned_upload tenant) (λ _. 1)
+unfolding understood everything
+uploads_counted tenant = record {
+  test = is 1 0 ∷ [];
+  argument = lit (Int (pos 1));
+  names = codes "coalesce(sum(1), 0)" ∷ [];
+  means = record { is = refl; plain = (refl, refl); unlisted = refl; whole = refl; given = refl };
+  low = refl;
+  accepts = refl;
+  tests = λ id u. last_term (at_texts false Eq u.tenant tenant);
+  reads = λ id u. refl;
 }
 
 pub upload_inserted : (u : UploadRow) → InsertText upload_form host_schema 7 (at 16 uploads_table) (codes "INSERT INTO uploads (tenant, upload, bucket, okey, begun) VALUES (?1, ?2, ?3, ?4, ?5)") (upload_columns u) u

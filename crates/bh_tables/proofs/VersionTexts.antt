@@ -25,7 +25,7 @@ use Rattle.bh_rows.proofs.ScanLemmas.{then_assoc}
 use Rattle.bh_tables.specs.Schema.{Octets, host_schema, versions_table, at}
 use Rattle.bh_tables.specs.Typed.{VersionColumns, VersionRow, version_form, bucket_form, number, IsHost, tables_in}
 use Rattle.bh_tables.specs.Bodies.{bare, resolved}
-use Rattle.bh_tables.specs.Shown.{is_version, is_at, is_in_bucket, is_entry, is_bucket, is_marked_right, newer, by_id, shown_head, shown_seq, is_version_of}
+use Rattle.bh_tables.specs.Shown.{is_version, is_at, is_in_bucket, is_entry, is_bucket, is_marked_right, newer, by_id, shown_head, shown_seq, is_version_of, has_marker}
 use Rattle.bh_tables.proofs.ResolvedLemmas.{any_resolved}
 use Rattle.bh_tables.proofs.Checked.{version_checked}
 use Rattle.bh_tables.proofs.Terms.{is, one_row}
@@ -157,5 +157,20 @@ versions_summed tenant = record {
   low = refl;
   accepts = refl;
   tests = λ id v. last_term (at_texts false Eq v.tenant tenant);
+  reads = λ id v. refl;
+}
+
+-- 1 for each row
+pub entries_counted : (tenant : Octets) (marker : ℕ)
+    → SumText version_form host_schema 7 (codes "SELECT coalesce(sum(1), 0) FROM versions WHERE tenant = ?1 AND marker = ?2") (Text tenant ∷ number marker ∷ []) (λ v. has_marker tenant marker (bare v)) (λ _. 1)
+unfolding understood everything
+entries_counted tenant marker = record {
+  test = is 1 0 ∷ is 6 1 ∷ [];
+  argument = lit (Int (pos 1));
+  names = codes "coalesce(sum(1), 0)" ∷ [];
+  means = record { is = refl; plain = (refl, refl); unlisted = refl; whole = refl; given = refl };
+  low = refl;
+  accepts = refl;
+  tests = λ id v. then_term (at_texts false Eq v.tenant tenant) (last_term (at_ints false Eq (pos v.marker) (pos marker)));
   reads = λ id v. refl;
 }

@@ -139,6 +139,27 @@ is_version_of tenant v = bytes_eq v.tenant tenant
 abbrev pub is_part_used : Octets → PartRow → Bool
 is_part_used tenant p = bytes_eq p.tenant tenant
 
+-- ---- the rows of a tenant that are counted
+
+-- those whose column `marker` is this
+abbrev pub has_marker : Octets → ℕ → VersionRow → Bool
+has_marker tenant marker v = bytes_eq v.tenant tenant && int_eq (pos v.marker) (pos marker)
+
+-- an entry of the same key that is newer
+abbrev pub is_later : VersionRow → VersionRow → Bool
+is_later v later = bytes_eq later.tenant v.tenant && (bytes_eq later.bucket v.bucket && (bytes_eq later.okey v.okey && int_lt (pos v.seq) (pos later.seq)))
+
+-- whether a version is the newest entry of its key
+abbrev pub is_current : Octets → List VersionRow → VersionRow → Bool
+is_current tenant versions v = bytes_eq v.tenant tenant && (int_eq (pos v.marker) (pos 0) && not (list_any (is_later v) versions))
+
+-- the versions that are
+abbrev pub current_versions : Octets → List VersionRow → List VersionRow
+current_versions tenant versions = filter (is_current tenant versions) versions
+
+abbrev pub is_owned_upload : Octets → UploadRow → Bool
+is_owned_upload tenant u = bytes_eq u.tenant tenant
+
 -- ---- the rows of a listing
 
 -- the buckets of a tenant
@@ -201,5 +222,6 @@ shown_number u = number u.upload ∷ []
 abbrev pub shown_part : PartRow → Row
 shown_part p = number p.part ∷ number p.size ∷ Text p.checksum ∷ number p.stamp ∷ number p.body ∷ []
 
+-- where its bytes are stored, and how many
 abbrev pub shown_body : PartRow → Row
-shown_body p = number p.body ∷ []
+shown_body p = number p.body ∷ number p.size ∷ []

@@ -102,7 +102,7 @@ closed_gone old new host t n bodies are e =
     let same : y.blocks ≡ old.blocks = ap (λ (z : Tables). z.blocks) left.is in
     let last : without_row t n y ≡ record target { refs = y.refs; blocks = y.blocks } = ap (without_row t n) left.is ∙ (λ i. record target { refs = y.refs; blocks = sym same i }) in
     let refs : y.refs ≡ delete_where (ref_goes t gone old.parts) old.refs =
-        refs_dropped t bodies x ∙ deleted_so (λ r. list_any (λ body. is_of_body (t, body) r) bodies) (ref_goes t gone old.parts) (named old t n host.sound bodies are) old.refs in
+    refs_dropped t bodies x ∙ deleted_so (λ r. list_any (λ body. is_of_body (t, body) r) bodies) (ref_goes t gone old.parts) (named old t n host.sound bodies are) old.refs in
     let change = becomes_so t _ old target (without_row t n y) (uploads_gone old t gone host.sound target _ refl refl) (record { is = last; stored = left.is_whole.stored }) in
     subst (IsGone t gone old) (sym e) (record {
       is = last ∙ (λ i. record target { refs = refs i; blocks = same i });

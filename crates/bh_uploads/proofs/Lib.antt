@@ -7,6 +7,7 @@ pub mod Beginning
 pub mod Closing
 pub mod Gone
 pub mod Staleness
+pub mod PartQuota
 pub mod PartSteps
 pub mod Chosen
 pub mod Planning

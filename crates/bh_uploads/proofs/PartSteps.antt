@@ -7,6 +7,7 @@ use Rattle.sqlite_keyed.specs.Lists.{delete_where, update_where}
 use Rattle.sqlite_keyed.proofs.ListLemmas.{all-filter, all_both}
 use Rattle.sqlite_typed.specs.Tests.{bytes_eq}
 use Rattle.bh_types.specs.Checksums.{checksum_text}
+use Rattle.bh_types.specs.Counts.{Counts}
 use Rattle.bh_types.specs.declared.bucket_state.BucketState.{BucketState}
 use Rattle.bh_types.specs.declared.id.UploadId.{UploadId}
 use Rattle.bh_types.specs.declared.refusal.Refusal.{Refusal}
@@ -14,7 +15,7 @@ use Rattle.bh_types.specs.declared.refusal.Refusal.TheVariants.{BadDigest, Count
 use Rattle.bh_types.specs.Outcomes.{◌>>=◌, require}
 use Rattle.bh_model.specs.Counting.{counts, with_counts, can_give}
 use Rattle.bh_model.specs.State.{Octets, State, Bucket, Upload}
-use Rattle.bh_model.specs.Operations.{Answer, Outcome, PartStored, with_bucket}
+use Rattle.bh_model.specs.Operations.{Answer, Outcome, PartStored, with_bucket, require_quota}
 use Rattle.bh_model.specs.Parts.{is_checksum}
 use Rattle.bh_model.specs.Uploads.{FoundUpload, after_part, with_stored, upload_part}
 use Rattle.bh_tables.specs.Bodies.{Name, same_name, version_name, part_name, resolved_part, part_columns_of}
@@ -35,6 +36,7 @@ use Rattle.bh_view.proofs.NameLemmas.{name_swap, unnamed_each}
 use Rattle.bh_view.proofs.OwnLemmas.{within_own}
 use Rattle.bh_view.proofs.PartChanges.{part_put}
 use Rattle.bh_view.proofs.PieceLemmas.{each_once}
+use Rattle.bh_view.proofs.QuotaLemmas.{part_row_size}
 use Rattle.bh_view.proofs.SetLemmas.{set_other}
 use Rattle.bh_view.proofs.SharedLemmas.{names_block, named_still, shared_for}
 use Rattle.bh_view.proofs.WholeLemmas.{refs_dropped}
@@ -45,8 +47,10 @@ use Rattle.bh_storage.specs.declared.error.StepError.{StepError}
 use Rattle.bh_storage.specs.declared.error.StepError.TheVariants.{Refused, Failed}
 use Rattle.bh_objects.proofs.Putting.{sum_right}
 use Rattle.bh_objects.proofs.Written.{HasRowsOf, becomes_so, IsHostOf}
-use Rattle.bh_uploads.specs.Found.{next_entry_in, upload_in}
+use Rattle.bh_objects.specs.Found.{room_in}
+use Rattle.bh_uploads.specs.Found.{next_entry_in, part_bytes_in, part_entry_in, upload_in}
 use Rattle.bh_uploads.specs.Writes.{with_next_entry, without_part, without_old, with_part_row, part_written}
+use Rattle.bh_uploads.proofs.PartQuota.{part_asked}
 use Rattle.bh_uploads.proofs.Uploads.{HasUpload, has_upload, no_upload, has_entry_number, no_entry_number}
 
 -- ---- the part of a number goes, with its body
@@ -108,6 +112,55 @@ module _ (old : Tables) (sound : IsSound old) (t : Octets) (n k : ℕ) (at : Nam
       go None none = record { is = ap (λ l. record x { parts = l }) (sym (delete_none test x.parts (none_first _ (first_find test x.parts ∙ none)))); is_whole = w; bytes = refl; named = λ block h. h }
       go (Some p) there = part_gone p (ap (find test) (sym parts) ∙ there)
 
+-- ---- the part is asked for
+
+module _ (old : Tables) (sound : IsSound old) (t name key : Octets) (id : Option UploadId) (mode : BucketState) (n k at : ℕ) (bytes : Octets) (given : Option Octets) (right : is_checksum given bytes ≡ true) where
+  abbrev checked_step : FoundUpload → Bool → Result Outcome Refusal
+  checked_step f right = do
+    _ ← require right BadDigest
+    _ ← require_quota name (with_stored f k (record { bytes = bytes; moment = at })) f.tenant
+    c ← after_part (counts f.tenant)
+    Ok (PartStored (checksum_text bytes), Some (with_bucket name (with_stored f k (record { bytes = bytes; moment = at })) (with_counts c f.tenant)))
+
+  abbrev found_step : Result FoundUpload Refusal → Result Outcome Refusal
+  found_step r = r >>= (λ f. checked_step f (is_checksum given bytes))
+
+  -- what is told once it has its number, and the state then
+  abbrev stored_under : HasUpload name key id (view old t) mode n → ℕ → Result Outcome Refusal
+  stored_under h m = Ok (PartStored (checksum_text bytes), Some (with_bucket name (with_stored (record { tenant = h.state; bucket = h.bucket; number = n; upload = h.upload }) k (record { bytes = bytes; moment = at })) (with_counts (record (counts h.state) { entry = m + 1 }) h.state)))
+
+  -- the quota's room, a number, and then it is stored
+  part_shape : (h : HasUpload name key id (view old t) mode n) → upload_part at name key id k bytes given (view old t) ≡ ◌>>=◌ {B = Outcome} (part_entry_in (part_bytes_in t n k old) (length bytes) (view old t)) (stored_under h)
+  part_shape h =
+      let s = h.state in
+      let f : FoundUpload = record { tenant = s; bucket = h.bucket; number = n; upload = h.upload } in
+      let next : Counts → Result Outcome Refusal = λ c. Ok (PartStored (checksum_text bytes), Some (with_bucket name (with_stored f k (record { bytes = bytes; moment = at })) (with_counts c s))) in
+      let asks : checked_step f (is_checksum given bytes) ≡ ◌>>=◌ {B = Outcome} (require_quota name (with_stored f k (record { bytes = bytes; moment = at })) s) (λ _. ◌>>=◌ {B = Outcome} (after_part (counts s)) next) = rw right refl in
+      ap found_step h.found ∙ asks ∙ part_asked name f h.there h.begun k (record { bytes = bytes; moment = at }) next
+      ∙ ap (λ r. ◌>>=◌ {B = Outcome} (part_entry_in r (length bytes) (Some s)) (stored_under h)) (part_row_size old t sound name s h.added h.bucket h.there n k h.upload h.begun)
+      ∙ ap (λ (v : Option State). ◌>>=◌ {B = Outcome} (part_entry_in (part_bytes_in t n k old) (length bytes) v) (stored_under h)) (sym h.added)
+
+  pub part_refused : upload_in name key id (view old t) ≡ Ok (mode, n) → (x : Refusal) → part_entry_in (part_bytes_in t n k old) (length bytes) (view old t) ≡ Err x → upload_part at name key id k bytes given (view old t) ≡ Err x
+  part_refused found x e =
+      let h = has_upload name key mode n id (view old t) found in
+      part_shape h ∙ ap (λ r. ◌>>=◌ {B = Outcome} r (stored_under h)) e
+
+-- the question that was answered of these tables says so of those before
+pub part_failed : {Y : Type 0} (told : Y → Answer) (old middle new : Tables) (sound : IsSound old) (t name key : Octets) (id : Option UploadId) (mode : BucketState) (n k at : ℕ) (bytes : Octets) (given : Option Octets)
+    → is_checksum given bytes ≡ true → upload_in name key id (view old t) ≡ Ok (mode, n) → middle ≡ old → (error : StepError Refusal)
+    → Decides {X = ℕ} {Y = ℕ} (λ m. m) (part_entry_in (part_bytes_in t n k middle) (length bytes) (view middle t)) middle new (Err error) → Carries told t (upload_part at name key id k bytes given) old new (Err error)
+part_failed told old middle new sound t name key id mode n k at bytes given right found same (Refused x) d =
+    (part_refused old sound t name key id mode n k at bytes given right found x (ap (λ (y : Tables). part_entry_in (part_bytes_in t n k y) (length bytes) (view y t)) (sym same) ∙ d.0), d.1 ∙ same)
+part_failed told old middle new sound t name key id mode n k at bytes given right found same (Failed trouble) d = tt
+
+-- a number that was read, where the quota had room
+entry_read : (replaced added : ℕ) (v : Option State) (entry : ℕ) → part_entry_in replaced added v ≡ Ok entry → next_entry_in v ≡ Ok entry
+entry_read replaced added v entry = go (room_in replaced added v)
+  where
+    go : (r : Result (Unit {0}) Refusal) → ◌>>=◌ {B = ℕ} r (λ _. next_entry_in v) ≡ Ok entry → next_entry_in v ≡ Ok entry
+    go (Ok u) e = e
+    go (Err q) e = absurd (true≢false (sym (ap is_ok e)))
+
 -- ---- the part is written
 
 -- what is given, and what stays of the tables
@@ -120,17 +173,8 @@ pub record PutsPart (digest : Octets → Octets) (t name key : Octets) (id : Opt
 
 module _ (old new : Tables) (host : IsHostOf old) (t name key : Octets) (id : Option UploadId) (mode : BucketState) (n : ℕ) (found : upload_in name key id (view old t) ≡ Ok (mode, n)) (k at : ℕ) (bytes : Octets) (given : Option Octets)
     (low : 1 ≤ k) (high : k ≤ 10000) (early : at ≤ latest_of old) (right : is_checksum given bytes ≡ true) (digest : Octets → Octets) (size : ℕ) (some : 1 ≤ size) (digests : AreDigests digest old.blocks) where
-  abbrev checked_step : FoundUpload → Bool → Result Outcome Refusal
-  checked_step f right = do
-    _ ← require right BadDigest
-    c ← after_part (counts f.tenant)
-    Ok (PartStored (checksum_text bytes), Some (with_bucket name (with_stored f k (record { bytes = bytes; moment = at })) (with_counts c f.tenant)))
-
-  abbrev found_step : Result FoundUpload Refusal → Result Outcome Refusal
-  found_step r = r >>= (λ f. checked_step f (is_checksum given bytes))
-
-  puts_at : (h : HasUpload name key id (view old t) mode n) → can_give h.state.next_entry ≡ true → new ≡ part_written digest size t n k bytes at h.state.next_entry old → PutsPart digest t name key id k at bytes given old new
-  puts_at h room e =
+  puts_at : (h : HasUpload name key id (view old t) mode n) → part_entry_in (part_bytes_in t n k old) (length bytes) (view old t) ≡ Ok h.state.next_entry → can_give h.state.next_entry ≡ true → new ≡ part_written digest size t n k bytes at h.state.next_entry old → PutsPart digest t name key id k at bytes given old new
+  puts_at h read room e =
       let s = h.state in
       let entry = s.next_entry in
       let its : Name = (t, entry) in
@@ -160,21 +204,22 @@ module _ (old new : Tables) (host : IsHostOf old) (t name key : Octets) (id : Op
       let once = each_once digest its (pieces size bytes) old.refs old.blocks host.sound.stored digests in
       let shared = shared_for its old middle new (record { added = once.added; grown = once.grown; named = once.named }) (ap (λ (x : Tables). x.blocks) is ∙ blocks_same)
       (λ block named. ap (λ (x : Tables). list_any (names_block its block) x.refs) is ∙ left.named block named) in
-      let f : FoundUpload = record { tenant = s; bucket = h.bucket; number = n; upload = h.upload } in
-      let made : checked_step f (is_checksum given bytes) ≡ Ok (PartStored (checksum_text bytes), view new t) = rw (right, change.shown, room) refl in
+      let gives : upload_part at name key id k bytes given (view old t) ≡ Ok (PartStored (checksum_text bytes), view new t) =
+      part_shape old host.sound t name key id mode n k at bytes given right h ∙ ap (λ r. ◌>>=◌ {B = Outcome} r (stored_under old host.sound t name key id mode n k at bytes given right h)) read
+      ∙ ap (λ (v : Option State). Ok (PartStored (checksum_text bytes), v)) (sym change.shown) in
       record {
-        step = record { gives = ap found_step h.found ∙ made; others = change.others; latest = change.latest; shared = shared };
+        step = record { gives = gives; others = change.others; latest = change.latest; shared = shared };
         sound = change.sound;
         limits = change.limits;
         bodies = subst HasBodies (sym is) whole_now.bodies;
         digests = subst (λ (x : Tables). AreDigests digest x.blocks) (sym is) (subst (AreDigests digest) (sym blocks_same) (adds.digests digests));
       }
 
-  pub puts : (entry : ℕ) → next_entry_in (view old t) ≡ Ok entry → new ≡ part_written digest size t n k bytes at entry old → PutsPart digest t name key id k at bytes given old new
+  pub puts : (entry : ℕ) → part_entry_in (part_bytes_in t n k old) (length bytes) (view old t) ≡ Ok entry → new ≡ part_written digest size t n k bytes at entry old → PutsPart digest t name key id k at bytes given old new
   puts entry read e =
       let h = has_upload name key mode n id (view old t) found in
-      let number = has_entry_number (view old t) h.state entry h.added read in
-      puts_at h number.0 (e ∙ ap (λ m. part_written digest size t n k bytes at m old) (sym number.1))
+      let number = has_entry_number (view old t) h.state entry h.added (entry_read (part_bytes_in t n k old) (length bytes) (view old t) entry read) in
+      puts_at h (read ∙ ap (λ m. Ok m) (sym number.1)) number.0 (e ∙ ap (λ m. part_written digest size t n k bytes at m old) (sym number.1))
 
 -- the writes of a part, one after another
 pub part_chain : (digest : Octets → Octets) (size : ℕ) (t : Octets) (n k : ℕ) (bytes : Octets) (at entry : ℕ) (old one two three new : Tables)

@@ -15,8 +15,8 @@ use Rattle.bh_model.specs.Operations.{tenant_bucket}
 use Rattle.bh_model.specs.Uploads.{find_upload}
 use Rattle.bh_tables.specs.Typed.{Tables}
 use Rattle.bh_tables.specs.Bodies.{whole}
-use Rattle.bh_tables.specs.Shown.{is_upload}
-use Rattle.bh_objects.specs.Found.{counts_in}
+use Rattle.bh_tables.specs.Shown.{is_upload, is_part}
+use Rattle.bh_objects.specs.Found.{counts_in, room_in}
 use Rattle.bh_uploads.specs.Rows.{SeenUpload, seen_upload}
 use Rattle.bh_uploads.specs.declared.joining.Joined.{Joined}
 
@@ -38,6 +38,16 @@ abbrev pub next_entry_in : Option State → Result ℕ Refusal
 next_entry_in s = do
   c ← counts_in s
   given c.entry
+
+-- the bytes of the part of a number, if it is there
+abbrev pub part_bytes_in : Octets → ℕ → ℕ → Tables → ℕ
+part_bytes_in tenant upload number tables = option_map_or (λ p. p.size) (find (is_part tenant upload number) tables.parts) 0
+
+-- the number of a part of so many bytes in place of so many
+abbrev pub part_entry_in : ℕ → ℕ → Option State → Result ℕ Refusal
+part_entry_in replaced added s = do
+  _ ← room_in replaced added s
+  next_entry_in s
 
 -- whether an upload was begun for this bucket and this key
 abbrev pub is_begun_for : Octets → Octets → SeenUpload → Bool

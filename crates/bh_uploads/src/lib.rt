@@ -10,6 +10,7 @@ pub mod joining;
 pub mod lifecycle;
 pub mod parts;
 pub mod purge;
+pub mod quotas;
 pub mod reads;
 pub mod rows;
 pub mod writes;

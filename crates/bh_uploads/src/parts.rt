@@ -12,7 +12,8 @@ ghost use Rattle.bh_schema.specs.Connections.{IsClean, tables, InTransaction, St
 ghost use Rattle.bh_schema.specs.Working.{Works, StillWorksBy};
 ghost use Rattle.bh_uploads.specs.Writes.{without_part, without_old, with_part_row, part_written};
 
-use crate::reads::{NamedUpload, found_upload, next_entry};
+use crate::quotas::part_entry;
+use crate::reads::{NamedUpload, found_upload};
 use crate::rows::parts::{PartRecord, delete_part, find_body, insert_part};
 use crate::writes::drop_entry_body;
 use bh_blocks::bodies::store_body;
@@ -149,7 +150,7 @@ fn write_part<S: Alter, D: Digester>(
 }
 
 /// S3's UploadPart, at a moment that is not after the last stamp, where the request may say which checksum the bytes
-/// have: NoSuchBucket, NoSuchUpload, BadDigest, CounterExhausted. The bytes are stored in blocks of at most this
+/// have: NoSuchBucket, NoSuchUpload, BadDigest, QuotaExceeded, CounterExhausted. The bytes are stored in blocks of at most this
 /// size. The text of their checksum is told.
 pub fn put_part<S: Alter, D: Digester>(
     connection: &mut Connection<S>,
@@ -174,7 +175,14 @@ pub fn put_part<S: Alter, D: Digester>(
 {
     let found = found_upload(connection, &part.upload)?;
     let checksum = checked_sum(alloc, part.bytes, given)?;
-    let entry = next_entry(connection, part.upload.tenant)?;
+    let size = part.bytes.len() as u64;
+    let entry = part_entry(
+        connection,
+        part.upload.tenant,
+        found.number,
+        part.number,
+        size,
+    )?;
     write_part(
         connection,
         digester,

@@ -51,7 +51,13 @@ fn rule_stale<S: Alter>(
         None => Ok(Vec::new(alloc)),
         Some(days) => {
             let before = in_range(stale_before(days, at))?;
-            or_trouble(stale_list(connection, alloc, tenant.as_str(), rule.bucket.as_str(), before))
+            or_trouble(stale_list(
+                connection,
+                alloc,
+                tenant.as_str(),
+                rule.bucket.as_str(),
+                before,
+            ))
         }
     }
 }

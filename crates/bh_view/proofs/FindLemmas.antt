@@ -138,15 +138,16 @@ module _ (tables : Tables) (t : Octets) where
     newest_found = ap first entries_found ∙ first_map entry_of _
 
     module _ (sound : IsSound tables) where
-      -- the entry of an id: of `null` where it is 0
+      -- the entries of an id: of `null` where it is 0
+      pub id_filtered : (n : ℕ) → filter (has_id (id_of n)) (listed k B) ≡ map entry_of (filter (is_version t b k n) tables.versions)
+      id_filtered n =
+          let mine : List VersionRow = at_key k (in_bucket b (rows_of t tables).versions) in
+          ap (filter (has_id (id_of n))) listed_rows
+          ∙ filter-map (has_id (id_of n)) entry_of (sort_by newer mine) ∙ (λ i. map entry_of (filter (λ v. sym (same_ids v.id n) i) (sort_by newer mine)))
+          ∙ ap (map entry_of) (sym (sort_by-filter newer newer_total (λ v. same_number v.id n) mine) ∙ sorted_single newer (at_id n mine) ((sound.tenants t).versions.one_id b k n) ∙ one_version t b k n tables.versions)
+
       pub version_found : (n : ℕ) → find (has_id (id_of n)) (listed k B) ≡ option_map entry_of (first (filter (is_version t b k n) tables.versions))
-      version_found n =
-          let its : List VersionRow = at_id n (at_key k (in_bucket b (rows_of t tables).versions)) in
-          ap (find (has_id (id_of n))) listed_rows
-          ∙ sym (first_find (has_id (id_of n)) (entries_of (at_key k (in_bucket b (rows_of t tables).versions))))
-          ∙ ap first (filter-map (has_id (id_of n)) entry_of (sort_by newer (at_key k (in_bucket b (rows_of t tables).versions))) ∙ (λ i. map entry_of (filter (λ v. sym (same_ids v.id n) i) (sort_by newer (at_key k (in_bucket b (rows_of t tables).versions)))))
-          ∙ ap (map entry_of) (sym (sort_by-filter newer newer_total (λ v. same_number v.id n) (at_key k (in_bucket b (rows_of t tables).versions))) ∙ sorted_single newer its ((sound.tenants t).versions.one_id b k n)))
-          ∙ first_map entry_of its ∙ ap (λ l. option_map entry_of (first l)) (one_version t b k n tables.versions)
+      version_found n = sym (first_find (has_id (id_of n)) (listed k B)) ∙ ap first (id_filtered n) ∙ first_map entry_of _
 
       pub named_found : (n : ℕ) → lookup (Named (id_of n)) (listed k B) ≡ found_named (option_map entry_of (first (filter (is_version t b k n) tables.versions)))
       named_found n = ap found_named (version_found n)

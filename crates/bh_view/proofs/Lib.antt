@@ -24,6 +24,7 @@ pub mod DeleteLemmas
 pub mod RowLemmas
 pub mod PurgeLemmas
 pub mod UsedLemmas
+pub mod UsageLemmas
 pub mod JoinLemmas
 pub mod NameLemmas
 pub mod OrdinalLemmas
@@ -43,3 +44,5 @@ pub mod UploadLemmas
 pub mod PartLemmas
 pub mod UploadChanges
 pub mod PartChanges
+pub mod QuotaLemmas
+pub mod BoundLemmas

@@ -63,17 +63,23 @@ sum_map : {A B : Type 0} (f : B → ℕ) (g : A → B) (xs : List A) → sum_by 
 sum_map f g [] = refl
 sum_map f g (x ∷ xs) = sum_by-cons f (g x) (map g xs) ∙ ap (λ n. f (g x) + n) (sum_map f g xs) ∙ sym (sum_by-cons (λ x. f (g x)) x xs)
 
+-- over the entries of a key, in whatever order
+pub entries_total : (f : Entry → ℕ) (rows : List VersionRow) → sum_by f (entries_of rows) ≡ sum_by (λ v. f (entry_of v)) rows
+entries_total f rows = sum_map f entry_of (sort_by newer rows) ∙ sym (sum_by-IsPermutation (λ v. f (entry_of v)) _ _ (IsPermutation-sort_by newer newer_total rows))
+
+-- of a bucket's objects: a size of the entries of each key, that none have too, and that comes to that of the key's rows
+pub objects_sized : (f : List Entry → ℕ) → f [] ≡ 0 → (w : VersionRow → ℕ) (rows : List VersionRow) → ((q : Octets) → f (entries_of (at_key q rows)) ≡ sum_by w (at_key q rows)) → total f (objects_of rows) ≡ sum_by w rows
+objects_sized f none w rows each = total_is octets f (λ v. v.okey) w (objects_of rows) rows (λ q. ap (λ o. option_map_or f o 0) (get-objects_of rows q) ∙ whole (entries_of (at_key q rows)) ∙ each q)
+  where
+    whole : (l : List Entry) → option_map_or f (non_empty l) 0 ≡ f l
+    whole [] = sym none
+    whole (x ∷ xs) = refl
+
 abbrev pub version_size : VersionRow → ℕ
 version_size v = entry_size (entry_of v)
 
-whole : {X : Type 0} (f : X → ℕ) (l : List X) → option_map_or (sum_by f) (non_empty l) 0 ≡ sum_by f l
-whole f [] = refl
-whole f (x ∷ xs) = refl
-
 pub objects_total : (rows : List VersionRow) → total (sum_by entry_size) (objects_of rows) ≡ sum_by version_size rows
-objects_total rows = total_is octets (sum_by entry_size) (λ v. v.okey) version_size (objects_of rows) rows (λ q.
-    ap (λ o. option_map_or (sum_by entry_size) o 0) (get-objects_of rows q) ∙ whole entry_size (entries_of (at_key q rows))
-    ∙ sum_map entry_size entry_of (sort_by newer (at_key q rows)) ∙ sym (sum_by-IsPermutation version_size _ _ (IsPermutation-sort_by newer newer_total (at_key q rows))))
+objects_total rows = objects_sized (sum_by entry_size) refl version_size rows (λ q. entries_total entry_size (at_key q rows))
 
 -- in numbers
 pub latest_of_seq : (v x : VersionRow) → x.seq < v.seq → is_gt (newer x v) ≡ true

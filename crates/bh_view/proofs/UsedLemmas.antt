@@ -20,7 +20,7 @@ use Rattle.bh_view.proofs.ViewLemmas.{own_row}
 -- ---- versions
 
 -- a marker has no bytes
-row_size : (latest : ℕ) (v : VersionRow) → IsVersionRow latest v → version_size v ≡ v.size
+pub row_size : (latest : ℕ) (v : VersionRow) → IsVersionRow latest v → version_size v ≡ v.size
 row_size latest v good = go v.marker refl
   where
     go : (n : ℕ) → v.marker ≡ n → content_size (content_of n v) ≡ v.size

@@ -5,6 +5,7 @@ use Rattle.std.proofs.lemmas.List.{map-append}
 use Rattle.sqlite_keyed.specs.Lists.{delete_where}
 use Rattle.sqlite_keyed.proofs.ListLemmas.{all-filter}
 use Rattle.bh_types.specs.Limits.{AreLimits}
+use Rattle.bh_model.specs.QuotaLaws.{IsBounded}
 use Rattle.bh_model.specs.State.{Octets, State}
 use Rattle.bh_tables.specs.Bodies.{version_name, part_name}
 use Rattle.bh_tables.specs.Typed.{VersionRow, PartRow, BlockRow, RefRow, Tables}
@@ -12,7 +13,7 @@ use Rattle.bh_tables.specs.Shown.{Name, same_name, is_of_body}
 use Rattle.bh_view.specs.Grouped.{same_number}
 use Rattle.bh_view.specs.View.{rows_of}
 use Rattle.bh_view.specs.Blocks.{whole, AreStored, AreDigests}
-use Rattle.bh_view.specs.Bodies.{bodies_of, bodies_in, AreBodies, HasBodies, IsResolved, IsUnnamed, AreWhole, IsSoundHost, AddsBody, body_dropped}
+use Rattle.bh_view.specs.Bodies.{bodies_of, bodies_in, AreBodies, HasBodies, IsResolved, IsUnnamed, AreWhole, AreBounded, IsSoundHost, AddsBody, body_dropped}
 use Rattle.bh_view.specs.Sound.{AreSound, IsSound}
 use Rattle.bh_view.specs.Becomes.{Becomes}
 use Rattle.bh_view.specs.Laws.{new_host}
@@ -45,15 +46,16 @@ module _ (old new : Tables) (versions : new.versions ≡ old.versions) (parts : 
   pub same_whole : (more : List Name) → AreWhole more old → AreWhole more new
   same_whole more w = subst (AreWhole more) path (record { resolved = record { versions = w.resolved.versions; parts = w.resolved.parts }; stored = w.stored; bodies = w.bodies })
 
-  pub same_host : (digest : Octets → Octets) → IsSound new → IsSoundHost digest old → IsSoundHost digest new
-  same_host digest sound h = record { sound = sound; bodies = same_bodies h.bodies; digests = subst (AreDigests digest) (sym blocks) h.digests }
+  pub same_host : (digest : Octets → Octets) → IsSound new → AreBounded new → IsSoundHost digest old → IsSoundHost digest new
+  same_host digest sound bounded h = record { sound = sound; bodies = same_bodies h.bodies; digests = subst (AreDigests digest) (sym blocks) h.digests; bounded = bounded }
 
 -- a new host's
 pub created_host : (digest : Octets → Octets) (tables : Tables) (min_part max_body : ℕ) → AreLimits min_part max_body → tables ≡ new_host min_part max_body → IsSoundHost digest tables
-created_host digest tables min_part max_body limits e = subst (IsSoundHost digest) (sym e) (record {
-  sound = (created (new_host min_part max_body) min_part max_body limits refl).0;
+created_host digest tables min_part max_body limits e = let made = created (new_host min_part max_body) min_part max_body limits refl in subst (IsSoundHost digest) (sym e) (record {
+  sound = made.0;
   bodies = record { placed = λ body. refl; owned = λ body none. refl; measured = tt };
   digests = tt;
+  bounded = λ t. subst IsBounded (sym (made.2 t)) tt;
 })
 
 -- ---- other references and blocks

@@ -2,6 +2,7 @@
 use Rattle.std.specs.Prelude.{◌≡◌, ℕ, zero, suc, ◌+◌, false, if◌then◌else◌, List, [], ◌∷◌, ◌++◌, map, filter, flat_map, take, drop, length}
 use Rattle.std.specs.List.{AllByRecursion, list_any, range_with_len}
 use Rattle.sqlite_keyed.specs.Lists.{delete_where}
+use Rattle.bh_model.specs.QuotaLaws.{IsBounded}
 use Rattle.bh_model.specs.State.{Octets}
 use Rattle.bh_tables.specs.Bodies.{version_name, part_name}
 use Rattle.bh_tables.specs.Typed.{VersionRow, PartRow, BlockRow, RefRow, Tables, rebodied}
@@ -9,6 +10,7 @@ use Rattle.bh_tables.specs.Shown.{Name, same_name, ref_name, body_name, is_of_bo
 use Rattle.bh_view.specs.Grouped.{matching, same_number}
 use Rattle.bh_view.specs.Blocks.{block_at, placed, whole, ord_for, blocks_with, AreStored, AreDigests}
 use Rattle.bh_view.specs.Sound.{IsSound}
+use Rattle.bh_view.specs.View.{view}
 
 -- ---- what holds of the references
 
@@ -41,11 +43,17 @@ pub record AreWhole (more : List Name) (tables : Tables) : Type 0 where
   pub stored : AreStored tables.refs tables.blocks
   pub bodies : AreBodies (more ++ bodies_in tables) tables.refs tables.blocks
 
+-- each tenant's quota is at most 2^60 bytes, and so is what it uses. So the sums of sizes over a tenant's rows stay below
+-- 2^63, from where on the store could not add them up
+abbrev pub AreBounded : Tables → Type 0
+AreBounded tables = (t : Octets) → IsBounded (view tables t)
+
 -- all that holds of a host's tables, where blocks are named by this function
 pub record IsSoundHost (digest : Octets → Octets) (tables : Tables) : Type 0 where
   pub sound : IsSound tables
   pub bodies : HasBodies tables
   pub digests : AreDigests digest tables.blocks
+  pub bounded : AreBounded tables
 
 -- ---- the bytes of all bodies, but those of one
 

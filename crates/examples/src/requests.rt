@@ -133,6 +133,7 @@ fn command_text(alloc: Global, reading: u64, command: &Command) -> Answer {
             secret,
         } => ("key-add", tenant.as_str(), name.as_str(), secret.as_str()),
         Command::KeyRemove { tenant, name } => ("key-remove", tenant.as_str(), name.as_str(), ""),
+        Command::Usage { tenant } => ("usage", tenant.as_str(), "", ""),
     };
     Ok(format!(in alloc; "at {reading}: {what} {tenant} {name} {secret}")?)
 }

@@ -9,7 +9,7 @@ use sqlite::types::ToSql;
 use sqlite::{Alter, Connection, Error, Row};
 
 /// The one number that a sum answers.
-fn read_total(rows: &[Row]) -> Result<u64, Error>
+pub fn read_total(rows: &[Row]) -> Result<u64, Error>
     ensures read { IfOk result (λ n. (m : ℕ) → rows.now ≡ (stored m ∷ []) ∷ [] → n ≡ m) }
     ensures trouble { IfErr result (λ e. (m : ℕ) → rows.now ≡ (stored m ∷ []) ∷ [] → is_trouble e ≡ true) }
 {

@@ -138,7 +138,7 @@ fn body_rows<S: Alter>(
     ensures trouble { IfErr result (IsTrouble S.Store connection.old connection.new) }
 {
     connection.query_all(
-        "SELECT body FROM parts WHERE tenant = ?1 AND upload = ?2 AND number = ?3 ORDER BY rowid",
+        "SELECT body, size FROM parts WHERE tenant = ?1 AND upload = ?2 AND number = ?3 ORDER BY rowid",
         &[tenant.to_sql(), number(upload), number(part)],
     )
 }
@@ -170,6 +170,36 @@ pub fn find_body<S: Alter>(
     match rows.first() {
         None => Ok(None),
         Some(row) => Ok(Some(read_body(row)?)),
+    }
+}
+
+fn read_size(row: &Row) -> Result<u64, Error>
+    ensures { IfOk result (λ size. (p : Stored) → row.now ≡ shown_body p → size ≡ p.size) }
+{
+    let size: u64 = row.get(1)?;
+    Ok(size)
+}
+
+/// The size in bytes of the part of this number, if it is there.
+pub fn find_size<S: Alter>(
+    connection: &mut Connection<S>,
+    tenant: &str,
+    upload: u64,
+    part: u64,
+) -> Result<Option<u64>, Error>
+    requires inside { InTransaction S.Store connection.old }
+    requires upload { upload < 2 ^ 63 }
+    requires part { part < 2 ^ 63 }
+    ensures within { StaysWithin S.Store connection.old connection.new }
+    ensures opens { OnOk result (WasOpen S.Store connection.old connection.new) }
+    ensures same { OnOk result (ChangesNothing S.Store connection.old connection.new) }
+    ensures found { IfOk result (λ found. IsClean S.Store connection.new
+        → found ≡ option_map (λ p. p.size) (find (is_part tenant.now upload part) (tables S.Store connection.old).parts)) }
+{
+    let rows = body_rows(connection, tenant, upload, part)?;
+    match rows.first() {
+        None => Ok(None),
+        Some(row) => Ok(Some(read_size(row)?)),
     }
 }
 

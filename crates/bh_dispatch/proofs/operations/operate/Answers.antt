@@ -1,10 +1,6 @@
-use Rattle.std.proofs.Common.{refl}
 use Rattle.sqlite.specs.Held.{state}
-use Rattle.bh_view.specs.View.{view}
-use Rattle.bh_schema.specs.Working.{tables_at}
-use Rattle.bh_objects.proofs.Working.{no_call}
 use Rattle.bh_dispatch.proofs.Storing.{by_any}
-use Rattle.bh_dispatch.proofs.Steps.{IsNotDone, not_done}
+use Rattle.bh_dispatch.proofs.Steps.{tells_use}
 use Rattle.bh_dispatch.proofs.operations.operate.Goals as goal
 
 pub returns-in-ListBuckets-clause-working : goal.returns-in-ListBuckets-clause-working
@@ -24,37 +20,8 @@ returns-in-GetLifecycle-clause-carries g c = c.operate_lifecycle.ensures.carries
 pub returns-in-PutObject-clause-carries : goal.returns-in-PutObject-clause-carries
 returns-in-PutObject-clause-carries g c = c.operate_object.ensures.carries c.args.limits.now
 
-pub returns-in_default : goal.returns-in_default
-returns-in_default g c =
-    let s = state g.S.Store c.args.connection.now in
-    let no = c.in_default in
-    let others : IsNotDone c.args.operation.now = record {
-      list = no.not-ListBuckets;
-      create = no.not-CreateBucket;
-      head = no.not-HeadBucket;
-      delete = no.not-DeleteBucket;
-      keys = no.not-ListObjectsV2;
-      versions = no.not-ListObjectVersions;
-      uploads = no.not-ListMultipartUploads;
-      ask = no.not-GetBucketVersioning;
-      set = no.not-PutBucketVersioning;
-      rule = no.not-GetLifecycle;
-      rule_set = no.not-PutLifecycle;
-      rule_cleared = no.not-DeleteLifecycle;
-      put = no.not-PutObject;
-      copy = no.not-CopyObject;
-      get = no.not-GetObject;
-      look = no.not-HeadObject;
-      remove = no.not-DeleteObject;
-      begin = no.not-CreateMultipartUpload;
-      part = no.not-UploadPart;
-      parts = no.not-ListParts;
-      complete = no.not-CompleteMultipartUpload;
-      abort = no.not-AbortMultipartUpload;
-    } in
-    rw c.from.ensures (record {
-      within = no_call s (λ clean. (c.requires.working clean).inside);
-      opens = λ intact up. up;
-      working = λ clean. record { is = c.requires.working clean; limits = refl; digests = λ are. are };
-      carries = λ clean. (not_done c.args.limits.now c.args.at c.args.body.now (view (tables_at s) c.args.tenant.now) c.args.operation.now others, refl);
-    })
+pub returns-in-Usage-clause-working : goal.returns-in-Usage-clause-working
+returns-in-Usage-clause-working g c = by_any g.D.Digester.digest_of (state g.S.Store c.args.connection.now) (state g.S.Store c.usage.new.connection) c.usage.result c.usage.ensures.working
+
+pub returns-in-Usage-clause-carries : goal.returns-in-Usage-clause-carries
+returns-in-Usage-clause-carries g c clean = rw (c.in-Usage.is, tells_use c.args.limits.now c.args.at c.args.body.now) (c.usage.ensures.carries clean)

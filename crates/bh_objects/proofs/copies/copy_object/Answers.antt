@@ -13,7 +13,7 @@ use Rattle.bh_schema.specs.Layer.{IsStateClean}
 use Rattle.bh_schema.specs.Views.{head_seen}
 use Rattle.bh_schema.specs.Working.{tables_at}
 use Rattle.bh_objects.specs.Copies.{version_read, copy_written}
-use Rattle.bh_objects.specs.Found.{numbers_in}
+use Rattle.bh_objects.specs.Found.{mode_in, entry_numbers_in}
 use Rattle.bh_objects.specs.declared.reads.Numbers.{Numbers}
 use Rattle.bh_objects.proofs.Working.{host_at, works_then, unless_then}
 use Rattle.bh_objects.proofs.Copying.{Copies, copies_body, bucket_failed, source_failed, numbers_failed}
@@ -43,7 +43,7 @@ done g c clean =
     (host_at first (c.requires.working clean_old)) (c.requires.early clean_old) c.in_ok-write_copy.ensures.key
     (subst (λ (x : Tables). source_version copy.source_bucket.now copy.source_key.now copy.version (view x copy.tenant.now) ≡ Ok (version_read copy.tenant.now x head)) one.1 two.0)
     (subst (λ (x : Tables). head.size ≡ length (whole x.refs x.blocks (copy.tenant.now, head.seq))) one.1 (c.in_ok-head.ensures.sized clean_second))
-    mode before one.0 (ap (λ (x : Tables). numbers_in mode (view x copy.tenant.now)) (sym (two.1 ∙ one.1)) ∙ three.0)
+    mode before one.0 (ap (λ (x : Tables). entry_numbers_in mode copy.bucket.now copy.key.now head.size (view x copy.tenant.now)) (sym (two.1 ∙ one.1)) ∙ three.0)
     ((c.in_ok-write_copy.ensures.holds clean).is ∙ ap (copy_written mode before after copy.tenant.now copy.bucket.now copy.key.now copy.at head) (three.1 ∙ two.1 ∙ one.1))
 
 pub returns-clause-working : goal.returns-clause-working
@@ -84,14 +84,20 @@ returns-in_err-numbers-clause-carries g c clean =
     let one = c.in_ok-mode.ensures.decides (c.in_ok-head.ensures.within.follows.clean clean_second) in
     let two = c.in_ok-head.ensures.decides clean_second in
     rw (p.1, p.2) (numbers_failed copied_answer copy.at copy.tenant.now copy.bucket.now copy.key.now copy.source_bucket.now copy.source_key.now copy.version
-    (tables_at (state g.S.Store c.args.connection.now)) (tables_at (state g.S.Store c.new_numbers.new.connection)) c.in_ok-mode.mode one.0 middle one.1
-    (λ (numbers : Numbers). (numbers.before, numbers.after)) (version_read copy.tenant.now middle (head_seen c.in_ok-head.head)) two.0 last two.1 c.in_err-numbers.field-0.0 (c.in_err-numbers.ensures.decides clean))
+    (tables_at (state g.S.Store c.args.connection.now)) (tables_at (state g.S.Store c.entry_numbers.new.connection)) c.in_ok-mode.mode one.0 middle one.1
+    (λ (numbers : Numbers). (numbers.before, numbers.after)) (version_read copy.tenant.now middle (head_seen c.in_ok-head.head)) two.0 c.in_ok-head.head.size (c.in_ok-head.ensures.sized clean_second) last two.1 c.in_err-numbers.field-0.0 (c.in_err-numbers.ensures.decides clean))
 
 pub source_head-requires : goal.source_head-requires
 source_head-requires g c clean = (c.in_ok-mode.ensures.working clean (λ bytes. bytes)).is
 
-pub new_numbers-requires : goal.new_numbers-requires
-new_numbers-requires g c clean = (c.in_ok-head.ensures.working clean (λ bytes. bytes)).is
+pub entry_numbers-requires-clause-there : goal.entry_numbers-requires-clause-there
+entry_numbers-requires-clause-there g c clean =
+    let two = c.in_ok-head.ensures.decides clean in
+    let one = c.in_ok-mode.ensures.decides (c.in_ok-head.ensures.within.follows.clean clean) in
+    ap (λ (x : Tables). mode_in c.args.copy.now.bucket.now (view x c.args.copy.now.tenant.now)) (two.1 ∙ one.1) ∙ one.0
+
+pub entry_numbers-requires-clause-working : goal.entry_numbers-requires-clause-working
+entry_numbers-requires-clause-working g c clean = (c.in_ok-head.ensures.working clean (λ bytes. bytes)).is
 
 pub write_copy-requires : goal.write_copy-requires
 write_copy-requires g c clean = (c.in_ok-numbers.ensures.working clean (λ bytes. bytes)).is.inside
@@ -108,6 +114,6 @@ returns-in_err-numbers-clause-working g c =
     rw (p.1, p.2) (unless_then _ _ c.in_err-numbers.field-0.0
     (λ still clean.
     let clean_second = c.in_err-numbers.ensures.within.follows.clean clean in
-    works_then (state g.S.Store c.args.connection.now) (state g.S.Store c.source_head.new.connection) (state g.S.Store c.new_numbers.new.connection)
+    works_then (state g.S.Store c.args.connection.now) (state g.S.Store c.source_head.new.connection) (state g.S.Store c.entry_numbers.new.connection)
     (works_then (state g.S.Store c.args.connection.now) (state g.S.Store c.bucket_state.new.connection) (state g.S.Store c.source_head.new.connection) (c.in_ok-mode.ensures.working (c.in_ok-head.ensures.within.follows.clean clean_second)) (c.in_ok-head.ensures.working clean_second))
     (still clean)) c.in_err-numbers.ensures.working)

@@ -1,4 +1,4 @@
-use Rattle.std.proofs.Common.{◌≡◌, sym, ap, ◌∙◌}
+use Rattle.std.proofs.Common.{◌≡◌, length, sym, ap, ◌∙◌}
 use Rattle.std.proofs.lemmas.Result.{err_from_is_err_and}
 use Rattle.std.specs.Option.{option_copied}
 use Rattle.std.specs.String.{string_bytes}
@@ -8,14 +8,16 @@ use Rattle.bh_model.specs.Entries.{new_id}
 use Rattle.bh_model.specs.Operations.{id_told}
 use Rattle.bh_tables.specs.Typed.{Tables}
 use Rattle.bh_view.specs.View.{view}
+use Rattle.bh_storage.specs.Answers.{stored_answer}
 use Rattle.bh_schema.specs.Layer.{IsStateClean}
 use Rattle.bh_schema.specs.Working.{tables_at}
 use Rattle.bh_view.specs.Blocks.{AreDigests}
 use Rattle.bh_view.specs.Bodies.{HasBodies}
-use Rattle.bh_objects.specs.Found.{numbers_in}
+use Rattle.bh_objects.specs.Found.{mode_in, entry_numbers_in}
 use Rattle.bh_objects.specs.Writes.{object_written}
+use Rattle.bh_objects.specs.declared.reads.Numbers.{Numbers}
 use Rattle.bh_objects.proofs.Working.{host_at, works_then, any_unless, unless_then}
-use Rattle.bh_objects.proofs.Putting.{Puts, puts_pieces, sum_right}
+use Rattle.bh_objects.proofs.Putting.{Puts, puts_pieces, put_failed, sum_right}
 use Rattle.bh_objects.proofs.objects.put_object.Given as given
 use Rattle.bh_objects.proofs.objects.put_object.Goals as goal
 
@@ -38,7 +40,7 @@ done g c clean =
     puts_pieces old (tables_at (state g.S.Store c.write_object.new.connection)) object.tenant.now object.bucket.now object.key.now object.at object.bytes.now (option_copied c.args.given) after (host_at first (c.requires.working clean_old)) (c.requires.early clean_old) c.in_ok-write_object.ensures.key
     (sum_right (option_copied c.args.given) object.bytes.now (string_bytes c.in_ok-checksum.checksum) c.in_ok-checksum.ensures.answers)
     g.D.Digester.digest_of c.args.block_size c.requires.positive (c.requires.digests clean_old)
-    mode before one.0 (ap (λ (x : Tables). numbers_in mode (view x object.tenant.now)) (sym one.1) ∙ two.0)
+    mode before one.0 (ap (λ (x : Tables). entry_numbers_in mode object.bucket.now object.key.now (length object.bytes.now) (view x object.tenant.now)) (sym one.1) ∙ two.0)
     ((c.in_ok-write_object.ensures.holds clean).is ∙ ap (object_written g.D.Digester.digest_of c.args.block_size mode before after object.tenant.now object.bucket.now object.key.now object.at object.bytes.now) (two.1 ∙ one.1))
 
 pub returns-clause-working : goal.returns-clause-working
@@ -60,14 +62,28 @@ returns-in_err-mode-clause-working g c =
 pub returns-in_err-checksum-clause-working : goal.returns-in_err-checksum-clause-working
 returns-in_err-checksum-clause-working g c = any_unless c.from_residual-in_err-checksum.result _ (λ clean. c.in_ok-mode.ensures.working clean g.D.Digester.digest_of)
 
-pub new_numbers-requires : goal.new_numbers-requires
-new_numbers-requires g c clean = (c.in_ok-mode.ensures.working clean (λ bytes. bytes)).is
+pub entry_numbers-requires-clause-there : goal.entry_numbers-requires-clause-there
+entry_numbers-requires-clause-there g c clean =
+    let one = c.in_ok-mode.ensures.decides clean in
+    ap (λ (x : Tables). mode_in c.args.object.now.bucket.now (view x c.args.object.now.tenant.now)) one.1 ∙ one.0
+
+pub entry_numbers-requires-clause-working : goal.entry_numbers-requires-clause-working
+entry_numbers-requires-clause-working g c clean = (c.in_ok-mode.ensures.working clean (λ bytes. bytes)).is
 
 pub returns-in_err-numbers-clause-working : goal.returns-in_err-numbers-clause-working
 returns-in_err-numbers-clause-working g c =
     let p = err_from_is_err_and c.from_residual-in_err-numbers.result c.from_residual-in_err-numbers.ensures.1 in
     rw (p.1, p.2) (unless_then _ _ c.in_err-numbers.field-0.0
-    (λ still clean. works_then (state g.S.Store c.args.connection.now) (state g.S.Store c.bucket_state.new.connection) (state g.S.Store c.new_numbers.new.connection) (c.in_ok-mode.ensures.working (c.in_err-numbers.ensures.within.follows.clean clean)) (still clean) g.D.Digester.digest_of) c.in_err-numbers.ensures.working)
+    (λ still clean. works_then (state g.S.Store c.args.connection.now) (state g.S.Store c.bucket_state.new.connection) (state g.S.Store c.entry_numbers.new.connection) (c.in_ok-mode.ensures.working (c.in_err-numbers.ensures.within.follows.clean clean)) (still clean) g.D.Digester.digest_of) c.in_err-numbers.ensures.working)
 
 pub write_object-requires-clause-inside : goal.write_object-requires-clause-inside
 write_object-requires-clause-inside g c clean = (c.in_ok-numbers.ensures.working clean (λ bytes. bytes)).is.inside
+
+pub returns-in_err-numbers-clause-carries : goal.returns-in_err-numbers-clause-carries
+returns-in_err-numbers-clause-carries g c clean =
+    let p = err_from_is_err_and c.from_residual-in_err-numbers.result c.from_residual-in_err-numbers.ensures.1 in
+    let object = c.args.object.now in
+    let one = c.in_ok-mode.ensures.decides (c.in_err-numbers.ensures.within.follows.clean clean) in
+    rw (p.1, p.2) (put_failed (λ (numbers : Numbers). (numbers.before, numbers.after)) stored_answer object.tenant.now object.at object.bucket.now object.key.now object.bytes.now (option_copied c.args.given)
+    (tables_at (state g.S.Store c.args.connection.now)) (tables_at (state g.S.Store c.bucket_state.new.connection)) (tables_at (state g.S.Store c.entry_numbers.new.connection)) c.in_ok-mode.mode one.0
+    (sum_right (option_copied c.args.given) object.bytes.now (string_bytes c.in_ok-checksum.checksum) c.in_ok-checksum.ensures.answers) one.1 c.in_err-numbers.field-0.0 (c.in_err-numbers.ensures.decides clean))

@@ -2,12 +2,13 @@ use Rattle.std.proofs.Common.{rules, refl}
 use Rattle.std.proofs.lemmas.Result.{IfOk-at_ok}
 use Rattle.sqlite.specs.Held.{state}
 use Rattle.bh_tables.specs.Typed.{tables_in}
+use Rattle.bh_view.specs.View.{view}
 use Rattle.bh_schema.specs.Layer.{standing, Holds}
 use Rattle.bh_schema.specs.Storage.{seen_in}
 use Rattle.bh_schema.proofs.Storing.{on_ok, both, parts, inside_of, keeps, AreBoth, asked_inside, wrote_within, wrote_before, wrote_first}
 use Rattle.bh_schema.proofs.TenantSteps.{works_of, holds_after}
 use Rattle.bh_spent.specs.Raising.{MayRise, Raises}
-use Rattle.bh_spent.proofs.Raising.{with_entry, rises}
+use Rattle.bh_spent.proofs.Raising.{with_entry, rises, rises_bounded}
 use Rattle.bh_spent.proofs.raise.raise.Goals as goal
 
 pub find_tenant-requires : goal.find_tenant-requires
@@ -48,6 +49,7 @@ returns g c =
     rises _ old new t c.in_ok-found.found (works clean) (IfOk-at_ok _ c.in_ok-found.ensures.ok c.find_tenant.ensures.found (both (before clean))) c.args.entry may (held clean) in
     record {
       within = keeps g.S.Store c.args.host.now _ refl (wrote_within old mid new asked opens wrote);
-      working = λ clean. works_of _ t _ old new (with_entry t c.args.entry) (λ x. refl) (works clean) (held clean) (raised clean);
+      working = λ clean. works_of _ t _ old new (with_entry t c.args.entry) (λ x. refl) (works clean) (held clean) (raised clean)
+          (rises_bounded c.args.entry (view (seen_in l old).now t) ((works clean).sound.bounded t));
       raised = raised;
     }

@@ -1,17 +1,18 @@
-use Rattle.std.proofs.Common.{◌≡◌, sym, ap, ◌∙◌}
+use Rattle.std.proofs.Common.{◌≡◌, String, length, sym, ap, ◌∙◌}
 use Rattle.std.proofs.lemmas.Result.{err_from_is_err_and}
 use Rattle.std.specs.Option.{option_copied}
 use Rattle.std.specs.String.{string_bytes}
 use Rattle.sqlite.specs.Held.{state}
 use Rattle.bh_tables.specs.Typed.{Tables}
 use Rattle.bh_view.specs.View.{view}
+use Rattle.bh_model.specs.Operations.{PartStored}
 use Rattle.bh_schema.specs.Layer.{IsStateClean}
 use Rattle.bh_schema.specs.Working.{tables_at}
 use Rattle.bh_objects.proofs.Putting.{sum_right}
 use Rattle.bh_objects.proofs.Working.{host_at, works_then, any_unless, unless_then}
-use Rattle.bh_uploads.specs.Found.{next_entry_in}
+use Rattle.bh_uploads.specs.Found.{part_bytes_in, part_entry_in}
 use Rattle.bh_uploads.specs.Writes.{part_written}
-use Rattle.bh_uploads.proofs.PartSteps.{PutsPart, puts}
+use Rattle.bh_uploads.proofs.PartSteps.{PutsPart, puts, part_failed}
 use Rattle.bh_uploads.proofs.parts.put_part.Given as given
 use Rattle.bh_uploads.proofs.parts.put_part.Goals as goal
 
@@ -31,7 +32,7 @@ done g c clean =
     part.number part.at part.bytes.now (option_copied c.args.given) c.in_ok-write_part.ensures.least c.in_ok-write_part.ensures.most (c.requires.early clean_old)
     (sum_right (option_copied c.args.given) part.bytes.now (string_bytes c.in_ok-checksum.checksum) c.in_ok-checksum.ensures.answers)
     g.D.Digester.digest_of c.args.block_size c.requires.positive (c.requires.digests clean_old)
-    c.in_ok-entry.entry (ap (λ (x : Tables). next_entry_in (view x part.upload.tenant.now)) (sym one.1) ∙ two.0)
+    c.in_ok-entry.entry (ap (λ (x : Tables). part_entry_in (part_bytes_in part.upload.tenant.now c.in_ok-found.found.number part.number x) (length part.bytes.now) (view x part.upload.tenant.now)) (sym one.1) ∙ two.0)
     ((c.in_ok-write_part.ensures.holds clean).is ∙ ap (part_written g.D.Digester.digest_of c.args.block_size part.upload.tenant.now c.in_ok-found.found.number part.number part.bytes.now part.at c.in_ok-entry.entry) (two.1 ∙ one.1))
 
 pub returns-clause-working : goal.returns-clause-working
@@ -50,14 +51,26 @@ returns-in_err-found-clause-working g c =
 pub returns-in_err-checksum-clause-working : goal.returns-in_err-checksum-clause-working
 returns-in_err-checksum-clause-working g c = any_unless c.from_residual-in_err-checksum.result _ (λ clean. c.in_ok-found.ensures.working clean g.D.Digester.digest_of)
 
-pub next_entry-requires : goal.next_entry-requires
-next_entry-requires g c clean = (c.in_ok-found.ensures.working clean (λ bytes. bytes)).is
+pub part_entry-requires-clause-working : goal.part_entry-requires-clause-working
+part_entry-requires-clause-working g c clean = (c.in_ok-found.ensures.working clean (λ bytes. bytes)).is
 
 pub returns-in_err-entry-clause-working : goal.returns-in_err-entry-clause-working
 returns-in_err-entry-clause-working g c =
     let p = err_from_is_err_and c.from_residual-in_err-entry.result c.from_residual-in_err-entry.ensures.1 in
     rw (p.1, p.2) (unless_then _ _ c.in_err-entry.field-0.0
-    (λ still clean. works_then (state g.S.Store c.args.connection.now) (state g.S.Store c.found_upload.new.connection) (state g.S.Store c.next_entry.new.connection) (c.in_ok-found.ensures.working (c.in_err-entry.ensures.within.follows.clean clean)) (still clean) g.D.Digester.digest_of) c.in_err-entry.ensures.working)
+    (λ still clean. works_then (state g.S.Store c.args.connection.now) (state g.S.Store c.found_upload.new.connection) (state g.S.Store c.part_entry.new.connection) (c.in_ok-found.ensures.working (c.in_err-entry.ensures.within.follows.clean clean)) (still clean) g.D.Digester.digest_of) c.in_err-entry.ensures.working)
 
 pub write_part-requires-clause-inside : goal.write_part-requires-clause-inside
 write_part-requires-clause-inside g c clean = (c.in_ok-entry.ensures.working clean (λ bytes. bytes)).is.inside
+
+pub returns-in_err-entry-clause-carries : goal.returns-in_err-entry-clause-carries
+returns-in_err-entry-clause-carries g c clean =
+    let p = err_from_is_err_and c.from_residual-in_err-entry.result c.from_residual-in_err-entry.ensures.1 in
+    let first = state g.S.Store c.args.connection.now in
+    let part = c.args.part.now in
+    let clean_first = c.in_err-entry.ensures.within.follows.clean clean in
+    let one = c.in_ok-found.ensures.decides clean_first in
+    rw (p.1, p.2) (part_failed (λ (checksum : String (Rattle.std.specs.contracts.alloc.Global.the_row).Denot). PartStored (string_bytes checksum)) (tables_at first) (tables_at (state g.S.Store c.found_upload.new.connection)) (tables_at (state g.S.Store c.part_entry.new.connection))
+    (c.requires.working (c.in_ok-found.ensures.within.follows.clean clean_first)).sound part.upload.tenant.now part.upload.bucket.now part.upload.key.now part.upload.upload c.in_ok-found.found.mode c.in_ok-found.found.number
+    part.number part.at part.bytes.now (option_copied c.args.given)
+    (sum_right (option_copied c.args.given) part.bytes.now (string_bytes c.in_ok-checksum.checksum) c.in_ok-checksum.ensures.answers) one.0 one.1 c.in_err-entry.field-0.0 (c.in_err-entry.ensures.decides clean))

@@ -1,6 +1,7 @@
 use Rattle.std.proofs.Common.{refl}
 use Rattle.sqlite.specs.Held.{state}
 use Rattle.bh_machine.specs.Machine.{operated}
+use Rattle.bh_machine.proofs.Bounded.{operated_bounded}
 use Rattle.bh_storage.specs.Answers.{answer_view}
 use Rattle.bh_schema.specs.Layer.{IsIntact, IsOpen}
 use Rattle.bh_schema.proofs.Storing.{both, parts, keeps}
@@ -26,7 +27,8 @@ returns g c =
     record {
       within = stored g.S.Store c.args.self.now _ (keeps g.S.Store c.args.self.now.host _ refl h.within);
       opens = opened (IsIntact new) (IsOpen old) (IsOpen new) c.operate.result h.opens;
-      working = still_working g.D.Digester.digest_of l old new c.operate.result (λ clean. c.requires.working (parts (h.within.follows.clean (both clean)))) h.working;
+      working = still_working g.D.Digester.digest_of l old new answer_view c.args.tenant.now (operated l c.args.at c.args.body.now c.args.operation.now) c.operate.result
+          (λ s bound. operated_bounded s bound l c.args.at c.args.body.now c.args.operation.now) (λ clean. c.requires.working (parts (h.within.follows.clean (both clean)))) h.working h.carries;
       carries = λ clean. rw (limits_seen l old) (carried g.D.Digester.digest_of l old new answer_view c.args.tenant.now (operated l c.args.at c.args.body.now c.args.operation.now) c.operate.result
           (c.requires.working (parts (h.within.follows.clean (both clean)))) clean h.working (h.carries (both clean)));
     }

@@ -19,6 +19,6 @@ returns g c =
     record {
       within = stored g.S.Store c.args.self.now _ (keeps g.S.Store c.args.self.now.host _ refl h.within);
       opens = opened_ok (IsIntact new) (IsOpen old) (IsOpen new) c.purge.result h.opens;
-      working = works_after digest l old new c.purge.result was h.working;
+      working = works_after digest l old new c.purge.result c.args.tenant.now c.args.at was h.working h.purges;
       purges = purged_after digest l old new c.purge.result c.args.tenant.now c.args.at was h.working h.purges;
     }

@@ -4,6 +4,7 @@ use Rattle.std.proofs.lemmas.Result.{IfOk-at_ok}
 use Rattle.sqlite.specs.Held.{state}
 use Rattle.bh_types.specs.Names.{is_tenant_name, is_key_name, is_secret}
 use Rattle.bh_model.specs.State.{State as Machine}
+use Rattle.bh_model.proofs.BoundLemmas.{used_stays_bounded}
 use Rattle.bh_model.specs.Operations.{Done, add_key}
 use Rattle.bh_view.specs.View.{view}
 use Rattle.bh_view.specs.Becomes.{Becomes}
@@ -11,7 +12,7 @@ use Rattle.bh_tables.specs.Typed.{Tables, tables_in}
 use Rattle.bh_schema.specs.Layer.{standing, Holds}
 use Rattle.bh_schema.specs.Storage.{seen_in}
 use Rattle.bh_schema.proofs.Storing.{bodied_still, on_ok, both, parts, inside_of, keeps, AreBoth, asked_before, asked_works, asked_inside, asked_same, wrote_within, wrote_opens, wrote_before, wrote_first}
-use Rattle.bh_schema.proofs.TenantSteps.{gives_of, works_of, holds_after}
+use Rattle.bh_schema.proofs.TenantSteps.{gives_of, bound_of, works_of, holds_after}
 use Rattle.bh_schema.proofs.KeySteps.{known_seen, no_tenant, no_key, a_key, adds_key, adds_to_nobody, adds_again, key_becomes}
 use Rattle.bh_schema.proofs.host.Host.key_add.Goals as goal
 
@@ -94,7 +95,8 @@ returns g c =
     key_becomes _ old new t n c.args.secret.now it.0 (works clean) it.1 it.2 words (held clean) in
     record {
       opens = wrote_opens old mid new w opens c.insert_key.ensures.within (on_ok _ c.in_ok-or_trouble-2.ensures.ok c.insert_key.ensures.opens);
-      working = λ clean. works_of _ t _ old new change (λ x. refl) (works clean) (held clean) (becomes clean);
+      working = λ clean. works_of _ t _ old new change (λ x. refl) (works clean) (held clean) (becomes clean)
+          (bound_of _ t (add_key t n c.args.secret.now) Done _ old (used_stays_bounded.add_key_bounded t n c.args.secret.now) (adds_key t n c.args.secret.now _ words (known clean).0 (known clean).1 (known clean).2) (works clean));
       within = keeps g.S.Store c.args.self.now _ refl
           (wrote_within old mid new w (on_ok _ c.in_ok-or_trouble.ensures.ok c.find_key.ensures.opens) c.insert_key.ensures.within);
       settings = (refl, c.insert_key.ensures.within.follows.limit ∙ w.follows.limit);

@@ -5,6 +5,7 @@ use Rattle.sqlite.specs.Held.{state}
 use Rattle.sqlite_keyed.specs.Lists.{delete_where}
 use Rattle.bh_types.specs.Names.{is_tenant_name, is_key_name}
 use Rattle.bh_model.specs.State.{State as Machine}
+use Rattle.bh_model.proofs.BoundLemmas.{used_stays_bounded}
 use Rattle.bh_model.specs.Operations.{Done, remove_key}
 use Rattle.bh_tables.specs.Shown.{is_key}
 use Rattle.bh_view.specs.View.{view}
@@ -13,7 +14,7 @@ use Rattle.bh_tables.specs.Typed.{Tables, tables_in}
 use Rattle.bh_schema.specs.Layer.{standing, Holds}
 use Rattle.bh_schema.specs.Storage.{seen_in}
 use Rattle.bh_schema.proofs.Storing.{bodied_still, on_ok, both, parts, inside_of, keeps, AreBoth, asked_before, asked_works, asked_inside, asked_same, wrote_within, wrote_opens, wrote_before, wrote_first}
-use Rattle.bh_schema.proofs.TenantSteps.{gives_of, works_of, holds_after}
+use Rattle.bh_schema.proofs.TenantSteps.{gives_of, bound_of, works_of, holds_after}
 use Rattle.bh_schema.proofs.KeySteps.{known_seen, no_tenant, no_key, a_key, removes_key, removes_from_nobody, removes_none, key_goes}
 use Rattle.bh_schema.proofs.host.Host.key_remove.Goals as goal
 
@@ -96,7 +97,8 @@ returns g c =
     key_goes _ old new t n it.0 (works clean) it.1 (held clean) in
     record {
       opens = wrote_opens old mid new w opens c.delete_key.ensures.within (on_ok _ c.in_ok-or_trouble-2.ensures.ok c.delete_key.ensures.opens);
-      working = λ clean. works_of _ t _ old new change (λ x. refl) (works clean) (held clean) (becomes clean);
+      working = λ clean. works_of _ t _ old new change (λ x. refl) (works clean) (held clean) (becomes clean)
+          (bound_of _ t (remove_key t n) Done _ old (used_stays_bounded.remove_key_bounded t n) (removes_key t n _ words (known clean).0 (known clean).1 (known clean).2) (works clean));
       within = keeps g.S.Store c.args.self.now _ refl
           (wrote_within old mid new w (on_ok _ c.in_ok-or_trouble.ensures.ok c.find_key.ensures.opens) c.delete_key.ensures.within);
       settings = (refl, c.delete_key.ensures.within.follows.limit ∙ w.follows.limit);

@@ -2,6 +2,7 @@ use Rattle.std.proofs.Common.{rules, arith, refl, ◌≡◌, ◌≤◌, ◌<◌,
 use Rattle.sqlite.specs.Held.{state}
 use Rattle.bh_view.specs.View.{with_latest}
 use Rattle.bh_view.specs.Becomes.{IsStamped}
+use Rattle.bh_view.proofs.BoundLemmas.{bounded_same}
 use Rattle.bh_storage.specs.Calls.{Stamps}
 use Rattle.bh_schema.specs.Rows.{with_stamp}
 use Rattle.bh_tables.specs.Typed.{Tables, tables_in}
@@ -59,7 +60,7 @@ returns-in-Some g c =
     rw h.settings (record {
       within = keeps g.S.Store c.args.self.now _ refl (wrote_within old mid new h.within h.opens w);
       opens = wrote_opens old mid new h.within h.opens w (on_ok _ c.in_ok-or_trouble.ensures.ok c.set_latest.ensures.opens);
-      working = λ clean. record { inside = (holds_seen _ _ new (holds clean)).1; sound = sound_still (seen_in l old).now (seen_in l new).now (works clean).sound (written clean).0.sound (bodied_still l old new change (λ x. refl) (works clean) (held clean)); limits = (written clean).0.limits ∙ (works clean).limits ∙ same_limits l new old };
+      working = λ clean. record { inside = (holds_seen _ _ new (holds clean)).1; sound = sound_still (seen_in l old).now (seen_in l new).now (works clean).sound (written clean).0.sound (bounded_same (seen_in l old).now (seen_in l new).now (written clean).0.views (works clean).sound.bounded) (bodied_still l old new change (λ x. refl) (works clean) (held clean)); limits = (written clean).0.limits ∙ (works clean).limits ∙ same_limits l new old };
       stamps = λ clean. subst (λ m. Stamps c.args.reading m (seen_in l old).now (seen_in l new).now) (sym same_read)
           (stamps_of (seen_in l old).now (seen_in l new).now c.args.reading c.in_ok-latest.latest (h.latest (before clean)) high c.requires.in_range (written clean).1 (written clean).0);
       unwritten = λ clean is. absurd (omega (arith, high, h.latest (before clean), is, same_read));

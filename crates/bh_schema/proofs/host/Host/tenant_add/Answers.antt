@@ -2,6 +2,7 @@ use Rattle.std.proofs.Common.{rules, ◌≡◌, ◌^◌, nat_le, true, false, No
 use Rattle.std.proofs.lemmas.Result.{IfOk-at_ok}
 use Rattle.sqlite.specs.Held.{state}
 use Rattle.bh_types.specs.Names.{is_tenant_name}
+use Rattle.bh_model.proofs.BoundLemmas.{used_stays_bounded}
 use Rattle.bh_model.specs.Operations.{Done, add_tenant}
 use Rattle.std.proofs.lemmas.Bool.{leb-true}
 use Rattle.bh_model.specs.State.{new_tenant}
@@ -12,7 +13,7 @@ use Rattle.bh_schema.specs.Layer.{standing, Holds}
 use Rattle.bh_schema.specs.Storage.{seen_in}
 use Rattle.bh_schema.specs.Rows.{tenant_numbers}
 use Rattle.bh_schema.proofs.Storing.{bodied_still, on_ok, both, parts, inside_of, keeps, AreBoth, asked_before, asked_works, asked_inside, asked_same, wrote_within, wrote_opens, wrote_before, wrote_first}
-use Rattle.bh_schema.proofs.TenantSteps.{none_of, tenant_seen, adds_tenant, tenant_exists, gives_of, works_of, tenant_becomes, holds_after}
+use Rattle.bh_schema.proofs.TenantSteps.{none_of, tenant_seen, adds_tenant, tenant_exists, gives_of, bound_of, works_of, tenant_becomes, holds_after}
 use Rattle.bh_schema.proofs.host.Host.tenant_add.Goals as goal
 
 pub find_tenant-requires : goal.find_tenant-requires
@@ -77,7 +78,8 @@ returns g c =
     record {
       within = keeps g.S.Store c.args.self.now _ refl (wrote_within old mid new asked opens wrote);
       opens = wrote_opens old mid new asked opens wrote (on_ok _ c.in_ok-or_trouble.ensures.ok c.insert_tenant.ensures.opens);
-      working = λ clean. works_of _ t _ old new change (λ x. refl) (works clean) (held clean) (becomes clean);
+      working = λ clean. works_of _ t _ old new change (λ x. refl) (works clean) (held clean) (becomes clean)
+          (bound_of _ t (add_tenant t c.args.quota) Done _ old (used_stays_bounded.add_tenant_bounded t c.args.quota) (adds_tenant t c.args.quota _ name few (none clean)) (works clean));
       settings = (refl, wrote.follows.limit ∙ asked.follows.limit);
       carries = λ clean. gives_of t (add_tenant t c.args.quota) Done _ (seen_in l old).now (seen_in l new).now (adds_tenant t c.args.quota _ name few (none clean)) (becomes clean)
           (bodied_still _ old new change (λ x. refl) (works clean) (held clean));

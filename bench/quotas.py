@@ -1,0 +1,70 @@
+#!/usr/bin/env python3
+"""Times what a quota and rules for uploads cost, in a host on a file that lies in memory.
+
+    bench/quotas.py [PROGRAM]        PROGRAM: crates/examples/out/examples
+
+A put of a byte under a new key and GET /?usage, where the tenant has 10, 1,000 and 10,000 objects; a put over an object of
+the same size, for which nothing is added up; and a GET of an object where the tenant has 0 and 10,000 live uploads in a
+bucket with a rule, none of them stale. Exit 1 where the last takes more than 1.3 times as long with uploads as without.
+"""
+import os
+import re
+import subprocess
+import sys
+import tempfile
+
+from events import line, request
+
+REQUESTS = 500
+GREATEST_RATIO = 1.3
+FOLDER = "/dev/shm" if os.path.isdir("/dev/shm") else None
+RULE = '{"Rules":[{"AbortIncompleteMultipartUpload":{"DaysAfterInitiation":1},"Status":"Enabled"}]}'
+
+
+def http(method, path, body=None):
+    return line({"at": 0, "http": request(method, "green$k1", "greensecret", path, body)})
+
+
+START = [
+    line({"at": 0, "op": "tenant-add", "tenant": "green", "quota": 1 << 40}),
+    line({"at": 0, "op": "key-add", "tenant": "green", "name": "k1", "secret": "greensecret"}),
+    http("PUT", "/plans", ""),
+    http("PUT", "/plans?lifecycle", RULE),
+    http("PUT", "/plans/one", "1"),
+]
+
+
+def microseconds(program, more, last):
+    """The time of one of the last requests."""
+    first = START + more
+    with tempfile.TemporaryDirectory(dir=FOLDER) as folder:
+        words = [program, "timed", os.path.join(folder, "host"), str(len(last))]
+        done = subprocess.run(words, input="".join(first + last).encode(), stdout=subprocess.PIPE)
+    times = [(int(count), int(spent)) for count, spent in re.findall(rb"^(\d+) events: (\d+) microseconds$", done.stdout, re.M)]
+    found = len(re.findall(rb"^HTTP/1.1 200 ", done.stdout, re.M))
+    if done.returncode != 0 or [count for count, _ in times] != [len(first), len(last)] or found != len(first) - 2 + len(last):
+        sys.exit(f"a request was answered otherwise than it should be: status {done.returncode}, {done.stdout[-300:]}")
+    return times[1][1] / len(last)
+
+
+def main():
+    program = sys.argv[1] if len(sys.argv) > 1 else "crates/examples/out/examples"
+    if not os.path.exists(program):
+        sys.exit(f"{program} isn't there: 'rt run' in crates/examples makes it")
+    shapes = [10, 1000, 10_000]
+    objects = {many: [http("PUT", f"/plans/k{n}", "") for n in range(many)] for many in shapes}
+    timed = {
+        "PUT of a new key": [http("PUT", f"/plans/new{n}", "x") for n in range(REQUESTS)],
+        "PUT of as many bytes as before": [http("PUT", "/plans/one", "2")] * REQUESTS,
+        "GET /?usage": [http("GET", "/?usage")] * 20,
+    }
+    print("microseconds a request".ljust(36) + "".join(f"{f'{many:,} objects':>18}" for many in shapes))
+    for kind, last in timed.items():
+        print(kind.ljust(36) + "".join(f"{microseconds(program, objects[many], last):>18.1f}" for many in shapes), flush=True)
+    gets = [http("GET", "/plans/one")] * 5000
+    few, many = (min(microseconds(program, [http("POST", f"/plans/u{n}?uploads", "") for n in range(uploads)], gets) for _ in range(3)) for uploads in (0, 10_000))
+    print(f"GET with no live upload {few:.1f}, with 10,000 {many:.1f}: {many / few:.2f} times")
+    sys.exit(0 if many <= GREATEST_RATIO * few else f"a GET takes more than {GREATEST_RATIO} times as long with 10,000 live uploads")
+
+
+main()

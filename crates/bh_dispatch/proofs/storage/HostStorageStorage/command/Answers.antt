@@ -1,0 +1,34 @@
+use Rattle.std.proofs.Common.{refl, sym}
+use Rattle.sqlite.specs.Held.{state}
+use Rattle.bh_event.specs.Events.{ShowUsage}
+use Rattle.bh_model.specs.Operations.{show_usage}
+use Rattle.bh_machine.proofs.Bounded.{ordered_bounded}
+use Rattle.bh_storage.specs.Answers.{answer_view}
+use Rattle.bh_schema.proofs.Storing.{both, parts, keeps}
+use Rattle.bh_dispatch.proofs.Storing.{seen_working, still_working, carried, stored, by_any}
+use Rattle.bh_dispatch.proofs.storage.HostStorageStorage.command.Goals as goal
+
+pub show_usage-requires : goal.show_usage-requires
+show_usage-requires g c clean = seen_working g.D.Digester.digest_of c.args.self.now.host.limits (state g.S.Store c.args.self.now.host.connection) (c.requires (parts clean))
+
+pub returns-in-Usage-clause-within : goal.returns-in-Usage-clause-within
+returns-in-Usage-clause-within g c = stored g.S.Store c.args.self.now _ (keeps g.S.Store c.args.self.now.host _ refl c.show_usage.ensures.within)
+
+pub returns-in-Usage-clause-working : goal.returns-in-Usage-clause-working
+returns-in-Usage-clause-working g c =
+    let digest = g.D.Digester.digest_of in
+    let old = state g.S.Store c.args.self.now.host.connection in
+    let new = state g.S.Store c.show_usage.new.connection in
+    let h = c.show_usage.ensures in
+    let t = c.as_str.result.now in
+    still_working digest c.args.self.now.host.limits old new answer_view t (show_usage t) c.show_usage.result (λ s bound. ordered_bounded s bound (ShowUsage t)) (λ clean. c.requires (parts (h.within.follows.clean (both clean)))) (by_any digest old new c.show_usage.result h.working) h.carries
+
+pub returns-in-Usage-clause-carries : goal.returns-in-Usage-clause-carries
+returns-in-Usage-clause-carries g c clean =
+    let digest = g.D.Digester.digest_of in
+    let old = state g.S.Store c.args.self.now.host.connection in
+    let new = state g.S.Store c.show_usage.new.connection in
+    let h = c.show_usage.ensures in
+    let t = c.as_str.result.now in
+    rw (c.in-Usage.is, sym c.as_str.ensures.value) (carried digest c.args.self.now.host.limits old new answer_view t (show_usage t) c.show_usage.result
+    (c.requires (parts (h.within.follows.clean (both clean)))) clean (by_any digest old new c.show_usage.result h.working) (h.carries (both clean)))

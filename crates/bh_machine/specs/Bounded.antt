@@ -1,0 +1,15 @@
+-- How much a tenant may come to use.
+use Rattle.std.specs.Prelude.{ℕ, List, Option}
+use Rattle.bh_model.specs.QuotaLaws.{IsBounded}
+use Rattle.bh_model.specs.Runs.{solo_state}
+use Rattle.bh_model.specs.State.{State, absent}
+use Rattle.bh_types.specs.Limits.{HostLimits}
+use Rattle.bh_machine.specs.Machine.{Act, step}
+
+-- no step, whatever its act is, takes a tenant above 2^60 bytes
+abbrev pub StepsStayBounded : Type 0
+StepsStayBounded = (limits : HostLimits) (now : ℕ) (act : Act) (s : Option State) → IsBounded s → IsBounded (step limits now act s).1
+
+-- so no run does that begins before the tenant was added
+abbrev pub RunsStayBounded : Type 0
+RunsStayBounded = (limits : HostLimits) (acts : List (ℕ × Act)) → IsBounded (solo_state (step limits) absent acts)

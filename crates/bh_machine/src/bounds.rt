@@ -1,0 +1,12 @@
+//! How much a tenant may come to use, each law the contract of a function that does nothing.
+ghost use Rattle.bh_machine.specs.Bounded.{StepsStayBounded, RunsStayBounded};
+
+/// No step of the machine takes a tenant above 2^60 bytes.
+pub fn steps_stay_bounded()
+    ensures { StepsStayBounded }
+{}
+
+/// Nor does any run from before the tenant was added.
+pub fn runs_stay_bounded()
+    ensures { RunsStayBounded }
+{}

@@ -1,0 +1,190 @@
+//! Whether a tenant's quota has room.
+ghost use Rattle.std.specs.Prelude.{◌≡◌, ◌+◌, ◌-◌, Ok, IfOk, OnOk};
+ghost use Rattle.bh_storage.specs.Calls.{Unless, Decides};
+ghost use Rattle.bh_view.specs.View.{view};
+ghost use Rattle.bh_schema.specs.Connections.{IsClean, tables, InTransaction, StaysWithin, StaysOpen, WasOpen, ChangesNothing};
+ghost use Rattle.bh_schema.specs.Working.{Works, StillWorks};
+ghost use Rattle.bh_objects.specs.Found as spec;
+ghost use Rattle.bh_objects.specs.Found.{bytes_in, mode_in, room_in, room_under, entry_numbers_in};
+
+use crate::heads::numbered_head;
+use crate::reads::{Numbers, new_numbers};
+use bh_core::quotas::fits_quota;
+use bh_schema::rows::sizes::{part_total, version_total};
+use bh_schema::rows::tenants::find_tenant;
+use bh_schema::trouble::or_trouble;
+use bh_storage::error::{StepError, Trouble};
+use bh_types::bucket::BucketName;
+use bh_types::bucket_state::BucketState;
+use bh_types::key::ObjectKey;
+use bh_types::names::TenantName;
+use bh_types::refusal::Refusal;
+use sqlite::{Alter, Connection};
+
+/// How many bytes a tenant's versions and parts have: two sums over the tenant's own rows.
+fn used_bytes<S: Alter>(connection: &mut Connection<S>, tenant: &TenantName) -> Result<u64, Trouble>
+    requires { InTransaction S.Store connection.old }
+    ensures within { StaysWithin S.Store connection.old connection.new }
+    ensures opens { OnOk result (WasOpen S.Store connection.old connection.new) }
+    ensures same { OnOk result (ChangesNothing S.Store connection.old connection.new) }
+    ensures used { IfOk result (λ n. IsClean S.Store connection.new
+        → n ≡ bytes_in tenant.now (tables S.Store connection.old)) }
+{
+    let versions = or_trouble(version_total(connection, tenant.as_str()))?;
+    let parts = or_trouble(part_total(connection, tenant.as_str()))?;
+    match versions.checked_add(parts) {
+        Some(total) => Ok(total),
+        None => Err(Trouble::Store),
+    }
+}
+
+/// What is used once so many bytes are replaced by so many.
+fn used_after(before: u64, replaced: u64, added: u64) -> Result<u64, Trouble>
+    ensures { IfOk result (λ after. after ≡ before + added - replaced) }
+{
+    let Some(total) = before.checked_add(added) else {
+        return Err(Trouble::Store);
+    };
+    match total.checked_sub(replaced) {
+        Some(after) => Ok(after),
+        None => Err(Trouble::Store),
+    }
+}
+
+/// Whether a tenant of this quota may replace so many bytes by so many, by what is used: QuotaExceeded.
+fn require_sum<S: Alter>(
+    connection: &mut Connection<S>,
+    tenant: &TenantName,
+    quota: u64,
+    replaced: u64,
+    added: u64,
+) -> Result<(), StepError<Refusal>>
+    requires { Works S.Store connection.old }
+    ensures within { StaysWithin S.Store connection.old connection.new }
+    ensures opens { Unless result (StaysOpen S.Store connection.old connection.new) }
+    ensures working { Unless result (StillWorks S.Store connection.old connection.new) }
+    ensures decides { IsClean S.Store connection.new
+        → Decides (λ _. tt) (room_under quota (bytes_in tenant.now (tables S.Store connection.old)) replaced added)
+        (tables S.Store connection.old) (tables S.Store connection.new) result }
+{
+    let before = used_bytes(connection, tenant)?;
+    let after = used_after(before, replaced, added)?;
+    if fits_quota(before, after, quota) {
+        Ok(())
+    } else {
+        Err(StepError::Refused(Refusal::QuotaExceeded))
+    }
+}
+
+/// Whether a tenant of this quota may replace so many bytes by so many: QuotaExceeded. What takes no more than it
+/// replaces is let through, and nothing is added up for it.
+fn require_under<S: Alter>(
+    connection: &mut Connection<S>,
+    tenant: &TenantName,
+    quota: u64,
+    replaced: u64,
+    added: u64,
+) -> Result<(), StepError<Refusal>>
+    requires { Works S.Store connection.old }
+    ensures within { StaysWithin S.Store connection.old connection.new }
+    ensures opens { Unless result (StaysOpen S.Store connection.old connection.new) }
+    ensures working { Unless result (StillWorks S.Store connection.old connection.new) }
+    ensures decides { IsClean S.Store connection.new
+        → Decides (λ _. tt) (room_under quota (bytes_in tenant.now (tables S.Store connection.old)) replaced added)
+        (tables S.Store connection.old) (tables S.Store connection.new) result }
+{
+    if added <= replaced {
+        Ok(())
+    } else {
+        require_sum(connection, tenant, quota, replaced, added)
+    }
+}
+
+/// Whether a tenant may replace so many bytes by so many: QuotaExceeded.
+pub fn require_room<S: Alter>(
+    connection: &mut Connection<S>,
+    tenant: &TenantName,
+    replaced: u64,
+    added: u64,
+) -> Result<(), StepError<Refusal>>
+    requires { Works S.Store connection.old }
+    ensures within { StaysWithin S.Store connection.old connection.new }
+    ensures opens { Unless result (StaysOpen S.Store connection.old connection.new) }
+    ensures working { Unless result (StillWorks S.Store connection.old connection.new) }
+    ensures decides { IsClean S.Store connection.new
+        → Decides (λ _. tt) (room_in replaced added (view (tables S.Store connection.old) tenant.now))
+        (tables S.Store connection.old) (tables S.Store connection.new) result }
+{
+    match or_trouble(find_tenant(connection, tenant.as_str()))? {
+        Some(numbers) => require_under(connection, tenant, numbers.quota, replaced, added),
+        None => Err(StepError::Refused(Refusal::NoSuchBucket)),
+    }
+}
+
+/// The bytes of the entry `null` of a key, if it is there.
+fn null_bytes<S: Alter>(
+    connection: &mut Connection<S>,
+    tenant: &TenantName,
+    bucket: &BucketName,
+    key: &ObjectKey,
+) -> Result<u64, Trouble>
+    requires { InTransaction S.Store connection.old }
+    ensures within { StaysWithin S.Store connection.old connection.new }
+    ensures opens { OnOk result (StaysOpen S.Store connection.old connection.new) }
+    ensures same { OnOk result (ChangesNothing S.Store connection.old connection.new) }
+    ensures size { IfOk result (λ n. IsClean S.Store connection.new
+        → n ≡ spec.null_bytes tenant.now bucket.now key.now (tables S.Store connection.old)) }
+{
+    match numbered_head(connection, tenant, bucket, key, 0)? {
+        Some(head) => Ok(head.size),
+        None => Ok(0),
+    }
+}
+
+/// The bytes that a new entry of a key replaces in a bucket of this state.
+fn replaced_bytes<S: Alter>(
+    connection: &mut Connection<S>,
+    tenant: &TenantName,
+    bucket: &BucketName,
+    key: &ObjectKey,
+    mode: BucketState,
+) -> Result<u64, Trouble>
+    requires { InTransaction S.Store connection.old }
+    ensures within { StaysWithin S.Store connection.old connection.new }
+    ensures opens { OnOk result (StaysOpen S.Store connection.old connection.new) }
+    ensures same { OnOk result (ChangesNothing S.Store connection.old connection.new) }
+    ensures size { IfOk result (λ n. IsClean S.Store connection.new
+        → n ≡ spec.replaced_bytes mode tenant.now bucket.now key.now (tables S.Store connection.old)) }
+{
+    match mode {
+        BucketState::Enabled => Ok(0),
+        BucketState::Unversioned => null_bytes(connection, tenant, bucket, key),
+        BucketState::Suspended => null_bytes(connection, tenant, bucket, key),
+    }
+}
+
+/// The numbers of a new entry of a key with so many bytes, in a bucket of this state: QuotaExceeded,
+/// CounterExhausted.
+pub fn entry_numbers<S: Alter>(
+    connection: &mut Connection<S>,
+    tenant: &TenantName,
+    bucket: &BucketName,
+    key: &ObjectKey,
+    mode: BucketState,
+    added: u64,
+) -> Result<Numbers, StepError<Refusal>>
+    requires working { Works S.Store connection.old }
+    requires there { IsClean S.Store connection.old
+        → mode_in bucket.now (view (tables S.Store connection.old) tenant.now) ≡ Ok mode }
+    ensures within { StaysWithin S.Store connection.old connection.new }
+    ensures opens { Unless result (StaysOpen S.Store connection.old connection.new) }
+    ensures working { Unless result (StillWorks S.Store connection.old connection.new) }
+    ensures decides { IsClean S.Store connection.new
+        → Decides (λ numbers. (numbers.before, numbers.after))
+        (entry_numbers_in mode bucket.now key.now added (view (tables S.Store connection.old) tenant.now))
+        (tables S.Store connection.old) (tables S.Store connection.new) result }
+{
+    let replaced = replaced_bytes(connection, tenant, bucket, key, mode)?;
+    require_room(connection, tenant, replaced, added)?;
+    new_numbers(connection, tenant, mode)
+}

@@ -1,0 +1,94 @@
+ghost use Rattle.std.specs.Prelude.{◌≡◌, IfOk, OnOk};
+ghost use Rattle.bh_schema.specs.Connections.{IsClean, tables, InTransaction, StaysWithin, StaysOpen, ChangesNothing};
+ghost use Rattle.bh_usage.specs.Counted.{entries_in, bytes_in, rows_in};
+
+use bh_schema::rows::counts::{
+    bucket_count, marker_count, object_count, upload_count, version_count,
+};
+use bh_schema::rows::sizes::{part_total, version_total};
+use sqlite::{Alter, Connection, Error};
+
+/// How many entries a tenant's keys have.
+#[derive(Clone, Copy)]
+pub struct EntryCounts {
+    /// Delete markers.
+    pub markers: u64,
+    /// Keys whose newest entry is no delete marker.
+    pub objects: u64,
+    /// Delete markers left out.
+    pub versions: u64,
+}
+
+/// The bytes that a tenant stores.
+#[derive(Clone, Copy)]
+pub struct ByteTotals {
+    pub parts: u64,
+    pub versions: u64,
+}
+
+/// What a tenant's rows come to.
+#[derive(Clone, Copy)]
+pub struct RowCounts {
+    pub buckets: u64,
+    pub bytes: ByteTotals,
+    pub entries: EntryCounts,
+    pub uploads: u64,
+}
+
+fn entry_counts<S: Alter>(
+    connection: &mut Connection<S>,
+    tenant: &str,
+) -> Result<EntryCounts, Error>
+    requires inside { InTransaction S.Store connection.old }
+    ensures within { StaysWithin S.Store connection.old connection.new }
+    ensures opens { OnOk result (StaysOpen S.Store connection.old connection.new) }
+    ensures same { OnOk result (ChangesNothing S.Store connection.old connection.new) }
+    ensures counts { IfOk result (λ counts. IsClean S.Store connection.new
+        → counts ≡ entries_in tenant.now (tables S.Store connection.old)) }
+{
+    let markers = marker_count(connection, tenant)?;
+    let objects = object_count(connection, tenant)?;
+    let versions = version_count(connection, tenant)?;
+    Ok(EntryCounts {
+        markers,
+        objects,
+        versions,
+    })
+}
+
+fn byte_totals<S: Alter>(connection: &mut Connection<S>, tenant: &str) -> Result<ByteTotals, Error>
+    requires inside { InTransaction S.Store connection.old }
+    ensures within { StaysWithin S.Store connection.old connection.new }
+    ensures opens { OnOk result (StaysOpen S.Store connection.old connection.new) }
+    ensures same { OnOk result (ChangesNothing S.Store connection.old connection.new) }
+    ensures totals { IfOk result (λ totals. IsClean S.Store connection.new
+        → totals ≡ bytes_in tenant.now (tables S.Store connection.old)) }
+{
+    let parts = part_total(connection, tenant)?;
+    let versions = version_total(connection, tenant)?;
+    Ok(ByteTotals { parts, versions })
+}
+
+/// What a tenant's rows come to. The store refuses a sum of bytes of 2^63 or more.
+pub fn row_counts<S: Alter>(
+    connection: &mut Connection<S>,
+    tenant: &str,
+) -> Result<RowCounts, Error>
+    requires inside { InTransaction S.Store connection.old }
+    ensures within { StaysWithin S.Store connection.old connection.new }
+    ensures opens { OnOk result (StaysOpen S.Store connection.old connection.new) }
+    ensures same { OnOk result (ChangesNothing S.Store connection.old connection.new) }
+    ensures counts { IfOk result (λ counts. IsClean S.Store connection.new
+        → counts ≡ rows_in tenant.now (tables S.Store connection.old)) }
+{
+    let buckets = bucket_count(connection, tenant)?;
+    let bytes = byte_totals(connection, tenant)?;
+    let entries = entry_counts(connection, tenant)?;
+    let uploads = upload_count(connection, tenant)?;
+    Ok(RowCounts {
+        buckets,
+        bytes,
+        entries,
+        uploads,
+    })
+}

@@ -1,0 +1,76 @@
+ghost use Rattle.std.specs.Prelude.{◌≡◌, IfOk};
+ghost use Rattle.bh_docs.specs.Documents.{usage_view};
+ghost use Rattle.bh_model.specs.Operations as machine;
+ghost use Rattle.bh_storage.specs.Answers.{used_answer};
+ghost use Rattle.bh_storage.specs.Calls.{Unless, Carries, Decides};
+ghost use Rattle.bh_view.specs.View.{view};
+ghost use Rattle.bh_schema.specs.Connections.{IsClean, tables, InTransaction, StaysWithin, StaysOpen, ChangesNothing};
+ghost use Rattle.bh_schema.specs.Working.{Works, StillWorks};
+ghost use Rattle.bh_usage.specs.Counted.{quota_in, usage_told};
+
+use crate::counts::{RowCounts, row_counts};
+use bh_docs::Usage;
+use bh_schema::rows::tenants::find_tenant;
+use bh_schema::trouble::or_trouble;
+use bh_storage::error::{StepError, Trouble};
+use bh_types::names::TenantName;
+use bh_types::refusal::Refusal;
+use sqlite::{Alter, Connection};
+
+/// A tenant's quota, in bytes: NoSuchTenant.
+fn quota_of<S: Alter>(
+    connection: &mut Connection<S>,
+    tenant: &TenantName,
+) -> Result<u64, StepError<Refusal>>
+    requires inside { InTransaction S.Store connection.old }
+    ensures within { StaysWithin S.Store connection.old connection.new }
+    ensures opens { Unless result (StaysOpen S.Store connection.old connection.new) }
+    ensures same { Unless result (ChangesNothing S.Store connection.old connection.new) }
+    ensures decides { IsClean S.Store connection.new
+        → Decides (λ quota. quota) (quota_in (view (tables S.Store connection.old) tenant.now))
+        (tables S.Store connection.old) (tables S.Store connection.new) result }
+{
+    match or_trouble(find_tenant(connection, tenant.as_str()))? {
+        Some(numbers) => Ok(numbers.quota),
+        None => Err(StepError::Refused(Refusal::NoSuchTenant)),
+    }
+}
+
+/// The usage of a tenant of this quota whose rows come to these counts. Bytes past 2^64 can't be told.
+fn told(quota: u64, rows: RowCounts) -> Result<Usage, Trouble>
+    ensures { IfOk result (λ usage. usage_view usage ≡ usage_told quota rows) }
+{
+    let Some(bytes) = rows.bytes.versions.checked_add(rows.bytes.parts) else {
+        return Err(Trouble::Store);
+    };
+    Ok(Usage {
+        buckets: rows.buckets,
+        bytes,
+        markers: rows.entries.markers,
+        objects: rows.entries.objects,
+        part_bytes: rows.bytes.parts,
+        quota,
+        uploads: rows.uploads,
+        version_bytes: rows.bytes.versions,
+        versions: rows.entries.versions,
+    })
+}
+
+/// What a tenant uses, of its own rows alone: NoSuchTenant. A sum of bytes that can't be told is trouble of the
+/// store.
+pub fn usage<S: Alter>(
+    connection: &mut Connection<S>,
+    tenant: &TenantName,
+) -> Result<Usage, StepError<Refusal>>
+    requires working { Works S.Store connection.old }
+    ensures within { StaysWithin S.Store connection.old connection.new }
+    ensures opens { Unless result (StaysOpen S.Store connection.old connection.new) }
+    ensures working { Unless result (StillWorks S.Store connection.old connection.new) }
+    ensures carries { IsClean S.Store connection.new
+        → Carries used_answer tenant.now machine.tell_usage
+        (tables S.Store connection.old) (tables S.Store connection.new) result }
+{
+    let quota = quota_of(connection, tenant)?;
+    let rows = or_trouble(row_counts(connection, tenant.as_str()))?;
+    Ok(told(quota, rows)?)
+}
