@@ -17,17 +17,18 @@ from events import line, request
 
 REQUESTS = 500
 GREATEST_RATIO = 1.3
+NOW = 1_700_000_000
 FOLDER = "/dev/shm" if os.path.isdir("/dev/shm") else None
 RULE = '{"Rules":[{"AbortIncompleteMultipartUpload":{"DaysAfterInitiation":1},"Status":"Enabled"}]}'
 
 
 def http(method, path, body=None):
-    return line({"at": 0, "http": request(method, "green$k1", "greensecret", path, body)})
+    return line({"at": NOW, "http": request(method, "green$k1", "greensecret", path, body)})
 
 
 START = [
-    line({"at": 0, "op": "tenant-add", "tenant": "green", "quota": 1 << 40}),
-    line({"at": 0, "op": "key-add", "tenant": "green", "name": "k1", "secret": "greensecret"}),
+    line({"at": NOW, "op": "tenant-add", "tenant": "green", "quota": 1 << 40}),
+    line({"at": NOW, "op": "key-add", "tenant": "green", "name": "k1", "secret": "greensecret"}),
     http("PUT", "/plans", ""),
     http("PUT", "/plans?lifecycle", RULE),
     http("PUT", "/plans/one", "1"),
