@@ -1,5 +1,5 @@
 ghost use Rattle.std.specs.Prelude.{◌≡◌, List, map, length, true, IfOk, IfErr, OnOk};
-ghost use Rattle.std.specs.List.{AllByRecursion};
+ghost use Rattle.std.specs.List.{AllByRecursion, list_any};
 ghost use Rattle.sqlite_keyed.specs.Lists.{delete_where};
 ghost use Rattle.bh_tables.specs.Schema.{Octets};
 ghost use Rattle.bh_tables.specs.Typed.{BlockRow, rebodied};
@@ -7,7 +7,7 @@ ghost use Rattle.bh_tables.specs.Shown.{block_name, is_block, is_unreferenced, s
 ghost use Rattle.bh_view.specs.Blocks.{blocks_without, AreDigests};
 ghost use Rattle.bh_view.specs.Sound.{IsSound};
 ghost use Rattle.bh_view.specs.Becomes.{KeepsBodies};
-ghost use Rattle.bh_schema.specs.Connections.{IsOpen, IsClean, tables, InTransaction, StaysWithin, WasOpen, StaysOpen, Becomes, IsTrouble, IsTroubleIf};
+ghost use Rattle.bh_schema.specs.Connections.{IsOpen, IsClean, tables, InTransaction, StaysWithin, WasOpen, StaysOpen, ChangesNothing, Becomes, IsTrouble, IsTroubleIf};
 
 use crate::rows::{delete_block, read_name, unreferenced_rows};
 use sqlite::{Alter, Connection, Error, Row};
@@ -66,4 +66,21 @@ pub fn remove_unreferenced<S: Alter>(
     let rows = unreferenced_rows(connection, u64::from(limit))?;
     remove_all(connection, &rows)?;
     Ok(rows.len())
+}
+
+/// Whether a block is there that no reference names.
+pub fn any_unreferenced<S: Alter>(connection: &mut Connection<S>) -> Result<bool, Error>
+    requires inside { InTransaction S.Store connection.old }
+    ensures within { StaysWithin S.Store connection.old connection.new }
+    ensures opens { OnOk result (WasOpen S.Store connection.old connection.new) }
+    ensures same { OnOk result (ChangesNothing S.Store connection.old connection.new) }
+    ensures found { IfOk result (λ found. IsClean S.Store connection.new
+        → found ≡ list_any (is_unreferenced (tables S.Store connection.old).refs) (tables S.Store connection.old).blocks) }
+    ensures trouble { IfErr result (IsTrouble S.Store connection.old connection.new) }
+{
+    let rows = unreferenced_rows(connection, 1)?;
+    match rows.first() {
+        None => Ok(false),
+        Some(_row) => Ok(true),
+    }
 }

@@ -20,3 +20,4 @@ pub mod CurrentText
 pub mod UploadTexts
 pub mod PartTexts
 pub mod HostTests
+pub mod DueText

@@ -5,3 +5,4 @@ pub mod Bodies
 pub mod Typed
 pub mod Shown
 pub mod Hosts
+pub mod Due

@@ -13,4 +13,5 @@ pub mod purge;
 pub mod quotas;
 pub mod reads;
 pub mod rows;
+pub mod stale;
 pub mod writes;

@@ -22,7 +22,7 @@ use sqlite::{Alter, Connection};
 use std::alloc::Global;
 
 /// A number that a column can hold.
-fn in_range(number: u64) -> Result<u64, Trouble>
+pub fn in_range(number: u64) -> Result<u64, Trouble>
     ensures same { IfOk result (λ n. n ≡ number) }
     ensures small { IfOk result (λ n. n < 2 ^ 62) }
 {
@@ -113,7 +113,7 @@ fn stale_numbers<S: Alter>(
 }
 
 /// Takes a tenant's upload of a number away with its parts, if it is there.
-fn remove_upload<S: Alter>(
+pub fn remove_upload<S: Alter>(
     connection: &mut Connection<S>,
     alloc: Global,
     tenant: &TenantName,

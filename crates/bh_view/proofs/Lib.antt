@@ -46,3 +46,5 @@ pub mod UploadChanges
 pub mod PartChanges
 pub mod QuotaLemmas
 pub mod BoundLemmas
+pub mod SweepLemmas
+pub mod DueLemmas

@@ -6,4 +6,5 @@ pub mod Bodies
 pub mod Becomes
 pub mod Put
 pub mod Wanted
+pub mod Sweep
 pub mod Laws

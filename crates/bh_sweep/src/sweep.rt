@@ -1,0 +1,94 @@
+//! A sweep.
+ghost use Rattle.std.specs.Prelude.{◌≡◌, not, ◌&&◌, length, IfOk, OnOk};
+ghost use Rattle.bh_model.specs.State.{Octets};
+ghost use Rattle.bh_model.specs.Runs.{purged_tenant};
+ghost use Rattle.bh_tables.specs.Shown.{unreferenced};
+ghost use Rattle.bh_view.specs.Becomes.{KeepsBodies};
+ghost use Rattle.bh_view.specs.Blocks.{AreDigests};
+ghost use Rattle.bh_view.specs.Sweep.{uploads_swept, blocks_swept, without_blocks, swept, is_complete};
+ghost use Rattle.bh_view.specs.View.{view};
+ghost use Rattle.bh_schema.specs.Connections.{IsClean, tables, InTransaction, StaysWithin, StaysOpen};
+ghost use Rattle.bh_schema.specs.Working.{Works, StillWorksBy};
+
+use bh_blocks::removal::{any_unreferenced, remove_unreferenced};
+use bh_schema::trouble::or_trouble;
+use bh_storage::error::Trouble;
+use bh_types::moment::Moment;
+use bh_uploads::stale::{any_stale, remove_stale};
+use sqlite::{Alter, Connection};
+use std::alloc::Global;
+
+/// What a sweep removed.
+#[derive(Clone, Copy, Debug, PartialEq, Eq)]
+pub struct SweepReport {
+    /// So many stale uploads.
+    pub uploads: u32,
+    /// So many blocks that nothing referred to.
+    pub blocks: u32,
+    /// Nothing that was due is left.
+    pub complete: bool,
+}
+
+/// Takes the first blocks away that nothing refers to, and tells how many.
+fn remove_blocks<S: Alter>(connection: &mut Connection<S>, limit: u32) -> Result<u32, Trouble>
+    requires { Works S.Store connection.old }
+    ensures within { StaysWithin S.Store connection.old connection.new }
+    ensures opens { OnOk result (StaysOpen S.Store connection.old connection.new) }
+    ensures inside { OnOk result (InTransaction S.Store connection.new) }
+    ensures removed { OnOk result (IsClean S.Store connection.new → tables S.Store connection.new ≡ without_blocks
+        (unreferenced limit (tables S.Store connection.old).refs (tables S.Store connection.old).blocks) (tables S.Store connection.old)) }
+    ensures count { IfOk result (λ count. IsClean S.Store connection.new
+        → count ≡ length (unreferenced limit (tables S.Store connection.old).refs (tables S.Store connection.old).blocks)) }
+    ensures keeps { (digest : Octets → Octets) → OnOk result (IsClean S.Store connection.new
+        → AreDigests digest (tables S.Store connection.old).blocks
+        → KeepsBodies digest (tables S.Store connection.old) (tables S.Store connection.new)) }
+{
+    let removed = or_trouble(remove_unreferenced(connection, limit))?;
+    let Ok(count) = u32::try_from(removed) else {
+        return Err(Trouble::Store);
+    };
+    Ok(count)
+}
+
+fn neither(stale: bool, left: bool) -> bool
+    ensures { result ≡ (not stale && not left) }
+{
+    !stale && !left
+}
+
+/// Takes the first of what is due at a moment away, at most `limit` of it: the stale uploads of all tenants by tenant
+/// and number with their parts, and then the blocks that nothing refers to by digest and ordinal.
+pub fn sweep<S: Alter>(
+    connection: &mut Connection<S>,
+    alloc: Global,
+    at: Moment,
+    limit: u32,
+) -> Result<SweepReport, Trouble>
+    requires { Works S.Store connection.old }
+    ensures within { StaysWithin S.Store connection.old connection.new }
+    ensures opens { OnOk result (StaysOpen S.Store connection.old connection.new) }
+    ensures swept { OnOk result (IsClean S.Store connection.new
+        → tables S.Store connection.new ≡ swept at limit (tables S.Store connection.old)) }
+    ensures uploads { IfOk result (λ report. IsClean S.Store connection.new
+        → report.uploads ≡ length (uploads_swept at limit (tables S.Store connection.old))) }
+    ensures blocks { IfOk result (λ report. IsClean S.Store connection.new
+        → report.blocks ≡ length (blocks_swept at limit (tables S.Store connection.old))) }
+    ensures complete { IfOk result (λ report. IsClean S.Store connection.new
+        → report.complete ≡ is_complete at limit (tables S.Store connection.old)) }
+    ensures working { (digest : Octets → Octets) → OnOk result (AreDigests digest (tables S.Store connection.old).blocks
+        → StillWorksBy S.Store digest connection.old connection.new) }
+    ensures purged { (digest : Octets → Octets) → OnOk result (IsClean S.Store connection.new
+        → AreDigests digest (tables S.Store connection.old).blocks → (t : Octets)
+        → purged_tenant (view (tables S.Store connection.new) t) at ≡ purged_tenant (view (tables S.Store connection.old) t) at) }
+{
+    let uploads = remove_stale(connection, alloc, at, limit)?;
+    let stale = any_stale(connection, at)?;
+    let blocks = remove_blocks(connection, limit.saturating_sub(uploads))?;
+    let left = or_trouble(any_unreferenced(connection))?;
+    let complete = neither(stale, left);
+    Ok(SweepReport {
+        uploads,
+        blocks,
+        complete,
+    })
+}

@@ -1,0 +1,167 @@
+//! The stale uploads of all tenants.
+ghost use Rattle.std.specs.Prelude.{◌≡◌, ◌<◌, ◌^◌, List, map, length, IfOk, IfErr, OnOk};
+ghost use Rattle.std.specs.List.{list_any};
+ghost use Rattle.std.specs.String.{string_bytes};
+ghost use Rattle.bh_tables.specs.Due.{shown_owner, past_uploads};
+ghost use Rattle.bh_tables.specs.Typed.{UploadRow as Stored};
+ghost use Rattle.bh_view.specs.Grouped.{same_number};
+ghost use Rattle.bh_view.specs.View.{without_uploads};
+ghost use Rattle.bh_view.specs.Sweep.{is_due, uploads_swept, without_each};
+ghost use Rattle.bh_schema.specs.Connections.{IsClean, tables, InTransaction, StaysWithin, WasOpen, StaysOpen, ChangesNothing, IsTrouble};
+ghost use Rattle.bh_schema.specs.Working.{Works, StillWorks};
+
+use crate::purge::{in_range, remove_upload};
+use bh_core::uploads::stale_before;
+use bh_schema::rows::number::number;
+use bh_schema::trouble::or_trouble;
+use bh_storage::error::Trouble;
+use bh_types::moment::Moment;
+use bh_types::names::TenantName;
+use sqlite::{Alter, Connection, Error, Row};
+use std::alloc::Global;
+
+/// Whose an upload is, and its number.
+#[derive(Drop)]
+struct UploadOwner {
+    tenant: String,
+    upload: u64,
+}
+
+fn read_owner(row: &Row) -> Result<UploadOwner, Error>
+    ensures tenant { IfOk result (λ owner. (u : Stored) → row.now ≡ shown_owner u → string_bytes owner.tenant ≡ u.tenant) }
+    ensures upload { IfOk result (λ owner. (u : Stored) → row.now ≡ shown_owner u → owner.upload ≡ u.upload) }
+{
+    Ok(UploadOwner {
+        tenant: row.get(0)?,
+        upload: row.get(1)?,
+    })
+}
+
+/// At most `limit` of the uploads that were begun so many days before a moment as the rules of their buckets say.
+fn past_rows<S: Alter>(
+    connection: &mut Connection<S>,
+    moment: u64,
+    limit: u64,
+) -> Result<Vec<Row>, Error>
+    requires inside { InTransaction S.Store connection.old }
+    requires moment { moment < 2 ^ 63 }
+    requires limit { limit < 2 ^ 63 }
+    ensures within { StaysWithin S.Store connection.old connection.new }
+    ensures opens { OnOk result (WasOpen S.Store connection.old connection.new) }
+    ensures same { OnOk result (ChangesNothing S.Store connection.old connection.new) }
+    ensures rows { IfOk result (λ rows. IsClean S.Store connection.new → rows.items ≡ map shown_owner
+        (past_uploads limit moment (tables S.Store connection.old).buckets (tables S.Store connection.old).uploads)) }
+    ensures trouble { IfErr result (IsTrouble S.Store connection.old connection.new) }
+{
+    connection.query_all(
+        "SELECT tenant, upload FROM uploads WHERE EXISTS (SELECT 1 FROM buckets WHERE buckets.tenant = uploads.tenant AND buckets.bucket = uploads.bucket AND uploads.begun + 86400 * buckets.days < ?1) ORDER BY tenant, upload, rowid LIMIT ?2",
+        &[number(moment), number(limit)],
+    )
+}
+
+/// Whose the first stale uploads of all tenants are, and their numbers.
+fn stale_rows<S: Alter>(
+    connection: &mut Connection<S>,
+    at: Moment,
+    limit: u32,
+) -> Result<Vec<Row>, Trouble>
+    requires { Works S.Store connection.old }
+    ensures within { StaysWithin S.Store connection.old connection.new }
+    ensures opens { OnOk result (StaysOpen S.Store connection.old connection.new) }
+    ensures same { OnOk result (ChangesNothing S.Store connection.old connection.new) }
+    ensures rows { IfOk result (λ rows. IsClean S.Store connection.new
+        → rows.items ≡ map shown_owner (uploads_swept at limit (tables S.Store connection.old))) }
+{
+    let today = in_range(stale_before(0, at))?;
+    let rows = or_trouble(past_rows(connection, today, u64::from(limit)))?;
+    Ok(rows)
+}
+
+/// The name that a text is.
+fn tenant_of(alloc: Global, text: &str) -> Result<TenantName, Trouble>
+    ensures { IfOk result (λ name. name ≡ text.now) }
+{
+    match TenantName::read(alloc, text)? {
+        None => Err(Trouble::Store),
+        Some(name) => Ok(name),
+    }
+}
+
+/// Takes the upload away that a row names.
+fn remove_row<S: Alter>(
+    connection: &mut Connection<S>,
+    alloc: Global,
+    row: &Row,
+) -> Result<(), Trouble>
+    requires { Works S.Store connection.old }
+    ensures within { StaysWithin S.Store connection.old connection.new }
+    ensures opens { OnOk result (StaysOpen S.Store connection.old connection.new) }
+    ensures working { OnOk result (StillWorks S.Store connection.old connection.new) }
+    ensures removed { OnOk result ((u : Stored) → row.now ≡ shown_owner u → IsClean S.Store connection.new
+        → tables S.Store connection.new ≡ without_uploads u.tenant (λ n. same_number n u.upload) (tables S.Store connection.old)) }
+{
+    let owner = or_trouble(read_owner(row))?;
+    let tenant = tenant_of(alloc, owner.tenant.as_str())?;
+    remove_upload(connection, alloc, &tenant, owner.upload)?;
+    Ok(())
+}
+
+/// Takes the uploads away that rows name.
+fn remove_rows<S: Alter>(
+    connection: &mut Connection<S>,
+    alloc: Global,
+    rows: &[Row],
+) -> Result<(), Trouble>
+    requires { Works S.Store connection.old }
+    ensures within { StaysWithin S.Store connection.old connection.new }
+    ensures opens { OnOk result (StaysOpen S.Store connection.old connection.new) }
+    ensures working { OnOk result (StillWorks S.Store connection.old connection.new) }
+    ensures removed { OnOk result ((us : List Stored) → rows.now ≡ map shown_owner us → IsClean S.Store connection.new
+        → tables S.Store connection.new ≡ without_each us (tables S.Store connection.old)) }
+{
+    for row in rows {
+        remove_row(connection, alloc, row)?;
+    }
+    Ok(())
+}
+
+/// Takes the first uploads of all tenants away that are stale at a moment, by tenant and number and at most `limit` of
+/// them, and tells how many: their parts go, and the references of these to blocks, and no block.
+pub fn remove_stale<S: Alter>(
+    connection: &mut Connection<S>,
+    alloc: Global,
+    at: Moment,
+    limit: u32,
+) -> Result<u32, Trouble>
+    requires { Works S.Store connection.old }
+    ensures within { StaysWithin S.Store connection.old connection.new }
+    ensures opens { OnOk result (StaysOpen S.Store connection.old connection.new) }
+    ensures working { OnOk result (StillWorks S.Store connection.old connection.new) }
+    ensures removed { OnOk result (IsClean S.Store connection.new → tables S.Store connection.new
+        ≡ without_each (uploads_swept at limit (tables S.Store connection.old)) (tables S.Store connection.old)) }
+    ensures count { IfOk result (λ count. IsClean S.Store connection.new
+        → count ≡ length (uploads_swept at limit (tables S.Store connection.old))) }
+{
+    let rows = stale_rows(connection, at, limit)?;
+    remove_rows(connection, alloc, &rows)?;
+    match u32::try_from(rows.len()) {
+        Ok(count) => Ok(count),
+        Err(_wide) => Err(Trouble::Store),
+    }
+}
+
+/// Whether an upload of any tenant is stale at a moment.
+pub fn any_stale<S: Alter>(connection: &mut Connection<S>, at: Moment) -> Result<bool, Trouble>
+    requires { Works S.Store connection.old }
+    ensures within { StaysWithin S.Store connection.old connection.new }
+    ensures opens { OnOk result (StaysOpen S.Store connection.old connection.new) }
+    ensures same { OnOk result (ChangesNothing S.Store connection.old connection.new) }
+    ensures found { IfOk result (λ found. IsClean S.Store connection.new
+        → found ≡ list_any (is_due at (tables S.Store connection.old)) (tables S.Store connection.old).uploads) }
+{
+    let rows = stale_rows(connection, at, 1)?;
+    match rows.first() {
+        None => Ok(false),
+        Some(_row) => Ok(true),
+    }
+}
