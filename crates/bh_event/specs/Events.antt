@@ -22,10 +22,12 @@ tenant_of (AddKey tenant name secret) = tenant
 tenant_of (RemoveKey tenant name) = tenant
 tenant_of (ShowUsage tenant) = tenant
 
--- the bytes of a request, or an order
+-- the bytes of a request, an order, or what an operator asks about all tenants: a sweep that removes at most so many, or a report
 pub data Message : Type 0 where
   Requested : (bytes : List ℕ) → Message
   Ordered : (order : Order) → Message
+  SweepOrdered : (limit : ℕ) → Message
+  ReportOrdered : Message
 
 -- at a reading of the clock, in seconds since 1970
 pub record Arrival : Type 0 where
@@ -42,3 +44,5 @@ order_of (Usage tenant) = ShowUsage (string_bytes tenant)
 abbrev pub arrival : Event → Arrival
 arrival (event.Http reading bytes) = record { reading = reading; message = Requested bytes.items }
 arrival (event.Operator reading command) = record { reading = reading; message = Ordered (order_of command) }
+arrival (event.Sweep reading limit) = record { reading = reading; message = SweepOrdered limit }
+arrival (event.Report reading) = record { reading = reading; message = ReportOrdered }

@@ -52,8 +52,12 @@ impl Command {
 pub enum Event {
     /// The bytes of a request of HTTP/1.1 (RFC 9112).
     Http { reading: u64, bytes: Vec<u8> },
-    /// An operator's command.
+    /// An operator's command on a tenant.
     Operator { reading: u64, command: Command },
+    /// An operator has at most so many stale uploads and blocks that nothing refers to removed, whosever they are.
+    Sweep { reading: u64, limit: u32 },
+    /// An operator asks how much all tenants together have stored.
+    Report { reading: u64 },
 }
 
 impl Event {
@@ -64,6 +68,8 @@ impl Event {
         match self {
             Event::Http { reading, .. } => *reading,
             Event::Operator { reading, .. } => *reading,
+            Event::Sweep { reading, .. } => *reading,
+            Event::Report { reading } => *reading,
         }
     }
 }

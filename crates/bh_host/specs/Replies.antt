@@ -4,7 +4,7 @@ use Rattle.std.specs.Str.{bytes_eq}
 use Rattle.std.specs.Str.Lossy.{utf8_lossy}
 use Rattle.bh_docs.specs.Documents.{begun_text, buckets_text, completed_text, copied_text, error_text, versioning_text, lifecycle_text, usage_text}
 use Rattle.bh_docs.specs.Pages.{objects_text, versions_text, uploads_text, parts_text}
-use Rattle.bh_event.specs.Events.{Order, AddTenant, AddKey, RemoveKey, ShowUsage, Message, Requested, Ordered, SetQuota}
+use Rattle.bh_event.specs.Events.{Order, AddTenant, AddKey, RemoveKey, ShowUsage, Message, Requested, Ordered, SweepOrdered, ReportOrdered, SetQuota}
 use Rattle.bh_http.specs.Answers.{bare, empty, with_document, refused, bare_refusal}
 use Rattle.bh_http.specs.Responses.{Sent, response_text, refusal_text}
 use Rattle.bh_http.specs.Views.{Taken}
@@ -26,6 +26,8 @@ use Rattle.bh_types.specs.declared.rejection.Detail.{Detail}
 use Rattle.bh_types.specs.declared.rejection.Detail.TheVariants.{CurrentMarker, NamedMarker, ObjectSize}
 use Rattle.bh_types.specs.declared.rejection.Rejection.{Rejection}
 use Rattle.bh_types.specs.declared.refusal.Refusal.TheVariants.{MethodNotAllowed, ClockOutOfRange, ServiceUnavailable, Unavailable}
+use Rattle.bh_storage.specs.declared.report.SweepReport.{SweepReport}
+use Rattle.bh_storage.specs.declared.report.StoreReport.{StoreReport}
 use Rattle.bh_machine.specs.Machine.{Act, Asked, Commanded}
 use Rattle.bh_host.specs.declared.reply.Caller.{Caller}
 use Rattle.bh_host.specs.declared.reply.Caller.TheVariants.{Request, Operator}
@@ -148,10 +150,24 @@ unfoldable pub text : Act → Result Answer Rejection → Octets
 text (Asked answer) outcome = asked_text answer outcome
 text (Commanded order) outcome = line order outcome
 
+-- the lines that tell what a sweep removed, and what is stored
+abbrev pub sweep_text : SweepReport → Octets
+sweep_text report =
+    codes "sweep uploads "
+    ++ (decimal report.uploads ++ (codes " blocks " ++ (decimal report.blocks ++ (if report.complete then codes " complete" else codes " partial"))))
+
+abbrev pub report_text : StoreReport → Octets
+report_text report =
+    codes "blocks "
+    ++ (decimal report.blocks
+    ++ (codes " stored " ++ (decimal report.stored ++ (codes " referred " ++ (decimal report.referred ++ (codes " clashes " ++ decimal report.clashes))))))
+
 -- who asks: a request, or an operator
 abbrev pub caller_of : Message → Caller
 caller_of (Requested bytes) = Request
 caller_of (Ordered order) = Operator
+caller_of (SweepOrdered limit) = Operator
+caller_of ReportOrdered = Operator
 
 -- the fixed texts: of a reading above its limit, and where memory or the store was wanting
 abbrev pub clock_text : Caller → Octets

@@ -1,7 +1,7 @@
 -- A list of events, and what each tenant is told, as if it were alone.
 use Rattle.std.specs.Prelude.{◌≡◌, ◌⊎◌, ◌++◌, ℕ, List, [], ◌∷◌, Option, Some, None, Ok}
 use Rattle.bh_types.specs.Limits.{HostLimits}
-use Rattle.bh_event.specs.Events.{Arrival}
+use Rattle.bh_event.specs.Events.{Message, Requested, Ordered, SweepOrdered, ReportOrdered, Arrival}
 use Rattle.bh_model.specs.Runs as runs
 use Rattle.bh_model.specs.Runs.{Follows, stamp_of}
 use Rattle.bh_model.specs.State.{Octets, State}
@@ -12,7 +12,7 @@ use Rattle.bh_view.specs.View.{view, latest_of, limits_in}
 use Rattle.bh_host.specs.Replies.{text}
 use Rattle.bh_host.specs.Turns.{Applied, IsToldApart, WouldApply, fixed}
 
--- an event with a stamp: what it turned out to be, and the bytes that were answered
+-- a request or a command with a stamp: what it turned out to be, and the bytes that were answered
 abbrev pub Turn : Type 0
 Turn = runs.Turn Act (List ℕ)
 
@@ -46,11 +46,23 @@ pub record RanOn {H : Type 0} (IsOpen : H → Type 0) (seen : H → Seen) (left 
 
 -- ---- whose events they were, and what each tenant is told
 
--- from one last stamp to another, these are the turns of the events with a stamp; the others got the fixed reply
+-- the first turn is of this message, and others are left; a sweep and a report are nobody's, and no turn
+abbrev pub ShowsAct : HostLimits → Message → ℕ → List ℕ → (List Turn → Type 0) → List Turn → Type 0
+ShowsAct limits message m reply rest turns =
+    (act : Act) × (others : List Turn) × Acted limits message act × (turns ≡ record { act = act; stamp = m; reply = reply } ∷ others) × rest others
+
+abbrev pub ShowsTurn : HostLimits → Message → ℕ → List ℕ → (List Turn → Type 0) → List Turn → Type 0
+ShowsTurn limits (Requested bytes) m reply rest turns = ShowsAct limits (Requested bytes) m reply rest turns
+ShowsTurn limits (Ordered order) m reply rest turns = ShowsAct limits (Ordered order) m reply rest turns
+ShowsTurn limits (SweepOrdered limit) m reply rest turns = rest turns
+ShowsTurn limits ReportOrdered m reply rest turns = rest turns
+
+-- from one last stamp to another, these are the turns of the requests and commands with a stamp; what has no stamp got the
+-- fixed reply
 abbrev pub ShowsFirst : HostLimits → Arrival → Told → (List Turn → ℕ → Type 0) → List Turn → ℕ → Type 0
 ShowsFirst limits event (None, reply) rest turns from = (reply ≡ fixed event) × rest turns from
-ShowsFirst limits event (Some m, reply) rest turns from = (act : Act) × (others : List Turn) × (stamp_of event.reading from ≡ Ok m) × Acted limits event.message act
-    × (turns ≡ record { act = act; stamp = m; reply = reply } ∷ others) × rest others m
+ShowsFirst limits event (Some m, reply) rest turns from =
+    (stamp_of event.reading from ≡ Ok m) × ShowsTurn limits event.message m reply (λ others. rest others m) turns
 
 abbrev pub Shows : HostLimits → ℕ → List Arrival → List Told → List Turn → ℕ → Type 0
 Shows limits to [] [] turns from = (turns ≡ []) × (to ≡ from)

@@ -6,20 +6,22 @@ use Rattle.bh_types.specs.declared.error.RequestError.{RequestError}
 use Rattle.bh_types.specs.declared.error.RequestError.TheVariants as request
 use Rattle.bh_types.specs.declared.refusal.Refusal.{Refusal}
 use Rattle.bh_types.specs.declared.rejection.Rejection.{Rejection}
-use Rattle.bh_event.specs.Events.{Order, Message, Arrival}
+use Rattle.bh_event.specs.Events.{Order, Message, Requested, Ordered, SweepOrdered, ReportOrdered, Arrival}
 use Rattle.bh_http.specs.Reading.{Reads}
 use Rattle.bh_http.specs.Views.{Taken}
 use Rattle.bh_machine.specs.Machine.{Act, Asked, Commanded, Acted, owner_of, step}
 use Rattle.bh_model.specs.Operations.{Answer}
-use Rattle.bh_model.specs.Runs.{last_reading, stamp_of}
+use Rattle.bh_model.specs.Runs.{last_reading, stamp_of, purged_tenant}
 use Rattle.bh_model.specs.State.{Octets}
 use Rattle.bh_storage.specs.Calls.{Seen, OthersSame}
+use Rattle.bh_storage.specs.Reports.{sweep_counts, store_counts}
 use Rattle.bh_storage.specs.declared.error.StepError.{StepError}
 use Rattle.bh_storage.specs.declared.error.StepError.TheVariants.{Refused, Failed}
 use Rattle.bh_tables.specs.Typed.{Tables}
 use Rattle.bh_view.specs.Becomes.{KeepsShared}
+use Rattle.bh_view.specs.Sweep.{swept}
 use Rattle.bh_view.specs.View.{view, latest_of, limits_in, with_latest, rows_purged}
-use Rattle.bh_host.specs.Replies.{text, caller_of, clock_text, wanting_text}
+use Rattle.bh_host.specs.Replies.{text, sweep_text, report_text, caller_of, clock_text, wanting_text}
 
 -- ---- an act at the stamp m, on a host with these limits. `stamped` is the tables before it with m as the last stamp
 
@@ -47,8 +49,28 @@ pub record Turned (limits : HostLimits) (act : Act) (m : ℕ) (stamped new : Tab
   pub same_limits : limits_in new ≡ limits_in stamped
   pub shared : KeepsShared stamped new
 
+-- a sweep at the stamp m takes what is due first, whosever it is, and tells how much that was; each tenant's state, once
+-- purged, is as before
+pub record Swept (limit m : ℕ) (stamped new : Tables) (reply : List ℕ) : Type 0 where
+  pub told : reply ≡ sweep_text (sweep_counts m limit stamped)
+  pub is : new ≡ swept m limit stamped
+  pub views : (t : Octets) → purged_tenant (view new t) m ≡ purged_tenant (view stamped t) m
+  pub latest : latest_of new ≡ latest_of stamped
+  pub same_limits : limits_in new ≡ limits_in stamped
+
+-- a report tells what is stored, and all tables stay
+pub record Reported (stamped new : Tables) (reply : List ℕ) : Type 0 where
+  pub told : reply ≡ report_text (store_counts stamped)
+  pub same : new ≡ stamped
+
+abbrev pub Acts : HostLimits → Message → ℕ → Tables → Tables → List ℕ → Type 0
+Acts limits message m stamped new reply = (act : Act) × Acted limits message act × Turned limits act m stamped new reply
+
 abbrev pub Turns : HostLimits → Message → ℕ → Tables → Tables → List ℕ → Type 0
-Turns limits message m stamped new reply = (act : Act) × Acted limits message act × Turned limits act m stamped new reply
+Turns limits (Requested bytes) m stamped new reply = Acts limits (Requested bytes) m stamped new reply
+Turns limits (Ordered order) m stamped new reply = Acts limits (Ordered order) m stamped new reply
+Turns limits (SweepOrdered limit) m stamped new reply = Swept limit m stamped new reply
+Turns limits ReportOrdered m stamped new reply = Reported stamped new reply
 
 abbrev pub TurnsRequest : HostLimits → List ℕ → ℕ → Tables → Tables → List ℕ → Type 0
 TurnsRequest limits bytes m stamped new reply = (answer : Result Taken Refusal) × Reads limits bytes answer × Turned limits (Asked answer) m stamped new reply

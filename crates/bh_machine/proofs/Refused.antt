@@ -25,7 +25,7 @@ use Rattle.bh_types.specs.declared.rejection.Rejection.{Rejection}
 use Rattle.bh_types.proofs.Refusing.{then_only, if_only, require_only, ok_or_only, weaker_only}
 use Rattle.bh_docs.specs.Requests.{or_malformed, ranged, document_of, versioning_of, in_range, in_ranges, complete_of, lifecycle_of}
 use Rattle.bh_docs.specs.Shapes.{Part as Shape, data_of, versioning_shape, complete_shape, lifecycle_shape}
-use Rattle.bh_event.specs.Events.{Order, AddTenant, SetQuota, AddKey, RemoveKey, ShowUsage, Message, Requested, Ordered}
+use Rattle.bh_event.specs.Events.{Order, AddTenant, SetQuota, AddKey, RemoveKey, ShowUsage, Message, Requested, Ordered, SweepOrdered, ReportOrdered}
 use Rattle.bh_http.specs.Credentials.{key_field, secret_field, secret_of_both, secret_given, key_given}
 use Rattle.bh_http.specs.Fields.{Occurrence, Missing, Once, Repeated}
 use Rattle.bh_http.specs.Refused.{is_reading_refusal}
@@ -448,6 +448,8 @@ asked_told limits now (Err refusal) s only = step_refusal is_reading_refusal ref
 change_told : (limits : HostLimits) (message : Message) (now : ℕ) (act : Act) (s : Option State) → Acted limits message act → MaySay (change limits now act s)
 change_told limits (Requested bytes) now act s (answer, reads, is) = subst (λ a. MaySay (change limits now a s)) (sym is) (asked_told limits now answer s (reads_only limits bytes answer reads))
 change_told limits (Ordered order) now act s is = subst (λ a. MaySay (change limits now a s)) (sym is) (plainly_told (ordered order s) (ordered_only order s))
+change_told limits (SweepOrdered limit) now act s is = absurd is
+change_told limits ReportOrdered now act s is = absurd is
 
 pub step_only : StepRefusals
 step_only limits content now act s acted = settled_told (purged_tenant s now) (change limits now act (purged_tenant s now)) (change_told limits content now act (purged_tenant s now) acted)

@@ -9,7 +9,7 @@ use Rattle.bh_types.specs.declared.refusal.Refusal.{Refusal}
 use Rattle.bh_types.specs.declared.refusal.Refusal.TheVariants.{InvalidAccessKeyId}
 use Rattle.bh_types.specs.declared.rejection.Rejection.{Rejection}
 use Rattle.bh_docs.specs.Requests.{versioning_of, lifecycle_of, complete_of}
-use Rattle.bh_event.specs.Events.{Order, AddTenant, SetQuota, AddKey, RemoveKey, ShowUsage, tenant_of, Message, Requested, Ordered}
+use Rattle.bh_event.specs.Events.{Order, AddTenant, SetQuota, AddKey, RemoveKey, ShowUsage, tenant_of, Message, Requested, Ordered, SweepOrdered, ReportOrdered}
 use Rattle.bh_http.specs.Credentials.{owner, key_given, secret_given}
 use Rattle.bh_http.specs.Reading.{Reads}
 use Rattle.bh_http.specs.Views.{Taken}
@@ -35,10 +35,12 @@ pub data Act : Type 0 where
   Asked : (answer : Result Taken Refusal) → Act
   Commanded : (order : Order) → Act
 
--- the act that an event's message is
+-- the act that an event's message is; a sweep and a report are no act of a tenant or of anybody who asks for one
 abbrev pub Acted : HostLimits → Message → Act → Type 0
 Acted limits (Requested bytes) act = (answer : Result Taken Refusal) × Reads limits bytes answer × (act ≡ Asked answer)
 Acted limits (Ordered order) act = act ≡ Commanded order
+Acted limits (SweepOrdered limit) act = ⊥
+Acted limits ReportOrdered act = ⊥
 
 abbrev pub asker : Result Taken Refusal → Option Octets
 asker (Ok request) = owner request

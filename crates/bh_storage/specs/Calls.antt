@@ -6,7 +6,11 @@ use Rattle.bh_model.specs.Runs.{stamp_of, purged_tenant}
 use Rattle.bh_model.specs.State.{Octets, State}
 use Rattle.bh_tables.specs.Typed.{Tables}
 use Rattle.bh_view.specs.Becomes.{KeepsShared}
+use Rattle.bh_view.specs.Sweep.{swept}
 use Rattle.bh_view.specs.View.{view, latest_of, limits_in, with_latest, rows_purged}
+use Rattle.bh_storage.specs.Reports.{sweep_counts, store_counts}
+use Rattle.bh_storage.specs.declared.report.SweepReport.{SweepReport}
+use Rattle.bh_storage.specs.declared.report.StoreReport.{StoreReport}
 use Rattle.bh_storage.specs.declared.error.StepError.{StepError}
 use Rattle.bh_storage.specs.declared.error.StepError.TheVariants.{Refused, Failed}
 
@@ -100,3 +104,15 @@ abbrev pub Decides : {X Y E : Type 0} → (X → Y) → Result Y E → Tables �
 Decides shown answer old new (Ok x) = (answer ≡ Ok (shown x)) × (new ≡ old)
 Decides shown answer old new (Err (Refused r)) = (answer ≡ Err r) × (new ≡ old)
 Decides shown answer old new (Err (Failed trouble)) = Unit {0}
+
+-- of what is due, whosever it is, the first so many are gone and counted; each tenant's state, once purged, is as before
+pub record Sweeps (at limit : ℕ) (report : SweepReport) (old new : Tables) : Type 0 where
+  pub is : new ≡ swept at limit old
+  pub counted : report ≡ sweep_counts at limit old
+  pub views : (t : Octets) → purged_tenant (view new t) at ≡ purged_tenant (view old t) at
+  pub latest : latest_of new ≡ latest_of old
+
+-- what is stored is counted, and stays
+pub record Reports (report : StoreReport) (old new : Tables) : Type 0 where
+  pub counted : report ≡ store_counts old
+  pub same : new ≡ old

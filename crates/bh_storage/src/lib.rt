@@ -3,4 +3,5 @@
 
 pub mod answer;
 pub mod error;
+pub mod report;
 pub mod storage;

@@ -6,10 +6,11 @@ ghost use Rattle.bh_model.specs.Runs.{last_reading};
 ghost use Rattle.bh_tables.specs.Typed.{Tables};
 ghost use Rattle.bh_view.specs.View.{view, latest_of};
 ghost use Rattle.bh_storage.specs.Answers.{answer_view};
-ghost use Rattle.bh_storage.specs.Calls.{Seen, Clean, Within, LeavesNothingNew, IsAtRest, IsWorking, Commits, TakesBack, Unless, Stamps, Purges, Carries, Decides};
+ghost use Rattle.bh_storage.specs.Calls.{Seen, Clean, Within, LeavesNothingNew, IsAtRest, IsWorking, Commits, TakesBack, Unless, Stamps, Purges, Carries, Decides, Sweeps, Reports};
 
 use crate::answer::Answer;
 use crate::error::{StepError, Trouble};
+use crate::report::{StoreReport, SweepReport};
 use bh_event::event::Command;
 use bh_operation::operation::Operation;
 use bh_types::access_key::AccessKeyId;
@@ -132,4 +133,21 @@ pub trait Storage {
         ensures working { Unless result (Clean IsIntact IsOpen self.new → IsWorking IsSound (seen self.new)) }
         ensures carries { Clean IsIntact IsOpen self.new
             → Carries answer_view (tenant_of (order_of command.now)) (ordered (order_of command.now)) (seen self.old).now (seen self.new).now result };
+
+    /// Takes away what is due at a moment, at most `limit` of it: first stale uploads of all tenants by tenant and
+    /// number, and then blocks that nothing refers to by digest and ordinal.
+    fn sweep(&mut self, alloc: Global, at: Moment, limit: u32) -> Result<SweepReport, Trouble>
+        requires { Clean IsIntact IsOpen self.old → IsWorking IsSound (seen self.old) }
+        ensures within { Within IsIntact IsOpen seen left self.old self.new }
+        ensures opens { OnOk result (IsOpen self.old → IsIntact self.new → IsOpen self.new) }
+        ensures working { OnOk result (Clean IsIntact IsOpen self.new → IsWorking IsSound (seen self.new)) }
+        ensures sweeps { IfOk result (λ report. Clean IsIntact IsOpen self.new → Sweeps at limit report (seen self.old).now (seen self.new).now) };
+
+    /// Counts what all tenants together have stored. The store refuses a sum of bytes of 2^63 or more.
+    fn report(&mut self) -> Result<StoreReport, Trouble>
+        requires { Clean IsIntact IsOpen self.old → IsWorking IsSound (seen self.old) }
+        ensures within { Within IsIntact IsOpen seen left self.old self.new }
+        ensures opens { OnOk result (IsOpen self.old → IsIntact self.new → IsOpen self.new) }
+        ensures working { OnOk result (Clean IsIntact IsOpen self.new → IsWorking IsSound (seen self.new)) }
+        ensures reports { IfOk result (λ report. Clean IsIntact IsOpen self.new → Reports report (seen self.old).now (seen self.new).now) };
 }

@@ -13,21 +13,11 @@ ghost use Rattle.bh_schema.specs.Working.{Works, StillWorksBy};
 use bh_blocks::removal::{any_unreferenced, remove_unreferenced};
 use bh_schema::trouble::or_trouble;
 use bh_storage::error::Trouble;
+use bh_storage::report::SweepReport;
 use bh_types::moment::Moment;
 use bh_uploads::stale::{any_stale, remove_stale};
 use sqlite::{Alter, Connection};
 use std::alloc::Global;
-
-/// What a sweep removed.
-#[derive(Clone, Copy, Debug, PartialEq, Eq)]
-pub struct SweepReport {
-    /// So many stale uploads.
-    pub uploads: u32,
-    /// So many blocks that nothing referred to.
-    pub blocks: u32,
-    /// Nothing that was due is left.
-    pub complete: bool,
-}
 
 /// Takes the first blocks away that nothing refers to, and tells how many.
 fn remove_blocks<S: Alter>(connection: &mut Connection<S>, limit: u32) -> Result<u32, Trouble>

@@ -1,0 +1,23 @@
+/// What a sweep removed.
+#[derive(Clone, Copy, Debug, PartialEq, Eq)]
+pub struct SweepReport {
+    /// So many stale uploads.
+    pub uploads: u32,
+    /// So many blocks that nothing referred to.
+    pub blocks: u32,
+    /// Nothing that was due is left.
+    pub complete: bool,
+}
+
+/// How much all tenants together have stored.
+#[derive(Clone, Copy, Debug, PartialEq, Eq)]
+pub struct StoreReport {
+    /// Blocks, of which no two hold equal bytes.
+    pub blocks: u64,
+    /// Their bytes.
+    pub stored: u64,
+    /// The bytes of all bodies, in which a block counts as often as it is referred to.
+    pub referred: u64,
+    /// Blocks whose digest an earlier block of other bytes had.
+    pub clashes: u64,
+}
