@@ -1,3 +1,4 @@
 pub mod Left
 pub mod Alike
 pub mod Steps
+pub mod Complete
