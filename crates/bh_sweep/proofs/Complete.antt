@@ -1,5 +1,5 @@
 -- A complete sweep leaves what is needed: no upload that is stale, and of the blocks those that a reference names.
-use Rattle.std.proofs.Common.{arith, leb-true, ◌≡◌, ◌+◌, ◌-◌, ℕ, Bool, true, false, true≢false, not, ◌&&◌, ◌||◌, nat_le, List, [], ◌∷◌, length, filter, Ordering, None, refl, sym, ap, ◌∙◌, subst}
+use Rattle.std.proofs.Common.{arith, leb-true, ◌≡◌, ◌-◌, ℕ, Bool, true, false, true≢false, not, ◌&&◌, ◌||◌, nat_le, List, [], ◌∷◌, length, filter, Ordering, refl, sym, ap, ◌∙◌, subst}
 use Rattle.std.specs.List.{AllByRecursion, list_any}
 use Rattle.std.proofs.lemmas.Bool.Decides.{nat_tests}
 use Rattle.std.proofs.lemmas.List.{take_all}
@@ -7,12 +7,12 @@ use Rattle.std.proofs.lemmas.List.Elements.{filter_passes, recursion_from_All}
 use Rattle.sqlite_keyed.specs.Lists.{sort_by, delete_where}
 use Rattle.sqlite_keyed.proofs.ListLemmas.{all_weaker, filter_none, none_from_any, any_from_none}
 use Rattle.bh_tables.specs.Due.{by_owner}
-use Rattle.bh_tables.specs.Shown.{Name, same_name, block_name, ref_name, is_use, is_unreferenced, by_name}
+use Rattle.bh_tables.specs.Shown.{same_name, block_name, ref_name, is_use, is_unreferenced, by_name}
 use Rattle.bh_tables.specs.Typed.{UploadRow, BlockRow, RefRow, Tables}
 use Rattle.bh_view.specs.Blocks.{AreStored}
 use Rattle.bh_view.specs.Grouped.{first, matching, same_number, Refers}
 use Rattle.bh_view.specs.Laws.{LeavesNeeded, CompleteSweeps}
-use Rattle.bh_view.specs.Sweep.{is_due, due_uploads, due_blocks, uploads_swept, blocks_swept, without_each, without_blocks, swept, is_complete}
+use Rattle.bh_view.specs.Sweep.{is_due, due_uploads, due_blocks, blocks_swept, without_each, without_blocks, swept, is_complete}
 use Rattle.bh_view.specs.View.{ref_goes, without_uploads}
 use Rattle.bh_view.proofs.DueLemmas.{filter_agree}
 use Rattle.bh_view.proofs.FactLemmas.{refers_deleted, unique_filtered}
