@@ -1,3 +1,5 @@
 pub mod Left
 pub mod Alike
 pub mod Steps
+pub mod Totals
+pub mod Measured
