@@ -6,7 +6,6 @@ use Rattle.bh_tables.specs.Bodies.{block_at, ref_name}
 use Rattle.bh_tables.specs.Typed.{BlockRow, RefRow, Tables}
 use Rattle.bh_view.specs.Bodies.{HasBodies}
 use Rattle.bh_storage.specs.Reports.{store_counts}
-use Rattle.bh_storage.specs.declared.report.StoreReport.{StoreReport}
 use Rattle.bh_sweep.specs.Counted.{rows_counted}
 
 sizes_are : (blocks : List BlockRow) (refs : List RefRow) → AllByRecursion (λ (r : RefRow). r.size ≡ length (block_at blocks (ref_name r))) refs
