@@ -104,7 +104,7 @@ pub fn referred_total<S: Alter>(connection: &mut Connection<S>) -> Result<u64, E
     read_total(&rows)
 }
 
-/// How many blocks have an ordinal above 0, since another block has their digest.
+/// How many blocks have an ordinal above 0: when they were stored, another block had their digest.
 pub fn clash_count<S: Alter>(connection: &mut Connection<S>) -> Result<u64, Error>
     requires inside { InTransaction S.Store connection.old }
     ensures within { StaysWithin S.Store connection.old connection.new }
