@@ -35,7 +35,7 @@ sum_mapped w p f test size (x ∷ xs) =
     ∙ (λ i. cond (test x i) (size x i) 0 + sum_mapped w p f test size xs i)
     ∙ sym (sum_filter-cons p w x xs)
 
--- ---- what a tenant uses, where no table gains rows of its versions or parts
+-- ---- the sizes of a tenant's rows, which add up to what it uses
 
 abbrev size_of : Octets → Tables → ℕ
 size_of t x = sum_by (λ (v : VersionRow). v.size) (filter (λ v. bytes_eq v.tenant t) x.versions) + sum_by (λ (p : PartRow). p.size) (filter (λ p. bytes_eq p.tenant t) x.parts)
@@ -60,7 +60,7 @@ bounded_less old new before after same less bounded t = go (view new t) refl
 
 -- ---- uploads go
 
--- what no upload that goes takes along stays
+-- a field that an upload leaves as it was when it goes, so do several
 pub each_keeps : {X : Type 0} (field : Tables → X) → ((t : Octets) (gone : ℕ → Bool) (x : Tables) → field (without_uploads t gone x) ≡ field x) → (us : List UploadRow) (x : Tables) → field (without_each us x) ≡ field x
 each_keeps field keeps [] x = refl
 each_keeps field keeps (u ∷ us) x = each_keeps field keeps us (without_uploads u.tenant (λ n. same_number n u.upload) x) ∙ keeps u.tenant (λ n. same_number n u.upload) x
