@@ -23,6 +23,8 @@ flaw_of_command op =
     else if bytes_eq op (codes "key-add") then WrongMembers
     else if bytes_eq op (codes "key-remove") then WrongMembers
     else if bytes_eq op (codes "usage") then WrongMembers
+    else if bytes_eq op (codes "sweep") then WrongMembers
+    else if bytes_eq op (codes "report") then WrongMembers
     else UnknownCommand
 
 abbrev pub flaw_of_content : Data → Option (List ℕ) → Flaw

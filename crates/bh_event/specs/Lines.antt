@@ -1,5 +1,5 @@
 -- The event that a line of a script tells: one JSON object, its members in any order, none missing and none besides.
-use Rattle.std.specs.Prelude.{ℕ, ◌==◌, Bool, false, unwrap_or, List, codes, Option, None, option_map, option_and_then, if◌then◌else◌}
+use Rattle.std.specs.Prelude.{ℕ, ◌==◌, nat_le, Bool, false, unwrap_or, List, codes, Option, Some, None, option_map, option_and_then, if◌then◌else◌}
 use Rattle.std.specs.Option.{option_or}
 use Rattle.std.specs.Result.{result_ok}
 use Rattle.std.specs.Str.{bytes_eq, is_utf8}
@@ -8,7 +8,7 @@ use Rattle.serde_json.specs.Data.{Data}
 use Rattle.serde_json.specs.Events.{members_len}
 use Rattle.serde_json.specs.Find.{get, as_object, as_str, as_number, as_u64}
 use Rattle.serde_json.specs.Read.{read}
-use Rattle.bh_event.specs.Events.{Order, AddTenant, SetQuota, AddKey, RemoveKey, ShowUsage, Message, Requested, Ordered, Arrival}
+use Rattle.bh_event.specs.Events.{Order, AddTenant, SetQuota, AddKey, RemoveKey, ShowUsage, Message, Requested, Ordered, SweepOrdered, ReportOrdered, Arrival}
 
 abbrev pub text_at : List ℕ → Data → Option (List ℕ)
 text_at key d = option_and_then as_str (get key d)
@@ -76,12 +76,37 @@ order_named d op =
 abbrev pub order_in : Data → Option Order
 order_in d = option_and_then (order_named d) (text_at (codes "op") d)
 
+-- a limit is at most 4294967295
+abbrev pub sweep_limited : ℕ → Option Message
+sweep_limited limit = if nat_le limit 4294967295 then Some (SweepOrdered limit) else None
+
+-- {"at":n,"limit":n,"op":"sweep"}
+abbrev pub sweep_in : Data → Option Message
+sweep_in d = if has_members 3 d then option_and_then sweep_limited (number_at (codes "limit") d) else None
+
+-- {"at":n,"op":"report"}
+abbrev pub report_in : Data → Option Message
+report_in d = if has_members 2 d then Some ReportOrdered else None
+
+-- what an object with this `op` asks about all tenants
+abbrev pub host_order_named : Data → List ℕ → Option Message
+host_order_named d op =
+    if bytes_eq op (codes "sweep") then sweep_in d
+    else if bytes_eq op (codes "report") then report_in d
+    else None
+
+abbrev pub host_order_in : Data → Option Message
+host_order_in d = option_and_then (host_order_named d) (text_at (codes "op") d)
+
 abbrev pub message_in : Data → Option Message
-message_in d = option_or (option_map Requested (request_in d)) (option_map Ordered (order_in d))
+message_in d = option_or (option_map Requested (request_in d)) (option_or (option_map Ordered (order_in d)) (host_order_in d))
+
+abbrev pub arrival_at : ℕ → Message → Arrival
+arrival_at reading message = record { reading = reading; message = message }
 
 -- `at` is the reading of the clock
 abbrev pub arrival_in : Data → Option Arrival
-arrival_in d = option_and_then (λ reading. option_map (λ message. record { reading = reading; message = message }) (message_in d)) (number_at (codes "at") d)
+arrival_in d = option_and_then (λ reading. option_map (arrival_at reading) (message_in d)) (number_at (codes "at") d)
 
 -- the value whose JSON text bytes are
 abbrev pub value_in : List ℕ → Option Data

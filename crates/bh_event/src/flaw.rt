@@ -31,9 +31,11 @@ impl Flaw {
             Flaw::NoContent => "it has no text `http`, `hex` or `op`",
             Flaw::OtherMembers => "it has other members beside `at` and the request",
             Flaw::OddDigits => "`hex` is not an even number of hexadecimal digits",
-            Flaw::UnknownCommand => "`op` is none of tenant-add, quota, key-add, key-remove, usage",
+            Flaw::UnknownCommand => {
+                "`op` is none of tenant-add, quota, key-add, key-remove, usage, sweep, report"
+            }
             Flaw::WrongMembers => {
-                "its command's members are missing, of another type, or more than those that it takes"
+                "its command's members are missing, of another type or range, or more than those that it takes"
             }
         }
     }
@@ -63,7 +65,9 @@ fn flaw_in(document: &Value) -> Flaw
         return Flaw::NoReading;
     }
     match text_at(document, "op") {
-        Some("tenant-add" | "quota" | "key-add" | "key-remove" | "usage") => Flaw::WrongMembers,
+        Some(
+            "tenant-add" | "quota" | "key-add" | "key-remove" | "usage" | "sweep" | "report",
+        ) => Flaw::WrongMembers,
         Some(_) => Flaw::UnknownCommand,
         None => flaw_of_request(document),
     }

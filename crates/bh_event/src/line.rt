@@ -36,7 +36,7 @@ fn event_in(alloc: Global, document: &Value) -> Result<Option<Event>, AllocError
     }
     match command_in(alloc, document)? {
         Some(command) => Ok(Some(Event::Operator { reading, command })),
-        None => Ok(None),
+        None => Ok(host_order_in(document, reading)),
     }
 }
 
@@ -154,6 +154,38 @@ fn usage_in(alloc: Global, document: &Value) -> Result<Option<Command>, AllocErr
     };
     let tenant = String::from_str(alloc, tenant)?;
     Ok(Some(Command::Usage { tenant }))
+}
+
+/// What an operator asks about all tenants.
+fn host_order_in(document: &Value, reading: u64) -> Option<Event>
+    ensures { option_map arrival result ≡ option_map (spec.arrival_at reading) (spec.host_order_in (view document.now)) }
+{
+    match text_at(document, "op") {
+        Some("sweep") => sweep_in(document, reading),
+        Some("report") => report_in(document, reading),
+        _ => None,
+    }
+}
+
+fn sweep_in(document: &Value, reading: u64) -> Option<Event>
+    ensures { option_map arrival result ≡ option_map (spec.arrival_at reading) (spec.sweep_in (view document.now)) }
+{
+    if !has_members(document, 3) {
+        return None;
+    }
+    match u32::try_from(number_at(document, "limit")?) {
+        Ok(limit) => Some(Event::Sweep { reading, limit }),
+        Err(_) => None,
+    }
+}
+
+fn report_in(document: &Value, reading: u64) -> Option<Event>
+    ensures { option_map arrival result ≡ option_map (spec.arrival_at reading) (spec.report_in (view document.now)) }
+{
+    if !has_members(document, 2) {
+        return None;
+    }
+    Some(Event::Report { reading })
 }
 
 pub(crate) fn has_members(document: &Value, count: usize) -> bool

@@ -1,7 +1,7 @@
 -- The reply to an event with a stamp is no fixed text.
 use Rattle.std.proofs.Common.{◌≡◌, ◌≢◌, ℕ, Bool, true, false, Option, Some, None, [], Ok, Err, Result, IfErr, refl, sym, ◌∙◌, ap, rules}
 use Rattle.std.specs.Fmt.{digits}
-use Rattle.bh_event.specs.Events.{Order, AddTenant, SetQuota, AddKey, RemoveKey, ShowUsage, Message, Requested, Ordered, Arrival}
+use Rattle.bh_event.specs.Events.{Order, AddTenant, SetQuota, AddKey, RemoveKey, ShowUsage, Message, Requested, Ordered, SweepOrdered, ReportOrdered, Arrival}
 use Rattle.bh_http.specs.Responses.{response_text}
 use Rattle.bh_http.specs.Views.{Taken}
 use Rattle.bh_machine.specs.Machine.{Act, Asked, Commanded, owner_of, step}
@@ -10,12 +10,14 @@ use Rattle.bh_machine.proofs.Refused.{step_only}
 use Rattle.bh_model.specs.Operations.{Answer}
 use Rattle.bh_model.specs.State.{Octets, State}
 use Rattle.bh_storage.specs.Calls.{Seen}
+use Rattle.bh_storage.specs.declared.report.SweepReport.{SweepReport}
+use Rattle.bh_storage.specs.declared.report.StoreReport.{StoreReport}
 use Rattle.bh_tables.specs.Typed.{Tables}
 use Rattle.bh_types.specs.Limits.{HostLimits}
 use Rattle.bh_types.specs.declared.refusal.Refusal.{Refusal}
 use Rattle.bh_types.specs.declared.rejection.Rejection.{Rejection}
 use Rattle.bh_view.specs.View.{view, limits_in, with_latest}
-use Rattle.bh_host.specs.Replies.{text, response_to, document_for, range_told, allow_told, marker_told, refusal_to, body_for, caller_of, clock_text, wanting_text}
+use Rattle.bh_host.specs.Replies.{text, sweep_text, report_text, response_to, document_for, range_told, allow_told, marker_told, refusal_to, body_for, caller_of, clock_text, wanting_text}
 use Rattle.bh_host.specs.Turns.{TurnedFor, Turns, AppliedTo, IsToldApart}
 use Rattle.bh_host.specs.declared.reply.Caller.TheVariants.{Request, Operator}
 use Rattle.bh_host.proofs.Apart.{is_fixed_response, is_fixed_line, answer_apart, refused_apart, line_apart}
@@ -47,6 +49,12 @@ ordered_apart (AddKey tenant name secret) (Err e) free = line_apart e.refusal fr
 ordered_apart (RemoveKey tenant name) (Err e) free = line_apart e.refusal free
 ordered_apart (ShowUsage tenant) (Err e) free = line_apart e.refusal free
 
+sweep_apart : (report : SweepReport) → is_fixed_line (sweep_text report) ≡ false
+sweep_apart report = refl
+
+report_apart : (report : StoreReport) → is_fixed_line (report_text report) ≡ false
+report_apart report = refl
+
 clock_response : is_fixed_response (clock_text Request) ≡ true
 unfolding digits
 clock_response = refl
@@ -75,6 +83,10 @@ turned_reply : (limits : HostLimits) (o : Option Octets) (act : Act) (m : ℕ) (
 turned_reply limits (Some t) act m stamped new reply turned = (view stamped t, turned.told)
 turned_reply limits None act m stamped new reply turned = (None, turned.told)
 
+line_differs : (reply : Octets) → is_fixed_line reply ≡ false → (reply ≢ clock_text Operator) × (reply ≢ wanting_text Operator)
+line_differs reply no =
+    (differs is_fixed_line reply (clock_text Operator) no clock_line, differs is_fixed_line reply (wanting_text Operator) no wanting_line)
+
 pub told_apart : (limits : HostLimits) (message : Message) (m : ℕ) (stamped new : Tables) (reply : Octets) → Turns limits message m stamped new reply
     → (reply ≢ clock_text (caller_of message)) × (reply ≢ wanting_text (caller_of message))
 told_apart limits (Requested bytes) m stamped new reply (act, (answer, reads, is), turned) =
@@ -86,7 +98,9 @@ told_apart limits (Ordered order) m stamped new reply (act, is, turned) =
     let found = turned_reply limits (owner_of act) act m stamped new reply turned.judged in
     let free = step_only limits (Ordered order) m act found.0 is in
     let no : is_fixed_line reply ≡ false = ap is_fixed_line (found.1 ∙ ap (λ a. text a (step limits m act found.0).0) is) ∙ ordered_apart order (step limits m act found.0).0 free in
-    (differs is_fixed_line reply (clock_text Operator) no clock_line, differs is_fixed_line reply (wanting_text Operator) no wanting_line)
+    line_differs reply no
+told_apart limits (SweepOrdered limit) m stamped new reply swept = line_differs reply (ap is_fixed_line swept.told ∙ sweep_apart _)
+told_apart limits ReportOrdered m stamped new reply reported = line_differs reply (ap is_fixed_line reported.told ∙ report_apart _)
 
 -- the same of a storage
 pub apart_on : {H : Type 0} (IsOpen : H → Type 0) (seen : H → Seen) (event : Arrival) (m : ℕ) (old new : H) (reply : Octets) → AppliedTo IsOpen seen event old new (Some m) reply

@@ -3,7 +3,7 @@ use Rattle.std.proofs.Common.{◌≡◌, ℕ, List, Option, Some, None, Ok, Err,
 use Rattle.std.specs.Prelude.{option_map}
 use Rattle.std.proofs.lemmas.Bool.{cases_Bool}
 use Rattle.std.proofs.lemmas.Option.{same_Some}
-use Rattle.bh_event.specs.Events.{Order, tenant_of, Arrival, arrival}
+use Rattle.bh_event.specs.Events.{Order, tenant_of, Message, Requested, Ordered, SweepOrdered, ReportOrdered, Arrival, arrival}
 use Rattle.bh_event.specs.declared.event.Event.{Event}
 use Rattle.bh_event.specs.declared.event.Event.TheVariants.{Http}
 use Rattle.bh_http.specs.Credentials.{key_given}
@@ -183,13 +183,26 @@ turned_nameless limits at order old reply none told =
 
 -- ---- an event
 
+-- the last stamp and the limits stay
+turns_latest : (limits : HostLimits) (message : Message) (m : ℕ) (old new : Tables) (reply : List ℕ) → Turns limits message m old new reply → latest_of new ≡ latest_of old
+turns_latest limits (Requested bytes) m old new reply (act, acted, turned) = turned.latest
+turns_latest limits (Ordered order) m old new reply (act, acted, turned) = turned.latest
+turns_latest limits (SweepOrdered limit) m old new reply swept = swept.latest
+turns_latest limits ReportOrdered m old new reply reported = ap latest_of reported.same
+
+pub turns_limits : (limits : HostLimits) (message : Message) (m : ℕ) (old new : Tables) (reply : List ℕ) → Turns limits message m old new reply → limits_in new ≡ limits_in old
+turns_limits limits (Requested bytes) m old new reply (act, acted, turned) = turned.same_limits
+turns_limits limits (Ordered order) m old new reply (act, acted, turned) = turned.same_limits
+turns_limits limits (SweepOrdered limit) m old new reply swept = swept.same_limits
+turns_limits limits ReportOrdered m old new reply reported = ap limits_in reported.same
+
 -- from its stamp, and what it does after it
 pub applied : (limits : HostLimits) (event : Arrival) (m : ℕ) (old mid new : Tables) (reply : List ℕ) → limits ≡ limits_in old → Stamps event.reading m old mid
     → Turns limits event.message m mid new reply → Applied event old new (Some m) reply
 applied limits event m old mid new reply is stamps turns =
     let L : HostLimits → Type 0 = λ l. Turns l event.message m mid new reply in
     let T : Tables → Type 0 = λ x. Turns (limits_in old) event.message m x new reply in
-    (stamps.stamp, turns.2.latest ∙ stamps.latest, subst T stamps.is (subst L is turns))
+    (stamps.stamp, turns_latest limits event.message m mid new reply turns ∙ stamps.latest, subst T stamps.is (subst L is turns))
 
 -- a request's turn is its event's
 pub turns_request : (limits : HostLimits) (event : Event) (reading : ℕ) (held : Vec ℕ Global) (bytes : List ℕ) (m : ℕ) (old new : Tables) (reply : List ℕ) → event ≡ Http reading held → bytes ≡ held.items

@@ -12,10 +12,11 @@ ghost use Rattle.bh_types.specs.Rejections.{plain};
 ghost use Rattle.bh_view.specs.View.{latest_of};
 ghost use Rattle.bh_host.specs.Replies.{clock_text, reply_bytes};
 ghost use Rattle.bh_host.specs.Replies as reply;
-ghost use Rattle.bh_host.specs.Turns.{Turns, Turned, TurnsRequest, TellsUnread, IsToldApart, WouldApply, AppliedTo};
+ghost use Rattle.bh_host.specs.Turns.{Turns, Turned, Swept, Reported, TurnsRequest, TellsUnread, IsToldApart, WouldApply, AppliedTo};
 
 use crate::reply::{
-    Caller, Reply, order_text, refusal_line, refused_request_text, request_text, unread_text,
+    Caller, Reply, order_text, refusal_line, refused_request_text, report_line, request_text,
+    sweep_line, unread_text,
 };
 use crate::serve::requested;
 use bh_event::event::{Command, Event};
@@ -178,6 +179,37 @@ fn serve_command<H: Storage>(
     }
 }
 
+/// A sweep, which removes at most so many of what is due.
+fn serve_sweep<H: Storage>(
+    alloc: Global,
+    host: &mut H,
+    limit: u32,
+    at: Moment,
+) -> Result<Vec<u8>, Trouble>
+    requires working { Clean H.IsIntact H.IsOpen host.old → IsWorking H.IsSound (H.seen host.old) }
+    ensures within { Within H.IsIntact H.IsOpen H.seen H.left host.old host.new }
+    ensures opens { OnOk result (H.IsOpen host.old → H.IsIntact host.new → H.IsOpen host.new) }
+    ensures working { OnOk result (Clean H.IsIntact H.IsOpen host.new → IsWorking H.IsSound (H.seen host.new)) }
+    ensures swept { IfOk result (λ bytes. Clean H.IsIntact H.IsOpen host.new
+        → Swept limit at (H.seen host.old).now (H.seen host.new).now bytes.items) }
+{
+    let report = host.sweep(alloc, at, limit)?;
+    Ok(sweep_line(alloc, report)?.into_bytes())
+}
+
+/// A report of what is stored.
+fn serve_report<H: Storage>(alloc: Global, host: &mut H) -> Result<Vec<u8>, Trouble>
+    requires working { Clean H.IsIntact H.IsOpen host.old → IsWorking H.IsSound (H.seen host.old) }
+    ensures within { Within H.IsIntact H.IsOpen H.seen H.left host.old host.new }
+    ensures opens { OnOk result (H.IsOpen host.old → H.IsIntact host.new → H.IsOpen host.new) }
+    ensures working { OnOk result (Clean H.IsIntact H.IsOpen host.new → IsWorking H.IsSound (H.seen host.new)) }
+    ensures reported { IfOk result (λ bytes. Clean H.IsIntact H.IsOpen host.new
+        → Reported (H.seen host.old).now (H.seen host.new).now bytes.items) }
+{
+    let report = host.report()?;
+    Ok(report_line(alloc, report)?.into_bytes())
+}
+
 /// What an event is answered, at its stamp.
 fn serve<H: Storage>(
     alloc: Global,
@@ -196,6 +228,8 @@ fn serve<H: Storage>(
     match event {
         Event::Http { bytes, .. } => serve_request(alloc, host, bytes, at),
         Event::Operator { command, .. } => serve_command(alloc, host, command, at),
+        Event::Sweep { limit, .. } => serve_sweep(alloc, host, *limit, at),
+        Event::Report { .. } => serve_report(alloc, host),
     }
 }
 
@@ -231,7 +265,7 @@ fn caller_of(event: &Event) -> Caller
 {
     match event {
         Event::Http { .. } => Caller::Request,
-        Event::Operator { .. } => Caller::Operator,
+        Event::Operator { .. } | Event::Sweep { .. } | Event::Report { .. } => Caller::Operator,
     }
 }
 
@@ -241,6 +275,9 @@ fn caller_of(event: &Event) -> Caller
 /// it was. Where memory or the store is wanting, the answer is ServiceUnavailable to a request and Unavailable to an
 /// operator. In these cases there is no stamp, and all tables are as they were. Otherwise the event counts at its
 /// stamp, the greater of its reading and the last stamp, and its tenant is answered as its private machine answers.
+///
+/// A sweep and a report belong to nobody. A sweep removes what is stale or unreferenced, of all tenants, up to its
+/// limit, and each tenant's answers stay those of its own machine; a report counts what is stored and changes nothing.
 ///
 /// All that is said of replies and of a crash holds also where the store reports faults; what is said of the tables
 /// holds while no fault has shut it.

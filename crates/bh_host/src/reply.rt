@@ -24,6 +24,7 @@ use bh_operation::allow::allow_of;
 use bh_operation::path_of;
 use bh_storage::answer::Answer;
 use bh_storage::error::{StepError, Trouble};
+use bh_storage::report::{StoreReport, SweepReport};
 use bh_types::refusal::Refusal;
 use bh_types::rejection::{Detail, Rejection};
 use std::alloc::{AllocError, Global};
@@ -247,4 +248,27 @@ pub fn refusal_line(alloc: Global, refusal: Refusal) -> Result<String, AllocErro
     let number = refusal.number();
     let code = refusal.code();
     format!(in alloc; "{number} {code}")
+}
+
+/// The line that tells an operator what a sweep removed, and whether anything that was due is left.
+pub fn sweep_line(alloc: Global, report: SweepReport) -> Result<String, AllocError>
+    ensures { IfOk result (λ text. string_bytes text ≡ spec.sweep_text report) }
+{
+    let uploads = report.uploads;
+    let blocks = report.blocks;
+    let end = if report.complete { "complete" } else { "partial" };
+    format!(in alloc; "sweep uploads {uploads} blocks {blocks} {end}")
+}
+
+/// The line that tells an operator how much is stored.
+pub fn report_line(alloc: Global, report: StoreReport) -> Result<String, AllocError>
+    ensures { IfOk result (λ text. string_bytes text ≡ spec.report_text report) }
+{
+    let StoreReport {
+        blocks,
+        stored,
+        referred,
+        clashes,
+    } = report;
+    format!(in alloc; "blocks {blocks} stored {stored} referred {referred} clashes {clashes}")
 }
