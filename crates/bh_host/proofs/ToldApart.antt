@@ -10,6 +10,7 @@ use Rattle.bh_machine.proofs.Refused.{step_only}
 use Rattle.bh_model.specs.Operations.{Answer}
 use Rattle.bh_model.specs.State.{Octets, State}
 use Rattle.bh_storage.specs.Calls.{Seen}
+use Rattle.bh_storage.specs.Reports.{sweep_counts, store_counts}
 use Rattle.bh_storage.specs.declared.report.SweepReport.{SweepReport}
 use Rattle.bh_storage.specs.declared.report.StoreReport.{StoreReport}
 use Rattle.bh_tables.specs.Typed.{Tables}
@@ -84,8 +85,8 @@ turned_reply limits (Some t) act m stamped new reply turned = (view stamped t, t
 turned_reply limits None act m stamped new reply turned = (None, turned.told)
 
 line_differs : (reply : Octets) → is_fixed_line reply ≡ false → (reply ≢ clock_text Operator) × (reply ≢ wanting_text Operator)
-line_differs reply no =
-    (differs is_fixed_line reply (clock_text Operator) no clock_line, differs is_fixed_line reply (wanting_text Operator) no wanting_line)
+line_differs reply free =
+    (differs is_fixed_line reply (clock_text Operator) free clock_line, differs is_fixed_line reply (wanting_text Operator) free wanting_line)
 
 pub told_apart : (limits : HostLimits) (message : Message) (m : ℕ) (stamped new : Tables) (reply : Octets) → Turns limits message m stamped new reply
     → (reply ≢ clock_text (caller_of message)) × (reply ≢ wanting_text (caller_of message))
@@ -99,8 +100,8 @@ told_apart limits (Ordered order) m stamped new reply (act, is, turned) =
     let free = step_only limits (Ordered order) m act found.0 is in
     let no : is_fixed_line reply ≡ false = ap is_fixed_line (found.1 ∙ ap (λ a. text a (step limits m act found.0).0) is) ∙ ordered_apart order (step limits m act found.0).0 free in
     line_differs reply no
-told_apart limits (SweepOrdered limit) m stamped new reply swept = line_differs reply (ap is_fixed_line swept.told ∙ sweep_apart _)
-told_apart limits ReportOrdered m stamped new reply reported = line_differs reply (ap is_fixed_line reported.told ∙ report_apart _)
+told_apart limits (SweepOrdered limit) m stamped new reply swept = line_differs reply (ap is_fixed_line swept.told ∙ sweep_apart (sweep_counts m limit stamped))
+told_apart limits ReportOrdered m stamped new reply reported = line_differs reply (ap is_fixed_line reported.told ∙ report_apart (store_counts stamped))
 
 -- the same of a storage
 pub apart_on : {H : Type 0} (IsOpen : H → Type 0) (seen : H → Seen) (event : Arrival) (m : ℕ) (old new : H) (reply : Octets) → AppliedTo IsOpen seen event old new (Some m) reply
