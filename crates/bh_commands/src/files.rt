@@ -3,19 +3,18 @@
 ghost use Rattle.std.specs.Prelude.{◌≡◌, None, IfOk, IfSome, MatchOption};
 ghost use Rattle.sqlite.specs.Files.{over_files};
 ghost use Rattle.sqlite_wal.specs.Files.{image_at};
-ghost use Rattle.bh_event.specs.Events.{order_of};
 ghost use Rattle.bh_commands.specs.Files.{HoldsSoundHost};
-ghost use Rattle.bh_commands.specs.Commands.{IsRefusal, IsRefused, IsMade, IsCommandDone};
+ghost use Rattle.bh_commands.specs.Commands.{message_of, IsRefusal, IsRefused, IsMade, IsCommandDone};
 
 use crate::commands::apply_command;
 use crate::fault::Fault;
 use crate::opening::{NoHost, open_file, open_stored_file};
 use crate::printed::Printed;
+use crate::task::Task;
 use bh_blocks::digester::Sha256Digester;
 use bh_connection::{Clock, MachineClock};
 use bh_create::create;
 use bh_dispatch::storage::HostStorage;
-use bh_event::event::Command;
 use bh_types::limits::{Limits, Tuning};
 use bh_types::refusal::Refusal;
 use sqlite::{Alter, FileFrom, FileStore, Start};
@@ -77,18 +76,18 @@ pub fn init_file<S: Start>(
     }
 }
 
-/// Applies an operator's command to the host of a file, at a reading of the clock in seconds since 1970, and prints
-/// its reply.
+/// Does what an operator asks of the host of a file, at a reading of the clock in seconds since 1970, and prints the
+/// reply.
 pub fn file_command<S: Start>(
     rt: &HostRuntime,
     path: &str,
     start: S,
     at: Option<u64>,
-    command: Command,
+    task: Task,
 ) -> Result<FileDone<S>, Fault>
     requires { HoldsSoundHost (image_at S.Start) }
     ensures { IfOk result (λ done. MatchOption done.storage (IsRefused done.printed)
-        (λ storage. IsCommandDone over_files (image_at S.Start) at (order_of command) storage.host done.printed)) }
+        (λ storage. IsCommandDone over_files (image_at S.Start) at (message_of task) storage.host done.printed)) }
 {
     let mut storage = match open_stored_file(rt, path, start, Tuning::default()) {
         Ok(storage) => storage,
@@ -96,7 +95,7 @@ pub fn file_command<S: Start>(
         Err(NoHost::Fault(fault)) => return Err(fault),
     };
     let reading = reading_of(rt, at)?;
-    let printed = apply_command(rt.alloc(), &mut storage, reading, command)?;
+    let printed = apply_command(rt.alloc(), &mut storage, reading, task)?;
     Ok(Done {
         printed,
         storage: Some(storage),

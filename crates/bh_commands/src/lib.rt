@@ -9,6 +9,7 @@ mod lines;
 mod opening;
 mod printed;
 mod serve;
+mod task;
 
 pub use commands::apply_command;
 pub use fault::Fault;
@@ -17,3 +18,4 @@ pub use lines::carry_out;
 pub use opening::{FileConnection, FileHost, NoHost, open_file, open_stored_file};
 pub use printed::Printed;
 pub use serve::{Serving, serve_file};
+pub use task::Task;

@@ -3,10 +3,10 @@ use crate::files::{file_command, finish, init_file};
 use crate::input::{answer_input, secret_of};
 use crate::printed::Printed;
 use crate::serve::{Serving, serve_file};
+use crate::task::Task;
 use bh_event::event::Command;
 use bh_types::limits::{Limits, Tuning};
-use bh_types::refusal::Refusal;
-use bh_words::Line;
+use bh_words::{Line, SecretGiven};
 use sqlite::Wary;
 
 /// Does what a command line asks for, and gives what is printed of it.
@@ -14,67 +14,61 @@ use sqlite::Wary;
 /// Of a subcommand on a file the first of these is told: the file can't be opened, it holds no host (`47
 /// NotAHostFile`; of `init`: it holds something), the clock can't be read, the event is refused.
 pub fn carry_out(rt: &HostRuntime, line: Line) -> Result<Printed, Fault> {
-    match line {
-        Line::Script { limits, tuning } => answer_input(rt, limits, tuning),
-        Line::Init { file, limits } => make_in(rt, file.as_str(), limits),
-        Line::TenantAdd {
-            file,
-            tenant,
-            quota,
-            at,
-        } => command_on(rt, file.as_str(), at, Command::TenantAdd { tenant, quota }),
-        Line::Quota {
-            file,
-            tenant,
-            quota,
-            at,
-        } => command_on(rt, file.as_str(), at, Command::Quota { tenant, quota }),
-        Line::KeyAdd {
-            file,
-            tenant,
-            name,
-            secret,
-            at,
-        } => {
-            // Before a file is opened, so that no other process waits for it.
-            let secret = secret_of(rt, secret)?;
-            let command = Command::KeyAdd {
-                tenant,
-                name,
-                secret,
-            };
-            command_on(rt, file.as_str(), at, command)
-        }
-        Line::KeyRemove {
-            file,
-            tenant,
-            name,
-            at,
-        } => command_on(rt, file.as_str(), at, Command::KeyRemove { tenant, name }),
-        Line::Usage { file, tenant, at } => {
-            command_on(rt, file.as_str(), at, Command::Usage { tenant })
-        }
+    let (file, at, task) = match line {
+        Line::Script { limits, tuning } => return answer_input(rt, limits, tuning),
+        Line::Init { file, limits } => return make_in(rt, file.as_str(), limits),
         Line::Serve {
             file,
             port,
             count,
             timeout,
             tuning,
-        } => serve_from(
-            rt,
-            file.as_str(),
-            tuning,
-            Serving {
-                port,
-                count,
-                timeout,
-            },
-        ),
-        Line::Report { .. } | Line::Sweep { .. } => Ok(Printed::refusal(
-            rt.alloc(),
-            Refusal::NotImplemented,
-        )?),
-    }
+        } => return serve_from(rt, file.as_str(), tuning, port, count, timeout),
+        Line::TenantAdd {
+            file,
+            tenant,
+            quota,
+            at,
+        } => (file, at, Task::Command(Command::TenantAdd { tenant, quota })),
+        Line::Quota {
+            file,
+            tenant,
+            quota,
+            at,
+        } => (file, at, Task::Command(Command::Quota { tenant, quota })),
+        Line::KeyAdd {
+            file,
+            tenant,
+            name,
+            secret,
+            at,
+        } => (file, at, key_add(rt, tenant, name, secret)?),
+        Line::KeyRemove {
+            file,
+            tenant,
+            name,
+            at,
+        } => (file, at, Task::Command(Command::KeyRemove { tenant, name })),
+        Line::Usage { file, tenant, at } => (file, at, Task::Command(Command::Usage { tenant })),
+        Line::Sweep { file, limit, at } => (file, at, Task::Sweep { limit }),
+        Line::Report { file, at } => (file, at, Task::Report),
+    };
+    ask_in(rt, file.as_str(), at, task)
+}
+
+/// A new access key. Its secret is read before a file is opened, so that no other process waits for it.
+fn key_add(
+    rt: &HostRuntime,
+    tenant: String,
+    name: String,
+    secret: SecretGiven,
+) -> Result<Task, Fault> {
+    let secret = secret_of(rt, secret)?;
+    Ok(Task::Command(Command::KeyAdd {
+        tenant,
+        name,
+        secret,
+    }))
 }
 
 /// Makes a host in a file. A crash may have left anything in what was being written.
@@ -82,14 +76,9 @@ fn make_in(rt: &HostRuntime, path: &str, limits: Limits) -> Result<Printed, Faul
     Ok(finish(init_file(rt, path, Wary, limits)?))
 }
 
-/// Applies a command to the host of a file, of whose contents nothing is said.
-fn command_on(
-    rt: &HostRuntime,
-    path: &str,
-    at: Option<u64>,
-    command: Command,
-) -> Result<Printed, Fault> {
-    Ok(finish(file_command(rt, path, Wary, at, command)?))
+/// Asks something of the host of a file, of whose contents nothing is said.
+fn ask_in(rt: &HostRuntime, path: &str, at: Option<u64>, task: Task) -> Result<Printed, Fault> {
+    Ok(finish(file_command(rt, path, Wary, at, task)?))
 }
 
 /// Serves the host of a file, of whose contents nothing is said.
@@ -97,7 +86,14 @@ fn serve_from(
     rt: &HostRuntime,
     path: &str,
     tuning: Tuning,
-    serving: Serving,
+    port: u16,
+    count: u64,
+    timeout: u64,
 ) -> Result<Printed, Fault> {
+    let serving = Serving {
+        port,
+        count,
+        timeout,
+    };
     Ok(finish(serve_file(rt, path, Wary, tuning, serving)?))
 }

@@ -34,7 +34,7 @@ fn request<'a>(alloc: Global, event: &'a Event, cut: &str) -> Option<Request<'a>
             reader: Link::new(reader(bytes.as_slice(), cut.reads)),
             writer: Link::new(Narrow::new(alloc, cut.writes)),
         }),
-        Event::Operator { .. } => None,
+        Event::Operator { .. } | Event::Sweep { .. } | Event::Report { .. } => None,
     }
 }
 
@@ -70,7 +70,7 @@ fn requests<'a>(
     Ok(arrivals)
 }
 
-/// Adds what an operator's command is answered, and a line's end; nothing of a request.
+/// Adds what an operator is answered, and a line's end; nothing of a request.
 fn order_one<H: Storage>(
     alloc: Global,
     host: &mut H,
@@ -80,15 +80,16 @@ fn order_one<H: Storage>(
     requires { Clean H.IsIntact H.IsOpen host.old → IsAtRest H.IsSound (H.seen host.old) }
     ensures { Clean H.IsIntact H.IsOpen host.new → IsAtRest H.IsSound (H.seen host.new) }
 {
-    if let Event::Operator { .. } = event {
-        let told = apply(alloc, host, event);
-        text.extend_from_slice(told.reply.bytes())?;
-        text.push(b'\n')?;
+    if let Event::Http { .. } = event {
+        return Ok(());
     }
+    let told = apply(alloc, host, event);
+    text.extend_from_slice(told.reply.bytes())?;
+    text.push(b'\n')?;
     Ok(())
 }
 
-/// What an operator's commands are answered, a line's end after each.
+/// What an operator is answered, a line's end after each answer.
 fn order<H: Storage>(
     alloc: Global,
     host: &mut H,

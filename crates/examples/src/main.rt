@@ -42,6 +42,7 @@ const USAGE: &str = "usage: examples WORD..
   tables NAME..     compares each row of tables/NAME.txt: a call, its input and what it is to give
   scripts NAME..    compares the answers to the events of scripts/NAME.in with scripts/NAME.out
   small-blocks NAME..  the same on hosts whose blocks have 1, 3, 4 and 16 bytes
+  four-byte-blocks NAME..  the same on a host whose blocks have 4 bytes
   small-parts NAME..  the same on hosts whose parts may have 4 bytes, in blocks of 1, 4 and 65,536
   connections NAME..  the same as scripts, but the operator's commands come first, and then the requests, over connections in
                     memory, each cut as its line of scripts/NAME.cuts says, where there is such a file
@@ -61,6 +62,7 @@ enum Kind {
     Table,
     Script,
     SmallBlocks,
+    FourByteBlocks,
     SmallParts,
     Connections,
     Sockets,
@@ -75,6 +77,7 @@ fn check<R: Runtime + Net<Stream = TcpStream, Listener = TcpListener> + AllocGlo
         Kind::Table => table::check_table(rt, name),
         Kind::Script => scripts::check_script(rt, name, Limits::default(), Tuning::default()),
         Kind::SmallBlocks => scripts::check_in_small_blocks(rt, name),
+        Kind::FourByteBlocks => scripts::check_in_four_byte_blocks(rt, name),
         Kind::SmallParts => scripts::check_in_small_parts(rt, name),
         Kind::Connections => connections::check(rt, name),
         Kind::Sockets => sockets::check(rt, name),
@@ -93,6 +96,7 @@ fn run<R: Runtime + Net<Stream = TcpStream, Listener = TcpListener> + AllocGloba
             "tables" => kind = Kind::Table,
             "scripts" => kind = Kind::Script,
             "small-blocks" => kind = Kind::SmallBlocks,
+            "four-byte-blocks" => kind = Kind::FourByteBlocks,
             "small-parts" => kind = Kind::SmallParts,
             "connections" => kind = Kind::Connections,
             "sockets" => kind = Kind::Sockets,

@@ -114,8 +114,14 @@ fn line(alloc: Global, input: &[u8]) -> Answer {
     match read_line(alloc, input)? {
         Some(Event::Http { reading, bytes }) => http_text(alloc, reading, bytes.as_slice()),
         Some(Event::Operator { reading, command }) => command_text(alloc, reading, &command),
+        Some(Event::Sweep { reading, limit }) => sweep_text(alloc, reading, limit),
+        Some(Event::Report { reading }) => Ok(format!(in alloc; "at {reading}: report")?),
         None => text(alloc, "none"),
     }
+}
+
+fn sweep_text(alloc: Global, reading: u64, limit: u32) -> Answer {
+    Ok(format!(in alloc; "at {reading}: sweep {limit}")?)
 }
 
 fn http_text(alloc: Global, reading: u64, bytes: &[u8]) -> Answer {

@@ -50,6 +50,17 @@ pub fn check_in_small_blocks(
     Ok(is_well)
 }
 
+/// The same on a host whose blocks have 4 bytes.
+pub fn check_in_four_byte_blocks(
+    rt: &(impl Files + Print + AllocGlobal),
+    name: &str,
+) -> io::Result<bool> {
+    match Tuning::new(4, 0) {
+        Some(tuning) => check_script(rt, name, Limits::default(), tuning),
+        None => Ok(false),
+    }
+}
+
 /// The same on hosts whose parts have 4 bytes at least, but for the last, and whose blocks have few bytes.
 pub fn check_in_small_parts(
     rt: &(impl Files + Print + AllocGlobal),

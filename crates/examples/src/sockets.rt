@@ -61,7 +61,7 @@ fn answer<N: Net<Stream = TcpStream, Listener = TcpListener> + AllocGlobal, H: S
         Event::Http { reading, bytes } => {
             exchange(net, host, listener, *reading, bytes.as_slice())
         }
-        Event::Operator { .. } => {
+        Event::Operator { .. } | Event::Sweep { .. } | Event::Report { .. } => {
             let told = apply(net.alloc(), host, event);
             Ok(Vec::from_slice(net.alloc(), told.reply.bytes())?)
         }

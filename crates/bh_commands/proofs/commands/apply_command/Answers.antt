@@ -1,5 +1,5 @@
-use Rattle.std.proofs.Common.{sym, ◌∙◌}
-use Rattle.bh_event.specs.Events.{order_of}
+use Rattle.std.proofs.Common.{◌≡◌, Option, List, ℕ, sym, subst, ◌∙◌}
+use Rattle.bh_event.specs.Events.{Arrival}
 use Rattle.bh_host.specs.Replies.{reply_bytes}
 use Rattle.bh_commands.proofs.Printing.{kept_when_done}
 use Rattle.bh_commands.proofs.commands.apply_command.Goals as goal
@@ -11,10 +11,10 @@ returns-clause-applied g c =
     record {
       stamp = told.result.stamp;
       reply = reply_bytes told.result.reply;
-      applied = told.ensures.applied;
+      applied = rw sym c.at-event.ensures at told.ensures.applied;
       told_apart = told.ensures.told_apart;
       line = printed;
       kept = λ done intact.
-          kept_when_done c.args.reading (order_of c.args.command) told.result.stamp (reply_bytes told.result.reply) (told.ensures.told_apart intact) told.ensures.acknowledged
+          kept_when_done c.args.reading c.args.task told.result.stamp (reply_bytes told.result.reply) (told.ensures.told_apart intact) told.ensures.acknowledged
           (sym printed.status ∙ done) intact;
     }
