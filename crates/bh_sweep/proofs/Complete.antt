@@ -91,7 +91,7 @@ used_stored refs blocks s = record {
   once = unique_filtered octets (λ (b : BlockRow). b.bytes) blocks (is_used refs) s.once;
   named = λ q none. elim (list_any (is_use q) refs) as (λ b. list_any (is_use q) refs ≡ b → matching same_name ref_name q refs ≡ []) [
     | true ↦ λ used. s.named q (ap first (sym (filter_within (λ (b : BlockRow). same_name (block_name b) q) (is_used refs) blocks
-          (all_at (λ (b : BlockRow). same_name (block_name b) q) (λ b here. ap (λ n. list_any (is_use n) refs) ((names.decides (block_name b) q).0 here) ∙ used) blocks))) ∙ none)
+        (all_at (λ (b : BlockRow). same_name (block_name b) q) (λ b here. ap (λ n. list_any (is_use n) refs) ((names.decides (block_name b) q).0 here) ∙ used) blocks))) ∙ none)
     | false ↦ λ unused. filter_none (is_use q) refs (none_from_any (is_use q) refs unused)
   ] refl;
 }
