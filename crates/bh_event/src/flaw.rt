@@ -65,9 +65,8 @@ fn flaw_in(document: &Value) -> Flaw
         return Flaw::NoReading;
     }
     match text_at(document, "op") {
-        Some(
-            "tenant-add" | "quota" | "key-add" | "key-remove" | "usage" | "sweep" | "report",
-        ) => Flaw::WrongMembers,
+        Some("tenant-add" | "quota" | "key-add" | "key-remove" | "usage" | "sweep" | "report") =>
+            Flaw::WrongMembers,
         Some(_) => Flaw::UnknownCommand,
         None => flaw_of_request(document),
     }

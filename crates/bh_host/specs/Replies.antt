@@ -154,13 +154,15 @@ text (Commanded order) outcome = line order outcome
 abbrev pub sweep_text : SweepReport → Octets
 sweep_text report =
     codes "sweep uploads "
-    ++ (decimal report.uploads ++ (codes " blocks " ++ (decimal report.blocks ++ (if report.complete then codes " complete" else codes " partial"))))
+    ++ (decimal report.uploads
+    ++ (codes " blocks " ++ (decimal report.blocks ++ (if report.complete then codes " complete" else codes " partial"))))
 
 abbrev pub report_text : StoreReport → Octets
 report_text report =
     codes "blocks "
     ++ (decimal report.blocks
-    ++ (codes " stored " ++ (decimal report.stored ++ (codes " referred " ++ (decimal report.referred ++ (codes " clashes " ++ decimal report.clashes))))))
+    ++ (codes " stored "
+    ++ (decimal report.stored ++ (codes " referred " ++ (decimal report.referred ++ (codes " clashes " ++ decimal report.clashes))))))
 
 -- who asks: a request, or an operator
 abbrev pub caller_of : Message → Caller

@@ -49,7 +49,8 @@ pub record RanOn {H : Type 0} (IsOpen : H → Type 0) (seen : H → Seen) (left 
 -- the first turn is of this message, and others are left; a sweep and a report are nobody's, and no turn
 abbrev pub ShowsAct : HostLimits → Message → ℕ → List ℕ → (List Turn → Type 0) → List Turn → Type 0
 ShowsAct limits message m reply rest turns =
-    (act : Act) × (others : List Turn) × Acted limits message act × (turns ≡ record { act = act; stamp = m; reply = reply } ∷ others) × rest others
+    (act : Act) × (others : List Turn) × Acted limits message act
+    × (turns ≡ record { act = act; stamp = m; reply = reply } ∷ others) × rest others
 
 abbrev pub ShowsTurn : HostLimits → Message → ℕ → List ℕ → (List Turn → Type 0) → List Turn → Type 0
 ShowsTurn limits (Requested bytes) m reply rest turns = ShowsAct limits (Requested bytes) m reply rest turns

@@ -276,8 +276,8 @@ fn caller_of(event: &Event) -> Caller
 /// operator. In these cases there is no stamp, and all tables are as they were. Otherwise the event counts at its
 /// stamp, the greater of its reading and the last stamp, and its tenant is answered as its private machine answers.
 ///
-/// A sweep and a report belong to nobody. A sweep removes what is stale or unreferenced, of all tenants, up to its
-/// limit, and each tenant's answers stay those of its own machine; a report counts what is stored and changes nothing.
+/// A sweep and a report belong to nobody: a sweep removes what is stale or unreferenced, of all tenants, up to its
+/// limit, and a report counts what is stored. Each tenant's answers stay those of its own machine.
 ///
 /// All that is said of replies and of a crash holds also where the store reports faults; what is said of the tables
 /// holds while no fault has shut it.

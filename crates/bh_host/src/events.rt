@@ -12,9 +12,10 @@ use bh_storage::storage::Storage;
 use std::alloc::{AllocError, Global};
 
 /// Applies events in turn, and gives what each was answered. To each tenant the answers are those of a machine
-/// that it has to itself, whatever sweeps and reports come between its events: these belong to nobody, a sweep takes
-/// away what is stale or unreferenced, and a report changes nothing. Its vector is taken first: where memory is
-/// wanting for it, nothing is applied.
+/// that it has to itself. Its vector is taken first: where memory is wanting for it, nothing is applied.
+///
+/// A sweep and a report belong to nobody: a sweep removes what is stale or unreferenced, of all tenants, and a report
+/// changes nothing, so that each tenant's answers stay those of its own machine.
 ///
 /// A fault of the store takes nothing from what is said of the events before it.
 pub fn run<H: Storage>(

@@ -1,4 +1,4 @@
-//! Events on a host: each is applied in one transaction, and answered as its tenant's private machine answers it.
+//! Events on a host: each is applied in one transaction, and a tenant's are answered as its private machine answers them.
 #![tactic(auto)]
 
 mod answers;

@@ -256,7 +256,11 @@ pub fn sweep_line(alloc: Global, report: SweepReport) -> Result<String, AllocErr
 {
     let uploads = report.uploads;
     let blocks = report.blocks;
-    let end = if report.complete { "complete" } else { "partial" };
+    let end = if report.complete {
+        "complete"
+    } else {
+        "partial"
+    };
     format!(in alloc; "sweep uploads {uploads} blocks {blocks} {end}")
 }
 

@@ -141,7 +141,8 @@ pub trait Storage {
         ensures within { Within IsIntact IsOpen seen left self.old self.new }
         ensures opens { OnOk result (IsOpen self.old → IsIntact self.new → IsOpen self.new) }
         ensures working { OnOk result (Clean IsIntact IsOpen self.new → IsWorking IsSound (seen self.new)) }
-        ensures sweeps { IfOk result (λ report. Clean IsIntact IsOpen self.new → Sweeps at limit report (seen self.old).now (seen self.new).now) };
+        ensures sweeps { IfOk result (λ report. Clean IsIntact IsOpen self.new
+            → Sweeps at limit report (seen self.old).now (seen self.new).now) };
 
     /// Counts what all tenants together have stored. The store refuses a sum of bytes of 2^63 or more.
     fn report(&mut self) -> Result<StoreReport, Trouble>
@@ -149,5 +150,6 @@ pub trait Storage {
         ensures within { Within IsIntact IsOpen seen left self.old self.new }
         ensures opens { OnOk result (IsOpen self.old → IsIntact self.new → IsOpen self.new) }
         ensures working { OnOk result (Clean IsIntact IsOpen self.new → IsWorking IsSound (seen self.new)) }
-        ensures reports { IfOk result (λ report. Clean IsIntact IsOpen self.new → Reports report (seen self.old).now (seen self.new).now) };
+        ensures reports { IfOk result (λ report. Clean IsIntact IsOpen self.new
+            → Reports report (seen self.old).now (seen self.new).now) };
 }
