@@ -1,20 +1,25 @@
 -- From the words of a connection to those of a host's storage.
-use Rattle.std.proofs.Common.{◌≡◌, ℕ, ◌≤◌, true, Option, Result, Ok, Err, refl, sym, ap, ◌∙◌, subst, OnOk}
+use Rattle.std.proofs.Common.{◌≡◌, ℕ, ◌≤◌, true, length, Option, Result, Ok, Err, refl, sym, ap, ◌∙◌, subst, OnOk, IfOk}
 use Rattle.sqlite.specs.State.{State}
 use Rattle.sqlite_trees.specs.declared.store.Store.{Ghosts}
 use Rattle.bh_types.specs.Limits.{HostLimits}
 use Rattle.bh_model.proofs.BoundLemmas.{used_stays_bounded}
+use Rattle.bh_model.specs.Runs.{purged_tenant}
 use Rattle.bh_model.specs.QuotaLaws.{IsBounded, StaysBounded}
 use Rattle.bh_model.specs.State.{Octets, State as Machine}
 use Rattle.bh_tables.specs.Typed.{Tables}
 use Rattle.bh_view.specs.Blocks.{AreDigests}
 use Rattle.bh_view.specs.Bodies.{AreBounded, IsSoundHost}
 use Rattle.bh_view.specs.Sound.{IsSound}
+use Rattle.bh_view.specs.Sweep.{uploads_swept, blocks_swept, swept, is_complete}
 use Rattle.bh_view.specs.View.{view, latest_of, limits_in, rows_purged}
 use Rattle.bh_view.proofs.BoundLemmas.{bounded_but, bounded_step}
 use Rattle.bh_view.proofs.PurgeLemmas.{rows_gone}
+use Rattle.bh_view.proofs.SweptLemmas.{swept_latest, swept_bounded}
 use Rattle.bh_storage.specs.declared.error.StepError.{StepError}
 use Rattle.bh_storage.specs.declared.error.StepError.TheVariants.{Refused, Failed}
+use Rattle.bh_storage.specs.declared.report.StoreReport.{StoreReport}
+use Rattle.bh_storage.specs.declared.report.SweepReport.{SweepReport}
 use Rattle.bh_storage.specs.Calls as calls
 use Rattle.bh_schema.specs.Layer.{IsStateClean}
 use Rattle.bh_schema.specs.Storage.{seen_in, IsIntact, IsOpen, seen, left, Keeps}
@@ -120,6 +125,48 @@ module _ (digest : Octets → Octets) (l : HostLimits) (old new : State) where
   purged_after (Ok x) t at was still h = λ clean.
       rw (shows_in l old (was clean), (shown_now l new (still (both clean) digest).is).0) (purges (tables_at old) (tables_at new) t at (seen_working digest l old (was clean)).sound (h (both clean)))
   purged_after (Err e) t at was still h = tt
+
+-- ---- a sweep, and a report
+
+module _ (digest : Octets → Octets) (l : HostLimits) (old new : State) where
+  -- nobody uses more than before
+  pub swept_works : {X E : Type 0} (result : Result X E) (at n : ℕ) → (AreBoth new → IsAtWork digest l old) → OnOk result (AreDigests digest (tables_at old).blocks → IsStateClean new → StillWorkingBy digest old new)
+      → OnOk result (IsStateClean new → tables_at new ≡ swept at n (tables_at old)) → OnOk result (AreBoth new → IsAtWork digest l new)
+  swept_works (Ok x) at n was still is = λ clean.
+      let working = still (digests_seen digest l old (was clean)) (both clean) in
+      working_seen digest l old new (was clean) working
+      (swept_bounded at n (tables_at old) (tables_at new) (seen_working digest l old (was clean)).sound working.is.sound (is (both clean)) (bounded_seen digest l old (was clean)))
+  swept_works (Err e) at n was still is = tt
+
+  pub sweeps_after : {E : Type 0} (result : Result SweepReport E) (at n : ℕ) → (AreBoth new → IsAtWork digest l old) → OnOk result (AreDigests digest (tables_at old).blocks → IsStateClean new → StillWorkingBy digest old new)
+      → OnOk result (IsStateClean new → tables_at new ≡ swept at n (tables_at old))
+      → IfOk result (λ report. IsStateClean new → report.uploads ≡ length (uploads_swept at n (tables_at old)))
+      → IfOk result (λ report. IsStateClean new → report.blocks ≡ length (blocks_swept at n (tables_at old)))
+      → IfOk result (λ report. IsStateClean new → report.complete ≡ is_complete at n (tables_at old))
+      → OnOk result (IsStateClean new → AreDigests digest (tables_at old).blocks → (t : Octets) → purged_tenant (view (tables_at new) t) at ≡ purged_tenant (view (tables_at old) t) at)
+      → IfOk result (λ report. AreBoth new → calls.Sweeps at n report (seen_in l old).now (seen_in l new).now)
+  sweeps_after (Ok report) at n was still is uploads blocks complete views = λ clean.
+      let digests = digests_seen digest l old (was clean) in
+      rw (shows_in l old (was clean), (shown_now l new (still digests (both clean)).is).0) (record {
+        is = is (both clean);
+        counted = λ i. record { uploads = uploads (both clean) i; blocks = blocks (both clean) i; complete = complete (both clean) i };
+        views = views (both clean) digests;
+        latest = ap latest_of (is (both clean)) ∙ swept_latest at n (tables_at old);
+      })
+  sweeps_after (Err e) at n was still is uploads blocks complete views = tt
+
+  -- the tables stay
+  pub reported_works : {E : Type 0} (result : Result StoreReport E) → (AreBoth new → IsAtWork digest l old) → OnOk result (IsStateClean new → StillWorking old new)
+      → IfOk result (λ report. IsStateClean new → calls.Reports report (tables_at old) (tables_at new)) → OnOk result (AreBoth new → IsAtWork digest l new)
+  reported_works (Ok report) was still h = λ clean.
+      working_seen digest l old new (was clean) (still (both clean) digest) (subst AreBounded (sym (h (both clean)).same) (bounded_seen digest l old (was clean)))
+  reported_works (Err e) was still h = tt
+
+  pub reports_after : {E : Type 0} (result : Result StoreReport E) → (AreBoth new → IsAtWork digest l old) → OnOk result (IsStateClean new → StillWorking old new)
+      → IfOk result (λ report. IsStateClean new → calls.Reports report (tables_at old) (tables_at new))
+      → IfOk result (λ report. AreBoth new → calls.Reports report (seen_in l old).now (seen_in l new).now)
+  reports_after (Ok report) was still h = λ clean. rw (shows_in l old (was clean), (shown_now l new (still (both clean) digest).is).0) (h (both clean))
+  reports_after (Err e) was still h = tt
 
 pub opened_ok : {X E : Type 0} (I A B : Type 0) (result : Result X E) → OnOk result (I → A → B) → OnOk result (A → I → B)
 opened_ok I A B (Ok x) h = λ up intact. h intact up

@@ -6,6 +6,7 @@ use bh_operation::operation::Operation;
 use bh_schema::host::{Digester, Host};
 use bh_storage::answer::Answer;
 use bh_storage::error::{StepError, Trouble};
+use bh_storage::report::{StoreReport, SweepReport};
 use bh_storage::storage::Storage;
 use bh_types::access_key::AccessKeyId;
 use bh_types::limits::{Limits, Tuning};
@@ -107,5 +108,13 @@ impl<S: Alter + Drop, D: Digester + Drop> Storage for HostStorage<S, D> {
             }
             _ => answers::changed(commands::change(&mut self.host, alloc, command)),
         }
+    }
+
+    fn sweep(&mut self, alloc: Global, at: Moment, limit: u32) -> Result<SweepReport, Trouble> {
+        bh_sweep::sweep::sweep(&mut self.host.connection, alloc, at, limit)
+    }
+
+    fn report(&mut self) -> Result<StoreReport, Trouble> {
+        bh_sweep::report::report(&mut self.host.connection)
     }
 }

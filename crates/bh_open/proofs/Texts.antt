@@ -1,5 +1,5 @@
 -- The text that reads the host's row.
-use Rattle.std.proofs.Common.{◌≡◌, ℕ, codes, List, [], ◌∷◌, map, filter, true, Ok, Err, Result, IfOk, IfErr, refl, ap, ◌∙◌}
+use Rattle.std.proofs.Common.{◌≡◌, ℕ, codes, List, [], ◌∷◌, map, true, Ok, Err, Result, IfOk, IfErr, refl, ap, ◌∙◌}
 use Rattle.sqlite.specs.Listing.{understood}
 use Rattle.sqlite.specs.Order.{Row}
 use Rattle.sqlite.specs.Term.{col}
@@ -12,6 +12,7 @@ use Rattle.bh_rows.specs.Texts.{SelectText}
 use Rattle.bh_rows.proofs.ScanLemmas.{scan_asks, scan_rows}
 use Rattle.bh_tables.specs.Schema.{host_schema}
 use Rattle.bh_tables.specs.Typed.{IsHost, host_form, tables_in}
+use Rattle.bh_tables.proofs.Statements.{all_pass}
 use Rattle.bh_schema.specs.Layer.{standing, IsStateClean, IsIntact, IsOpen}
 use Rattle.bh_open.specs.Opening.{shown_row}
 
@@ -30,10 +31,6 @@ row_shown = record {
   tests = λ id h. refl;
   shows = λ id h. refl;
 }
-
-all_pass : {X : Type 0} (xs : List X) → filter (λ _. true) xs ≡ xs
-all_pass [] = refl
-all_pass (x ∷ xs) = ap (λ l. x ∷ l) (all_pass xs)
 
 module _ {X : Type 0} (old new : State) (schema : IsStateClean old → (standing old).now.schema ≡ host_schema) (rows_in : X → List Row) (result : Result X Error)
     (ok : HasCleanDisk new → IfOk result (λ x. Shown row_text [] old new (rows_in x))) (survives : Survives old new (CommitsShowing row_text [] old)) where

@@ -18,6 +18,7 @@ use Rattle.bh_view.proofs.FilterLemmas.{filter_swap, filter_both, length-filter-
 use Rattle.bh_view.proofs.Keys.{octets, numbers}
 use Rattle.bh_view.proofs.NameLemmas.{names, none_pass}
 use Rattle.bh_view.proofs.PurgeLemmas.{any_filtered}
+use Rattle.bh_view.proofs.SweptLemmas.{each_keeps}
 use Rattle.bh_uploads.proofs.Gone.{any_agree, any_sorted, deleted_twice}
 
 -- ---- lists
@@ -133,12 +134,10 @@ each_uploads [] x = sym (all_kept x.uploads)
 each_uploads (u ∷ us) x = each_uploads us _ ∙ deleted_twice (same_upload u) (named same_upload upload_itself us) x.uploads
 
 pub each_buckets : (us : List UploadRow) (x : Tables) → (without_each us x).buckets ≡ x.buckets
-each_buckets [] x = refl
-each_buckets (u ∷ us) x = each_buckets us _
+each_buckets = each_keeps (λ x. x.buckets) (λ t gone x. refl)
 
 pub each_blocks : (us : List UploadRow) (x : Tables) → (without_each us x).blocks ≡ x.blocks
-each_blocks [] x = refl
-each_blocks (u ∷ us) x = each_blocks us _
+each_blocks = each_keeps (λ x. x.blocks) (λ t gone x. refl)
 
 -- ---- a sweep
 
@@ -153,7 +152,7 @@ module _ (at n : ℕ) (old : Tables) where
       (λ i. list_any (λ (u : UploadRow). is_due at (record old { buckets = each_buckets (uploads_swept at n old) old i }) u) (each_uploads (uploads_swept at n old) old i))
       ∙ due_left same_upload upload_itself (is_due at old) by_owner old.uploads n (uploads_once old sound)
 
-  all_taken : nat_le (length (due_uploads at old)) n ≡ true → uploads_swept at n old ≡ due_uploads at old
+  pub all_taken : nat_le (length (due_uploads at old)) n ≡ true → uploads_swept at n old ≡ due_uploads at old
   unfolding uploads_swept
   all_taken low = take_all n (due_uploads at old) (leb-true _ _ low)
 

@@ -1,16 +1,19 @@
 -- The texts over blocks.
-use Rattle.std.proofs.Common.{◌≡◌, ℤ, pos, codes, [], ◌∷◌, ◌&&◌, true, false, refl, sym, ◌∙◌}
+use Rattle.std.proofs.Common.{◌≡◌, ℤ, pos, nat_lt, length, codes, [], ◌∷◌, ◌&&◌, true, false, refl, sym, ◌∙◌}
 use Rattle.std.specs.List.{list_any}
 use Rattle.std.specs.Cmp.{signed_Decides}
 use Rattle.std.specs.Ordering.{int_eq}
 use Rattle.std.proofs.lemmas.Bool.{and_parts}
-use Rattle.sqlite.specs.declared.types.Value.TheVariants.{Null, Blob}
+use Rattle.sqlite.specs.declared.types.Value.TheVariants.{Null, Int, Blob}
 use Rattle.sqlite.specs.Edit.{next_rowid}
 use Rattle.sqlite.specs.Effect.{Database}
 use Rattle.sqlite.specs.Collation.TheVariants.{Binary}
 use Rattle.sqlite.specs.Listing.{understood}
-use Rattle.sqlite.specs.Term.{lit, col}
-use Rattle.sqlite_sql.specs.declared.ops.CompareOp.TheVariants.{Eq}
+use Rattle.sqlite.specs.Term.{lit, col, op1, op2}
+use Rattle.sqlite_sql.specs.declared.ops.BinaryOp.TheVariants.{Compare}
+use Rattle.sqlite_sql.specs.declared.ops.CompareOp.TheVariants.{Eq, Gt}
+use Rattle.sqlite_sql.specs.declared.ops.UnaryOp.TheVariants.{Length}
+use Rattle.sqlite_sql.specs.Ops.{unary}
 use Rattle.sqlite_value.specs.Keys.{plain, ascending, first_key}
 use Rattle.sqlite_value.proofs.OrderLemmas.{value_cmp-Int}
 use Rattle.sqlite_schema.specs.Rules.{agree}
@@ -20,7 +23,7 @@ use Rattle.sqlite_typed.proofs.TestLemmas.{same_bytes, at_blobs, at_ints, last_t
 use Rattle.bh_rows.specs.Form.{put}
 use Rattle.bh_rows.specs.Keys.{Pointer, points_at}
 use Rattle.bh_rows.specs.Scan.{by_rowid, no_limit}
-use Rattle.bh_rows.specs.Texts.{MayAdd, InsertText, DeleteText, SelectText, SortedText}
+use Rattle.bh_rows.specs.Texts.{MayAdd, InsertText, DeleteText, SelectText, SortedText, SumText}
 use Rattle.bh_rows.proofs.DeleteErrors.{none_points, none_named}
 use Rattle.bh_rows.proofs.FormLemmas.{any_typed}
 use Rattle.bh_tables.specs.Schema.{Octets, host_schema, blocks_table, at}
@@ -113,4 +116,45 @@ block_deleted q = record {
   means = record { is = refl; plain = (refl, refl); unlisted = refl; whole = refl; given = refl };
   accepts = refl;
   tests = λ id b. then_term (at_blobs false Eq b.digest q.0) (last_term (at_ints false Eq (pos b.ord) (pos q.1)));
+}
+
+-- 1 for each row
+pub blocks_counted : SumText block_form host_schema 10 (codes "SELECT coalesce(sum(1), 0) FROM blocks") [] (λ _. true) (λ _. 1)
+unfolding understood everything
+blocks_counted = record {
+  test = [];
+  argument = lit (Int (pos 1));
+  names = codes "coalesce(sum(1), 0)" ∷ [];
+  means = record { is = refl; plain = (refl, refl); unlisted = refl; whole = refl; given = refl };
+  low = refl;
+  accepts = refl;
+  tests = λ id b. refl;
+  reads = λ id b. refl;
+}
+
+-- a block whose digest another block had
+pub clashes_counted : SumText block_form host_schema 10 (codes "SELECT coalesce(sum(1), 0) FROM blocks WHERE ord > 0") [] (λ b. nat_lt 0 b.ord) (λ _. 1)
+unfolding understood everything
+clashes_counted = record {
+  test = op2 (Compare Gt Binary) (col 1 2) (lit (Int (pos 0))) ∷ [];
+  argument = lit (Int (pos 1));
+  names = codes "coalesce(sum(1), 0)" ∷ [];
+  means = record { is = refl; plain = (refl, refl); unlisted = refl; whole = refl; given = refl };
+  low = refl;
+  accepts = refl;
+  tests = λ id b. last_term (at_ints false Gt (pos b.ord) (pos 0));
+  reads = λ id b. refl;
+}
+
+pub blocks_summed : SumText block_form host_schema 10 (codes "SELECT coalesce(sum(length(bytes)), 0) FROM blocks") [] (λ _. true) (λ b. length b.bytes)
+unfolding understood everything unary
+blocks_summed = record {
+  test = [];
+  argument = op1 Length (col 1 3);
+  names = codes "coalesce(sum(length(bytes)), 0)" ∷ [];
+  means = record { is = refl; plain = (refl, refl); unlisted = refl; whole = refl; given = refl };
+  low = refl;
+  accepts = refl;
+  tests = λ id b. refl;
+  reads = λ id b. refl;
 }

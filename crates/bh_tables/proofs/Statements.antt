@@ -1,5 +1,5 @@
 -- What a text over one table does to all of a host's tables: the lemmas on texts, once for every table.
-use Rattle.std.proofs.Common.{◌≡◌, ℕ, List, [], ◌∷◌, ◌++◌, map, filter, Bool, true, None, Ok, Err, Result, OnOk, IfOk, IfErr, IsTrue, Ordering, subst, take, pos, ◌<◌, ◌≤◌, ◌^◌, ◌⊎◌, inl, inr, sum_by, length, arith, refl}
+use Rattle.std.proofs.Common.{◌≡◌, ℕ, List, [], ◌∷◌, ◌++◌, map, filter, Bool, true, None, Ok, Err, Result, OnOk, IfOk, IfErr, IsTrue, Ordering, subst, take, pos, ◌<◌, ◌≤◌, ◌^◌, ◌⊎◌, inl, inr, sum_by, length, arith, refl, ap}
 use Rattle.std.proofs.lemmas.List.Sums.{sum_by-cons}
 use Rattle.sqlite.specs.Order.{Row}
 use Rattle.sqlite.specs.Tree.{Trees}
@@ -59,6 +59,11 @@ module _ {X : Type 0} (result : Result X Error) where
 pub ones : {X : Type 0} (xs : List X) → sum_by (λ _. 1) xs ≡ length xs
 ones [] = refl
 ones {X} (x ∷ xs) = let rest = ones xs in omega (arith, rest, sum_by-cons (λ (_ : X). 1) x xs)
+
+-- a text with no test shows all rows
+pub all_pass : {X : Type 0} (xs : List X) → filter (λ _. true) xs ≡ xs
+all_pass [] = refl
+all_pass (x ∷ xs) = ap (λ l. x ∷ l) (all_pass xs)
 
 -- a sum that is too wide is no trouble, but it is no small one either
 pub if_narrow : {X : Type 0} (total : ℕ) (r : Result X Error) → IfErr r (λ e. (is_trouble e ≡ true) ⊎ ((e ≡ SqliteFailure IntegerOverflow) × (2 ^ 63 ≤ total))) → IfErr r (λ e. total < 2 ^ 63 → is_trouble e ≡ true)

@@ -61,7 +61,7 @@ any_agree : {T : Type 0} (p q : T → Bool) (xs : List T) → AllByRecursion (λ
 any_agree p q [] all = refl
 any_agree p q (x ∷ xs) all = ap₂ ◌||◌ all.0 (any_agree p q xs all.1)
 
-filter_agree : {T : Type 0} (p q : T → Bool) (xs : List T) → AllByRecursion (λ x. p x ≡ q x) xs → filter p xs ≡ filter q xs
+pub filter_agree : {T : Type 0} (p q : T → Bool) (xs : List T) → AllByRecursion (λ x. p x ≡ q x) xs → filter p xs ≡ filter q xs
 filter_agree p q [] all = refl
 filter_agree p q (x ∷ xs) all = ap₂ (λ b l. cond b (x ∷ l) l) all.0 (filter_agree p q xs all.1)
 

@@ -48,3 +48,4 @@ pub mod QuotaLemmas
 pub mod BoundLemmas
 pub mod SweepLemmas
 pub mod DueLemmas
+pub mod SweptLemmas

@@ -1,6 +1,7 @@
 -- What shows that the definitions are the intended ones: a tenant's state is of its own rows, a new host is sound, a block
--- takes the least ordinal that is free, and a body adds one block for each distinct piece that had none.
-use Rattle.std.specs.Prelude.{◌≡◌, ℕ, true, ◌&&◌, List, [], ◌∷◌, ◌++◌, length, None}
+-- takes the least ordinal that is free, a body adds one block for each distinct piece that had none, and a complete sweep
+-- leaves what is needed.
+use Rattle.std.specs.Prelude.{◌≡◌, ℕ, true, ◌&&◌, List, [], ◌∷◌, ◌++◌, length, filter, None}
 use Rattle.std.specs.List.{AllByRecursion, list_any}
 use Rattle.sqlite_typed.specs.Tests.{bytes_eq}
 use Rattle.bh_types.specs.Limits.{AreLimits}
@@ -10,6 +11,7 @@ use Rattle.bh_tables.specs.Shown.{Name, same_name, block_name, is_use, is_of_bod
 use Rattle.bh_view.specs.Grouped.{matching, HasUnique}
 use Rattle.bh_view.specs.Blocks.{AreStored, AreDigests, free_ord, IsLeastFree}
 use Rattle.bh_view.specs.Bodies.{blocks_after, refs_after}
+use Rattle.bh_view.specs.Sweep.{due_uploads, swept, is_complete}
 use Rattle.bh_view.specs.View.{rows_of, view, latest_of, limits_in}
 use Rattle.bh_view.specs.Sound.{IsSound}
 
@@ -60,3 +62,15 @@ pub record AddsEachOnce (body : Name) (cs : List Octets) (blocks now : List Bloc
 abbrev pub EachPieceIsOnce : Type 0
 EachPieceIsOnce = (digest : Octets → Octets) (body : Name) (cs : List Octets) (refs : List RefRow) (blocks : List BlockRow) → AreStored refs blocks → AreDigests digest blocks
     → AddsEachOnce body cs blocks (blocks_after digest cs blocks) (refs_after digest body 0 cs blocks refs)
+
+-- no upload that is stale at the moment is left, and of the blocks those alone that a reference still names, in their order;
+-- so no two of them hold equal bytes, and each reference names one of them, where that held before
+pub record LeavesNeeded (at : ℕ) (old new : Tables) : Type 0 where
+  pub uploads : due_uploads at new ≡ []
+  pub blocks : new.blocks ≡ filter (λ (b : BlockRow). list_any (is_use (block_name b)) new.refs) old.blocks
+  pub stored : AreStored old.refs old.blocks → AreStored new.refs new.blocks
+
+-- so it is after a complete sweep, also of tables that are not sound: the references that name a block are those that name
+-- any other of its name
+abbrev pub CompleteSweeps : Type 0
+CompleteSweeps = (at limit : ℕ) (old : Tables) → is_complete at limit old ≡ true → LeavesNeeded at old (swept at limit old)

@@ -1,0 +1,24 @@
+use Rattle.std.proofs.Common.{refl}
+use Rattle.sqlite.specs.Held.{state}
+use Rattle.bh_schema.specs.Layer.{IsIntact, IsOpen}
+use Rattle.bh_schema.proofs.Storing.{AreBoth, both, parts, keeps}
+use Rattle.bh_dispatch.proofs.Storing.{IsAtWork, seen_working, stored, reported_works, reports_after, opened_ok}
+use Rattle.bh_dispatch.proofs.storage.HostStorageStorage.report.Goals as goal
+
+pub report-requires : goal.report-requires
+report-requires g c clean = seen_working g.D.Digester.digest_of c.args.self.now.host.limits (state g.S.Store c.args.self.now.host.connection) (c.requires (parts clean))
+
+pub returns : goal.returns
+returns g c =
+    let l = c.args.self.now.host.limits in
+    let digest = g.D.Digester.digest_of in
+    let old = state g.S.Store c.args.self.now.host.connection in
+    let new = state g.S.Store c.report.new.connection in
+    let h = c.report.ensures in
+    let was : AreBoth new → IsAtWork digest l old = λ clean. c.requires (parts (h.within.follows.clean (both clean))) in
+    record {
+      within = stored g.S.Store c.args.self.now _ (keeps g.S.Store c.args.self.now.host _ refl h.within);
+      opens = opened_ok (IsIntact new) (IsOpen old) (IsOpen new) c.report.result h.opens;
+      working = reported_works digest l old new c.report.result was h.working h.reports;
+      reports = reports_after digest l old new c.report.result was h.working h.reports;
+    }
