@@ -14,7 +14,8 @@ use Rattle.bh_tables.specs.Hosts.{tables_shown}
 use Rattle.bh_tables.specs.Schema.{host_schema}
 use Rattle.bh_schema.specs.Layer.{standing, IsIntact, IsOpen, IsStateClean, KeepsDisk}
 use Rattle.bh_schema.specs.Storage.{seen_in}
-use Rattle.bh_commands.specs.Files.{AreTablesIn, HoldsSoundHost, IsOpenedOn}
+use Rattle.bh_file.specs.Opened.{IsOpenedOn}
+use Rattle.bh_commands.specs.Files.{AreTablesIn, HoldsSoundHost}
 
 -- ---- no file, or an empty one
 

@@ -3,8 +3,6 @@ use Rattle.std.specs.Prelude.{◌≡◌}
 use Rattle.sqlite_wal.specs.Recovery.{Image}
 use Rattle.sqlite.specs.Effect.{Database, IsDatabase}
 use Rattle.sqlite.specs.Files.{AreFoundIn}
-use Rattle.sqlite.specs.Start.{FindsIn}
-use Rattle.sqlite.specs.State.{State, HasCleanDisk, IsLive, Opens}
 use Rattle.sha2.specs.Sha256.{sha256}
 use Rattle.bh_tables.specs.Hosts.{tables_shown}
 use Rattle.bh_tables.specs.Schema.{host_schema}
@@ -22,8 +20,3 @@ pub record AreTablesIn (image : Image) (tables : Tables) : Type 0 where
 -- what they hold of a host is sound, its blocks named by SHA-256
 abbrev pub HoldsSoundHost : Image → Type 0
 HoldsSoundHost image = (tables : Tables) → AreTablesIn image tables → IsSoundHost sha256 tables
-
--- a connection shows what they hold, if they returned what was written to them
-pub record IsOpenedOn (image : Image) (s : State) : Type 0 where
-  pub opened : HasCleanDisk s → Opens s × IsLive s
-  pub found : HasCleanDisk s → FindsIn image s

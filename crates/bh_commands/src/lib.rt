@@ -15,7 +15,7 @@ pub use commands::apply_command;
 pub use fault::Fault;
 pub use files::{Done, file_command, finish, init_file};
 pub use lines::carry_out;
-pub use opening::{FileConnection, FileHost, NoHost, open_file, open_stored_file};
+pub use opening::{FileHost, NoHost, open_file, open_stored_file};
 pub use printed::Printed;
 pub use serve::{Serving, serve_file};
 pub use task::Task;

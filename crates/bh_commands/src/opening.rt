@@ -7,22 +7,21 @@ ghost use Rattle.sha2.specs.Sha256.{sha256};
 ghost use Rattle.bh_view.specs.Bodies.{IsSoundHost};
 ghost use Rattle.bh_schema.specs.Storage.{IsClean, seen};
 ghost use Rattle.bh_storage.specs.Calls.{IsAtRest};
-ghost use Rattle.bh_commands.specs.Files.{IsOpenedOn, AreTablesIn, HoldsSoundHost};
+ghost use Rattle.bh_file.specs.Opened.{IsOpenedOn};
+ghost use Rattle.bh_commands.specs.Files.{AreTablesIn, HoldsSoundHost};
 
 use crate::fault::Fault;
 use bh_blocks::digester::Sha256Digester;
 use bh_dispatch::storage::HostStorage;
+use bh_file::FileConnection;
 use bh_open::open_host;
 use bh_types::limits::Tuning;
 use bh_types::refusal::Refusal;
-use sqlite::{Connection, FileFrom, FileStore, Start};
+use sqlite::{FileFrom, FileStore, Start};
 use std::io::ErrorKind;
 use std::{fs, io};
 
-/// The connection to files whose first contents `S` stands for.
-pub type FileConnection<S> = Connection<FileStore<FileFrom<S>>>;
-
-/// The host of such files.
+/// The host of files whose first contents `S` stands for.
 pub type FileHost<S> = HostStorage<FileStore<FileFrom<S>>, Sha256Digester>;
 
 /// Why a file gave no host.
@@ -63,9 +62,9 @@ pub fn open_file<S: Start>(
 ) -> Result<FileConnection<S>, Fault>
     ensures { IfOk result (λ connection. IsOpenedOn (image_at S.Start) (file_state connection)) }
 {
-    match Connection::open_from(rt, path, true, start) {
+    match bh_file::open_file(rt, path, start) {
         Ok(connection) => Ok(connection),
-        Err((error, _)) => Err(Fault::File(error)),
+        Err(error) => Err(Fault::File(error)),
     }
 }
 

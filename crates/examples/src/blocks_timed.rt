@@ -8,9 +8,10 @@ use crate::blocks::{begin_new, fill};
 use bh_blocks::digester::Sha256Digester;
 use bh_blocks::removal::remove_unreferenced;
 use bh_create::create;
+use bh_file::open_file;
 use bh_schema::rows::transactions::{begin, commit};
 use bh_types::limits::{Limits, Tuning};
-use sqlite::{Alter, Connection, Error};
+use sqlite::{Alter, Connection, Error, Wary};
 use std::alloc::Global;
 use std::io;
 use std::io::ErrorKind;
@@ -152,7 +153,7 @@ fn time_on<S: Alter + Drop>(
 
 /// The same on a host in a file, which stores so many blocks first.
 pub fn time(rt: &HostRuntime, path: &str, rows: u64) -> io::Result<bool> {
-    let Ok(connection) = Connection::open(rt, path) else {
+    let Ok(connection) = open_file(rt, path, Wary) else {
         return Ok(false);
     };
     time_on(rt, connection, rows)

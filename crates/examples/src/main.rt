@@ -8,6 +8,7 @@ mod checksums;
 mod command_line;
 mod connections;
 mod decisions;
+mod digest_runs;
 mod digesters;
 mod documents;
 mod ends;
@@ -44,6 +45,7 @@ const USAGE: &str = "usage: examples WORD..
   small-blocks NAME..  the same on hosts whose blocks have 1, 3, 4 and 16 bytes
   four-byte-blocks NAME..  the same on a host whose blocks have 4 bytes
   small-parts NAME..  the same on hosts whose parts may have 4 bytes, in blocks of 1, 4 and 65,536
+  any-digest NAME..  compares the answers of hosts of SHA-256, of a constant digest and of one with two values
   connections NAME..  the same as scripts, but the operator's commands come first, and then the requests, over connections in
                     memory, each cut as its line of scripts/NAME.cuts says, where there is such a file
   sockets NAME..    the same as scripts, but the requests come over sockets of 127.0.0.1
@@ -64,6 +66,7 @@ enum Kind {
     SmallBlocks,
     FourByteBlocks,
     SmallParts,
+    AnyDigest,
     Connections,
     Sockets,
 }
@@ -79,6 +82,7 @@ fn check<R: Runtime + Net<Stream = TcpStream, Listener = TcpListener> + AllocGlo
         Kind::SmallBlocks => scripts::check_in_small_blocks(rt, name),
         Kind::FourByteBlocks => scripts::check_in_four_byte_blocks(rt, name),
         Kind::SmallParts => scripts::check_in_small_parts(rt, name),
+        Kind::AnyDigest => digest_runs::check(rt, name),
         Kind::Connections => connections::check(rt, name),
         Kind::Sockets => sockets::check(rt, name),
     }
@@ -98,6 +102,7 @@ fn run<R: Runtime + Net<Stream = TcpStream, Listener = TcpListener> + AllocGloba
             "small-blocks" => kind = Kind::SmallBlocks,
             "four-byte-blocks" => kind = Kind::FourByteBlocks,
             "small-parts" => kind = Kind::SmallParts,
+            "any-digest" => kind = Kind::AnyDigest,
             "connections" => kind = Kind::Connections,
             "sockets" => kind = Kind::Sockets,
             "help" => print!(rt; "{USAGE}")?,

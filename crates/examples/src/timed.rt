@@ -7,11 +7,12 @@ use bh_blocks::digester::Sha256Digester;
 use bh_create::create;
 use bh_dispatch::storage::HostStorage;
 use bh_event::event::Event;
+use bh_file::open_file;
 use bh_host::{Told, run};
 use bh_script::input::{read_all, read_script};
 use bh_storage::storage::Storage;
 use bh_types::limits::{Limits, Tuning};
-use sqlite::{Alter, Connection};
+use sqlite::{Alter, Connection, Wary};
 use std::io;
 use std::io::Write;
 use std::time::{Clock, Instant};
@@ -97,7 +98,7 @@ pub fn time(rt: &HostRuntime, path: &str, count: usize) -> io::Result<bool> {
     let script = read_script(alloc, bytes.as_slice())?;
     let events = script.events.as_slice();
     let (first, last) = events.split_at(events.len().saturating_sub(count));
-    let Ok(connection) = Connection::open(rt, path) else {
+    let Ok(connection) = open_file(rt, path, Wary) else {
         return Ok(false);
     };
     match serve(rt, connection, first, last)? {
