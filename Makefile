@@ -7,8 +7,9 @@
 # great bodies, new and known, and their memory; blocks: the time of a block among 1,000 and 100,000; uploads: that of a part
 # among 1,000 and 10,000; pages: that of pages of a listing; quotas: what a quota and rules for uploads cost (all
 # bench/README.md).
-# memory: the stored run with each allocation refused in turn.
-.PHONY: demo try build test gate times wrong-bodies lint bench lookups versions serving bodies blocks uploads pages quotas memory
+# memory: the stored run with each allocation refused in turn. others: drawn scripts of two tenants, each of whom is answered as
+# where the other's events, sweeps and reports are left out.
+.PHONY: demo try build test gate times wrong-bodies lint bench lookups versions serving bodies blocks uploads pages quotas memory others
 
 demo:
 	@tools/bucketd <crates/bucketd/stdin
@@ -63,3 +64,6 @@ quotas:
 
 memory:
 	@tools/memory
+
+others:
+	@tools/draw-others

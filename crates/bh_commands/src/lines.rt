@@ -29,13 +29,13 @@ pub fn carry_out(rt: &HostRuntime, line: Line) -> Result<Printed, Fault> {
             tenant,
             quota,
             at,
-        } => (file, at, Task::Command(Command::TenantAdd { tenant, quota })),
+        } => (file, at, Task::from(Command::TenantAdd { tenant, quota })),
         Line::Quota {
             file,
             tenant,
             quota,
             at,
-        } => (file, at, Task::Command(Command::Quota { tenant, quota })),
+        } => (file, at, Task::from(Command::Quota { tenant, quota })),
         Line::KeyAdd {
             file,
             tenant,
@@ -48,8 +48,8 @@ pub fn carry_out(rt: &HostRuntime, line: Line) -> Result<Printed, Fault> {
             tenant,
             name,
             at,
-        } => (file, at, Task::Command(Command::KeyRemove { tenant, name })),
-        Line::Usage { file, tenant, at } => (file, at, Task::Command(Command::Usage { tenant })),
+        } => (file, at, Task::from(Command::KeyRemove { tenant, name })),
+        Line::Usage { file, tenant, at } => (file, at, Task::from(Command::Usage { tenant })),
         Line::Sweep { file, limit, at } => (file, at, Task::Sweep { limit }),
         Line::Report { file, at } => (file, at, Task::Report),
     };
@@ -64,7 +64,7 @@ fn key_add(
     secret: SecretGiven,
 ) -> Result<Task, Fault> {
     let secret = secret_of(rt, secret)?;
-    Ok(Task::Command(Command::KeyAdd {
+    Ok(Task::from(Command::KeyAdd {
         tenant,
         name,
         secret,

@@ -15,6 +15,16 @@ pub enum Task {
     Report,
 }
 
+impl From<Command> for Task {
+    ghost use Rattle.bh_commands.specs.declared.task.Task.TheVariants as task;
+
+    ghost from_gives = { λ command given. given ≡ task.Command command };
+
+    fn from(command: Command) -> Task {
+        Task::Command(command)
+    }
+}
+
 impl Task {
     /// The event that it is at a reading of the clock, in seconds since 1970.
     pub fn at(self, reading: u64) -> Event
