@@ -68,8 +68,10 @@ fn all_answer_alike(alloc: Global, events: &[Event]) -> Result<bool, Trouble> {
     let Some(expected) = answers(alloc, Sha256Digester, events)? else {
         return Ok(false);
     };
-    Ok(answers_alike(alloc, Constant, events, expected.as_slice())?
-        && answers_alike(alloc, Parity, events, expected.as_slice())?)
+    Ok(
+        answers_alike(alloc, Constant, events, expected.as_slice())?
+            && answers_alike(alloc, Parity, events, expected.as_slice())?,
+    )
 }
 
 /// Whether hosts of a constant digest function, and of one with two values, answer a stored script as one of SHA-256 does.
