@@ -5,11 +5,12 @@
 # bench: the program's speed and memory; lookups: the time of lookups by key at 1,000 and 100,000 rows on a file; versions:
 # that of requests on many versions and keys; serving: puts and gets over sockets beside nginx; bodies: those of small and
 # great bodies, new and known, and their memory; blocks: the time of a block among 1,000 and 100,000; uploads: that of a part
-# among 1,000 and 10,000; pages: that of pages of a listing; quotas: what a quota and rules for uploads cost (all
-# bench/README.md).
+# among 1,000 and 10,000; pages: that of pages of a listing; quotas: what a quota and rules for uploads cost; sweeps: a
+# sweep among 10,000 and 100,000 blocks in use; profile: the instructions of a put and of a get, and the functions that take
+# most (all bench/README.md).
 # memory: the stored run with each allocation refused in turn. others: drawn scripts of two tenants, each of whom is answered as
 # where the other's events, sweeps and reports are left out.
-.PHONY: demo try build test gate times wrong-bodies lint bench lookups versions serving bodies blocks uploads pages quotas memory others
+.PHONY: demo try build test gate times wrong-bodies lint bench lookups versions serving bodies blocks uploads pages quotas sweeps profile memory others
 
 demo:
 	@tools/bucketd <crates/bucketd/stdin
@@ -61,6 +62,12 @@ pages:
 
 quotas:
 	@bench/quotas.py
+
+sweeps:
+	@bench/sweeps.py
+
+profile:
+	@bench/profile.py
 
 memory:
 	@tools/memory

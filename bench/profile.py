@@ -1,0 +1,139 @@
+#!/usr/bin/env python3
+"""Counts the instructions of a put and of a get, and the functions that take most of them, by valgrind's callgrind.
+
+    bench/profile.py [PROGRAM [SIZE..]]        PROGRAM: crates/bucketd/out/bucketd; SIZE in bytes: 1024, 65536 and 16777216
+
+Two runs of each kind differ by so many requests; a request's instructions are the difference over their number. So what the
+program does once (its start, the tenant, the first statements' texts) doesn't count. `script` answers a script of standard
+input on a host in memory; `serve` answers over loopback on a file in /dev/shm, `serve again` puts blocks that are known.
+Counts are those of one processor's program alone: they don't change with what runs beside it, and say nothing of the kernel.
+"""
+import os
+import re
+import socket
+import subprocess
+import sys
+import tempfile
+import time
+
+from events import line, request
+
+KEY = ("green$k1", "greensecret")
+NOW = 1_700_000_000
+FOLDER = "/dev/shm" if os.path.isdir("/dev/shm") else None
+FEW = {1024: 20, 65536: 10, 16777216: 1}
+MORE = {1024: 200, 65536: 40, 16777216: 2}
+SHOWN = 10
+
+
+def body(size, number):
+    return ("%016d" % number * (size // 16 + 1))[:size] if size <= 65536 else "".join("%016d" % (number * size + n) for n in range(size // 16))
+
+
+def counted(folder, words, drive=None, text=None):
+    """The instructions of each function of a run, and of all."""
+    out = os.path.join(folder, "callgrind")
+    command = ["valgrind", "--tool=callgrind", f"--callgrind-out-file={out}"] + words
+    if text is not None:
+        done = subprocess.run(command, input=text, stdout=subprocess.DEVNULL, stderr=subprocess.PIPE)
+        status = done.returncode
+    else:
+        child = subprocess.Popen(command, stdout=subprocess.DEVNULL, stderr=subprocess.PIPE)
+        drive()
+        child.communicate()
+        status = child.returncode
+    if status != 0:
+        sys.exit(f"{words} ended with {status}")
+    told = subprocess.run(["callgrind_annotate", "--threshold=100", out], capture_output=True, text=True).stdout
+    functions = {}
+    for count, name in re.findall(r"^ *([\d,]+) \(.*?\)  (\S.*?)(?: \[.*)?$", told, re.M):
+        name = re.sub(r"::<#[0-9a-f]+>|'\d+$", "", name.split(":", 1)[-1] if name.startswith("???") else name.rsplit(":", 1)[-1])
+        functions[name] = functions.get(name, 0) + int(count.replace(",", ""))
+    return functions
+
+
+def start():
+    return [
+        line({"at": NOW, "op": "tenant-add", "tenant": "green", "quota": 1 << 50}),
+        line({"at": NOW, "op": "key-add", "tenant": "green", "name": "k1", "secret": "greensecret"}),
+        line({"at": NOW, "http": request("PUT", *KEY, "/plans", "")}),
+    ]
+
+
+def script_of(requests):
+    return "".join(start() + [line({"at": NOW, "http": text}) for text in requests]).encode()
+
+
+def send(port, text):
+    for _ in range(600):
+        try:
+            with socket.create_connection(("127.0.0.1", port)) as link:
+                link.sendall(text.encode())
+                link.shutdown(socket.SHUT_WR)
+                while link.recv(1 << 20):
+                    pass
+            return
+        except ConnectionRefusedError:
+            time.sleep(0.1)
+    sys.exit("the server doesn't listen")
+
+
+def served(program, folder, first, last):
+    """The functions of a server that answers these, after another answered the first ones."""
+    file = os.path.join(folder, "host")
+    for words in (["init"], ["tenant-add", "--tenant", "green", "--quota", str(1 << 50)], ["key-add", "--tenant", "green", "--name", "k1", "--secret", "greensecret"]):
+        subprocess.run([program, words[0], "--file", file] + words[1:], check=True, stdout=subprocess.DEVNULL)
+
+    def serve(texts):
+        port = 20000 + os.getpid() % 20000
+        words = [program, "serve", "--file", file, "--port", str(port), "--count", str(len(texts)), "--timeout", "600"]
+        return words, lambda: [send(port, text) for text in texts]
+
+    words, drive = serve([request("PUT", *KEY, "/plans", "")] + first)
+    child = subprocess.Popen(words)
+    drive()
+    child.wait()
+    words, drive = serve(last)
+    return counted(folder, words, drive)
+
+
+def told(kind, size, few, many, requests):
+    each = {name: (many.get(name, 0) - few.get(name, 0)) / requests for name in many}
+    total = sum(each.values())
+    print(f"\n{kind} of {size:,} bytes: {total:,.0f} instructions")
+    for name, count in sorted(each.items(), key=lambda one: -one[1])[:SHOWN]:
+        print(f"{count:>16,.0f} {100 * count / total:>5.1f} %  {name}")
+    sys.stdout.flush()
+
+
+def profiled(program, size):
+    few, more = FEW[size], MORE[size]
+    puts = [request("PUT", *KEY, f"/plans/k{n}", body(size, n)) for n in range(few + more)]
+    gets = [request("GET", *KEY, "/plans/k0")] * (few + more)
+    known = [request("PUT", *KEY, f"/plans/again{n}", body(size, n)) for n in range(few + more)]
+
+    def script(requests):
+        with tempfile.TemporaryDirectory(dir=FOLDER) as folder:
+            return counted(folder, [program, "script"], text=script_of(requests))
+
+    def serve(first, last):
+        with tempfile.TemporaryDirectory(dir=FOLDER) as folder:
+            return served(program, folder, first, last)
+
+    if size * (few + more) < 1 << 25:
+        told("script, put", size, script(puts[:few]), script(puts), more)
+        told("script, get", size, script(puts[:1] + gets[:few]), script(puts[:1] + gets), more)
+    told("serve, put", size, serve([], puts[:few]), serve([], puts), more)
+    told("serve, put of known blocks", size, serve(puts, known[:few]), serve(puts, known), more)
+    told("serve, get", size, serve(puts[:1], gets[:few]), serve(puts[:1], gets), more)
+
+
+def main():
+    program = os.path.abspath(sys.argv[1] if len(sys.argv) > 1 else "crates/bucketd/out/bucketd")
+    if not os.path.exists(program):
+        sys.exit(f"{program} isn't there: 'make build' makes it")
+    for size in map(int, sys.argv[2:]) if len(sys.argv) > 2 else sorted(FEW):
+        profiled(program, size)
+
+
+main()
