@@ -16,7 +16,7 @@ sweep_counts at limit tables = record {
 }
 
 -- a block's bytes are stored once, and referred to once for each place of a body that they stand at; a block whose ordinal
--- is above 0 has the digest of another
+-- is above 0 had the digest of another when it was stored
 abbrev pub store_counts : Tables → StoreReport
 store_counts tables = record {
   blocks = length tables.blocks;
