@@ -48,7 +48,8 @@ def counted(folder, words, drive=None, text=None):
     functions = {}
     for count, name in re.findall(r"^ *([\d,]+) \(.*?\)  (\S.*?)(?: \[.*)?$", told, re.M):
         name = re.sub(r"::<#[0-9a-f]+>|'\d+$", "", name.split(":", 1)[-1] if name.startswith("???") else name.rsplit(":", 1)[-1])
-        functions[name] = functions.get(name, 0) + int(count.replace(",", ""))
+        if name != "PROGRAM TOTALS":
+            functions[name] = functions.get(name, 0) + int(count.replace(",", ""))
     return functions
 
 
