@@ -1,12 +1,13 @@
 #!/usr/bin/env python3
 """Times puts and gets of bodies by `bucketd serve` over loopback, a connection each, one after another.
 
-    bench/bodies.py [PROGRAM] [PART..]      PROGRAM: crates/bucketd/out/bucketd; PART: sizes, growth, memory, digest (all)
+    bench/bodies.py [PROGRAM] [PART..]      PROGRAM: crates/bucketd/out/bucketd; PART: sizes, growth, memory, plain, digest (all)
 
 sizes: bodies of 1 KiB to 16 MiB, of blocks that are new and of blocks that another object has, on a file that lies in
 memory and on the disk (FOLDER in the environment names its folder). growth: puts and gets of 1 KiB in a bucket with 100
-to 100,000 objects. memory: the greatest resident memory of a server that got or gave one body of 16 MiB. digest: the
-share of SHA-256 in puts of 16 MiB, by Linux's perf.
+to 100,000 objects. memory: the greatest resident memory of a server that got or gave one body of 16 MiB. plain: a get of
+16 MiB beside a plain server's, which reads a file of the same bytes and sends it. digest: the share of SHA-256 in puts of
+16 MiB, by Linux's perf.
 """
 import os
 import re
@@ -17,7 +18,7 @@ import sys
 import tempfile
 import time
 
-from server import SHARED_MEMORY, Server
+from server import PlainServer, SHARED_MEMORY, Server
 
 SIZES = [(1 << 10, 300), (1 << 16, 200), (1 << 20, 40), (1 << 24, 8)]
 COUNTS = [100, 1000, 10000]
@@ -74,6 +75,16 @@ def memory(program):
             print(f"GET of 16 MiB: peak {server.memory('VmHWM'):.0f} MB")
 
 
+def plain(program):
+    """The two servers take turns, so that what else the machine does meets both."""
+    body = os.urandom(1 << 24)
+    with in_folder(SHARED_MEMORY) as folder, Server(program, folder) as server, PlainServer(folder, body) as other:
+        server.put("/x", body)
+        pairs = [(server.get("/x", body), other.get("/x", body)) for _ in range(15)]
+        ours, others = (statistics.median(times) for times in zip(*pairs))
+        print(f"GET of 16 MiB: {ours:.1f} ms; a plain file's read and send {others:.1f} ms; ratio {ours / others:.2f}")
+
+
 def shares(program, kind, act):
     """The greatest shares of the processor's time, by function, of what a server does."""
     with in_folder(SHARED_MEMORY) as folder, Server(program, folder) as server:
@@ -101,7 +112,7 @@ def digest(program):
 
 
 def main():
-    parts = {"sizes": sizes, "growth": growth, "memory": memory, "digest": digest}
+    parts = {"sizes": sizes, "growth": growth, "memory": memory, "plain": plain, "digest": digest}
     words = sys.argv[1:]
     program = os.path.abspath(words.pop(0) if words and words[0] not in parts else "crates/bucketd/out/bucketd")
     if not os.path.exists(program):

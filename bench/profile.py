@@ -3,10 +3,12 @@
 
     bench/profile.py [PROGRAM [SIZE..]]        PROGRAM: crates/bucketd/out/bucketd; SIZE in bytes: 1024, 65536 and 16777216
 
-Two runs of each kind differ by so many requests; a request's instructions are the difference over their number. So what the
-program does once (its start, the tenant, the first statements' texts) doesn't count. `script` answers a script of standard
-input on a host in memory; `serve` answers over loopback on a file in /dev/shm, `serve again` puts blocks that are known.
-Counts are those of one processor's program alone: they don't change with what runs beside it, and say nothing of the kernel.
+Below the ten functions that take most stands what each part of the program takes, and of puts how many times the
+instructions of SHA-256 all are. Two runs of each kind differ by so many requests; a request's instructions are the
+difference over their number. So what the program does once (its start, the tenant, the first statements' texts) doesn't
+count. `script` answers a script of standard input on a host in memory; `serve` answers over loopback on a file in
+/dev/shm, and puts new blocks and known ones. Counts are those of one processor's program alone: they don't change with
+what runs beside it, and say nothing of the kernel.
 """
 import os
 import re
@@ -24,6 +26,7 @@ FOLDER = "/dev/shm" if os.path.isdir("/dev/shm") else None
 FEW = {1024: 20, 65536: 10, 16777216: 1}
 MORE = {1024: 200, 65536: 40, 16777216: 2}
 SHOWN = 10
+PARTS = [("SHA-256", "sha2"), ("the store", "sqlite"), ("this repository", ("bh_", "bucketd"))]
 
 
 def body(size, number):
@@ -98,12 +101,26 @@ def served(program, folder, first, last):
     return counted(folder, words, drive)
 
 
+def part_of(name):
+    """Whose a function is, by its path; one without a path is the C library's, such as memcpy."""
+    for part, beginning in PARTS:
+        if name.startswith(beginning):
+            return part
+    return "other crates" if "::" in name else "the C library"
+
+
 def told(kind, size, few, many, requests):
     each = {name: (many.get(name, 0) - few.get(name, 0)) / requests for name in many}
     total = sum(each.values())
     print(f"\n{kind} of {size:,} bytes: {total:,.0f} instructions")
     for name, count in sorted(each.items(), key=lambda one: -one[1])[:SHOWN]:
         print(f"{count:>16,.0f} {100 * count / total:>5.1f} %  {name}")
+    parts = {}
+    for name, count in each.items():
+        parts[part_of(name)] = parts.get(part_of(name), 0) + count
+    print("  " + "; ".join(f"{part} {100 * count / total:.1f} %" for part, count in sorted(parts.items(), key=lambda one: -one[1])))
+    if parts.get("SHA-256", 0) > total / 10:
+        print(f"  {total / parts['SHA-256']:.2f} times what SHA-256 takes")
     sys.stdout.flush()
 
 

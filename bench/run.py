@@ -48,7 +48,7 @@ def main():
     program = sys.argv[1] if len(sys.argv) > 1 else "crates/bucketd/out/bucketd"
     if not os.path.exists(program):
         sys.exit(f"{program} isn't there: 'make build' makes it")
-    print(f"{'requests':>9} {'puts':>6} {'body':>7} {'seconds':>8} {'requests/s':>11} {'body MB/s':>10} {'peak MB':>8} {'SHA-256 alone, s':>17}")
+    print(f"{'requests':>9} {'puts':>6} {'body':>7} {'seconds':>8} {'requests/s':>11} {'body MB/s':>10} {'peak MB':>8} {'in + out MB':>12} {'SHA-256 alone, s':>17}")
     for size in (1024, 65536):
         for requests in (1000, 5000):
             text, puts = script(requests, size)
@@ -68,7 +68,7 @@ def main():
                 hashlib.sha256(body).digest()
             alone = time.perf_counter() - before
             moved = requests * size / 1e6
-            print(f"{requests:>9} {puts:>6} {size:>7} {seconds:>8.2f} {requests / seconds:>11.0f} {moved / seconds:>10.1f} {usage.ru_maxrss / 1024:>8.0f} {alone:>17.3f}")
+            print(f"{requests:>9} {puts:>6} {size:>7} {seconds:>8.2f} {requests / seconds:>11.0f} {moved / seconds:>10.1f} {usage.ru_maxrss / 1024:>8.0f} {(len(text) + len(answered)) / (1 << 20):>12.0f} {alone:>17.3f}")
 
 
 main()

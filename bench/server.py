@@ -1,4 +1,4 @@
-"""`bucketd serve` on a host in a folder, asked over loopback, a connection a request."""
+"""`bucketd serve` on a host in a folder, and a plain server of one file, asked over loopback, a connection a request."""
 import os
 import re
 import socket
@@ -16,23 +16,29 @@ def free_port():
         return s.getsockname()[1]
 
 
-class Server:
-    """`bucketd serve` on a host in a folder, which is made with the tenant green and its bucket where it isn't there."""
+PLAIN = """
+import socket, sys
+name, port = sys.argv[1], int(sys.argv[2])
+listener = socket.create_server(("127.0.0.1", port))
+while True:
+    link, _ = listener.accept()
+    with link:
+        asked = b""
+        while not asked.endswith(b"\\r\\n\\r\\n"):
+            more = link.recv(65536)
+            if not more:
+                break
+            asked += more
+        if asked:
+            with open(name, "rb") as file:
+                body = file.read()
+            link.sendall(b"HTTP/1.1 200 OK\\r\\ncontent-length: %d\\r\\n\\r\\n" % len(body))
+            link.sendall(body)
+"""
 
-    def __init__(self, program, folder):
-        self.file, self.port = os.path.join(folder, "host"), free_port()
-        is_new = not os.path.exists(self.file)
-        if is_new:
-            self.command(program, "init")
-            self.command(program, "tenant-add", "--tenant", "green", "--quota", str(1 << 40))
-            self.command(program, "key-add", "--tenant", "green", "--name", "k1", "--secret", "greensecret")
-        self.process = subprocess.Popen([program, "serve", "--file", self.file, "--port", str(self.port), "--count", str(1 << 40)])
-        self.wait()
-        if is_new:
-            self.ask(b"PUT", "", b"")
 
-    def command(self, program, name, *words):
-        subprocess.run([program, name, "--file", self.file, *words], check=True, stdout=subprocess.DEVNULL)
+class Asked:
+    """A server of requests, asked over loopback, a connection a request."""
 
     def wait(self):
         for _ in range(500):
@@ -65,14 +71,44 @@ class Server:
             sys.exit(f"{method.decode()} {key}: {answered[:300]}")
         return milliseconds, answered[answered.index(b"\r\n\r\n") + 4 :]
 
-    def put(self, key, body):
-        return self.ask(b"PUT", key, body)[0]
-
     def get(self, key, body):
         milliseconds, got = self.ask(b"GET", key)
         if got != body:
             sys.exit(f"GET {key}: other bytes")
         return milliseconds
+
+
+class PlainServer(Asked):
+    """Answers each request with the bytes of one file, which it reads anew each time."""
+
+    def __init__(self, folder, body):
+        name, self.port = os.path.join(folder, "plain"), free_port()
+        with open(name, "wb") as file:
+            file.write(body)
+        self.process = subprocess.Popen([sys.executable, "-c", PLAIN, name, str(self.port)])
+        self.wait()
+
+
+class Server(Asked):
+    """`bucketd serve` on a host in a folder, which is made with the tenant green and its bucket where it isn't there."""
+
+    def __init__(self, program, folder):
+        self.file, self.port = os.path.join(folder, "host"), free_port()
+        is_new = not os.path.exists(self.file)
+        if is_new:
+            self.command(program, "init")
+            self.command(program, "tenant-add", "--tenant", "green", "--quota", str(1 << 40))
+            self.command(program, "key-add", "--tenant", "green", "--name", "k1", "--secret", "greensecret")
+        self.process = subprocess.Popen([program, "serve", "--file", self.file, "--port", str(self.port), "--count", str(1 << 40)])
+        self.wait()
+        if is_new:
+            self.ask(b"PUT", "", b"")
+
+    def command(self, program, name, *words):
+        subprocess.run([program, name, "--file", self.file, *words], check=True, stdout=subprocess.DEVNULL)
+
+    def put(self, key, body):
+        return self.ask(b"PUT", key, body)[0]
 
     def memory(self, name):
         with open(f"/proc/{self.process.pid}/status") as file:

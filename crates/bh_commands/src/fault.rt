@@ -1,3 +1,4 @@
+use bh_script::error::ScriptError;
 use sqlite::Error;
 use std::alloc::AllocError;
 use std::{fmt, io};
@@ -10,10 +11,12 @@ pub enum Fault {
     /// The file isn't opened as a database: it is none or was damaged, another process has it open, or the
     /// system refuses it.
     File(Error),
-    /// The file, the clock or standard input can't be read.
+    /// The file, the clock or standard input can't be read, or standard output not be written.
     System(io::Error),
     /// Standard input has more bytes than a script may have.
     LongInput,
+    /// A write of a script's answers failed, or took none of some bytes.
+    Output,
 }
 
 impl From<AllocError> for Fault {
@@ -28,6 +31,15 @@ impl From<io::Error> for Fault {
     }
 }
 
+impl From<ScriptError> for Fault {
+    fn from(error: ScriptError) -> Fault {
+        match error {
+            ScriptError::Trouble(_) => Fault::Memory,
+            ScriptError::WriteFailed => Fault::Output,
+        }
+    }
+}
+
 impl fmt::Display for Fault {
     fn fmt<W: fmt::Write>(&self, f: &mut fmt::Formatter<W>) -> fmt::Result {
         match self {
@@ -35,6 +47,7 @@ impl fmt::Display for Fault {
             Fault::File(error) => write!(f, "{error}"),
             Fault::System(error) => write!(f, "{error}"),
             Fault::LongInput => f.write_str("standard input is too long"),
+            Fault::Output => f.write_str("standard output can't be written"),
         }
     }
 }

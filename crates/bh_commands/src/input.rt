@@ -6,12 +6,14 @@ ghost use Rattle.bh_commands.specs.Input as spec;
 
 use crate::fault::Fault;
 use crate::printed::Printed;
+use bh_link::link::Link;
 use bh_script::input::{BadLine, read_all};
 use bh_script::script::answer_script;
 use bh_types::limits::{Limits, Tuning};
 use bh_words::SecretGiven;
 use std::alloc::{AllocError, Global};
 use std::io;
+use std::io::{BufWriter, Write};
 
 /// All bytes of standard input.
 fn read_input(rt: &(impl Input + AllocGlobal)) -> Result<Vec<u8>, Fault> {
@@ -30,19 +32,31 @@ fn tell_bad_line(rt: &impl Eprint, bad_line: Option<BadLine>) -> io::Result<u8> 
     Ok(1)
 }
 
-/// Answers the script of standard input, by a new host in memory.
+/// Writes the answers to a script on standard output. What a failure leaves in the buffer goes out as that is dropped.
+fn answer_bytes(
+    rt: &(impl Print + AllocGlobal),
+    bytes: &[u8],
+    limits: Limits,
+    tuning: Tuning,
+) -> Result<Option<BadLine>, Fault> {
+    let output = BufWriter::new(rt.alloc(), io::writer(rt))?;
+    let mut writer = Link::new(output);
+    let bad_line = answer_script(rt.alloc(), bytes, limits, tuning, &mut writer)?;
+    writer.into_inner().flush()?;
+    Ok(bad_line)
+}
+
+/// Answers the script of standard input on standard output. Nothing is left to print.
 pub fn answer_input(
-    rt: &(impl Input + Eprint + AllocGlobal),
+    rt: &(impl Input + Print + Eprint + AllocGlobal),
     limits: Limits,
     tuning: Tuning,
 ) -> Result<Printed, Fault> {
     let bytes = read_input(rt)?;
-    let Ok(answered) = answer_script(rt.alloc(), bytes.as_slice(), limits, tuning) else {
-        return Err(Fault::Memory);
-    };
-    let status = tell_bad_line(rt, answered.bad_line)?;
+    let bad_line = answer_bytes(rt, bytes.as_slice(), limits, tuning)?;
+    let status = tell_bad_line(rt, bad_line)?;
     Ok(Printed {
-        text: answered.text,
+        text: Vec::new(rt.alloc()),
         status,
     })
 }

@@ -7,10 +7,10 @@ use bh_host::Reply;
 use bh_types::refusal::Refusal;
 use std::alloc::{AllocError, Global};
 
-/// What a subcommand writes on standard output, and the status that it ends with.
+/// What is left to write on standard output once a subcommand is done, and the status that it ends with.
 #[derive(Drop)]
 pub struct Printed {
-    /// A line and its line feed; of a script many lines.
+    /// A line and its line feed; of a script, whose answers are written as they come, nothing.
     pub text: Vec<u8>,
     /// 0, or 1 where the line is a refusal, or a script's line tells no event.
     pub status: u8,

@@ -2,7 +2,7 @@ ghost use Rattle.std.specs.Prelude.{◌≡◌, true, IfErr};
 ghost use Rattle.sqlite.specs.Held.{state};
 ghost use Rattle.bh_rows.specs.Means.{is_trouble};
 ghost use Rattle.bh_tables.specs.Schema.{no_schema};
-ghost use Rattle.bh_tables.specs.Made.{with_host, with_tenants, with_keys, with_buckets, with_versions, with_blocks, with_refs, with_newest, with_refs_by_block, with_uploads, with_parts, with_uploads_by_key, with_uploads_by_moment};
+ghost use Rattle.bh_tables.specs.Made.{with_host, with_tenants, with_keys, with_buckets, with_versions, with_blocks, with_refs, with_newest, with_refs_by_block, with_uploads, with_parts, with_uploads_by_key, with_uploads_by_moment, with_version_sizes, with_part_sizes};
 ghost use Rattle.bh_schema.specs.Layer.{IsIntact, IsStateClean};
 ghost use Rattle.bh_create.specs.Creation.{IsMaking, Makes};
 
@@ -148,6 +148,22 @@ fn create_uploads_by_moment<S: Alter>(connection: &mut Connection<S>) -> Result<
     )
 }
 
+fn create_version_sizes<S: Alter>(connection: &mut Connection<S>) -> Result<usize, Error>
+    requires { IsStateClean (state S.Store connection.old) → IsMaking with_uploads_by_moment (state S.Store connection.old) }
+    ensures makes { Makes with_version_sizes (state S.Store connection.old) (state S.Store connection.new) result }
+    ensures trouble { IfErr result (λ e. IsIntact (state S.Store connection.new) → is_trouble e ≡ true) }
+{
+    connection.execute("CREATE INDEX version_sizes ON versions (tenant, size)", &[])
+}
+
+fn create_part_sizes<S: Alter>(connection: &mut Connection<S>) -> Result<usize, Error>
+    requires { IsStateClean (state S.Store connection.old) → IsMaking with_version_sizes (state S.Store connection.old) }
+    ensures makes { Makes with_part_sizes (state S.Store connection.old) (state S.Store connection.new) result }
+    ensures trouble { IfErr result (λ e. IsIntact (state S.Store connection.new) → is_trouble e ≡ true) }
+{
+    connection.execute("CREATE INDEX part_sizes ON parts (tenant, size)", &[])
+}
+
 fn create_accounts<S: Alter>(connection: &mut Connection<S>) -> Result<usize, Error>
     requires { IsStateClean (state S.Store connection.old) → IsMaking no_schema (state S.Store connection.old) }
     ensures makes { Makes with_keys (state S.Store connection.old) (state S.Store connection.new) result }
@@ -189,15 +205,25 @@ fn create_multipart<S: Alter>(connection: &mut Connection<S>) -> Result<usize, E
     create_uploads_by_moment(connection)
 }
 
+fn create_sizes<S: Alter>(connection: &mut Connection<S>) -> Result<usize, Error>
+    requires { IsStateClean (state S.Store connection.old) → IsMaking with_uploads_by_moment (state S.Store connection.old) }
+    ensures makes { Makes with_part_sizes (state S.Store connection.old) (state S.Store connection.new) result }
+    ensures trouble { IfErr result (λ e. IsIntact (state S.Store connection.new) → is_trouble e ≡ true) }
+{
+    create_version_sizes(connection)?;
+    create_part_sizes(connection)
+}
+
 /// Makes the tables of a host and their indexes, with no row.
 pub fn create_tables<S: Alter>(connection: &mut Connection<S>) -> Result<(), Error>
     requires { IsStateClean (state S.Store connection.old) → IsMaking no_schema (state S.Store connection.old) }
-    ensures makes { Makes with_uploads_by_moment (state S.Store connection.old) (state S.Store connection.new) result }
+    ensures makes { Makes with_part_sizes (state S.Store connection.old) (state S.Store connection.new) result }
     ensures trouble { IfErr result (λ e. IsIntact (state S.Store connection.new) → is_trouble e ≡ true) }
 {
     create_accounts(connection)?;
     create_objects(connection)?;
     create_indexes(connection)?;
     create_multipart(connection)?;
+    create_sizes(connection)?;
     Ok(())
 }

@@ -7,7 +7,7 @@ use Rattle.bh_event.specs.Events.{Order, tenant_of, Message, Requested, Ordered,
 use Rattle.bh_event.specs.declared.event.Event.{Event}
 use Rattle.bh_event.specs.declared.event.Event.TheVariants.{Http}
 use Rattle.bh_http.specs.Credentials.{key_given}
-use Rattle.bh_http.specs.Reading.{Reads, ReadsError}
+use Rattle.bh_http.specs.Reading.{Reads}
 use Rattle.bh_http.specs.Responses.{refusal_text}
 use Rattle.bh_http.specs.Views.{Taken}
 use Rattle.bh_machine.specs.Machine.{Act, Asked, Commanded, owner_of, requested, ordered, change, step}
@@ -24,8 +24,6 @@ use Rattle.bh_types.specs.Limits.{HostLimits}
 use Rattle.bh_types.specs.Names.{is_tenant_name}
 use Rattle.bh_types.specs.Rejections.{plain, plainly}
 use Rattle.bh_types.specs.declared.access_key.AccessKeyId.{AccessKeyId}
-use Rattle.bh_types.specs.declared.error.RequestError.{RequestError}
-use Rattle.bh_types.specs.declared.error.RequestError.TheVariants as error
 use Rattle.bh_types.specs.declared.refusal.Refusal.{Refusal}
 use Rattle.bh_types.specs.declared.refusal.Refusal.TheVariants.{InvalidName}
 use Rattle.bh_types.specs.declared.rejection.Rejection.{Rejection}
@@ -33,7 +31,7 @@ use Rattle.bh_view.specs.Becomes.{KeepsShared}
 use Rattle.bh_view.specs.View.{view, latest_of, limits_in, rows_purged}
 use Rattle.bh_view.proofs.SharedLemmas.{shared_none}
 use Rattle.bh_host.specs.Replies.{text}
-use Rattle.bh_host.specs.Turns.{TurnedFor, Turned, Turns, TurnsRequest, Tells, TellsOrder, TellsUnread, Applied}
+use Rattle.bh_host.specs.Turns.{TurnedFor, Turned, Turns, TurnsRequest, Tells, TellsOrder, Applied}
 
 -- ---- calls inside a transaction
 
@@ -172,9 +170,9 @@ turned_nobody limits at r e old reply none is told =
 turned_unread : (limits : HostLimits) (at : ℕ) (refusal : Refusal) (old : Tables) (reply : List ℕ) → reply ≡ text (Asked (Err refusal)) (Err (plain refusal)) → Turned limits (Asked (Err refusal)) at old old reply
 turned_unread limits at refusal old reply told = turned_stranger limits (Asked (Err refusal)) at (plain refusal) old reply refl refl told
 
-pub turns_unread : (limits : HostLimits) (bytes : List ℕ) (at : ℕ) (old : Tables) (error : RequestError) (reply : List ℕ) → ReadsError limits bytes error → TellsUnread error reply → TurnsRequest limits bytes at old old reply
-turns_unread limits bytes at old (error.Refused refusal) reply reads told = (Err refusal, reads, turned_unread limits at refusal old reply told)
-turns_unread limits bytes at old error.OutOfMemory reply reads told = absurd told
+pub turns_unread : (limits : HostLimits) (bytes : List ℕ) (at : ℕ) (old : Tables) (refusal : Refusal) (reply : List ℕ)
+    → Reads limits bytes (Err refusal) → reply ≡ text (Asked (Err refusal)) (Err (plain refusal)) → TurnsRequest limits bytes at old old reply
+turns_unread limits bytes at old refusal reply reads told = (Err refusal, reads, turned_unread limits at refusal old reply told)
 
 pub turned_nameless : (limits : HostLimits) (at : ℕ) (order : Order) (old : Tables) (reply : List ℕ) → owner_of (Commanded order) ≡ None → reply ≡ refusal_text InvalidName → Turned limits (Commanded order) at old old reply
 unfolding text

@@ -2,8 +2,6 @@
 use Rattle.std.specs.Prelude.{◌≡◌, ◌≢◌, ℕ, List, nat_lt, IfErr, Option, Some, None, Result, Ok, Err, if◌then◌else◌}
 use Rattle.bh_types.specs.Limits.{HostLimits}
 use Rattle.bh_types.specs.Rejections.{plain}
-use Rattle.bh_types.specs.declared.error.RequestError.{RequestError}
-use Rattle.bh_types.specs.declared.error.RequestError.TheVariants as request
 use Rattle.bh_types.specs.declared.refusal.Refusal.{Refusal}
 use Rattle.bh_types.specs.declared.rejection.Rejection.{Rejection}
 use Rattle.bh_event.specs.Events.{Order, Message, Requested, Ordered, SweepOrdered, ReportOrdered, Arrival}
@@ -86,11 +84,6 @@ abbrev pub TellsOrder : {X : Type 0} → (X → Answer) → Order → Result X (
 TellsOrder shown order (Ok answer) bytes = bytes ≡ text (Commanded order) (Ok (shown answer))
 TellsOrder shown order (Err (Refused r)) bytes = bytes ≡ text (Commanded order) (Err (plain r))
 TellsOrder shown order (Err (Failed trouble)) bytes = ⊥
-
--- the bytes that tell why others are no request
-abbrev pub TellsUnread : RequestError → List ℕ → Type 0
-TellsUnread (request.Refused r) bytes = bytes ≡ text (Asked (Err r)) (Err (plain r))
-TellsUnread request.OutOfMemory bytes = ⊥
 
 -- ---- an event
 

@@ -12,7 +12,7 @@ ghost use Rattle.bh_types.specs.Rejections.{plain};
 ghost use Rattle.bh_view.specs.View.{latest_of};
 ghost use Rattle.bh_host.specs.Replies.{clock_text, reply_bytes};
 ghost use Rattle.bh_host.specs.Replies as reply;
-ghost use Rattle.bh_host.specs.Turns.{Turns, Turned, Swept, Reported, TurnsRequest, TellsUnread, IsToldApart, WouldApply, AppliedTo};
+ghost use Rattle.bh_host.specs.Turns.{Turns, Turned, Swept, Reported, TurnsRequest, IsToldApart, WouldApply, AppliedTo};
 
 use crate::reply::{
     Caller, Reply, order_text, refusal_line, refused_request_text, report_line, request_text,
@@ -26,7 +26,6 @@ use bh_http::request::Request;
 use bh_storage::error::Trouble;
 use bh_storage::storage::Storage;
 use bh_types::access_key::AccessKeyId;
-use bh_types::error::RequestError;
 use bh_types::moment::{LAST_READING, Moment};
 use bh_types::names::TenantName;
 use bh_types::refusal::Refusal;
@@ -73,16 +72,6 @@ fn stranger_refusal(request: &Request) -> Refusal
     }
 }
 
-/// Bytes that are no request.
-fn serve_unread(alloc: Global, error: RequestError) -> Result<Vec<u8>, Trouble>
-    ensures { IfOk result (λ text. TellsUnread error text.items) }
-{
-    match error {
-        RequestError::Refused(refusal) => Ok(unread_text(alloc, refusal)?),
-        RequestError::OutOfMemory => Err(Trouble::Memory),
-    }
-}
-
 /// A request that was read.
 fn serve_read<H: Storage>(
     alloc: Global,
@@ -123,9 +112,9 @@ fn serve_request<H: Storage>(
     ensures turned { IfOk result (λ text. Clean H.IsIntact H.IsOpen host.new
         → TurnsRequest (H.seen host.old).limits bytes.now at (H.seen host.old).now (H.seen host.new).now text.items) }
 {
-    match read_request(alloc, bytes, &host.limits()) {
+    match read_request(bytes, &host.limits()) {
         Ok(request) => serve_read(alloc, host, &request, at),
-        Err(error) => serve_unread(alloc, error),
+        Err(refusal) => Ok(unread_text(alloc, refusal)?),
     }
 }
 

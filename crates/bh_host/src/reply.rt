@@ -1,6 +1,6 @@
 ghost use Rattle.std.specs.Prelude.{◌≡◌, Ok, Err, IfOk};
 ghost use Rattle.bh_event.specs.Events.{order_of};
-ghost use Rattle.bh_http.specs.Answers.{response_view};
+ghost use Rattle.bh_http.specs.Answers.{response_view, refused};
 ghost use Rattle.bh_http.specs.Responses.{response_text, refusal_text};
 ghost use Rattle.bh_http.specs.Views.{view as request_view};
 ghost use Rattle.bh_docs.specs.Documents.{usage_view};
@@ -18,7 +18,7 @@ use bh_event::event::Command;
 use bh_http::encode::response_bytes;
 use bh_http::fixed::{clock_out_of_range, service_unavailable};
 use bh_http::request::Request;
-use bh_http::response::Response;
+use bh_http::response::{Response, has_document};
 use bh_http::values::{Allow, ContentRange};
 use bh_operation::allow::allow_of;
 use bh_operation::path_of;
@@ -105,8 +105,8 @@ pub fn refused_request_text(
 ) -> Result<Vec<u8>, AllocError>
     ensures { IfOk result (λ bytes. bytes.items ≡ spec.text (Asked (Ok (request_view request.now))) (Err rejection)) }
 {
-    let response = refusal_to(alloc, request.target.as_slice(), rejection)?;
-    sent_text(alloc, request.method.as_str(), response)
+    let response = refusal_to(alloc, request.target, rejection)?;
+    sent_text(alloc, request.method, response)
 }
 
 #[tactic(auto, unfolding(crate::specs::Replies::text))]
@@ -114,11 +114,11 @@ fn answer_text(alloc: Global, request: &Request, answer: Answer) -> Result<Vec<u
     ensures { IfOk result (λ bytes. bytes.items ≡ spec.text (Asked (Ok (request_view request.now))) (Ok (answer_view answer))) }
 {
     let response = response_to(alloc, answer)?;
-    sent_text(alloc, request.method.as_str(), response)
+    sent_text(alloc, request.method, response)
 }
 
 /// The bytes of a response to a request of this method.
-fn sent_text(alloc: Global, method: &str, response: Response) -> Result<Vec<u8>, AllocError>
+fn sent_text(alloc: Global, method: &[u8], response: Response) -> Result<Vec<u8>, AllocError>
     ensures { IfOk result (λ bytes. bytes.items ≡ response_text (spec.sent_for method.now (response_view response))) }
 {
     let sent = sent_for(alloc, method, response);
@@ -126,10 +126,10 @@ fn sent_text(alloc: Global, method: &str, response: Response) -> Result<Vec<u8>,
 }
 
 /// The response to this method: HEAD is answered with the head alone (RFC 9110, section 9.3.2).
-fn sent_for(alloc: Global, method: &str, response: Response) -> Response
+fn sent_for(alloc: Global, method: &[u8], response: Response) -> Response
     ensures { response_view result ≡ spec.sent_for method.now (response_view response) }
 {
-    if method == "HEAD" {
+    if matches!(method, b"HEAD") {
         let mut head = response;
         head.body = Vec::new(alloc);
         head
@@ -142,13 +142,27 @@ fn sent_for(alloc: Global, method: &str, response: Response) -> Response
 fn refusal_to(alloc: Global, target: &[u8], rejection: Rejection) -> Result<Response, AllocError>
     ensures { IfOk result (λ response. response_view response ≡ spec.refusal_to target.now rejection) }
 {
-    let path = String::from_utf8_lossy(alloc, path_of(target))?;
-    let document = error_document(alloc, rejection.refusal.code(), path.as_str())?;
-    let mut response = Response::refused(alloc, rejection.refusal, document.into_bytes());
+    let mut response = response_with_document(alloc, target, rejection.refusal)?;
     response.content_range = range_told(rejection.detail);
     response.allow = allow_told(target, rejection);
     response.delete_marker = marker_told(rejection.detail);
     Ok(response)
+}
+
+/// The response to what was refused, with its document. Where the refusal has none, none is composed.
+fn response_with_document(
+    alloc: Global,
+    target: &[u8],
+    refusal: Refusal,
+) -> Result<Response, AllocError>
+    ensures { IfOk result (λ response. response_view response ≡ refused refusal (spec.document_for target.now refusal)) }
+{
+    if !has_document(refusal) {
+        return Ok(Response::bare_refusal(alloc, refusal));
+    }
+    let path = String::from_utf8_lossy(alloc, path_of(target))?;
+    let document = error_document(alloc, refusal.code(), path.as_str())?;
+    Ok(Response::refused(alloc, refusal, document.into_bytes()))
 }
 
 /// The methods to tell of with a refusal of this target.

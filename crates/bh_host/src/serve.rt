@@ -38,5 +38,5 @@ pub fn requested<H: Storage>(
     let secret = secret_of(request)?;
     host.authenticate(alloc, key, secret)?;
     let operation = operation_of(alloc, request, &key.tenant)?;
-    host.operate(alloc, &key.tenant, at, &operation, request.body.as_slice())
+    host.operate(alloc, &key.tenant, at, &operation, request.body)
 }

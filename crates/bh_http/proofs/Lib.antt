@@ -1,3 +1,4 @@
 pub mod ArrivingLemmas
+pub mod Heads
 pub mod Readings
 pub mod Refused

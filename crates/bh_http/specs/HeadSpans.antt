@@ -15,11 +15,11 @@ parts_at bytes headers spans = record {
   fields = map (header_bytes bytes) (take spans.headers headers);
 }
 
--- the parts of a head that was copied
+-- what contracts see of a head
 abbrev pub head_view : Head → Parts
 head_view head = record {
-  method = head.method;
-  target = head.target.items;
+  method = head.method.now;
+  target = head.target.now;
   minor = head.minor;
   fields = pairs_of head.fields.items;
 }

@@ -5,8 +5,6 @@ use Rattle.std.specs.Str.{bytes_eq}
 use Rattle.std.specs.Str.Parse.{digits_value}
 use Rattle.httparse.specs.Grammar.{RequestHead, ReadsRequest, print_request}
 use Rattle.httparse.specs.Spans.{name_and_value}
-use Rattle.bh_types.specs.declared.error.RequestError.{RequestError}
-use Rattle.bh_types.specs.declared.error.RequestError.TheVariants.{Refused, OutOfMemory}
 use Rattle.bh_types.specs.Digits.{is_number}
 use Rattle.bh_types.specs.Limits.{HostLimits}
 use Rattle.bh_types.specs.declared.refusal.Refusal.{Refusal}
@@ -93,11 +91,6 @@ Reads limits bytes answer =
     (HasNoHead bytes × (answer ≡ Err BadRequest))
     ⊎ ((head : RequestHead) × (rest : List ℕ) × HasHead bytes head rest
     × (answer ≡ outcome limits (parts_of head) rest))
-
--- what an error says of the bytes: their refusal, or nothing where memory ran out
-abbrev pub ReadsError : HostLimits → List ℕ → RequestError → Type 0
-ReadsError limits bytes (Refused refusal) = Reads limits bytes (Err refusal)
-ReadsError limits bytes OutOfMemory = Unit {0}
 
 -- bytes have one reading
 abbrev pub OneReading : Type 0

@@ -1,11 +1,12 @@
 -- A request as contracts see it: lists of bytes.
-use Rattle.std.specs.Prelude.{ℕ, List, map}
+use Rattle.std.specs.Prelude.{ℕ, List, map, Result, Ok, Err}
+use Rattle.bh_types.specs.declared.refusal.Refusal.{Refusal}
 use Rattle.bh_http.specs.declared.request.Field.{Field}
 use Rattle.bh_http.specs.declared.request.Request.{Request}
 
 -- a field's name and value
 abbrev pub pair_of : Field → List ℕ × List ℕ
-pair_of field = (field.name.items, field.value.items)
+pair_of field = (field.name.now, field.value.now)
 
 -- the names and values of fields, in their order
 abbrev pub pairs_of : List Field → List (List ℕ × List ℕ)
@@ -29,8 +30,13 @@ pub record Taken : Type 0 where
 -- what contracts see of a request
 abbrev pub view : Request → Taken
 view request = record {
-  method = request.method;
-  target = request.target.items;
+  method = request.method.now;
+  target = request.target.now;
   fields = pairs_of request.fields.items;
-  body = request.body.items;
+  body = request.body.now;
 }
+
+-- what contracts see of a reading
+abbrev pub viewed : Result Request Refusal → Result Taken Refusal
+viewed (Ok request) = Ok (view request)
+viewed (Err refusal) = Err refusal

@@ -1,18 +1,17 @@
-ghost use Rattle.std.specs.Prelude.{◌≡◌, IfOk};
-ghost use Rattle.httparse.specs.Grammar.{IsToken};
-ghost use Rattle.httparse.specs.Spans.{IsRequestWithin, span_bytes};
+ghost use Rattle.std.specs.Prelude.{◌≡◌};
+ghost use Rattle.httparse.specs.Spans.{IsRequestWithin};
 ghost use Rattle.bh_http.specs.Reading.{framing as framing_of};
 ghost use Rattle.bh_http.specs.Arriving.{Says, announcing, ends_blank as blank_at_end};
 ghost use Rattle.bh_http.specs.HeadSpans.{parts_at};
 
 use crate::framing::framing;
 pub use crate::head::MAX_HEAD;
-use crate::head::{MAX_FIELDS, copy_head};
+use crate::head::head_at;
+use crate::request::MAX_FIELDS;
 use bh_types::limits::Limits;
 use bh_types::refusal::Refusal;
 use httparse::Status;
 use httparse::spans::{EMPTY_HEADER_SPAN, HeaderSpan, RequestSpans, parse_request};
-use std::alloc::{AllocError, Global};
 
 /// What the bytes so far say of the request that they begin.
 #[derive(Clone, Copy, Debug)]
@@ -25,35 +24,32 @@ pub enum Arriving {
     Refused,
 }
 
-/// Looks for the head at the front of the bytes so far.
-pub fn search(alloc: Global, limits: &Limits, bytes: &[u8]) -> Result<Arriving, AllocError>
-    ensures { IfOk result (Says limits.now bytes.now) }
+/// Looks for the head at the front of the bytes so far. It takes no memory.
+pub fn search(limits: &Limits, bytes: &[u8]) -> Arriving
+    ensures { Says limits.now bytes.now result }
 {
     let mut headers = [EMPTY_HEADER_SPAN; MAX_FIELDS];
     match parse_request(bytes, headers.as_mut_slice()) {
         Ok(Status::Complete(spans)) if spans.len <= MAX_HEAD => {
-            announced(alloc, limits, bytes, headers.as_slice(), spans)
+            announced(limits, bytes, &headers, spans)
         }
-        Ok(Status::Complete(_)) => Ok(Arriving::Refused),
-        Ok(Status::Partial) => Ok(Arriving::NotYet),
-        Err(_) => Ok(Arriving::Refused),
+        Ok(Status::Complete(_)) => Arriving::Refused,
+        Ok(Status::Partial) => Arriving::NotYet,
+        Err(_) => Arriving::Refused,
     }
 }
 
 /// What a head that was found announces.
 fn announced(
-    alloc: Global,
     limits: &Limits,
     bytes: &[u8],
-    headers: &[HeaderSpan],
+    headers: &[HeaderSpan; MAX_FIELDS],
     spans: RequestSpans,
-) -> Result<Arriving, AllocError>
-    requires within { IsRequestWithin bytes.now headers.now spans }
-    requires method { IsToken (span_bytes bytes.now spans.method) }
-    ensures { IfOk result (λ found. found ≡ announcing (framing_of limits.now (parts_at bytes.now headers.now spans))) }
+) -> Arriving
+    requires { IsRequestWithin bytes.now headers.now spans }
+    ensures { result ≡ announcing (framing_of limits.now (parts_at bytes.now headers.now spans)) }
 {
-    let head = copy_head(alloc, bytes, headers, spans)?;
-    Ok(announced_by(framing(limits, &head)))
+    announced_by(framing(limits, &head_at(bytes, headers, spans)))
 }
 
 fn announced_by(framing: Result<u64, Refusal>) -> Arriving

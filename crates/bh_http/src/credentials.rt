@@ -10,7 +10,7 @@ use std::alloc::{AllocError, Global};
 
 /// The secret that a request carries, as it was sent: the value of `x-secret-key`. AccessDenied where
 /// it or `x-access-key` does not stand exactly once.
-pub fn secret_of(request: &Request) -> Result<&[u8], Refusal>
+pub fn secret_of<'a>(request: &Request<'a>) -> Result<&'a [u8], Refusal>
     ensures ok { IfOk result (λ secret. spec.secret_given (view request.now) ≡ Ok secret.now) }
     ensures err { IfErr result (λ refusal. spec.secret_given (view request.now) ≡ Err refusal) }
 {

@@ -16,14 +16,14 @@ pub enum Given<'a> {
 }
 
 /// The field of a name, compared without case (RFC 9110, section 5.1).
-pub fn field_named<'a>(fields: &'a [Field], name: &[u8]) -> Given<'a>
+pub fn field_named<'a>(fields: &[Field<'a>], name: &[u8]) -> Given<'a>
     ensures { spec.given_view result ≡ spec.field_named name.now (pairs_of fields.now) }
 {
     let mut given = Given::Missing;
     for field in fields {
         if is_named(field, name) {
             given = match given {
-                Given::Missing => Given::Once(field.value.as_slice()),
+                Given::Missing => Given::Once(field.value),
                 _ => Given::Repeated,
             };
         }
@@ -34,5 +34,5 @@ pub fn field_named<'a>(fields: &'a [Field], name: &[u8]) -> Given<'a>
 fn is_named(field: &Field, name: &[u8]) -> bool
     ensures { result ≡ spec.is_named name.now (pair_of field.now) }
 {
-    field.name.as_slice().eq_ignore_ascii_case(name)
+    field.name.eq_ignore_ascii_case(name)
 }

@@ -8,7 +8,6 @@ use crate::head::Head;
 use bh_types::digits::{is_number, number_of};
 use bh_types::limits::Limits;
 use bh_types::refusal::Refusal;
-use http::Method;
 
 /// The length of the body that follows a head, or the first refusal.
 pub fn framing(limits: &Limits, head: &Head) -> Result<u64, Refusal>
@@ -23,7 +22,7 @@ pub fn framing(limits: &Limits, head: &Head) -> Result<u64, Refusal>
     }
     announced(
         limits.max_body,
-        &head.method,
+        head.method,
         field_named(fields, b"content-length"),
     )
 }
@@ -47,7 +46,7 @@ fn is_missing(given: Given) -> bool
 }
 
 /// The length that Content-Length announces for a method.
-fn announced(max_body: u64, method: &Method, content_length: Given) -> Result<u64, Refusal>
+fn announced(max_body: u64, method: &[u8], content_length: Given) -> Result<u64, Refusal>
     ensures { result ≡ spec.announced max_body method.now (given_view content_length.entry) }
 {
     match content_length {
@@ -58,10 +57,10 @@ fn announced(max_body: u64, method: &Method, content_length: Given) -> Result<u6
     }
 }
 
-fn needs_length(method: &Method) -> bool
+fn needs_length(method: &[u8]) -> bool
     ensures { result ≡ spec.needs_length method.now }
 {
-    method.as_str() == "PUT" || method.as_str() == "POST"
+    matches!(method, b"PUT" | b"POST")
 }
 
 /// The length that a value of Content-Length announces.

@@ -1,29 +1,25 @@
-ghost use Rattle.std.specs.Prelude.{◌≡◌, ◌≤◌, ℕ, List, length, map, All, IfOk, IfSome, IfNone};
-ghost use Rattle.httparse.specs.Grammar.{IsToken, RequestHead, print_request};
-ghost use Rattle.httparse.specs.Spans.{IsHeaderWithin, IsRequestAt, IsRequestWithin, header_bytes, span_bytes};
+ghost use Rattle.std.specs.Prelude.{◌≡◌, ◌≤◌, ℕ, List, length, map, All, IfSome, IfNone};
+ghost use Rattle.httparse.specs.Grammar.{RequestHead, print_request};
+ghost use Rattle.httparse.specs.Spans.{IsHeaderWithin, IsRequestAt, IsRequestWithin, header_bytes};
 ghost use Rattle.bh_http.specs.HeadSpans.{parts_at, head_view};
 ghost use Rattle.bh_http.specs.Reading.{HasNoHead};
 ghost use Rattle.bh_http.specs.Views.{pair_of, pairs_of};
 
-use crate::request::Field;
-use http::method::{Method, MethodError};
+use crate::request::{Field, Fields, MAX_FIELDS};
+use arrayvec::ArrayVec;
 use httparse::Status;
 use httparse::spans::{HeaderSpan, RequestSpans, parse_request};
-use std::alloc::{AllocError, Global};
-
-/// The most fields of a head.
-pub const MAX_FIELDS: usize = 64;
 
 /// The longest head, in bytes.
 pub const MAX_HEAD: usize = 16384;
 
 /// A request head, with the last digit of its version HTTP/1.0 or HTTP/1.1.
 #[derive(Drop)]
-pub struct Head {
-    pub method: Method,
-    pub target: Vec<u8>,
+pub struct Head<'a> {
+    pub method: &'a [u8],
+    pub target: &'a [u8],
     pub minor: u8,
-    pub fields: Vec<Field>,
+    pub fields: Fields<'a>,
 }
 
 /// Where the parts of the head at the front are, if there is one within the limits.
@@ -41,59 +37,41 @@ pub fn find_head(bytes: &[u8], headers: &mut [HeaderSpan; MAX_FIELDS]) -> Option
 }
 
 /// The head that the spans cover.
-pub fn copy_head(
-    alloc: Global,
-    bytes: &[u8],
-    headers: &[HeaderSpan],
+pub fn head_at<'a>(
+    bytes: &'a [u8],
+    headers: &[HeaderSpan; MAX_FIELDS],
     spans: RequestSpans,
-) -> Result<Head, AllocError>
-    requires within { IsRequestWithin bytes.now headers.now spans }
-    requires method { IsToken (span_bytes bytes.now spans.method) }
-    ensures { IfOk result (λ head. head_view head ≡ parts_at bytes.now headers.now spans) }
+) -> Head<'a>
+    requires { IsRequestWithin bytes.now headers.now spans }
+    ensures { head_view result ≡ parts_at bytes.now headers.now spans }
 {
-    let method = method_of(alloc, spans.method.of(bytes))?;
-    let target = Vec::from_slice(alloc, spans.path.of(bytes))?;
-    let fields = copy_fields(alloc, bytes, &headers[..spans.headers])?;
-    Ok(Head {
-        method,
-        target,
+    Head {
+        method: spans.method.of(bytes),
+        target: spans.path.of(bytes),
         minor: spans.version,
-        fields,
-    })
-}
-
-fn method_of(alloc: Global, token: &[u8]) -> Result<Method, AllocError>
-    requires { IsToken token.now }
-    ensures { IfOk result (λ method. method ≡ token.now) }
-{
-    match Method::from_bytes(alloc, token) {
-        Ok(method) => Ok(method),
-        Err(MethodError::OutOfMemory) => Err(AllocError),
-        Err(MethodError::Invalid) => unreachable!(),
+        fields: fields_at(bytes, &headers[..spans.headers]),
     }
 }
 
-fn copy_fields(
-    alloc: Global,
-    bytes: &[u8],
-    headers: &[HeaderSpan],
-) -> Result<Vec<Field>, AllocError>
-    requires { All (IsHeaderWithin (length bytes.now)) headers.now }
-    ensures { IfOk result (λ fields.
-        pairs_of fields.items ≡ map (header_bytes bytes.now) headers.now) }
+/// The fields that the spans cover.
+fn fields_at<'a>(bytes: &'a [u8], headers: &[HeaderSpan]) -> Fields<'a>
+    requires within { All (IsHeaderWithin (length bytes.now)) headers.now }
+    requires room { length headers.now ≤ 64 }
+    ensures { pairs_of result.items ≡ map (header_bytes bytes.now) headers.now }
 {
-    let mut fields = Vec::with_capacity(alloc, headers.len())?;
+    let mut fields = ArrayVec::new();
     for header in headers {
-        fields.push(copy_field(alloc, bytes, header)?)?;
+        fields.push(field_at(bytes, header));
     }
-    Ok(fields)
+    fields
 }
 
-fn copy_field(alloc: Global, bytes: &[u8], header: &HeaderSpan) -> Result<Field, AllocError>
+fn field_at<'a>(bytes: &'a [u8], header: &HeaderSpan) -> Field<'a>
     requires { IsHeaderWithin (length bytes.now) header.now }
-    ensures { IfOk result (λ field. pair_of field ≡ header_bytes bytes.now header.now) }
+    ensures { pair_of result ≡ header_bytes bytes.now header.now }
 {
-    let name = Vec::from_slice(alloc, header.name.of(bytes))?;
-    let value = Vec::from_slice(alloc, header.value.of(bytes))?;
-    Ok(Field { name, value })
+    Field {
+        name: header.name.of(bytes),
+        value: header.value.of(bytes),
+    }
 }

@@ -15,4 +15,4 @@ pub mod request;
 pub mod response;
 pub mod values;
 
-pub use http::{Method, StatusCode};
+pub use http::StatusCode;

@@ -1,19 +1,36 @@
-use http::Method;
+use arrayvec::ArrayVec;
+
+/// The most header fields of a request.
+pub const MAX_FIELDS: usize = 64;
 
 /// A header field (RFC 9110, section 5): its name as it was written, and its value without the
 /// white space around it.
-#[derive(Drop)]
-pub struct Field {
-    pub name: Vec<u8>,
-    pub value: Vec<u8>,
+#[derive(Clone, Copy)]
+pub struct Field<'a> {
+    pub name: &'a [u8],
+    pub value: &'a [u8],
 }
 
+impl Default for Field<'_> {
+    /// What an unused place of a request's fields holds.
+    fn default() -> Self {
+        Field {
+            name: b"",
+            value: b"",
+        }
+    }
+}
+
+/// The header fields of a request, in their order.
+pub type Fields<'a> = ArrayVec<Field<'a>, MAX_FIELDS>;
+
 /// A request: the method and the target of its request line (RFC 9112, section 3), its header
-/// fields in their order, and the body that Content-Length framed.
+/// fields in their order, and the body that Content-Length framed. All of it lies in the bytes that
+/// the request was read from.
 #[derive(Drop)]
-pub struct Request {
-    pub method: Method,
-    pub target: Vec<u8>,
-    pub fields: Vec<Field>,
-    pub body: Vec<u8>,
+pub struct Request<'a> {
+    pub method: &'a [u8],
+    pub target: &'a [u8],
+    pub fields: Fields<'a>,
+    pub body: &'a [u8],
 }

@@ -3,6 +3,7 @@ ghost use Rattle.std.specs.Io.KnownBytes.{Consumes, IsAtEnd};
 ghost use Rattle.bh_types.specs.Limits.{HostLimits};
 ghost use Rattle.bh_http.specs.Arriving.{is_text as is_text_byte, ends_blank as is_blank_at_end};
 ghost use Rattle.bh_link.specs.Taking.{Took, TookAtMost, Opens, is_fault};
+ghost use Rattle.bh_link.specs.declared.request.TakeError.TheVariants.{OutOfMemory};
 
 use crate::link::{Link, ReadFault};
 use bh_http::arriving::{Arriving, MAX_HEAD, ends_blank, search};
@@ -66,7 +67,8 @@ pub fn take_request<R: Read>(
         × TookAtMost limits.now (R.remaining reader.old.inner) (R.remaining reader.new.inner) taken) }
     ensures failed { IfErr result (λ e. reader.new.failed ≡ is_fault e) }
 {
-    let opening = take_head(alloc, limits, reader)?;
+    let mut opening = take_head(alloc, limits, reader)?;
+    make_room(&mut opening)?;
     take_body(reader, opening)
 }
 
@@ -93,7 +95,7 @@ fn take_head<R: Read>(
         push(&mut bytes, byte)?;
         started = has_started(started, byte);
         if may_end(started, bytes.as_slice()) {
-            match search(alloc, limits, bytes.as_slice())? {
+            match search(limits, bytes.as_slice()) {
                 Arriving::NotYet => {}
                 Arriving::Body(body) => return Ok(Opening { bytes, body }),
                 Arriving::Refused => return Ok(Opening { bytes, body: 0 }),
@@ -122,6 +124,18 @@ fn may_end(started: bool, bytes: &[u8]) -> bool
     ensures { result ≡ (started && is_blank_at_end bytes.now) }
 {
     started && ends_blank(bytes)
+}
+
+/// Makes room for the body that is to be taken, so that what has come of it isn't moved as more comes.
+fn make_room(opening: &mut Opening) -> Result<(), TakeError>
+    ensures bytes { opening.new.bytes.items ≡ opening.old.bytes.items }
+    ensures body { opening.new.body ≡ opening.old.body }
+    ensures wanting { IfErr result (λ e. e ≡ OutOfMemory) }
+{
+    let Ok(size) = usize::try_from(opening.body) else {
+        return Err(TakeError::OutOfMemory);
+    };
+    Ok(opening.bytes.reserve_exact(size)?)
 }
 
 /// Takes the body after a head. Where no body is to be taken, nothing is.

@@ -33,8 +33,10 @@ use Rattle.bh_storage.specs.declared.error.StepError.TheVariants.{Refused, Faile
 use Rattle.bh_schema.specs.Rows.{SeenHead, seen_head}
 use Rattle.bh_objects.specs.Answers.{head_looked}
 use Rattle.bh_objects.specs.Copies.{version_read, copy_written}
-use Rattle.bh_objects.specs.Found.{mode_in, IsKeyText, with_entry, entry_numbers_in}
-use Rattle.bh_objects.specs.Writes.{with_counters, with_room, with_version, with_columns}
+use Rattle.bh_objects.specs.Found.{mode_in, IsKeyText, replaced_in, with_entry, entry_numbers_in}
+use Rattle.bh_objects.specs.declared.quotas.Replaced.{Replaced}
+use Rattle.bh_objects.specs.Writes.{with_counters, with_room, without_replaced, with_version, with_columns}
+use Rattle.bh_objects.proofs.Dropping.{room_found}
 use Rattle.bh_objects.proofs.Keeping.{entry_asked}
 use Rattle.bh_objects.proofs.Getting.{its, sized, row_bytes, found_version, refused_version}
 use Rattle.bh_objects.proofs.Putting.{HasBucket, has_bucket, has_numbers, next_unnamed, numbers_read}
@@ -155,7 +157,7 @@ module _ (old new : Tables) (t b k sb sk : Octets) (wanted : Wanted) (at : ℕ) 
       subst (λ m. Goes m c) h.its (subst (Goes h.bucket.mode) numbers.0 (goes mode h)) read (subst (λ x. after_entry mode x ≡ Ok after) numbers.0 numbers.1)
 
   -- a copy whose body has the source's blocks
-  pub copies_body : (mode : BucketState) (c : Counts) → mode_in b (view old t) ≡ Ok mode → entry_numbers_in mode b k head.size (view old t) ≡ Ok (c, after) → new ≡ copy_written mode c after t b k at head old
+  pub copies_body : (mode : BucketState) (c : Counts) → mode_in b (view old t) ≡ Ok mode → entry_numbers_in mode b k head.size (view old t) ≡ Ok (c, after) → new ≡ copy_written mode c after (replaced_in mode t b k old) t b k at head old
       → Made mode c × HasBodies new × ((digest : Octets → Octets) → AreDigests digest old.blocks → AreDigests digest new.blocks)
   copies_body mode c found read e =
       let h = has_bucket b (view old t) mode found in
@@ -163,7 +165,8 @@ module _ (old new : Tables) (t b k sb sk : Octets) (wanted : Wanted) (at : ℕ) 
       let counted = with_counters mode after t old in
       let middle = body_copied (t, head.seq) (t, c.entry) counted in
       let adds : (digest : Octets → Octets) → AddsBody digest (t, c.entry) its_version.bytes counted middle = λ digest. body_copies counted (t, c.entry) (same_resolved old counted refl refl refl refl host.resolved) host.sound.stored host.bodies (same_unnamed old counted refl refl refl refl (t, c.entry) free) digest (t, head.seq) in
-      let is = e ∙ copied_row mode c t b k at head its_version.bytes (with_room mode t b k middle) size in
+      let room = room_found mode t b k old middle (ap (λ (x : Tables). x.versions) (adds (λ bytes. bytes)).is) in
+      let is = e ∙ ap (with_version mode c t b k at head.size head.checksum) room ∙ copied_row mode c t b k at head its_version.bytes (with_room mode t b k middle) size in
       let it = λ (digest : Octets → Octets). is_added old host mode c after t b k at free digest its_version.bytes head.checksum middle new (adds digest) (shares_same (t, c.entry) old middle refl) is in
       (copies mode c found read (it (λ x. x)).0.rows (it (λ x. x)).2, (it (λ x. x)).0.bodies, λ digest. (it digest).1)
 
@@ -220,8 +223,8 @@ module _ {Y : Type 0} (told : Y → Answer) (at : ℕ) (t b k sb sk : Octets) (w
     numbers_failed shows version source n same_size last two (Failed trouble) d = tt
 
 -- the writes of a copy, one after another
-pub copy_chain : (mode : BucketState) (before after : Counts) (t b k : Octets) (at : ℕ) (head : SeenHead) (old one two three new : Tables)
-    → one ≡ with_counters mode after t old → two ≡ body_copied (t, head.seq) (t, before.entry) one → three ≡ with_room mode t b k two → new ≡ with_version mode before t b k at head.size head.checksum three
-    → new ≡ copy_written mode before after t b k at head old
-copy_chain mode before after t b k at head old one two three new is1 is2 is3 is4 =
-    is4 ∙ ap (with_version mode before t b k at head.size head.checksum) (is3 ∙ ap (with_room mode t b k) (is2 ∙ ap (body_copied (t, head.seq) (t, before.entry)) is1))
+pub copy_chain : (mode : BucketState) (before after : Counts) (replaced : Option Replaced) (t b k : Octets) (at : ℕ) (head : SeenHead) (old one two three new : Tables)
+    → one ≡ with_counters mode after t old → two ≡ body_copied (t, head.seq) (t, before.entry) one → three ≡ without_replaced t b k replaced two → new ≡ with_version mode before t b k at head.size head.checksum three
+    → new ≡ copy_written mode before after replaced t b k at head old
+copy_chain mode before after replaced t b k at head old one two three new is1 is2 is3 is4 =
+    is4 ∙ ap (with_version mode before t b k at head.size head.checksum) (is3 ∙ ap (without_replaced t b k replaced) (is2 ∙ ap (body_copied (t, head.seq) (t, before.entry)) is1))

@@ -1,5 +1,5 @@
 -- An entry that goes with its body, as a change of versions alone.
-use Rattle.std.proofs.Common.{◌≡◌, ℕ, true, false, List, [], map, filter, find, Option, Some, None, refl, sym, ap, ◌∙◌, subst}
+use Rattle.std.proofs.Common.{◌≡◌, ℕ, true, false, List, [], map, filter, find, Option, Some, None, option_map, refl, sym, ap, ◌∙◌, subst}
 use Rattle.std.specs.List.{AllByRecursion, list_any}
 use Rattle.std.specs.Option.{option_map_or}
 use Rattle.sqlite_keyed.specs.Lists.{delete_where}
@@ -22,7 +22,9 @@ use Rattle.bh_view.proofs.NameLemmas.{names, name_swap}
 use Rattle.bh_view.proofs.SetLemmas.{set_other}
 use Rattle.bh_view.proofs.SharedLemmas.{names_block, named_still}
 use Rattle.bh_view.proofs.WholeLemmas.{refs_dropped}
-use Rattle.bh_objects.specs.Writes.{without_entry, without_null, with_room}
+use Rattle.bh_objects.specs.Writes.{without_entry, without_null, without_replaced, with_room}
+use Rattle.bh_objects.specs.Found.{replaced_in}
+use Rattle.bh_objects.specs.declared.quotas.Replaced.{Replaced}
 
 -- ---- what leaves these versions
 
@@ -78,3 +80,21 @@ module _ (old : Tables) (sound : IsSound old) (more : List Name) (x : Tables) (i
   room_made Unversioned = null_gone
   room_made Enabled = record { is = refl; is_whole = is_whole; bytes = λ body apart. refl; named = λ body block apart named. named }
   room_made Suspended = null_gone
+
+-- what was found before is what there is to make room for
+pub room_found : (mode : BucketState) (t b k : Octets) (old x : Tables) → x.versions ≡ old.versions → without_replaced t b k (replaced_in mode t b k old) x ≡ with_room mode t b k x
+room_found mode t b k old x same = ap (λ (r : Option Replaced). without_replaced t b k r x) (here mode) ∙ there mode
+  where
+    here : (m : BucketState) → replaced_in m t b k old ≡ replaced_in m t b k x
+    here Unversioned = ap (λ l. option_map (λ (v : VersionRow). record { seq = v.seq; size = v.size }) (find (is_version t b k 0) l)) (sym same)
+    here Enabled = refl
+    here Suspended = ap (λ l. option_map (λ (v : VersionRow). record { seq = v.seq; size = v.size }) (find (is_version t b k 0) l)) (sym same)
+
+    each : (o : Option VersionRow) → without_replaced t b k (option_map (λ (v : VersionRow). record { seq = v.seq; size = v.size }) o) x ≡ option_map_or (λ (v : VersionRow). without_entry t b k 0 v.seq x) o x
+    each None = refl
+    each (Some v) = refl
+
+    there : (m : BucketState) → without_replaced t b k (replaced_in m t b k x) x ≡ with_room m t b k x
+    there Unversioned = each (find (is_version t b k 0) x.versions)
+    there Enabled = refl
+    there Suspended = each (find (is_version t b k 0) x.versions)

@@ -1,5 +1,5 @@
 -- What is read of a bucket and of a tenant, in the words of the machine.
-use Rattle.std.proofs.Common.{◌≡◌, ℕ, Option, Some, None, option_map, option_and_then, is_none, ok_or, find, Result, Ok, Err, refl, sym, ap, ◌∙◌}
+use Rattle.std.proofs.Common.{◌≡◌, ℕ, true≢false, Option, Some, None, option_map, option_and_then, is_none, ok_or, find, Result, Ok, Err, is_ok, refl, sym, ap, ◌∙◌}
 use Rattle.std.specs.Result.{result_map_both}
 use Rattle.std.specs.FinMap.{get}
 use Rattle.bh_types.specs.Counts.{Counts}
@@ -10,15 +10,18 @@ use Rattle.bh_types.specs.declared.refusal.Refusal.{Refusal}
 use Rattle.bh_types.specs.declared.refusal.Refusal.TheVariants.{NoSuchBucket, NoSuchTenant, BucketAlreadyOwnedByYou}
 use Rattle.bh_model.specs.State.{Octets, State, Bucket}
 use Rattle.bh_types.specs.Outcomes.{require}
+use Rattle.bh_storage.specs.Calls.{Decides}
+use Rattle.bh_storage.specs.declared.error.StepError.{StepError}
+use Rattle.bh_storage.specs.declared.error.StepError.TheVariants.{Refused, Failed}
 use Rattle.bh_tables.specs.Typed.{Tables, TenantRow, BucketRow}
 use Rattle.bh_tables.specs.Shown.{is_tenant, is_bucket}
 use Rattle.bh_view.specs.View.{view, mode_of, rows_of, bucket_shown, state_of}
 use Rattle.bh_view.specs.Sound.{IsSound}
-use Rattle.bh_view.proofs.FindLemmas.{first_find, bucket_found, counts_found, tenant_found}
+use Rattle.bh_view.proofs.FindLemmas.{first_find, bucket_found, tenant_found}
 use Rattle.bh_schema.specs.Rows.{bucket_numbers, tenant_numbers}
 use Rattle.bh_schema.specs.declared.rows.tenants.TenantNumbers.{TenantNumbers}
 use Rattle.bh_schema.specs.declared.rows.buckets.BucketNumbers.{BucketNumbers}
-use Rattle.bh_objects.specs.Found.{mode_in, counts_in, tenant_in, name_free}
+use Rattle.bh_objects.specs.Found.{mode_in, account_in, counts_in, tenant_in, name_free}
 
 abbrev mode_or : Option Bucket → Result BucketState Refusal
 mode_or o = ok_or (option_map (λ (b : Bucket). b.mode) o) NoSuchBucket
@@ -57,34 +60,38 @@ module _ (tables : Tables) (t name : Octets) (sound : IsSound tables) where
       go None e = refl
       go (Some r) e = cc
 
-module _ (tables : Tables) (t : Octets) where
-  abbrev row_counts : Option TenantRow → Option Counts
-  row_counts = option_map (λ (r : TenantRow). record { version = r.next_version; upload = r.next_upload; entry = r.next_entry })
+-- the counters of an account
+pub account_counts : (v : Option State) (a : ℕ × Counts) → account_in v ≡ Ok a → counts_in v ≡ Ok a.1
+account_counts None a e = cc
+account_counts (Some s) a e = ap (result_map_both (λ (x : ℕ × Counts). x.1) (λ refusal. refusal)) e
 
+pub counts_failed : {X Y : Type 0} (asked : X → ℕ × Counts) (told : Y → Counts) (v : Option State) (old new : Tables) (error : StepError Refusal) → Decides asked (account_in v) old new (Err error) → Decides told (counts_in v) old new (Err error)
+counts_failed asked told None old new (Refused x) d = (ap (result_map_both (λ (a : ℕ × Counts). a.1) (λ refusal. refusal)) d.0, d.1)
+counts_failed asked told (Some s) old new (Refused x) d = absurd (true≢false (ap is_ok d.0))
+counts_failed asked told v old new (Failed trouble) d = tt
+
+module _ (tables : Tables) (t : Octets) where
   abbrev own : Option TenantRow
   own = find (is_tenant t) tables.tenants
 
-  counts_shown : counts_in (view tables t) ≡ ok_or (row_counts own) NoSuchBucket
-  counts_shown = ap (λ o. ok_or o NoSuchBucket) (counts_found tables t ∙ ap row_counts (first_find (is_tenant t) tables.tenants))
+  tenant_shown : view tables t ≡ option_map (state_of (rows_of t tables)) own
+  tenant_shown = tenant_found tables t ∙ ap (option_map (state_of (rows_of t tables))) (first_find (is_tenant t) tables.tenants)
 
-  pub counts_read : (n : TenantNumbers) (c : Counts) → Some n ≡ option_map tenant_numbers own → c ≡ record { version = n.next_version; upload = n.next_upload; entry = n.next_entry } → counts_in (view tables t) ≡ Ok c
-  counts_read n c is its = counts_shown ∙ go own is
+  pub account_read : (n : TenantNumbers) (c : Counts) → Some n ≡ option_map tenant_numbers own → c ≡ record { version = n.next_version; upload = n.next_upload; entry = n.next_entry } → account_in (view tables t) ≡ Ok (n.quota, c)
+  account_read n c is its = ap account_in tenant_shown ∙ go own is
     where
-      go : (o : Option TenantRow) → Some n ≡ option_map tenant_numbers o → ok_or (row_counts o) NoSuchBucket ≡ Ok c
+      go : (o : Option TenantRow) → Some n ≡ option_map tenant_numbers o → account_in (option_map (state_of (rows_of t tables)) o) ≡ Ok (n.quota, c)
       go None e = cc
       go (Some r) e =
           let same : n ≡ tenant_numbers r = cc in
-          ap (λ (x : TenantNumbers). Ok (record { version = x.next_version; upload = x.next_upload; entry = x.next_entry })) (sym same) ∙ ap (λ x. Ok x) (sym its)
+          ap (λ (x : TenantNumbers). Ok (x.quota, record { version = x.next_version; upload = x.next_upload; entry = x.next_entry })) (sym same) ∙ ap (λ x. Ok (n.quota, x)) (sym its)
 
-  pub no_counts : None ≡ option_map tenant_numbers own → counts_in (view tables t) ≡ Err NoSuchBucket
-  no_counts is = counts_shown ∙ go own is
+  pub no_account : None ≡ option_map tenant_numbers own → account_in (view tables t) ≡ Err NoSuchBucket
+  no_account is = ap account_in tenant_shown ∙ go own is
     where
-      go : (o : Option TenantRow) → None ≡ option_map tenant_numbers o → ok_or (row_counts o) NoSuchBucket ≡ Err NoSuchBucket
+      go : (o : Option TenantRow) → None ≡ option_map tenant_numbers o → account_in (option_map (state_of (rows_of t tables)) o) ≡ Err NoSuchBucket
       go None e = refl
       go (Some r) e = cc
-
-  tenant_shown : view tables t ≡ option_map (state_of (rows_of t tables)) own
-  tenant_shown = tenant_found tables t ∙ ap (option_map (state_of (rows_of t tables))) (first_find (is_tenant t) tables.tenants)
 
   pub has_tenant : (n : TenantNumbers) → Some n ≡ option_map tenant_numbers own → tenant_in (view tables t) ≡ Ok tt
   has_tenant n is = ap tenant_in tenant_shown ∙ go own is

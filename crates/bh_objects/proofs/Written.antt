@@ -20,9 +20,10 @@ use Rattle.bh_view.proofs.SharedLemmas.{SharesFor, names_block, shared_for}
 use Rattle.bh_view.proofs.ViewLemmas.{same_view, same_latest, same_limits}
 use Rattle.bh_view.proofs.WholeLemmas.{empty_body}
 use Rattle.bh_view.proofs.WriteLemmas.{same_resolved, same_unnamed, added_bytes, added_whole, marker_added, row_added as view_row_added}
-use Rattle.bh_objects.specs.Found.{with_way, with_entry}
-use Rattle.bh_objects.specs.Writes.{with_counters, with_room, with_columns, object_written, marker_written}
-use Rattle.bh_objects.proofs.Dropping.{Leaves, room_made}
+use Rattle.bh_objects.specs.Found.{replaced_in, with_way, with_entry}
+use Rattle.bh_objects.specs.Writes.{with_counters, with_room, without_replaced, with_columns, object_written, marker_written}
+use Rattle.bh_objects.specs.declared.quotas.Replaced.{Replaced}
+use Rattle.bh_objects.proofs.Dropping.{Leaves, room_made, room_found}
 
 -- ---- tables that differ in their references and blocks alone
 
@@ -161,12 +162,14 @@ module _ (old : Tables) (host : IsHostOf old) (mode : BucketState) (before after
         new_blocks old host.sound mode before after t b k moment (Body bytes checksum) middle new has apart e,
       )
 
-  pub object_is_written : (digest : Octets → Octets) (size : ℕ) (bytes : Octets) (new : Tables) → 1 ≤ size → AreDigests digest old.blocks → new ≡ object_written digest size mode before after t b k moment bytes old
+  pub object_is_written : (digest : Octets → Octets) (size : ℕ) (bytes : Octets) (new : Tables) → 1 ≤ size → AreDigests digest old.blocks → new ≡ object_written digest size mode before after (replaced_in mode t b k old) t b k moment bytes old
       → IsWritten (with_entry mode before after t b k moment (Body bytes (checksum_text bytes)) old) new × AreDigests digest new.blocks × KeepsShared old new
   object_is_written digest size bytes new low d e =
       let middle = body_stored digest its 0 (pieces size bytes) counted in
       let once = each_once digest its (pieces size bytes) old.refs old.blocks host.sound.stored d in
-      let it = is_added digest bytes (checksum_text bytes) middle new (body_stores counted its counted_resolved host.sound.stored host.bodies counted_free digest size bytes low d) (record { added = once.added; grown = once.grown; named = once.named }) e in
+      let adds = body_stores counted its counted_resolved host.sound.stored host.bodies counted_free digest size bytes low d in
+      let room = room_found mode t b k old middle (ap (λ (x : Tables). x.versions) adds.is) in
+      let it = is_added digest bytes (checksum_text bytes) middle new adds (record { added = once.added; grown = once.grown; named = once.named }) (e ∙ ap (with_columns mode before t b k moment (Body bytes (checksum_text bytes))) room) in
       (it.0, it.1 d, it.2)
 
   pub marker_is_written : (new : Tables) → new ≡ marker_written mode before after t b k moment old → IsWritten (with_entry mode before after t b k moment Marker old) new × (new.blocks ≡ old.blocks)
@@ -183,6 +186,13 @@ module _ (old : Tables) (host : IsHostOf old) (mode : BucketState) (before after
         },
         new_blocks old host.sound mode before after t b k moment Marker counted new has apart e,
       )
+
+-- the writes of a put, one after another
+pub object_chain : (digest : Octets → Octets) (size : ℕ) (mode : BucketState) (before after : Counts) (replaced : Option Replaced) (t b k : Octets) (at : ℕ) (bytes : Octets) (old one two three new : Tables)
+    → one ≡ with_counters mode after t old → two ≡ body_stored digest (t, before.entry) 0 (pieces size bytes) one → three ≡ without_replaced t b k replaced two
+    → new ≡ with_columns mode before t b k at (Body bytes (checksum_text bytes)) three → new ≡ object_written digest size mode before after replaced t b k at bytes old
+object_chain digest size mode before after replaced t b k at bytes old one two three new is1 is2 is3 is4 =
+    is4 ∙ ap (with_columns mode before t b k at (Body bytes (checksum_text bytes))) (is3 ∙ ap (without_replaced t b k replaced) (is2 ∙ ap (body_stored digest (t, before.entry) 0 (pieces size bytes)) is1))
 
 -- ---- a delete
 

@@ -1,5 +1,5 @@
 -- What a copy reads of its source, and what it writes.
-use Rattle.std.specs.Prelude.{ℕ}
+use Rattle.std.specs.Prelude.{ℕ, Option}
 use Rattle.bh_types.specs.Counts.{Counts}
 use Rattle.bh_types.specs.declared.bucket_state.BucketState.{BucketState}
 use Rattle.bh_model.specs.Entries.{Version}
@@ -9,7 +9,8 @@ use Rattle.bh_tables.specs.Typed.{Tables}
 use Rattle.bh_view.specs.Bodies.{body_copied}
 use Rattle.bh_view.specs.View.{id_of}
 use Rattle.bh_schema.specs.Rows.{SeenHead}
-use Rattle.bh_objects.specs.Writes.{with_counters, with_room, with_version}
+use Rattle.bh_objects.specs.Writes.{with_counters, without_replaced, with_version}
+use Rattle.bh_objects.specs.declared.quotas.Replaced.{Replaced}
 
 -- the version of a tenant whose head was read: its bytes are those of its body
 abbrev pub version_read : Octets → Tables → SeenHead → Version
@@ -17,7 +18,7 @@ version_read tenant tables head = record { id = id_of head.id; moment = head.sta
 
 -- a copy has the source's size and checksum; its body has the source's blocks before what it replaces goes, which may
 -- be the source
-abbrev pub copy_written : BucketState → Counts → Counts → Octets → Octets → Octets → ℕ → SeenHead → Tables → Tables
-copy_written mode before after tenant bucket key moment head tables =
+abbrev pub copy_written : BucketState → Counts → Counts → Option Replaced → Octets → Octets → Octets → ℕ → SeenHead → Tables → Tables
+copy_written mode before after replaced tenant bucket key moment head tables =
     with_version mode before tenant bucket key moment head.size head.checksum
-    (with_room mode tenant bucket key (body_copied (tenant, head.seq) (tenant, before.entry) (with_counters mode after tenant tables)))
+    (without_replaced tenant bucket key replaced (body_copied (tenant, head.seq) (tenant, before.entry) (with_counters mode after tenant tables)))

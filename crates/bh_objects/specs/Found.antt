@@ -1,5 +1,5 @@
 -- What is read of a tenant's rows, and what a put or a delete makes of the tables.
-use Rattle.std.specs.Prelude.{◌≡◌, ℕ, ◌+◌, ◌-◌, ◌++◌, [], ◌∷◌, find, Option, Some, option_map, option_and_then, is_none, ok_or, Result, Ok, Err, IsTrue}
+use Rattle.std.specs.Prelude.{◌≡◌, ℕ, ◌+◌, ◌-◌, ◌++◌, [], ◌∷◌, find, Option, Some, None, option_map, option_and_then, is_none, ok_or, Result, Ok, Err, IsTrue}
 use Rattle.std.specs.List.{filter, sum_by}
 use Rattle.std.specs.Option.{option_map_or}
 use Rattle.std.specs.Str.{IsUtf8}
@@ -24,6 +24,7 @@ use Rattle.bh_storage.specs.declared.error.StepError.TheVariants.{Refused, Faile
 use Rattle.bh_tables.specs.Typed.{Tables}
 use Rattle.bh_tables.specs.Shown.{is_tenant, is_version, is_version_of, is_part_used}
 use Rattle.bh_view.specs.Put.{entry_row, row_number, counters_row, rows_left}
+use Rattle.bh_objects.specs.declared.quotas.Replaced.{Replaced}
 
 -- the state of a tenant's bucket
 abbrev pub mode_in : Octets → Option State → Result BucketState Refusal
@@ -32,6 +33,12 @@ mode_in name s = result_map_both (λ f. f.1.mode) (λ refusal. refusal) (tenant_
 -- a tenant's counters; a tenant that was not added has no bucket
 abbrev pub counts_in : Option State → Result Counts Refusal
 counts_in s = ok_or (option_map counts s) NoSuchBucket
+
+-- its quota and its counters
+abbrev pub account_in : Option State → Result (ℕ × Counts) Refusal
+account_in s = do
+  t ← ok_or s NoSuchBucket
+  Ok (t.quota, counts t)
 
 -- whether the tenant was added
 abbrev pub tenant_in : Option State → Result (Unit {0}) Refusal
@@ -54,15 +61,19 @@ numbers_in mode s = do
 abbrev pub bytes_in : Octets → Tables → ℕ
 bytes_in tenant tables = sum_by (λ v. v.size) (filter (is_version_of tenant) tables.versions) + sum_by (λ p. p.size) (filter (is_part_used tenant) tables.parts)
 
--- those of the entry `null` of a key
-abbrev pub null_bytes : Octets → Octets → Octets → Tables → ℕ
-null_bytes tenant bucket key tables = option_map_or (λ v. v.size) (find (is_version tenant bucket key 0) tables.versions) 0
+-- the entry `null` of a key
+abbrev pub null_in : Octets → Octets → Octets → Tables → Option Replaced
+null_in tenant bucket key tables = option_map (λ v. record { seq = v.seq; size = v.size }) (find (is_version tenant bucket key 0) tables.versions)
 
--- those that a new entry of it replaces
-abbrev pub replaced_bytes : BucketState → Octets → Octets → Octets → Tables → ℕ
-replaced_bytes Unversioned tenant bucket key tables = null_bytes tenant bucket key tables
-replaced_bytes Enabled tenant bucket key tables = 0
-replaced_bytes Suspended tenant bucket key tables = null_bytes tenant bucket key tables
+-- what a new entry of it replaces
+abbrev pub replaced_in : BucketState → Octets → Octets → Octets → Tables → Option Replaced
+replaced_in Unversioned tenant bucket key tables = null_in tenant bucket key tables
+replaced_in Enabled tenant bucket key tables = None
+replaced_in Suspended tenant bucket key tables = null_in tenant bucket key tables
+
+-- the bytes of what is replaced
+abbrev pub replaced_bytes : Option Replaced → ℕ
+replaced_bytes replaced = option_map_or (λ r. r.size) replaced 0
 
 -- whether a tenant who uses so many bytes may replace so many by so many
 abbrev pub room_under : ℕ → ℕ → ℕ → ℕ → Result (Unit {0}) Refusal

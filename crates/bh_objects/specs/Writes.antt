@@ -1,5 +1,5 @@
 -- What a put or a delete writes, one call after another.
-use Rattle.std.specs.Prelude.{ℕ, ◌++◌, [], ◌∷◌, find}
+use Rattle.std.specs.Prelude.{ℕ, ◌++◌, [], ◌∷◌, Option, find}
 use Rattle.std.specs.Option.{option_map_or}
 use Rattle.sqlite_keyed.specs.Lists.{update_where, delete_where}
 use Rattle.bh_types.specs.Counts.{Counts}
@@ -12,6 +12,7 @@ use Rattle.bh_tables.specs.Typed.{Tables}
 use Rattle.bh_tables.specs.Shown.{is_tenant, is_version}
 use Rattle.bh_view.specs.Bodies.{pieces, body_stored, body_dropped}
 use Rattle.bh_view.specs.Put.{entry_row, row_number, counters_row}
+use Rattle.bh_objects.specs.declared.quotas.Replaced.{Replaced}
 
 -- the counters have gone on, as a new entry in a bucket of this state has them
 abbrev pub with_counters : BucketState → Counts → Octets → Tables → Tables
@@ -34,6 +35,10 @@ abbrev pub with_room : BucketState → Octets → Octets → Octets → Tables �
 with_room Unversioned tenant bucket key tables = without_null tenant bucket key tables
 with_room Enabled tenant bucket key tables = tables
 with_room Suspended tenant bucket key tables = without_null tenant bucket key tables
+
+-- the rows without the entry `null`, where it was found
+abbrev pub without_replaced : Octets → Octets → Octets → Option Replaced → Tables → Tables
+without_replaced tenant bucket key replaced tables = option_map_or (λ r. without_entry tenant bucket key 0 r.seq tables) replaced tables
 
 -- its row, which has the bytes of its body
 abbrev pub with_columns : BucketState → Counts → Octets → Octets → Octets → ℕ → Content → Tables → Tables
@@ -59,11 +64,11 @@ with_version mode before tenant bucket key moment size checksum tables = record 
 
 -- ---- a put
 
--- an object, whose body is stored before what it replaces goes
-abbrev pub object_written : (Octets → Octets) → ℕ → BucketState → Counts → Counts → Octets → Octets → Octets → ℕ → Octets → Tables → Tables
-object_written digest size mode before after tenant bucket key moment bytes tables =
+-- an object, whose body is stored before what it replaces goes, where that was found
+abbrev pub object_written : (Octets → Octets) → ℕ → BucketState → Counts → Counts → Option Replaced → Octets → Octets → Octets → ℕ → Octets → Tables → Tables
+object_written digest size mode before after replaced tenant bucket key moment bytes tables =
     with_columns mode before tenant bucket key moment (Body bytes (checksum_text bytes))
-    (with_room mode tenant bucket key (body_stored digest (tenant, before.entry) 0 (pieces size bytes) (with_counters mode after tenant tables)))
+    (without_replaced tenant bucket key replaced (body_stored digest (tenant, before.entry) 0 (pieces size bytes) (with_counters mode after tenant tables)))
 
 -- a delete marker
 abbrev pub marker_written : BucketState → Counts → Counts → Octets → Octets → Octets → ℕ → Tables → Tables

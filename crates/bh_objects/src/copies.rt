@@ -12,9 +12,9 @@ ghost use Rattle.bh_objects.specs.Copies.{version_read, copy_written};
 
 use crate::heads::wanted_head;
 use crate::ids::told_id;
-use crate::quotas::entry_numbers;
-use crate::reads::{Numbers, bucket_state};
-use crate::writes::{AddedVersion, add_version, make_room, set_counters};
+use crate::quotas::{NewEntry, new_entry};
+use crate::reads::bucket_state;
+use crate::writes::{AddedVersion, add_version, drop_replaced, set_counters};
 use bh_blocks::bodies::copy_body;
 use bh_model::entries::new_id;
 use bh_schema::rows::versions::VersionHead;
@@ -83,21 +83,21 @@ fn source_head<S: Alter>(
     }
 }
 
-/// Puts a copy of a version into a bucket of this state, under the tenant's next numbers: its body, which has the
-/// source's blocks, before what it replaces goes, since that may be the source, and then its row.
+/// Puts a copy of a version into a bucket of this state, as a new entry: its body, which has the source's blocks,
+/// before what it replaces goes, since that may be the source, and then its row.
 fn write_copy<S: Alter>(
     connection: &mut Connection<S>,
     copy: &NewCopy<'_>,
     mode: BucketState,
-    numbers: Numbers,
+    entry: NewEntry,
     head: &VersionHead,
 ) -> Result<(), Trouble>
     requires { InTransaction S.Store connection.old }
     ensures within { StaysWithin S.Store connection.old connection.new }
     ensures opens { OnOk result (StaysOpen S.Store connection.old connection.new) }
     ensures holds { OnOk result (Becomes S.Store connection.old connection.new
-        (copy_written mode numbers.before numbers.after copy.now.tenant.now copy.now.bucket.now copy.now.key.now
-        copy.now.at (head_seen head.now))) }
+        (copy_written mode entry.numbers.before entry.numbers.after entry.replaced
+        copy.now.tenant.now copy.now.bucket.now copy.now.key.now copy.now.at (head_seen head.now))) }
     ensures key { OnOk result (IsKeyText copy.now.key.now) }
 {
     let source = head.seq;
@@ -105,6 +105,7 @@ fn write_copy<S: Alter>(
     if source >= COUNTER_END {
         return Err(Trouble::Store);
     }
+    let NewEntry { numbers, replaced } = entry;
     set_counters(connection, copy.tenant, mode, numbers.after)?;
     or_trouble(copy_body(
         connection,
@@ -112,7 +113,7 @@ fn write_copy<S: Alter>(
         source,
         numbers.before.entry,
     ))?;
-    make_room(connection, copy.tenant, copy.bucket, copy.key, mode)?;
+    drop_replaced(connection, copy.tenant, copy.bucket, copy.key, replaced)?;
     let version = AddedVersion {
         tenant: copy.tenant,
         bucket: copy.bucket,
@@ -142,7 +143,7 @@ pub fn copy_object<S: Alter>(
 {
     let mode = bucket_state(connection, copy.tenant, copy.bucket)?;
     let head = source_head(connection, copy)?;
-    let numbers = entry_numbers(
+    let entry = new_entry(
         connection,
         copy.tenant,
         copy.bucket,
@@ -150,10 +151,10 @@ pub fn copy_object<S: Alter>(
         mode,
         head.size,
     )?;
-    let Numbers { before, .. } = numbers;
-    write_copy(connection, copy, mode, numbers, &head)?;
+    let NewEntry { numbers, .. } = entry;
+    write_copy(connection, copy, mode, entry, &head)?;
     Ok(CopiedVersion {
-        id: told_id(mode, new_id(mode, before.version)),
+        id: told_id(mode, new_id(mode, numbers.before.version)),
         modified: copy.at,
         checksum: head.checksum,
     })

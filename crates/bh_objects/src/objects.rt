@@ -12,8 +12,8 @@ ghost use Rattle.bh_schema.specs.Working.{Works, StillWorksBy};
 ghost use Rattle.bh_objects.specs.Found.{Answers, sum_given};
 
 use crate::ids::told_id;
-use crate::quotas::entry_numbers;
-use crate::reads::{Numbers, bucket_state};
+use crate::quotas::{NewEntry, new_entry};
+use crate::reads::bucket_state;
 use crate::writes::{NewObject, write_object};
 use bh_model::entries::new_id;
 use bh_schema::host::Digester;
@@ -69,7 +69,7 @@ pub fn put_object<S: Alter, D: Digester>(
     let mode = bucket_state(connection, object.tenant, object.bucket)?;
     let checksum = checked_sum(alloc, object.bytes, given)?;
     let size = object.bytes.len() as u64;
-    let numbers = entry_numbers(
+    let entry = new_entry(
         connection,
         object.tenant,
         object.bucket,
@@ -77,18 +77,18 @@ pub fn put_object<S: Alter, D: Digester>(
         mode,
         size,
     )?;
-    let Numbers { before, .. } = numbers;
+    let NewEntry { numbers, .. } = entry;
     write_object(
         connection,
         digester,
         block_size,
         object,
         mode,
-        numbers,
+        entry,
         checksum.as_str(),
     )?;
     Ok(StoredVersion {
-        id: told_id(mode, new_id(mode, before.version)),
+        id: told_id(mode, new_id(mode, numbers.before.version)),
         checksum,
     })
 }

@@ -5,13 +5,13 @@ ghost use Rattle.bh_view.specs.View.{view};
 ghost use Rattle.bh_schema.specs.Connections.{IsClean, tables, InTransaction, StaysWithin, StaysOpen, WasOpen, ChangesNothing};
 ghost use Rattle.bh_schema.specs.Working.{Works, StillWorks};
 ghost use Rattle.bh_objects.specs.Found as spec;
-ghost use Rattle.bh_objects.specs.Found.{bytes_in, mode_in, room_in, room_under, entry_numbers_in};
+ghost use Rattle.bh_objects.specs.Found.{bytes_in, mode_in, null_in, replaced_in, room_under, entry_numbers_in};
 
 use crate::heads::numbered_head;
-use crate::reads::{Numbers, new_numbers};
+use crate::reads::{Numbers, tenant_account};
 use bh_core::quotas::fits_quota;
+use bh_model::counting::after_entry;
 use bh_schema::rows::sizes::{part_total, version_total};
-use bh_schema::rows::tenants::find_tenant;
 use bh_schema::trouble::or_trouble;
 use bh_storage::error::{StepError, Trouble};
 use bh_types::bucket::BucketName;
@@ -78,7 +78,7 @@ fn require_sum<S: Alter>(
 
 /// Whether a tenant of this quota may replace so many bytes by so many: QuotaExceeded. What takes no more than it
 /// replaces is let through, and nothing is added up for it.
-fn require_under<S: Alter>(
+pub fn require_room<S: Alter>(
     connection: &mut Connection<S>,
     tenant: &TenantName,
     quota: u64,
@@ -100,79 +100,87 @@ fn require_under<S: Alter>(
     }
 }
 
-/// Whether a tenant may replace so many bytes by so many: QuotaExceeded.
-pub fn require_room<S: Alter>(
-    connection: &mut Connection<S>,
-    tenant: &TenantName,
-    replaced: u64,
-    added: u64,
-) -> Result<(), StepError<Refusal>>
-    requires { Works S.Store connection.old }
-    ensures within { StaysWithin S.Store connection.old connection.new }
-    ensures opens { Unless result (StaysOpen S.Store connection.old connection.new) }
-    ensures working { Unless result (StillWorks S.Store connection.old connection.new) }
-    ensures decides { IsClean S.Store connection.new
-        → Decides (λ _. tt) (room_in replaced added (view (tables S.Store connection.old) tenant.now))
-        (tables S.Store connection.old) (tables S.Store connection.new) result }
-{
-    match or_trouble(find_tenant(connection, tenant.as_str()))? {
-        Some(numbers) => require_under(connection, tenant, numbers.quota, replaced, added),
-        None => Err(StepError::Refused(Refusal::NoSuchBucket)),
-    }
+/// The entry `null` that a new entry replaces.
+#[derive(Clone, Copy)]
+pub struct Replaced {
+    /// Its entry number, which its body has.
+    pub seq: u64,
+    /// In bytes.
+    pub size: u64,
 }
 
-/// The bytes of the entry `null` of a key, if it is there.
-fn null_bytes<S: Alter>(
+/// The entry `null` of a key, if it is there.
+fn find_null<S: Alter>(
     connection: &mut Connection<S>,
     tenant: &TenantName,
     bucket: &BucketName,
     key: &ObjectKey,
-) -> Result<u64, Trouble>
+) -> Result<Option<Replaced>, Trouble>
     requires { InTransaction S.Store connection.old }
     ensures within { StaysWithin S.Store connection.old connection.new }
     ensures opens { OnOk result (StaysOpen S.Store connection.old connection.new) }
     ensures same { OnOk result (ChangesNothing S.Store connection.old connection.new) }
-    ensures size { IfOk result (λ n. IsClean S.Store connection.new
-        → n ≡ spec.null_bytes tenant.now bucket.now key.now (tables S.Store connection.old)) }
+    ensures found { IfOk result (λ found. IsClean S.Store connection.new
+        → found ≡ null_in tenant.now bucket.now key.now (tables S.Store connection.old)) }
 {
     match numbered_head(connection, tenant, bucket, key, 0)? {
-        Some(head) => Ok(head.size),
-        None => Ok(0),
+        Some(head) => Ok(Some(Replaced {
+            seq: head.seq,
+            size: head.size,
+        })),
+        None => Ok(None),
     }
 }
 
-/// The bytes that a new entry of a key replaces in a bucket of this state.
-fn replaced_bytes<S: Alter>(
+/// What a new entry of a key replaces in a bucket of this state.
+fn find_replaced<S: Alter>(
     connection: &mut Connection<S>,
     tenant: &TenantName,
     bucket: &BucketName,
     key: &ObjectKey,
     mode: BucketState,
-) -> Result<u64, Trouble>
+) -> Result<Option<Replaced>, Trouble>
     requires { InTransaction S.Store connection.old }
     ensures within { StaysWithin S.Store connection.old connection.new }
     ensures opens { OnOk result (StaysOpen S.Store connection.old connection.new) }
     ensures same { OnOk result (ChangesNothing S.Store connection.old connection.new) }
-    ensures size { IfOk result (λ n. IsClean S.Store connection.new
-        → n ≡ spec.replaced_bytes mode tenant.now bucket.now key.now (tables S.Store connection.old)) }
+    ensures found { IfOk result (λ found. IsClean S.Store connection.new
+        → found ≡ replaced_in mode tenant.now bucket.now key.now (tables S.Store connection.old)) }
 {
     match mode {
-        BucketState::Enabled => Ok(0),
-        BucketState::Unversioned => null_bytes(connection, tenant, bucket, key),
-        BucketState::Suspended => null_bytes(connection, tenant, bucket, key),
+        BucketState::Enabled => Ok(None),
+        BucketState::Unversioned => find_null(connection, tenant, bucket, key),
+        BucketState::Suspended => find_null(connection, tenant, bucket, key),
     }
 }
 
-/// The numbers of a new entry of a key with so many bytes, in a bucket of this state: QuotaExceeded,
-/// CounterExhausted.
-pub fn entry_numbers<S: Alter>(
+fn replaced_bytes(replaced: Option<Replaced>) -> u64
+    ensures { result ≡ spec.replaced_bytes replaced }
+{
+    match replaced {
+        Some(entry) => entry.size,
+        None => 0,
+    }
+}
+
+/// What a new entry takes.
+#[derive(Clone, Copy)]
+pub struct NewEntry {
+    pub numbers: Numbers,
+    /// The entry that it replaces, where there is one.
+    pub replaced: Option<Replaced>,
+}
+
+/// What a new entry of a key with so many bytes takes, in a bucket of this state: QuotaExceeded, CounterExhausted. Its
+/// rows are read once: what it replaces is found for its bytes and for its body.
+pub fn new_entry<S: Alter>(
     connection: &mut Connection<S>,
     tenant: &TenantName,
     bucket: &BucketName,
     key: &ObjectKey,
     mode: BucketState,
     added: u64,
-) -> Result<Numbers, StepError<Refusal>>
+) -> Result<NewEntry, StepError<Refusal>>
     requires working { Works S.Store connection.old }
     requires there { IsClean S.Store connection.old
         → mode_in bucket.now (view (tables S.Store connection.old) tenant.now) ≡ Ok mode }
@@ -180,11 +188,20 @@ pub fn entry_numbers<S: Alter>(
     ensures opens { Unless result (StaysOpen S.Store connection.old connection.new) }
     ensures working { Unless result (StillWorks S.Store connection.old connection.new) }
     ensures decides { IsClean S.Store connection.new
-        → Decides (λ numbers. (numbers.before, numbers.after))
+        → Decides (λ entry. (entry.numbers.before, entry.numbers.after))
         (entry_numbers_in mode bucket.now key.now added (view (tables S.Store connection.old) tenant.now))
         (tables S.Store connection.old) (tables S.Store connection.new) result }
+    ensures replaced { IfOk result (λ entry. IsClean S.Store connection.new
+        → entry.replaced ≡ replaced_in mode tenant.now bucket.now key.now (tables S.Store connection.old)) }
 {
-    let replaced = replaced_bytes(connection, tenant, bucket, key, mode)?;
-    require_room(connection, tenant, replaced, added)?;
-    new_numbers(connection, tenant, mode)
+    let replaced = find_replaced(connection, tenant, bucket, key, mode)?;
+    let account = tenant_account(connection, tenant)?;
+    let bytes = replaced_bytes(replaced);
+    require_room(connection, tenant, account.quota, bytes, added)?;
+    let after = after_entry(mode, account.counters)?;
+    let numbers = Numbers {
+        before: account.counters,
+        after,
+    };
+    Ok(NewEntry { numbers, replaced })
 }

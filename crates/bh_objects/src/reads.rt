@@ -2,7 +2,7 @@ ghost use Rattle.bh_storage.specs.Calls.{Unless, Decides};
 ghost use Rattle.bh_view.specs.View.{view};
 ghost use Rattle.bh_schema.specs.Connections.{IsClean, tables, StaysWithin, StaysOpen};
 ghost use Rattle.bh_schema.specs.Working.{Works, StillWorks};
-ghost use Rattle.bh_objects.specs.Found.{mode_in, counts_in, numbers_in, tenant_in, name_free};
+ghost use Rattle.bh_objects.specs.Found.{mode_in, account_in, counts_in, numbers_in, tenant_in, name_free};
 
 use bh_model::counting::after_entry;
 use bh_schema::rows;
@@ -38,6 +38,42 @@ pub fn bucket_state<S: Alter>(
     }
 }
 
+/// What a tenant may use, and the next numbers that its counters give.
+#[derive(Clone, Copy)]
+pub struct Account {
+    /// In bytes.
+    pub quota: u64,
+    pub counters: Counters,
+}
+
+/// A tenant's quota and counters.
+pub fn tenant_account<S: Alter>(
+    connection: &mut Connection<S>,
+    tenant: &TenantName,
+) -> Result<Account, StepError<Refusal>>
+    requires { Works S.Store connection.old }
+    ensures within { StaysWithin S.Store connection.old connection.new }
+    ensures opens { Unless result (StaysOpen S.Store connection.old connection.new) }
+    ensures working { Unless result (StillWorks S.Store connection.old connection.new) }
+    ensures decides { IsClean S.Store connection.new
+        → Decides (λ account. (account.quota, account.counters)) (account_in (view (tables S.Store connection.old) tenant.now))
+        (tables S.Store connection.old) (tables S.Store connection.new) result }
+{
+    match or_trouble(rows::tenants::find_tenant(connection, tenant.as_str()))? {
+        Some(numbers) => {
+            let (version, upload) = (numbers.next_version, numbers.next_upload);
+            match Counters::new(version, upload, numbers.next_entry) {
+                Some(counters) => Ok(Account {
+                    quota: numbers.quota,
+                    counters,
+                }),
+                None => Err(StepError::Failed(Trouble::Store)),
+            }
+        }
+        None => Err(StepError::Refused(Refusal::NoSuchBucket)),
+    }
+}
+
 /// The next numbers that a tenant's counters give.
 pub fn next_counters<S: Alter>(
     connection: &mut Connection<S>,
@@ -51,19 +87,8 @@ pub fn next_counters<S: Alter>(
         → Decides (λ counters. counters) (counts_in (view (tables S.Store connection.old) tenant.now))
         (tables S.Store connection.old) (tables S.Store connection.new) result }
 {
-    match or_trouble(rows::tenants::find_tenant(connection, tenant.as_str()))? {
-        Some(numbers) => {
-            match Counters::new(
-                numbers.next_version,
-                numbers.next_upload,
-                numbers.next_entry,
-            ) {
-                Some(counters) => Ok(counters),
-                None => Err(StepError::Failed(Trouble::Store)),
-            }
-        }
-        None => Err(StepError::Refused(Refusal::NoSuchBucket)),
-    }
+    let account = tenant_account(connection, tenant)?;
+    Ok(account.counters)
 }
 
 /// The numbers of a new entry.

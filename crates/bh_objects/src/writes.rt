@@ -5,10 +5,12 @@ ghost use Rattle.bh_model.specs.State.{Content.Marker, Content.Body};
 ghost use Rattle.bh_tables.specs.Shown.{is_tenant};
 ghost use Rattle.bh_schema.specs.Connections.{InTransaction, StaysWithin, StaysOpen, Becomes};
 ghost use Rattle.bh_objects.specs.Found.{IsKeyText};
-ghost use Rattle.bh_objects.specs.Writes.{with_counters, without_entry, without_null, with_room, with_version, with_columns, object_written, marker_written};
+ghost use Rattle.bh_objects.specs.Writes.{with_counters, without_entry, without_null, without_replaced, with_room, with_version, with_columns};
+ghost use Rattle.bh_objects.specs.Writes.{object_written, marker_written};
 
 use crate::heads::numbered_head;
 use crate::ids::row_number;
+use crate::quotas::{NewEntry, Replaced};
 use crate::reads::Numbers;
 use bh_blocks::bodies::{drop_body, store_body};
 use bh_schema::host::Digester;
@@ -151,6 +153,26 @@ pub fn make_room<S: Alter>(
     }
 }
 
+/// What a new entry replaces is taken away, and its body: the entry `null`, where it was found.
+pub fn drop_replaced<S: Alter>(
+    connection: &mut Connection<S>,
+    tenant: &TenantName,
+    bucket: &BucketName,
+    key: &ObjectKey,
+    replaced: Option<Replaced>,
+) -> Result<(), Trouble>
+    requires { InTransaction S.Store connection.old }
+    ensures within { StaysWithin S.Store connection.old connection.new }
+    ensures opens { OnOk result (StaysOpen S.Store connection.old connection.new) }
+    ensures holds { OnOk result (Becomes S.Store connection.old connection.new
+        (without_replaced tenant.now bucket.now key.now replaced)) }
+{
+    match replaced {
+        None => Ok(()),
+        Some(entry) => drop_entry(connection, tenant, bucket, key, 0, entry.seq),
+    }
+}
+
 /// A version that is added to a key, whose body is stored.
 #[derive(Clone, Copy, Debug)]
 pub struct AddedVersion<'a> {
@@ -226,15 +248,15 @@ fn add_object<S: Alter>(
     add_version(connection, &version, mode, counters)
 }
 
-/// Puts an object into a bucket of this state, under the tenant's next numbers, with the text of its
-/// checksum: its body, in blocks of at most this size, before what it replaces goes, and then its row.
+/// Puts an object into a bucket of this state, as a new entry, with the text of its checksum: its body, in blocks of
+/// at most this size, before what it replaces goes, and then its row.
 pub fn write_object<S: Alter, D: Digester>(
     connection: &mut Connection<S>,
     digester: &D,
     block_size: u64,
     object: &NewObject<'_>,
     mode: BucketState,
-    numbers: Numbers,
+    entry: NewEntry,
     checksum: &str,
 ) -> Result<(), Trouble>
     requires inside { InTransaction S.Store connection.old }
@@ -243,10 +265,11 @@ pub fn write_object<S: Alter, D: Digester>(
     ensures within { StaysWithin S.Store connection.old connection.new }
     ensures opens { OnOk result (StaysOpen S.Store connection.old connection.new) }
     ensures holds { OnOk result (Becomes S.Store connection.old connection.new
-        (object_written D.digest_of block_size mode numbers.before numbers.after
+        (object_written D.digest_of block_size mode entry.numbers.before entry.numbers.after entry.replaced
         object.now.tenant.now object.now.bucket.now object.now.key.now object.now.at object.now.bytes.now)) }
     ensures key { OnOk result (IsKeyText object.now.key.now) }
 {
+    let NewEntry { numbers, replaced } = entry;
     set_counters(connection, object.tenant, mode, numbers.after)?;
     or_trouble(store_body(
         connection,
@@ -256,7 +279,13 @@ pub fn write_object<S: Alter, D: Digester>(
         numbers.before.entry,
         object.bytes,
     ))?;
-    make_room(connection, object.tenant, object.bucket, object.key, mode)?;
+    drop_replaced(
+        connection,
+        object.tenant,
+        object.bucket,
+        object.key,
+        replaced,
+    )?;
     add_object(connection, object, mode, numbers.before, checksum)
 }
 

@@ -48,16 +48,21 @@ pub enum ObjectAction {
 }
 
 /// The method of a name.
-pub fn method_of(name: &str) -> Method
+pub fn method_of(name: &[u8]) -> Method
     ensures { result ≡ spec.method_of name.now }
 {
-    match name {
-        "GET" => Method::Get,
-        "HEAD" => Method::Head,
-        "PUT" => Method::Put,
-        "POST" => Method::Post,
-        "DELETE" => Method::Delete,
-        _ => Method::Other,
+    if name == b"GET".as_slice() {
+        Method::Get
+    } else if name == b"HEAD".as_slice() {
+        Method::Head
+    } else if name == b"PUT".as_slice() {
+        Method::Put
+    } else if name == b"POST".as_slice() {
+        Method::Post
+    } else if name == b"DELETE".as_slice() {
+        Method::Delete
+    } else {
+        Method::Other
     }
 }
 

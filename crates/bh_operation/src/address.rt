@@ -1,6 +1,7 @@
 ghost use Rattle.bh_types.specs.Outcomes.{Gives};
 ghost use Rattle.bh_operation.specs.Addresses as spec;
 
+use crate::text::Text;
 use bh_types::bucket::BucketName;
 use bh_types::error::RequestError;
 use bh_types::key::ObjectKey;
@@ -15,33 +16,33 @@ pub struct ObjectName {
     pub key: ObjectKey,
 }
 
-/// The name in `tenant:bucket`, or in a text with no colon: AccessDenied where the tenant is another one.
+/// The name in `tenant:bucket`, copied, or a text with no colon as it is: AccessDenied where the tenant is another one.
 #[tactic(auto, unfolding(crate::specs::Addresses::own_part))]
-fn own_part<'a>(caller: &TenantName, text: &'a str) -> Result<&'a str, RequestError>
-    ensures { Gives (λ name. name.now) result (spec.own_part caller.now text.now) }
+fn own_part(alloc: Global, caller: &TenantName, text: Text) -> Result<Text, RequestError>
+    ensures { Gives (λ x. x) result (spec.own_part caller.now text) }
 {
-    match text.split_once(':') {
+    match text.as_str().split_once(':') {
         None => Ok(text),
-        Some((tenant, name)) if tenant == caller.as_str() => Ok(name),
+        Some((tenant, name)) if tenant == caller.as_str() => Ok(Text::copy_of(alloc, name)?),
         Some(_) => Err(RequestError::Refused(Refusal::AccessDenied)),
     }
 }
 
 #[tactic(auto, unfolding(crate::specs::Addresses::bucket_name))]
-fn bucket_name(alloc: Global, text: &str) -> Result<BucketName, RequestError>
-    ensures { Gives (λ x. x) result (spec.bucket_name text.now) }
+fn bucket_name(text: Text) -> Result<BucketName, RequestError>
+    ensures { Gives (λ x. x) result (spec.bucket_name text) }
 {
-    match BucketName::read(alloc, text)? {
+    match BucketName::from_string(text.into_string()) {
         Some(bucket) => Ok(bucket),
         None => Err(RequestError::Refused(Refusal::InvalidBucketName)),
     }
 }
 
 #[tactic(auto, unfolding(crate::specs::Addresses::object_key))]
-fn object_key(alloc: Global, text: &str) -> Result<ObjectKey, RequestError>
-    ensures { Gives (λ x. x) result (spec.object_key text.now) }
+fn object_key(text: Text) -> Result<ObjectKey, RequestError>
+    ensures { Gives (λ x. x) result (spec.object_key text) }
 {
-    ObjectKey::read(alloc, text)?.ok_or(RequestError::Refused(Refusal::KeyTooLong))
+    ObjectKey::from_string(text.into_string()).ok_or(RequestError::Refused(Refusal::KeyTooLong))
 }
 
 /// The caller's bucket that a text names, told from the text alone: AccessDenied where it names another tenant,
@@ -50,12 +51,12 @@ fn object_key(alloc: Global, text: &str) -> Result<ObjectKey, RequestError>
 pub(crate) fn bucket_named(
     alloc: Global,
     caller: &TenantName,
-    text: &str,
+    text: Text,
 ) -> Result<BucketName, RequestError>
-    ensures { Gives (λ x. x) result (spec.bucket_named caller.now text.now) }
+    ensures { Gives (λ x. x) result (spec.bucket_named caller.now text) }
 {
-    let name = own_part(caller, text)?;
-    bucket_name(alloc, name)
+    let name = own_part(alloc, caller, text)?;
+    bucket_name(name)
 }
 
 /// The caller's object that two texts name: as for its bucket, and then KeyTooLong where the key is too long.
@@ -63,12 +64,12 @@ pub(crate) fn bucket_named(
 pub(crate) fn object_named(
     alloc: Global,
     caller: &TenantName,
-    bucket: &str,
-    key: &str,
+    bucket: Text,
+    key: Text,
 ) -> Result<ObjectName, RequestError>
-    ensures { Gives (λ x. x) result (spec.object_named caller.now bucket.now key.now) }
+    ensures { Gives (λ x. x) result (spec.object_named caller.now bucket key) }
 {
     let bucket = bucket_named(alloc, caller, bucket)?;
-    let key = object_key(alloc, key)?;
+    let key = object_key(key)?;
     Ok(ObjectName { bucket, key })
 }

@@ -21,7 +21,7 @@ pub fn stands(given: Given) -> bool
     !matches!(given, Given::Missing)
 }
 
-fn has_lock_field(fields: &[Field]) -> bool
+fn has_lock_field(fields: &[Field<'_>]) -> bool
     ensures { result ≡ spec.has_lock_field (pairs_of fields.now) }
 {
     stands(field_named(fields, b"x-amz-bucket-object-lock-enabled"))
@@ -37,7 +37,7 @@ fn any_unsupported(parameters: &[Parameter]) -> bool
 
 /// NotImplemented where a parameter or a header field asks for what the host does not do.
 #[tactic(auto, unfolding(crate::specs::Headers::supported))]
-pub fn supported(parameters: &[Parameter], fields: &[Field]) -> Result<(), Refusal>
+pub fn supported(parameters: &[Parameter], fields: &[Field<'_>]) -> Result<(), Refusal>
     ensures { result ≡ spec.supported parameters.now (pairs_of fields.now) }
 {
     if any_unsupported(parameters) || has_lock_field(fields) {
@@ -47,7 +47,7 @@ pub fn supported(parameters: &[Parameter], fields: &[Field]) -> Result<(), Refus
 }
 
 /// The field that names a copy source (Amazon S3 API Reference, CopyObject: `x-amz-copy-source`).
-pub fn copy_source(fields: &[Field]) -> Given<'_>
+pub fn copy_source<'a>(fields: &[Field<'a>]) -> Given<'a>
     ensures { given_view result ≡ spec.copy_source (pairs_of fields.now) }
 {
     field_named(fields, b"x-amz-copy-source")
@@ -56,7 +56,7 @@ pub fn copy_source(fields: &[Field]) -> Given<'_>
 /// The checksum that a body must have (Amazon S3 API Reference, PutObject: `x-amz-checksum-sha256`), if one is given:
 /// InvalidArgument where two are.
 #[tactic(auto, unfolding(crate::specs::Headers::checksum_in))]
-pub fn checksum_in(alloc: Global, fields: &[Field]) -> Result<Option<Bytes>, RequestError>
+pub fn checksum_in(alloc: Global, fields: &[Field<'_>]) -> Result<Option<Bytes>, RequestError>
     ensures { Gives (λ x. x) result (spec.checksum_in (pairs_of fields.now)) }
 {
     match field_named(fields, b"x-amz-checksum-sha256") {
@@ -68,7 +68,7 @@ pub fn checksum_in(alloc: Global, fields: &[Field]) -> Result<Option<Bytes>, Req
 
 /// The text of the range that is asked for, if there is just one (RFC 9110, section 14.2). An error says that
 /// memory ran out.
-pub fn range_in(alloc: Global, fields: &[Field]) -> Result<Option<Bytes>, AllocError>
+pub fn range_in(alloc: Global, fields: &[Field<'_>]) -> Result<Option<Bytes>, AllocError>
     ensures { IfOk result (λ range. range ≡ spec.range_in (pairs_of fields.now)) }
 {
     match field_named(fields, b"range") {

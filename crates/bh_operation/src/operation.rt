@@ -14,7 +14,7 @@ use crate::page::{
 use crate::query::{Parameter, Selector, parameters_in, selected, value_of};
 use crate::source::{Source, source_in};
 use crate::target::{Target, routed, split_target, target_at};
-use crate::text::Bytes;
+use crate::text::{Bytes, Text};
 use bh_http::request::{Field, Request};
 use bh_types::bucket::BucketName;
 use bh_types::error::RequestError;
@@ -132,7 +132,7 @@ struct Asked<'a> {
     alloc: Global,
     caller: &'a TenantName,
     parameters: &'a [Parameter],
-    fields: &'a [Field],
+    fields: &'a [Field<'a>],
 }
 
 fn version_in(parameters: &[Parameter]) -> Wanted
@@ -160,8 +160,8 @@ fn host_operation(method: Method, selector: Option<Selector>) -> Result<Operatio
 }
 
 #[tactic(auto, unfolding(crate::specs::Operations::list_objects, crate::specs::Pages::key_page))]
-fn list_objects(asked: &Asked, text: &str) -> Result<Operation, RequestError>
-    ensures { Gives (λ x. x) result (spec.list_objects asked.now.caller.now text.now asked.now.parameters.now) }
+fn list_objects(asked: &Asked, text: Text) -> Result<Operation, RequestError>
+    ensures { Gives (λ x. x) result (spec.list_objects asked.now.caller.now text asked.now.parameters.now) }
 {
     second_version(asked.parameters)?;
     let page = page_in(asked.alloc, "max-keys", asked.parameters)?;
@@ -175,8 +175,8 @@ fn list_objects(asked: &Asked, text: &str) -> Result<Operation, RequestError>
 }
 
 #[tactic(auto, unfolding(crate::specs::Operations::list_versions, crate::specs::Pages::key_page))]
-fn list_versions(asked: &Asked, text: &str) -> Result<Operation, RequestError>
-    ensures { Gives (λ x. x) result (spec.list_versions asked.now.caller.now text.now asked.now.parameters.now) }
+fn list_versions(asked: &Asked, text: Text) -> Result<Operation, RequestError>
+    ensures { Gives (λ x. x) result (spec.list_versions asked.now.caller.now text asked.now.parameters.now) }
 {
     let page = page_in(asked.alloc, "max-keys", asked.parameters)?;
     let after = version_marker(asked.alloc, asked.parameters)?;
@@ -189,8 +189,8 @@ fn list_versions(asked: &Asked, text: &str) -> Result<Operation, RequestError>
 }
 
 #[tactic(auto, unfolding(crate::specs::Operations::list_uploads))]
-fn list_uploads(asked: &Asked, text: &str) -> Result<Operation, RequestError>
-    ensures { Gives (λ x. x) result (spec.list_uploads asked.now.caller.now text.now asked.now.parameters.now) }
+fn list_uploads(asked: &Asked, text: Text) -> Result<Operation, RequestError>
+    ensures { Gives (λ x. x) result (spec.list_uploads asked.now.caller.now text asked.now.parameters.now) }
 {
     let page = upload_page(asked.alloc, asked.parameters)?;
     let after = upload_marker(asked.alloc, asked.parameters)?;
@@ -206,11 +206,11 @@ fn list_uploads(asked: &Asked, text: &str) -> Result<Operation, RequestError>
 #[tactic(auto, unfolding(crate::specs::Operations::bucket_operation))]
 fn bucket_operation(
     asked: &Asked,
-    text: &str,
+    text: Text,
     action: BucketAction,
 ) -> Result<Operation, RequestError>
     ensures { Gives (λ x. x) result
-        (spec.bucket_operation asked.now.caller.now text.now asked.now.parameters.now action) }
+        (spec.bucket_operation asked.now.caller.now text asked.now.parameters.now action) }
 {
     match action {
         BucketAction::ListObjects => list_objects(asked, text),
@@ -243,9 +243,9 @@ fn on_bucket(bucket: BucketName, action: BucketAction) -> Operation
 }
 
 #[tactic(auto, unfolding(crate::specs::Operations::put_object))]
-fn put_object(asked: &Asked, text: &str, key: &str) -> Result<Operation, RequestError>
+fn put_object(asked: &Asked, text: Text, key: Text) -> Result<Operation, RequestError>
     ensures { Gives (λ x. x) result
-        (spec.put_object asked.now.caller.now text.now key.now (pairs_of asked.now.fields.now)) }
+        (spec.put_object asked.now.caller.now text key (pairs_of asked.now.fields.now)) }
 {
     let checksum = checksum_in(asked.alloc, asked.fields)?;
     let object = object_named(asked.alloc, asked.caller, text, key)?;
@@ -254,26 +254,25 @@ fn put_object(asked: &Asked, text: &str, key: &str) -> Result<Operation, Request
 
 /// A copy: the names of its source are looked at last. Its checksum is only counted.
 #[tactic(auto, unfolding(crate::specs::Operations::copy_object))]
-fn copy_object(asked: &Asked, text: &str, key: &str) -> Result<Operation, RequestError>
+fn copy_object(asked: &Asked, text: Text, key: Text) -> Result<Operation, RequestError>
     ensures { Gives (λ x. x) result
-        (spec.copy_object asked.now.caller.now text.now key.now (pairs_of asked.now.fields.now)) }
+        (spec.copy_object asked.now.caller.now text key (pairs_of asked.now.fields.now)) }
 {
     let source = source_in(asked.alloc, copy_source(asked.fields))?;
     checksum_in(asked.alloc, asked.fields)?;
-    copy_from(asked, text, key, &source)
+    copy_from(asked, text, key, source)
 }
 
 fn copy_from(
     asked: &Asked,
-    text: &str,
-    key: &str,
-    source: &Source,
+    text: Text,
+    key: Text,
+    source: Source,
 ) -> Result<Operation, RequestError>
-    ensures { Gives (λ x. x) result (spec.copy_from asked.now.caller.now text.now key.now source.now) }
+    ensures { Gives (λ x. x) result (spec.copy_from asked.now.caller.now text key source) }
 {
     let object = object_named(asked.alloc, asked.caller, text, key)?;
-    let (bucket, key) = (source.bucket.as_str(), source.key.as_str());
-    let from = object_named(asked.alloc, asked.caller, bucket, key)?;
+    let from = object_named(asked.alloc, asked.caller, source.bucket, source.key)?;
     Ok(Operation::CopyObject {
         object,
         source: CopySource {
@@ -284,8 +283,8 @@ fn copy_from(
 }
 
 #[tactic(auto, unfolding(crate::specs::Operations::object_operation))]
-fn get_object(asked: &Asked, text: &str, key: &str) -> Result<Operation, RequestError>
-    ensures { Gives (λ x. x) result (spec.object_operation asked.now.caller.now text.now key.now
+fn get_object(asked: &Asked, text: Text, key: Text) -> Result<Operation, RequestError>
+    ensures { Gives (λ x. x) result (spec.object_operation asked.now.caller.now text key
         asked.now.parameters.now (pairs_of asked.now.fields.now) ObjectAction.Get) }
 {
     let object = object_named(asked.alloc, asked.caller, text, key)?;
@@ -298,9 +297,9 @@ fn get_object(asked: &Asked, text: &str, key: &str) -> Result<Operation, Request
 }
 
 #[tactic(auto, unfolding(crate::specs::Operations::upload_part))]
-fn upload_part(asked: &Asked, text: &str, key: &str) -> Result<Operation, RequestError>
+fn upload_part(asked: &Asked, text: Text, key: Text) -> Result<Operation, RequestError>
     ensures { Gives (λ x. x) result (spec.upload_part
-        asked.now.caller.now text.now key.now asked.now.parameters.now (pairs_of asked.now.fields.now)) }
+        asked.now.caller.now text key asked.now.parameters.now (pairs_of asked.now.fields.now)) }
 {
     let number = part_number(value_of("partNumber", asked.parameters))?;
     let checksum = checksum_in(asked.alloc, asked.fields)?;
@@ -314,8 +313,8 @@ fn upload_part(asked: &Asked, text: &str, key: &str) -> Result<Operation, Reques
 }
 
 #[tactic(auto, unfolding(crate::specs::Operations::list_parts))]
-fn list_parts(asked: &Asked, text: &str, key: &str) -> Result<Operation, RequestError>
-    ensures { Gives (λ x. x) result (spec.list_parts asked.now.caller.now text.now key.now asked.now.parameters.now) }
+fn list_parts(asked: &Asked, text: Text, key: Text) -> Result<Operation, RequestError>
+    ensures { Gives (λ x. x) result (spec.list_parts asked.now.caller.now text key asked.now.parameters.now) }
 {
     let page = part_page(asked.parameters)?;
     let object = object_named(asked.alloc, asked.caller, text, key)?;
@@ -331,12 +330,12 @@ fn list_parts(asked: &Asked, text: &str, key: &str) -> Result<Operation, Request
 #[tactic(auto, unfolding(crate::specs::Operations::object_operation))]
 fn object_operation(
     asked: &Asked,
-    text: &str,
-    key: &str,
+    text: Text,
+    key: Text,
     action: ObjectAction,
 ) -> Result<Operation, RequestError>
     ensures { Gives (λ x. x) result (spec.object_operation
-        asked.now.caller.now text.now key.now asked.now.parameters.now (pairs_of asked.now.fields.now) action) }
+        asked.now.caller.now text key asked.now.parameters.now (pairs_of asked.now.fields.now) action) }
 {
     match action {
         ObjectAction::Put => put_object(asked, text, key),
@@ -373,23 +372,23 @@ fn on_object(object: ObjectName, parameters: &[Parameter], action: ObjectAction)
 fn operation_at(
     asked: &Asked,
     method: Method,
-    target: &Target,
+    target: Target,
     selector: Option<Selector>,
 ) -> Result<Operation, RequestError>
     ensures { Gives (λ x. x) result (spec.operation_at
-        asked.now.caller.now method asked.now.parameters.now (pairs_of asked.now.fields.now) target.now selector) }
+        asked.now.caller.now method asked.now.parameters.now (pairs_of asked.now.fields.now) target selector) }
 {
     match target {
         Target::Host => Ok(host_operation(method, selector)?),
         Target::Bucket(text) => {
             let action = bucket_action(method, selector)?;
-            bucket_operation(asked, text.as_str(), action)
+            bucket_operation(asked, text, action)
         }
         Target::Object(text, key) => {
             let numbered = value_of("partNumber", asked.parameters).is_some();
             let copied = stands(copy_source(asked.fields));
             let action = object_action(method, selector, numbered, copied)?;
-            object_operation(asked, text.as_str(), key.as_str(), action)
+            object_operation(asked, text, key, action)
         }
     }
 }
@@ -397,11 +396,11 @@ fn operation_at(
 /// The operation on a target, if the host does what the parameters and header fields ask for.
 fn supported_operation(
     asked: &Asked,
-    method: &str,
-    target: &Target,
+    method: &[u8],
+    target: Target,
 ) -> Result<Operation, RequestError>
     ensures { Gives (λ x. x) result (spec.supported_operation
-        asked.now.caller.now method.now asked.now.parameters.now (pairs_of asked.now.fields.now) target.now) }
+        asked.now.caller.now method.now asked.now.parameters.now (pairs_of asked.now.fields.now) target) }
 {
     supported(asked.parameters, asked.fields)?;
     let selector = selected(asked.parameters)?;
@@ -424,7 +423,7 @@ pub fn operation_of(
 ) -> Result<Operation, RequestError>
     ensures { Gives (λ x. x) result (spec.operation caller.now (view request.now)) }
 {
-    let (path, query) = split_target(request.target.as_slice());
+    let (path, query) = split_target(request.target);
     let kind = routed(path)?;
     let target = target_at(alloc, kind, path)?;
     let parameters = parameters_in(alloc, query)?;
@@ -434,5 +433,5 @@ pub fn operation_of(
         parameters: parameters.as_slice(),
         fields: request.fields.as_slice(),
     };
-    supported_operation(&asked, request.method.as_str(), &target)
+    supported_operation(&asked, request.method, target)
 }

@@ -99,11 +99,18 @@ pub fn decode(alloc: Global, bytes: &[u8]) -> Result<Option<Text>, AllocError>
     if !has_whole_escapes(bytes) {
         return Ok(None);
     }
-    let mut decoded = Vec::new(alloc);
+    let mut decoded = Vec::with_capacity(alloc, bytes.len())?;
     percent_decode(bytes).append_to(&mut decoded)?;
-    match text_of(decoded.as_slice()) {
-        Some(text) => Ok(Some(Text::copy_of(alloc, text)?)),
-        None => Ok(None),
+    Ok(into_text(decoded))
+}
+
+/// The text that bytes are, which takes them over, if they are UTF-8.
+fn into_text(bytes: Vec<u8>) -> Option<Text>
+    ensures { result ≡ spec.text_of bytes.items }
+{
+    match String::from_utf8(bytes) {
+        Ok(text) => Some(Text::new(text)),
+        Err(_) => None,
     }
 }
 

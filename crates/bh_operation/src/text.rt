@@ -36,6 +36,13 @@ impl Text {
         })
     }
 
+    /// The `String` that holds the text.
+    pub(crate) fn into_string(self) -> String
+        ensures { string_bytes result ≡ self }
+    {
+        self.text
+    }
+
     /// The text.
     pub fn as_str(&self) -> &str
         ensures { result.now ≡ self.now }

@@ -1,2 +1,3 @@
 mod Telling
-mod Replies
+mod Cutting
+mod Answering

@@ -1,5 +1,7 @@
 //! Scripts of events: read from bytes, applied to a new host in memory, and answered.
 #![tactic(auto)]
 
+mod answers;
+pub mod error;
 pub mod input;
 pub mod script;

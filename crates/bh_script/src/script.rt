@@ -1,56 +1,50 @@
-ghost use Rattle.std.specs.Prelude.{◌≡◌, ◌++◌, map, IfOk, OnOk};
+ghost use Rattle.std.specs.Prelude.{◌≡◌, false, IfOk, IfErr, OnOk};
 ghost use Rattle.sqlite.specs.Held.{state};
 ghost use Rattle.sqlite.specs.Steps.{over_memory};
-ghost use Rattle.bh_event.specs.Events.{arrival};
-ghost use Rattle.bh_host.specs.Answers.{told};
 ghost use Rattle.bh_create.specs.Creation.{IsNewHost};
 ghost use Rattle.bh_script.specs.Lines.{bad_line_of};
-ghost use Rattle.bh_script.specs.Answers.{AnewRan, AnswersScript, replies_text, bad_line_text, answer_text};
+ghost use Rattle.bh_script.specs.Answers.{WritesScript, is_write};
 
-use crate::input::{BadLine, read_script};
+use crate::answers::answer_lines;
+use crate::error::ScriptError;
+use crate::input::BadLine;
 use bh_blocks::digester::Sha256Digester;
 use bh_create::create;
 use bh_dispatch::storage::HostStorage;
-use bh_event::event::Event;
-use bh_host::{Told, run};
+use bh_link::link::Link;
 use bh_storage::error::Trouble;
 use bh_types::limits::{Limits, Tuning};
 use sqlite::{Connection, MemStore};
-use std::alloc::{AllocError, Global};
+use std::alloc::Global;
+use std::io::Write;
 
-/// What a script is answered.
-#[derive(Drop)]
-pub struct Answered {
-    /// Each event's reply and a line's end, and then, for a line that tells no event, `bad line` and its number.
-    pub text: Vec<u8>,
-    /// The first line that tells no event, if there is one.
-    pub bad_line: Option<BadLine>,
-}
+/// A host in memory.
+type MemoryHost = HostStorage<MemStore, Sha256Digester>;
 
-/// Applies the events of a script, up to the first line that tells none, to a new host in memory with these
-/// limits, and tells what they were answered.
-pub fn answer_script(
+/// Applies the events of a script, up to the first line that tells none, to a new host in memory with these limits.
+/// Each reply and a line's end are written before the next line is read, and then, for a line that tells no event,
+/// `bad line` and its number. Gives that line, if there is one.
+///
+/// Of a line, its event and its reply nothing is held once the reply is written.
+pub fn answer_script<W: Write>(
     alloc: Global,
     bytes: &[u8],
     limits: Limits,
     tuning: Tuning,
-) -> Result<Answered, Trouble>
-    ensures text { IfOk result (λ answered. AnswersScript limits bytes.now answered.text.items) }
-    ensures bad_line { IfOk result (λ answered. answered.bad_line ≡ bad_line_of bytes.now) }
+    writer: &mut Link<W>,
+) -> Result<Option<BadLine>, ScriptError>
+    requires { writer.old.failed ≡ false }
+    ensures answers { WritesScript limits bytes.now result (W.contents writer.old.inner) (W.contents writer.new.inner) }
+    ensures bad_line { IfOk result (λ bad_line. bad_line ≡ bad_line_of bytes.now) }
+    ensures going { OnOk result (writer.new.failed ≡ false) }
+    ensures failed { IfErr result (λ e. writer.new.failed ≡ is_write e) }
 {
-    let script = read_script(alloc, bytes)?;
-    let dones = serve(alloc, script.events.as_slice(), limits, tuning)?;
-    let bad_line = script.bad_line;
-    let text = answer_text(alloc, dones.as_slice(), bad_line)?;
-    Ok(Answered { text, bad_line })
+    let mut storage = new_host(alloc, limits, tuning)?;
+    answer_lines(alloc, &mut storage, bytes, writer)
 }
 
 /// A new host in memory.
-fn new_host(
-    alloc: Global,
-    limits: Limits,
-    tuning: Tuning,
-) -> Result<HostStorage<MemStore, Sha256Digester>, Trouble>
+fn new_host(alloc: Global, limits: Limits, tuning: Tuning) -> Result<MemoryHost, Trouble>
     ensures limits { IfOk result (λ storage. storage.host.limits ≡ limits) }
     ensures made { IfOk result (λ storage. IsNewHost storage.host.limits (state over_memory storage.host.connection)) }
 {
@@ -59,50 +53,4 @@ fn new_host(
         Ok(host) => Ok(HostStorage { host }),
         Err(_) => Err(Trouble::Store),
     }
-}
-
-/// What a new host answers events.
-fn serve(
-    alloc: Global,
-    events: &[Event],
-    limits: Limits,
-    tuning: Tuning,
-) -> Result<Vec<Told>, Trouble>
-    ensures { IfOk result (λ dones. AnewRan limits (map arrival events.now) (map told dones.items)) }
-{
-    let mut storage = new_host(alloc, limits, tuning)?;
-    Ok(run(alloc, &mut storage, events)?)
-}
-
-/// The text that tells what was done, and the bad line.
-fn answer_text(
-    alloc: Global,
-    dones: &[Told],
-    bad_line: Option<BadLine>,
-) -> Result<Vec<u8>, AllocError>
-    ensures { IfOk result (λ text. text.items ≡ answer_text (map told dones.now) bad_line) }
-{
-    let mut text = replies_text(alloc, dones)?;
-    if let Some(bad) = bad_line {
-        write_bad_line(alloc, &mut text, bad)?;
-    }
-    Ok(text)
-}
-
-fn replies_text(alloc: Global, dones: &[Told]) -> Result<Vec<u8>, AllocError>
-    ensures { IfOk result (λ text. text.items ≡ replies_text (map told dones.now)) }
-{
-    let mut text = Vec::new(alloc);
-    for done in dones {
-        text.extend_from_slice(done.reply.bytes())?;
-        text.push(b'\n')?;
-    }
-    Ok(text)
-}
-
-fn write_bad_line(alloc: Global, text: &mut Vec<u8>, bad: BadLine) -> Result<(), AllocError>
-    ensures { OnOk result (text.new.items ≡ text.old.items ++ bad_line_text (Some bad)) }
-{
-    let line = format!(in alloc; "bad line {}\n", bad.number)?;
-    text.extend_from_slice(line.as_bytes())
 }

@@ -9,8 +9,8 @@ use Rattle.bh_rows.proofs.CreateLemmas.{Makes}
 use Rattle.bh_rows.proofs.CreateErrors.{IsFree}
 use Rattle.bh_rows.specs.Index.{Indexes}
 use Rattle.bh_rows.proofs.IndexErrors.{IsFreeIndex}
-use Rattle.bh_tables.specs.Schema.{Octets, no_schema, host_schema, host_table, tenants_table, keys_table, buckets_table, versions_table, blocks_table, refs_table, uploads_table, parts_table, at, newest, refs_by_block, uploads_by_key, uploads_by_moment}
-use Rattle.bh_tables.specs.Made.{with_host, with_tenants, with_keys, with_buckets, with_versions, with_blocks, with_refs, with_newest, with_refs_by_block, with_uploads, with_parts, with_uploads_by_key, with_uploads_by_moment}
+use Rattle.bh_tables.specs.Schema.{Octets, no_schema, host_schema, host_table, tenants_table, keys_table, buckets_table, versions_table, blocks_table, refs_table, uploads_table, parts_table, at, newest, refs_by_block, uploads_by_key, uploads_by_moment, version_sizes, part_sizes}
+use Rattle.bh_tables.specs.Made.{with_host, with_tenants, with_keys, with_buckets, with_versions, with_blocks, with_refs, with_newest, with_refs_by_block, with_uploads, with_parts, with_uploads_by_key, with_uploads_by_moment, with_version_sizes, with_part_sizes}
 
 abbrev host_text : Octets
 host_text = codes "CREATE TABLE host (id INTEGER PRIMARY KEY CHECK (id = 1), version INTEGER NOT NULL CHECK (version >= 0), latest INTEGER NOT NULL CHECK (latest >= 0), min_part INTEGER NOT NULL CHECK (min_part >= 0), max_body INTEGER NOT NULL CHECK (max_body >= 0)) STRICT"
@@ -155,7 +155,29 @@ pub free_uploads_by_moment : IsFreeIndex with_uploads_by_key uploads_by_moment_t
 unfolding everything fits_kind is_free_name begins same_name value_cmp Ieee.lt Ieee.is_nan
 free_uploads_by_moment = record { text = refl; name = refl; owner = refl; own = refl; free = refl; few = refl; narrow = refl; key_narrow = refl; fit = refl; any = refl }
 
+abbrev version_sizes_text : Octets
+version_sizes_text = codes "CREATE INDEX version_sizes ON versions (tenant, size)"
+
+pub makes_version_sizes : Indexes with_uploads_by_moment version_sizes_text 4 (at 7 versions_table) version_sizes
+unfolding understood everything
+makes_version_sizes = record { means = record { is = refl; plain = (refl, refl); unlisted = refl; whole = refl; given = refl }; text = refl; is_table = refl; defined = refl }
+
+pub free_version_sizes : IsFreeIndex with_uploads_by_moment version_sizes_text (at 7 versions_table) version_sizes
+unfolding everything fits_kind is_free_name begins same_name value_cmp Ieee.lt Ieee.is_nan
+free_version_sizes = record { text = refl; name = refl; owner = refl; own = refl; free = refl; few = refl; narrow = refl; key_narrow = refl; fit = refl; any = refl }
+
+abbrev part_sizes_text : Octets
+part_sizes_text = codes "CREATE INDEX part_sizes ON parts (tenant, size)"
+
+pub makes_part_sizes : Indexes with_version_sizes part_sizes_text 8 (at 18 parts_table) part_sizes
+unfolding understood everything
+makes_part_sizes = record { means = record { is = refl; plain = (refl, refl); unlisted = refl; whole = refl; given = refl }; text = refl; is_table = refl; defined = refl }
+
+pub free_part_sizes : IsFreeIndex with_version_sizes part_sizes_text (at 18 parts_table) part_sizes
+unfolding everything fits_kind is_free_name begins same_name value_cmp Ieee.lt Ieee.is_nan
+free_part_sizes = record { text = refl; name = refl; owner = refl; own = refl; free = refl; few = refl; narrow = refl; key_narrow = refl; fit = refl; any = refl }
+
 -- these are all
-pub all_made : with_uploads_by_moment ≡ host_schema
+pub all_made : with_part_sizes ≡ host_schema
 unfolding everything
 all_made = refl

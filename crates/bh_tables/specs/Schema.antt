@@ -132,6 +132,14 @@ uploads_by_key = record { name = codes "uploads_by_key"; tree = 0; table = 16; c
 abbrev pub uploads_by_moment : Index
 uploads_by_moment = record { name = codes "uploads_by_moment"; tree = 0; table = 16; columns = 1 ∷ 3 ∷ 5 ∷ 2 ∷ []; order = record { digits = 0 }; is_unique = false }
 
+-- a tenant's versions by size. Having all that a sum of sizes reads, it is read in place of the table
+abbrev pub version_sizes : Index
+version_sizes = record { name = codes "version_sizes"; tree = 0; table = 7; columns = 1 ∷ 8 ∷ []; order = record { digits = 0 }; is_unique = false }
+
+-- a tenant's parts by size
+abbrev pub part_sizes : Index
+part_sizes = record { name = codes "part_sizes"; tree = 0; table = 18; columns = 1 ∷ 4 ∷ []; order = record { digits = 0 }; is_unique = false }
+
 abbrev pub no_schema : Schema
 no_schema = record { tables = []; indexes = []; views = [] }
 
@@ -144,6 +152,7 @@ host_schema = record {
       ∷ auto (codes "sqlite_autoindex_versions_2") 9 7 (1 ∷ 3 ∷ 4 ∷ 5 ∷ []) ∷ auto (codes "sqlite_autoindex_blocks_1") 11 10 (1 ∷ 2 ∷ [])
       ∷ auto (codes "sqlite_autoindex_refs_1") 13 12 (1 ∷ 2 ∷ 3 ∷ []) ∷ record newest { tree = 14 } ∷ record refs_by_block { tree = 15 }
       ∷ auto (codes "sqlite_autoindex_uploads_1") 17 16 (1 ∷ 2 ∷ []) ∷ auto (codes "sqlite_autoindex_parts_1") 19 18 (1 ∷ 2 ∷ 3 ∷ [])
-      ∷ auto (codes "sqlite_autoindex_parts_2") 20 18 (1 ∷ 7 ∷ []) ∷ record uploads_by_key { tree = 21 } ∷ record uploads_by_moment { tree = 22 } ∷ [];
+      ∷ auto (codes "sqlite_autoindex_parts_2") 20 18 (1 ∷ 7 ∷ []) ∷ record uploads_by_key { tree = 21 } ∷ record uploads_by_moment { tree = 22 }
+      ∷ record version_sizes { tree = 23 } ∷ record part_sizes { tree = 24 } ∷ [];
   views = [];
 }

@@ -1,11 +1,11 @@
-ghost use Rattle.std.specs.Prelude.{◌≡◌, ℕ, ◌-◌, ◌≤◌, ◌↔◌, ◌&&◌, List, length, position, slice_index, IsTrue, IsSome, IfOk, IfSome};
+ghost use Rattle.std.specs.Prelude.{◌≡◌, ℕ, ◌-◌, ◌≤◌, ◌↔◌, ◌&&◌, List, length, position, slice_index, IsTrue, IsSome, IfSome};
 ghost use Rattle.std.specs.Char.{is_ascii_digit};
 ghost use Rattle.std.specs.List.{list_all};
 ghost use Rattle.std.specs.Option.{option_copied};
+ghost use Rattle.std.specs.String.{string_bytes};
 ghost use Rattle.bh_types.specs.Names as spec;
 
 use crate::bytes::{has_length, is_name_byte};
-use std::alloc::{AllocError, Global};
 use std::marker::Model;
 
 /// A bucket's name: 3 to 63 of a to z, 0 to 9, dot and hyphen, the first and the last a letter or
@@ -29,20 +29,19 @@ impl Model for BucketName {
 }
 
 impl BucketName {
-    /// The name that a text is, or `None` where it is none. An error says that memory ran out.
-    pub fn read(alloc: Global, text: &str) -> Result<Option<BucketName>, AllocError>
-        ensures value { IfOk result (λ found. IfSome found (λ name. name ≡ text.now)) }
-        ensures found { IfOk result (λ found. IsSome found ↔ IsTrue (spec.is_bucket_name text.now)) }
+    /// The name that a `String` is, which it takes over, or `None` where it is none.
+    pub fn from_string(text: String) -> Option<BucketName>
+        ensures value { IfSome result (λ name. name ≡ string_bytes text) }
+        ensures found { IsSome result ↔ IsTrue (spec.is_bucket_name (string_bytes text)) }
     {
-        if !is_bucket_name(text.as_bytes()) {
-            return Ok(None);
+        if is_bucket_name(text.as_bytes()) {
+            Some(BucketName { name: text })
+        } else {
+            None
         }
-        Ok(Some(BucketName {
-            name: String::from_str(alloc, text)?,
-        }))
     }
 
-    /// The text that was read.
+    /// The text of the name.
     pub fn as_str(&self) -> &str
         ensures value { result.now ≡ self.now }
         ensures valid { IsTrue (spec.is_bucket_name self.now) }

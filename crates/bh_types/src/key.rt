@@ -1,8 +1,8 @@
-ghost use Rattle.std.specs.Prelude.{◌≡◌, ℕ, ◌↔◌, List, IsTrue, IsSome, IfOk, IfSome};
+ghost use Rattle.std.specs.Prelude.{◌≡◌, ℕ, ◌↔◌, List, IsTrue, IsSome, IfSome};
+ghost use Rattle.std.specs.String.{string_bytes};
 ghost use Rattle.bh_types.specs.Names as spec;
 
 use crate::bytes::has_length;
-use std::alloc::{AllocError, Global};
 use std::marker::Model;
 
 /// An object's key: 1 to 1,024 bytes of UTF-8, as the Amazon S3 User Guide has them ("Naming Amazon S3 objects").
@@ -24,20 +24,19 @@ impl Model for ObjectKey {
 }
 
 impl ObjectKey {
-    /// The key that a text is, or `None` where it is none. An error says that memory ran out.
-    pub fn read(alloc: Global, text: &str) -> Result<Option<ObjectKey>, AllocError>
-        ensures value { IfOk result (λ found. IfSome found (λ name. name ≡ text.now)) }
-        ensures found { IfOk result (λ found. IsSome found ↔ IsTrue (spec.is_object_key text.now)) }
+    /// The key that a `String` is, which it takes over, or `None` where it is none.
+    pub fn from_string(text: String) -> Option<ObjectKey>
+        ensures value { IfSome result (λ key. key ≡ string_bytes text) }
+        ensures found { IsSome result ↔ IsTrue (spec.is_object_key (string_bytes text)) }
     {
-        if !is_object_key(text.as_bytes()) {
-            return Ok(None);
+        if is_object_key(text.as_bytes()) {
+            Some(ObjectKey { key: text })
+        } else {
+            None
         }
-        Ok(Some(ObjectKey {
-            key: String::from_str(alloc, text)?,
-        }))
     }
 
-    /// The text that was read.
+    /// The text of the key.
     pub fn as_str(&self) -> &str
         ensures value { result.now ≡ self.now }
         ensures valid { IsTrue (spec.is_object_key self.now) }

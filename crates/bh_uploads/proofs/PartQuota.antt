@@ -1,5 +1,5 @@
 -- What the rows decide of a quota is what the machine asks of the states before and after a part.
-use Rattle.std.proofs.Common.{◌≡◌, ℕ, ◌+◌, ◌-◌, length, Bool, true, false, Option, Some, Result, Ok, Err, refl, ap, ◌∙◌, arith}
+use Rattle.std.proofs.Common.{◌≡◌, ℕ, ◌+◌, ◌-◌, length, Bool, true, false, Some, Result, Ok, Err, refl, sym, ap, ◌∙◌, arith}
 use Rattle.std.specs.Prelude.{if◌then◌else◌}
 use Rattle.std.specs.FinMap.{get}
 use Rattle.std.specs.Option.{option_map_or}
@@ -13,8 +13,21 @@ use Rattle.bh_model.specs.Quotas.{fits_quota}
 use Rattle.bh_model.specs.State.{Octets, Part, part_size, used}
 use Rattle.bh_model.specs.Uploads.{FoundUpload, after_part, with_stored}
 use Rattle.bh_model.proofs.UsedLemmas.{used_with_bucket, used_with_part}
-use Rattle.bh_objects.specs.Found.{room_in}
-use Rattle.bh_uploads.specs.Found.{part_entry_in}
+use Rattle.bh_tables.specs.Typed.{Tables}
+use Rattle.bh_view.specs.Sound.{IsSound}
+use Rattle.bh_view.specs.View.{view}
+use Rattle.bh_objects.specs.Found.{account_in, bytes_in, room_under, room_in}
+use Rattle.bh_objects.proofs.Found.{account_counts}
+use Rattle.bh_objects.proofs.Room.{room_of_account}
+use Rattle.bh_uploads.specs.Found.{given, next_entry_in, part_entry_in}
+
+-- the tenant's account, then the room, and then the number
+pub entry_decides : (tables : Tables) (t : Octets) → IsSound tables → (wanted replaced added : ℕ) → replaced ≡ wanted → (a : ℕ × Counts) → account_in (view tables t) ≡ Ok a
+    → part_entry_in wanted added (view tables t) ≡ ◌>>=◌ {B = ℕ} (room_under a.0 (bytes_in t tables) replaced added) (λ _. given a.1.entry)
+entry_decides tables t sound wanted replaced added is a account =
+    ap (λ n. part_entry_in n added (view tables t)) (sym is)
+    ∙ ap (λ r. ◌>>=◌ {B = ℕ} r (λ _. next_entry_in (view tables t))) (room_of_account tables t sound a account replaced added)
+    ∙ ap (λ r. ◌>>=◌ {B = ℕ} (room_under a.0 (bytes_in t tables) replaced added) (λ _. ◌>>=◌ {B = ℕ} r (λ (c : Counts). given c.entry))) (account_counts (view tables t) a account)
 
 module _ (name : Octets) (f : FoundUpload) (there : get f.tenant.buckets name ≡ Some f.bucket) (begun : get f.bucket.uploads f.number ≡ Some f.upload) (number : ℕ) (p : Part) where
   abbrev replaced : ℕ

@@ -1,29 +1,27 @@
 -- UploadPart: what was read, and the rows and the body that were written, are the machine's step.
-use Rattle.std.proofs.Common.{◌≡◌, ℕ, ◌+◌, ◌≤◌, ◌<◌, Bool, true, false, ◌&&◌, length, is_ok, true≢false, List, [], ◌∷◌, ◌++◌, map, filter, find, Option, Some, None, Result, Ok, Err, refl, sym, ap, ◌∙◌, subst, arith}
+use Rattle.std.proofs.Common.{◌≡◌, ℕ, ◌+◌, ◌≤◌, Bool, true, false, ◌&&◌, length, is_ok, true≢false, List, [], ◌∷◌, ◌++◌, map, filter, find, Option, Some, None, option_map, Result, Ok, Err, refl, sym, ap, ◌∙◌, subst}
 use Rattle.std.specs.List.{AllByRecursion, list_any}
-use Rattle.std.specs.Option.{option_map_or}
-use Rattle.std.specs.FinMap.{get}
 use Rattle.sqlite_keyed.specs.Lists.{delete_where, update_where}
-use Rattle.sqlite_keyed.proofs.ListLemmas.{all-filter, all_both}
+use Rattle.sqlite_keyed.proofs.ListLemmas.{all-filter}
 use Rattle.sqlite_typed.specs.Tests.{bytes_eq}
 use Rattle.bh_types.specs.Checksums.{checksum_text}
 use Rattle.bh_types.specs.Counts.{Counts}
 use Rattle.bh_types.specs.declared.bucket_state.BucketState.{BucketState}
 use Rattle.bh_types.specs.declared.id.UploadId.{UploadId}
 use Rattle.bh_types.specs.declared.refusal.Refusal.{Refusal}
-use Rattle.bh_types.specs.declared.refusal.Refusal.TheVariants.{BadDigest, CounterExhausted}
+use Rattle.bh_types.specs.declared.refusal.Refusal.TheVariants.{BadDigest}
 use Rattle.bh_types.specs.Outcomes.{◌>>=◌, require}
 use Rattle.bh_model.specs.Counting.{counts, with_counts, can_give}
-use Rattle.bh_model.specs.State.{Octets, State, Bucket, Upload}
+use Rattle.bh_model.specs.State.{Octets, State}
 use Rattle.bh_model.specs.Operations.{Answer, Outcome, PartStored, with_bucket, require_quota}
 use Rattle.bh_model.specs.Parts.{is_checksum}
 use Rattle.bh_model.specs.Uploads.{FoundUpload, after_part, with_stored, upload_part}
-use Rattle.bh_tables.specs.Bodies.{Name, same_name, version_name, part_name, resolved_part, part_columns_of}
+use Rattle.bh_tables.specs.Bodies.{Name, same_name, version_name, part_name}
 use Rattle.bh_tables.specs.Typed.{PartRow, Tables}
 use Rattle.bh_tables.specs.Shown.{is_tenant, is_part}
 use Rattle.bh_view.specs.Blocks.{whole, AreDigests}
-use Rattle.bh_view.specs.Bodies.{HasBodies, IsResolved, IsUnnamed, AreWhole, AddsBody, pieces, body_stored, body_dropped}
-use Rattle.bh_view.specs.Grouped.{first, same_number}
+use Rattle.bh_view.specs.Bodies.{HasBodies, IsResolved, IsUnnamed, AreWhole, pieces, body_stored}
+use Rattle.bh_view.specs.Grouped.{same_number}
 use Rattle.bh_view.specs.Put.{part_row}
 use Rattle.bh_view.specs.Sound.{IsSound}
 use Rattle.bh_view.specs.View.{rows_of, of_upload, view, latest_of, limits_in}
@@ -45,13 +43,12 @@ use Rattle.std.proofs.lemmas.Bool.{and_parts}
 use Rattle.bh_storage.specs.Calls.{GivesStep, Carries, Decides}
 use Rattle.bh_storage.specs.declared.error.StepError.{StepError}
 use Rattle.bh_storage.specs.declared.error.StepError.TheVariants.{Refused, Failed}
-use Rattle.bh_objects.proofs.Putting.{sum_right}
 use Rattle.bh_objects.proofs.Written.{HasRowsOf, becomes_so, IsHostOf}
 use Rattle.bh_objects.specs.Found.{room_in}
-use Rattle.bh_uploads.specs.Found.{next_entry_in, part_bytes_in, part_entry_in, upload_in}
-use Rattle.bh_uploads.specs.Writes.{with_next_entry, without_part, without_old, with_part_row, part_written}
+use Rattle.bh_uploads.specs.Found.{next_entry_in, part_bytes_in, replaced_body, part_entry_in, upload_in}
+use Rattle.bh_uploads.specs.Writes.{with_next_entry, without_part, without_replaced, with_part_row, part_written}
 use Rattle.bh_uploads.proofs.PartQuota.{part_asked}
-use Rattle.bh_uploads.proofs.Uploads.{HasUpload, has_upload, no_upload, has_entry_number, no_entry_number}
+use Rattle.bh_uploads.proofs.Uploads.{HasUpload, has_upload, has_entry_number}
 
 -- ---- the part of a number goes, with its body
 
@@ -105,12 +102,13 @@ module _ (old : Tables) (sound : IsSound old) (t : Octets) (n k : ℕ) (at : Nam
       taken_at = subst (AllByRecursion (λ (q : PartRow). test q ≡ true → IsUnnamed (t, q.body) (record old { parts = delete_where test old.parts }))) (filter_both (λ (q : PartRow). bytes_eq q.tenant t) (λ q. same_number q.upload n && same_number q.part k) old.parts)
           (all-filter _ (λ (q : PartRow). same_number q.upload n && same_number q.part k) (rows_of t old).parts (taken_unnamed old t sound test))
 
-  pub old_gone : Gone (without_old t n k x)
-  old_gone = go (find test x.parts) refl
+  -- the part that was found before
+  pub replaced_gone : Gone (without_replaced t n k (replaced_body t n k old) x)
+  replaced_gone = go (find test old.parts) refl
     where
-      go : (o : Option PartRow) → find test x.parts ≡ o → Gone (option_map_or (λ (p : PartRow). without_part t n k p.body x) o x)
-      go None none = record { is = ap (λ l. record x { parts = l }) (sym (delete_none test x.parts (none_first _ (first_find test x.parts ∙ none)))); is_whole = w; bytes = refl; named = λ block h. h }
-      go (Some p) there = part_gone p (ap (find test) (sym parts) ∙ there)
+      go : (o : Option PartRow) → find test old.parts ≡ o → Gone (without_replaced t n k (option_map (λ (p : PartRow). p.body) o) x)
+      go None none = record { is = ap (λ l. record x { parts = l }) (sym (delete_none test x.parts (none_first _ (first_find test x.parts ∙ ap (find test) parts ∙ none)))); is_whole = w; bytes = refl; named = λ block h. h }
+      go (Some p) there = part_gone p there
 
 -- ---- the part is asked for
 
@@ -146,12 +144,12 @@ module _ (old : Tables) (sound : IsSound old) (t name key : Octets) (id : Option
       part_shape h ∙ ap (λ r. ◌>>=◌ {B = Outcome} r (stored_under h)) e
 
 -- the question that was answered of these tables says so of those before
-pub part_failed : {Y : Type 0} (told : Y → Answer) (old middle new : Tables) (sound : IsSound old) (t name key : Octets) (id : Option UploadId) (mode : BucketState) (n k at : ℕ) (bytes : Octets) (given : Option Octets)
+pub part_failed : {X Y : Type 0} (entry : X → ℕ) (told : Y → Answer) (old middle new : Tables) (sound : IsSound old) (t name key : Octets) (id : Option UploadId) (mode : BucketState) (n k at : ℕ) (bytes : Octets) (given : Option Octets)
     → is_checksum given bytes ≡ true → upload_in name key id (view old t) ≡ Ok (mode, n) → middle ≡ old → (error : StepError Refusal)
-    → Decides {X = ℕ} {Y = ℕ} (λ m. m) (part_entry_in (part_bytes_in t n k middle) (length bytes) (view middle t)) middle new (Err error) → Carries told t (upload_part at name key id k bytes given) old new (Err error)
-part_failed told old middle new sound t name key id mode n k at bytes given right found same (Refused x) d =
+    → Decides entry (part_entry_in (part_bytes_in t n k middle) (length bytes) (view middle t)) middle new (Err error) → Carries told t (upload_part at name key id k bytes given) old new (Err error)
+part_failed entry told old middle new sound t name key id mode n k at bytes given right found same (Refused x) d =
     (part_refused old sound t name key id mode n k at bytes given right found x (ap (λ (y : Tables). part_entry_in (part_bytes_in t n k y) (length bytes) (view y t)) (sym same) ∙ d.0), d.1 ∙ same)
-part_failed told old middle new sound t name key id mode n k at bytes given right found same (Failed trouble) d = tt
+part_failed entry told old middle new sound t name key id mode n k at bytes given right found same (Failed trouble) d = tt
 
 -- a number that was read, where the quota had room
 entry_read : (replaced added : ℕ) (v : Option State) (entry : ℕ) → part_entry_in replaced added v ≡ Ok entry → next_entry_in v ≡ Ok entry
@@ -173,7 +171,7 @@ pub record PutsPart (digest : Octets → Octets) (t name key : Octets) (id : Opt
 
 module _ (old new : Tables) (host : IsHostOf old) (t name key : Octets) (id : Option UploadId) (mode : BucketState) (n : ℕ) (found : upload_in name key id (view old t) ≡ Ok (mode, n)) (k at : ℕ) (bytes : Octets) (given : Option Octets)
     (low : 1 ≤ k) (high : k ≤ 10000) (early : at ≤ latest_of old) (right : is_checksum given bytes ≡ true) (digest : Octets → Octets) (size : ℕ) (some : 1 ≤ size) (digests : AreDigests digest old.blocks) where
-  puts_at : (h : HasUpload name key id (view old t) mode n) → part_entry_in (part_bytes_in t n k old) (length bytes) (view old t) ≡ Ok h.state.next_entry → can_give h.state.next_entry ≡ true → new ≡ part_written digest size t n k bytes at h.state.next_entry old → PutsPart digest t name key id k at bytes given old new
+  puts_at : (h : HasUpload name key id (view old t) mode n) → part_entry_in (part_bytes_in t n k old) (length bytes) (view old t) ≡ Ok h.state.next_entry → can_give h.state.next_entry ≡ true → new ≡ part_written digest size t n k bytes at h.state.next_entry (replaced_body t n k old) old → PutsPart digest t name key id k at bytes given old new
   puts_at h read room e =
       let s = h.state in
       let entry = s.next_entry in
@@ -187,8 +185,8 @@ module _ (old new : Tables) (host : IsHostOf old) (t name key : Octets) (id : Op
       let adds = body_stores counted its counted_resolved host.sound.stored host.bodies counted_free digest size bytes some digests in
       let middle_resolved : IsResolved middle = subst IsResolved (sym adds.is) (rows_stay counted its counted_resolved host.sound.stored host.bodies counted_free middle.refs middle.blocks bytes adds.bytes) in
       let same_parts : middle.parts ≡ old.parts = ap (λ (x : Tables). x.parts) adds.is in
-      let left = old_gone old host.sound t n k its free middle (added_whole digest its bytes counted middle adds middle_resolved) (ap (λ (x : Tables). x.versions) adds.is) same_parts in
-      let wide = without_old t n k middle in
+      let left = replaced_gone old host.sound t n k its free middle (added_whole digest its bytes counted middle adds middle_resolved) (ap (λ (x : Tables). x.versions) adds.is) same_parts in
+      let wide = without_replaced t n k (replaced_body t n k old) middle in
       let its_bytes : whole wide.refs wide.blocks its ≡ bytes = left.bytes ∙ added_bytes digest its bytes counted middle adds in
       let last = with_part_row row wide in
       let added : last ≡ record wide { parts = wide.parts ++ row ∷ [] } = ap (λ (l : Octets). record wide { parts = wide.parts ++ record row { bytes = l } ∷ [] }) its_bytes in
@@ -215,13 +213,13 @@ module _ (old new : Tables) (host : IsHostOf old) (t name key : Octets) (id : Op
         digests = subst (λ (x : Tables). AreDigests digest x.blocks) (sym is) (subst (AreDigests digest) (sym blocks_same) (adds.digests digests));
       }
 
-  pub puts : (entry : ℕ) → part_entry_in (part_bytes_in t n k old) (length bytes) (view old t) ≡ Ok entry → new ≡ part_written digest size t n k bytes at entry old → PutsPart digest t name key id k at bytes given old new
+  pub puts : (entry : ℕ) → part_entry_in (part_bytes_in t n k old) (length bytes) (view old t) ≡ Ok entry → new ≡ part_written digest size t n k bytes at entry (replaced_body t n k old) old → PutsPart digest t name key id k at bytes given old new
   puts entry read e =
       let h = has_upload name key mode n id (view old t) found in
       let number = has_entry_number (view old t) h.state entry h.added (entry_read (part_bytes_in t n k old) (length bytes) (view old t) entry read) in
-      puts_at h (read ∙ ap (λ m. Ok m) (sym number.1)) number.0 (e ∙ ap (λ m. part_written digest size t n k bytes at m old) (sym number.1))
+      puts_at h (read ∙ ap (λ m. Ok m) (sym number.1)) number.0 (e ∙ ap (λ m. part_written digest size t n k bytes at m (replaced_body t n k old) old) (sym number.1))
 
 -- the writes of a part, one after another
-pub part_chain : (digest : Octets → Octets) (size : ℕ) (t : Octets) (n k : ℕ) (bytes : Octets) (at entry : ℕ) (old one two three new : Tables)
-    → one ≡ with_next_entry t (entry + 1) old → two ≡ body_stored digest (t, entry) 0 (pieces size bytes) one → three ≡ without_old t n k two → new ≡ with_part_row (part_row t n k bytes at entry) three → new ≡ part_written digest size t n k bytes at entry old
-part_chain digest size t n k bytes at entry old one two three new a b c d = d ∙ ap (with_part_row (part_row t n k bytes at entry)) (c ∙ ap (without_old t n k) (b ∙ ap (body_stored digest (t, entry) 0 (pieces size bytes)) a))
+pub part_chain : (digest : Octets → Octets) (size : ℕ) (t : Octets) (n k : ℕ) (bytes : Octets) (at entry : ℕ) (replaced : Option ℕ) (old one two three new : Tables)
+    → one ≡ with_next_entry t (entry + 1) old → two ≡ body_stored digest (t, entry) 0 (pieces size bytes) one → three ≡ without_replaced t n k replaced two → new ≡ with_part_row (part_row t n k bytes at entry) three → new ≡ part_written digest size t n k bytes at entry replaced old
+part_chain digest size t n k bytes at entry replaced old one two three new a b c d = d ∙ ap (with_part_row (part_row t n k bytes at entry)) (c ∙ ap (without_replaced t n k replaced) (b ∙ ap (body_stored digest (t, entry) 0 (pieces size bytes)) a))

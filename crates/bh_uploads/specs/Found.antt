@@ -1,5 +1,5 @@
 -- What is read of a tenant's uploads, and the numbers that they take.
-use Rattle.std.specs.Prelude.{ℕ, Bool, false, ◌&&◌, bytes_eq, List, flat_map, find, Option, Result, Ok, Err, if◌then◌else◌}
+use Rattle.std.specs.Prelude.{ℕ, Bool, false, ◌&&◌, bytes_eq, List, flat_map, find, Option, option_map, Result, Ok, Err, if◌then◌else◌}
 use Rattle.std.specs.String.{string_bytes}
 use Rattle.std.specs.Option.{option_map_or}
 use Rattle.std.specs.Result.{result_map_both}
@@ -42,6 +42,10 @@ next_entry_in s = do
 -- the bytes of the part of a number, if it is there
 abbrev pub part_bytes_in : Octets → ℕ → ℕ → Tables → ℕ
 part_bytes_in tenant upload number tables = option_map_or (λ p. p.size) (find (is_part tenant upload number) tables.parts) 0
+
+-- the entry number under which that part's bytes are stored
+abbrev pub replaced_body : Octets → ℕ → ℕ → Tables → Option ℕ
+replaced_body tenant upload number tables = option_map (λ p. p.body) (find (is_part tenant upload number) tables.parts)
 
 -- the number of a part of so many bytes in place of so many
 abbrev pub part_entry_in : ℕ → ℕ → Option State → Result ℕ Refusal

@@ -9,6 +9,7 @@ use Rattle.bh_tables.specs.Typed.{UploadRow, PartColumns, PartRow, Tables}
 use Rattle.bh_tables.specs.Shown.{is_bucket, is_upload, is_part, is_part_of, has_body, by_part, is_begun_before, by_begun}
 use Rattle.bh_uploads.specs.declared.rows.uploads.UploadHead.{UploadHead}
 use Rattle.bh_uploads.specs.declared.rows.uploads.UploadRecord.{UploadRecord}
+use Rattle.bh_uploads.specs.declared.rows.parts.PartBody.{PartBody}
 use Rattle.bh_uploads.specs.declared.rows.parts.PartRecord.{PartRecord}
 
 -- ---- uploads
@@ -48,6 +49,9 @@ seen_row p = record { number = p.part; size = p.size; checksum = p.checksum }
 
 abbrev pub row_seen : core.PartRow → SeenRow
 row_seen p = record { number = p.number; size = p.size; checksum = string_bytes p.sum }
+
+abbrev pub part_body : PartRow → PartBody
+part_body p = record { body = p.body; size = p.size }
 
 abbrev pub stored_part : PartRecord → PartColumns
 stored_part p = record { tenant = p.tenant.now; upload = p.upload; part = p.number; size = p.size; checksum = p.checksum.now; stamp = p.stamp; body = p.body }

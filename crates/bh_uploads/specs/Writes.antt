@@ -1,5 +1,5 @@
 -- What operations on uploads write, one call after another.
-use Rattle.std.specs.Prelude.{ℕ, ◌+◌, List, [], ◌∷◌, ◌++◌, map, find}
+use Rattle.std.specs.Prelude.{ℕ, ◌+◌, List, [], ◌∷◌, ◌++◌, map, Option}
 use Rattle.std.specs.Option.{option_map_or}
 use Rattle.sqlite_keyed.specs.Lists.{update_where, delete_where}
 use Rattle.bh_types.specs.Counts.{Counts}
@@ -33,19 +33,19 @@ with_next_entry tenant n tables = record tables { tenants = update_where (is_ten
 abbrev pub without_part : Octets → ℕ → ℕ → ℕ → Tables → Tables
 without_part tenant upload part body tables = body_dropped (tenant, body) (record tables { parts = delete_where (is_part tenant upload part) tables.parts })
 
--- the same of the part of a number, if it is there
-abbrev pub without_old : Octets → ℕ → ℕ → Tables → Tables
-without_old tenant upload part tables = option_map_or (λ p. without_part tenant upload part p.body tables) (find (is_part tenant upload part) tables.parts) tables
+-- the same where a part of the number is replaced, whose body this is
+abbrev pub without_replaced : Octets → ℕ → ℕ → Option ℕ → Tables → Tables
+without_replaced tenant upload part replaced tables = option_map_or (λ body. without_part tenant upload part body tables) replaced tables
 
 -- the row of a part, which has the bytes of its body
 abbrev pub with_part_row : PartRow → Tables → Tables
 with_part_row p tables = record tables { parts = tables.parts ++ resolved_part tables.refs tables.blocks (part_columns_of p) ∷ [] }
 
 -- a part of these bytes under an entry number, whose body is stored before that of the part that it replaces goes
-abbrev pub part_written : (Octets → Octets) → ℕ → Octets → ℕ → ℕ → Octets → ℕ → ℕ → Tables → Tables
-part_written digest size tenant upload part bytes moment entry tables =
+abbrev pub part_written : (Octets → Octets) → ℕ → Octets → ℕ → ℕ → Octets → ℕ → ℕ → Option ℕ → Tables → Tables
+part_written digest size tenant upload part bytes moment entry replaced tables =
     with_part_row (part_row tenant upload part bytes moment entry)
-    (without_old tenant upload part (body_stored digest (tenant, entry) 0 (pieces size bytes) (with_next_entry tenant (entry + 1) tables)))
+    (without_replaced tenant upload part replaced (body_stored digest (tenant, entry) 0 (pieces size bytes) (with_next_entry tenant (entry + 1) tables)))
 
 -- ---- an upload is completed
 

@@ -10,11 +10,11 @@ ghost use Rattle.bh_view.specs.Put.{part_row};
 ghost use Rattle.bh_view.specs.View.{latest_of};
 ghost use Rattle.bh_schema.specs.Connections.{IsClean, tables, InTransaction, StaysWithin, StaysOpen, Becomes};
 ghost use Rattle.bh_schema.specs.Working.{Works, StillWorksBy};
-ghost use Rattle.bh_uploads.specs.Writes.{without_part, without_old, with_part_row, part_written};
+ghost use Rattle.bh_uploads.specs.Writes.{without_part, without_replaced, with_part_row, part_written};
 
-use crate::quotas::part_entry;
+use crate::quotas::{PartEntry, part_entry};
 use crate::reads::{NamedUpload, found_upload};
-use crate::rows::parts::{PartRecord, delete_part, find_body, insert_part};
+use crate::rows::parts::{PartRecord, delete_part, insert_part};
 use crate::writes::drop_entry_body;
 use bh_blocks::bodies::store_body;
 use bh_objects::objects::checked_sum;
@@ -60,20 +60,21 @@ fn drop_part<S: Alter>(
     drop_entry_body(connection, tenant, body)
 }
 
-/// Takes the part of a number away, and its body, if it is there.
+/// Takes the part of a number away, and its body, if one is replaced.
 fn drop_old<S: Alter>(
     connection: &mut Connection<S>,
     tenant: &TenantName,
     upload: u64,
     number: u32,
+    replaced: Option<u64>,
 ) -> Result<(), Trouble>
     requires inside { InTransaction S.Store connection.old }
     requires small { upload < 2 ^ 62 }
     ensures within { StaysWithin S.Store connection.old connection.new }
     ensures opens { OnOk result (StaysOpen S.Store connection.old connection.new) }
-    ensures holds { OnOk result (Becomes S.Store connection.old connection.new (without_old tenant.now upload number)) }
+    ensures holds { OnOk result (Becomes S.Store connection.old connection.new (without_replaced tenant.now upload number replaced)) }
 {
-    match or_trouble(find_body(connection, tenant.as_str(), upload, u64::from(number)))? {
+    match replaced {
         None => Ok(()),
         Some(body) => drop_part(connection, tenant, upload, number, body),
     }
@@ -116,18 +117,19 @@ fn write_part<S: Alter, D: Digester>(
     block_size: u64,
     part: &NewPart<'_>,
     upload: u64,
-    entry: u64,
+    taken: PartEntry,
     checksum: &str,
 ) -> Result<(), Trouble>
     requires inside { InTransaction S.Store connection.old }
     requires positive { 1 ≤ block_size }
     requires upload { upload < 2 ^ 62 }
-    requires entry { entry < 2 ^ 62 }
+    requires entry { taken.entry < 2 ^ 62 }
     requires checksum { checksum.now ≡ checksum_text part.now.bytes.now }
     ensures within { StaysWithin S.Store connection.old connection.new }
     ensures opens { OnOk result (StaysOpen S.Store connection.old connection.new) }
     ensures holds { OnOk result (Becomes S.Store connection.old connection.new
-        (part_written D.digest_of block_size part.now.upload.tenant.now upload part.now.number part.now.bytes.now part.now.at entry)) }
+        (part_written D.digest_of block_size part.now.upload.tenant.now upload part.now.number part.now.bytes.now part.now.at
+        taken.entry taken.replaced)) }
     ensures least { OnOk result (1 ≤ part.now.number) }
     ensures most { OnOk result (part.now.number ≤ 10000) }
 {
@@ -136,17 +138,17 @@ fn write_part<S: Alter, D: Digester>(
         return Err(Trouble::Store);
     }
     let tenant = part.upload.tenant;
-    set_next_entry(connection, tenant, entry + 1)?;
+    set_next_entry(connection, tenant, taken.entry + 1)?;
     or_trouble(store_body(
         connection,
         digester,
         block_size,
         tenant.as_str(),
-        entry,
+        taken.entry,
         part.bytes,
     ))?;
-    drop_old(connection, tenant, upload, part.number)?;
-    add_part(connection, part, upload, entry, checksum)
+    drop_old(connection, tenant, upload, part.number, taken.replaced)?;
+    add_part(connection, part, upload, taken.entry, checksum)
 }
 
 /// S3's UploadPart, at a moment that is not after the last stamp, where the request may say which checksum the bytes
@@ -176,7 +178,7 @@ pub fn put_part<S: Alter, D: Digester>(
     let found = found_upload(connection, &part.upload)?;
     let checksum = checked_sum(alloc, part.bytes, given)?;
     let size = part.bytes.len() as u64;
-    let entry = part_entry(
+    let taken = part_entry(
         connection,
         part.upload.tenant,
         found.number,
@@ -189,7 +191,7 @@ pub fn put_part<S: Alter, D: Digester>(
         block_size,
         part,
         found.number,
-        entry,
+        taken,
         checksum.as_str(),
     )?;
     Ok(checksum)

@@ -4,36 +4,60 @@ ghost use Rattle.bh_storage.specs.Calls.{Unless, Decides};
 ghost use Rattle.bh_view.specs.View.{view};
 ghost use Rattle.bh_schema.specs.Connections.{IsClean, tables, InTransaction, StaysWithin, StaysOpen, ChangesNothing};
 ghost use Rattle.bh_schema.specs.Working.{Works, StillWorks};
-ghost use Rattle.bh_uploads.specs.Found.{part_bytes_in, part_entry_in};
+ghost use Rattle.bh_uploads.specs.Found.{part_bytes_in, replaced_body, part_entry_in};
 
-use crate::reads::next_entry;
-use crate::rows::parts::find_size;
+use crate::counting::given;
+use crate::rows::parts::find_body;
 use bh_objects::quotas::require_room;
+use bh_objects::reads::tenant_account;
 use bh_schema::trouble::or_trouble;
 use bh_storage::error::{StepError, Trouble};
 use bh_types::names::TenantName;
 use bh_types::refusal::Refusal;
 use sqlite::{Alter, Connection};
 
-/// The bytes of the part of a number, if it is there.
-fn part_bytes<S: Alter>(
+/// What a part replaces.
+#[derive(Clone, Copy)]
+struct Replaced {
+    bytes: u64,
+    /// The entry number under which they are stored, or `None` where no part has the number.
+    body: Option<u64>,
+}
+
+/// What the part of a number has, if it is there.
+fn replaced_part<S: Alter>(
     connection: &mut Connection<S>,
     tenant: &TenantName,
     upload: u64,
     number: u32,
-) -> Result<u64, Trouble>
+) -> Result<Replaced, Trouble>
     requires inside { InTransaction S.Store connection.old }
     requires small { upload < 2 ^ 62 }
     ensures within { StaysWithin S.Store connection.old connection.new }
     ensures opens { OnOk result (StaysOpen S.Store connection.old connection.new) }
     ensures same { OnOk result (ChangesNothing S.Store connection.old connection.new) }
-    ensures size { IfOk result (λ n. IsClean S.Store connection.new
-        → n ≡ part_bytes_in tenant.now upload number (tables S.Store connection.old)) }
+    ensures bytes { IfOk result (λ replaced. IsClean S.Store connection.new
+        → replaced.bytes ≡ part_bytes_in tenant.now upload number (tables S.Store connection.old)) }
+    ensures body { IfOk result (λ replaced. IsClean S.Store connection.new
+        → replaced.body ≡ replaced_body tenant.now upload number (tables S.Store connection.old)) }
 {
-    match or_trouble(find_size(connection, tenant.as_str(), upload, u64::from(number)))? {
-        Some(size) => Ok(size),
-        None => Ok(0),
+    match or_trouble(find_body(connection, tenant.as_str(), upload, u64::from(number)))? {
+        Some(found) => Ok(Replaced {
+            bytes: found.size,
+            body: Some(found.body),
+        }),
+        None => Ok(Replaced {
+            bytes: 0,
+            body: None,
+        }),
     }
+}
+
+/// The entry number that a part takes, and that of the body of the part that it replaces, if there is one.
+#[derive(Clone, Copy, Debug, PartialEq, Eq)]
+pub struct PartEntry {
+    pub entry: u64,
+    pub replaced: Option<u64>,
 }
 
 /// The entry number that a part of so many bytes takes: QuotaExceeded, CounterExhausted. What a part of its number
@@ -44,19 +68,27 @@ pub fn part_entry<S: Alter>(
     upload: u64,
     number: u32,
     added: u64,
-) -> Result<u64, StepError<Refusal>>
+) -> Result<PartEntry, StepError<Refusal>>
     requires working { Works S.Store connection.old }
     requires upload { upload < 2 ^ 62 }
     ensures within { StaysWithin S.Store connection.old connection.new }
     ensures opens { Unless result (StaysOpen S.Store connection.old connection.new) }
     ensures working { Unless result (StillWorks S.Store connection.old connection.new) }
     ensures decides { IsClean S.Store connection.new
-        → Decides (λ n. n)
+        → Decides (λ taken. taken.entry)
         (part_entry_in (part_bytes_in tenant.now upload number (tables S.Store connection.old)) added (view (tables S.Store connection.old) tenant.now))
         (tables S.Store connection.old) (tables S.Store connection.new) result }
-    ensures small { IfOk result (λ n. n < 2 ^ 62) }
+    ensures replaced { IfOk result (λ taken. IsClean S.Store connection.new
+        → taken.replaced ≡ replaced_body tenant.now upload number (tables S.Store connection.old)) }
+    ensures small { IfOk result (λ taken. taken.entry < 2 ^ 62) }
 {
-    let replaced = part_bytes(connection, tenant, upload, number)?;
-    require_room(connection, tenant, replaced, added)?;
-    next_entry(connection, tenant)
+    let replaced = replaced_part(connection, tenant, upload, number)?;
+    let account = tenant_account(connection, tenant)?;
+    let counters = account.counters;
+    require_room(connection, tenant, account.quota, replaced.bytes, added)?;
+    let entry = given(counters.entry)?;
+    Ok(PartEntry {
+        entry,
+        replaced: replaced.body,
+    })
 }

@@ -3,7 +3,7 @@ ghost use Rattle.bh_storage.specs.Calls.{Unless, Decides};
 ghost use Rattle.bh_view.specs.View.{view};
 ghost use Rattle.bh_schema.specs.Connections.{IsClean, tables, InTransaction, StaysWithin, WasOpen, StaysOpen, ChangesNothing};
 ghost use Rattle.bh_schema.specs.Working.{Works, StillWorks};
-ghost use Rattle.bh_uploads.specs.Found.{next_upload_in, next_entry_in, is_begun_for, upload_there, upload_in};
+ghost use Rattle.bh_uploads.specs.Found.{next_upload_in, is_begun_for, upload_there, upload_in};
 ghost use Rattle.bh_uploads.specs.Rows.{upload_seen, seen_row, row_seen, listed_parts};
 
 use crate::counting::given;
@@ -57,25 +57,6 @@ pub fn next_upload<S: Alter>(
 {
     let counters = next_counters(connection, tenant)?;
     let number = given(counters.upload)?;
-    Ok(number)
-}
-
-/// The entry number that the tenant's next part takes: CounterExhausted.
-pub fn next_entry<S: Alter>(
-    connection: &mut Connection<S>,
-    tenant: &TenantName,
-) -> Result<u64, StepError<Refusal>>
-    requires { Works S.Store connection.old }
-    ensures within { StaysWithin S.Store connection.old connection.new }
-    ensures opens { Unless result (StaysOpen S.Store connection.old connection.new) }
-    ensures working { Unless result (StillWorks S.Store connection.old connection.new) }
-    ensures decides { IsClean S.Store connection.new
-        → Decides (λ n. n) (next_entry_in (view (tables S.Store connection.old) tenant.now))
-        (tables S.Store connection.old) (tables S.Store connection.new) result }
-    ensures small { IfOk result (λ n. n < 2 ^ 62) }
-{
-    let counters = next_counters(connection, tenant)?;
-    let number = given(counters.entry)?;
     Ok(number)
 }
 

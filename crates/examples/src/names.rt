@@ -47,12 +47,12 @@ fn secret(alloc: Global, input: &str) -> Answer {
 }
 
 fn bucket_name(alloc: Global, input: &str) -> Answer {
-    let found = BucketName::read(alloc, input)?;
+    let found = BucketName::from_string(String::from_str(alloc, input)?);
     text_or_none(alloc, found.as_ref().map(BucketName::as_str))
 }
 
 fn object_key(alloc: Global, input: &str) -> Answer {
-    let found = ObjectKey::read(alloc, input)?;
+    let found = ObjectKey::from_string(String::from_str(alloc, input)?);
     text_or_none(alloc, found.as_ref().map(ObjectKey::as_str))
 }
 

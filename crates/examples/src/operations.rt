@@ -1,6 +1,6 @@
 //! What requests ask for.
 
-use crate::answer::{Answer, Fault, refused, text_or_none};
+use crate::answer::{Answer, Fault, refusal, refused, text_or_none};
 use crate::entries;
 use crate::shown::operation_text;
 use bh_http::read::read_request;
@@ -10,7 +10,7 @@ use bh_operation::operation::{Operation, operation_of};
 use bh_types::error::RequestError;
 use bh_types::limits::Limits;
 use bh_types::names::TenantName;
-use std::alloc::Global;
+use std::alloc::{AllocError, Global};
 
 pub fn answer(alloc: Global, call: &str, input: &str) -> Answer {
     match call {
@@ -26,8 +26,8 @@ fn allow(alloc: Global, input: &str) -> Answer {
     text_or_none(alloc, allow.map(|allow| allow.as_str()))
 }
 
-/// The request of a method, a target and header fields, written one after another with ` | ` between them.
-fn request_of(alloc: Global, text: &str) -> Result<Request, RequestError> {
+/// The bytes of a request of a method, a target and header fields, written one after another with ` | ` between them.
+fn head_of(alloc: Global, text: &str) -> Result<String, AllocError> {
     let (line, fields) = text.split_once(" | ").unwrap_or((text, "a: b"));
     let mut head = format!(in alloc; "{line} HTTP/1.1\nhost: h\ncontent-length: 0\n")?;
     for field in fields.split(" | ") {
@@ -35,26 +35,25 @@ fn request_of(alloc: Global, text: &str) -> Result<Request, RequestError> {
         head.push_str("\n")?;
     }
     head.push_str("\n")?;
-    read_request(alloc, head.as_bytes(), &Limits::default())
+    Ok(head)
 }
 
 /// What a request of the tenant green asks for, or the number of its refusal.
 fn asks(alloc: Global, input: &str) -> Answer {
-    match request_of(alloc, input) {
+    let head = head_of(alloc, input)?;
+    match read_request(head.as_bytes(), &Limits::default()) {
         Ok(request) => asked(alloc, &request),
-        Err(error) => refused(alloc, error),
+        Err(why) => refusal(alloc, why),
     }
 }
 
 /// The same, of the request GET /plans/x with these bytes as its target: no such target comes out of the bytes of a
 /// request.
 pub fn asks_of_target(alloc: Global, target: &[u8]) -> Answer {
-    match request_of(alloc, "GET /plans/x") {
-        Ok(mut request) => {
-            request.target = Vec::from_slice(alloc, target)?;
-            asked(alloc, &request)
-        }
-        Err(error) => refused(alloc, error),
+    let head = head_of(alloc, "GET /plans/x")?;
+    match read_request(head.as_bytes(), &Limits::default()) {
+        Ok(request) => asked(alloc, &Request { target, ..request }),
+        Err(why) => refusal(alloc, why),
     }
 }
 

@@ -1,6 +1,6 @@
 //! Requests as they are read from bytes, and lines of scripts.
 
-use crate::answer::{Answer, Fault, bytes, refused, text};
+use crate::answer::{Answer, Fault, bytes, refusal, text};
 use crate::operations::asks_of_target;
 use bh_event::event::{Command, Event};
 use bh_event::line::read_line;
@@ -9,12 +9,11 @@ use bh_http::encode::response_bytes;
 use bh_http::read::read_request;
 use bh_http::request::Request;
 use bh_http::response::Response;
-use bh_types::error::RequestError;
 use bh_types::limits::Limits;
 use bh_types::names::KeyName;
 use bh_types::refusal::Refusal;
 use http::StatusCode;
-use std::alloc::{AllocError, Global};
+use std::alloc::Global;
 
 /// The calls that take bytes; no answer is one of a call that takes text.
 pub fn answer(alloc: Global, call: &str, input: &[u8]) -> Answer {
@@ -30,47 +29,46 @@ pub fn answer(alloc: Global, call: &str, input: &[u8]) -> Answer {
     }
 }
 
-fn read(alloc: Global, input: &[u8]) -> Result<Request, RequestError> {
-    read_request(alloc, input, &Limits::default())
+fn read(input: &[u8]) -> Result<Request<'_>, Refusal> {
+    read_request(input, &Limits::default())
 }
 
 /// A request's refusal, if it is refused.
-fn refusal_of(alloc: Global, input: &[u8]) -> Result<Option<Refusal>, AllocError> {
-    match read(alloc, input) {
-        Ok(_) => Ok(None),
-        Err(RequestError::Refused(refusal)) => Ok(Some(refusal)),
-        Err(RequestError::OutOfMemory) => Err(AllocError),
+fn refusal_of(input: &[u8]) -> Option<Refusal> {
+    match read(input) {
+        Ok(_) => None,
+        Err(why) => Some(why),
     }
 }
 
 /// The method, the target, the number of header fields and the body.
 fn request(alloc: Global, input: &[u8]) -> Answer {
-    match read(alloc, input) {
+    match read(input) {
         Ok(request) => request_text(alloc, &request),
-        Err(error) => refused(alloc, error),
+        Err(why) => refusal(alloc, why),
     }
 }
 
 fn request_text(alloc: Global, request: &Request) -> Answer {
-    let method = request.method.as_str();
-    let target = String::from_utf8_lossy(alloc, request.target.as_slice())?;
-    let body = String::from_utf8_lossy(alloc, request.body.as_slice())?;
+    let method = String::from_utf8_lossy(alloc, request.method)?;
+    let target = String::from_utf8_lossy(alloc, request.target)?;
+    let body = String::from_utf8_lossy(alloc, request.body)?;
     let fields = request.fields.len();
     Ok(format!(in alloc; "{method} {target}, {fields} fields, {body}")?)
 }
 
 fn request_refusal(alloc: Global, input: &[u8]) -> Answer {
-    match read(alloc, input) {
+    match read(input) {
         Ok(_) => text(alloc, "none"),
-        Err(error) => refused(alloc, error),
+        Err(why) => refusal(alloc, why),
     }
 }
 
 /// The tenant whose request it is, the access key that it names and the secret.
 fn credentials(alloc: Global, input: &[u8]) -> Answer {
-    match read(alloc, input) {
+    match read(input) {
         Ok(request) => credentials_text(alloc, &request),
-        Err(error) => refused(alloc, error),
+        Err(why) => refusal(alloc, why),
     }
 }
 
@@ -91,7 +89,7 @@ fn credentials_text(alloc: Global, request: &Request) -> Answer {
 fn beginnings(alloc: Global, input: &[u8]) -> Answer {
     let mut shown = String::new(alloc);
     for end in 0..input.len() {
-        match refusal_of(alloc, &input[..end])? {
+        match refusal_of(&input[..end]) {
             Some(refusal) => shown.push_str(refusal.code())?,
             None => shown.push_str("none")?,
         }
@@ -102,7 +100,7 @@ fn beginnings(alloc: Global, input: &[u8]) -> Answer {
 
 /// A request is answered with 200, or with its refusal.
 fn answered(alloc: Global, input: &[u8]) -> Answer {
-    let response = match refusal_of(alloc, input)? {
+    let response = match refusal_of(input) {
         Some(refusal) => Response::bare_refusal(alloc, refusal),
         None => Response::empty(alloc, StatusCode::OK),
     };

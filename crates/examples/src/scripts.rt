@@ -1,5 +1,6 @@
 //! Stored scripts.
 
+use bh_link::link::Link;
 use bh_script::script::answer_script;
 use bh_types::limits::{DEFAULT_MAX_BODY, Limits, Tuning};
 use std::rt::Files;
@@ -16,8 +17,11 @@ pub fn check_script(
     let alloc = rt.alloc();
     let script = fs::read_to_string(rt, format!(in alloc; "scripts/{name}.in")?)?;
     let expected = fs::read_to_string(rt, format!(in alloc; "scripts/{name}.out")?)?;
-    match answer_script(alloc, script.as_bytes(), limits, tuning) {
-        Ok(answered) if answered.text.as_slice() == expected.as_bytes() => {
+    let mut writer = Link::new(Vec::new(alloc));
+    let answered = answer_script(alloc, script.as_bytes(), limits, tuning, &mut writer);
+    let text = writer.into_inner();
+    match answered {
+        Ok(_) if text.as_slice() == expected.as_bytes() => {
             println!(rt; "{name}: as expected")?;
             Ok(true)
         }

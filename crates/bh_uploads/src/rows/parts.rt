@@ -5,7 +5,7 @@ ghost use Rattle.bh_tables.specs.Typed.{PartRow as Stored};
 ghost use Rattle.bh_tables.specs.Bodies.{resolved_part};
 ghost use Rattle.bh_tables.specs.Shown.{is_part, is_part_of, shown_part, shown_body};
 ghost use Rattle.bh_schema.specs.Connections.{IsClean, tables, InTransaction, StaysWithin, WasOpen, StaysOpen, ChangesNothing, Becomes, IsTrouble, IsTroubleIf};
-ghost use Rattle.bh_uploads.specs.Rows.{seen_row, row_seen, stored_part, listed_parts, IsNewPart};
+ghost use Rattle.bh_uploads.specs.Rows.{seen_row, row_seen, part_body, stored_part, listed_parts, IsNewPart};
 
 use bh_core::parts::PartRow;
 use bh_schema::rows::number::number;
@@ -27,6 +27,15 @@ pub struct PartList {
     pub rows: Vec<PartRow>,
     /// The entry numbers under which their bytes are stored.
     pub bodies: Vec<u64>,
+}
+
+/// A part's body.
+#[derive(Clone, Copy)]
+pub struct PartBody {
+    /// The entry number under which the bytes are stored.
+    pub body: u64,
+    /// Bytes.
+    pub size: u64,
 }
 
 /// A part that is to be added.
@@ -143,20 +152,22 @@ fn body_rows<S: Alter>(
     )
 }
 
-fn read_body(row: &Row) -> Result<u64, Error>
-    ensures { IfOk result (λ body. (p : Stored) → row.now ≡ shown_body p → body ≡ p.body) }
+fn read_body(row: &Row) -> Result<PartBody, Error>
+    ensures { IfOk result (λ body. (p : Stored) → row.now ≡ shown_body p → body ≡ part_body p) }
 {
-    let body: u64 = row.get(0)?;
-    Ok(body)
+    Ok(PartBody {
+        body: row.get(0)?,
+        size: row.get(1)?,
+    })
 }
 
-/// The entry number under which the bytes of the part of this number are stored, if it is there.
+/// The body of the part of this number, if it is there.
 pub fn find_body<S: Alter>(
     connection: &mut Connection<S>,
     tenant: &str,
     upload: u64,
     part: u64,
-) -> Result<Option<u64>, Error>
+) -> Result<Option<PartBody>, Error>
     requires inside { InTransaction S.Store connection.old }
     requires upload { upload < 2 ^ 63 }
     requires part { part < 2 ^ 63 }
@@ -164,42 +175,12 @@ pub fn find_body<S: Alter>(
     ensures opens { OnOk result (WasOpen S.Store connection.old connection.new) }
     ensures same { OnOk result (ChangesNothing S.Store connection.old connection.new) }
     ensures found { IfOk result (λ found. IsClean S.Store connection.new
-        → found ≡ option_map (λ p. p.body) (find (is_part tenant.now upload part) (tables S.Store connection.old).parts)) }
+        → found ≡ option_map part_body (find (is_part tenant.now upload part) (tables S.Store connection.old).parts)) }
 {
     let rows = body_rows(connection, tenant, upload, part)?;
     match rows.first() {
         None => Ok(None),
         Some(row) => Ok(Some(read_body(row)?)),
-    }
-}
-
-fn read_size(row: &Row) -> Result<u64, Error>
-    ensures { IfOk result (λ size. (p : Stored) → row.now ≡ shown_body p → size ≡ p.size) }
-{
-    let size: u64 = row.get(1)?;
-    Ok(size)
-}
-
-/// The size in bytes of the part of this number, if it is there.
-pub fn find_size<S: Alter>(
-    connection: &mut Connection<S>,
-    tenant: &str,
-    upload: u64,
-    part: u64,
-) -> Result<Option<u64>, Error>
-    requires inside { InTransaction S.Store connection.old }
-    requires upload { upload < 2 ^ 63 }
-    requires part { part < 2 ^ 63 }
-    ensures within { StaysWithin S.Store connection.old connection.new }
-    ensures opens { OnOk result (WasOpen S.Store connection.old connection.new) }
-    ensures same { OnOk result (ChangesNothing S.Store connection.old connection.new) }
-    ensures found { IfOk result (λ found. IsClean S.Store connection.new
-        → found ≡ option_map (λ p. p.size) (find (is_part tenant.now upload part) (tables S.Store connection.old).parts)) }
-{
-    let rows = body_rows(connection, tenant, upload, part)?;
-    match rows.first() {
-        None => Ok(None),
-        Some(row) => Ok(Some(read_size(row)?)),
     }
 }
 

@@ -8,7 +8,7 @@ use Rattle.bh_http.specs.Arriving.{is_text, ends_blank, Says}
 use Rattle.bh_http.proofs.ArrivingLemmas.{no_head_of_none}
 use Rattle.bh_link.proofs.TakingLemmas.{consumes_none, consumes_kept, consumes_pushed, part_none, part_pushed, opens_pushed, opens_never, opens_limit, started_pushed, none_pushed, if_err}
 use Rattle.bh_link.proofs.request.take_head.Goals as goal
-use Rattle.bh_link.proofs.request.take_head.Goals.{then-may_end+in_ok-search+in-NotYet, else-may_end}
+use Rattle.bh_link.proofs.request.take_head.Goals.{then-may_end+in-NotYet, else-may_end}
 
 none_consumed : (old : Option (List ℕ)) (items : List ℕ) → items ≡ [] → Consumes old old items
 none_consumed old items none = let P : List ℕ → Type 0 = λ t. Consumes old old t in subst P (sym none) (consumes_none old)
@@ -44,15 +44,6 @@ returns-in_err-push-clause-within g c =
     let consumed = consumes_pushed _ _ _ bytes (bytes ++ byte ∷ []) byte refl so_far.consumed taken in
     if_err c.from_residual-in_err-push.result (bytes ++ byte ∷ [], part_pushed c.args.limits.now _ _ bytes (bytes ++ byte ∷ []) byte refl consumed so_far.none)
 
-pub returns-in_err-search-clause-within : goal.returns-in_err-search-clause-within
-returns-in_err-search-clause-within g c =
-    let so_far = c.loop-count.invariant in
-    let bytes = c.loop-count.bytes.items in
-    let byte = c.in-Some.byte in
-    let taken = rw c.in-Some.is at c.in_ok-byte.ensures.byte in
-    let consumed = consumes_pushed _ _ _ bytes c.push.new.bytes.items byte c.in_ok-push.ensures so_far.consumed taken in
-    if_err c.from_residual-in_err-search.result (c.push.new.bytes.items, part_pushed c.args.limits.now _ _ bytes c.push.new.bytes.items byte c.in_ok-push.ensures consumed so_far.none)
-
 pub returns-in-Body-clause-opens : goal.returns-in-Body-clause-opens
 returns-in-Body-clause-opens g c =
     let so_far = c.loop-count.invariant in
@@ -62,7 +53,7 @@ returns-in-Body-clause-opens g c =
     let taken = rw c.in-Some.is at c.in_ok-byte.ensures.byte in
     let consumed = consumes_pushed _ _ _ bytes next byte c.in_ok-push.ensures so_far.consumed taken in
     let P : List ℕ → Type 0 = λ t. Says c.args.limits.now t (Body c.in-Body.body) in
-    let said = subst P c.as_slice-then-may_end.ensures.value (rw c.in-Body.is at c.in_ok-search.ensures) in
+    let said = subst P c.as_slice-then-may_end.ensures.value (rw c.in-Body.is at c.search.ensures) in
     opens_pushed c.args.limits.now _ _ bytes next byte c.in-Body.body c.in_ok-push.ensures consumed so_far.none said
 
 pub returns-in-Refused-clause-opens : goal.returns-in-Refused-clause-opens
@@ -74,7 +65,7 @@ returns-in-Refused-clause-opens g c =
     let taken = rw c.in-Some.is at c.in_ok-byte.ensures.byte in
     let consumed = consumes_pushed _ _ _ bytes next byte c.in_ok-push.ensures so_far.consumed taken in
     let P : List ℕ → Type 0 = λ t. Says c.args.limits.now t Refused in
-    let said = subst P c.as_slice-then-may_end.ensures.value (rw c.in-Refused.is at c.in_ok-search.ensures) in
+    let said = subst P c.as_slice-then-may_end.ensures.value (rw c.in-Refused.is at c.search.ensures) in
     opens_never c.args.limits.now _ _ next consumed said
 
 pub loop-count-preserved : goal.loop-count-preserved
@@ -89,7 +80,7 @@ loop-count-preserved g c =
     let P : List ℕ → Type 0 = λ t. Says c.args.limits.now t NotYet in
     let Q : List ℕ → Type 0 = λ t. HasNoHead t in
     let none : HasNoHead next = elim c.if-may_end.branch [
-      | then-may_end+in_ok-search+in-NotYet w ↦ subst Q w.as_slice-then-may_end.ensures.value (rw w.in-NotYet.is at w.in_ok-search.ensures)
+      | then-may_end+in-NotYet w ↦ subst Q w.as_slice-then-may_end.ensures.value (rw w.in-NotYet.is at w.search.ensures)
       | else-may_end w ↦ none_pushed bytes next byte c.has_started-started.result same so_far.none started (open_end _ _ _ next c.as_slice.ensures.value c.may_end.ensures w.if-may_end.false)
     ] in
     record {

@@ -1,20 +1,19 @@
-use Rattle.std.proofs.Common.{sym, ◌∙◌}
-use Rattle.std.proofs.lemmas.Result.{IfOk-at_ok}
+use Rattle.std.proofs.lemmas.Result.{err_from_is_err_and}
 use Rattle.sqlite.specs.Held.{state}
+use Rattle.bh_view.specs.View.{view}
 use Rattle.bh_schema.specs.Working.{tables_at}
-use Rattle.bh_schema.proofs.Storing.{on_ok}
-use Rattle.bh_objects.proofs.Working.{same_tables}
-use Rattle.bh_objects.proofs.Found.{counts_read, no_counts}
+use Rattle.bh_types.specs.Counts.{Counts}
+use Rattle.bh_objects.specs.declared.reads.Account.{Account}
+use Rattle.bh_objects.proofs.Found.{account_counts, counts_failed}
 use Rattle.bh_objects.proofs.reads.next_counters.Goals as goal
 
-pub returns-in-Some-new-clause-decides : goal.returns-in-Some-new-clause-decides
-returns-in-Some-new-clause-decides g c clean =
-    let old = state g.S.Store c.args.connection.now in
-    let new = state g.S.Store c.find_tenant.new.connection in
-    (counts_read (tables_at old) c.args.tenant.now c.in-Some.numbers c.in-Some-new.counters (sym c.in-Some.is ∙ rw c.as_str.ensures.value at (IfOk-at_ok _ c.in_ok-numbers.ensures.ok c.find_tenant.ensures.found clean)) c.in-Some-new.ensures.1, same_tables old new (on_ok _ c.in_ok-numbers.ensures.ok c.find_tenant.ensures.same clean.intact))
+pub returns-in_err-account-clause-decides : goal.returns-in_err-account-clause-decides
+returns-in_err-account-clause-decides g c clean =
+    let p = err_from_is_err_and c.from_residual.result c.from_residual.ensures.1 in
+    rw (p.1, p.2) (counts_failed (λ (a : Account). (a.quota, a.counters)) (λ (x : Counts). x) (view (tables_at (state g.S.Store c.args.connection.now)) c.args.tenant.now)
+    (tables_at (state g.S.Store c.args.connection.now)) (tables_at (state g.S.Store c.tenant_account.new.connection)) c.in_err-account.field-0.0 (c.in_err-account.ensures.decides clean))
 
-pub returns-in-None-clause-decides : goal.returns-in-None-clause-decides
-returns-in-None-clause-decides g c clean =
-    let old = state g.S.Store c.args.connection.now in
-    let new = state g.S.Store c.find_tenant.new.connection in
-    (no_counts (tables_at old) c.args.tenant.now (sym c.in-None.is ∙ rw c.as_str.ensures.value at (IfOk-at_ok _ c.in_ok-numbers.ensures.ok c.find_tenant.ensures.found clean)), same_tables old new (on_ok _ c.in_ok-numbers.ensures.ok c.find_tenant.ensures.same clean.intact))
+pub returns-clause-decides : goal.returns-clause-decides
+returns-clause-decides g c clean =
+    let it = c.in_ok-account.ensures.decides clean in
+    (account_counts (view (tables_at (state g.S.Store c.args.connection.now)) c.args.tenant.now) (c.in_ok-account.account.quota, c.in_ok-account.account.counters) it.0, it.1)

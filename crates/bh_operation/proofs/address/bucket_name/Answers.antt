@@ -1,5 +1,4 @@
-use Rattle.std.proofs.Common.{refl, ap, sym, ◌∙◌}
-use Rattle.std.specs.Option.{is_some}
+use Rattle.std.proofs.Common.{refl, sym}
 use Rattle.std.proofs.lemmas.Bool.{false_from_ne_true, false≢true}
 use Rattle.bh_types.specs.Names.{is_bucket_name}
 use Rattle.bh_operation.specs.Addresses.{bucket_name}
@@ -8,4 +7,4 @@ use Rattle.bh_operation.proofs.address.bucket_name.Goals as goal
 pub returns-in-None : goal.returns-in-None
 unfolding bucket_name
 returns-in-None c =
-    rw (false_from_ne_true (is_bucket_name c.args.text.now) (λ h. false≢true (sym (ap is_some c.in-None.is) ∙ c.in_ok-bucket.ensures.found.1 h))) refl
+    rw (sym c.into_string.ensures) (rw (false_from_ne_true (is_bucket_name _) (λ h. false≢true (c.in-None.ensures.found.1 h))) refl)

@@ -1,4 +1,3 @@
-use Rattle.std.proofs.Common.{ap, ◌∙◌}
 use Rattle.sqlite.specs.Held.{state}
 use Rattle.bh_schema.proofs.Storing.{on_ok}
 use Rattle.bh_schema.specs.Working.{tables_at}
@@ -15,7 +14,7 @@ returns-clause-holds g c = on_ok_then c.add_part.result _ _ (λ holds clean.
     let it = holds clean in
     record {
       within = it.within;
-      is = part_chain g.D.Digester.digest_of c.args.block_size part.upload.tenant.now c.args.upload part.number part.bytes.now part.at c.args.entry
+      is = part_chain g.D.Digester.digest_of c.args.block_size part.upload.tenant.now c.args.upload part.number part.bytes.now part.at c.args.taken.entry c.args.taken.replaced
           (tables_at (state g.S.Store c.args.connection.now)) (tables_at (state g.S.Store c.set_next_entry.new.connection)) (tables_at (state g.S.Store c.store_body.new.connection)) (tables_at (state g.S.Store c.drop_old.new.connection)) (tables_at (state g.S.Store c.add_part.new.connection))
           (c.in_ok-set_next_entry.ensures.holds clean_entry).is
           (rw c.as_str.ensures.value at (on_ok _ c.in_ok-or_trouble.ensures.ok c.store_body.ensures.stored clean_body).is)

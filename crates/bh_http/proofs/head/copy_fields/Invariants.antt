@@ -1,7 +1,0 @@
-use Rattle.std.proofs.Common.{◌≡◌, take, map}
-use Rattle.httparse.specs.Spans.{header_bytes}
-use Rattle.bh_http.specs.Views.{pairs_of}
-use Rattle.bh_http.proofs.head.copy_fields.Given as goal
-
-abbrev pub invariant-loop-header : goal.invariant-loop-header
-invariant-loop-header l = pairs_of l.fields.items ≡ map (header_bytes l.bytes) (take l.header-index l.headers)
