@@ -4,7 +4,7 @@ use crate::answer::{Answer, Fault, refusal, refused, text_or_none};
 use crate::entries;
 use crate::shown::operation_text;
 use bh_http::read::read_request;
-use bh_http::request::Request;
+use bh_http::request::{Fields, Request};
 use bh_operation::allow::allow_of;
 use bh_operation::operation::{Operation, operation_of};
 use bh_types::error::RequestError;
@@ -47,14 +47,16 @@ fn asks(alloc: Global, input: &str) -> Answer {
     }
 }
 
-/// The same, of the request GET /plans/x with these bytes as its target: no such target comes out of the bytes of a
+/// The same, of a GET without header fields whose target is these bytes: no such target comes out of the bytes of a
 /// request.
 pub fn asks_of_target(alloc: Global, target: &[u8]) -> Answer {
-    let head = head_of(alloc, "GET /plans/x")?;
-    match read_request(head.as_bytes(), &Limits::default()) {
-        Ok(request) => asked(alloc, &Request { target, ..request }),
-        Err(why) => refusal(alloc, why),
-    }
+    let request = Request {
+        method: b"GET",
+        target,
+        fields: Fields::new(),
+        body: b"",
+    };
+    asked(alloc, &request)
 }
 
 fn asked(alloc: Global, request: &Request) -> Answer {
