@@ -8,7 +8,8 @@ instructions of SHA-256 all are. Two runs of each kind differ by so many request
 difference over their number. So what the program does once (its start, the tenant, the first statements' texts) doesn't
 count. `script` answers a script of standard input on a host in memory; `serve` answers over loopback on a file in
 /dev/shm, and puts new blocks and known ones. Counts are those of one processor's program alone: they don't change with
-what runs beside it, and say nothing of the kernel.
+what runs beside it, and say nothing of the kernel. Each byte that the C library fills by `rep stosb` or copies by
+`rep movsb` (a `memset` of 4 KiB, a `memcpy` of 64 KiB) counts as an instruction.
 """
 import os
 import re
