@@ -13,7 +13,7 @@ use bh_schema::host::Digester;
 use sqlite::{Alter, Connection, Error, ErrorCode, Row};
 
 /// What a block is found by.
-#[derive(Clone, Copy, Debug, PartialEq, Eq)]
+#[derive(Clone, Copy, PartialEq, Eq)]
 pub struct BlockName {
     /// Of the block's bytes.
     pub digest: [u8; 32],

@@ -5,7 +5,7 @@ use bh_schema::host::Digester;
 use sha2::{Digest, Sha256};
 
 /// SHA-256 (FIPS 180-4).
-#[derive(Clone, Copy, Debug, PartialEq, Eq)]
+#[derive(Clone, Copy, PartialEq, Eq)]
 pub struct Sha256Digester;
 
 impl Digester for Sha256Digester {

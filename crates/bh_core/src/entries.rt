@@ -7,7 +7,7 @@ use bh_types::refusal::Refusal;
 use bh_types::wanted::Wanted;
 
 /// What a lookup has to know of a version or a delete marker of one key.
-#[derive(Clone, Copy, Debug, PartialEq, Eq)]
+#[derive(Clone, Copy, PartialEq, Eq)]
 pub struct Entry {
     /// Its id.
     pub id: VersionId,

@@ -12,7 +12,7 @@ use bh_types::wanted::Named;
 use std::alloc::Global;
 
 /// What the completion of an upload has to know of one of its parts.
-#[derive(Debug, Drop)]
+#[derive(Drop)]
 pub struct PartRow {
     /// The part's number.
     pub number: u32,

@@ -10,7 +10,7 @@ use bh_types::refusal::Refusal;
 use bh_types::wanted::Wanted;
 
 /// What a put makes of a key's entries: one more, the newest.
-#[derive(Clone, Copy, Debug, PartialEq, Eq)]
+#[derive(Clone, Copy, PartialEq, Eq)]
 pub struct PutPlan {
     /// The new entry's id.
     pub id: VersionId,
@@ -23,7 +23,7 @@ pub struct PutPlan {
 }
 
 /// What a delete makes of a key's entries.
-#[derive(Clone, Copy, Debug, PartialEq, Eq)]
+#[derive(Clone, Copy, PartialEq, Eq)]
 pub enum DeletePlan {
     /// Nothing.
     Nothing,

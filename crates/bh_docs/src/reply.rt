@@ -76,7 +76,7 @@ fn buckets_value(alloc: Global, buckets: &[BucketEntry]) -> Result<Value, AllocE
 }
 
 /// What a tenant stores. Sizes are in bytes.
-#[derive(Clone, Copy, Debug, PartialEq, Eq)]
+#[derive(Clone, Copy, PartialEq, Eq)]
 pub struct Usage {
     pub buckets: u64,
     /// Of versions and of uploads' parts together, as the quota counts them.

@@ -41,7 +41,7 @@ pub enum Reply {
 }
 
 /// Who asks: this decides the form of a fixed text.
-#[derive(Clone, Copy, Debug, PartialEq, Eq)]
+#[derive(Clone, Copy, PartialEq, Eq)]
 pub enum Caller {
     Request,
     Operator,

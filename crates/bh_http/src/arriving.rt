@@ -14,7 +14,7 @@ use httparse::Status;
 use httparse::spans::{EMPTY_HEADER_SPAN, HeaderSpan, RequestSpans, parse_request};
 
 /// What the bytes so far say of the request that they begin.
-#[derive(Clone, Copy, Debug)]
+#[derive(Clone, Copy)]
 pub enum Arriving {
     /// No front is a head, and more bytes may make one.
     NotYet,

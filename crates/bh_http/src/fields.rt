@@ -5,7 +5,7 @@ ghost use Rattle.bh_http.specs.Views.{pair_of, pairs_of};
 use crate::request::Field;
 
 /// How often a header field stands in a request, and its value where it stands once.
-#[derive(Clone, Copy, Debug)]
+#[derive(Clone, Copy)]
 pub enum Given<'a> {
     /// It does not stand.
     Missing,

@@ -4,7 +4,7 @@ ghost use Rattle.bh_http.specs.Values.{content_type_text, allow_text};
 use std::fmt;
 
 /// What a response's body is (RFC 9110, section 8.3).
-#[derive(Clone, Copy, Debug, PartialEq, Eq)]
+#[derive(Clone, Copy, PartialEq, Eq)]
 pub enum ContentType {
     /// A JSON document: `application/json`.
     Json,
@@ -36,7 +36,7 @@ impl fmt::Display for ContentType {
 }
 
 /// Which bytes of an object are sent, or that the asked ones can't be (RFC 9110, section 14.4).
-#[derive(Clone, Copy, Debug, PartialEq, Eq)]
+#[derive(Clone, Copy, PartialEq, Eq)]
 pub enum ContentRange {
     /// The bytes from `first` to `last`, both included and counted from 0, of an object of `size`
     /// bytes.
@@ -60,7 +60,7 @@ impl fmt::Display for ContentRange {
 }
 
 /// The methods that a target takes (RFC 9110, section 10.2.1), by what the target is.
-#[derive(Clone, Copy, Debug, PartialEq, Eq)]
+#[derive(Clone, Copy, PartialEq, Eq)]
 pub enum Allow {
     /// The target `/`.
     Service,

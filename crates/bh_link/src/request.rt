@@ -15,7 +15,7 @@ use std::io::Read;
 const PIECE: usize = 16384;
 
 /// Why no request was taken.
-#[derive(Clone, Copy, Debug, PartialEq, Eq)]
+#[derive(Clone, Copy, PartialEq, Eq)]
 pub enum TakeError {
     /// The reader failed.
     ReadFailed,

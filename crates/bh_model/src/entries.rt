@@ -12,7 +12,7 @@ use std::alloc::AllocError;
 use std::marker::Model;
 
 /// What an entry holds.
-#[derive(Debug, Drop)]
+#[derive(Drop)]
 pub enum Content {
     /// A delete marker.
     Marker,
@@ -21,7 +21,7 @@ pub enum Content {
 }
 
 /// A version or a delete marker of one key.
-#[derive(Debug, Drop)]
+#[derive(Drop)]
 pub struct Entry {
     /// Its id.
     pub id: VersionId,
@@ -41,7 +41,7 @@ impl Model for Entry {
 }
 
 /// An object's version that a lookup found.
-#[derive(Debug, Drop)]
+#[derive(Drop)]
 pub struct Version<'a> {
     /// Its id.
     pub id: VersionId,
@@ -62,7 +62,7 @@ impl<'a> Model for Version<'a> {
 }
 
 /// Why a lookup gives no version.
-#[derive(Clone, Copy, Debug, PartialEq, Eq)]
+#[derive(Clone, Copy, PartialEq, Eq)]
 pub struct LookupFault {
     /// The refusal.
     pub refusal: Refusal,

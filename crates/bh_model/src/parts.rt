@@ -20,7 +20,7 @@ use std::alloc::{AllocError, Global};
 use std::marker::Model;
 
 /// A part of an upload.
-#[derive(Debug, Drop)]
+#[derive(Drop)]
 pub struct Part {
     /// Its number, by which it is known.
     pub number: u32,

@@ -7,7 +7,7 @@ use crate::parts::Part;
 use std::marker::Model;
 
 /// An upload that is neither completed nor aborted.
-#[derive(Debug, Drop)]
+#[derive(Drop)]
 pub struct Upload {
     /// Its number, by which it is known.
     pub number: u64,

@@ -92,7 +92,7 @@ pub fn next_counters<S: Alter>(
 }
 
 /// The numbers of a new entry.
-#[derive(Clone, Copy, Debug, PartialEq, Eq)]
+#[derive(Clone, Copy, PartialEq, Eq)]
 pub struct Numbers {
     /// The tenant's counters, which give them.
     pub before: Counters,

@@ -27,7 +27,7 @@ use bh_types::names::TenantName;
 use sqlite::{Alter, Connection};
 
 /// An object that is sent whole.
-#[derive(Clone, Copy, Debug)]
+#[derive(Clone, Copy)]
 pub struct NewObject<'a> {
     pub tenant: &'a TenantName,
     pub bucket: &'a BucketName,
@@ -174,7 +174,7 @@ pub fn drop_replaced<S: Alter>(
 }
 
 /// A version that is added to a key, whose body is stored.
-#[derive(Clone, Copy, Debug)]
+#[derive(Clone, Copy)]
 pub struct AddedVersion<'a> {
     pub tenant: &'a TenantName,
     pub bucket: &'a BucketName,

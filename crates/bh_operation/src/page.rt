@@ -23,7 +23,7 @@ pub struct Page {
 }
 
 /// The parts that a listing of an upload asks for.
-#[derive(Clone, Copy, Debug, PartialEq, Eq)]
+#[derive(Clone, Copy, PartialEq, Eq)]
 pub struct PartPage {
     /// How many parts the page has at most: 0 to 1,000.
     pub size: u64,

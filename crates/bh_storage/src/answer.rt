@@ -36,7 +36,7 @@ pub enum Answer {
 }
 
 /// What a delete answers.
-#[derive(Clone, Copy, Debug, PartialEq, Eq)]
+#[derive(Clone, Copy, PartialEq, Eq)]
 pub struct RemovedEntry {
     /// The id of the delete marker that was made, or of the entry that was taken out by its id, where the bucket is
     /// or was versioned.

@@ -4,7 +4,7 @@ use bh_types::rejection::Rejection;
 use std::alloc::AllocError;
 
 /// Why a call was not carried out though nothing is wrong with what it asks.
-#[derive(Clone, Copy, Debug, PartialEq, Eq)]
+#[derive(Clone, Copy, PartialEq, Eq)]
 pub enum Trouble {
     /// A growth of memory was refused.
     Memory,
@@ -24,7 +24,7 @@ impl From<AllocError> for Trouble {
 }
 
 /// Why a step of a tenant gave nothing: refused for a reason `E`, or for want of memory or the store.
-#[derive(Clone, Copy, Debug, PartialEq, Eq)]
+#[derive(Clone, Copy, PartialEq, Eq)]
 pub enum StepError<E> {
     /// A numbered refusal: the tables are as they were.
     Refused(E),

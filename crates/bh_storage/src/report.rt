@@ -1,5 +1,5 @@
 /// What a sweep removed.
-#[derive(Clone, Copy, Debug, PartialEq, Eq)]
+#[derive(Clone, Copy, PartialEq, Eq)]
 pub struct SweepReport {
     /// So many stale uploads.
     pub uploads: u32,
@@ -10,7 +10,7 @@ pub struct SweepReport {
 }
 
 /// How much all tenants together have stored.
-#[derive(Clone, Copy, Debug, PartialEq, Eq)]
+#[derive(Clone, Copy, PartialEq, Eq)]
 pub struct StoreReport {
     /// Blocks, of which no two hold equal bytes.
     pub blocks: u64,

@@ -11,7 +11,7 @@ use std::marker::Model;
 /// A bucket's name: 3 to 63 of a to z, 0 to 9, dot and hyphen, the first and the last a letter or
 /// digit, no two dots together, and no four groups of 1 to 3 digits joined by dots. These are the
 /// rules of the Amazon S3 User Guide, "General purpose bucket naming rules", without its forbidden beginnings and ends.
-#[derive(Clone, Debug, Drop)]
+#[derive(Clone, Drop)]
 pub struct BucketName {
     name: String,
 }

@@ -1,7 +1,7 @@
 ghost use Rattle.std.specs.Prelude.{◌≡◌, ◌≢◌, IfSome, IfNone};
 
 /// Whether a bucket keeps the versions of its objects, as S3's versioning has it.
-#[derive(Clone, Copy, Debug, PartialEq, Eq)]
+#[derive(Clone, Copy, PartialEq, Eq)]
 pub enum BucketState {
     /// A new bucket: each key has at most one version, `null`.
     Unversioned,

@@ -9,7 +9,7 @@ pub const COUNTER_END: u64 = 1 << 62;
 
 /// The next number that each of a tenant's counters gives, from 1; [`COUNTER_END`] where the
 /// counter is used up.
-#[derive(Clone, Copy, Debug, PartialEq, Eq)]
+#[derive(Clone, Copy, PartialEq, Eq)]
 pub struct Counters {
     /// For numbered version ids.
     pub version: u64,

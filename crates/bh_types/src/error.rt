@@ -2,7 +2,7 @@ use crate::refusal::Refusal;
 use std::alloc::AllocError;
 
 /// Why a step of a request gave nothing: it was refused, or memory ran out.
-#[derive(Clone, Copy, Debug, PartialEq, Eq)]
+#[derive(Clone, Copy, PartialEq, Eq)]
 pub enum RequestError {
     /// The request is refused.
     Refused(Refusal),

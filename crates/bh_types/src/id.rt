@@ -9,7 +9,7 @@ use std::alloc::{AllocError, Global};
 
 /// A version's id: `null` (Amazon S3 User Guide, "How S3 Versioning works"), or the tenant's version counter in 16
 /// lower hexadecimal digits (RFC 4648, section 8).
-#[derive(Clone, Copy, Debug, PartialEq, Eq)]
+#[derive(Clone, Copy, PartialEq, Eq)]
 pub enum VersionId {
     /// The version that a bucket without versioning keeps.
     Null,
@@ -18,7 +18,7 @@ pub enum VersionId {
 }
 
 /// An upload's id: the tenant's upload counter in 16 lower hexadecimal digits (RFC 4648, section 8).
-#[derive(Clone, Copy, Debug, PartialEq, Eq, PartialOrd, Ord)]
+#[derive(Clone, Copy, PartialEq, Eq, PartialOrd, Ord)]
 pub struct UploadId {
     /// The number that the digits are.
     pub number: u64,

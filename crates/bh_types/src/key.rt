@@ -6,7 +6,7 @@ use crate::bytes::has_length;
 use std::marker::Model;
 
 /// An object's key: 1 to 1,024 bytes of UTF-8, as the Amazon S3 User Guide has them ("Naming Amazon S3 objects").
-#[derive(Clone, Debug, Drop)]
+#[derive(Clone, Drop)]
 pub struct ObjectKey {
     key: String,
 }

@@ -74,7 +74,7 @@ impl Default for Limits {
 }
 
 /// What a process is set to; it may differ each time that a host is opened.
-#[derive(Clone, Copy, Debug, PartialEq, Eq)]
+#[derive(Clone, Copy, PartialEq, Eq)]
 pub struct Tuning {
     /// The size in bytes of the blocks that bodies are cut into.
     pub block_size: u64,

@@ -7,7 +7,7 @@ use std::alloc::{AllocError, Global};
 use std::marker::Model;
 
 /// A tenant's name: 1 to 32 of a to z, 0 to 9. Tenants are those of the Ceph Object Gateway ("Multitenancy").
-#[derive(Clone, Debug, Drop)]
+#[derive(Clone, Drop)]
 pub struct TenantName {
     name: String,
 }
@@ -48,7 +48,7 @@ impl TenantName {
 }
 
 /// An access key's name within its tenant: 1 to 32 of a to z, 0 to 9.
-#[derive(Clone, Debug, Drop)]
+#[derive(Clone, Drop)]
 pub struct KeyName {
     key: String,
 }

@@ -1,5 +1,5 @@
 /// Which bytes of an object are answered, by their positions from 0.
-#[derive(Clone, Copy, Debug, PartialEq, Eq)]
+#[derive(Clone, Copy, PartialEq, Eq)]
 pub enum RangePlan {
     /// All of them.
     Whole,

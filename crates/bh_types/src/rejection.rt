@@ -1,7 +1,7 @@
 use crate::refusal::Refusal;
 
 /// What the response to a refusal tells beside the refusal.
-#[derive(Clone, Copy, Debug, PartialEq, Eq)]
+#[derive(Clone, Copy, PartialEq, Eq)]
 pub enum Detail {
     /// Nothing more.
     Nothing,
@@ -14,7 +14,7 @@ pub enum Detail {
 }
 
 /// A refusal, with what its response tells.
-#[derive(Clone, Copy, Debug, PartialEq, Eq)]
+#[derive(Clone, Copy, PartialEq, Eq)]
 pub struct Rejection {
     pub refusal: Refusal,
     pub detail: Detail,

@@ -1,7 +1,7 @@
 use crate::id::VersionId;
 
 /// Which version of a key a request speaks of.
-#[derive(Clone, Copy, Debug, PartialEq, Eq)]
+#[derive(Clone, Copy, PartialEq, Eq)]
 pub enum Wanted {
     /// No id is given: the newest.
     Current,
@@ -12,7 +12,7 @@ pub enum Wanted {
 }
 
 /// A part as the completion of an upload names it.
-#[derive(Clone, Debug, PartialEq, Eq, Drop)]
+#[derive(Clone, PartialEq, Eq, Drop)]
 pub struct Named {
     /// The part's number.
     pub number: u32,

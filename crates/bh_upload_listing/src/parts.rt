@@ -24,7 +24,7 @@ use sqlite::{Alter, Connection, Error, Row};
 use std::alloc::{AllocError, Global};
 
 /// Which page of an upload's parts is asked for.
-#[derive(Clone, Copy, Debug)]
+#[derive(Clone, Copy)]
 pub struct PartsAsked {
     /// How many parts the page has at most.
     pub max: u32,

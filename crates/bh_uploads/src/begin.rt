@@ -27,7 +27,7 @@ use sqlite::{Alter, Connection};
 use std::alloc::Global;
 
 /// A multipart upload that is to begin.
-#[derive(Clone, Copy, Debug)]
+#[derive(Clone, Copy)]
 pub struct NewUpload<'a> {
     pub tenant: &'a TenantName,
     pub bucket: &'a BucketName,

@@ -32,7 +32,7 @@ use std::alloc::Global;
 const LAST_PART: u32 = 10_000;
 
 /// A part that is sent whole.
-#[derive(Clone, Copy, Debug)]
+#[derive(Clone, Copy)]
 pub struct NewPart<'a> {
     pub upload: NamedUpload<'a>,
     /// 1 to 10,000.

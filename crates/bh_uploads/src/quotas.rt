@@ -54,7 +54,7 @@ fn replaced_part<S: Alter>(
 }
 
 /// The entry number that a part takes, and that of the body of the part that it replaces, if there is one.
-#[derive(Clone, Copy, Debug, PartialEq, Eq)]
+#[derive(Clone, Copy, PartialEq, Eq)]
 pub struct PartEntry {
     pub entry: u64,
     pub replaced: Option<u64>,

@@ -24,7 +24,7 @@ use sqlite::{Alter, Connection};
 use std::alloc::Global;
 
 /// An upload, as a request names it.
-#[derive(Clone, Copy, Debug)]
+#[derive(Clone, Copy)]
 pub struct NamedUpload<'a> {
     pub tenant: &'a TenantName,
     pub bucket: &'a BucketName,
@@ -34,7 +34,7 @@ pub struct NamedUpload<'a> {
 }
 
 /// An upload that was found.
-#[derive(Clone, Copy, Debug, PartialEq, Eq)]
+#[derive(Clone, Copy, PartialEq, Eq)]
 pub struct FoundUpload {
     /// The state of its bucket.
     pub mode: BucketState,
