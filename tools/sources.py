@@ -16,6 +16,7 @@ class Function:
 
     name: str
     owner: str  # the type or trait whose method it is, or ""
+    trait: str  # the trait that its type implements by it, or ""
     is_private: bool  # a free function that only its crate can name
     first: int
     body: int
@@ -24,17 +25,17 @@ class Function:
 
 def functions(lines):
     """The functions of a file that have a body of their own lines."""
-    found, owner = [], ""
+    found, owner, trait = [], "", ""
     for at, line in enumerate(lines):
         if impl := IMPL.match(line):
-            owner = impl["type"].rpartition(":")[2]
+            owner, trait = impl["type"].rpartition(":")[2], (impl["trait"] or "").rpartition(":")[2]
         elif line == "}":
-            owner = ""
+            owner = trait = ""
         head = FUNCTION.match(line)
         body = head and body_of(lines, at, head[1])
         if body:
             is_private = not owner and not head[1] and not head[2]
-            found.append(Function(head[3], owner, is_private, at, *body))
+            found.append(Function(head[3], owner, trait, is_private, at, *body))
     return found
 
 
