@@ -6,7 +6,7 @@ from dataclasses import dataclass
 
 FUNCTION = re.compile(r'( *)(pub(?:\([^)]*\))? )?(?:const |unsafe |extern "[^"]*" )*fn (\w+)')
 CLAUSE = re.compile(r" *(?:requires|ensures|ghost)\b")
-IMPL = re.compile(r"( *)(?:unsafe )?(?:impl\b(?:<.*?>)? (?:(?P<trait>\w[\w:]*)(?:<.*>)? for )?|trait )(?P<type>\w[\w:]*)")
+IMPL = re.compile(r"( *)(?:unsafe )?(?:impl\b(?:<.*?>)? (?:(?P<trait>\w[\w:]*)(?P<of><.*>)? for )?|trait )(?P<type>\w[\w:]*)")
 TEST_MODULE = re.compile(r"(?:pub )?mod (\w+)(;| \{)$")
 
 
@@ -16,7 +16,7 @@ class Function:
 
     name: str
     owner: str  # the type or trait whose method it is, or ""
-    trait: str  # the trait that its type implements by it, or ""
+    trait: str  # the trait that its type implements by it, with the trait's own types, as `FromRefusal`, or ""
     is_private: bool  # a free function that only its crate can name
     first: int
     body: int
@@ -28,7 +28,8 @@ def functions(lines):
     found, owner, trait = [], "", ""
     for at, line in enumerate(lines):
         if impl := IMPL.match(line):
-            owner, trait = impl["type"].rpartition(":")[2], (impl["trait"] or "").rpartition(":")[2]
+            owner = impl["type"].rpartition(":")[2]
+            trait = "".join(re.findall(r"(?<!')\b\w+\b(?!::)", (impl["trait"] or "") + (impl["of"] or "")))
         elif line == "}":
             owner = trait = ""
         head = FUNCTION.match(line)
