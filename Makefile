@@ -4,7 +4,7 @@
 # COMMAND..' tells it of any run). wrong-bodies: tries and stamps the wrong bodies whose stamp isn't true any more
 # (wrong-bodies/README.md); of one crate by CRATE=bh_docs. stamps: what CI asks of them, every stamp true and those of one
 # crate refused anew. lint: the layout of all sources.
-# bench: the program's speed and memory; lookups: the time of lookups by key at 1,000 and 100,000 rows on a file; versions:
+# bench: the program's speed and memory; lookups: the time of lookups by key at 1,000 and 100,000 rows; versions:
 # that of requests on many versions and keys; serving: puts and gets over sockets beside nginx; bodies: those of small and
 # great bodies, new and known, and their memory; blocks: the time of a block among 1,000 and 100,000; uploads: that of a part
 # among 1,000 and 10,000; pages: that of pages of a listing; quotas: what a quota and rules for uploads cost; sweeps: a
