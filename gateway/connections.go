@@ -3,54 +3,39 @@ package main
 import (
 	"net"
 	"sync"
+	"sync/atomic"
 	"time"
 )
 
 // How many bytes a client has to take within the time that it may be silent.
 const writeSlice = 128 << 10
 
-// patientConn breaks off when its client is silent for a while within a request. Between requests http.Server sets the times.
+// patientConn breaks off when its client is silent for a while within a request; between requests http.Server sets the time.
 type patientConn struct {
 	net.Conn
-	silence  time.Duration
-	mu       sync.Mutex
-	deadline time.Time // that of http.Server, if it has set one
-	release  func()
-	once     sync.Once
+	silence time.Duration
+	isTimed atomic.Bool // by http.Server
+	release func()
+	once    sync.Once
 }
 
 func (c *patientConn) SetReadDeadline(t time.Time) error {
-	c.mu.Lock()
-	defer c.mu.Unlock()
-	c.deadline = t
+	c.isTimed.Store(!t.IsZero())
 	return c.Conn.SetReadDeadline(t)
 }
 
-func (c *patientConn) SetDeadline(t time.Time) error {
-	if err := c.SetReadDeadline(t); err != nil {
-		return err
-	}
-	return c.Conn.SetWriteDeadline(t)
-}
-
 func (c *patientConn) Read(b []byte) (int, error) {
-	c.mu.Lock()
-	if c.deadline.IsZero() {
+	if !c.isTimed.Load() {
 		c.Conn.SetReadDeadline(time.Now().Add(c.silence))
 	}
-	c.mu.Unlock()
 	return c.Conn.Read(b)
 }
 
 func (c *patientConn) Write(b []byte) (written int, err error) {
 	for len(b) > written && err == nil {
-		end := written + writeSlice
-		if end > len(b) {
-			end = len(b)
-		}
-		c.Conn.SetWriteDeadline(time.Now().Add(c.silence))
 		var n int
-		n, err = c.Conn.Write(b[written:end])
+		c.Conn.SetWriteDeadline(time.Now().Add(c.silence))
+		n, err = c.Conn.Write(b[written:min(len(b), written+writeSlice)])
 		written += n
 	}
 	return written, err

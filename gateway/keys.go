@@ -1,7 +1,6 @@
 package main
 
 import (
-	"bufio"
 	"fmt"
 	"log"
 	"os"
@@ -12,19 +11,15 @@ import (
 
 // keyFile holds the access keys of a file, which is read again within a second of a change.
 type keyFile struct {
-	name    string
-	mu      sync.Mutex
-	looked  time.Time
-	changed time.Time
-	secrets map[string]string
+	name            string
+	mu              sync.Mutex
+	looked, changed time.Time
+	secrets         map[string]string
 }
 
 func openKeys(name string) (*keyFile, error) {
-	secrets, changed, err := readKeys(name)
-	if err != nil {
-		return nil, err
-	}
-	return &keyFile{name: name, looked: time.Now(), changed: changed, secrets: secrets}, nil
+	k := &keyFile{name: name}
+	return k, k.read()
 }
 
 // The secret of an access key's id. Where a changed file can't be read, the keys stay that were read last.
@@ -32,55 +27,43 @@ func (k *keyFile) secret(id string) (string, bool) {
 	k.mu.Lock()
 	defer k.mu.Unlock()
 	if time.Since(k.looked) >= time.Second {
-		k.looked = time.Now()
-		if info, err := os.Stat(k.name); err == nil && !info.ModTime().Equal(k.changed) {
-			secrets, changed, err := readKeys(k.name)
-			if k.changed = changed; err == nil {
-				k.secrets = secrets
-			} else {
-				log.Print(err)
-			}
+		if err := k.read(); err != nil {
+			log.Print(err)
 		}
 	}
 	secret, ok := k.secrets[id]
 	return secret, ok
 }
 
-// Reads lines 'tenant$name secret'; empty ones and those that begin with # are passed over.
-func readKeys(name string) (map[string]string, time.Time, error) {
-	file, err := os.Open(name)
-	if err != nil {
-		return nil, time.Time{}, err
-	}
-	defer file.Close()
-	info, err := file.Stat()
-	if err != nil {
-		return nil, time.Time{}, err
+// Reads lines 'tenant$name secret', if the file has changed; empty ones and those that begin with # are passed over.
+func (k *keyFile) read() error {
+	k.looked = time.Now()
+	info, err := os.Stat(k.name)
+	if err != nil || info.ModTime().Equal(k.changed) {
+		return err
 	}
 	if info.Mode().Perm()&0o077 != 0 {
-		return nil, info.ModTime(), fmt.Errorf("%s: others may read or write it: chmod 600", name)
+		return fmt.Errorf("%s: others may read or write it: chmod 600", k.name)
 	}
+	text, err := os.ReadFile(k.name)
 	secrets := map[string]string{}
-	lines := bufio.NewScanner(file)
-	for number := 1; lines.Scan(); number++ {
-		words := strings.Fields(lines.Text())
+	for number, line := range strings.Split(string(text), "\n") {
+		words := strings.Fields(line)
 		if len(words) == 0 || words[0][0] == '#' {
 			continue
 		}
 		// (they become fields of requests to bucketd)
 		if len(words) != 2 || !strings.Contains(words[0], "$") || !isPrintable(words[0]+words[1]) {
-			return nil, info.ModTime(), fmt.Errorf("%s: line %d is not 'tenant$name secret'", name, number)
+			return fmt.Errorf("%s: line %d is not 'tenant$name secret'", k.name, number+1)
 		}
 		secrets[words[0]] = words[1]
 	}
-	return secrets, info.ModTime(), lines.Err()
+	if err == nil {
+		k.secrets, k.changed = secrets, info.ModTime()
+	}
+	return err
 }
 
 func isPrintable(text string) bool {
-	for i := 0; i < len(text); i++ {
-		if text[i] <= ' ' || text[i] > '~' {
-			return false
-		}
-	}
-	return true
+	return strings.IndexFunc(text, func(r rune) bool { return r <= ' ' || r > '~' }) < 0
 }

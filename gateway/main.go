@@ -78,55 +78,48 @@ func main() {
 }
 
 // Serves until the context is done.
-func run(ended context.Context, o options) error {
+func run(ctx context.Context, o options) error {
 	// Bodies and pieces have their own bounds; the collector keeps what is left behind them small.
 	debug.SetGCPercent(50)
 	keys, err := openKeys(o.keys)
 	if err != nil {
 		return err
 	}
-	server := newServer(o, keys)
-	listener, err := listen(o)
+	server := &server{options: o, keys: keys, host: newHost(o.host, o.ahead)}
+	inner, err := net.Listen("tcp", o.listen)
 	if err != nil {
 		return err
 	}
-	if o.serve != "" {
-		child, err := startHost(o.program, o.serve, server.host)
+	listener, scheme := net.Listener(&patientListener{inner, o.silence, make(chan struct{}, o.connections)}), "http"
+	if o.certificate != "" {
+		pair, err := tls.LoadX509KeyPair(o.certificate, o.certificateKey)
 		if err != nil {
 			return err
 		}
-		defer child.end()
+		listener, scheme = tls.NewListener(listener, &tls.Config{Certificates: []tls.Certificate{pair}, MinVersion: tls.VersionTLS12}), "https"
 	}
-	scheme := "http"
-	if o.certificate != "" {
-		scheme = "https"
+	hostCtx, endHost := context.WithCancel(context.Background())
+	if o.serve != "" {
+		over, err := serveHost(hostCtx, o.program, o.serve, server.host)
+		if err != nil {
+			endHost()
+			return err
+		}
+		defer func() { <-over }()
 	}
+	defer endHost()
 	log.Printf("listening on %s://%s", scheme, listener.Addr())
 	web := http.Server{Handler: server, ReadHeaderTimeout: 20 * time.Second, IdleTimeout: time.Minute, MaxHeaderBytes: 32 << 10}
-	failed := make(chan error, 1)
-	go func() { failed <- web.Serve(listener) }()
-	select {
-	case err := <-failed:
+	go func() {
+		<-ctx.Done()
+		patience, cancel := context.WithTimeout(context.Background(), 10*time.Second)
+		defer cancel()
+		web.Shutdown(patience)
+		endHost()
+	}()
+	if err := web.Serve(listener); err != http.ErrServerClosed {
 		return err
-	case <-ended.Done():
 	}
-	patience, cancel := context.WithTimeout(context.Background(), 10*time.Second)
-	defer cancel()
-	return web.Shutdown(patience)
-}
-
-func listen(o options) (net.Listener, error) {
-	inner, err := net.Listen("tcp", o.listen)
-	if err != nil {
-		return nil, err
-	}
-	outer := net.Listener(&patientListener{inner, o.silence, make(chan struct{}, o.connections)})
-	if o.certificate == "" {
-		return outer, nil
-	}
-	pair, err := tls.LoadX509KeyPair(o.certificate, o.certificateKey)
-	if err != nil {
-		return nil, err
-	}
-	return tls.NewListener(outer, &tls.Config{Certificates: []tls.Certificate{pair}, MinVersion: tls.VersionTLS12}), nil
+	<-hostCtx.Done()
+	return nil
 }

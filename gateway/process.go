@@ -1,6 +1,7 @@
 package main
 
 import (
+	"context"
 	"fmt"
 	"log"
 	"net"
@@ -12,97 +13,58 @@ import (
 	"time"
 )
 
-// The most connections that a 'bucketd serve' can be told to answer before it ends; it is then started again.
+// The most connections that 'bucketd serve' can be told to answer before it ends.
 const mostConnections = "4294967295"
 
-// hostProcess keeps a 'bucketd serve' running.
-type hostProcess struct {
-	program, file string
-	host          *host
-	mu            sync.Mutex
-	process       *os.Process
-	isEnded       bool
-}
-
-// Starts bucketd on a host's file, and again whenever it ends; returns when it listens, or with why it doesn't.
-func startHost(program, file string, h *host) (*hostProcess, error) {
-	p := &hostProcess{program: program, file: file, host: h}
-	started := make(chan error)
-	go p.keep(started)
-	return p, <-started
-}
-
-func (p *hostProcess) keep(started chan<- error) {
-	// The kernel ends the child with the thread that made it, so also where the gateway is killed.
-	runtime.LockOSThread()
-	for isFirst := true; ; isFirst = false {
-		ended, err := p.start()
-		if isFirst {
-			if err == nil {
-				err = p.listens(ended)
+// Runs 'bucketd serve' on a host's file until the context is done, again whenever it ends. Returns when it listens, or with why it
+// doesn't; the channel is closed when it has ended. Each change is on the disk before it is answered, so it may be killed.
+func serveHost(ctx context.Context, program, file string, h *host) (<-chan struct{}, error) {
+	first, over := make(chan error, 1), make(chan struct{})
+	var once sync.Once
+	tell := func(err error) { once.Do(func() { first <- err }) }
+	go func() {
+		defer close(over)
+		// The kernel ends the child with the thread that made it, so also where the gateway is killed.
+		runtime.LockOSThread()
+		for ctx.Err() == nil {
+			err := runHost(ctx, program, file, h, func() { tell(nil) })
+			tell(err)
+			if ctx.Err() == nil {
+				log.Printf("bucketd serve ended (%v), and is started again", err)
+				time.Sleep(250 * time.Millisecond)
 			}
-			started <- err
 		}
-		if err == nil {
-			err = <-ended
-		}
-		p.mu.Lock()
-		isEnded := p.isEnded
-		p.mu.Unlock()
-		if isEnded {
-			return
-		}
-		log.Printf("bucketd serve ended (%v), and is started again", err)
-		time.Sleep(100 * time.Millisecond)
-	}
+	}()
+	return over, <-first
 }
 
-// Starts bucketd on a free port; its end comes on the channel.
-func (p *hostProcess) start() (<-chan error, error) {
+// Runs bucketd once, on a free port, to its end; tells when it listens: it may have a log to read first.
+func runHost(ctx context.Context, program, file string, h *host, listens func()) error {
 	free, err := net.Listen("tcp", "127.0.0.1:0")
 	if err != nil {
-		return nil, err
+		return err
 	}
 	address := free.Addr().(*net.TCPAddr)
 	free.Close()
-	child := exec.Command(p.program, "serve", "--file", p.file, "--port", fmt.Sprint(address.Port), "--count", mostConnections)
+	child := exec.CommandContext(ctx, program, "serve", "--file", file, "--port", fmt.Sprint(address.Port), "--count", mostConnections)
 	child.Stdout, child.Stderr = os.Stderr, os.Stderr
-	child.SysProcAttr = &syscall.SysProcAttr{Pdeathsig: syscall.SIGKILL}
-	p.mu.Lock()
-	defer p.mu.Unlock()
-	if p.isEnded {
-		return nil, os.ErrProcessDone
-	}
+	child.SysProcAttr = &syscall.SysProcAttr{Pdeathsig: syscall.SIGKILL, Setpgid: true}
 	if err := child.Start(); err != nil {
-		return nil, err
+		return err
 	}
-	p.process = child.Process
-	p.host.moveTo(address.String())
+	h.moveTo(address.String())
 	ended := make(chan error, 1)
 	go func() { ended <- child.Wait() }()
-	return ended, nil
-}
-
-// Waits until bucketd listens: it may have a log to read first.
-func (p *hostProcess) listens(ended <-chan error) error {
 	for {
 		select {
 		case err := <-ended:
-			return fmt.Errorf("bucketd serve --file %s: %v", p.file, err)
+			return fmt.Errorf("bucketd serve --file %s: %v", file, err)
 		case <-time.After(20 * time.Millisecond):
 		}
-		if conn, err := p.host.dial(); err == nil {
-			return conn.Close()
+		if conn, err := h.dial(); err == nil {
+			conn.Close()
+			listens()
+			return <-ended
 		}
-	}
-}
-
-// Ends bucketd. Each change is on the disk before it is answered, so nothing is lost.
-func (p *hostProcess) end() {
-	p.mu.Lock()
-	defer p.mu.Unlock()
-	p.isEnded = true
-	if p.process != nil {
-		p.process.Kill()
 	}
 }

@@ -42,14 +42,14 @@ func (s *server) pieceSize() int64 {
 	return max(leastPiece, min(greatestPiece, readMemory/2/max(1, s.readers.Load())))
 }
 
-func min(a, b int64) int64 {
+func min[T int | int64](a, b T) T {
 	if a < b {
 		return a
 	}
 	return b
 }
 
-func max(a, b int64) int64 { return -min(-a, -b) }
+func max[T int | int64](a, b T) T { return -min(-a, -b) }
 
 // A range of bytes (RFC 9110, section 14.1.2): first is -1 where last is a number of last bytes, last -1 where it goes to the end.
 func parseRange(text string) (first, last int64, ok bool) {
@@ -297,7 +297,11 @@ func (c *call) tellObject(f *found, isRanged bool) {
 	}
 	h.Set("Content-Type", contentType(c.key))
 	for name, value := range f.meta {
-		h.Set(name, value)
+		if strings.HasPrefix(name, metaField) {
+			h[name] = []string{value} // (in small letters: some clients make the name of it)
+		} else {
+			h.Set(name, value)
+		}
 	}
 	for _, name := range keptFields {
 		if value := c.query.Get("response-" + name); value != "" {

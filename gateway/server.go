@@ -27,10 +27,6 @@ type server struct {
 	readers  atomic.Int64 // GETs
 }
 
-func newServer(o options, keys *keyFile) *server {
-	return &server{options: o, keys: keys, host: newHost(o.host, o.ahead)}
-}
-
 // call is one S3 call.
 type call struct {
 	*caller

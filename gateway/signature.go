@@ -25,6 +25,8 @@ const (
 	hexDigits       = "0123456789ABCDEF"
 )
 
+var clock = time.Now
+
 // Encodes all bytes but those that RFC 3986 calls unreserved; of a path also not the slash.
 func percentEncode(text string, isPath bool) string {
 	var b strings.Builder
@@ -131,7 +133,7 @@ func (s *server) verify(r *http.Request, query url.Values, g *signedRequest) (*c
 	if g.payload == "" {
 		return nil, newError("InvalidRequest", 400, "x-amz-content-sha256 is missing")
 	}
-	if err := g.inTime(time.Now(), scope[1]); err != nil {
+	if err := g.inTime(clock(), scope[1]); err != nil {
 		return nil, err
 	}
 	secret, ok := s.keys.secret(scope[0])
@@ -255,7 +257,7 @@ func (s *server) authenticateVersion2(r *http.Request, query url.Values, path st
 		return nil, newError("InvalidAccessKeyId", 403, "there is no such access key")
 	}
 	until, err := strconv.ParseInt(query.Get("Expires"), 10, 64)
-	if now := time.Now().Unix(); err != nil || until < now || until > now+longestQuery {
+	if now := clock().Unix(); err != nil || until < now || until > now+longestQuery {
 		return nil, newError("AccessDenied", 403, "Request has expired")
 	}
 	var fields []string
