@@ -44,9 +44,11 @@ func (s signer) request(method, target string, body []byte, fields map[string]st
 	}
 	now := clock().Add(s.skew).UTC().Format("20060102T150405Z")
 	r.Header.Set("x-amz-date", now)
-	r.Header.Set("x-amz-content-sha256", sum256(body))
 	for name, value := range fields {
 		r.Header.Set(name, value)
+	}
+	if fields["x-amz-content-sha256"] == "" {
+		r.Header.Set("x-amz-content-sha256", sum256(body))
 	}
 	names := []string{"host"}
 	for name := range r.Header {

@@ -2,6 +2,7 @@ package main
 
 import (
 	"bytes"
+	"encoding/hex"
 	"fmt"
 	"net/http"
 	"net/url"
@@ -53,29 +54,39 @@ func FuzzSignature(f *testing.F) {
 	})
 }
 
-// No text makes the reader of chunks give more than the chunks have, and where chunks are signed only the example's are taken.
+// Any text ends the reader of chunks or gives no more bytes than it has; chunks that are well give their payload; and signed ones
+// of which a byte is another one are refused, or mean the same.
 func FuzzChunks(f *testing.F) {
-	whole := strings.Join(exampleChunks, "")
-	f.Add([]byte(whole), []byte("abc"), uint8(2))
-	f.Add([]byte("3\r\nabc\r\n0\r\nx-amz-checksum-crc32:AAAAAA==\r\n\r\n"), []byte{}, uint8(1))
-	f.Add([]byte(whole[:60000]), []byte("0123456789"), uint8(10))
-	f.Fuzz(func(t *testing.T, text, payload []byte, size uint8) {
-		seed := "4f232c4386841ef735655705268965c44a0e4690baa4adea153f7db9fa80a0a9"
-		if got, _, err := readChunks(exampleCaller(signedChunks, seed), string(text)); err == nil && got != strings.Repeat("a", 66560) {
-			t.Fatalf("signed: %d bytes", len(got))
-		}
+	f.Add([]byte("3\r\nabc\r\n2\r\nde\r\n0\r\nx-amz-checksum-crc32:AAAAAA==\r\n\r\n"), []byte("abc"), uint8(2), uint16(3), byte(1))
+	f.Add([]byte("0\r\n\r\n"), []byte{}, uint8(1), uint16(0), byte(32))
+	f.Add([]byte("ffffffffffffffff;chunk-signature=0\r\n"), []byte("0123456789"), uint8(3), uint16(70), byte(255))
+	f.Fuzz(func(t *testing.T, text, payload []byte, size uint8, at uint16, flip byte) {
 		if got, _, err := readChunks(exampleCaller(unsignedChunksTrailer, ""), string(text)); err == nil && len(got) > len(text) {
-			t.Fatalf("unsigned: %d bytes of %d", len(got), len(text))
+			t.Fatalf("%d bytes of %d", len(got), len(text))
 		}
-		framed := ""
-		for rest := payload; len(rest) > 0; {
+		c := exampleCaller(signedChunks, "4f232c4386841ef735655705268965c44a0e4690baa4adea153f7db9fa80a0a9")
+		signed, plain, previous := "", "", c.signature
+		for rest, isEnded := payload, false; !isEnded; {
 			n := min(len(rest), 1+int(size))
-			framed += fmt.Sprintf("%x\r\n%s\r\n", n, rest[:n])
+			isEnded = n == 0
+			previous = hex.EncodeToString(mac256(c.key, "AWS4-HMAC-SHA256-PAYLOAD\n"+c.date+"\n"+c.scope+"\n"+previous+"\n"+emptySHA256+"\n"+sum256(rest[:n])))
+			signed += fmt.Sprintf("%x;chunk-signature=%s\r\n%s", n, previous, rest[:n])
+			plain += fmt.Sprintf("%x\r\n%s", n, rest[:n])
+			if !isEnded {
+				signed, plain = signed+"\r\n", plain+"\r\n"
+			}
 			rest = rest[n:]
 		}
-		got, k, err := readChunks(exampleCaller(unsignedChunksTrailer, ""), framed+"0\r\nx-amz-checksum-sha1:x\r\n\r\n")
-		if err != nil || got != string(payload) || k.trailer["x-amz-checksum-sha1"] != "x" {
-			t.Fatalf("framed: %q, %v", got, err)
+		for payloadOf, frames := range map[string]string{signedChunks: signed + "\r\n", unsignedChunksTrailer: plain + "x-amz-checksum-sha1:x\r\n\r\n"} {
+			got, _, err := readChunks(exampleCaller(payloadOf, c.signature), frames)
+			if err != nil || got != string(payload) {
+				t.Fatalf("%s: %q, %v", payloadOf, got, err)
+			}
+		}
+		spoiled := []byte(signed + "\r\n")
+		spoiled[int(at)%len(spoiled)] ^= flip
+		if got, _, err := readChunks(c, string(spoiled)); err == nil && got != string(payload) {
+			t.Fatalf("accepted: %q", spoiled)
 		}
 	})
 }
