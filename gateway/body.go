@@ -92,9 +92,7 @@ type promise struct {
 func (c *call) promises() (list []promise, sha256Sum string) {
 	if !strings.HasPrefix(c.payload, "STREAMING-") && c.payload != unsignedPayload {
 		sum, err := hex.DecodeString(c.payload)
-		if err != nil || len(sum) != sha256.Size {
-			panic(invalid("x-amz-content-sha256 is of another form"))
-		}
+		refuseIf(err != nil || len(sum) != sha256.Size, invalid("x-amz-content-sha256 is of another form"))
 		sha256Sum = base64.StdEncoding.EncodeToString(sum)
 	}
 	if text := c.r.Header.Get("Content-MD5"); isDigest(text, md5.Size) {
@@ -163,9 +161,7 @@ func (c *call) readBody(limit, passed int64) *body {
 	}
 	for _, field := range strings.FieldsFunc(strings.ToLower(c.r.Header.Get("x-amz-trailer")), func(r rune) bool { return r == ',' || r == ' ' }) {
 		digest := digests[strings.TrimPrefix(field, checksumField)]
-		if digest == nil || !strings.HasPrefix(field, checksumField) || !chunks.trails {
-			panic(newError("InvalidRequest", 400, "the value of x-amz-trailer is invalid"))
-		}
+		refuseIf(digest == nil || !strings.HasPrefix(field, checksumField) || !chunks.trails, newError("InvalidRequest", 400, "the value of x-amz-trailer is invalid"))
 		list = append(list, promise{field: field, code: "BadDigest", hash: digest()})
 	}
 	for _, it := range list {

@@ -81,9 +81,7 @@ func (c *call) listBuckets() {
 
 // A bucket and its objects are their tenant's alone.
 func (c *call) serveACL() {
-	if c.r.Method != "GET" {
-		panic(notImplemented("an acl but private"))
-	}
+	refuseIf(c.r.Method != "GET", notImplemented("an acl but private"))
 	c.need(object{c.bucket, c.key, c.query.Get("versionId")}.request("HEAD"))
 	c.sendDocument("AccessControlPolicy", func(x *xmlWriter) {
 		c.owner(x, "Owner")
@@ -103,9 +101,7 @@ func (q *hostRequest) with(document any) *hostRequest {
 func (c *call) putVersioning() {
 	var v versioningDocument
 	c.readDocument(&v)
-	if v.MfaDelete == "Enabled" {
-		panic(notImplemented("MfaDelete"))
-	}
+	refuseIf(v.MfaDelete == "Enabled", notImplemented("MfaDelete"))
 	c.need(c.request("PUT", "versioning", "").with(map[string]any{"Status": v.Status}))
 	c.send(200, nil)
 }
@@ -114,9 +110,7 @@ func (c *call) putVersioning() {
 func (c *call) putLifecycle() {
 	var v lifecycleDocument
 	c.readDocument(&v)
-	if len(v.Rules) == 0 {
-		panic(newError("MalformedXML", 400, "no rule is named"))
-	}
+	refuseIf(len(v.Rules) == 0, newError("MalformedXML", 400, "no rule is named"))
 	it := v.Rules[0]
 	if len(v.Rules) > 1 || it.AbortIncompleteMultipartUpload == nil || it.Prefix+it.Filter.Prefix != "" || len(it.Filter.Other)+len(it.Other) > 0 {
 		panic(notImplemented("a lifecycle but one rule of AbortIncompleteMultipartUpload for the whole bucket"))
@@ -194,9 +188,7 @@ func milliseconds(moment string) string { return strings.TrimSuffix(moment, "Z")
 func (c *call) deleteObjects() {
 	var v deleteDocument
 	c.readDocument(&v)
-	if len(v.Objects) == 0 || len(v.Objects) > 1000 {
-		panic(newError("MalformedXML", 400, "1 to 1000 keys are deleted at once"))
-	}
+	refuseIf(len(v.Objects) == 0 || len(v.Objects) > 1000, newError("MalformedXML", 400, "1 to 1000 keys are deleted at once"))
 	c.need(c.request("HEAD"))
 	c.sendDocument("DeleteResult", func(x *xmlWriter) {
 		for _, o := range v.Objects {

@@ -31,6 +31,13 @@ func slowDown(message string) *apiError { return newError("SlowDown", 503, messa
 
 func methodNotAllowed() *apiError { return newError("MethodNotAllowed", 405, "there is no such call") }
 
+// refuseIf ends a call that is at fault.
+func refuseIf(isSo bool, e *apiError) {
+	if isSo {
+		panic(e)
+	}
+}
+
 // must panics with an error that isn't nil.
 func must[T any](value T, err error) T {
 	if err != nil {

@@ -23,7 +23,7 @@ func FuzzXML(f *testing.F) {
 	}
 	f.Fuzz(func(t *testing.T, text []byte) {
 		for _, into := range []any{&deleteDocument{}, &completeDocument{}, &lifecycleDocument{}, &versioningDocument{}} {
-			if err := readXML(text, into); err == nil && bytes.Contains(text, []byte("<!")) {
+			if err := readXML(text, into); err == nil && bytes.Contains(text, []byte("<!DOCTYPE")) {
 				t.Fatal("a document type was read")
 			}
 		}

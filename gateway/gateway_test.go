@@ -385,6 +385,28 @@ func TestTenantsApart(t *testing.T) {
 	}
 }
 
+// No byte of a client's head goes on as it came.
+func TestHeads(t *testing.T) {
+	_, host, green, _ := newGateway(t, nil)
+	expect(t, green.do("PUT", "/plans", nil), 200, "")
+	var heads strings.Builder
+	host.mu.Lock()
+	host.before = func(r *http.Request) { fmt.Fprintln(&heads, r.RequestURI, r.Host, r.Header) }
+	host.mu.Unlock()
+	const canary = "canary7"
+	fields := []string{"User-Agent", canary, "Cookie", canary, "x-access-key", canary, "x-secret-key", canary, "Referer", canary, "Content-Type", canary,
+		"x-amz-meta-n", canary, "x-amz-storage-class", canary, "Forwarded", canary}
+	expect(t, green.do("PUT", "/plans/x", []byte("abc"), fields...), 200, "")
+	expect(t, green.do("GET", "/plans/x?x-id="+canary, nil, append(fields, "Range", "bytes=0-1")...), 206, "")
+	expect(t, green.do("PUT", "/plans/y", nil, append(fields, "x-amz-copy-source", "/plans/x")...), 200, "")
+	expect(t, green.do("GET", "/plans?list-type=2&"+canary+"="+canary, nil, fields...), 200, "")
+	host.mu.Lock()
+	defer host.mu.Unlock()
+	if text := heads.String(); strings.Contains(text, canary) || !strings.Contains(text, "gateway") {
+		t.Fatal(text)
+	}
+}
+
 func TestHostGone(t *testing.T) {
 	s, host, green, _ := newGateway(t, func(o *options) { o.meta, o.lastModified = false, false })
 	expect(t, green.do("PUT", "/plans", nil), 200, "")
@@ -514,6 +536,7 @@ func TestXML(t *testing.T) {
 		isWell     bool
 	}{
 		{"well", `<?xml version="1.0"?><Delete xmlns="http://s3.amazonaws.com/doc/2006-03-01/"><Object><Key>a&amp;&#38;</Key></Object></Delete>`, true},
+		{"a comment and character data", "<Delete><!-- a --><Object><Key><![CDATA[a&&]]></Key></Object></Delete>", true},
 		{"a document type", "<!DOCTYPE Delete><Delete/>", false},
 		{"a bomb", `<!DOCTYPE d [<!ENTITY a "aa"><!ENTITY b "&a;&a;">]><Delete><Object><Key>&b;</Key></Object></Delete>`, false},
 		{"an external entity", `<!DOCTYPE d [<!ENTITY x SYSTEM "file:///etc/passwd">]><Delete><Object><Key>&x;</Key></Object></Delete>`, false},

@@ -79,8 +79,8 @@ func main() {
 
 // Serves until the context is done.
 func run(ctx context.Context, o options) error {
-	// Bodies and pieces have their own bounds; the collector keeps what is left behind them small.
-	debug.SetGCPercent(50)
+	// Bodies and pieces have bounds of their own; what is left behind them is collected before all takes more than this.
+	debug.SetMemoryLimit(48 << 20)
 	keys, err := openKeys(o.keys)
 	if err != nil {
 		return err

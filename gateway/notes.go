@@ -47,9 +47,7 @@ func metadata(h http.Header) map[string]string {
 		if value != "" {
 			meta[name] = value
 		}
-		if len(value) > greatestMeta || size > greatestMeta {
-			panic(newError("MetadataTooLarge", 400, "user metadata has at most 2048 bytes, and so has each of the other fields"))
-		}
+		refuseIf(len(value) > greatestMeta || size > greatestMeta, newError("MetadataTooLarge", 400, "user metadata has at most 2048 bytes, and so has each of the other fields"))
 	}
 	return meta
 }
@@ -97,9 +95,7 @@ func (c *call) remember(version, checksum string, meta map[string]string) {
 		c.ask(&hostRequest{method: "PUT", bucket: hiddenBucket})
 		r = c.ask(q)
 	}
-	if r.refusal != 0 {
-		panic(newError("InternalError", 500, "the object was put, but not its metadata: "+r.code))
-	}
+	refuseIf(r.refusal != 0, newError("InternalError", 500, "the object was put, but not its metadata: "+r.code))
 }
 
 // The note of a version, empty where there is none.

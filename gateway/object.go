@@ -157,15 +157,11 @@ func (c *call) putPart(upload string, b *body) *hostResponse {
 func (c *call) completeUpload(upload string, meta map[string]string) {
 	var v completeDocument
 	c.readDocument(&v)
-	if len(v.Parts) == 0 {
-		panic(newError("MalformedXML", 400, "no part is named"))
-	}
+	refuseIf(len(v.Parts) == 0, newError("MalformedXML", 400, "no part is named"))
 	var parts []part
 	for _, it := range v.Parts {
 		checksum := checksumOf(it.ETag)
-		if checksum == "" || it.ChecksumSHA256 != "" && it.ChecksumSHA256 != checksum {
-			panic(newError("InvalidPart", 400, "an ETag or checksum is that of no part here"))
-		}
+		refuseIf(checksum == "" || it.ChecksumSHA256 != "" && it.ChecksumSHA256 != checksum, newError("InvalidPart", 400, "an ETag or checksum is that of no part here"))
 		parts = append(parts, part{checksum, it.PartNumber})
 	}
 	defer c.own.hold(c.bucket, c.key)()
@@ -215,9 +211,7 @@ func (c *call) copyObject() {
 	q := c.request("PUT")
 	q.fields = []string{"x-amz-copy-source: " + from}
 	r := c.need(q)
-	if must(r.document()).ChecksumSHA256 != f.checksum() {
-		panic(slowDown("the source was overwritten meanwhile"))
-	}
+	refuseIf(must(r.document()).ChecksumSHA256 != f.checksum(), slowDown("the source was overwritten meanwhile"))
 	c.keepVersion(r, meta)
 	c.sendTranslated("CopyObjectResult", r.body, nil)
 }
@@ -226,17 +220,13 @@ func (c *call) copyObject() {
 func (c *call) copyPart(upload string) {
 	o, wanted := c.source(), c.r.Header.Get("x-amz-copy-source-range")
 	first, last, isRanged := parseRange(wanted)
-	if wanted != "" && (!isRanged || first < 0 || last < 0) {
-		panic(invalid("x-amz-copy-source-range is not bytes=FIRST-LAST"))
-	}
+	refuseIf(wanted != "" && (!isRanged || first < 0 || last < 0), invalid("x-amz-copy-source-range is not bytes=FIRST-LAST"))
 	f := c.lookAtSource(o)
 	if first, last = 0, -1; f.size > 0 {
 		first, last, _ = parseRange(wanted)
 		first, last = rangeOf(first, last, f.size)
 	}
-	if last-first+1 > c.server.piece {
-		panic(newError("EntityTooLarge", 400, "a part that is copied has more bytes than bucketd takes at once"))
-	}
+	refuseIf(last-first+1 > c.server.piece, newError("EntityTooLarge", 400, "a part that is copied has more bytes than bucketd takes at once"))
 	b := c.server.newBody(last - first + 1)
 	defer b.free()
 	if b.size > 0 {

@@ -13,8 +13,8 @@ import (
 
 // Objects are read in pieces, so that neither a great one nor a slow client holds bucketd. Each reader has two pieces in memory.
 const (
-	readMemory    = 24 << 20
-	greatestPiece = 2 << 20
+	readMemory    = 16 << 20
+	greatestPiece = 1 << 20
 	leastPiece    = 64 << 10
 )
 
@@ -132,9 +132,7 @@ func (c *call) checkConditions(prefix, checksum string, modified time.Time, same
 		return modified.After(at), err == nil && !modified.IsZero()
 	}
 	if match := field("If-Match"); match != "" {
-		if !hasTag(match, checksum) {
-			panic(preconditionFailed())
-		}
+		refuseIf(!hasTag(match, checksum), preconditionFailed())
 	} else if isAfter, isTold := isSince("If-Unmodified-Since"); isTold && isAfter {
 		panic(preconditionFailed())
 	}
@@ -324,9 +322,7 @@ func (c *call) readPiece(o object, f *found, first, last int64, buffer []byte) [
 	q := o.piece(first, last)
 	q.buffer = buffer
 	r := c.ask(q)
-	if r.refusal != 0 || r.checksum() != f.checksum() || int64(len(r.body)) != last-first+1 {
-		panic(slowDown("the object was overwritten meanwhile"))
-	}
+	refuseIf(r.refusal != 0 || r.checksum() != f.checksum() || int64(len(r.body)) != last-first+1, slowDown("the object was overwritten meanwhile"))
 	return r.body
 }
 

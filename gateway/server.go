@@ -60,9 +60,7 @@ func (c *call) serve() {
 		panic(newError("InvalidURI", 400, "the target is no percent-encoded UTF-8"))
 	}
 	for name, values := range c.query {
-		if len(values) > 1 {
-			panic(invalid("a parameter stands twice: " + name))
-		}
+		refuseIf(len(values) > 1, invalid("a parameter stands twice: "+name))
 	}
 	path := c.r.URL.EscapedPath()
 	name, _, _ := strings.Cut(c.r.Host, ":")
@@ -112,15 +110,11 @@ func (c *call) refuseUnknown() {
 		panic(newError("AccessDenied", 403, "the bucket has another owner"))
 	}
 	for _, name := range unknown {
-		if c.query.Has(name) && !(name == "partNumber" && c.query.Has("uploadId")) {
-			panic(notImplemented(name))
-		}
+		refuseIf(c.query.Has(name) && !(name == "partNumber" && c.query.Has("uploadId")), notImplemented(name))
 	}
 	for name, code := range unset {
 		if c.query.Has(name) && !(name == "tagging" && c.key != "" && c.r.Method == "GET") {
-			if c.r.Method == "GET" {
-				panic(newError(code, 404, "nothing is set"))
-			}
+			refuseIf(c.r.Method == "GET", newError(code, 404, "nothing is set"))
 			panic(notImplemented(name))
 		}
 	}

@@ -123,7 +123,7 @@ func (c *call) sendTranslated(root string, text []byte, change func(members map[
 
 // readXML reads one document. Of entities only XML's own five are read, and a document type is refused.
 func readXML(text []byte, into any) error {
-	if bytes.Contains(text, []byte("<!")) || xml.Unmarshal(text, into) != nil {
+	if bytes.Contains(text, []byte("<!DOCTYPE")) || xml.Unmarshal(text, into) != nil {
 		return newError("MalformedXML", 400, "the document is of another form")
 	}
 	return nil
