@@ -143,11 +143,8 @@ func (c *call) readBody(limit, passed int64) *body {
 			size = -1
 		}
 	}
-	if size < 0 {
-		panic(newError("MissingContentLength", 411, "the length of the body is missing"))
-	} else if size > limit {
-		panic(newError("EntityTooLarge", 400, "the body has more bytes than are allowed: "+strconv.FormatInt(limit, 10)))
-	}
+	refuseIf(size < 0, newError("MissingContentLength", 411, "the length of the body is missing"))
+	refuseIf(size > limit, newError("EntityTooLarge", 400, "the body has more bytes than are allowed: "+strconv.FormatInt(limit, 10)))
 	list, sum := c.promises()
 	if sum != "" && size > passed {
 		list = append(list, promise{checksumField + "sha256", c.wrongSHA256(), sha256.New(), sum})

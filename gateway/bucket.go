@@ -208,11 +208,8 @@ func (c *call) deleteObjects() {
 }
 
 func (c *call) deleteOne(key, version string) *hostResponse {
-	if len(key) > longestKey {
-		panic(newError("KeyTooLongError", 400, "a key has at most 1024 bytes"))
-	} else if key == "" || !utf8.ValidString(key) {
-		panic(invalid("there can be no such key"))
-	}
+	refuseIf(len(key) > longestKey, newError("KeyTooLongError", 400, "a key has at most 1024 bytes"))
+	refuseIf(key == "" || !utf8.ValidString(key), invalid("there can be no such key"))
 	defer c.own.hold(c.bucket, key)()
 	if c.key != "" {
 		c.checkWrite()

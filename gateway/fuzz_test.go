@@ -48,7 +48,7 @@ func FuzzSignature(f *testing.F) {
 			r.Header.Del("X-Amz-Date")
 			r.Header.Del("X-Amz-Content-Sha256")
 		}
-		if _, err := s.authenticate(r, values, path); err == nil && (path != "/test.txt" || words != "" && strings.Join(strings.Fields(span), " ") != "bytes=0-9") {
+		if e := try(func() { s.authenticate(r, values, path) }); e == nil && (path != "/test.txt" || words != "" && strings.Join(strings.Fields(span), " ") != "bytes=0-9") {
 			t.Fatalf("accepted: %q %q %q %q", path, query, span, words)
 		}
 	})

@@ -178,9 +178,8 @@ func (c *call) source() object {
 	text, version, _ := strings.Cut(strings.TrimPrefix(c.r.Header.Get("x-amz-copy-source"), "/"), "?versionId=")
 	path, err := url.PathUnescape(text)
 	bucket, key, _ := strings.Cut(strings.TrimPrefix(path, "/"), "/")
-	if err != nil || !isBucketName(bucket) || key == "" || len(key) > longestKey || !utf8.ValidString(key) || !isPrintable(version) {
-		panic(invalid("x-amz-copy-source is of another form"))
-	}
+	isWell := err == nil && isBucketName(bucket) && key != "" && len(key) <= longestKey && utf8.ValidString(key) && isPrintable(version)
+	refuseIf(!isWell, invalid("x-amz-copy-source is of another form"))
 	return object{bucket, key, version}
 }
 

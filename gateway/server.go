@@ -70,7 +70,7 @@ func (c *call) serve() {
 	} else {
 		c.bucket, c.key, _ = strings.Cut(c.r.URL.Path[1:], "/")
 	}
-	c.caller = must(c.server.authenticate(c.r, c.query, path))
+	c.caller = c.server.authenticate(c.r, c.query, path)
 	c.own = c.server.host.tenant(c.tenant)
 	c.refuseUnknown()
 	switch {
@@ -85,16 +85,15 @@ func (c *call) serve() {
 	}
 }
 
-// Sub-resources that nothing here has: by GET S3's code for what is not set.
+// Sub-resources that nothing here has, and S3's codes for what is not set, which a GET is answered.
 var unset = map[string]string{
 	"policy": "NoSuchBucketPolicy", "cors": "NoSuchCORSConfiguration", "website": "NoSuchWebsiteConfiguration", "tagging": "NoSuchTagSet",
 	"encryption": "ServerSideEncryptionConfigurationNotFoundError", "replication": "ReplicationConfigurationNotFoundError",
 	"publicAccessBlock": "NoSuchPublicAccessBlockConfiguration", "ownershipControls": "OwnershipControlsNotFoundError",
-	"object-lock": "ObjectLockConfigurationNotFoundError",
+	"object-lock": "ObjectLockConfigurationNotFoundError", "accelerate": "", "analytics": "", "append": "", "attributes": "",
+	"intelligent-tiering": "", "inventory": "", "legal-hold": "", "logging": "", "metrics": "", "notification": "", "partNumber": "",
+	"policyStatus": "", "requestPayment": "", "restore": "", "retention": "", "select": "", "torrent": "",
 }
-
-var unknown = strings.Fields("accelerate analytics append attributes intelligent-tiering inventory legal-hold logging metrics " +
-	"notification partNumber policyStatus requestPayment restore retention select torrent")
 
 // Beginnings of fields whose being passed over would be taken for a promise.
 var unknownFields = strings.Fields("x-amz-bucket-object-lock- x-amz-object-lock- x-amz-server-side-encryption x-amz-grant- x-amz-tagging " +
@@ -102,19 +101,15 @@ var unknownFields = strings.Fields("x-amz-bucket-object-lock- x-amz-object-lock-
 
 // Refuses what no call here does.
 func (c *call) refuseUnknown() {
-	if c.bucket != "" && !isBucketName(c.bucket) {
-		panic(newError("InvalidBucketName", 400, "there is no such name of a bucket"))
-	} else if len(c.key) > longestKey {
-		panic(newError("KeyTooLongError", 400, "a key has at most 1024 bytes"))
-	} else if owner := c.r.Header.Get("x-amz-expected-bucket-owner"); owner != "" && owner != c.tenant {
-		panic(newError("AccessDenied", 403, "the bucket has another owner"))
-	}
-	for _, name := range unknown {
-		refuseIf(c.query.Has(name) && !(name == "partNumber" && c.query.Has("uploadId")), notImplemented(name))
-	}
+	refuseIf(c.bucket != "" && !isBucketName(c.bucket), newError("InvalidBucketName", 400, "there is no such name of a bucket"))
+	refuseIf(len(c.key) > longestKey, newError("KeyTooLongError", 400, "a key has at most 1024 bytes"))
+	owner := c.r.Header.Get("x-amz-expected-bucket-owner")
+	refuseIf(owner != "" && owner != c.tenant, newError("AccessDenied", 403, "the bucket has another owner"))
+	isRead := c.r.Method == "GET"
 	for name, code := range unset {
-		if c.query.Has(name) && !(name == "tagging" && c.key != "" && c.r.Method == "GET") {
-			refuseIf(c.r.Method == "GET", newError(code, 404, "nothing is set"))
+		isThere := name == "tagging" && c.key != "" && isRead || name == "partNumber" && c.query.Has("uploadId")
+		if c.query.Has(name) && !isThere {
+			refuseIf(code != "" && isRead, newError(code, 404, "nothing is set"))
 			panic(notImplemented(name))
 		}
 	}
@@ -125,9 +120,8 @@ func (c *call) refuseUnknown() {
 			}
 		}
 	}
-	if list := c.r.Header.Get("x-amz-acl"); list != "" && list != "private" && !strings.HasPrefix(list, "bucket-owner-") {
-		panic(notImplemented("an acl but private"))
-	}
+	list := c.r.Header.Get("x-amz-acl")
+	refuseIf(list != "" && list != "private" && !strings.HasPrefix(list, "bucket-owner-"), notImplemented("an acl but private"))
 }
 
 // Whether it is a bucket's name that clients may use: the hidden bucket's is none.

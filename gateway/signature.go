@@ -71,23 +71,19 @@ type signedRequest struct {
 
 // Whose request it is (Amazon S3 API Reference, "Authenticating Requests (AWS Signature Version 4)"). The path is the bucket's and
 // the key's, as a signature of version 2 counts it.
-func (s *server) authenticate(r *http.Request, query url.Values, path string) (*caller, error) {
+func (s *server) authenticate(r *http.Request, query url.Values, path string) *caller {
 	isQuery := query.Has("X-Amz-Algorithm") || query.Has("X-Amz-Signature")
 	isVersion2 := query.Has("AWSAccessKeyId") || query.Has("Signature")
-	switch authorization := r.Header.Get("Authorization"); {
-	case authorization != "" && (isQuery || isVersion2) || isQuery && isVersion2:
-		return nil, invalid("a request is signed once, in its head or in its query")
-	case isVersion2:
+	authorization := r.Header.Get("Authorization")
+	refuseIf(authorization != "" && (isQuery || isVersion2) || isQuery && isVersion2, invalid("a request is signed once, in its head or in its query"))
+	if isVersion2 {
 		return s.authenticateVersion2(r, query, path)
-	case isQuery:
+	} else if isQuery {
 		return s.verify(r, query, signatureOfQuery(r, query))
-	case authorization == "":
-		return nil, newError("AccessDenied", 403, "the request is not signed")
-	case !strings.HasPrefix(authorization, algorithm+" "):
-		return nil, newError("InvalidRequest", 400, "a head is signed by "+algorithm)
-	default:
-		return s.verify(r, query, signatureOfHead(r, authorization))
 	}
+	refuseIf(authorization == "", newError("AccessDenied", 403, "the request is not signed"))
+	refuseIf(!strings.HasPrefix(authorization, algorithm+" "), newError("InvalidRequest", 400, "a head is signed by "+algorithm))
+	return s.verify(r, query, signatureOfHead(r, authorization))
 }
 
 func signatureOfQuery(r *http.Request, query url.Values) *signedRequest {
@@ -103,57 +99,46 @@ func signatureOfQuery(r *http.Request, query url.Values) *signedRequest {
 }
 
 func signatureOfHead(r *http.Request, authorization string) *signedRequest {
-	g := &signedRequest{date: r.Header.Get("x-amz-date"), payload: r.Header.Get("x-amz-content-sha256")}
+	words := map[string]string{}
 	for _, part := range strings.Split(authorization[len(algorithm):], ",") {
-		switch name, value, _ := strings.Cut(strings.TrimSpace(part), "="); name {
-		case "Credential":
-			g.credential = value
-		case "SignedHeaders":
-			g.headers = value
-		case "Signature":
-			g.signature = value
-		}
+		name, value, _ := strings.Cut(strings.TrimSpace(part), "=")
+		words[name] = value
 	}
+	g := &signedRequest{credential: words["Credential"], headers: words["SignedHeaders"], signature: words["Signature"],
+		date: r.Header.Get("x-amz-date"), payload: r.Header.Get("x-amz-content-sha256")}
 	if at, err := http.ParseTime(r.Header.Get("Date")); g.date == "" && err == nil {
 		g.date = at.UTC().Format(amzDate)
 	}
 	return g
 }
 
-func (s *server) verify(r *http.Request, query url.Values, g *signedRequest) (*caller, error) {
+func (s *server) verify(r *http.Request, query url.Values, g *signedRequest) *caller {
 	scope := strings.Split(g.credential, "/")
-	if len(scope) != 5 || scope[3] != "s3" || scope[4] != "aws4_request" {
-		return nil, g.malformed("the credential is not KEY/DATE/REGION/s3/aws4_request")
+	refuseIf(len(scope) != 5 || scope[3] != "s3" || scope[4] != "aws4_request", g.malformed("the credential is not KEY/DATE/REGION/s3/aws4_request"))
+	if s.region != "" && scope[2] != s.region {
+		e := g.malformed("the region '" + scope[2] + "' is wrong; expecting '" + s.region + "'")
+		e.region = s.region
+		panic(e)
 	}
-	if region := s.region; region != "" && scope[2] != region {
-		e := g.malformed("the region '" + scope[2] + "' is wrong; expecting '" + region + "'")
-		e.region = region
-		return nil, e
-	}
-	if g.payload == "" {
-		return nil, newError("InvalidRequest", 400, "x-amz-content-sha256 is missing")
-	}
-	if err := g.inTime(clock(), scope[1]); err != nil {
-		return nil, err
-	}
-	secret, ok := s.keys.secret(scope[0])
-	if !ok {
-		return nil, newError("InvalidAccessKeyId", 403, "there is no such access key")
-	}
-	canonical, err := canonicalRequest(r, query, g.headers, g.payload)
-	if err != nil {
-		return nil, err
-	}
-	c := &caller{id: scope[0], secret: secret, date: g.date, payload: g.payload, signature: g.signature, scope: strings.Join(scope[1:], "/")}
-	c.tenant, _, _ = strings.Cut(c.id, "$")
-	c.key = []byte("AWS4" + secret)
+	refuseIf(g.payload == "", newError("InvalidRequest", 400, "x-amz-content-sha256 is missing"))
+	g.checkTime(scope[1])
+	c := s.caller(scope[0])
+	c.date, c.payload, c.signature, c.scope = g.date, g.payload, g.signature, strings.Join(scope[1:], "/")
+	c.key = []byte("AWS4" + c.secret)
 	for _, part := range scope[1:] {
 		c.key = hmacSHA256(c.key, part)
 	}
-	if !c.matches(algorithm+"\n"+g.date+"\n"+c.scope+"\n"+hexSHA256(canonical), g.signature) {
-		return nil, wrongSignature("the request")
-	}
-	return c, nil
+	text := algorithm + "\n" + g.date + "\n" + c.scope + "\n" + hexSHA256(canonicalRequest(r, query, g.headers, g.payload))
+	refuseIf(!c.matches(text, g.signature), wrongSignature("the request"))
+	return c
+}
+
+// Who has an access key; nothing is known of the signature yet.
+func (s *server) caller(id string) *caller {
+	secret, ok := s.keys.secret(id)
+	refuseIf(!ok, newError("InvalidAccessKeyId", 403, "there is no such access key"))
+	tenant, _, _ := strings.Cut(id, "$")
+	return &caller{id: id, tenant: tenant, secret: secret}
 }
 
 func wrongSignature(what string) *apiError {
@@ -167,19 +152,15 @@ func (g *signedRequest) malformed(message string) *apiError {
 	return newError("AuthorizationHeaderMalformed", 400, message)
 }
 
-func (g *signedRequest) inTime(now time.Time, day string) error {
+func (g *signedRequest) checkTime(day string) {
 	at, err := time.Parse(amzDate, g.date)
-	switch {
-	case err != nil || day != g.date[:8]:
-		return newError("AccessDenied", 403, "x-amz-date is of another form, or of another day than the credential")
-	case g.isQuery && (g.seconds < 1 || g.seconds > longestQuery):
-		return g.malformed("the algorithm is " + algorithm + ", and X-Amz-Expires from 1 to " + strconv.Itoa(longestQuery))
-	case g.isQuery && now.After(at.Add(time.Duration(g.seconds)*time.Second)):
-		return newError("AccessDenied", 403, "Request has expired")
-	case at.After(now.Add(skew)) || !g.isQuery && at.Before(now.Add(-skew)):
-		return newError("RequestTimeTooSkewed", 403, "the clocks differ by more than 15 minutes")
+	now := clock()
+	refuseIf(err != nil || day != g.date[:8], newError("AccessDenied", 403, "x-amz-date is of another form, or of another day than the credential"))
+	if g.isQuery {
+		refuseIf(g.seconds < 1 || g.seconds > longestQuery, g.malformed("the algorithm is "+algorithm+", and X-Amz-Expires from 1 to 604800"))
+		refuseIf(now.After(at.Add(time.Duration(g.seconds)*time.Second)), newError("AccessDenied", 403, "Request has expired"))
 	}
-	return nil
+	refuseIf(at.After(now.Add(skew)) || !g.isQuery && at.Before(now.Add(-skew)), newError("RequestTimeTooSkewed", 403, "the clocks differ by more than 15 minutes"))
 }
 
 func (c *caller) matches(text, signature string) bool {
@@ -187,7 +168,7 @@ func (c *caller) matches(text, signature string) bool {
 }
 
 // What is signed of a request. All fields of the head that S3 heeds by an x-amz- name have to be.
-func canonicalRequest(r *http.Request, query url.Values, signed, payload string) (string, error) {
+func canonicalRequest(r *http.Request, query url.Values, signed, payload string) string {
 	var b strings.Builder
 	b.WriteString(r.Method + "\n" + percentEncode(r.URL.Path, true) + "\n")
 	var pairs [][2]string
@@ -214,15 +195,11 @@ func canonicalRequest(r *http.Request, query url.Values, signed, payload string)
 		b.WriteString(name + ":" + canonicalField(r, name) + "\n")
 	}
 	for name := range r.Header {
-		if lower := strings.ToLower(name); strings.HasPrefix(lower, "x-amz-") && !isSigned[lower] {
-			return "", newError("AccessDenied", 403, "a field of the head is not signed: "+lower)
-		}
+		lower := strings.ToLower(name)
+		refuseIf(strings.HasPrefix(lower, "x-amz-") && !isSigned[lower], newError("AccessDenied", 403, "a field of the head is not signed: "+lower))
 	}
-	if !isSigned["host"] {
-		return "", newError("AccessDenied", 403, "host is not signed")
-	}
-	b.WriteString("\n" + signed + "\n" + payload)
-	return b.String(), nil
+	refuseIf(!isSigned["host"], newError("AccessDenied", 403, "host is not signed"))
+	return b.String() + "\n" + signed + "\n" + payload
 }
 
 // The text of a field as it is signed; net/http keeps some fields elsewhere than in the head.
@@ -250,16 +227,11 @@ var subresources = strings.Fields("acl cors delete lifecycle location logging no
 
 // Whose a presigned URL of version 2 is ("Authenticating Requests (AWS Signature Version 2)"): boto3 and aws-cli 1 make them where
 // nothing is said. No head is signed so.
-func (s *server) authenticateVersion2(r *http.Request, query url.Values, path string) (*caller, error) {
-	id := query.Get("AWSAccessKeyId")
-	secret, ok := s.keys.secret(id)
-	if !ok {
-		return nil, newError("InvalidAccessKeyId", 403, "there is no such access key")
-	}
+func (s *server) authenticateVersion2(r *http.Request, query url.Values, path string) *caller {
+	c := s.caller(query.Get("AWSAccessKeyId"))
 	until, err := strconv.ParseInt(query.Get("Expires"), 10, 64)
-	if now := clock().Unix(); err != nil || until < now || until > now+longestQuery {
-		return nil, newError("AccessDenied", 403, "Request has expired")
-	}
+	now := clock().Unix()
+	refuseIf(err != nil || until < now || until > now+longestQuery, newError("AccessDenied", 403, "Request has expired"))
 	var fields []string
 	for name, values := range r.Header {
 		if lower := strings.ToLower(name); strings.HasPrefix(lower, "x-amz-") {
@@ -272,18 +244,14 @@ func (s *server) authenticateVersion2(r *http.Request, query url.Values, path st
 	mark := "?"
 	for _, name := range subresources {
 		if query.Has(name) {
-			text += mark + name
-			if value := query.Get(name); value != "" {
-				text += "=" + value
-			}
+			text += mark + strings.TrimSuffix(name+"="+query.Get(name), "=")
 			mark = "&"
 		}
 	}
-	h := hmac.New(sha1.New, []byte(secret))
+	h := hmac.New(sha1.New, []byte(c.secret))
 	io.WriteString(h, text)
-	if !hmac.Equal([]byte(base64.StdEncoding.EncodeToString(h.Sum(nil))), []byte(query.Get("Signature"))) {
-		return nil, wrongSignature("the request")
-	}
-	tenant, _, _ := strings.Cut(id, "$")
-	return &caller{id: id, tenant: tenant, secret: secret, payload: unsignedPayload}, nil
+	signature := []byte(base64.StdEncoding.EncodeToString(h.Sum(nil)))
+	refuseIf(!hmac.Equal(signature, []byte(query.Get("Signature"))), wrongSignature("the request"))
+	c.payload = unsignedPayload
+	return c
 }

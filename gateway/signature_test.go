@@ -116,12 +116,10 @@ x-amz-content-sha256: e3b0c44298fc1c149afbf4c8996fb92427ae41e4649b934ca495991b78
 			if err != nil {
 				t.Fatal(err)
 			}
-			c, err := s.authenticate(r, query, "/johnsmith"+r.URL.EscapedPath())
-			if it.code == "" && (err != nil || c.id != exampleID) {
-				t.Fatal(err)
-			}
-			if e, ok := err.(*apiError); it.code != "" && (!ok || e.code != it.code) {
-				t.Fatalf("%v, not %s", err, it.code)
+			var c *caller
+			e := try(func() { c = s.authenticate(r, query, "/johnsmith"+r.URL.EscapedPath()) })
+			if it.code == "" && (e != nil || c.id != exampleID) || it.code != "" && (e == nil || e.code != it.code) {
+				t.Fatalf("%v, not %s", e, it.code)
 			}
 		})
 	}
