@@ -12,6 +12,7 @@ import json
 import os
 import re
 import shutil
+import signal
 import socket
 import subprocess
 import sys
@@ -192,6 +193,7 @@ def silence(tests, gateway, seconds):
 
 
 def main():
+    signal.signal(signal.SIGTERM, lambda *_: sys.exit(1))  # (what was started is ended, too)
     words, seconds = sys.argv[1:], 2.0
     if words[:1] == ["--seconds"]:
         seconds, words = float(words[1]), words[2:]

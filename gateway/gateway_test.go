@@ -4,12 +4,14 @@ import (
 	"bufio"
 	"bytes"
 	"encoding/base64"
+	"encoding/xml"
 	"fmt"
 	"hash/crc32"
 	"io"
 	"net"
 	"net/http"
 	"os"
+	"strconv"
 	"strings"
 	"sync"
 	"sync/atomic"
@@ -186,6 +188,46 @@ func TestListings(t *testing.T) {
 	}
 	if a = expect(t, green.do("GET", "/", nil), 200, ""); !strings.Contains(a.body, "<Buckets><Bucket>") || strings.Contains(a.body, hiddenBucket) {
 		t.Fatal(a.body)
+	}
+}
+
+// All pages of a great bucket show each key once and in order; KEYS in the environment says how many there are.
+func TestManyKeys(t *testing.T) {
+	count := 3000
+	if text := os.Getenv("KEYS"); text != "" {
+		count, _ = strconv.Atoi(text)
+	}
+	_, host, green, _ := newGateway(t, nil)
+	expect(t, green.do("PUT", "/plans", nil), 200, "")
+	host.mu.Lock()
+	for i := 0; i < count; i++ {
+		it := &storedVersion{id: "null", at: "2026-01-01T00:00:00Z", sum: sum(nil)}
+		host.tenants["green"].buckets["plans"].keys[fmt.Sprintf("%08d", i)] = []*storedVersion{it}
+	}
+	host.mu.Unlock()
+	seen, query := 0, "list-type=2"
+	for begun := time.Now(); query != ""; {
+		var page struct {
+			Contents              []struct{ Key string }
+			NextContinuationToken string
+		}
+		a := expect(t, green.do("GET", "/plans?"+query, nil), 200, "")
+		if err := xml.Unmarshal([]byte(a.body), &page); err != nil {
+			t.Fatal(err)
+		}
+		for _, it := range page.Contents {
+			if it.Key != fmt.Sprintf("%08d", seen) {
+				t.Fatal(it.Key, seen)
+			}
+			seen++
+		}
+		if query = ""; page.NextContinuationToken != "" {
+			query = "continuation-token=" + page.NextContinuationToken + "&list-type=2"
+		} else if seen != count {
+			t.Fatal(seen)
+		} else {
+			t.Logf("%d keys in %v", seen, time.Since(begun))
+		}
 	}
 }
 
