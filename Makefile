@@ -79,3 +79,24 @@ memory:
 
 others:
 	@tools/draw-others
+
+# The gateway, a second program for stock S3 clients (gateway/, in Go; needs Debian's golang-go). gateway: builds it, as
+# gateway/out/gateway. s3: a tenant, a key, the gateway and an aws-cli, in one screen. test-gateway: its tests, before the proved
+# program. clients: stock S3 clients through it, each that is there, and docs/CLIENTS.md. serving-s3: puts and gets through it
+# beside bucketd itself, radosgw and nginx (bench/GATEWAY.md).
+.PHONY: gateway s3 test-gateway clients serving-s3
+
+gateway:
+	@if command -v go >/dev/null; then cd gateway && go build -o out/gateway . && echo gateway/out/gateway; else echo "no Go is here (Debian's golang-go): the gateway is not built"; fi
+
+s3:
+	@tools/s3 $(PROGRAM)
+
+test-gateway:
+	@tools/test-gateway $(PROGRAM)
+
+clients:
+	@tools/clients $(PROGRAM)
+
+serving-s3:
+	@bench/gateway.py $(PROGRAM)

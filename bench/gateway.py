@@ -1,0 +1,232 @@
+#!/usr/bin/env python3
+"""Times the gateway beside bare `bucketd serve`, radosgw and nginx's DAV in one run: puts and gets of 1 KiB to 16 MiB by 1, 8 and 64
+clients at once, each with an object of its own; with notes of metadata, without, and over TLS; its memory; silent clients.
+
+    bench/gateway.py [--seconds S] [PROGRAM]      PROGRAM: crates/bucketd/out/bucketd
+
+It needs Debian's golang-go and openssl, and for what it is measured beside radosgw, ceph-mon, ceph-osd and ceph-common, and
+nginx-light: what isn't there is left out. All servers keep their files in one new folder in the current one (FOLDER in the
+environment names another place). The load is TestLoad of gateway/. Tables of Markdown come on standard output.
+"""
+import json
+import os
+import re
+import shutil
+import signal
+import socket
+import subprocess
+import sys
+import tempfile
+import time
+import uuid
+
+TOP = os.path.dirname(os.path.dirname(os.path.abspath(__file__)))
+sys.path.insert(0, os.path.join(TOP, "tools"))
+from s3_requests import build_gateway, make_host  # noqa: E402
+from server import free_port  # noqa: E402
+
+SIZES = [(1 << 10, "1 KiB"), (1 << 16, "64 KiB"), (1 << 20, "1 MiB"), (1 << 24, "16 MiB")]
+CLIENTS = [1, 8, 64]
+NGINX = """{user}daemon off; worker_processes 1; pid {at}/pid; error_log {at}/error.log; events {{}}
+http {{ access_log off; client_max_body_size 32m; client_body_temp_path {at}/temp; proxy_temp_path {at}/t1; fastcgi_temp_path {at}/t2;
+uwsgi_temp_path {at}/t3; scgi_temp_path {at}/t4; server {{ listen 127.0.0.1:{port}; location / {{ root {at}/files; dav_methods PUT DELETE; }} }} }}
+"""
+CEPH = """[global]
+fsid = {id}
+mon host = [v2:127.0.0.1:{v2},v1:127.0.0.1:{v1}]
+auth cluster required = none
+auth service required = none
+auth client required = none
+ms mon client mode = crc
+osd pool default size = 1
+osd pool default min size = 1
+osd pool default pg num = 8
+osd pool default pg autoscale mode = off
+mon allow pool size one = true
+mon data avail crit = 1
+mon max pg per osd = 1000
+osd crush chooseleaf type = 0
+osd objectstore = bluestore
+bluestore block create = true
+bluestore block size = 21474836480
+public addr = 127.0.0.1
+cluster addr = 127.0.0.1
+run dir = {at}
+admin socket = {at}/$name.asok
+log file = {at}/$name.log
+pid file = {at}/$name.pid
+crash dir = {at}
+mon data = {at}/mon
+osd data = {at}/osd
+rgw data = {at}/rgw
+rgw frontends = beast endpoint=127.0.0.1:{port}
+"""
+
+
+def wait_for(port):
+    for _ in range(3000):
+        try:
+            return socket.create_connection(("127.0.0.1", port), timeout=5).close()
+        except ConnectionRefusedError:
+            time.sleep(0.02)
+    sys.exit("a server didn't start")
+
+
+class Server:
+    """A process, and how the load asks it."""
+
+    def __init__(self, name, words, port, mode="s3", id="green$k1", scheme="http", more=()):
+        self.name, self.mode, self.id, self.url = name, mode, id, f"{scheme}://127.0.0.1:{port}"
+        self.process, self.more = subprocess.Popen(words, stdout=subprocess.DEVNULL, stderr=subprocess.DEVNULL), more
+        wait_for(port)
+
+    def peak(self):
+        with open(f"/proc/{self.process.pid}/status") as text:
+            return int(re.search(r"VmHWM:\s+(\d+)", text.read()).group(1)) / 1024
+
+    def end(self):
+        for it in (self.process, *self.more):
+            it.terminate()
+        for it in (self.process, *self.more):
+            it.wait()
+
+
+def load(tests, server, method, size, clients, seconds):
+    """What TestLoad tells: requests a second, milliseconds of the median and of 99 in 100, faults."""
+    plan = {"Mode": server.mode, "URL": server.url, "ID": server.id, "Secret": "greensecret", "Method": method, "Size": size, "Clients": clients, "Seconds": seconds}
+    done = subprocess.run([tests, "-test.run", "^TestLoad$", "-test.v"], env={**os.environ, "LOAD": json.dumps(plan)}, capture_output=True, text=True)
+    found = re.search(r"^LOAD (.*)$", done.stdout, re.M)
+    return json.loads(found.group(1)) if found else {"rate": 0, "p50": 0, "p99": 0, "faults": done.stdout[-300:]}
+
+
+def start_gateway(name, build, folder, host, scheme="http", *options):
+    port = free_port()
+    words = [build, "--listen", f"127.0.0.1:{port}", "--keys", os.path.join(folder, "ours/keys"), "--host", f"127.0.0.1:{host}", "--spool", folder]
+    return Server(name, [*words, *options], port, scheme=scheme)
+
+
+def start_nginx(folder):
+    at, port = os.path.join(folder, "nginx"), free_port()
+    os.makedirs(os.path.join(at, "files/load"))
+    with open(os.path.join(at, "nginx.conf"), "w") as out:
+        out.write(NGINX.format(user="user root; " if os.geteuid() == 0 else "", at=at, port=port))
+    return Server("nginx", ["nginx", "-c", os.path.join(at, "nginx.conf")], port, mode="plain")
+
+
+def start_radosgw(folder):
+    """A monitor, one store and the gateway of Ceph, as few as go."""
+    at, port = os.path.join(folder, "ceph"), free_port()
+    for name in ("mon", "osd", "rgw"):
+        os.makedirs(os.path.join(at, name))
+    id, conf, v1, v2 = str(uuid.uuid4()), os.path.join(at, "ceph.conf"), free_port(), free_port()
+    with open(conf, "w") as out:
+        out.write(CEPH.format(id=id, at=at, v1=v1, v2=v2, port=port))
+    run = lambda *words: subprocess.run(words, check=True, stdout=subprocess.DEVNULL, stderr=subprocess.DEVNULL, cwd=at, timeout=120, env={**os.environ, "CEPH_CONF": conf})
+    background = lambda *words: subprocess.Popen([*words, "-c", conf, "-f"], stdout=subprocess.DEVNULL, stderr=subprocess.DEVNULL)
+    more = []
+    try:
+        run("monmaptool", "--create", "--fsid", id, "--addv", "a", f"[v2:127.0.0.1:{v2},v1:127.0.0.1:{v1}]", "monmap")
+        run("ceph-mon", "--mkfs", "-i", "a", "--monmap", "monmap", "-c", conf)
+        more.append(background("ceph-mon", "-i", "a"))
+        store = str(uuid.uuid4())
+        run("ceph", "osd", "new", store)
+        run("ceph-osd", "-i", "0", "--mkfs", "--osd-uuid", store, "-c", conf)
+        run("ceph", "osd", "crush", "add-bucket", "host1", "host")
+        run("ceph", "osd", "crush", "move", "host1", "root=default")
+        run("ceph", "osd", "crush", "add", "osd.0", "1.0", "host=host1")
+        more.append(background("ceph-osd", "-i", "0"))
+        trust = ["--ms_mon_client_mode=crc", "--auth_client_required=none"]
+        words = ["radosgw", "-n", "client.rgw.a", "-c", conf, "-f", *trust]
+        server = Server("radosgw", words, port, id="greenk1", more=more)
+        run("radosgw-admin", *trust, "user", "create", "--uid=green", "--display-name=green", "--access-key=greenk1", "--secret-key=greensecret")
+        return server
+    except (subprocess.SubprocessError, OSError, SystemExit) as error:
+        for it in more:
+            it.kill()
+            it.wait()
+        print(f"radosgw is left out: {error}", file=sys.stderr)
+
+
+def silent_clients(url):
+    host, port = url.split("//")[1].split(":")
+    links = [socket.create_connection((host, int(port))) for _ in range(50)]
+    for i, it in enumerate(links):
+        it.sendall((b"", b"PUT /load/x HTTP/1.1\r\nHost: h\r\n", b"PUT /load/x HTTP/1.1\r\nHost: h\r\nContent-Length: 100\r\n\r\nabc")[i % 3])
+    return links
+
+
+def rates(tests, servers, seconds):
+    names = [it.name for it in servers]
+    print("| Request | Clients | " + " | ".join(names) + " |\n|---|---|" + "---|" * len(names), flush=True)
+    for size, shown in SIZES:
+        for method in ("PUT", "GET"):
+            for clients in CLIENTS:
+                if size == 1 << 24 and clients == 64:
+                    continue
+                told = [load(tests, it, method, size, clients, seconds) for it in servers]
+                cells = [f"{it['rate']:.3g} ({it['p50']:.3g})" + (" !" if it["faults"] else "") for it in told]
+                print(f"| {method} {shown} | {clients} | " + " | ".join(cells) + " |", flush=True)
+                for server, it in zip(servers, told):
+                    if it["faults"]:
+                        print(f"{server.name}: {it['faults']}", file=sys.stderr)
+
+
+def memory(tests, build, folder, host, seconds):
+    print("\n| 64 clients at once | peak resident MB of the gateway |\n|---|---|", flush=True)
+    for size, shown in SIZES:
+        for method in ("PUT", "GET"):
+            it = start_gateway("gateway", build, folder, host)
+            load(tests, it, method, size, 64, seconds)
+            print(f"| {method} {shown} | {it.peak():.0f} |", flush=True)
+            it.end()
+
+
+def silence(tests, gateway, seconds):
+    print("\n| 8 clients, 1 KiB | requests/s | beside 50 silent clients |\n|---|---|---|")
+    for method in ("PUT", "GET"):
+        before = load(tests, gateway, method, 1024, 8, seconds)["rate"]
+        links = silent_clients(gateway.url)
+        beside = load(tests, gateway, method, 1024, 8, seconds)["rate"]
+        for it in links:
+            it.close()
+        print(f"| {method} | {before:.0f} | {beside:.0f} |", flush=True)
+
+
+def main():
+    signal.signal(signal.SIGTERM, lambda *_: sys.exit(1))  # (what was started is ended, too)
+    words, seconds = sys.argv[1:], 2.0
+    if words[:1] == ["--seconds"]:
+        seconds, words = float(words[1]), words[2:]
+    program = os.path.abspath(words[0] if words else os.path.join(TOP, "crates/bucketd/out/bucketd"))
+    if not os.path.exists(program):
+        sys.exit(f"{program} isn't there: 'make build' makes it")
+    with tempfile.TemporaryDirectory(dir=os.environ.get("FOLDER", ".")) as folder:
+        folder = os.path.abspath(folder)
+        build, tests, ours = build_gateway(folder), os.path.join(folder, "tests"), os.path.join(folder, "ours")
+        if not build:
+            sys.exit("no Go is here: apt-get install golang-go")
+        subprocess.run(["go", "test", "-c", "-o", tests, "."], cwd=os.path.join(TOP, "gateway"), check=True)
+        subprocess.run("openssl req -x509 -newkey ec -pkeyopt ec_paramgen_curve:prime256v1 -nodes -keyout tls.key -out tls.pem -days 2 -subj /CN=localhost".split(),
+                       cwd=folder, check=True, capture_output=True)
+        os.makedirs(ours)
+        make_host(program, ours, {"green": 1 << 40})
+        port, servers = free_port(), []
+        try:
+            bare = [program, "serve", "--file", os.path.join(ours, "host"), "--port", str(port), "--count", "4294967295"]
+            servers.append(Server("bucketd", bare, port, mode="bare"))
+            servers.append(start_gateway("gateway", build, folder, port))
+            servers.append(start_gateway("no notes", build, folder, port, "http", "--meta=false"))
+            servers.append(start_gateway("TLS", build, folder, port, "https", "--cert", os.path.join(folder, "tls.pem"), "--cert-key", os.path.join(folder, "tls.key")))
+            if shutil.which("radosgw") and shutil.which("ceph-osd"):
+                servers += filter(None, [start_radosgw(folder)])
+            if shutil.which("nginx"):
+                servers.append(start_nginx(folder))
+            rates(tests, servers, seconds)
+            silence(tests, servers[1], seconds)
+            memory(tests, build, folder, port, seconds)
+        finally:
+            for it in servers:
+                it.end()
+
+
+main()

@@ -1,0 +1,108 @@
+package main
+
+import (
+	"fmt"
+	"log"
+)
+
+// apiError is an error as S3 tells it (Amazon S3 API Reference, "Error responses"). What answers a call panics with one, and
+// ServeHTTP recovers: the idiom of Effective Go, "Recover".
+type apiError struct {
+	code    string
+	status  int
+	message string
+	region  string            // where the code has one to tell
+	fields  map[string]string // of the response's head
+}
+
+func (e *apiError) Error() string { return e.code + ": " + e.message }
+
+func newError(code string, status int, message string) *apiError {
+	return &apiError{code: code, status: status, message: message}
+}
+
+func notImplemented(what string) *apiError {
+	return newError("NotImplemented", 501, what+" is not there")
+}
+
+func invalid(message string) *apiError { return newError("InvalidArgument", 400, message) }
+
+func slowDown(message string) *apiError { return newError("SlowDown", 503, message) }
+
+func methodNotAllowed() *apiError { return newError("MethodNotAllowed", 405, "there is no such call") }
+
+// refuseIf ends a call that is at fault.
+func refuseIf(isSo bool, e *apiError) {
+	if isSo {
+		panic(e)
+	}
+}
+
+// must panics with an error that isn't nil.
+func must[T any](value T, err error) T {
+	if err != nil {
+		panic(err)
+	}
+	return value
+}
+
+// Runs what answers a call, and gives the error that it panicked with. One that isn't S3's is logged, not told.
+func try(act func()) (e *apiError) {
+	defer func() {
+		switch it := recover().(type) {
+		case nil:
+		case *apiError:
+			e = it
+		case error:
+			if _, isDefect := it.(interface{ RuntimeError() }); isDefect || it == errBroken {
+				panic(it)
+			}
+			log.Print(it)
+			e = newError("InternalError", 500, "an error of the gateway")
+		default:
+			panic(it)
+		}
+	}()
+	act()
+	return nil
+}
+
+// beside runs a function beside the call; what it gives waits for its end, and panics where it panicked.
+func beside[T any](act func() T) (wait func() T) {
+	var value T
+	done := make(chan any, 1)
+	go func() {
+		defer func() { done <- recover() }()
+		value = act()
+	}()
+	return func() T {
+		if failed := <-done; failed != nil {
+			panic(failed)
+		}
+		return value
+	}
+}
+
+// bucketd's refusals by number: those that S3 names otherwise, and those that are asked for here.
+const (
+	refusalBucket = 12
+	refusalKey    = 13
+	refusalRange  = 25
+)
+
+var renamed = map[int]string{1: "InvalidRequest", 11: "MalformedXML", 29: "InternalError", 30: "InternalError"}
+
+// The error that a refused request to bucketd becomes: its own code and status but for a few.
+func (r *hostResponse) refused() *apiError {
+	e := newError(renamed[r.refusal], r.status, fmt.Sprintf("the host's refusal %d %s", r.refusal, r.code))
+	if e.code == "" {
+		e.code = r.code
+	}
+	e.fields = map[string]string{}
+	for _, name := range []string{"x-amz-delete-marker", "x-amz-version-id", "content-range", "allow"} {
+		if text := r.head.Get(name); text != "" {
+			e.fields[name] = text
+		}
+	}
+	return e
+}

@@ -1,0 +1,3 @@
+module bucketd/gateway
+
+go 1.19
