@@ -4,7 +4,7 @@ use bh_storage::error::Trouble;
 use std::alloc::AllocError;
 
 /// Why a script was not answered to its end.
-#[derive(Clone, Copy, Debug)]
+#[derive(Clone, Copy)]
 pub enum ScriptError {
     /// Memory was wanting for a line, or memory or the store for the new host.
     Trouble(Trouble),
