@@ -26,26 +26,26 @@ module _ {S : Type 0} (g : Ghosts S) (old new : Held S) (refusal : Refusal) (pri
       × (IsStateClean (state g new) → standing (state g new) ≡ taken_back (standing (state g old))))
       → IsNotMade (state g old) (state g new) printed
   not_made refused failed = elim (is_no_host refusal) [
-      inl is ↦ record {
-        alone = record {
-          refusal = refusal;
-          which = inl is;
-          line = line;
-          follows = subst (λ (c : Held S). KeepsDisk (state g old) (state g c)) (sym (refused is).0) (keeps_disk (state g old));
-          stays = λ clean. inl (ap (λ (c : Held S). standing (state g c)) (refused is).0);
-        };
-        not_empty = λ h. (refused h).1;
-      }
+    | inl is ↦ record {
+      alone = record {
+        refusal = refusal;
+        which = inl is;
+        line = line;
+        follows = subst (λ (c : Held S). KeepsDisk (state g old) (state g c)) (sym (refused is).0) (keeps_disk (state g old));
+        stays = λ clean. inl (ap (λ (c : Held S). standing (state g c)) (refused is).0);
+      };
+      not_empty = λ h. (refused h).1;
+    }
     | inr isnt ↦ record {
-        alone = record {
-          refusal = refusal;
-          which = inr (failed isnt).0;
-          line = line;
-          follows = (failed isnt).2;
-          stays = λ clean. inr ((failed isnt).3 clean);
-        };
-        not_empty = λ h. absurd (isnt h);
-      }
+      alone = record {
+        refusal = refusal;
+        which = inr (failed isnt).0;
+        line = line;
+        follows = (failed isnt).2;
+        stays = λ clean. inr ((failed isnt).3 clean);
+      };
+      not_empty = λ h. absurd (isnt h);
+    }
   ]
 
   pub not_found : (refusal ≡ NotAHostFile → IsStateClean (state g new) → (standing (state g new) ≡ standing (state g old))
@@ -54,14 +54,14 @@ module _ {S : Type 0} (g : Ghosts S) (old new : Held S) (refusal : Refusal) (pri
       → KeepsDisk (state g old) (state g new) → (IsOpen (state g old) → LeavesNothingNew (state g old) (state g new))
       → IsNotFound (state g old) (state g new) printed
   not_found refused failed keeps leaves = elim (is_no_host refusal) [
-      inl is ↦ record {
-        alone = record { refusal = refusal; which = inl is; line = line; follows = keeps; stays = λ clean. inl (refused is clean).0 };
-        no_host = λ h clean. (refused h clean).1;
-        survives = leaves;
-      }
+    | inl is ↦ record {
+      alone = record { refusal = refusal; which = inl is; line = line; follows = keeps; stays = λ clean. inl (refused is clean).0 };
+      no_host = λ h clean. (refused h clean).1;
+      survives = leaves;
+    }
     | inr isnt ↦ record {
-        alone = record { refusal = refusal; which = inr (failed isnt).0; line = line; follows = keeps; stays = λ clean. inr ((failed isnt).1 clean) };
-        no_host = λ h. absurd (isnt h);
-        survives = leaves;
-      }
+      alone = record { refusal = refusal; which = inr (failed isnt).0; line = line; follows = keeps; stays = λ clean. inr ((failed isnt).1 clean) };
+      no_host = λ h. absurd (isnt h);
+      survives = leaves;
+    }
   ]
