@@ -27,4 +27,4 @@ pub returns-in_ok-refused-in-Err : goal.returns-in_ok-refused-in-Err
 returns-in_ok-refused-in-Err g c =
     let it = c.in-Err.ensures in
     let told = c.in_ok-refused-in-Err.ensures in
-    rw told.0 (inl (not_found g.S.Store _ _ _ _ told.1 it.refused it.failed it.keeps it.leaves))
+    rw told.0 (inl (not_found g.S.Store c.args.connection c.in-Err.error.connection _ _ told.1 it.refused it.failed it.keeps it.leaves))
