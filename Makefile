@@ -1,8 +1,10 @@
 # demo: the main job on its stored run. try FILE=..: a script of your own. build: the proved program. test: all examples and
-# tests, without proof, in minutes. gate: every proof, wrong body, example and test, from nothing. times: the gate, and then
-# what each crate cost, in seconds of a processor ('tools/gate-times COMMAND..' tells it of any run). wrong-bodies: tries the
-# wrong bodies that the gate leaves out (wrong-bodies/README.md); of one crate by CRATE=bh_docs. lint: the layout of all sources.
-# bench: the program's speed and memory; lookups: the time of lookups by key at 1,000 and 100,000 rows on a file; versions:
+# tests, on the programs of `make gate` where they are of these sources, else without proof, in minutes. gate: every proof and
+# stored run, from nothing. times: the gate, and then what each crate cost, in seconds of a processor ('tools/gate-times
+# COMMAND..' tells it of any run). wrong-bodies: tries and stamps the wrong bodies whose stamp isn't true any more
+# (wrong-bodies/README.md); of one crate by CRATE=bh_docs. stamps: what CI asks of them, every stamp true and those of one
+# crate refused anew. lint: the layout of all sources.
+# bench: the program's speed and memory; lookups: the time of lookups by key at 1,000 and 100,000 rows; versions:
 # that of requests on many versions and keys; serving: puts and gets over sockets beside nginx; bodies: those of small and
 # great bodies, new and known, and their memory; blocks: the time of a block among 1,000 and 100,000; uploads: that of a part
 # among 1,000 and 10,000; pages: that of pages of a listing; quotas: what a quota and rules for uploads cost; sweeps: a
@@ -10,7 +12,7 @@
 # most (all bench/README.md).
 # memory: the stored run with each allocation refused in turn. others: drawn scripts of two tenants, each of whom is answered as
 # where the other's events, sweeps and reports are left out.
-.PHONY: demo try build test gate times wrong-bodies lint bench lookups versions serving bodies blocks uploads pages quotas sweeps profile memory others
+.PHONY: demo try build test gate times wrong-bodies stamps lint bench lookups versions serving bodies blocks uploads pages quotas sweeps profile memory others
 
 demo:
 	@tools/bucketd <crates/bucketd/stdin
@@ -25,13 +27,16 @@ test:
 	@tools/test
 
 gate:
-	@rt ci
+	@tools/gate
 
 times:
-	@tools/gate-times rt ci
+	@tools/gate-times tools/gate
 
 wrong-bodies:
 	@tools/wrong-bodies $(CRATE)
+
+stamps:
+	@tools/wrong-bodies --demand
 
 lint:
 	@tools/lint-layout

@@ -1,5 +1,15 @@
-"""Lines of scripts: events as bucketd and examples read them."""
+"""Lines of scripts: events as bucketd reads them, and the time that `bucketd script` takes for some of them."""
 import json
+import os
+import subprocess
+import sys
+import threading
+import time
+
+# Commands about a tenant whose name is none, answered like nothing else in a script. They are more than the buffer before
+# standard output holds, so that the first of their answers is out once they are answered.
+MARKS = 700
+MARK = b"45 InvalidName\n"
 
 
 def request(method, key, secret, path, body=None):
@@ -9,3 +19,32 @@ def request(method, key, secret, path, body=None):
 
 def line(members):
     return json.dumps(members) + "\n"
+
+
+def answered(program, first, last):
+    """What a host in memory answers to some lines and then to the last ones, and the microseconds of each."""
+    mark = line({"at": 0, "op": "usage", "tenant": "-"})
+    script = "".join([*first, *[mark] * MARKS, *last]).encode()
+    started = time.perf_counter()
+    process = subprocess.Popen([program, "script"], stdin=subprocess.PIPE, stdout=subprocess.PIPE)
+    feed = threading.Thread(target=lambda: (process.stdin.write(script), process.stdin.close()))
+    feed.start()
+    text, begun = bytearray(), None
+    while piece := os.read(process.stdout.fileno(), 1 << 16):
+        seen = max(0, len(text) - len(MARK))
+        text += piece
+        if begun is None and text.find(MARK, seen) >= 0:
+            begun = time.perf_counter()
+    ended = time.perf_counter()
+    feed.join()
+    if process.wait() != 0 or text.count(MARK) != MARKS:
+        sys.exit(f"an event was answered otherwise than it should be: status {process.returncode}, {bytes(text[-300:])}")
+    return bytes(text).replace(MARK, b""), 1e6 * (begun - started), 1e6 * (ended - begun)
+
+
+def program_of(words):
+    """The bucketd that was named, or the proved one."""
+    path = os.path.abspath(words[0] if words else "crates/bucketd/out/bucketd")
+    if not os.path.exists(path):
+        sys.exit(f"{path} isn't there: 'make build' makes it")
+    return path

@@ -1,27 +1,22 @@
 #!/usr/bin/env python3
-"""Times lookups by key in a host on a file, at 1,000 rows and at 100,000.
+"""Times lookups by key in a host in memory, at 1,000 rows and at 100,000.
 
-    bench/lookups.py [PROGRAM]        PROGRAM: crates/examples/out/examples
+    bench/lookups.py [PROGRAM]        PROGRAM: crates/bucketd/out/bucketd
 
 Two lookups, each by 10,000 requests that write nothing: `authenticate`, which ends at a wrong secret, among that many
 tenants with an access key each; `get`, of an object of one byte, among that many objects of one bucket. Exit 1 where
 the greater table takes more than 3 times as long.
 """
-import os
 import re
-import subprocess
 import sys
-import tempfile
 
-from events import line, request
+from events import answered, line, program_of, request
 
 FEW, MANY = 1000, 100000
 LOOKUPS = 10000
 GREATEST_RATIO = 3
 # A prime that divides neither number of rows, so that the lookups go through all rows and not in their order.
 STEP = 7919
-# A file there is in memory: on a disk each of the events that fill the tables would wait for it.
-FOLDER = "/dev/shm" if os.path.isdir("/dev/shm") else None
 
 
 def tenant_with_key(tenant):
@@ -46,8 +41,8 @@ def authenticate(rows):
         out += tenant_with_key(f"t{row}")
     out += [http("GET", f"t{row}", "anothersecret", "/plans/x") for row in looked_up(rows)]
 
-    def is_right(answered):
-        counts = [len(re.findall(it, answered, re.M)) for it in (rb"^tenant t\d+$", rb"^key t\d+\$k1$", rb'"AccessDenied"')]
+    def is_right(text):
+        counts = [len(re.findall(it, text, re.M)) for it in (rb"^tenant t\d+$", rb"^key t\d+\$k1$", rb'"AccessDenied"')]
         return counts == [rows, rows, LOOKUPS]
 
     return out, is_right
@@ -59,9 +54,9 @@ def get(rows):
     out += [http("PUT", "green", "greensecret", f"/plans/k{row}", "") for row in range(rows)]
     out += [http("GET", "green", "greensecret", f"/plans/k{row}") for row in looked_up(rows)]
 
-    def is_right(answered):
-        stored = len(re.findall(rb"^content-length: 0\r\nx-amz-checksum-sha256: ", answered, re.M))
-        found = len(re.findall(rb"^accept-ranges: bytes\r\nx-amz-checksum-sha256: ", answered, re.M))
+    def is_right(text):
+        stored = len(re.findall(rb"^content-length: 0\r\nx-amz-checksum-sha256: ", text, re.M))
+        found = len(re.findall(rb"^accept-ranges: bytes\r\nx-amz-checksum-sha256: ", text, re.M))
         return stored == rows and found == LOOKUPS
 
     return out, is_right
@@ -69,19 +64,14 @@ def get(rows):
 
 def run(program, script, is_right):
     """The microseconds of all events that fill the tables, and of all lookups."""
-    with tempfile.TemporaryDirectory(dir=FOLDER) as folder:
-        words = [program, "timed", os.path.join(folder, "host"), str(LOOKUPS)]
-        done = subprocess.run(words, input="".join(script).encode(), stdout=subprocess.PIPE)
-    times = [(int(count), int(time)) for count, time in re.findall(rb"^(\d+) events: (\d+) microseconds$", done.stdout, re.M)]
-    if done.returncode != 0 or [count for count, _ in times] != [len(script) - LOOKUPS, LOOKUPS] or not is_right(done.stdout):
-        sys.exit(f"an event was answered otherwise than it should be: status {done.returncode}, {done.stdout[-300:]}")
-    return [time for _, time in times]
+    text, filling, looking = answered(program, script[:-LOOKUPS], script[-LOOKUPS:])
+    if not is_right(text):
+        sys.exit(f"an event was answered otherwise than it should be: {text[-300:]}")
+    return filling, looking
 
 
 def main():
-    program = sys.argv[1] if len(sys.argv) > 1 else "crates/examples/out/examples"
-    if not os.path.exists(program):
-        sys.exit(f"{program} isn't there: 'rt run' in crates/examples makes it")
+    program = program_of(sys.argv[1:])
     print(f"{'lookup':>12} {'rows':>7} {'filled in, s':>12} {'lookups':>8} {'microseconds a lookup':>21} {'ratio':>6}")
     is_flat = True
     for lookup in (authenticate, get):

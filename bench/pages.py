@@ -1,7 +1,7 @@
 #!/usr/bin/env python3
-"""Times pages of ListObjectsV2 in a host on a file that lies in memory, beside the same rows in SQLite itself.
+"""Times pages of ListObjectsV2 in a host in memory, beside the same rows in SQLite itself.
 
-    bench/pages.py [PROGRAM]        PROGRAM: crates/examples/out/examples
+    bench/pages.py [PROGRAM]        PROGRAM: crates/bucketd/out/bucketd
 
 Pages of 1,000 of 10,000 and of 100,000 keys, from keys all over the bucket on; pages of 2 names of which each rolls 50,000
 keys up; and one page of 1,000 names of which each rolls 100 keys up. Beside the first two: what SQLite's own program, as
@@ -11,12 +11,11 @@ Exit 1 where a page of 1,000 takes more than 1.5 times as long in the great buck
 import os
 import re
 import sqlite3
-import subprocess
 import sys
 import tempfile
 import time
 
-from events import line, request
+from events import answered, line, program_of, request
 
 REQUESTS = 200
 GREATEST_RATIO = 1.5
@@ -40,14 +39,10 @@ def table(keys):
 def milliseconds(program, keys, targets):
     """The time of one request for a page."""
     first, last = table(keys), [http("GET", target) for target in targets]
-    with tempfile.TemporaryDirectory(dir=FOLDER) as folder:
-        words = [program, "timed", os.path.join(folder, "host"), str(len(last))]
-        done = subprocess.run(words, input="".join(first + last).encode(), stdout=subprocess.PIPE)
-    times = [(int(count), int(spent)) for count, spent in re.findall(rb"^(\d+) events: (\d+) microseconds$", done.stdout, re.M)]
-    found = len(re.findall(rb"^HTTP/1.1 200 ", done.stdout, re.M))
-    if done.returncode != 0 or [count for count, _ in times] != [len(first), len(last)] or found != len(first) - 2 + len(last):
-        sys.exit(f"a request was answered otherwise than it should be: status {done.returncode}, {done.stdout[-300:]}")
-    return times[1][1] / len(last) / 1000
+    text, _, spent = answered(program, first, last)
+    if len(re.findall(rb"^HTTP/1.1 200 ", text, re.M)) != len(first) - 2 + len(last):
+        sys.exit(f"a request was answered otherwise than it should be: {text[-300:]}")
+    return spent / len(last) / 1000
 
 
 def sqlite_milliseconds(keys, starts):
@@ -71,9 +66,7 @@ def sqlite_milliseconds(keys, starts):
 
 
 def main():
-    program = sys.argv[1] if len(sys.argv) > 1 else "crates/examples/out/examples"
-    if not os.path.exists(program):
-        sys.exit(f"{program} isn't there: 'rt run' in crates/examples makes it")
+    program = program_of(sys.argv[1:])
     print("milliseconds a page".ljust(44) + f"{'bucketd':>10}{'SQLite':>10}")
     pages = []
     for many in (10_000, 100_000):

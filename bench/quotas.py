@@ -1,24 +1,23 @@
 #!/usr/bin/env python3
-"""Times what a quota and rules for uploads cost, in a host on a file that lies in memory.
+"""Times what a quota and rules for uploads cost, in a host in memory.
 
-    bench/quotas.py [PROGRAM]        PROGRAM: crates/examples/out/examples
+    bench/quotas.py [PROGRAM]        PROGRAM: crates/bucketd/out/bucketd
 
 A put of a byte under a new key and GET /?usage, where the tenant has 10, 1,000 and 10,000 objects; a put over an object of
-the same size, for which nothing is added up; and a GET of an object where the tenant has 0 and 10,000 live uploads in a
+the same size, for which nothing is added up, by `bucketd serve` on a file that lies in memory, a connection each (the store
+in memory passes over a whole table where a row goes); and a GET of an object where the tenant has 0 and 10,000 live uploads in a
 bucket with a rule, none of them stale. Exit 1 where the last takes more than 1.3 times as long with uploads as without.
 """
-import os
 import re
-import subprocess
 import sys
 import tempfile
 
-from events import line, request
+from events import answered, line, program_of, request
+from server import SHARED_MEMORY, Server
 
 REQUESTS = 500
 GREATEST_RATIO = 1.3
 NOW = 1_700_000_000
-FOLDER = "/dev/shm" if os.path.isdir("/dev/shm") else None
 RULE = '{"Rules":[{"AbortIncompleteMultipartUpload":{"DaysAfterInitiation":1},"Status":"Enabled"}]}'
 
 
@@ -38,30 +37,33 @@ START = [
 def microseconds(program, more, last):
     """The time of one of the last requests."""
     first = START + more
-    with tempfile.TemporaryDirectory(dir=FOLDER) as folder:
-        words = [program, "timed", os.path.join(folder, "host"), str(len(last))]
-        done = subprocess.run(words, input="".join(first + last).encode(), stdout=subprocess.PIPE)
-    times = [(int(count), int(spent)) for count, spent in re.findall(rb"^(\d+) events: (\d+) microseconds$", done.stdout, re.M)]
-    found = len(re.findall(rb"^HTTP/1.1 200 ", done.stdout, re.M))
-    if done.returncode != 0 or [count for count, _ in times] != [len(first), len(last)] or found != len(first) - 2 + len(last):
-        sys.exit(f"a request was answered otherwise than it should be: status {done.returncode}, {done.stdout[-300:]}")
-    return times[1][1] / len(last)
+    text, _, spent = answered(program, first, last)
+    if len(re.findall(rb"^HTTP/1.1 200 ", text, re.M)) != len(first) - 2 + len(last):
+        sys.exit(f"a request was answered otherwise than it should be: {text[-300:]}")
+    return spent / len(last)
+
+
+def served_microseconds(program, objects):
+    """The time of a put over an object of the same size, by a server, where there are so many others."""
+    with tempfile.TemporaryDirectory(dir=SHARED_MEMORY) as folder, Server(program, folder) as server:
+        server.put("/one", b"1")
+        for n in range(objects):
+            server.put(f"/k{n}", b"")
+        return 1000 * sum(server.put("/one", b"2") for _ in range(REQUESTS)) / REQUESTS
 
 
 def main():
-    program = sys.argv[1] if len(sys.argv) > 1 else "crates/examples/out/examples"
-    if not os.path.exists(program):
-        sys.exit(f"{program} isn't there: 'rt run' in crates/examples makes it")
+    program = program_of(sys.argv[1:])
     shapes = [10, 1000, 10_000]
     objects = {many: [http("PUT", f"/plans/k{n}", "") for n in range(many)] for many in shapes}
     timed = {
         "PUT of a new key": [http("PUT", f"/plans/new{n}", "x") for n in range(REQUESTS)],
-        "PUT of as many bytes as before": [http("PUT", "/plans/one", "2")] * REQUESTS,
         "GET /?usage": [http("GET", "/?usage")] * 20,
     }
     print("microseconds a request".ljust(36) + "".join(f"{f'{many:,} objects':>18}" for many in shapes))
     for kind, last in timed.items():
         print(kind.ljust(36) + "".join(f"{microseconds(program, objects[many], last):>18.1f}" for many in shapes), flush=True)
+    print("PUT of as many bytes as before".ljust(36) + "".join(f"{served_microseconds(program, many):>18.1f}" for many in shapes), flush=True)
     gets = [http("GET", "/plans/one")] * 5000
     few, many = (min(microseconds(program, [http("POST", f"/plans/u{n}?uploads", "") for n in range(uploads)], gets) for _ in range(3)) for uploads in (0, 10_000))
     print(f"GET with no live upload {few:.1f}, with 10,000 {many:.1f}: {many / few:.2f} times")

@@ -55,10 +55,10 @@ class Asked:
         self.process.kill()
         self.process.wait()
 
-    def ask(self, method, key, body=None, status=b"200 OK"):
-        """The milliseconds of one request, and the body of what it was answered."""
+    def ask(self, method, key, body=None, status=b"200 OK", tenant="green"):
+        """The milliseconds of one request of a tenant, and the body of what it was answered."""
         length = b"" if body is None else b"content-length: %d\r\n" % len(body)
-        asked = method + b" /plans%s HTTP/1.1\r\n" % key.encode() + CREDENTIALS + length + b"\r\n" + (body or b"")
+        asked = method + b" /plans%s HTTP/1.1\r\n" % key.encode() + CREDENTIALS.replace(b"green$", b"%s$" % tenant.encode()) + length + b"\r\n" + (body or b"")
         before = time.perf_counter()
         with socket.create_connection(("127.0.0.1", self.port)) as s:
             s.sendall(asked)
@@ -92,14 +92,14 @@ class PlainServer(Asked):
 class Server(Asked):
     """`bucketd serve` on a host in a folder, which is made with the tenant green and its bucket where it isn't there."""
 
-    def __init__(self, program, folder):
+    def __init__(self, program, folder, *words):
         self.file, self.port = os.path.join(folder, "host"), free_port()
         is_new = not os.path.exists(self.file)
         if is_new:
             self.command(program, "init")
             self.command(program, "tenant-add", "--tenant", "green", "--quota", str(1 << 40))
             self.command(program, "key-add", "--tenant", "green", "--name", "k1", "--secret", "greensecret")
-        self.process = subprocess.Popen([program, "serve", "--file", self.file, "--port", str(self.port), "--count", str(1 << 40)])
+        self.process = subprocess.Popen([program, "serve", "--file", self.file, "--port", str(self.port), "--count", str(1 << 40), *words])
         self.wait()
         if is_new:
             self.ask(b"PUT", "", b"")

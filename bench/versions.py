@@ -1,24 +1,20 @@
 #!/usr/bin/env python3
-"""Times requests on versions in a host on a file that lies in memory, without and with many versions and keys.
+"""Times requests on versions in a host in memory, without and with many versions and keys.
 
-    bench/versions.py [PROGRAM]        PROGRAM: crates/examples/out/examples
+    bench/versions.py [PROGRAM]        PROGRAM: crates/bucketd/out/bucketd
 
 GET and HEAD of the newest, GET by id, PUT and DELETE in an Enabled bucket: of one key with 10, 100 and 10,000 versions,
 and of 10,000 keys with one each. Exit 1 where a GET of the newest takes more than twice as long with 10,000 versions as
 with 10.
 """
-import os
 import re
-import subprocess
 import sys
-import tempfile
 
-from events import line, request
+from events import answered, line, program_of, request
 
 REQUESTS = 5000
 GREATEST_RATIO = 2
 STEP = 7919
-FOLDER = "/dev/shm" if os.path.isdir("/dev/shm") else None
 ENABLED = '{"Status":"Enabled"}'
 
 
@@ -50,21 +46,15 @@ def timed(kind, versions, keys):
 def microseconds(program, kind, versions, keys):
     """The time of one request."""
     first, (last, status) = table(versions, keys), timed(kind, versions, keys)
-    with tempfile.TemporaryDirectory(dir=FOLDER) as folder:
-        words = [program, "timed", os.path.join(folder, "host"), str(REQUESTS)]
-        done = subprocess.run(words, input="".join(first + last).encode(), stdout=subprocess.PIPE)
-    times = [(int(count), int(time)) for count, time in re.findall(rb"^(\d+) events: (\d+) microseconds$", done.stdout, re.M)]
-    found = len(re.findall(rb"^HTTP/1.1 %d " % status, done.stdout, re.M))
+    text, _, spent = answered(program, first, last)
     expected = REQUESTS + (len(first) - 2 if status == 200 else 0)
-    if done.returncode != 0 or [count for count, _ in times] != [len(first), REQUESTS] or found != expected:
-        sys.exit(f"{kind}: a request was answered otherwise than it should be: status {done.returncode}, {done.stdout[-300:]}")
-    return times[1][1] / REQUESTS
+    if len(re.findall(rb"^HTTP/1.1 %d " % status, text, re.M)) != expected:
+        sys.exit(f"{kind}: a request was answered otherwise than it should be: {text[-300:]}")
+    return spent / REQUESTS
 
 
 def main():
-    program = sys.argv[1] if len(sys.argv) > 1 else "crates/examples/out/examples"
-    if not os.path.exists(program):
-        sys.exit(f"{program} isn't there: 'rt run' in crates/examples makes it")
+    program = program_of(sys.argv[1:])
     shapes = [(10, 1), (100, 1), (10000, 1), (1, 10000)]
     print("microseconds a request".ljust(24) + "".join(f"{f'{versions} x {keys} keys':>18}" for versions, keys in shapes))
     kinds = ["get newest", "head newest", "get by id", "put", "delete"]

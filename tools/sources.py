@@ -6,7 +6,7 @@ from dataclasses import dataclass
 
 FUNCTION = re.compile(r'( *)(pub(?:\([^)]*\))? )?(?:const |unsafe |extern "[^"]*" )*fn (\w+)')
 CLAUSE = re.compile(r" *(?:requires|ensures|ghost)\b")
-IMPL = re.compile(r"( *)(?:unsafe )?(?:impl\b(?:<.*?>)? (?:(?P<trait>\w[\w:]*)(?:<.*>)? for )?|trait )(?P<type>\w[\w:]*)")
+IMPL = re.compile(r"( *)(?:unsafe )?(?:impl\b(?:<.*?>)? (?:(?P<trait>\w[\w:]*)(?P<of><.*>)? for )?|trait )(?P<type>\w[\w:]*)")
 TEST_MODULE = re.compile(r"(?:pub )?mod (\w+)(;| \{)$")
 
 
@@ -16,6 +16,7 @@ class Function:
 
     name: str
     owner: str  # the type or trait whose method it is, or ""
+    trait: str  # the trait that its type implements by it, with the trait's own types, as `FromRefusal`, or ""
     is_private: bool  # a free function that only its crate can name
     first: int
     body: int
@@ -24,17 +25,18 @@ class Function:
 
 def functions(lines):
     """The functions of a file that have a body of their own lines."""
-    found, owner = [], ""
+    found, owner, trait = [], "", ""
     for at, line in enumerate(lines):
         if impl := IMPL.match(line):
             owner = impl["type"].rpartition(":")[2]
+            trait = "".join(re.findall(r"(?<!')\b\w+\b(?!::)", (impl["trait"] or "") + (impl["of"] or "")))
         elif line == "}":
-            owner = ""
+            owner = trait = ""
         head = FUNCTION.match(line)
         body = head and body_of(lines, at, head[1])
         if body:
             is_private = not owner and not head[1] and not head[2]
-            found.append(Function(head[3], owner, is_private, at, *body))
+            found.append(Function(head[3], owner, trait, is_private, at, *body))
     return found
 
 

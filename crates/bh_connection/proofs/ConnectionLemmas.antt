@@ -150,4 +150,4 @@ fixed_wanting reading early =
 
 -- nothing was taken yet
 pub took_nothing : (limits : HostLimits) (given : Option (List ℕ)) → TookAtMost limits given given []
-took_nothing limits given = record { consumed = consumes_none given; within = λ n extent. omega arith }
+took_nothing limits given = record { consumed = consumes_none given; short = inl (omega arith); within = λ n extent. omega arith }

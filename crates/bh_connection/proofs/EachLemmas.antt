@@ -1,17 +1,17 @@
 -- Connections after connections.
-use Rattle.std.proofs.Common.{◌≡◌, ℕ, ◌+◌, ◌<◌, List, [], ◌∷◌, ◌++◌, map, length, take, drop, set, get_or, refl, sym, ap, subst, ◌∙◌, arith, Option, Some, None, add-zero, append-nil}
+use Rattle.std.proofs.Common.{◌≡◌, ℕ, ◌+◌, ◌<◌, ◌≤◌, List, [], ◌∷◌, ◌++◌, map, length, take, drop, set, get_or, refl, sym, ap, subst, ◌∙◌, arith, Option, Some, None, add-zero, append-nil}
 use Rattle.std.specs.List.{filter_map, cons_option}
 use Rattle.std.specs.Option.{option_map}
-use Rattle.std.proofs.lemmas.List.{map-append, take_more, take_more_set, get_or-drop, drop-set-lt, drop-drop}
+use Rattle.std.proofs.lemmas.List.{map-append, take_all, take_more, take_more_set, get_or-drop, drop-set-lt, drop-drop}
 use Rattle.std.proofs.lemmas.List.Elements.{filter_map-append}
 use Rattle.bh_types.specs.Limits.{HostLimits}
 use Rattle.bh_event.specs.Events.{Arrival as Event}
 use Rattle.bh_tables.specs.Typed.{Tables}
 use Rattle.bh_storage.specs.Calls.{Seen}
-use Rattle.bh_host.specs.Runs.{Told, RanOn}
+use Rattle.bh_host.specs.Runs.{Told, RanOn, HasRunOn}
 use Rattle.bh_host.proofs.Running as running
 use Rattle.bh_connection.specs.Connections.{request_at, Ends, Outcome, Came, Did, DidSome, CameTo}
-use Rattle.bh_connection.specs.Each.{Row, EachCame, event_of, told_of, HasServed, RanSome}
+use Rattle.bh_connection.specs.Each.{Row, EachCame, event_of, told_of, HasServed, HasServedAlone, RanSome}
 use Rattle.bh_connection.specs.declared.served.Served.{Served}
 
 each-append : (limits : HostLimits) (rows : List Row) (row : Row) → EachCame limits rows → Came limits row.before row.after row.served row.outcome → EachCame limits (rows ++ row ∷ [])
@@ -69,6 +69,25 @@ module _ {H : Type 0} (IsIntact IsOpen : H → Type 0) (seen : H → Seen) (left
       (subst (λ b. P (map ends (take i firsts) ++ ends was ∷ []) b more) (sym news)
       (subst (P (map ends (take i firsts) ++ ends was ∷ []) (map ends (take i nows) ++ ends is ∷ [])) (sym same)
       (served_more (map ends (take i firsts)) (map ends (take i nows)) serveds (ends was) (ends is) served old mid new still limits so_far one)))
+
+  -- each tenant was alone in a run
+  run_alone : (events : List Event) (tolds : List Told) (old new : H) → RanOn IsOpen seen left events tolds old new → HasRunOn IsOpen seen events tolds old new
+  run_alone events tolds old new ran =
+      let alone = running.each_is_alone events tolds (seen old).now ran.end ran.ran in
+      record { end = ran.end; turns = alone.0; has_run = alone.1; now = ran.now }
+
+  -- and in what connections brought
+  served_alone : (befores afters : List Ends) (serveds : List Served) (old new : H) → IsIntact new → HasServed IsIntact IsOpen seen left befores afters serveds old new
+      → HasServedAlone IsIntact IsOpen seen left befores afters serveds old new
+  served_alone befores afters serveds old new intact (rows, served) =
+      (rows, served, run_alone (filter_map event_of rows) (filter_map told_of rows) old new (served.ran intact))
+
+  pub served_alone_all : {A : Type 0} (ends : A → Ends) (firsts nows : List A) (i : ℕ) (serveds : List Served) (old new : H) → length firsts ≤ i → length nows ≤ i → IsIntact new
+      → HasServed IsIntact IsOpen seen left (map ends (take i firsts)) (map ends (take i nows)) serveds old new → HasServedAlone IsIntact IsOpen seen left (map ends firsts) (map ends nows) serveds old new
+  served_alone_all ends firsts nows i serveds old new le le2 intact served =
+      let P : List Ends → List Ends → Type 0 = λ a b. HasServed IsIntact IsOpen seen left a b serveds old new in
+      served_alone (map ends firsts) (map ends nows) serveds old new intact
+      (subst (P (map ends firsts)) (ap (map ends) (take_all i nows le2)) (subst (λ a. P a (map ends (take i nows))) (ap (map ends) (take_all i firsts le)) served))
 
   -- ---- some requests
 

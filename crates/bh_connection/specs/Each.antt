@@ -4,7 +4,7 @@ use Rattle.bh_types.specs.Limits.{HostLimits}
 use Rattle.bh_event.specs.Events.{Arrival as Event}
 use Rattle.bh_tables.specs.Typed.{Tables}
 use Rattle.bh_storage.specs.Calls.{Seen}
-use Rattle.bh_host.specs.Runs.{Told, RanOn}
+use Rattle.bh_host.specs.Runs.{Told, RanOn, HasRunOn}
 use Rattle.bh_connection.specs.Connections.{request_at, Ends, ends_of, Outcome, Came}
 use Rattle.bh_connection.specs.declared.each.Arrival.{Arrival}
 use Rattle.bh_connection.specs.declared.served.Served.{Served}
@@ -44,6 +44,11 @@ pub record HasServedAs {H : Type 0} (IsIntact IsOpen : H → Type 0) (seen : H �
 
 abbrev pub HasServed : {H : Type 0} → (H → Type 0) → (H → Type 0) → (H → Seen) → (H → Tables → Type 0) → List Ends → List Ends → List Served → H → H → Type 0
 HasServed IsIntact IsOpen seen left before after serveds old new = (rows : List Row) × HasServedAs IsIntact IsOpen seen left before after serveds old new rows
+
+-- the same rows, and each tenant is alone in what they brought
+abbrev pub HasServedAlone : {H : Type 0} → (H → Type 0) → (H → Type 0) → (H → Seen) → (H → Tables → Type 0) → List Ends → List Ends → List Served → H → H → Type 0
+HasServedAlone IsIntact IsOpen seen left before after serveds old new =
+    (rows : List Row) × HasServedAs IsIntact IsOpen seen left before after serveds old new rows × HasRunOn IsOpen seen (filter_map event_of rows) (filter_map told_of rows) old new
 
 -- some requests came in turn, each at a reading of the clock, and no other event
 abbrev pub RanSome : {H : Type 0} → (H → Type 0) → (H → Seen) → (H → Tables → Type 0) → H → H → Type 0

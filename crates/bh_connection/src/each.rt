@@ -1,7 +1,7 @@
 ghost use Rattle.std.specs.Prelude.{◌≡◌, length, map, false, All, IfOk, OnErr};
 ghost use Rattle.bh_storage.specs.Calls.{Clean, IsAtRest};
 ghost use Rattle.bh_connection.specs.Connections.{CameTo};
-ghost use Rattle.bh_connection.specs.Each.{IsGoing, HasServed, ends};
+ghost use Rattle.bh_connection.specs.Each.{IsGoing, HasServed, HasServedAlone, ends};
 
 use crate::connection::serve_connection;
 use crate::served::Served;
@@ -32,6 +32,9 @@ pub fn serve_each<H: Storage, R: Read, W: Write>(
     ensures ready { Clean H.IsIntact H.IsOpen host.new → IsAtRest H.IsSound (H.seen host.new) }
     ensures limits { (H.seen host.new).limits ≡ (H.seen host.old).limits }
     ensures served { IfOk result (λ serveds. HasServed H.IsIntact H.IsOpen H.seen H.left
+        (map (ends R.remaining W.contents) arrivals.old) (map (ends R.remaining W.contents) arrivals.new)
+        serveds.items host.old host.new) }
+    ensures alone { IfOk result (λ serveds. H.IsIntact host.new → HasServedAlone H.IsIntact H.IsOpen H.seen H.left
         (map (ends R.remaining W.contents) arrivals.old) (map (ends R.remaining W.contents) arrivals.new)
         serveds.items host.old host.new) }
     ensures count { IfOk result (λ serveds. length serveds.items ≡ length arrivals.old) }

@@ -1,12 +1,12 @@
 -- What was taken from a reader that tells its bytes, or that does not.
-use Rattle.std.specs.Prelude.{◌≡◌, ◌≤◌, ◌⊎◌, ℕ, Bool, true, false, Ok, List, [], ◌∷◌, length, Option, Some, None, Result}
+use Rattle.std.specs.Prelude.{◌≡◌, ◌≤◌, ◌+◌, ◌⊎◌, ℕ, Bool, true, false, Ok, List, [], ◌∷◌, length, Option, Some, None, Result}
 use Rattle.std.specs.Io.KnownBytes.{Consumes, Keeps, IsAtEnd}
 use Rattle.bh_types.specs.Limits.{HostLimits}
 use Rattle.bh_types.specs.declared.refusal.Refusal.{Refusal}
 use Rattle.httparse.specs.Grammar.{RequestHead}
 use Rattle.bh_http.specs.Reading.{Reads, HasHead, HasNoHead, framing, parts_of}
 use Rattle.bh_http.specs.Views.{Taken}
-use Rattle.bh_http.specs.Arriving.{HasExtent, NeverAccepted}
+use Rattle.bh_http.specs.Arriving.{HasExtent, NeverAccepted, Announces}
 use Rattle.bh_link.specs.declared.request.TakeError.{TakeError}
 use Rattle.bh_link.specs.declared.request.TakeError.TheVariants.{ReadFailed, OutOfMemory}
 
@@ -20,15 +20,21 @@ abbrev pub all_of : Option (List ℕ) → List ℕ → List ℕ
 all_of None taken = taken
 all_of (Some all) taken = all
 
+-- a head takes at most 16,384 bytes, and no more than the body that it announces comes after it
+abbrev pub IsShort : HostLimits → List ℕ → Type 0
+IsShort limits taken = (length taken ≤ 16384) ⊎ ((size : ℕ) × Announces limits taken size × (length taken ≤ 16384 + size))
+
 -- a request was taken: what was taken is read as all bytes are, and of a request that is accepted it is head and body
 pub record Took (limits : HostLimits) (old new : Option (List ℕ)) (taken : List ℕ) : Type 0 where
   pub consumed : Consumes old new taken
+  pub short : IsShort limits taken
   pub decided : (answer : Result Taken Refusal) → Reads limits taken answer → Reads limits (all_of old taken) answer
   pub whole : (n : ℕ) → HasExtent limits (all_of old taken) n → length taken ≡ n
 
 -- no byte was taken after head and body of a request that is accepted
 pub record TookAtMost (limits : HostLimits) (old new : Option (List ℕ)) (taken : List ℕ) : Type 0 where
   pub consumed : Consumes old new taken
+  pub short : IsShort limits taken
   pub within : (n : ℕ) → HasExtent limits (all_of old taken) n → length taken ≤ n
 
 -- these bytes are a head that announces a body of this size
@@ -41,6 +47,7 @@ CameTo limits new bytes body = (NeverAccepted limits bytes × (body ≡ 0)) ⊎ 
 
 pub record Opens (limits : HostLimits) (old new : Option (List ℕ)) (bytes : List ℕ) (body : ℕ) : Type 0 where
   pub consumed : Consumes old new bytes
+  pub short : length bytes ≤ 16384
   pub came_to : CameTo limits new bytes body
 
 abbrev pub is_fault : TakeError → Bool

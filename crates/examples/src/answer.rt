@@ -26,20 +26,6 @@ pub fn text(alloc: Global, shown: &str) -> Answer {
     Ok(String::from_str(alloc, shown)?)
 }
 
-/// The text, or `none`.
-pub fn text_or_none(alloc: Global, shown: Option<&str>) -> Answer {
-    text(alloc, shown.unwrap_or("none"))
-}
-
-pub fn yes_or_no(alloc: Global, holds: bool) -> Answer {
-    text(alloc, if holds { "yes" } else { "no" })
-}
-
-/// Bytes that are to be text.
-pub fn bytes(alloc: Global, shown: &[u8]) -> Answer {
-    Ok(String::from_utf8_lossy(alloc, shown)?)
-}
-
 /// The number of a refusal.
 pub fn refusal(alloc: Global, refusal: Refusal) -> Answer {
     Ok(refusal.number().to_string(alloc)?)

@@ -1,139 +1,115 @@
-//! Blocks that all tenants share, stored and removed on a new host in memory.
-
-ghost use Rattle.std.specs.Prelude.{OnOk};
-ghost use Rattle.bh_schema.specs.Connections.{InTransaction};
-ghost use Rattle.sqlite.specs.Held.{state};
-ghost use Rattle.bh_schema.specs.Layer.{IsStateClean};
-ghost use Rattle.bh_create.specs.Creation.{IsNewHost};
+//! The blocks that a host of any digest function has after objects were put and deleted, and sweeps.
 
 use crate::answer::{Answer, Fault};
+use crate::digest_runs::answers;
 use crate::digesters::{Constant, Parity};
 use crate::words::number;
-use bh_blocks::blocks::store_block;
 use bh_blocks::digester::Sha256Digester;
-use bh_blocks::removal::remove_unreferenced;
-use bh_create::create;
 use bh_schema::host::Digester;
-use bh_schema::rows::transactions::begin;
-use bh_types::limits::{Limits, Tuning};
+use bh_script::input::read_script;
 use sqlite::{Alter, Connection};
-use std::alloc::Global;
+use std::alloc::{AllocError, Global};
 
-/// `DIGEST: STEP; STEP..`, and what the steps show: DIGEST is `constant`, `parity` (of the number of bytes) or
-/// `sha256`.
+const START: &str = r#"{"at":0,"op":"tenant-add","tenant":"green","quota":1000000}
+{"at":0,"op":"key-add","tenant":"green","name":"k1","secret":"greensecret"}
+{"at":0,"http":"PUT /plans HTTP/1.1\nhost: h\nx-access-key: green$k1\nx-secret-key: greensecret\ncontent-length: 0\n\n"}
+"#;
+
+const BLOCKS: &str =
+    "SELECT ord || ' ' || CAST(bytes AS TEXT) || ',' FROM blocks ORDER BY ord, bytes";
+
+/// `DIGEST: STEP; STEP..`: what the sweeps are answered, and then the blocks, each with its ordinal. DIGEST is `constant`,
+/// `parity` (of the number of bytes) or `sha256`.
 pub fn answer(alloc: Global, input: &str) -> Answer {
-    match input.split_once(": ") {
-        Some(("constant", steps)) => shown(alloc, &Constant, steps),
-        Some(("parity", steps)) => shown(alloc, &Parity, steps),
-        Some(("sha256", steps)) => shown(alloc, &Sha256Digester, steps),
+    let (digest, steps) = input.split_once(": ").ok_or(Fault::Form)?;
+    let script = script_of(alloc, steps)?;
+    match digest {
+        "constant" => shown(alloc, Constant, script.as_str()),
+        "parity" => shown(alloc, Parity, script.as_str()),
+        "sha256" => shown(alloc, Sha256Digester, script.as_str()),
         _ => Err(Fault::Form),
     }
 }
 
-/// `store BYTES`: shows the ordinal.
-fn store<S: Alter, D: Digester>(
-    alloc: Global,
-    connection: &mut Connection<S>,
-    digester: &D,
-    bytes: &[u8],
-) -> Answer
-    requires { InTransaction S.Store connection.old }
-    ensures { OnOk result (InTransaction S.Store connection.new) }
-{
-    match store_block(connection, digester, bytes) {
-        Ok(name) => Ok(name.ord.to_string(alloc)?),
-        Err(_) => Err(Fault::Memory),
-    }
-}
-
-/// `fill COUNT`: stores the numbers from 0 (`first`) to COUNT (`end`) as texts, and shows the last one's ordinal.
-pub fn fill<S: Alter, D: Digester>(
-    alloc: Global,
-    connection: &mut Connection<S>,
-    digester: &D,
-    first: u64,
-    end: u64,
-) -> Answer
-    requires { InTransaction S.Store connection.old }
-    ensures { OnOk result (InTransaction S.Store connection.new) }
-{
-    let mut last = String::new(alloc);
-    for block in first..end {
-        let bytes = block.to_string(alloc)?;
-        last = store(alloc, connection, digester, bytes.as_bytes())?;
-    }
-    Ok(last)
-}
-
-/// `remove LIMIT`: shows how many blocks are removed.
-fn remove<S: Alter>(alloc: Global, connection: &mut Connection<S>, limit: u64) -> Answer
-    requires { InTransaction S.Store connection.old }
-    ensures { OnOk result (InTransaction S.Store connection.new) }
-{
-    let Ok(limit) = u32::try_from(limit) else {
-        return Err(Fault::Form);
-    };
-    match remove_unreferenced(connection, limit) {
-        Ok(count) => Ok(count.to_string(alloc)?),
-        Err(_) => Err(Fault::Memory),
-    }
-}
-
-fn step<S: Alter, D: Digester>(
-    alloc: Global,
-    connection: &mut Connection<S>,
-    digester: &D,
-    text: &str,
-) -> Answer
-    requires { InTransaction S.Store connection.old }
-    ensures { OnOk result (InTransaction S.Store connection.new) }
-{
-    match text.split_once(' ') {
-        Some(("store", bytes)) => store(alloc, connection, digester, bytes.as_bytes()),
-        Some(("fill", count)) => fill(alloc, connection, digester, 0, number(count)?),
-        Some(("remove", limit)) => remove(alloc, connection, number(limit)?),
-        _ => Err(Fault::Form),
-    }
-}
-
-/// Begins a transaction on a new host.
-pub fn begin_new<S: Alter>(connection: &mut Connection<S>, limits: Limits) -> Result<(), Fault>
-    requires { IsStateClean (state S.Store connection.old) → IsNewHost limits (state S.Store connection.old) }
-    ensures { OnOk result (InTransaction S.Store connection.new) }
-{
-    match begin(connection) {
-        Ok(_) => Ok(()),
-        Err(_) => Err(Fault::Memory),
-    }
-}
-
-fn steps_shown<S: Alter, D: Digester>(
-    alloc: Global,
-    connection: &mut Connection<S>,
-    digester: &D,
-    steps: &str,
-) -> Answer
-    requires { InTransaction S.Store connection.old }
-{
-    let mut text = String::new(alloc);
-    for written in steps.split("; ") {
-        if !text.is_empty() {
-            text.push_str(", ")?;
+fn script_of(alloc: Global, steps: &str) -> Answer {
+    let mut script = String::from_str(alloc, START)?;
+    for step in steps.split("; ") {
+        match step.split_once(' ') {
+            Some(("store", bytes)) => push_store(alloc, &mut script, bytes)?,
+            Some(("fill", count)) => push_numbers(alloc, &mut script, number(count)?)?,
+            Some(("remove", limit)) => push_sweep(alloc, &mut script, limit)?,
+            _ => return Err(Fault::Form),
         }
-        text.push_str(step(alloc, connection, digester, written)?.as_str())?;
     }
+    Ok(script)
+}
+
+fn push_event(
+    alloc: Global,
+    script: &mut String,
+    line: &str,
+    body: &str,
+) -> Result<(), AllocError> {
+    let length = body.len();
+    let request = format!(in alloc;
+        "{{\"at\":0,\"http\":\"{line} HTTP/1.1\\nhost: h\\nx-access-key: green$k1\\nx-secret-key: greensecret\\ncontent-length: {length}\\n\\n{body}\"}}\n"
+    )?;
+    script.push_str(request.as_str())
+}
+
+/// `store BYTES`: an object of these bytes is put and deleted, so that no reference names its block.
+fn push_store(alloc: Global, script: &mut String, bytes: &str) -> Result<(), AllocError> {
+    push_event(alloc, script, "PUT /plans/x", bytes)?;
+    push_event(alloc, script, "DELETE /plans/x", "")
+}
+
+/// `fill COUNT`: so is an object of the numbers below COUNT, a block of four digits each.
+fn push_numbers(alloc: Global, script: &mut String, count: u64) -> Result<(), AllocError> {
+    let mut body = String::new(alloc);
+    for number in 0..count {
+        body.push_str(format!(in alloc; "{number:04}")?.as_str())?;
+    }
+    push_store(alloc, script, body.as_str())
+}
+
+/// `remove LIMIT`: a sweep.
+fn push_sweep(alloc: Global, script: &mut String, limit: &str) -> Result<(), AllocError> {
+    let event = format!(in alloc; "{{\"at\":0,\"op\":\"sweep\",\"limit\":{limit}}}\n")?;
+    script.push_str(event.as_str())
+}
+
+fn shown<D: Digester + Drop>(alloc: Global, digester: D, script: &str) -> Answer {
+    let script = read_script(alloc, script.as_bytes())?;
+    let Ok(Some((dones, mut connection))) = answers(alloc, digester, script.events.as_slice())
+    else {
+        return Err(Fault::Memory);
+    };
+    let mut text = String::new(alloc);
+    for told in dones.iter() {
+        push_swept(alloc, &mut text, told.reply.bytes())?;
+    }
+    push_blocks(&mut text, &mut connection)?;
     Ok(text)
 }
 
-fn shown<D: Digester>(alloc: Global, digester: &D, steps: &str) -> Answer {
-    let Ok(connection) = Connection::open_in_memory(alloc) else {
+/// What a sweep was answered, in brackets.
+fn push_swept(alloc: Global, text: &mut String, reply: &[u8]) -> Result<(), AllocError> {
+    if !reply.starts_with(b"sweep") {
+        return Ok(());
+    }
+    let told = String::from_utf8_lossy(alloc, reply)?;
+    text.push_str(format!(in alloc; "[{told}] ")?.as_str())
+}
+
+fn push_blocks<S: Alter>(text: &mut String, connection: &mut Connection<S>) -> Result<(), Fault> {
+    let Ok(rows) = connection.query_all(BLOCKS, &[]) else {
         return Err(Fault::Memory);
     };
-    let limits = Limits::default();
-    let Ok(host) = create(connection, Sha256Digester, limits, Tuning::default()) else {
-        return Err(Fault::Memory);
-    };
-    let mut connection = host.into_connection();
-    begin_new(&mut connection, limits)?;
-    steps_shown(alloc, &mut connection, digester, steps)
+    for row in rows.iter() {
+        match row.get::<String>(0) {
+            Ok(block) => text.push_str(block.as_str())?,
+            Err(_) => return Err(Fault::Memory),
+        }
+    }
+    Ok(())
 }

@@ -11,18 +11,18 @@ use bh_schema::host::Digester;
 use bh_script::input::read_script;
 use bh_storage::error::Trouble;
 use bh_types::limits::{DEFAULT_MAX_BODY, Limits, Tuning};
-use sqlite::Connection;
+use sqlite::{Connection, MemStore};
 use std::alloc::Global;
 use std::rt::Files;
 use std::{fs, io};
 
-/// What events are answered by a new host whose blocks, and parts but for the last, have 4 bytes; none where no host was
-/// made.
-fn answers<D: Digester + Drop>(
+/// What events are answered by a new host whose blocks, and parts but for the last, have 4 bytes, and its tables afterwards;
+/// none where no host was made.
+pub fn answers<D: Digester + Drop>(
     alloc: Global,
     digester: D,
     events: &[Event],
-) -> Result<Option<Vec<Told>>, Trouble> {
+) -> Result<Option<(Vec<Told>, Connection<MemStore>)>, Trouble> {
     let connection = Connection::open_in_memory(alloc)?;
     let (Some(limits), Some(tuning)) = (Limits::new(4, DEFAULT_MAX_BODY), Tuning::new(4, 0)) else {
         return Ok(None);
@@ -31,11 +31,8 @@ fn answers<D: Digester + Drop>(
         return Ok(None);
     };
     let mut storage = HostStorage { host };
-    Ok(Some(run(alloc, &mut storage, events)?))
-}
-
-fn is_report(event: &Event) -> bool {
-    matches!(event, Event::Report { .. })
+    let dones = run(alloc, &mut storage, events)?;
+    Ok(Some((dones, storage.host.into_connection())))
 }
 
 /// Whether all events but reports were answered alike.
@@ -44,7 +41,7 @@ fn are_alike(events: &[Event], ones: &[Told], others: &[Told]) -> bool {
         return false;
     }
     for ((event, one), other) in events.iter().zip(ones.iter()).zip(others.iter()) {
-        if !is_report(event) && one.reply.bytes() != other.reply.bytes() {
+        if !matches!(event, Event::Report { .. }) && one.reply.bytes() != other.reply.bytes() {
             return false;
         }
     }
@@ -59,13 +56,13 @@ fn answers_alike<D: Digester + Drop>(
     expected: &[Told],
 ) -> Result<bool, Trouble> {
     match answers(alloc, digester, events)? {
-        Some(dones) => Ok(are_alike(events, expected, dones.as_slice())),
+        Some((dones, _)) => Ok(are_alike(events, expected, dones.as_slice())),
         None => Ok(false),
     }
 }
 
 fn all_answer_alike(alloc: Global, events: &[Event]) -> Result<bool, Trouble> {
-    let Some(expected) = answers(alloc, Sha256Digester, events)? else {
+    let Some((expected, _)) = answers(alloc, Sha256Digester, events)? else {
         return Ok(false);
     };
     Ok(
@@ -79,18 +76,12 @@ pub fn check(rt: &(impl Files + Print + AllocGlobal), name: &str) -> io::Result<
     let alloc = rt.alloc();
     let text = fs::read_to_string(rt, format!(in alloc; "scripts/{name}.in")?)?;
     let script = read_script(alloc, text.as_bytes())?;
-    match all_answer_alike(alloc, script.events.as_slice()) {
-        Ok(true) => {
-            println!(rt; "{name}: alike by any digest")?;
-            Ok(true)
-        }
-        Ok(false) => {
-            println!(rt; "{name}: other bytes")?;
-            Ok(false)
-        }
-        Err(fault) => {
-            println!(rt; "{name}: {fault:?}")?;
-            Ok(false)
-        }
-    }
+    let is_well = all_answer_alike(alloc, script.events.as_slice()) == Ok(true);
+    let told = if is_well {
+        "alike by any digest"
+    } else {
+        "other bytes"
+    };
+    println!(rt; "{name}: {told}")?;
+    Ok(is_well)
 }

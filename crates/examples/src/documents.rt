@@ -1,136 +1,18 @@
-//! Documents of requests and replies.
+//! Documents of requests.
 
 use crate::answer::{Answer, Fault, refused, text};
-use crate::pages;
-use crate::words::{items, moment, number, numbers, small, state_of, state_text, three, two};
-use bh_docs::{
-    BucketEntry, Usage, begun_document, buckets_document, completed_document, copied_document,
-    error_document, lifecycle_document, read_complete, read_lifecycle, read_versioning,
-    usage_document, versioning_document,
-};
-use bh_types::id::UploadId;
+use crate::words::{number, state_text};
+use bh_docs::{read_complete, read_lifecycle, read_versioning};
 use bh_types::wanted::Named;
 use std::alloc::{AllocError, Global};
 
-pub fn answer(alloc: Global, call: &str, input: &str) -> Answer {
-    match call {
-        "error-document" => error(alloc, input),
-        "completed-document" => completed(alloc, input),
-        "copied-document" => copied(alloc, input),
-        "begun-document" => begun(alloc, input),
-        "buckets-document" => buckets(alloc, input),
-        _ => settings_answer(alloc, call, input),
-    }
-}
-
-fn settings_answer(alloc: Global, call: &str, input: &str) -> Answer {
-    match call {
-        "usage-document" => usage(alloc, input),
-        "versioning-document" => versioning(alloc, input),
-        "lifecycle-document" => lifecycle(alloc, input),
-        "many-parts" => many_parts(alloc, input),
-        _ => pages::answer(alloc, call, input),
-    }
-}
-
 /// The calls that take a request's document.
-pub fn read_answer(alloc: Global, call: &str, input: &[u8]) -> Answer {
+pub fn answer(alloc: Global, call: &str, input: &[u8]) -> Answer {
     match call {
         "read-versioning" => versioning_read(alloc, input),
         "read-lifecycle" => lifecycle_read(alloc, input),
         "read-complete" => complete_read(alloc, input),
         _ => Err(Fault::Form),
-    }
-}
-
-/// A code and a resource, `-` for none.
-fn error(alloc: Global, input: &str) -> Answer {
-    let (code, resource) = two(input, ' ')?;
-    let resource = items(resource).unwrap_or("");
-    Ok(error_document(alloc, code, resource)?)
-}
-
-/// A bucket, a checksum and a key.
-fn completed(alloc: Global, input: &str) -> Answer {
-    let (bucket, checksum, key) = three(input, ' ')?;
-    Ok(completed_document(alloc, bucket, checksum, key)?)
-}
-
-/// A checksum and a moment.
-fn copied(alloc: Global, input: &str) -> Answer {
-    let (checksum, modified) = two(input, ' ')?;
-    Ok(copied_document(alloc, checksum, moment(modified)?)?)
-}
-
-/// A bucket, a key and an upload's number.
-fn begun(alloc: Global, input: &str) -> Answer {
-    let (bucket, key, upload) = three(input, ' ')?;
-    let number = number(upload)?;
-    Ok(begun_document(alloc, bucket, key, UploadId { number })?)
-}
-
-/// A bucket from its name, `:` and when it was made.
-fn bucket_of(alloc: Global, text: &str) -> Result<BucketEntry, Fault> {
-    let (name, created) = text.split_once(':').ok_or(Fault::Form)?;
-    Ok(BucketEntry {
-        created: moment(created)?,
-        name: String::from_str(alloc, name)?,
-    })
-}
-
-fn buckets_of(alloc: Global, list: &str) -> Result<Vec<BucketEntry>, Fault> {
-    let mut buckets = Vec::new(alloc);
-    for text in list.split(',') {
-        buckets
-            .push(bucket_of(alloc, text)?)
-            .map_err(AllocError::from)?;
-    }
-    Ok(buckets)
-}
-
-fn buckets(alloc: Global, input: &str) -> Answer {
-    let buckets = match items(input) {
-        Some(list) => buckets_of(alloc, list)?,
-        None => Vec::new(alloc),
-    };
-    Ok(buckets_document(alloc, buckets.as_slice())?)
-}
-
-/// Nine numbers, in the order of the document's members.
-fn usage(alloc: Global, input: &str) -> Answer {
-    let [
-        buckets,
-        bytes,
-        markers,
-        objects,
-        part_bytes,
-        quota,
-        uploads,
-        version_bytes,
-        versions,
-    ] = numbers::<9>(input)?;
-    let usage = Usage {
-        buckets,
-        bytes,
-        markers,
-        objects,
-        part_bytes,
-        quota,
-        uploads,
-        version_bytes,
-        versions,
-    };
-    Ok(usage_document(alloc, &usage)?)
-}
-
-fn versioning(alloc: Global, input: &str) -> Answer {
-    Ok(versioning_document(alloc, state_of(input)?)?)
-}
-
-fn lifecycle(alloc: Global, input: &str) -> Answer {
-    match input.parse::<u16>() {
-        Ok(days) => Ok(lifecycle_document(alloc, days)?),
-        Err(_) => Err(Fault::Form),
     }
 }
 
@@ -177,9 +59,9 @@ fn name_text(alloc: Global, name: &Named) -> Result<String, AllocError> {
 }
 
 /// The document of the parts 1 to a number, and what stands after them: how many are read, and the last one's number.
-fn many_parts(alloc: Global, input: &str) -> Answer {
+pub fn many_parts(alloc: Global, input: &str) -> Answer {
     let (last, more) = input.split_once(' ').unwrap_or((input, ""));
-    let body = many_parts_body(alloc, small(last)?, more)?;
+    let body = many_parts_body(alloc, number(last)?, more)?;
     counted_parts(alloc, body.as_bytes())
 }
 
@@ -190,7 +72,7 @@ fn counted_parts(alloc: Global, body: &[u8]) -> Answer {
     }
 }
 
-fn many_parts_body(alloc: Global, last: u32, more: &str) -> Result<String, AllocError> {
+fn many_parts_body(alloc: Global, last: u64, more: &str) -> Result<String, AllocError> {
     let mut body = String::from_str(alloc, "{\"Parts\":[{\"PartNumber\":1}")?;
     for number in 2..=last {
         push_part(alloc, &mut body, number)?;
@@ -200,7 +82,7 @@ fn many_parts_body(alloc: Global, last: u32, more: &str) -> Result<String, Alloc
     Ok(body)
 }
 
-fn push_part(alloc: Global, body: &mut String, number: u32) -> Result<(), AllocError> {
+fn push_part(alloc: Global, body: &mut String, number: u64) -> Result<(), AllocError> {
     let digits = number.to_string(alloc)?;
     body.push_str(",{\"PartNumber\":")?;
     body.push_str(digits.as_str())?;

@@ -13,20 +13,16 @@ pub struct Cut {
 
 /// `read 70` or `write 10`; anything else cuts nothing.
 pub fn cut_of(line: &str) -> Cut {
+    let mut cut = Cut {
+        reads: None,
+        writes: usize::MAX,
+    };
     match line.split_once(' ') {
-        Some(("read", count)) => Cut {
-            reads: count.parse::<usize>().ok(),
-            writes: usize::MAX,
-        },
-        Some(("write", count)) => Cut {
-            reads: None,
-            writes: count.parse::<usize>().unwrap_or(0),
-        },
-        _ => Cut {
-            reads: None,
-            writes: usize::MAX,
-        },
+        Some(("read", count)) => cut.reads = count.parse::<usize>().ok(),
+        Some(("write", count)) => cut.writes = count.parse::<usize>().unwrap_or(0),
+        _ => {}
     }
+    cut
 }
 
 /// The end of a reader's bytes, or a fault there.

@@ -1,8 +1,9 @@
 //! What requests ask for.
 
-use crate::answer::{Answer, Fault, refusal, refused, text_or_none};
-use crate::entries;
+use crate::answer::{Answer, Fault, refusal, refused, text};
+use crate::documents::many_parts;
 use crate::shown::operation_text;
+use crate::{blocks, plain};
 use bh_http::read::read_request;
 use bh_http::request::{Fields, Request};
 use bh_operation::allow::allow_of;
@@ -16,14 +17,16 @@ pub fn answer(alloc: Global, call: &str, input: &str) -> Answer {
     match call {
         "asks" => asks(alloc, input),
         "allow" => allow(alloc, input),
-        _ => entries::answer(alloc, call, input),
+        "many-parts" => many_parts(alloc, input),
+        "blocks" => blocks::answer(alloc, input),
+        _ => plain::answer(alloc, call, input),
     }
 }
 
 /// The methods of a target.
 fn allow(alloc: Global, input: &str) -> Answer {
     let allow = allow_of(input.as_bytes());
-    text_or_none(alloc, allow.map(|allow| allow.as_str()))
+    text(alloc, allow.map_or("none", |allow| allow.as_str()))
 }
 
 /// The bytes of a request of a method, a target and header fields, written one after another with ` | ` between them.
@@ -66,11 +69,7 @@ fn asked(alloc: Global, request: &Request) -> Answer {
 
 fn outcome_text(alloc: Global, outcome: Result<Operation, RequestError>) -> Answer {
     match outcome {
-        Ok(operation) => shown(alloc, &operation),
+        Ok(operation) => Ok(operation_text(alloc, &operation)?),
         Err(error) => refused(alloc, error),
     }
-}
-
-fn shown(alloc: Global, operation: &Operation) -> Answer {
-    Ok(operation_text(alloc, operation)?)
 }

@@ -1,18 +1,15 @@
 //! Requests as they are read from bytes, and lines of scripts.
 
-use crate::answer::{Answer, Fault, bytes, refusal, text};
+use crate::answer::{Answer, Fault, refusal, text};
 use crate::operations::asks_of_target;
 use bh_event::event::{Command, Event};
 use bh_event::line::read_line;
 use bh_http::credentials::{access_key_of, secret_of};
-use bh_http::encode::response_bytes;
 use bh_http::read::read_request;
 use bh_http::request::Request;
-use bh_http::response::Response;
 use bh_types::limits::Limits;
 use bh_types::names::KeyName;
 use bh_types::refusal::Refusal;
-use http::StatusCode;
 use std::alloc::Global;
 
 /// The calls that take bytes; no answer is one of a call that takes text.
@@ -22,7 +19,6 @@ pub fn answer(alloc: Global, call: &str, input: &[u8]) -> Answer {
         "request-refusal" => request_refusal(alloc, input),
         "credentials" => credentials(alloc, input),
         "beginnings" => beginnings(alloc, input),
-        "answer" => answered(alloc, input),
         "line" => line(alloc, input),
         "asks-of-target" => asks_of_target(alloc, input),
         _ => Err(Fault::Form),
@@ -96,15 +92,6 @@ fn beginnings(alloc: Global, input: &[u8]) -> Answer {
         shown.push_str(" ")?;
     }
     Ok(shown)
-}
-
-/// A request is answered with 200, or with its refusal.
-fn answered(alloc: Global, input: &[u8]) -> Answer {
-    let response = match refusal_of(input) {
-        Some(refusal) => Response::bare_refusal(alloc, refusal),
-        None => Response::empty(alloc, StatusCode::OK),
-    };
-    bytes(alloc, response_bytes(alloc, &response)?.as_slice())
 }
 
 /// The event that a line of a script tells.

@@ -1,6 +1,9 @@
 //! An operation as text: its name, and what it was asked with.
 
 use crate::words::wanted_text;
+use Word::{
+    AfterUpload, AfterVersion, Bucket, Field, Number, Object, Source, Token, Upload, Version,
+};
 use bh_operation::address::ObjectName;
 use bh_operation::operation::Operation;
 use bh_operation::page::{Page, UploadMarker, VersionMarker};
@@ -16,7 +19,7 @@ enum Word<'a> {
     Nothing,
     Bucket(&'a BucketName),
     Object(&'a ObjectName),
-    From(&'a ObjectName),
+    Source(&'a ObjectName),
     Version(Wanted),
     Upload(Option<UploadId>),
     Number(u64),
@@ -32,7 +35,20 @@ enum Word<'a> {
 type Words<'a> = (&'static str, [Word<'a>; 4]);
 
 const fn one<'a>(name: &'static str, word: Word<'a>) -> Words<'a> {
-    (name, [word, Word::Nothing, Word::Nothing, Word::Nothing])
+    three(name, word, Word::Nothing, Word::Nothing)
+}
+
+const fn two<'a>(name: &'static str, first: Word<'a>, second: Word<'a>) -> Words<'a> {
+    three(name, first, second, Word::Nothing)
+}
+
+const fn three<'a>(
+    name: &'static str,
+    first: Word<'a>,
+    second: Word<'a>,
+    third: Word<'a>,
+) -> Words<'a> {
+    (name, [first, second, third, Word::Nothing])
 }
 
 /// An operation and what it was asked with, on one line.
@@ -47,67 +63,41 @@ pub fn operation_text(alloc: Global, operation: &Operation) -> Result<String, Al
 
 fn object_words(operation: &Operation) -> Words<'_> {
     match operation {
-        Operation::PutObject { object, checksum } => two(
-            "PutObject",
-            Word::Object(object),
-            Word::Field(checksum),
-        ),
+        Operation::PutObject { object, checksum } => {
+            two("PutObject", Object(object), Field(checksum))
+        }
         Operation::CopyObject { object, source } => {
-            let (from, version) = (Word::From(&source.object), Word::Version(source.version));
-            (
-                "CopyObject",
-                [Word::Object(object), from, version, Word::Nothing],
-            )
+            let (from, version) = (Source(&source.object), Version(source.version));
+            three("CopyObject", Object(object), from, version)
         }
         Operation::GetObject {
             object,
             version,
             range,
-        } => {
-            (
-                "GetObject",
-                [
-                    Word::Object(object),
-                    Word::Version(*version),
-                    Word::Field(range),
-                    Word::Nothing,
-                ],
-            )
+        } => three("GetObject", Object(object), Version(*version), Field(range)),
+        Operation::HeadObject { object, version } => {
+            two("HeadObject", Object(object), Version(*version))
         }
-        Operation::HeadObject { object, version } => two(
-            "HeadObject",
-            Word::Object(object),
-            Word::Version(*version),
-        ),
-        Operation::DeleteObject { object, version } => two(
-            "DeleteObject",
-            Word::Object(object),
-            Word::Version(*version),
-        ),
+        Operation::DeleteObject { object, version } => {
+            two("DeleteObject", Object(object), Version(*version))
+        }
         _ => upload_words(operation),
     }
 }
 
-const fn two<'a>(name: &'static str, first: Word<'a>, second: Word<'a>) -> Words<'a> {
-    (name, [first, second, Word::Nothing, Word::Nothing])
-}
-
 fn upload_words(operation: &Operation) -> Words<'_> {
     match operation {
-        Operation::CreateMultipartUpload(object) => one(
-            "CreateMultipartUpload",
-            Word::Object(object),
-        ),
+        Operation::CreateMultipartUpload(object) => one("CreateMultipartUpload", Object(object)),
         Operation::UploadPart {
             object,
             upload,
             number,
             checksum,
         } => {
-            let (upload, number) = (Word::Upload(*upload), Word::Number(*number as u64));
+            let (upload, number) = (Upload(*upload), Number(*number as u64));
             (
                 "UploadPart",
-                [Word::Object(object), upload, number, Word::Field(checksum)],
+                [Object(object), upload, number, Field(checksum)],
             )
         }
         Operation::ListParts {
@@ -115,28 +105,26 @@ fn upload_words(operation: &Operation) -> Words<'_> {
             upload,
             page,
         } => {
-            let (size, after) = (Word::Number(page.size), Word::Number(page.after));
-            (
-                "ListParts",
-                [Word::Object(object), Word::Upload(*upload), size, after],
-            )
+            let (size, after) = (Number(page.size), Number(page.after));
+            ("ListParts", [Object(object), Upload(*upload), size, after])
         }
         Operation::CompleteMultipartUpload { object, upload } => {
-            two(
-                "CompleteMultipartUpload",
-                Word::Object(object),
-                Word::Upload(*upload),
-            )
+            two("CompleteMultipartUpload", Object(object), Upload(*upload))
         }
         Operation::AbortMultipartUpload { object, upload } => {
-            two(
-                "AbortMultipartUpload",
-                Word::Object(object),
-                Word::Upload(*upload),
-            )
+            two("AbortMultipartUpload", Object(object), Upload(*upload))
         }
         _ => listing_words(operation),
     }
+}
+
+const fn listing<'a>(
+    name: &'static str,
+    bucket: &'a BucketName,
+    page: &'a Page,
+    after: Word<'a>,
+) -> Words<'a> {
+    three(name, Bucket(bucket), Word::Page(page), after)
 }
 
 fn listing_words(operation: &Operation) -> Words<'_> {
@@ -145,47 +133,17 @@ fn listing_words(operation: &Operation) -> Words<'_> {
             bucket,
             page,
             token,
-        } => {
-            (
-                "ListObjectsV2",
-                [
-                    Word::Bucket(bucket),
-                    Word::Page(page),
-                    Word::Token(token),
-                    Word::Nothing,
-                ],
-            )
-        }
+        } => listing("ListObjectsV2", bucket, page, Token(token)),
         Operation::ListObjectVersions {
             bucket,
             page,
             after,
-        } => {
-            (
-                "ListObjectVersions",
-                [
-                    Word::Bucket(bucket),
-                    Word::Page(page),
-                    Word::AfterVersion(after),
-                    Word::Nothing,
-                ],
-            )
-        }
+        } => listing("ListObjectVersions", bucket, page, AfterVersion(after)),
         Operation::ListMultipartUploads {
             bucket,
             page,
             after,
-        } => {
-            (
-                "ListMultipartUploads",
-                [
-                    Word::Bucket(bucket),
-                    Word::Page(page),
-                    Word::AfterUpload(after),
-                    Word::Nothing,
-                ],
-            )
-        }
+        } => listing("ListMultipartUploads", bucket, page, AfterUpload(after)),
         Operation::ListBuckets => one("ListBuckets", Word::Nothing),
         Operation::Usage => one("Usage", Word::Nothing),
         _ => bucket_words(operation),
@@ -194,60 +152,62 @@ fn listing_words(operation: &Operation) -> Words<'_> {
 
 fn bucket_words(operation: &Operation) -> Words<'_> {
     match operation {
-        Operation::CreateBucket(bucket) => one("CreateBucket", Word::Bucket(bucket)),
-        Operation::HeadBucket(bucket) => one("HeadBucket", Word::Bucket(bucket)),
-        Operation::DeleteBucket(bucket) => one("DeleteBucket", Word::Bucket(bucket)),
-        Operation::GetBucketVersioning(bucket) => one("GetBucketVersioning", Word::Bucket(bucket)),
-        Operation::PutBucketVersioning(bucket) => one("PutBucketVersioning", Word::Bucket(bucket)),
-        Operation::GetLifecycle(bucket) => one("GetLifecycle", Word::Bucket(bucket)),
-        Operation::PutLifecycle(bucket) => one("PutLifecycle", Word::Bucket(bucket)),
-        Operation::DeleteLifecycle(bucket) => one("DeleteLifecycle", Word::Bucket(bucket)),
+        Operation::CreateBucket(bucket) => one("CreateBucket", Bucket(bucket)),
+        Operation::HeadBucket(bucket) => one("HeadBucket", Bucket(bucket)),
+        Operation::DeleteBucket(bucket) => one("DeleteBucket", Bucket(bucket)),
+        Operation::GetBucketVersioning(bucket) => one("GetBucketVersioning", Bucket(bucket)),
+        Operation::PutBucketVersioning(bucket) => one("PutBucketVersioning", Bucket(bucket)),
+        Operation::GetLifecycle(bucket) => one("GetLifecycle", Bucket(bucket)),
+        Operation::PutLifecycle(bucket) => one("PutLifecycle", Bucket(bucket)),
+        Operation::DeleteLifecycle(bucket) => one("DeleteLifecycle", Bucket(bucket)),
         _ => one("other", Word::Nothing),
     }
 }
 
 /// A word after a space.
 fn push(alloc: Global, text: &mut String, word: Word<'_>) -> Result<(), AllocError> {
-    let shown = match word {
-        Word::Nothing => return Ok(()),
-        Word::Bucket(bucket) => String::from_str(alloc, bucket.as_str())?,
-        Word::Object(object) => object_text(alloc, object)?,
-        _ => plain_text(alloc, word)?,
-    };
+    if let Word::Nothing = word {
+        return Ok(());
+    }
+    let shown = name_text(alloc, word)?;
     text.push_str(" ")?;
     text.push_str(shown.as_str())
 }
 
-fn plain_text(alloc: Global, word: Word<'_>) -> Result<String, AllocError> {
+fn name_text(alloc: Global, word: Word<'_>) -> Result<String, AllocError> {
     match word {
-        Word::From(object) => from_text(alloc, object),
-        Word::Version(version) => wanted_text(alloc, version),
-        Word::Upload(upload) => upload_text(alloc, upload),
-        Word::Number(number) => number.to_string(alloc),
-        Word::Field(field) => field_text(alloc, field),
-        _ => page_word_text(alloc, word),
+        Bucket(bucket) => String::from_str(alloc, bucket.as_str()),
+        Object(object) => object_text(alloc, "", object),
+        Source(object) => object_text(alloc, "from ", object),
+        Version(version) => wanted_text(alloc, version),
+        Upload(upload) => upload_text(alloc, upload),
+        _ => field_text(alloc, word),
     }
 }
 
-fn page_word_text(alloc: Global, word: Word<'_>) -> Result<String, AllocError> {
+fn field_text(alloc: Global, word: Word<'_>) -> Result<String, AllocError> {
     match word {
+        Number(number) => number.to_string(alloc),
+        Field(Some(bytes)) => String::from_utf8_lossy(alloc, bytes.as_slice()),
+        Field(None) => String::from_str(alloc, "none"),
         Word::Page(page) => page_text(alloc, page),
-        Word::Token(token) => token_text(alloc, token),
-        Word::AfterVersion(after) => version_marker_text(alloc, after),
-        Word::AfterUpload(after) => upload_marker_text(alloc, after),
-        _ => String::from_str(alloc, "?"),
+        Token(Some(bytes)) => token_text(alloc, bytes),
+        _ => marker_text(alloc, word),
     }
 }
 
-fn object_text(alloc: Global, object: &ObjectName) -> Result<String, AllocError> {
+fn marker_text(alloc: Global, word: Word<'_>) -> Result<String, AllocError> {
+    match word {
+        AfterVersion(Some(marker)) => version_marker_text(alloc, marker),
+        AfterUpload(Some(marker)) => upload_marker_text(alloc, marker),
+        _ => String::from_str(alloc, "first"),
+    }
+}
+
+fn object_text(alloc: Global, before: &str, object: &ObjectName) -> Result<String, AllocError> {
     let bucket = object.bucket.as_str();
     let key = object.key.as_str();
-    format!(in alloc; "{bucket} {key}")
-}
-
-fn from_text(alloc: Global, object: &ObjectName) -> Result<String, AllocError> {
-    let object = object_text(alloc, object)?;
-    format!(in alloc; "from {object}")
+    format!(in alloc; "{before}{bucket} {key}")
 }
 
 fn upload_text(alloc: Global, upload: Option<UploadId>) -> Result<String, AllocError> {
@@ -257,21 +217,9 @@ fn upload_text(alloc: Global, upload: Option<UploadId>) -> Result<String, AllocE
     }
 }
 
-fn field_text(alloc: Global, field: &Option<Bytes>) -> Result<String, AllocError> {
-    match field {
-        Some(bytes) => String::from_utf8_lossy(alloc, bytes.as_slice()),
-        None => String::from_str(alloc, "none"),
-    }
-}
-
-fn token_text(alloc: Global, token: &Option<Bytes>) -> Result<String, AllocError> {
-    match token {
-        Some(bytes) => {
-            let digits = hex::encode(alloc, bytes.as_slice())?;
-            format!(in alloc; "<{digits}>")
-        }
-        None => String::from_str(alloc, "first"),
-    }
+fn token_text(alloc: Global, token: &Bytes) -> Result<String, AllocError> {
+    let digits = hex::encode(alloc, token.as_slice())?;
+    format!(in alloc; "<{digits}>")
 }
 
 fn page_text(alloc: Global, page: &Page) -> Result<String, AllocError> {
@@ -281,23 +229,14 @@ fn page_text(alloc: Global, page: &Page) -> Result<String, AllocError> {
     format!(in alloc; "[{prefix}] [{delimiter}] {size}")
 }
 
-fn version_marker_text(
-    alloc: Global,
-    marker: &Option<VersionMarker>,
-) -> Result<String, AllocError> {
-    let Some(marker) = marker else {
-        return String::from_str(alloc, "first");
-    };
+fn version_marker_text(alloc: Global, marker: &VersionMarker) -> Result<String, AllocError> {
     let key = marker.key.as_str();
     let version = wanted_text(alloc, marker.version)?;
     format!(in alloc; "[{key}] {version}")
 }
 
 /// The key, and after it the upload's number, if one is given.
-fn upload_marker_text(alloc: Global, marker: &Option<UploadMarker>) -> Result<String, AllocError> {
-    let Some(marker) = marker else {
-        return String::from_str(alloc, "first");
-    };
+fn upload_marker_text(alloc: Global, marker: &UploadMarker) -> Result<String, AllocError> {
     let key = marker.key.as_str();
     match marker.upload {
         Some(id) => {

@@ -2,9 +2,8 @@
 //! and one that begins with `#` are no rows.
 
 use crate::answer::{Answer, Fault};
-use crate::documents::read_answer;
 use crate::escapes::unescaped;
-use crate::{names, requests};
+use crate::{documents, operations, requests};
 use std::alloc::Global;
 use std::rt::Files;
 use std::{fs, io};
@@ -31,7 +30,7 @@ fn row_of(line: &str) -> Row<'_> {
 
 fn text_answer(alloc: Global, call: &str, input: &[u8]) -> Answer {
     match str::from_utf8(input) {
-        Ok(text) => names::answer(alloc, call, text),
+        Ok(text) => operations::answer(alloc, call, text),
         Err(_) => Err(Fault::Form),
     }
 }
@@ -43,7 +42,7 @@ fn found(alloc: Global, row: Row<'_>) -> Answer {
         Err(Fault::Form) => {}
         answer => return answer,
     }
-    match read_answer(alloc, row.call, input.as_slice()) {
+    match documents::answer(alloc, row.call, input.as_slice()) {
         Err(Fault::Form) => text_answer(alloc, row.call, input.as_slice()),
         answer => answer,
     }

@@ -2,7 +2,7 @@ use Rattle.std.proofs.Common.{◌<◌, List, [], length, refl, sym, subst, arith
 use Rattle.std.proofs.lemmas.List.Elements.{All-get_or}
 use Rattle.bh_connection.specs.Each.{IsGoing, HasServed, ends}
 use Rattle.bh_connection.specs.declared.served.Served.{Served}
-use Rattle.bh_connection.proofs.EachLemmas.{served_none, served_next, same_at, rest_next}
+use Rattle.bh_connection.proofs.EachLemmas.{served_none, served_next, served_alone_all, same_at, rest_next}
 use Rattle.bh_connection.proofs.each.serve_each.Goals as goal
 
 pub loop-index-init : goal.loop-index-init
@@ -50,3 +50,9 @@ loop-index-preserved g c =
       served = served_next g.H.Storage.IsIntact g.H.Storage.IsOpen g.H.Storage.seen g.H.Storage.left (ends g.R.Read.remaining g.W.Write.contents) firsts nows _ i d _ c.serve_arrival-served.new.arrival _ _ c.serve_arrival-served.result _ _ _
           lt lt2 (same_at nows firsts i d so_far.rest) refl c.push_reserved.ensures.items one.intact so_far.limits so_far.served one.came_to;
     }
+
+pub returns-clause-alone : goal.returns-clause-alone
+returns-clause-alone g c = λ intact.
+    served_alone_all g.H.Storage.IsIntact g.H.Storage.IsOpen g.H.Storage.seen g.H.Storage.left (ends g.R.Read.remaining g.W.Write.contents) c.args.arrivals.now c.loop-index.arrivals c.loop-index.index
+    c.loop-index.serveds.items c.args.host.now c.loop-index.host
+    (omega (arith, c.loop-index-test.false, c.loop-index.auto.arrivals)) (omega (arith, c.loop-index-test.false, c.loop-index.auto.arrivals)) intact c.loop-index.invariant.served

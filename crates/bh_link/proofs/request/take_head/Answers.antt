@@ -1,5 +1,5 @@
 use Rattle.std.specs.Prelude.{◌&&◌}
-use Rattle.std.proofs.Common.{Bool, false, rules, ◌≡◌, ◌∷◌, ◌+◌, ℕ, List, [], ◌++◌, length, length-append, refl, sym, ap, subst, ◌∙◌, arith, Option}
+use Rattle.std.proofs.Common.{Bool, false, rules, ◌≡◌, ◌≤◌, ◌<◌, ◌∷◌, ◌+◌, ℕ, List, [], ◌++◌, length, length-append, refl, sym, ap, subst, ◌∙◌, arith, Option}
 use Rattle.std.specs.List.{list_any}
 use Rattle.std.specs.Io.KnownBytes.{Consumes}
 use Rattle.bh_http.specs.Reading.{HasNoHead}
@@ -19,6 +19,9 @@ no_head items none = let P : List ℕ → Type 0 = λ t. HasNoHead t in subst P 
 open_end : (r started : Bool) (seen next : List ℕ) → seen ≡ next → r ≡ (started && ends_blank seen) → r ≡ false → (started && ends_blank next) ≡ false
 open_end r started seen next same is no_end = ap (λ t. started && ends_blank t) (sym same) ∙ sym is ∙ no_end
 
+room : (bytes next : List ℕ) (byte count : ℕ) → length bytes ≡ count → count < 16384 → next ≡ bytes ++ byte ∷ [] → length next ≤ 16384
+room bytes next byte count is lt same = omega (arith, is, lt, ap length same, length-append bytes (byte ∷ []))
+
 pub loop-count-init : goal.loop-count-init
 loop-count-init g c =
     let none = c.new-bytes.ensures.items in
@@ -33,7 +36,11 @@ loop-count-init g c =
 pub returns-in_err-byte-clause-within : goal.returns-in_err-byte-clause-within
 returns-in_err-byte-clause-within g c =
     let so_far = c.loop-count.invariant in
-    if_err c.from_residual.result (c.loop-count.bytes.items, part_none c.args.limits.now _ _ _ (consumes_kept _ _ _ _ so_far.consumed c.in_err-byte.ensures.fault) so_far.none)
+    if_err c.from_residual.result (
+      c.loop-count.bytes.items,
+      part_none c.args.limits.now _ _ _ (consumes_kept _ _ _ _ so_far.consumed c.in_err-byte.ensures.fault)
+          (omega (arith, so_far.count, c.loop-count-test.true)) so_far.none,
+    )
 
 pub returns-in_err-push-clause-within : goal.returns-in_err-push-clause-within
 returns-in_err-push-clause-within g c =
@@ -42,7 +49,11 @@ returns-in_err-push-clause-within g c =
     let byte = c.in-Some.byte in
     let taken = rw c.in-Some.is at c.in_ok-byte.ensures.byte in
     let consumed = consumes_pushed _ _ _ bytes (bytes ++ byte ∷ []) byte refl so_far.consumed taken in
-    if_err c.from_residual-in_err-push.result (bytes ++ byte ∷ [], part_pushed c.args.limits.now _ _ bytes (bytes ++ byte ∷ []) byte refl consumed so_far.none)
+    if_err c.from_residual-in_err-push.result (
+      bytes ++ byte ∷ [],
+      part_pushed c.args.limits.now _ _ bytes (bytes ++ byte ∷ []) byte refl consumed
+          (omega (arith, so_far.count, c.loop-count-test.true, length-append bytes (byte ∷ []))) so_far.none,
+    )
 
 pub returns-in-Body-clause-opens : goal.returns-in-Body-clause-opens
 returns-in-Body-clause-opens g c =
@@ -54,7 +65,8 @@ returns-in-Body-clause-opens g c =
     let consumed = consumes_pushed _ _ _ bytes next byte c.in_ok-push.ensures so_far.consumed taken in
     let P : List ℕ → Type 0 = λ t. Says c.args.limits.now t (Body c.in-Body.body) in
     let said = subst P c.as_slice-then-may_end.ensures.value (rw c.in-Body.is at c.search.ensures) in
-    opens_pushed c.args.limits.now _ _ bytes next byte c.in-Body.body c.in_ok-push.ensures consumed so_far.none said
+    opens_pushed c.args.limits.now _ _ bytes next byte c.in-Body.body c.in_ok-push.ensures consumed
+    (room bytes next byte c.loop-count.count so_far.count c.loop-count-test.true c.in_ok-push.ensures) so_far.none said
 
 pub returns-in-Refused-clause-opens : goal.returns-in-Refused-clause-opens
 returns-in-Refused-clause-opens g c =
@@ -66,7 +78,8 @@ returns-in-Refused-clause-opens g c =
     let consumed = consumes_pushed _ _ _ bytes next byte c.in_ok-push.ensures so_far.consumed taken in
     let P : List ℕ → Type 0 = λ t. Says c.args.limits.now t Refused in
     let said = subst P c.as_slice-then-may_end.ensures.value (rw c.in-Refused.is at c.search.ensures) in
-    opens_never c.args.limits.now _ _ next consumed said
+    opens_never c.args.limits.now _ _ next consumed
+    (room bytes next byte c.loop-count.count so_far.count c.loop-count-test.true c.in_ok-push.ensures) said
 
 pub loop-count-preserved : goal.loop-count-preserved
 loop-count-preserved g c =
@@ -95,4 +108,4 @@ pub returns-clause-opens : goal.returns-clause-opens
 returns-clause-opens g c =
     let so_far = c.loop-count.invariant in
     let full = c.loop-count-test.false in
-    opens_limit c.args.limits.now _ _ c.loop-count.bytes.items so_far.consumed so_far.none (omega (arith, so_far.count, full))
+    opens_limit c.args.limits.now _ _ c.loop-count.bytes.items so_far.consumed so_far.none (omega (arith, so_far.count, full, c.loop-count.auto.count-end))

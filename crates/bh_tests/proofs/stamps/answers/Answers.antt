@@ -1,5 +1,0 @@
-use Rattle.bh_create.proofs.Resting.{at_rest}
-use Rattle.bh_tests.proofs.stamps.answers.Goals as goal
-
-pub run-requires : goal.run-requires
-run-requires c clean = at_rest _ _ _ c.in-Ok.ensures.given.0 c.in-Ok.ensures.made clean

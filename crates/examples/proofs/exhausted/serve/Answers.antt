@@ -1,5 +1,0 @@
-use Rattle.bh_create.proofs.Resting.{at_rest}
-use Rattle.examples.proofs.exhausted.serve.Goals as goal
-
-pub answers-requires : goal.answers-requires
-answers-requires c clean = at_rest _ _ _ c.in-Ok.ensures.given.0 c.in-Ok.ensures.made clean
