@@ -1,5 +1,5 @@
 -- What files held when they were opened, and that empty ones hold no host.
-use Rattle.std.proofs.Common.{◌≡◌, [], ap, sym, subst, arith, inl, inr, filter}
+use Rattle.std.proofs.Common.{◌≡◌, ◌≢◌, ◌⊎◌, [], refl, ap, sym, subst, arith, inl, inr, filter}
 use Rattle.std.specs.List.{AllZip}
 use Rattle.sqlite_wal.specs.Recovery.{Image}
 use Rattle.sqlite_trees.specs.Tree.{Trees}
@@ -9,13 +9,18 @@ use Rattle.sqlite.specs.Effect.{Database, IsDatabase}
 use Rattle.sqlite.specs.Files.{AreFoundIn}
 use Rattle.sqlite.specs.Schema.{Schema}
 use Rattle.sqlite.specs.State.{State}
+use Rattle.sha2.specs.Sha256.{sha256}
 use Rattle.bh_types.specs.Limits.{HostLimits}
 use Rattle.bh_tables.specs.Hosts.{tables_shown}
 use Rattle.bh_tables.specs.Schema.{host_schema}
-use Rattle.bh_schema.specs.Layer.{standing, IsIntact, IsOpen, IsStateClean, KeepsDisk}
+use Rattle.bh_view.specs.Bodies.{IsSoundHost}
+use Rattle.bh_schema.specs.Layer.{Standing, standing, IsIntact, IsOpen, IsStateClean, KeepsDisk}
 use Rattle.bh_schema.specs.Storage.{seen_in}
 use Rattle.bh_file.specs.Opened.{IsOpenedOn}
-use Rattle.bh_commands.specs.Files.{AreTablesIn, HoldsSoundHost}
+use Rattle.bh_commands.specs.Files.{AreTablesIn, HoldsSoundHost, HoldsFor}
+use Rattle.bh_commands.specs.Subcommands.{IsSoundIn, IsReadyFor}
+use Rattle.bh_commands.specs.declared.asked.Asked.{Asked}
+use Rattle.bh_commands.specs.declared.asked.Asked.TheVariants.{Init, Host}
 
 -- ---- no file, or an empty one
 
@@ -38,19 +43,28 @@ nothing_is_sound tables it = absurd (no_tables it.db it.database (found_in_nothi
 pub is_clean : {s : State} → IsIntact s × IsOpen s → IsStateClean s
 is_clean both = record { intact = both.0; is_open = both.1 }
 
+-- ---- a database that was opened
+
+sound_opened : (image : Image) (s : State) → HoldsSoundHost image → IsOpenedOn image s → IsSoundIn s
+unfolding standing IsIntact
+sound_opened image s sound start clean schema =
+    let opens = start.opened clean.intact in
+    sound (tables_shown s.now) (record {
+      db = s.now;
+      found = subst (λ (db : Database). AreFoundIn image db.trees) (sym opens.0.clean) (start.found clean.intact).reads;
+      database = (opens.1 opens.0.is_open).0;
+      schema = schema;
+      shown = refl;
+    })
+
+pub ready_opened : (asked : Asked) (image : Image) (s : State) → HoldsFor asked image → IsOpenedOn image s → IsReadyFor asked s
+ready_opened (Init limits) image s holds start = tt
+ready_opened (Host work) image s holds start = sound_opened image s holds start
+
 -- ---- the tables of a host that was opened
 
-module _ (image : Image) (limits : HostLimits) (old new : State) (start : IsOpenedOn image old) (schema : (standing old).now.schema ≡ host_schema)
+module _ (limits : HostLimits) (old new : State) (sound : IsSoundIn old) (schema : (standing old).now.schema ≡ host_schema)
     (same : IsStateClean new → standing new ≡ standing old) (follows : KeepsDisk old new) where
-  pub tables_found : IsStateClean new → AreTablesIn image (seen_in limits new).now
-  unfolding seen_in standing IsIntact
-  tables_found clean =
-      let was = (follows.clean clean).intact in
-      let opens = start.opened was in
-      record {
-        db = old.now;
-        found = subst (λ (db : Database). AreFoundIn image db.trees) (sym opens.0.clean) (start.found was).reads;
-        database = (opens.1 opens.0.is_open).0;
-        schema = schema;
-        shown = ap (λ x. tables_shown x.now) (same clean);
-      }
+  pub sound_seen : IsStateClean new → IsSoundHost sha256 (seen_in limits new).now
+  unfolding seen_in
+  sound_seen clean = subst (λ (x : Standing). IsSoundHost sha256 (tables_shown x.now)) (sym (same clean)) (sound (follows.clean clean) schema)

@@ -1,2 +1,4 @@
+mod Endings
 mod Found
 mod Printing
+mod Refused

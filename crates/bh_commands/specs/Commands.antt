@@ -1,27 +1,24 @@
--- What a subcommand on a host did, and what it prints.
-use Rattle.std.specs.Prelude.{◌≡◌, ℕ, List, [], codes, Option, IfSome}
-use Rattle.sqlite_trees.specs.declared.store.Store.{Ghosts}
-use Rattle.sqlite_wal.specs.Recovery.{Image}
-use Rattle.sqlite.specs.Held.{state}
-use Rattle.bh_types.specs.Limits.{HostLimits}
+-- What is done on a host, and what is printed of it.
+use Rattle.std.specs.Prelude.{◌≡◌, ℕ, List, [], Option, IfSome}
 use Rattle.bh_types.specs.declared.refusal.Refusal.{Refusal}
 use Rattle.bh_event.specs.Events.{Arrival, Message, Ordered, SweepOrdered, ReportOrdered, order_of}
 use Rattle.bh_tables.specs.Typed.{Tables}
-use Rattle.bh_schema.specs.declared.host.Host.{Host}
-use Rattle.bh_schema.specs.Storage.{IsClean, IsIntact, IsOpen, seen, left}
-use Rattle.bh_create.specs.Creation.{IsNewHost}
-use Rattle.bh_host.specs.Turns.{Applied, AppliedTo, IsToldApart}
-use Rattle.bh_commands.specs.Files.{AreTablesIn}
+use Rattle.bh_storage.specs.Calls.{Seen, Clean, IsAtRest}
+use Rattle.bh_host.specs.Runs.{Told}
+use Rattle.bh_connection.specs.Connections.{IsApplied}
+use Rattle.bh_connection.specs.Each.{RanSome}
 use Rattle.bh_commands.specs.Printing.{line_of, status_of, refused_line}
 use Rattle.bh_commands.specs.declared.printed.Printed.{Printed}
 use Rattle.bh_commands.specs.declared.task.Task.{Task}
-use Rattle.bh_commands.specs.declared.task.Task.TheVariants.{Command, Sweep, Report}
+use Rattle.bh_commands.specs.declared.task.Task.TheVariants as task
+use Rattle.bh_commands.specs.declared.asked.Work.{Work}
+use Rattle.bh_commands.specs.declared.asked.Work.TheVariants as work
 
 -- what an operator asks
 abbrev pub message_of : Task → Message
-message_of (Command command) = Ordered (order_of command)
-message_of (Sweep limit) = SweepOrdered limit
-message_of Report = ReportOrdered
+message_of (task.Command command) = Ordered (order_of command)
+message_of (task.Sweep limit) = SweepOrdered limit
+message_of task.Report = ReportOrdered
 
 -- at a reading of the clock, in seconds since 1970
 abbrev pub ordered_at : ℕ → Message → Arrival
@@ -43,36 +40,35 @@ pub record IsNothing (printed : Printed) : Type 0 where
   pub text : printed.text.items ≡ []
   pub status : printed.status ≡ 0
 
--- some refusal
-abbrev pub IsRefused : Printed → Type 0
-IsRefused printed = (refusal : Refusal) × IsRefusal refusal printed
+-- ---- what is done on a storage
 
-module _ {S D : Type 0} (g : Ghosts S) where
-  -- a crash leaves what stands now
-  abbrev pub IsKept : Host S D → Type 0
-  IsKept host = IsIntact g host → (x : Tables) → left g host x → x ≡ (seen g host).now
+-- one that is intact was so before, and one that is open too; it is at rest still, under its limits
+pub record StaysReady {H : Type 0} (IsIntact IsOpen : H → Type 0) (IsSound : Tables → Type 0) (seen : H → Seen) (old new : H) : Type 0 where
+  pub intact : IsIntact new → IsIntact old
+  pub opened : IsIntact new → IsOpen new → IsOpen old
+  pub ready : Clean IsIntact IsOpen new → IsAtRest IsSound (seen new)
+  pub limits : (seen new).limits ≡ (seen old).limits
 
-  -- what was asked was applied to a host, and its reply is printed. Unless that is a refusal, it is kept
-  pub record IsApplied (event : Arrival) (old new : Host S D) (printed : Printed) : Type 0 where
-    pub stamp : Option ℕ
-    pub reply : List ℕ
-    pub applied : IsIntact g new → AppliedTo (IsOpen g) (seen g) event old new stamp reply
-    pub told_apart : IsIntact g new → IsToldApart event stamp reply
-    pub line : IsLine reply printed
-    pub kept : printed.status ≡ 0 → IsKept new
+module _ {H : Type 0} (IsIntact IsOpen : H → Type 0) (seen : H → Seen) (left : H → Tables → Type 0) where
+  -- an event was applied: what `bh_host::apply` promises of it. Its reply is printed, and unless that is a refusal, a crash
+  -- leaves what stands then
+  pub record IsTold (event : Arrival) (old new : H) (printed : Printed) : Type 0 where
+    pub told : Told
+    pub applied : IsApplied IsIntact IsOpen seen left event told old new
+    pub line : IsLine told.1 printed
+    pub kept : printed.status ≡ 0 → IsIntact new → (x : Tables) → left new x → x ≡ (seen new).now
 
-  -- a host with these limits was made
-  pub record IsMade (limits : HostLimits) (host : Host S D) (printed : Printed) : Type 0 where
-    pub made : IsClean g host → IsNewHost limits (state g host.connection)
-    pub line : IsLine (codes "host") printed
-
-  -- what was asked was applied, at the reading that was given, to the tables that the files held. Unless it was refused, it
-  -- is kept
-  pub record IsCommandDone (image : Image) (at : Option ℕ) (message : Message) (host : Host S D) (printed : Printed) : Type 0 where
+  -- the same of what an operator asks, at the reading that was given, or else at some reading
+  pub record IsCommandDone (at : Option ℕ) (message : Message) (old new : H) (printed : Printed) : Type 0 where
     pub reading : ℕ
     pub given : IfSome at (λ r. reading ≡ r)
-    pub stamp : Option ℕ
-    pub reply : List ℕ
-    pub applied : IsClean g host → (old : Tables) × AreTablesIn image old × Applied (ordered_at reading message) old (seen g host).now stamp reply
-    pub line : IsLine reply printed
-    pub kept : printed.status ≡ 0 → IsKept host
+    pub done : IsTold (ordered_at reading message) old new printed
+
+  -- some requests came in turn, and no other event; nothing is printed
+  pub record HasServed (old new : H) (printed : Printed) : Type 0 where
+    pub ran : IsIntact new → RanSome IsOpen seen left old new
+    pub printed_is : IsNothing printed
+
+  abbrev pub HasDone : Work → H → H → Printed → Type 0
+  HasDone (work.Command task at) old new printed = IsCommandDone at (message_of task) old new printed
+  HasDone (work.Serve serving) old new printed = HasServed old new printed

@@ -1,5 +1,6 @@
 pub mod Commands
+pub mod Endings
 pub mod Files
 pub mod Input
 pub mod Printing
-pub mod Serving
+pub mod Subcommands

@@ -25,6 +25,12 @@ impl From<AllocError> for Fault {
     }
 }
 
+impl From<Error> for Fault {
+    fn from(error: Error) -> Fault {
+        Fault::File(error)
+    }
+}
+
 impl From<io::Error> for Fault {
     fn from(error: io::Error) -> Fault {
         Fault::System(error)

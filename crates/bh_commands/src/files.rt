@@ -1,58 +1,77 @@
-//! Subcommands on the host of a file.
+//! What is asked of files.
 
-ghost use Rattle.std.specs.Prelude.{◌≡◌, None, IfOk, IfSome, MatchOption};
-ghost use Rattle.sqlite.specs.Files.{over_files};
+ghost use Rattle.std.specs.Prelude.{◌≡◌, None, IfOk};
+ghost use Rattle.sqlite.specs.Files.{file_state};
 ghost use Rattle.sqlite_wal.specs.Files.{image_at};
-ghost use Rattle.bh_commands.specs.Files.{HoldsSoundHost};
-ghost use Rattle.bh_commands.specs.Commands.{message_of, IsRefusal, IsRefused, IsMade, IsCommandDone};
+ghost use Rattle.bh_types.specs.declared.refusal.Refusal.TheVariants as refusal;
+ghost use Rattle.bh_commands.specs.Commands.{IsRefusal};
+ghost use Rattle.bh_commands.specs.Files.{HoldsFor, HoldsSoundHost, IsEnded, AreDone, IsAnswered};
+ghost use Rattle.bh_commands.specs.Subcommands.{IsReadyFor};
+ghost use Rattle.bh_commands.specs.declared.asked.Asked.TheVariants as the_file;
 
-use crate::commands::apply_command;
+use crate::asked::{Asked, Work};
+use crate::ending::{Ended, close};
 use crate::fault::Fault;
-use crate::opening::{NoHost, open_file, open_stored_file};
+use crate::hosts::on_connection;
 use crate::printed::Printed;
-use crate::task::Task;
-use bh_blocks::digester::Sha256Digester;
-use bh_connection::{Clock, MachineClock};
-use bh_create::create;
-use bh_dispatch::storage::HostStorage;
 use bh_types::limits::{Limits, Tuning};
 use bh_types::refusal::Refusal;
-use sqlite::{Alter, FileFrom, FileStore, Start};
+use sqlite::{Connection, FileFrom, FileStore, Files, Start};
+use sqlite_disk::Disk;
 use std::alloc::{AllocError, Global};
-use std::io;
+use std::io::ErrorKind;
+use std::{fs, io};
 
-/// What was done on a file.
-#[derive(Drop)]
-pub struct Done<S: Alter + Drop> {
-    pub printed: Printed,
-    /// The host of the file, if it has one.
-    pub storage: Option<HostStorage<S, Sha256Digester>>,
+/// Whether a path names nothing, or a file of no bytes. Such a file holds no host, and stays as it is.
+fn is_blank(rt: &HostRuntime, path: &str) -> io::Result<bool> {
+    match fs::metadata(rt, path) {
+        Ok(data) => Ok(data.is_file() && data.len() == 0),
+        Err(error) if error.kind() == ErrorKind::NotFound => Ok(true),
+        Err(error) => Err(error),
+    }
 }
 
-/// The same on files whose first contents `S` stands for.
-pub type FileDone<S> = Done<FileStore<FileFrom<S>>>;
-
-/// What is printed where no host was found or made.
-pub(crate) fn without_host<S: Alter + Drop>(
-    alloc: Global,
-    refusal: Refusal,
-) -> Result<Done<S>, AllocError>
-    ensures { IfOk result (λ done. (done.storage ≡ None) × IsRefusal refusal done.printed) }
+/// What is printed where there is no host.
+fn without_files<D: Disk + Drop>(alloc: Global) -> Result<Ended<D>, AllocError>
+    ensures { IfOk result (λ ended. (ended.files ≡ None) × IsRefusal refusal.NotAHostFile ended.printed) }
 {
-    Ok(Done {
-        printed: Printed::refusal(alloc, refusal)?,
-        storage: None,
+    Ok(Ended {
+        printed: Printed::refusal(alloc, Refusal::NotAHostFile)?,
+        files: None,
     })
 }
 
-/// The reading that was given, or the machine's clock, in whole seconds since 1970.
-fn reading_of(rt: &HostRuntime, at: Option<u64>) -> io::Result<u64>
-    ensures { IfOk result (λ reading. IfSome at (λ given. reading ≡ given)) }
+/// Does what is asked on the connection of files, and closes them.
+fn on_files<D: Disk + Drop>(
+    rt: &HostRuntime,
+    connection: Connection<FileStore<D>>,
+    tuning: Tuning,
+    asked: Asked,
+) -> Result<(Printed, Files<D>), Fault>
+    requires { IsReadyFor asked (file_state connection) }
+    ensures { IfOk result (λ it. IsEnded connection asked it.0 it.1) }
 {
-    if let Some(reading) = at {
-        return Ok(reading);
-    }
-    MachineClock(rt).seconds()
+    let (printed, left) = on_connection(rt, connection, tuning, asked)?;
+    Ok((printed, close(left)))
+}
+
+/// Opens files, or makes them, does what is asked, and closes them.
+fn in_files<S: Start>(
+    rt: &HostRuntime,
+    path: &str,
+    start: S,
+    tuning: Tuning,
+    asked: Asked,
+) -> Result<Ended<FileFrom<S>>, Fault>
+    requires { HoldsFor asked (image_at S.Start) }
+    ensures { IfOk result (λ ended. IsAnswered ⟦<FileFrom<S> as Disk>⟧ (image_at S.Start) asked ended.printed ended.files) }
+{
+    let connection = bh_file::open_file(rt, path, start)?;
+    let (printed, files) = on_files(rt, connection, tuning, asked)?;
+    Ok(Ended {
+        printed,
+        files: Some(files),
+    })
 }
 
 /// Makes a host in a file that isn't there or has no bytes, and prints `host`.
@@ -61,57 +80,30 @@ pub fn init_file<S: Start>(
     path: &str,
     start: S,
     limits: Limits,
-) -> Result<FileDone<S>, Fault>
-    ensures { IfOk result (λ done. MatchOption done.storage (IsRefused done.printed)
-        (λ storage. IsMade over_files limits storage.host done.printed)) }
+) -> Result<Ended<FileFrom<S>>, Fault>
+    ensures { IfOk result (λ ended.
+        IsAnswered ⟦<FileFrom<S> as Disk>⟧ (image_at S.Start) (the_file.Init limits) ended.printed ended.files) }
 {
-    let connection = open_file(rt, path, start)?;
-    let printed = Printed::line(rt.alloc(), b"host")?;
-    match create(connection, Sha256Digester, limits, Tuning::default()) {
-        Ok(host) => Ok(Done {
-            printed,
-            storage: Some(HostStorage { host }),
-        }),
-        Err(error) => Ok(without_host(rt.alloc(), error.refusal)?),
-    }
+    let ended = in_files(rt, path, start, Tuning::default(), Asked::Init(limits))?;
+    Ok(ended)
 }
 
-/// Does what an operator asks of the host of a file, at a reading of the clock in seconds since 1970, and prints the
-/// reply.
-pub fn file_command<S: Start>(
+/// Does what is asked of the host of a file, and prints the reply. Where the path names nothing, or a file of no bytes, no
+/// file is made.
+pub fn work_in_file<S: Start>(
     rt: &HostRuntime,
     path: &str,
     start: S,
-    at: Option<u64>,
-    task: Task,
-) -> Result<FileDone<S>, Fault>
+    tuning: Tuning,
+    work: Work,
+) -> Result<Ended<FileFrom<S>>, Fault>
     requires { HoldsSoundHost (image_at S.Start) }
-    ensures { IfOk result (λ done. MatchOption done.storage (IsRefused done.printed)
-        (λ storage. IsCommandDone over_files (image_at S.Start) at (message_of task) storage.host done.printed)) }
+    ensures { IfOk result (λ ended.
+        IsAnswered ⟦<FileFrom<S> as Disk>⟧ (image_at S.Start) (the_file.Host work) ended.printed ended.files) }
 {
-    let mut storage = match open_stored_file(rt, path, start, Tuning::default()) {
-        Ok(storage) => storage,
-        Err(NoHost::Refused(refusal)) => return Ok(without_host(rt.alloc(), refusal)?),
-        Err(NoHost::Fault(fault)) => return Err(fault),
-    };
-    let reading = reading_of(rt, at)?;
-    let printed = apply_command(rt.alloc(), &mut storage, reading, task)?;
-    Ok(Done {
-        printed,
-        storage: Some(storage),
-    })
-}
-
-/// What is printed, once the file is whole without its log. A failure to make it so takes nothing back: the next
-/// open reads the log.
-pub fn finish<S: Start>(done: FileDone<S>) -> Printed
-    ensures { result ≡ done.printed }
-{
-    let Done { printed, storage } = done;
-    if printed.status == 0 {
-        if let Some(storage) = storage {
-            let _ = storage.host.into_connection().close();
-        }
+    if is_blank(rt, path)? {
+        return Ok(without_files(rt.alloc())?);
     }
-    printed
+    let ended = in_files(rt, path, start, tuning, Asked::Host(work))?;
+    Ok(ended)
 }

@@ -1,21 +1,22 @@
 //! The subcommands of `bucketd`, and what each prints.
 #![tactic(auto)]
 
+mod asked;
 mod commands;
+mod ending;
 mod fault;
 mod files;
+mod hosts;
 mod input;
 mod lines;
-mod opening;
 mod printed;
-mod serve;
 mod task;
 
-pub use commands::apply_command;
+pub use asked::{Asked, Serving, Work};
+pub use commands::{apply_command, do_work};
+pub use ending::{Done, Ended, Left};
 pub use fault::Fault;
-pub use files::{Done, file_command, finish, init_file};
+pub use files::{init_file, work_in_file};
 pub use lines::carry_out;
-pub use opening::{FileHost, NoHost, open_file, open_stored_file};
 pub use printed::Printed;
-pub use serve::{Serving, serve_file};
 pub use task::Task;

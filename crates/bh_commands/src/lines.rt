@@ -1,8 +1,8 @@
+use crate::asked::{Serving, Work};
 use crate::fault::Fault;
-use crate::files::{file_command, finish, init_file};
+use crate::files::{init_file, work_in_file};
 use crate::input::{answer_input, secret_of};
 use crate::printed::Printed;
-use crate::serve::{Serving, serve_file};
 use crate::task::Task;
 use bh_event::event::Command;
 use bh_types::limits::{Limits, Tuning};
@@ -23,7 +23,14 @@ pub fn carry_out(rt: &HostRuntime, line: Line) -> Result<Printed, Fault> {
             count,
             timeout,
             tuning,
-        } => return serve_from(rt, file.as_str(), tuning, port, count, timeout),
+        } => {
+            let work = Work::Serve(Serving {
+                port,
+                count,
+                timeout,
+            });
+            return work_in(rt, file.as_str(), tuning, work);
+        }
         Line::TenantAdd {
             file,
             tenant,
@@ -53,7 +60,8 @@ pub fn carry_out(rt: &HostRuntime, line: Line) -> Result<Printed, Fault> {
         Line::Sweep { file, limit, at } => (file, at, Task::Sweep { limit }),
         Line::Report { file, at } => (file, at, Task::Report),
     };
-    ask_in(rt, file.as_str(), at, task)
+    let work = Work::Command { task, at };
+    work_in(rt, file.as_str(), Tuning::default(), work)
 }
 
 /// A new access key. Its secret is read before a file is opened, so that no other process waits for it.
@@ -73,27 +81,10 @@ fn key_add(
 
 /// Makes a host in a file. A crash may have left anything in what was being written.
 fn make_in(rt: &HostRuntime, path: &str, limits: Limits) -> Result<Printed, Fault> {
-    Ok(finish(init_file(rt, path, Wary, limits)?))
+    Ok(init_file(rt, path, Wary, limits)?.into_printed())
 }
 
-/// Asks something of the host of a file, of whose contents nothing is said.
-fn ask_in(rt: &HostRuntime, path: &str, at: Option<u64>, task: Task) -> Result<Printed, Fault> {
-    Ok(finish(file_command(rt, path, Wary, at, task)?))
-}
-
-/// Serves the host of a file, of whose contents nothing is said.
-fn serve_from(
-    rt: &HostRuntime,
-    path: &str,
-    tuning: Tuning,
-    port: u16,
-    count: u64,
-    timeout: u64,
-) -> Result<Printed, Fault> {
-    let serving = Serving {
-        port,
-        count,
-        timeout,
-    };
-    Ok(finish(serve_file(rt, path, Wary, tuning, serving)?))
+/// Does what is asked of the host of a file, of whose contents nothing is said.
+fn work_in(rt: &HostRuntime, path: &str, tuning: Tuning, work: Work) -> Result<Printed, Fault> {
+    Ok(work_in_file(rt, path, Wary, tuning, work)?.into_printed())
 }

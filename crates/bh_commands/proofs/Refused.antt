@@ -1,0 +1,67 @@
+-- Where no host was made or found, what stood stands.
+use Rattle.std.proofs.Common.{◌≡◌, ◌≢◌, ◌⊎◌, refl, ap, sym, subst, inl, inr}
+use Rattle.sqlite_trees.specs.declared.store.Store.{Ghosts}
+use Rattle.sqlite.specs.Held.{Held, state}
+use Rattle.sqlite.specs.State.{State}
+use Rattle.bh_types.specs.Limits.{HostLimits}
+use Rattle.bh_types.specs.declared.refusal.Refusal.{Refusal}
+use Rattle.bh_types.specs.declared.refusal.Refusal.TheVariants.{NotAHostFile, Unavailable}
+use Rattle.bh_schema.specs.Layer.{standing, IsOpen, IsStateClean, KeepsDisk, LeavesNothingNew, taken_back}
+use Rattle.bh_create.specs.Creation.{IsEmpty}
+use Rattle.bh_open.specs.Opening.{IsHostOf}
+use Rattle.bh_commands.specs.Commands.{IsRefusal}
+use Rattle.bh_commands.specs.Subcommands.{IsNotFound, IsNotMade}
+use Rattle.bh_commands.specs.declared.printed.Printed.{Printed}
+
+is_no_host : (refusal : Refusal) → (refusal ≡ NotAHostFile) ⊎ (refusal ≢ NotAHostFile)
+is_no_host NotAHostFile = inl refl
+is_no_host _ = inr (λ e. cc)
+
+keeps_disk : (s : State) → KeepsDisk s s
+keeps_disk s = record { clean = λ x. x; intact = λ x. x; limit = refl }
+
+module _ {S : Type 0} (g : Ghosts S) (old new : Held S) (refusal : Refusal) (printed : Printed) (line : IsRefusal refusal printed) where
+  pub not_made : (refusal ≡ NotAHostFile → (new ≡ old) × ¬ IsEmpty (state g old))
+      → (refusal ≢ NotAHostFile → (refusal ≡ Unavailable) × IsEmpty (state g old) × KeepsDisk (state g old) (state g new)
+      × (IsStateClean (state g new) → standing (state g new) ≡ taken_back (standing (state g old))))
+      → IsNotMade (state g old) (state g new) printed
+  not_made refused failed = elim (is_no_host refusal) [
+    | inl is ↦ record {
+      alone = record {
+        refusal = refusal;
+        which = inl is;
+        line = line;
+        follows = subst (λ (c : Held S). KeepsDisk (state g old) (state g c)) (sym (refused is).0) (keeps_disk (state g old));
+        stays = λ clean. inl (ap (λ (c : Held S). standing (state g c)) (refused is).0);
+      };
+      not_empty = λ h. (refused h).1;
+    }
+    | inr isnt ↦ record {
+      alone = record {
+        refusal = refusal;
+        which = inr (failed isnt).0;
+        line = line;
+        follows = (failed isnt).2;
+        stays = λ clean. inr ((failed isnt).3 clean);
+      };
+      not_empty = λ h. absurd (isnt h);
+    }
+  ]
+
+  pub not_found : (refusal ≡ NotAHostFile → IsStateClean (state g new) → (standing (state g new) ≡ standing (state g old))
+      × ((limits : HostLimits) → ¬ IsHostOf limits (standing (state g old)).now))
+      → (refusal ≢ NotAHostFile → (refusal ≡ Unavailable) × (IsStateClean (state g new) → standing (state g new) ≡ taken_back (standing (state g old))))
+      → KeepsDisk (state g old) (state g new) → (IsOpen (state g old) → LeavesNothingNew (state g old) (state g new))
+      → IsNotFound (state g old) (state g new) printed
+  not_found refused failed keeps leaves = elim (is_no_host refusal) [
+    | inl is ↦ record {
+      alone = record { refusal = refusal; which = inl is; line = line; follows = keeps; stays = λ clean. inl (refused is clean).0 };
+      no_host = λ h clean. (refused h clean).1;
+      survives = leaves;
+    }
+    | inr isnt ↦ record {
+      alone = record { refusal = refusal; which = inr (failed isnt).0; line = line; follows = keeps; stays = λ clean. inr ((failed isnt).1 clean) };
+      no_host = λ h. absurd (isnt h);
+      survives = leaves;
+    }
+  ]
