@@ -2,8 +2,8 @@
 # tests, on the programs of `make gate` where they are of these sources, else without proof, in minutes. gate: every proof and
 # stored run, from nothing. times: the gate, and then what each crate cost, in seconds of a processor ('tools/gate-times
 # COMMAND..' tells it of any run). wrong-bodies: tries and stamps the wrong bodies whose stamp isn't true any more
-# (wrong-bodies/README.md); of one crate by CRATE=bh_docs. stamps: what CI asks of them, every stamp true and those of one
-# crate refused anew. lint: the layout of all sources.
+# (wrong-bodies/README.md); of one crate by CRATE=bh_docs. stamps: what CI asks of them, which stamps
+# aren't true, and those of one crate refused anew. lint: the layout of all sources.
 # bench: the program's speed and memory; lookups: the time of lookups by key at 1,000 and 100,000 rows; versions:
 # that of requests on many versions and keys; serving: puts and gets over sockets beside nginx; bodies: those of small and
 # great bodies, new and known, and their memory; blocks: the time of a block among 1,000 and 100,000; uploads: that of a part
