@@ -6,10 +6,16 @@ mod clock;
 mod connection;
 mod each;
 mod listener;
+mod log;
+mod noted;
+mod port;
 mod served;
+mod sockets;
 
 pub use clock::{Clock, MachineClock};
 pub use connection::serve_connection;
 pub use each::{Arrival, serve_each};
-pub use listener::{serve_listener, serve_port};
+pub use listener::{serve_from, serve_listener, serve_port};
+pub use port::Port;
 pub use served::{End, Served};
+pub use sockets::Manner;
