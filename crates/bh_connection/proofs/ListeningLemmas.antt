@@ -56,6 +56,6 @@ module _ {H : Type 0} (IsIntact IsOpen : H → Type 0) (seen : H → Seen) (left
       (subst (P (filter_map event_of rows ++ filter_map event_of (row ∷ []))) (sym (filter_map-append told_of rows (row ∷ [])))
       (ran_with IsIntact IsOpen seen left (filter_map event_of rows) (filter_map told_of rows) row.before.reading row.outcome old mid new intact (so_far.ran (still intact)) did)))
 
-pub at_err : {X E : Type 0} (result : Result X E) {Q P : Type 0} → IsErr result → P → MatchResult result (λ _. Q) (λ _. P)
-at_err (Ok x) failed p = absurd (false≢true failed)
-at_err (Err e) failed p = p
+pub at_err : {X E : Type 0} (result : Result X E) (Q : Type 0) {P : Type 0} → IsErr result → P → MatchResult result (λ _. Q) (λ _. P)
+at_err (Ok x) Q failed p = absurd (false≢true failed)
+at_err (Err e) Q failed p = p

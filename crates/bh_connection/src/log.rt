@@ -86,13 +86,10 @@ fn only_value<'a>(headers: &[Header<'a>], name: &str) -> Option<&'a [u8]> {
     found
 }
 
+/// The bytes of a text that are told.
 fn cut(text: Option<&str>) -> &[u8] {
     let bytes = text.unwrap_or("-").as_bytes();
-    if bytes.len() > MOST {
-        &bytes[..MOST]
-    } else {
-        bytes
-    }
+    bytes.get(..MOST).unwrap_or(bytes)
 }
 
 /// The status, and the refusal as its number and its code.

@@ -1,5 +1,4 @@
-ghost use Rattle.std.specs.Prelude.{◌≡◌};
-ghost use Rattle.bh_connection.specs.Each.{IsGoing};
+ghost use Rattle.std.specs.Prelude.{⊤};
 
 use crate::bounded::{Bounded, Current};
 use crate::clock::Clock;
@@ -97,7 +96,9 @@ impl<'a, C: Clock, E: Eprint> Port for Sockets<'a, C, E> {
         &mut self,
         arrival: Arrival<Noted<Ahead<'a, C>>, Noted<Way<'a, C>>>,
         served: Served,
-    ) {
+    )
+        ensures { ⊤ }
+    {
         let reader = arrival.reader.into_inner();
         let writer = arrival.writer.into_inner();
         if self.manner.is_logged {
