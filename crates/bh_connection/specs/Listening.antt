@@ -1,7 +1,6 @@
 -- Connections that came to a port, and the calls by which they came.
 use Rattle.std.specs.Prelude.{◌≡◌, ◌⊎◌, ◌<◌, ℕ, List, [], ◌∷◌, ◌++◌, length, filter_map, ⊤, Option, Some, None, Result, MatchResult}
 use Rattle.std.specs.List.{flat_map}
-use Rattle.bh_types.specs.Limits.{HostLimits}
 use Rattle.bh_tables.specs.Typed.{Tables}
 use Rattle.bh_storage.specs.Calls.{Seen}
 use Rattle.bh_host.specs.Runs.{RanOn, HasRunOn}

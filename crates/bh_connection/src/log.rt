@@ -35,7 +35,10 @@ pub(crate) fn line_of(alloc: Global, entry: &Entry<'_>) -> Result<String, AllocE
     let asked = asked_text(alloc, entry.request)?;
     let answered = answered_text(alloc, entry.response)?;
     let Entry {
-        taken, sent, took, ..
+        taken,
+        sent,
+        took,
+        ..
     } = entry;
     format!(in alloc; "{time} {asked} {answered} {taken} {sent} {took}")
 }
@@ -110,7 +113,11 @@ fn answered_text(alloc: Global, bytes: &[u8]) -> Result<String, AllocError> {
 fn refused_text(alloc: Global, status: u16, refusal: &[u8]) -> Result<String, AllocError> {
     let mut text = format!(in alloc; "{status} ")?;
     for byte in refusal {
-        let c = if *byte == b' ' { '_' } else { char::from(*byte) };
+        let c = if *byte == b' ' {
+            '_'
+        } else {
+            char::from(*byte)
+        };
         text.push(c)?;
     }
     Ok(text)

@@ -13,6 +13,7 @@ use std::io::{Read, Write};
 /// what whoever serves its connections did.
 pub trait Port {
     type Reader: Read + Drop;
+
     type Writer: Write + Drop;
 
     /// Its calls and what they gave, oldest first, if it tells them.

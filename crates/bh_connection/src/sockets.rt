@@ -30,10 +30,15 @@ const PAUSE: u64 = 100;
 
 // Errors of accept(2) that pass. Of the first two the next connection may come at once.
 const EINTR: i32 = 4;
+
 const ECONNABORTED: i32 = 103;
+
 const ENOMEM: i32 = 12;
+
 const ENFILE: i32 = 23;
+
 const EMFILE: i32 = 24;
+
 const ENOBUFS: i32 = 105;
 
 /// How each connection is served.
@@ -67,6 +72,7 @@ pub(crate) struct Sockets<'a, C, E> {
 
 impl<'a, C: Clock, E: Eprint> Port for Sockets<'a, C, E> {
     type Reader = Noted<Ahead<'a, C>>;
+
     type Writer = Noted<Way<'a, C>>;
 
     fn accept(&mut self) -> io::Result<()> {
@@ -92,11 +98,7 @@ impl<'a, C: Clock, E: Eprint> Port for Sockets<'a, C, E> {
         }
     }
 
-    fn close(
-        &mut self,
-        arrival: Arrival<Noted<Ahead<'a, C>>, Noted<Way<'a, C>>>,
-        served: Served,
-    )
+    fn close(&mut self, arrival: Arrival<Noted<Ahead<'a, C>>, Noted<Way<'a, C>>>, served: Served)
         ensures { ⊤ }
     {
         let reader = arrival.reader.into_inner();

@@ -3,8 +3,8 @@ ghost use Rattle.std.specs.Prelude.{◌≡◌, false};
 ghost use Rattle.clap.specs.Words.{rule_of};
 ghost use Rattle.bh_words.specs.Options as spec;
 
-use clap::{Arg, ArgAction};
 use clap::builder::ValueParser;
+use clap::{Arg, ArgAction};
 use std::alloc::Global;
 
 /// An option of a subcommand.
@@ -66,7 +66,8 @@ impl OptionName {
             OptionName::Count =>
                 "How many connections are served: 1 to 2^32 - 1; without it there is no end",
             OptionName::Log => "Writes a line for each request on standard error",
-            OptionName::Timeout => "The seconds to read a request in, and then to write its response: 1 to 3,600",
+            OptionName::Timeout =>
+                "The seconds to read a request in, and then to write its response: 1 to 3,600",
             OptionName::MinPart => "The least bytes of a part that isn't the last: 0 to 2^30",
             OptionName::MaxBody => "The most bytes of a body: 1 to 2^30",
             OptionName::BlockSize => "The bytes of a block: 1 to 1,048,576",

@@ -1,4 +1,4 @@
-use Rattle.std.proofs.Common.{◌≡◌, ℕ, [], ◌∷◌, refl, sym, subst, inr}
+use Rattle.std.proofs.Common.{[], ◌∷◌, refl, sym, subst, inr}
 use Rattle.bh_connection.specs.Each.{ends}
 use Rattle.bh_connection.specs.Listening.{Logs, Accepted, ToldReading, ToldNone, Opened, Closed}
 use Rattle.bh_connection.proofs.EachLemmas.{no_connection}
@@ -13,11 +13,14 @@ returns-in_err-reading-clause-did g c = no_connection g.H.Storage.IsIntact g.H.S
 
 pub returns-in_err-reading-clause-comes : goal.returns-in_err-reading-clause-comes
 returns-in_err-reading-clause-comes g c =
-    at_err c.from_residual-in_err-reading.result _ c.from_residual-in_err-reading.ensures.0 (Accepted ∷ ToldNone ∷ [], record {
-      which = inr refl;
-      calls = logs_then _ _ _ (Accepted ∷ []) (ToldNone ∷ []) c.in_ok-accept.ensures c.in_err-reading.ensures;
-      same = refl;
-    })
+    at_err c.from_residual-in_err-reading.result _ c.from_residual-in_err-reading.ensures.0 (
+      Accepted ∷ ToldNone ∷ [],
+      record {
+        which = inr refl;
+        calls = logs_then _ _ _ (Accepted ∷ []) (ToldNone ∷ []) c.in_ok-accept.ensures c.in_err-reading.ensures;
+        same = refl;
+      },
+    )
 
 pub returns-clause-comes : goal.returns-clause-comes
 returns-clause-comes g c =
@@ -25,11 +28,13 @@ returns-clause-comes g c =
     let before = ends g.P.Reader.Read.remaining g.P.Writer.Write.contents c.open-arrival.result in
     let after = ends g.P.Reader.Read.remaining g.P.Writer.Write.contents c.serve_arrival-served.new.arrival in
     let told : Logs (g.P.Port.calls c.accept.new.self) (g.P.Port.calls c.seconds.new.self) (ToldReading before.reading ∷ []) =
-    subst (λ r. Logs (g.P.Port.calls c.accept.new.self) (g.P.Port.calls c.seconds.new.self) (ToldReading r ∷ [])) (sym c.open-arrival.ensures.reading) c.in_ok-reading.ensures in
-    (record { before = before; after = after; served = c.serve_arrival-served.result; outcome = came_to.outcome }, record {
-      calls = logs_then _ _ _ (Accepted ∷ []) (ToldReading before.reading ∷ Opened before ∷ Closed after c.serve_arrival-served.result ∷ []) c.in_ok-accept.ensures
-          (logs_then _ _ _ (ToldReading before.reading ∷ []) (Opened before ∷ Closed after c.serve_arrival-served.result ∷ []) told
-          (logs_then _ _ _ (Opened before ∷ []) (Closed after c.serve_arrival-served.result ∷ []) c.open-arrival.ensures.calls c.close.ensures));
-      came = came_to.came;
-      did = came_to.did;
-    })
+    subst (λ r. Logs (g.P.Port.calls c.accept.new.self) (g.P.Port.calls c.seconds.new.self) (ToldReading r ∷ [])) (sym c.open-arrival.ensures.reading) c.in_ok-reading.ensures in (
+      record { before = before; after = after; served = c.serve_arrival-served.result; outcome = came_to.outcome },
+      record {
+        calls = logs_then _ _ _ (Accepted ∷ []) (ToldReading before.reading ∷ Opened before ∷ Closed after c.serve_arrival-served.result ∷ []) c.in_ok-accept.ensures
+            (logs_then _ _ _ (ToldReading before.reading ∷ []) (Opened before ∷ Closed after c.serve_arrival-served.result ∷ []) told
+            (logs_then _ _ _ (Opened before ∷ []) (Closed after c.serve_arrival-served.result ∷ []) c.open-arrival.ensures.calls c.close.ensures));
+        came = came_to.came;
+        did = came_to.did;
+      },
+    )
