@@ -66,7 +66,7 @@ pub(crate) struct Sockets<'a, C, E> {
     /// Standard error.
     pub(crate) errors: &'a E,
     pub(crate) manner: Manner,
-    /// When the connection came, in milliseconds.
+    /// When the connection came, in milliseconds, where it is logged.
     pub(crate) since: u64,
 }
 
@@ -77,7 +77,9 @@ impl<'a, C: Clock, E: Eprint> Port for Sockets<'a, C, E> {
 
     fn accept(&mut self) -> io::Result<()> {
         let stream = accepted(self.listener, self.clock)?;
-        self.since = self.milliseconds();
+        if self.manner.is_logged {
+            self.since = self.milliseconds();
+        }
         match self.current.try_replace(Some(stream)) {
             Ok(_) => Ok(()),
             Err(_) => Err(io::Error::from(ErrorKind::ResourceBusy)),
@@ -156,14 +158,14 @@ fn accepted<C: Clock>(listener: &TcpListener, clock: &C) -> io::Result<TcpStream
     for tried in 0..u64::MAX {
         match listener.accept() {
             Ok((stream, _)) => return Ok(stream),
-            Err(e) => bear(clock, e)?,
+            Err(e) => wait_out(clock, e)?,
         }
     }
     Err(io::Error::from(ErrorKind::TimedOut))
 }
 
-/// Waits until an error of an accept may have passed, if it passes.
-fn bear<C: Clock>(clock: &C, error: io::Error) -> io::Result<()> {
+/// Waits until an error of an accept may have passed; one that doesn't pass is given back.
+fn wait_out<C: Clock>(clock: &C, error: io::Error) -> io::Result<()> {
     match error.raw_os_error() {
         Some(EINTR | ECONNABORTED) => Ok(()),
         Some(ENOMEM | ENFILE | EMFILE | ENOBUFS) => {
