@@ -1,4 +1,4 @@
--- Connections that came to a port, and the calls by which they came.
+-- Connections that an acceptor gave, and the calls by which they came.
 use Rattle.std.specs.Prelude.{◌≡◌, ◌⊎◌, ◌<◌, ℕ, List, [], ◌∷◌, ◌++◌, length, filter_map, ⊤, Option, Some, None, Result, MatchResult}
 use Rattle.std.specs.List.{flat_map}
 use Rattle.bh_tables.specs.Typed.{Tables}
@@ -8,7 +8,7 @@ use Rattle.bh_connection.specs.Connections.{Ends, Came, Did}
 use Rattle.bh_connection.specs.Each.{Row, EachCame, event_of, told_of}
 use Rattle.bh_connection.specs.declared.served.Served.{Served}
 
--- ---- the calls of a port, and what each gave
+-- ---- the calls of an acceptor, and what each gave
 
 pub data Call : Type 0 where
   Accepted : Call
@@ -18,7 +18,7 @@ pub data Call : Type 0 where
   Opened : (ends : Ends) → Call
   Closed : (ends : Ends) (served : Served) → Call
 
--- these calls were added, where a port tells its calls
+-- these calls were added, where an acceptor tells its calls
 abbrev pub Logs : Option (List Call) → Option (List Call) → List Call → Type 0
 Logs None new calls = ⊤
 Logs (Some xs) None calls = ⊥

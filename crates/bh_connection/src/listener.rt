@@ -4,10 +4,10 @@ ghost use Rattle.bh_connection.specs.Connections.{DidSome};
 ghost use Rattle.bh_connection.specs.Each.{RanSome};
 ghost use Rattle.bh_connection.specs.Listening.{ComesOne, HasListened};
 
+use crate::acceptor::Acceptor;
 use crate::bounded::Current;
 use crate::clock::Clock;
 use crate::each::serve_arrival;
-use crate::port::Port;
 use crate::sockets::{Manner, Sockets};
 use bh_storage::storage::Storage;
 use std::alloc::Global;
@@ -73,13 +73,13 @@ pub fn serve_listener<E: Eprint + AllocGlobal, H: Storage, C: Clock>(
     serve_from(errors.alloc(), host, &mut sockets, count)
 }
 
-/// Serves so many connections of a port, one after another: each that is accepted, at the reading that the clock gives
+/// Serves so many connections of an acceptor, one after another: each that is accepted, at the reading that the clock gives
 /// after that, and each is closed before the next is waited for. A fault of an accept or of the clock ends it, and
 /// nothing is done after it.
-pub fn serve_from<H: Storage, P: Port>(
+pub fn serve_from<H: Storage, A: Acceptor>(
     alloc: Global,
     host: &mut H,
-    port: &mut P,
+    acceptor: &mut A,
     count: u64,
 ) -> io::Result<()>
     requires { Clean H.IsIntact H.IsOpen host.old → IsAtRest H.IsSound (H.seen host.old) }
@@ -88,29 +88,33 @@ pub fn serve_from<H: Storage, P: Port>(
     ensures ready { Clean H.IsIntact H.IsOpen host.new → IsAtRest H.IsSound (H.seen host.new) }
     ensures limits { (H.seen host.new).limits ≡ (H.seen host.old).limits }
     ensures ran { H.IsIntact host.new → RanSome H.IsOpen H.seen H.left host.old host.new }
-    ensures listened { HasListened H.IsIntact H.IsOpen H.seen H.left (P.calls port.old) (P.calls port.new) count result
+    ensures listened { HasListened H.IsIntact H.IsOpen H.seen H.left (A.calls acceptor.old) (A.calls acceptor.new) count result
         host.old host.new }
 {
     for served in 0..count {
-        serve_next(alloc, host, port)?;
+        serve_next(alloc, host, acceptor)?;
     }
     Ok(())
 }
 
-/// Serves the next connection of a port.
-fn serve_next<H: Storage, P: Port>(alloc: Global, host: &mut H, port: &mut P) -> io::Result<()>
+/// Serves the next connection of an acceptor.
+fn serve_next<H: Storage, A: Acceptor>(
+    alloc: Global,
+    host: &mut H,
+    acceptor: &mut A,
+) -> io::Result<()>
     requires { Clean H.IsIntact H.IsOpen host.old → IsAtRest H.IsSound (H.seen host.old) }
     ensures intact { H.IsIntact host.new → H.IsIntact host.old }
     ensures opened { H.IsIntact host.new → H.IsOpen host.new → H.IsOpen host.old }
     ensures ready { Clean H.IsIntact H.IsOpen host.new → IsAtRest H.IsSound (H.seen host.new) }
     ensures limits { (H.seen host.new).limits ≡ (H.seen host.old).limits }
     ensures did { DidSome H.IsIntact H.IsOpen H.seen H.left host.old host.new }
-    ensures comes { ComesOne H.IsIntact H.IsOpen H.seen H.left (P.calls port.old) (P.calls port.new) result host.old host.new }
+    ensures comes { ComesOne H.IsIntact H.IsOpen H.seen H.left (A.calls acceptor.old) (A.calls acceptor.new) result host.old host.new }
 {
-    port.accept()?;
-    let reading = port.seconds()?;
-    let mut arrival = port.open(reading);
+    acceptor.accept()?;
+    let reading = acceptor.seconds()?;
+    let mut arrival = acceptor.open(reading);
     let served = serve_arrival(alloc, host, &mut arrival);
-    port.close(arrival, served);
+    acceptor.close(arrival, served);
     Ok(())
 }

@@ -1,11 +1,11 @@
 ghost use Rattle.std.specs.Prelude.{⊤};
 
+use crate::acceptor::Acceptor;
 use crate::bounded::{Bounded, Current};
 use crate::clock::Clock;
 use crate::each::Arrival;
 use crate::log::{Entry, line_of};
 use crate::noted::Noted;
-use crate::port::Port;
 use crate::served::{End, Served};
 use bh_http::arriving::MAX_HEAD;
 use bh_link::link::Link;
@@ -70,7 +70,7 @@ pub(crate) struct Sockets<'a, C, E> {
     pub(crate) since: u64,
 }
 
-impl<'a, C: Clock, E: Eprint> Port for Sockets<'a, C, E> {
+impl<'a, C: Clock, E: Eprint> Acceptor for Sockets<'a, C, E> {
     type Reader = Noted<Ahead<'a, C>>;
 
     type Writer = Noted<Way<'a, C>>;

@@ -12,6 +12,6 @@ invariant-loop-served g l = record {
   ready : Clean g.H.Storage.IsIntact g.H.Storage.IsOpen l.host → IsAtRest g.H.Storage.IsSound (g.H.Storage.seen l.host);
   limits : (g.H.Storage.seen l.host).limits ≡ (g.H.Storage.seen l.fn.host).limits;
   ran : g.H.Storage.IsIntact l.host → RanSome g.H.Storage.IsOpen g.H.Storage.seen g.H.Storage.left l.fn.host l.host;
-  listened : (rows : List Row) × (length rows ≡ l.served) × Logs (g.P.Port.calls l.fn.port) (g.P.Port.calls l.port) (flat_map calls_of rows)
+  listened : (rows : List Row) × (length rows ≡ l.served) × Logs (g.A.Acceptor.calls l.fn.acceptor) (g.A.Acceptor.calls l.acceptor) (flat_map calls_of rows)
       × HasServedRows g.H.Storage.IsIntact g.H.Storage.IsOpen g.H.Storage.seen g.H.Storage.left rows l.fn.host l.host;
 }

@@ -25,10 +25,10 @@ returns-in_err-reading-clause-comes g c =
 pub returns-clause-comes : goal.returns-clause-comes
 returns-clause-comes g c =
     let came_to = c.serve_arrival-served.ensures.came_to in
-    let before = ends g.P.Reader.Read.remaining g.P.Writer.Write.contents c.open-arrival.result in
-    let after = ends g.P.Reader.Read.remaining g.P.Writer.Write.contents c.serve_arrival-served.new.arrival in
-    let told : Logs (g.P.Port.calls c.accept.new.self) (g.P.Port.calls c.seconds.new.self) (ToldReading before.reading ∷ []) =
-    subst (λ r. Logs (g.P.Port.calls c.accept.new.self) (g.P.Port.calls c.seconds.new.self) (ToldReading r ∷ [])) (sym c.open-arrival.ensures.reading) c.in_ok-reading.ensures in (
+    let before = ends g.A.Reader.Read.remaining g.A.Writer.Write.contents c.open-arrival.result in
+    let after = ends g.A.Reader.Read.remaining g.A.Writer.Write.contents c.serve_arrival-served.new.arrival in
+    let told : Logs (g.A.Acceptor.calls c.accept.new.self) (g.A.Acceptor.calls c.seconds.new.self) (ToldReading before.reading ∷ []) =
+    subst (λ r. Logs (g.A.Acceptor.calls c.accept.new.self) (g.A.Acceptor.calls c.seconds.new.self) (ToldReading r ∷ [])) (sym c.open-arrival.ensures.reading) c.in_ok-reading.ensures in (
       record { before = before; after = after; served = c.serve_arrival-served.result; outcome = came_to.outcome },
       record {
         calls = logs_then _ _ _ (Accepted ∷ []) (ToldReading before.reading ∷ Opened before ∷ Closed after c.serve_arrival-served.result ∷ []) c.in_ok-accept.ensures

@@ -9,9 +9,9 @@ use std::io::{Read, Write};
 
 /// Where connections come from, one after another, and the clock by which they are served.
 ///
-/// What a socket or a clock gives no contract can say. A port that tells its calls, and what they gave, tells of them
-/// what whoever serves its connections did.
-pub trait Port {
+/// What a socket or a clock gives no contract can say. An acceptor that tells its calls, and what they gave, tells by
+/// them what whoever serves its connections did.
+pub trait Acceptor {
     type Reader: Read + Drop;
 
     type Writer: Write + Drop;
@@ -19,7 +19,7 @@ pub trait Port {
     /// Its calls and what they gave, oldest first, if it tells them.
     ghost calls: { Self → Option (List Call) } = { λ _. None };
 
-    /// Waits for the next connection, which is then the port's.
+    /// Waits for the next connection, which is then its own.
     fn accept(&mut self) -> io::Result<()>
         ensures { MatchResult result (λ _. Logs (calls self.old) (calls self.new) (Accepted ∷ []))
             (λ _. Logs (calls self.old) (calls self.new) (NotAccepted ∷ [])) };
