@@ -1,12 +1,14 @@
 use crate::task::Task;
+use bh_connection::Manner;
 use bh_types::limits::Limits;
 
-/// How a host is served: so many connections on a port of 127.0.0.1, each read and written within so many seconds.
+/// How a host is served: so many connections on a port of 127.0.0.1, or on one that the system chooses where it is 0.
 #[derive(Clone, Copy)]
 pub struct Serving {
     pub port: u16,
-    pub count: u64,
-    pub timeout: u64,
+    /// How many connections, or without end.
+    pub count: Option<u64>,
+    pub manner: Manner,
 }
 
 /// What is asked of the host of a file.

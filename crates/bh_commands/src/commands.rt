@@ -69,8 +69,8 @@ fn serve<H: Storage>(rt: &HostRuntime, host: &mut H, serving: Serving) -> Result
         host,
         &MachineClock(rt),
         serving.port,
-        serving.timeout,
-        serving.count,
+        serving.manner,
+        serving.count.unwrap_or(u64::MAX),
     )?;
     Ok(Printed::nothing(rt.alloc()))
 }

@@ -4,6 +4,7 @@ use crate::files::{init_file, work_in_file};
 use crate::input::{answer_input, secret_of};
 use crate::printed::Printed;
 use crate::task::Task;
+use bh_connection::Manner;
 use bh_event::event::Command;
 use bh_types::limits::{Limits, Tuning};
 use bh_words::{Line, SecretGiven};
@@ -21,13 +22,17 @@ pub fn carry_out(rt: &HostRuntime, line: Line) -> Result<Printed, Fault> {
             file,
             port,
             count,
+            log,
             timeout,
             tuning,
         } => {
             let work = Work::Serve(Serving {
                 port,
                 count,
-                timeout,
+                manner: Manner {
+                    timeout,
+                    is_logged: log,
+                },
             });
             return work_in(rt, file.as_str(), tuning, work);
         }

@@ -1,5 +1,5 @@
 -- Connections after connections.
-use Rattle.std.proofs.Common.{◌≡◌, ℕ, ◌+◌, ◌<◌, ◌≤◌, List, [], ◌∷◌, ◌++◌, map, length, take, drop, set, get_or, refl, sym, ap, subst, ◌∙◌, arith, Option, Some, None, add-zero, append-nil}
+use Rattle.std.proofs.Common.{◌≡◌, ℕ, ◌+◌, ◌<◌, ◌≤◌, List, [], ◌∷◌, ◌++◌, map, length, take, drop, set, get_or, refl, sym, ap, subst, ◌∙◌, arith, Some, None, add-zero, append-nil}
 use Rattle.std.specs.List.{filter_map, cons_option}
 use Rattle.std.specs.Option.{option_map}
 use Rattle.std.proofs.lemmas.List.{map-append, take_all, take_more, take_more_set, get_or-drop, drop-set-lt, drop-drop}
@@ -14,13 +14,13 @@ use Rattle.bh_connection.specs.Connections.{request_at, Ends, Outcome, Came, Did
 use Rattle.bh_connection.specs.Each.{Row, EachCame, event_of, told_of, HasServed, HasServedAlone, RanSome}
 use Rattle.bh_connection.specs.declared.served.Served.{Served}
 
-each-append : (limits : HostLimits) (rows : List Row) (row : Row) → EachCame limits rows → Came limits row.before row.after row.served row.outcome → EachCame limits (rows ++ row ∷ [])
+pub each-append : (limits : HostLimits) (rows : List Row) (row : Row) → EachCame limits rows → Came limits row.before row.after row.served row.outcome → EachCame limits (rows ++ row ∷ [])
 each-append limits [] row all came = (came, tt)
 each-append limits (r ∷ rows) row (first, rest) came = (first, each-append limits rows row rest came)
 
 module _ {H : Type 0} (IsIntact IsOpen : H → Type 0) (seen : H → Seen) (left : H → Tables → Type 0) where
   -- a run, and one connection more
-  ran_with : (events : List Event) (tolds : List Told) (reading : ℕ) (outcome : Outcome) (old mid new : H) → IsIntact new → RanOn IsOpen seen left events tolds old mid
+  pub ran_with : (events : List Event) (tolds : List Told) (reading : ℕ) (outcome : Outcome) (old mid new : H) → IsIntact new → RanOn IsOpen seen left events tolds old mid
       → Did IsIntact IsOpen seen left reading outcome mid new
       → RanOn IsOpen seen left (events ++ cons_option (option_map (λ o. request_at reading o.0) outcome) []) (tolds ++ cons_option (option_map (λ o. o.1) outcome) []) old new
   ran_with events tolds reading None old mid new intact ran same =
@@ -71,7 +71,7 @@ module _ {H : Type 0} (IsIntact IsOpen : H → Type 0) (seen : H → Seen) (left
       (served_more (map ends (take i firsts)) (map ends (take i nows)) serveds (ends was) (ends is) served old mid new still limits so_far one)))
 
   -- each tenant was alone in a run
-  run_alone : (events : List Event) (tolds : List Told) (old new : H) → RanOn IsOpen seen left events tolds old new → HasRunOn IsOpen seen events tolds old new
+  pub run_alone : (events : List Event) (tolds : List Told) (old new : H) → RanOn IsOpen seen left events tolds old new → HasRunOn IsOpen seen events tolds old new
   run_alone events tolds old new ran =
       let alone = running.each_is_alone events tolds (seen old).now ran.end ran.ran in
       record { end = ran.end; turns = alone.0; has_run = alone.1; now = ran.now }

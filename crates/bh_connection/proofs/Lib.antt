@@ -1,2 +1,3 @@
 pub mod ConnectionLemmas
 pub mod EachLemmas
+pub mod ListeningLemmas

@@ -1,15 +1,30 @@
 use std::io::ErrorKind;
+use std::time::Duration;
 use std::{io, time};
 
 /// The clock by which connections are served.
 pub trait Clock {
     /// Its reading: whole seconds since 1970.
     fn seconds(&self) -> io::Result<u64>;
+
+    /// Milliseconds since some moment, to measure by.
+    fn milliseconds(&self) -> io::Result<u64>;
+
+    /// Waits so long.
+    fn wait(&self, duration: Duration);
 }
 
 impl<C: Clock> Clock for &C {
     fn seconds(&self) -> io::Result<u64> {
         (**self).seconds()
+    }
+
+    fn milliseconds(&self) -> io::Result<u64> {
+        (**self).milliseconds()
+    }
+
+    fn wait(&self, duration: Duration) {
+        (**self).wait(duration);
     }
 }
 
@@ -24,5 +39,14 @@ impl<C: time::Clock> Clock for MachineClock<C> {
             Err(e) if e.kind() == ErrorKind::InvalidData => Ok(0),
             Err(e) => Err(e),
         }
+    }
+
+    fn milliseconds(&self) -> io::Result<u64> {
+        let since = self.0.monotonic()?;
+        Ok(u64::try_from(since.as_millis()).unwrap_or(u64::MAX))
+    }
+
+    fn wait(&self, duration: Duration) {
+        self.0.sleep(duration);
     }
 }

@@ -49,7 +49,7 @@ pub fn serve_each<H: Storage, R: Read, W: Write>(
 }
 
 /// Serves one connection.
-fn serve_arrival<H: Storage, R: Read, W: Write>(
+pub(crate) fn serve_arrival<H: Storage, R: Read, W: Write>(
     alloc: Global,
     host: &mut H,
     arrival: &mut Arrival<R, W>,

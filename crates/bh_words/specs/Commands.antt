@@ -4,7 +4,7 @@ use Rattle.clap.specs.Words.{App, Shape, Text, with_rule, with_subcommand}
 use Rattle.clap.specs.Simple.{new_shape}
 use Rattle.bh_words.specs.Options.{rule}
 use Rattle.bh_words.specs.declared.options.OptionName.{OptionName}
-use Rattle.bh_words.specs.declared.options.OptionName.TheVariants.{File, Tenant, Name, Secret, Quota, At, Limit, Port, Count, Timeout, MinPart, MaxBody, BlockSize, CacheBlocks}
+use Rattle.bh_words.specs.declared.options.OptionName.TheVariants.{File, Tenant, Name, Secret, Quota, At, Limit, Port, Count, Log, Timeout, MinPart, MaxBody, BlockSize, CacheBlocks}
 use Rattle.bh_words.specs.declared.subcommands.Subcommand.{Subcommand}
 use Rattle.bh_words.specs.declared.subcommands.Subcommand.TheVariants as subcommand
 
@@ -31,7 +31,7 @@ options subcommand.KeyRemove = File ∷ Tenant ∷ Name ∷ At ∷ []
 options subcommand.Usage = File ∷ Tenant ∷ At ∷ []
 options subcommand.Report = File ∷ At ∷ []
 options subcommand.Sweep = File ∷ Limit ∷ At ∷ []
-options subcommand.Serve = File ∷ Port ∷ Count ∷ Timeout ∷ BlockSize ∷ CacheBlocks ∷ []
+options subcommand.Serve = File ∷ Port ∷ Count ∷ Log ∷ Timeout ∷ BlockSize ∷ CacheBlocks ∷ []
 
 abbrev pub subcommands : List Subcommand
 subcommands = subcommand.Script ∷ subcommand.Init ∷ subcommand.TenantAdd ∷ subcommand.Quota ∷ subcommand.KeyAdd

@@ -1,5 +1,5 @@
 -- What a command line asks for, as contracts see it.
-use Rattle.std.specs.Prelude.{ℕ, List, Option}
+use Rattle.std.specs.Prelude.{ℕ, Bool, List, Option}
 use Rattle.std.specs.String.{string_bytes}
 use Rattle.bh_types.specs.Limits.{HostLimits, HostTuning}
 use Rattle.bh_words.specs.declared.lines.Line.{Line}
@@ -15,7 +15,7 @@ pub data Secret : Type 0 where
   Written : (secret : Octets) → Secret
   FromInput : Secret
 
--- a subcommand with its values; `at` is the reading of the clock, where one was given
+-- a subcommand with its values; `at` is the reading of the clock, `count` how many connections are served, where one was given
 pub data CommandLine : Type 0 where
   Script : (limits : HostLimits) (tuning : HostTuning) → CommandLine
   Init : (file : Octets) (limits : HostLimits) → CommandLine
@@ -26,7 +26,7 @@ pub data CommandLine : Type 0 where
   Usage : (file : Octets) (tenant : Octets) (at : Option ℕ) → CommandLine
   Report : (file : Octets) (at : Option ℕ) → CommandLine
   Sweep : (file : Octets) (limit : ℕ) (at : Option ℕ) → CommandLine
-  Serve : (file : Octets) (port : ℕ) (count : ℕ) (timeout : ℕ) (tuning : HostTuning) → CommandLine
+  Serve : (file : Octets) (port : ℕ) (count : Option ℕ) (log : Bool) (timeout : ℕ) (tuning : HostTuning) → CommandLine
 
 abbrev pub secret : SecretGiven → Secret
 secret (given.Word text) = Written (string_bytes text)
@@ -42,4 +42,4 @@ command_line (line.KeyRemove file tenant name at) = KeyRemove (string_bytes file
 command_line (line.Usage file tenant at) = Usage (string_bytes file) (string_bytes tenant) at
 command_line (line.Report file at) = Report (string_bytes file) at
 command_line (line.Sweep file limit at) = Sweep (string_bytes file) limit at
-command_line (line.Serve file port count timeout tuning) = Serve (string_bytes file) port count timeout tuning
+command_line (line.Serve file port count log timeout tuning) = Serve (string_bytes file) port count log timeout tuning

@@ -1,10 +1,11 @@
--- The options of the subcommands, as `clap` describes them: each has one value.
+-- The options of the subcommands, as `clap` describes them: each has one value, or none.
 use Rattle.std.specs.Prelude.{ℕ, ◌-◌, ◌^◌, [], ◌∷◌, codes, decimal, true, Some}
 use Rattle.clap.specs.Words.{Rule, Text, new_rule}
+use Rattle.clap.specs.declared.builder.action.ArgAction.TheVariants.{SetTrue}
 use Rattle.clap.specs.declared.builder.value_parser.ValueParser.TheVariants.{Unsigned}
 use Rattle.bh_types.specs.Limits.{default_limits, default_tuning}
 use Rattle.bh_words.specs.declared.options.OptionName.{OptionName}
-use Rattle.bh_words.specs.declared.options.OptionName.TheVariants.{File, Tenant, Name, Secret, Quota, At, Limit, Port, Count, Timeout, MinPart, MaxBody, BlockSize, CacheBlocks}
+use Rattle.bh_words.specs.declared.options.OptionName.TheVariants.{File, Tenant, Name, Secret, Quota, At, Limit, Port, Count, Log, Timeout, MinPart, MaxBody, BlockSize, CacheBlocks}
 
 -- an option is written `--word value` or `--word=value`
 abbrev pub word : OptionName → Text
@@ -17,6 +18,7 @@ word At = codes "at"
 word Limit = codes "limit"
 word Port = codes "port"
 word Count = codes "count"
+word Log = codes "log"
 word Timeout = codes "timeout"
 word MinPart = codes "min-part"
 word MaxBody = codes "max-body"
@@ -38,6 +40,10 @@ text o = required (described o)
 abbrev pub number : OptionName → ℕ → ℕ → Rule
 number o least most = record (described o) { parser = Some (Unsigned least most) }
 
+-- the option has no value: it is given, or it isn't
+abbrev pub flag : OptionName → Rule
+flag o = record (described o) { action = Some SetTrue }
+
 -- a missing option has this value
 abbrev pub preset : ℕ → Rule → Rule
 preset value a = record a { defaults = decimal value ∷ [] }
@@ -55,7 +61,8 @@ rule Quota = required (number Quota 0 greatest)
 rule At = number At 0 greatest
 rule Limit = required (number Limit 0 4_294_967_295)
 rule Port = required (number Port 0 65_535)
-rule Count = required (number Count 0 greatest)
+rule Count = number Count 1 4_294_967_295
+rule Log = flag Log
 rule Timeout = preset 30 (number Timeout 1 3_600)
 rule MinPart = preset default_limits.min_part (number MinPart 0 (2 ^ 30))
 rule MaxBody = preset default_limits.max_body (number MaxBody 1 (2 ^ 30))

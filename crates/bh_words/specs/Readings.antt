@@ -1,5 +1,6 @@
 -- The line that the matches of a command line tell.
-use Rattle.std.specs.Prelude.{◌≡◌, ℕ, ◌^◌, ◌&&◌, List, codes, find, nat_le, nat_lt, Option, Some, None, Result, Ok, Err, if◌then◌else◌}
+use Rattle.std.specs.Prelude.{◌≡◌, ℕ, Bool, false, ◌^◌, ◌&&◌, List, codes, find, nat_le, nat_lt, Option, Some, None, Result, Ok, Err, if◌then◌else◌}
+use Rattle.std.specs.Option.{option_map_or}
 use Rattle.std.specs.Str.{bytes_eq}
 use Rattle.std.specs.Str.Parse.{digits_value, without_leading_plus}
 use Rattle.clap.specs.Words.{Kinds, Row, Text, fault_of, first_of, found_of, rows_of, subcommand_of}
@@ -46,6 +47,10 @@ number_of bits text =
 
 abbrev pub number_at : ℕ → OptionName → List Row → Option ℕ
 number_at bits o rows = text_at o rows >>= number_of bits
+
+-- an option without a value was given
+abbrev pub is_given : OptionName → List Row → Bool
+is_given o rows = option_map_or (λ text. bytes_eq text (codes "true")) (text_at o rows) false
 
 -- `-` stands for standard input
 abbrev pub secret_of : Text → Secret
@@ -145,10 +150,9 @@ abbrev pub serve : List Row → Option CommandLine
 serve rows = do
   file ← text_at option.File rows
   port ← number_at 16 option.Port rows
-  count ← number_at 64 option.Count rows
   timeout ← number_at 64 option.Timeout rows
   tuning ← tuning_at rows
-  Some (line.Serve file port count timeout tuning)
+  Some (line.Serve file port (number_at 64 option.Count rows) (is_given option.Log rows) timeout tuning)
 
 abbrev pub line_at : Subcommand → List Row → Option CommandLine
 line_at subcommand.Script = script

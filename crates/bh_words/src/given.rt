@@ -130,6 +130,16 @@ fn port_of(text: &str) -> Option<u16>
     text.parse::<u16>().ok()
 }
 
+/// Whether an option without a value was given.
+pub(crate) fn is_given(given: &ArgMatches<'_>, option: OptionName) -> bool
+    ensures { result ≡ spec.is_given option (spec.rows_in given.now) }
+{
+    match written(given, option) {
+        Some(text) => text == "true",
+        None => false,
+    }
+}
+
 /// The limits of a new host.
 #[tactic(auto, unfolding(crate::specs::Readings::limits_at))]
 pub(crate) fn limits(given: &ArgMatches<'_>) -> Option<Limits>

@@ -72,12 +72,14 @@ pub enum Line {
         limit: u32,
         at: Option<u64>,
     },
-    /// `count` connections on a port of 127.0.0.1 are served, each read and written within `timeout`
-    /// seconds.
+    /// Connections on a port of 127.0.0.1 are served, on one that the system chooses where it is 0:
+    /// `count` of them, or without end. Each is read within `timeout` seconds, and its response is
+    /// written within as many. With `log` a line tells each request on standard error.
     Serve {
         file: String,
         port: u16,
-        count: u64,
+        count: Option<u64>,
+        log: bool,
         timeout: u64,
         tuning: Tuning,
     },

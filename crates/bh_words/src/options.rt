@@ -3,8 +3,8 @@ ghost use Rattle.std.specs.Prelude.{◌≡◌, false};
 ghost use Rattle.clap.specs.Words.{rule_of};
 ghost use Rattle.bh_words.specs.Options as spec;
 
-use clap::Arg;
 use clap::builder::ValueParser;
+use clap::{Arg, ArgAction};
 use std::alloc::Global;
 
 /// An option of a subcommand.
@@ -19,6 +19,7 @@ pub(crate) enum OptionName {
     Limit,
     Port,
     Count,
+    Log,
     Timeout,
     MinPart,
     MaxBody,
@@ -41,6 +42,7 @@ impl OptionName {
             OptionName::Limit => "limit",
             OptionName::Port => "port",
             OptionName::Count => "count",
+            OptionName::Log => "log",
             OptionName::Timeout => "timeout",
             OptionName::MinPart => "min-part",
             OptionName::MaxBody => "max-body",
@@ -60,13 +62,17 @@ impl OptionName {
             OptionName::At =>
                 "The clock's reading, in seconds since 1970; without it the machine's clock is read",
             OptionName::Limit => "How many uploads and blocks may go: 0 to 2^32 - 1",
-            OptionName::Port => "The port on 127.0.0.1",
-            OptionName::Count => "How many connections are served",
-            OptionName::Timeout => "The seconds that a read or a write may take: 1 to 3,600",
+            OptionName::Port => "The port on 127.0.0.1; 0: one that the system chooses",
+            OptionName::Count =>
+                "How many connections are served: 1 to 2^32 - 1; without it there is no end",
+            OptionName::Log => "Writes a line for each request on standard error",
+            OptionName::Timeout =>
+                "The seconds to read a request in, and then to write its response: 1 to 3,600",
             OptionName::MinPart => "The least bytes of a part that isn't the last: 0 to 2^30",
             OptionName::MaxBody => "The most bytes of a body: 1 to 2^30",
             OptionName::BlockSize => "The bytes of a block: 1 to 1,048,576",
-            OptionName::CacheBlocks => "How many blocks stay in memory: 0 to 65,536",
+            OptionName::CacheBlocks =>
+                "How many blocks are to stay in memory (no effect yet): 0 to 65,536",
         }
     }
 
@@ -83,7 +89,8 @@ impl OptionName {
             OptionName::At => self.number(alloc, 0, u64::MAX),
             OptionName::Limit => self.number(alloc, 0, 4_294_967_295).required(true),
             OptionName::Port => self.number(alloc, 0, 65_535).required(true),
-            OptionName::Count => self.number(alloc, 0, u64::MAX).required(true),
+            OptionName::Count => self.number(alloc, 1, 4_294_967_295),
+            OptionName::Log => self.flag(alloc),
             OptionName::Timeout => self.number(alloc, 1, 3_600).default_value("30"),
             OptionName::MinPart => self.number(alloc, 0, 1 << 30).default_value("5242880"),
             OptionName::MaxBody => self.number(alloc, 1, 1 << 30).default_value("16777216"),
@@ -107,6 +114,14 @@ impl OptionName {
     {
         self.described(alloc)
             .value_parser(ValueParser::unsigned(least, most))
+    }
+
+    // An option without a value.
+    fn flag<'a>(self, alloc: Global) -> Arg<'a>
+        ensures rule { rule_of result ≡ spec.flag self }
+        ensures local { result.global ≡ false }
+    {
+        self.described(alloc).action(ArgAction::SetTrue)
     }
 
     fn described<'a>(self, alloc: Global) -> Arg<'a>

@@ -2,7 +2,9 @@
 ghost use Rattle.bh_words.specs.Lines.{command_line};
 ghost use Rattle.bh_words.specs.Readings as spec;
 
-use crate::given::{GivenError, at, limit, limits, needed, number, port, secret, text, tuning};
+use crate::given::{
+    GivenError, at, is_given, limit, limits, needed, number, port, secret, text, tuning,
+};
 use crate::lines::Line;
 use crate::options::OptionName;
 use crate::subcommands::Subcommand;
@@ -147,13 +149,15 @@ fn serve(alloc: Global, given: &ArgMatches<'_>) -> Result<Line, GivenError>
 {
     let file = text(alloc, given, OptionName::File)?;
     let port = needed(port(given))?;
-    let count = needed(number(given, OptionName::Count))?;
+    let count = number(given, OptionName::Count);
+    let log = is_given(given, OptionName::Log);
     let timeout = needed(number(given, OptionName::Timeout))?;
     let tuning = needed(tuning(given))?;
     Ok(Line::Serve {
         file,
         port,
         count,
+        log,
         timeout,
         tuning,
     })

@@ -57,10 +57,11 @@ static REPORT: [OptionName; 2] = [OptionName::File, OptionName::At];
 
 static SWEEP: [OptionName; 3] = [OptionName::File, OptionName::Limit, OptionName::At];
 
-static SERVE: [OptionName; 6] = [
+static SERVE: [OptionName; 7] = [
     OptionName::File,
     OptionName::Port,
     OptionName::Count,
+    OptionName::Log,
     OptionName::Timeout,
     OptionName::BlockSize,
     OptionName::CacheBlocks,

@@ -1,7 +1,9 @@
-use Rattle.std.proofs.Common.{◌≡◌}
+use Rattle.std.proofs.Common.{◌≡◌, List, length}
+use Rattle.std.specs.List.{flat_map}
 use Rattle.bh_storage.specs.Calls.{Clean, IsAtRest}
-use Rattle.bh_connection.specs.Each.{RanSome}
-use Rattle.bh_connection.proofs.listener.serve_listener.Given as goal
+use Rattle.bh_connection.specs.Each.{RanSome, Row}
+use Rattle.bh_connection.specs.Listening.{Logs, calls_of, HasServedRows}
+use Rattle.bh_connection.proofs.listener.serve_from.Given as goal
 
 abbrev pub invariant-loop-served : goal.invariant-loop-served
 invariant-loop-served g l = record {
@@ -10,4 +12,6 @@ invariant-loop-served g l = record {
   ready : Clean g.H.Storage.IsIntact g.H.Storage.IsOpen l.host → IsAtRest g.H.Storage.IsSound (g.H.Storage.seen l.host);
   limits : (g.H.Storage.seen l.host).limits ≡ (g.H.Storage.seen l.fn.host).limits;
   ran : g.H.Storage.IsIntact l.host → RanSome g.H.Storage.IsOpen g.H.Storage.seen g.H.Storage.left l.fn.host l.host;
+  listened : (rows : List Row) × (length rows ≡ l.served) × Logs (g.A.Acceptor.calls l.fn.acceptor) (g.A.Acceptor.calls l.acceptor) (flat_map calls_of rows)
+      × HasServedRows g.H.Storage.IsIntact g.H.Storage.IsOpen g.H.Storage.seen g.H.Storage.left rows l.fn.host l.host;
 }

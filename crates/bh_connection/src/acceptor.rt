@@ -1,0 +1,43 @@
+ghost use Rattle.std.specs.Prelude.{◌≡◌, ◌∷◌, ℕ, List, [], Option, None, MatchResult};
+ghost use Rattle.bh_connection.specs.Each.{IsGoing, ends};
+ghost use Rattle.bh_connection.specs.Listening.{Call, Logs, Accepted, NotAccepted, ToldReading, ToldNone, Opened, Closed};
+
+use crate::each::Arrival;
+use crate::served::Served;
+use std::io;
+use std::io::{Read, Write};
+
+/// Where connections come from, one after another, and the clock by which they are served.
+///
+/// What a socket or a clock gives no contract can say. An acceptor that tells its calls, and what they gave, tells by
+/// them what whoever serves its connections did.
+pub trait Acceptor {
+    type Reader: Read + Drop;
+
+    type Writer: Write + Drop;
+
+    /// Its calls and what they gave, oldest first, if it tells them.
+    ghost calls: { Self → Option (List Call) } = { λ _. None };
+
+    /// Waits for the next connection, which is then its own.
+    fn accept(&mut self) -> io::Result<()>
+        ensures { MatchResult result (λ _. Logs (calls self.old) (calls self.new) (Accepted ∷ []))
+            (λ _. Logs (calls self.old) (calls self.new) (NotAccepted ∷ [])) };
+
+    /// The clock's reading: whole seconds since 1970.
+    fn seconds(&mut self) -> io::Result<u64>
+        ensures { MatchResult result (λ reading. Logs (calls self.old) (calls self.new) (ToldReading reading ∷ []))
+            (λ _. Logs (calls self.old) (calls self.new) (ToldNone ∷ [])) };
+
+    /// The two ends of its connection, at a reading of the clock.
+    fn open(&mut self, reading: u64) -> Arrival<Self::Reader, Self::Writer>
+        ensures calls { Logs (calls self.old) (calls self.new)
+            (Opened (ends Self.Reader.Read.remaining Self.Writer.Write.contents result) ∷ []) }
+        ensures going { IsGoing result }
+        ensures reading { result.reading ≡ reading };
+
+    /// Closes its connection, of which this became.
+    fn close(&mut self, arrival: Arrival<Self::Reader, Self::Writer>, served: Served)
+        ensures { Logs (calls self.old) (calls self.new)
+            (Closed (ends Self.Reader.Read.remaining Self.Writer.Write.contents arrival) served ∷ []) };
+}

@@ -1,0 +1,124 @@
+//! What the log tells of a request. No field of it is told but the tenant of its access key.
+
+use bh_http::request::MAX_FIELDS;
+use bh_types::access_key::AccessKeyId;
+use bh_types::moment::{Moment, moment_text};
+use httparse::{EMPTY_HEADER, Header, Request, Response, Status};
+use std::alloc::{AllocError, Global};
+
+/// The most bytes of a method or a target that are told.
+const MOST: usize = 200;
+
+/// More fields than a response has.
+const RESPONSE_FIELDS: usize = 16;
+
+/// A request that was served.
+#[derive(Drop)]
+pub(crate) struct Entry<'a> {
+    /// The clock's reading, in seconds since 1970.
+    pub(crate) reading: u64,
+    /// The bytes that came, those of its head at least.
+    pub(crate) request: &'a [u8],
+    /// The bytes of the response, those of its head at least; none where the request wasn't read.
+    pub(crate) response: &'a [u8],
+    /// How many bytes came, and how many went out.
+    pub(crate) taken: u64,
+    pub(crate) sent: u64,
+    /// How long it took, in milliseconds.
+    pub(crate) took: u64,
+}
+
+/// The line that tells of it: the time (RFC 3339, UTC), the tenant, the method, the target, the status, the refusal, the
+/// bytes that came and went, and the milliseconds; `-` stands for what there isn't.
+pub(crate) fn line_of(alloc: Global, entry: &Entry<'_>) -> Result<String, AllocError> {
+    let time = time_text(alloc, entry.reading)?;
+    let asked = asked_text(alloc, entry.request)?;
+    let answered = answered_text(alloc, entry.response)?;
+    let Entry {
+        taken,
+        sent,
+        took,
+        ..
+    } = entry;
+    format!(in alloc; "{time} {asked} {answered} {taken} {sent} {took}")
+}
+
+fn time_text(alloc: Global, reading: u64) -> Result<String, AllocError> {
+    match Moment::new(reading) {
+        Some(moment) => moment_text(alloc, moment),
+        None => String::from_str(alloc, "-"),
+    }
+}
+
+/// The tenant, the method and the target.
+fn asked_text(alloc: Global, bytes: &[u8]) -> Result<String, AllocError> {
+    let mut headers = [EMPTY_HEADER; MAX_FIELDS];
+    let mut request = Request::new(&mut headers);
+    let is_whole = matches!(request.parse(bytes), Ok(Status::Complete(_)));
+    let tenant = if is_whole {
+        tenant_text(alloc, request.headers)?
+    } else {
+        String::from_str(alloc, "-")?
+    };
+    let method = cut(request.method).escape_ascii();
+    let target = cut(request.path).escape_ascii();
+    format!(in alloc; "{tenant} {method} {target}")
+}
+
+/// The tenant of the one access key.
+fn tenant_text(alloc: Global, headers: &[Header<'_>]) -> Result<String, AllocError> {
+    if let Some(id) = only_value(headers, "x-access-key") {
+        if let Some(key) = AccessKeyId::read(alloc, id)? {
+            return String::from_str(alloc, key.tenant.as_str());
+        }
+    }
+    String::from_str(alloc, "-")
+}
+
+/// The value of a field that stands once.
+fn only_value<'a>(headers: &[Header<'a>], name: &str) -> Option<&'a [u8]> {
+    let mut found = None;
+    for header in headers {
+        if header.name.eq_ignore_ascii_case(name) {
+            if found.is_some() {
+                return None;
+            }
+            found = Some(header.value);
+        }
+    }
+    found
+}
+
+/// The bytes of a text that are told.
+fn cut(text: Option<&str>) -> &[u8] {
+    let bytes = text.unwrap_or("-").as_bytes();
+    bytes.get(..MOST).unwrap_or(bytes)
+}
+
+/// The status, and the refusal as its number and its code.
+fn answered_text(alloc: Global, bytes: &[u8]) -> Result<String, AllocError> {
+    let mut headers = [EMPTY_HEADER; RESPONSE_FIELDS];
+    let mut response = Response::new(&mut headers);
+    if !matches!(response.parse(bytes), Ok(Status::Complete(_))) {
+        return String::from_str(alloc, "- -");
+    }
+    let status = response.code.unwrap_or(0);
+    match only_value(response.headers, "x-refusal") {
+        Some(refusal) => refused_text(alloc, status, refusal),
+        None => format!(in alloc; "{status} -"),
+    }
+}
+
+/// A refusal's number and code stand in one word.
+fn refused_text(alloc: Global, status: u16, refusal: &[u8]) -> Result<String, AllocError> {
+    let mut text = format!(in alloc; "{status} ")?;
+    for byte in refusal {
+        let c = if *byte == b' ' {
+            '_'
+        } else {
+            char::from(*byte)
+        };
+        text.push(c)?;
+    }
+    Ok(text)
+}

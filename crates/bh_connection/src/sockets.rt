@@ -1,0 +1,226 @@
+ghost use Rattle.std.specs.Prelude.{⊤};
+
+use crate::acceptor::Acceptor;
+use crate::bounded::{Bounded, Current};
+use crate::clock::Clock;
+use crate::each::Arrival;
+use crate::log::{Entry, line_of};
+use crate::noted::Noted;
+use crate::served::{End, Served};
+use bh_http::arriving::MAX_HEAD;
+use bh_link::link::Link;
+use either::Either;
+use std::alloc::Global;
+use std::io;
+use std::io::{BufReader, ErrorKind, Read};
+use std::net::{Shutdown, TcpListener, TcpStream};
+use std::time::Duration;
+
+/// How long a client that was answered is waited for, in seconds.
+const CLOSING: u64 = 1;
+
+/// How many reads of a client that was answered are thrown away at most.
+const LATE_READS: u32 = 1024;
+
+/// More bytes than the head of a response has.
+const RESPONSE_HEAD: usize = 1024;
+
+/// How long a listener for which the system has no file or memory is left alone, in milliseconds.
+const PAUSE: u64 = 100;
+
+// Errors of accept(2) that pass. Of the first two the next connection may come at once.
+const EINTR: i32 = 4;
+
+const ECONNABORTED: i32 = 103;
+
+const ENOMEM: i32 = 12;
+
+const ENFILE: i32 = 23;
+
+const EMFILE: i32 = 24;
+
+const ENOBUFS: i32 = 105;
+
+/// How each connection is served.
+#[derive(Clone, Copy)]
+pub struct Manner {
+    /// How many seconds there are to read its request, and then, once it is carried out, to write the response.
+    pub timeout: u64,
+    /// Whether a line on standard error tells of it.
+    pub is_logged: bool,
+}
+
+/// One way of a connection, by the clock of its listener.
+type Way<'a, C> = Bounded<'a, &'a C>;
+
+/// The bytes that come, read ahead into a buffer; where memory for it is wanting, without one.
+type Ahead<'a, C> = Either<BufReader<Way<'a, C>>, Way<'a, C>>;
+
+/// The connections of a listener of TCP.
+#[derive(Drop)]
+pub(crate) struct Sockets<'a, C, E> {
+    pub(crate) alloc: Global,
+    pub(crate) listener: &'a TcpListener,
+    pub(crate) current: &'a Current,
+    pub(crate) clock: &'a C,
+    /// Standard error.
+    pub(crate) errors: &'a E,
+    pub(crate) manner: Manner,
+    /// When the connection came, in milliseconds, where it is logged.
+    pub(crate) since: u64,
+}
+
+impl<'a, C: Clock, E: Eprint> Acceptor for Sockets<'a, C, E> {
+    type Reader = Noted<Ahead<'a, C>>;
+
+    type Writer = Noted<Way<'a, C>>;
+
+    fn accept(&mut self) -> io::Result<()> {
+        let stream = accepted(self.listener, self.clock)?;
+        if self.manner.is_logged {
+            self.since = self.milliseconds();
+        }
+        match self.current.try_replace(Some(stream)) {
+            Ok(_) => Ok(()),
+            Err(_) => Err(io::Error::from(ErrorKind::ResourceBusy)),
+        }
+    }
+
+    fn seconds(&mut self) -> io::Result<u64> {
+        self.clock.seconds()
+    }
+
+    fn open(&mut self, reading: u64) -> Arrival<Noted<Ahead<'a, C>>, Noted<Way<'a, C>>> {
+        let way = self.way();
+        let (request, response) = self.noted();
+        Arrival {
+            reading,
+            reader: Link::new(Noted::new(self.alloc, read_ahead(self.alloc, way), request)),
+            writer: Link::new(Noted::new(self.alloc, way, response)),
+        }
+    }
+
+    fn close(&mut self, arrival: Arrival<Noted<Ahead<'a, C>>, Noted<Way<'a, C>>>, served: Served)
+        ensures { ⊤ }
+    {
+        let reader = arrival.reader.into_inner();
+        let writer = arrival.writer.into_inner();
+        if self.manner.is_logged {
+            self.tell(arrival.reading, &reader, &writer);
+        }
+        if served.ended == End::Whole {
+            see_off(self.current, writer.into_inner());
+        }
+        let _ = self.current.try_replace(None);
+    }
+}
+
+impl<'a, C: Clock, E: Eprint> Sockets<'a, C, E> {
+    fn milliseconds(&self) -> u64 {
+        self.clock.milliseconds().unwrap_or(0)
+    }
+
+    /// One way of the connection. A stream that has no timeouts might be waited for without end: its time is over.
+    fn way(&self) -> Way<'a, C> {
+        match set_timeouts(self.current, self.manner.timeout) {
+            Ok(()) => Bounded::new(self.current, self.clock, self.manner.timeout),
+            Err(_) => Bounded::over(self.current, self.clock),
+        }
+    }
+
+    /// How many bytes of a request and of its response are noted for the log.
+    fn noted(&self) -> (usize, usize) {
+        if self.manner.is_logged {
+            (MAX_HEAD, RESPONSE_HEAD)
+        } else {
+            (0, 0)
+        }
+    }
+
+    /// Writes the line of a request. One that can't be written is lost.
+    fn tell<R, W>(&self, reading: u64, reader: &Noted<R>, writer: &Noted<W>) {
+        let entry = Entry {
+            reading,
+            request: reader.first(),
+            response: writer.first(),
+            taken: reader.passed(),
+            sent: writer.passed(),
+            took: self.milliseconds().saturating_sub(self.since),
+        };
+        if let Ok(line) = line_of(self.alloc, &entry) {
+            let _ = eprintln!(self.errors; "{line}");
+        }
+    }
+}
+
+/// The next connection. An accept that fails for a while is tried again.
+fn accepted<C: Clock>(listener: &TcpListener, clock: &C) -> io::Result<TcpStream> {
+    for tried in 0..u64::MAX {
+        match listener.accept() {
+            Ok((stream, _)) => return Ok(stream),
+            Err(e) => wait_out(clock, e)?,
+        }
+    }
+    Err(io::Error::from(ErrorKind::TimedOut))
+}
+
+/// Waits until an error of an accept may have passed; one that doesn't pass is given back.
+fn wait_out<C: Clock>(clock: &C, error: io::Error) -> io::Result<()> {
+    match error.raw_os_error() {
+        Some(EINTR | ECONNABORTED) => Ok(()),
+        Some(ENOMEM | ENFILE | EMFILE | ENOBUFS) => {
+            clock.wait(Duration::from_millis(PAUSE));
+            Ok(())
+        }
+        _ => Err(error),
+    }
+}
+
+fn read_ahead<'a, C: Clock>(alloc: Global, way: Way<'a, C>) -> Ahead<'a, C> {
+    match BufReader::new(alloc, way) {
+        Ok(reader) => Either::Left(reader),
+        Err(_) => Either::Right(way),
+    }
+}
+
+fn set_timeouts(current: &Current, seconds: u64) -> io::Result<()> {
+    let timeout = Some(Duration::from_secs(seconds));
+    let current = current.try_borrow()?;
+    match &*current {
+        Some(stream) => {
+            stream.set_read_timeout(timeout)?;
+            stream.set_write_timeout(timeout)
+        }
+        None => Err(io::Error::from(ErrorKind::NotConnected)),
+    }
+}
+
+/// Closes the writing half, and reads until the client has closed its own: a socket that is closed with bytes unread
+/// would take from the client what it hasn't read of the response yet.
+///
+/// RFC 9112, section 9.6
+fn see_off<S: Read + Drop>(current: &Current, mut rest: S) {
+    if shut(current).is_err() {
+        return;
+    }
+    let mut room = [0u8; 4096];
+    for read in 0..LATE_READS {
+        match rest.read(&mut room) {
+            Ok(0) | Err(_) => return,
+            Ok(_) => {}
+        }
+    }
+}
+
+/// Closes the writing half, and sets how long the client is waited for.
+fn shut(current: &Current) -> io::Result<()> {
+    let waiting = Some(Duration::from_secs(CLOSING));
+    let current = current.try_borrow()?;
+    match &*current {
+        Some(stream) => {
+            stream.set_read_timeout(waiting)?;
+            stream.shutdown(Shutdown::Write)
+        }
+        None => Ok(()),
+    }
+}
