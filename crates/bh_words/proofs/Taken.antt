@@ -1,5 +1,5 @@
 -- Where `clap` takes the words after a subcommand, each row has one value, which its option takes.
-use Rattle.std.proofs.Common.{◌≡◌, ◌∙◌, ◌++◌, ◌⊎◌, ℕ, Bool, true, false, zero, suc, List, [], ◌∷◌, Option, Some, None, inl, inr, refl, sym, subst, ap, arith, length}
+use Rattle.std.proofs.Common.{◌≡◌, ◌∙◌, ◌++◌, ◌⊎◌, ℕ, Bool, true, false, zero, suc, List, [], ◌∷◌, Option, Some, None, inl, inr, refl, sym, subst, ap, arith, length, codes}
 use Rattle.std.specs.Prelude.{◌==◌, ◌&&◌, find, fold, unwrap_or, drop, slice_get, encode_utf8, is_some, if◌then◌else◌}
 use Rattle.std.specs.Option.{option_map_or}
 use Rattle.std.specs.Str.{bytes_eq, chars}
@@ -11,7 +11,7 @@ use Rattle.clap.specs.Lexer.{long_of, short_of}
 use Rattle.clap.specs.Simple.{Shape}
 use Rattle.clap.specs.Faults.{bundle_fault, bundle_step_fault, default_fault, defaults_fault, flags_fault, flag_word_fault, long_fault, option_fault, other_fault, positional_fault, react_fault, repeat_fault, set_fault, settle_fault, short_fault, step_fault, stray_fault, turn_fault, use_fault, values_fault, walk_fault, word_fault}
 use Rattle.clap.specs.Walk.{Held, Outcome, Row, Rule, Step, Text, Waiting, Walk, action_of, after_flag, after_step, arg_by_id, arg_by_index, arg_by_long, arg_by_short, at_row, attached_value, bundle_met, bundle_step, default_rows, done, has_row, idle, is_empty, is_pending, long_met, long_or_other, more_values, most_values, next, option, option_met, option_word, plain, plain_word, positional, positional_held, reacted, reading_by, refused, settled, settled_rows, short_met, short_or_plain, subcommand, subcommand_or_other, takes_several, takes_values, to_positional, trailing, used, used_by_id, value, values_or_missing, waits, walked, walked_from, with_default, with_values, without, word_met}
-use Rattle.clap.specs.declared.builder.action.ArgAction.TheVariants.{Set, Help}
+use Rattle.clap.specs.declared.builder.action.ArgAction.TheVariants.{Set, SetTrue, Help}
 use Rattle.clap.specs.declared.builder.range.ValueRange.{ValueRange}
 use Rattle.clap.specs.declared.error.kind.ErrorKind.{ErrorKind}
 use Rattle.clap.specs.declared.error.kind.ErrorKind.TheVariants.{DisplayHelp}
@@ -27,14 +27,21 @@ one_value = record { start_inclusive = 1; end_inclusive = 1 }
 abbrev pub IsOption : Rule → Type 0
 IsOption a = (a.action ≡ Some Set) × (a.range ≡ Some one_value)
 
+abbrev pub no_value : ValueRange
+no_value = record { start_inclusive = 0; end_inclusive = 0 }
+
+-- an option without a value, for which a text stands where it is given
+abbrev pub IsFlag : Rule → Type 0
+IsFlag a = (a.action ≡ Some SetTrue) × (a.range ≡ Some no_value) × (a.missing ≡ codes "true" ∷ [])
+
 abbrev pub HasOneDefault : List Text → Type 0
 HasOneDefault [] = Unit {0}
 HasOneDefault (v ∷ []) = Unit {0}
 HasOneDefault (v ∷ w ∷ rest) = ⊥
 
--- the only one of its id, an option or a call for help, with one default at most
+-- the only one of its id, an option, a flag or a call for help, with one default at most
 abbrev pub IsFine : List Rule → Rule → Type 0
-IsFine c a = (arg_by_id c a.id ≡ Some a) × (IsOption a ⊎ (a.action ≡ Some Help)) × HasOneDefault a.defaults
+IsFine c a = (arg_by_id c a.id ≡ Some a) × (IsOption a ⊎ (IsFlag a ⊎ (a.action ≡ Some Help))) × HasOneDefault a.defaults
 
 abbrev pub AreFine : List Rule → List Rule → Type 0
 AreFine c [] = Unit {0}
@@ -100,20 +107,35 @@ fits-new : (c : List Rule) (a : Rule) (v : Text) (s : ValueSource) (rows : List 
 fits-new c a v s rows known fit fresh passes =
     subst (AllFit c) (sym (at_row-new a.id (more_values s (v ∷ [])) _ rows fresh)) (fit-append c rows _ fit (a, v, known, refl, passes))
 
-option-values : (c : List Rule) (a : Rule) (values : List Text) (rows : List Row) → arg_by_id c a.id ≡ Some a → AllFit c rows
-    → or_else (range_kinds 1 1 (length values)) (set_fault false a (values_or_missing a values) rows) ≡ []
-    → AllFit c (with_values a.id (reading_by a) CommandLine (values_or_missing a values) (without a.id rows))
-option-values c a [] rows known fit e = cc
-option-values c a (v ∷ []) rows known fit e =
+given-value : (c : List Rule) (a : Rule) (v : Text) (rows : List Row) → arg_by_id c a.id ≡ Some a → AllFit c rows
+    → set_fault false a (v ∷ []) rows ≡ [] → AllFit c (with_values a.id (reading_by a) CommandLine (v ∷ []) (without a.id rows))
+given-value c a v rows known fit e =
     let parts = or_none (repeat_fault false a.id rows) _ e in
     let fresh = fresh_row a.id rows parts.0 in
     let same : without a.id rows ≡ rows = at_row-new a.id (λ _. []) [] rows fresh ∙ append-nil rows in
     subst (λ (rs : List Row). AllFit c (with_values a.id (reading_by a) CommandLine (v ∷ []) rs)) (sym same)
     (fits-new c a v CommandLine rows known fit fresh parts.1)
+
+option-values : (c : List Rule) (a : Rule) (values : List Text) (rows : List Row) → arg_by_id c a.id ≡ Some a → AllFit c rows
+    → or_else (range_kinds 1 1 (length values)) (set_fault false a (values_or_missing a values) rows) ≡ []
+    → AllFit c (with_values a.id (reading_by a) CommandLine (values_or_missing a values) (without a.id rows))
+option-values c a [] rows known fit e = cc
+option-values c a (v ∷ []) rows known fit e = given-value c a v rows known fit e
 option-values c a (v ∷ w ∷ rest) rows known fit e =
     let some : (length (v ∷ w ∷ rest) == 0) ≡ false = ne_eqb _ _ (λ n. omega arith) in
     let more : (1 == length (v ∷ w ∷ rest)) ≡ false = ne_eqb _ _ (λ n. omega arith) in
     let bad = rw (some, more) at e in
+    cc
+
+flag-values : (c : List Rule) (a : Rule) (values : List Text) (rows : List Row) → arg_by_id c a.id ≡ Some a → a.missing ≡ codes "true" ∷ [] → AllFit c rows
+    → or_else (range_kinds 0 0 (length values)) (set_fault false a (values_or_missing a values) rows) ≡ []
+    → AllFit c (with_values a.id (reading_by a) CommandLine (values_or_missing a values) (without a.id rows))
+flag-values c a [] rows known missing fit e =
+    subst (λ (vs : List Text). set_fault false a vs rows ≡ [] → AllFit c (with_values a.id (reading_by a) CommandLine vs (without a.id rows)))
+    (sym missing) (given-value c a (codes "true") rows known fit) e
+flag-values c a (v ∷ rest) rows known missing fit e =
+    let more : (0 == length (v ∷ rest)) ≡ false = ne_eqb _ _ (λ n. omega arith) in
+    let bad = rw more at e in
     cc
 
 used-fits : (c : List Rule) (a : Rule) (values : List Text) (rows : List Row) → IsFine c a → AllFit c rows
@@ -122,7 +144,10 @@ used-fits c a values rows fine fit e = elim fine.1 [
   | inl one ↦
       let taken : or_else (range_kinds 1 1 (length values)) (set_fault false a (values_or_missing a values) rows) ≡ [] = rw (one.0, one.1) at e in
       rw (one.0) (option-values c a values rows fine.0 fit taken)
-  | inr help ↦
+  | inr (inl flag) ↦
+      let taken : or_else (range_kinds 0 0 (length values)) (set_fault false a (values_or_missing a values) rows) ≡ [] = rw (flag.0, flag.1) at e in
+      rw (flag.0) (flag-values c a values rows fine.0 flag.2 fit taken)
+  | inr (inr help) ↦
       let asks : or_else (range_kinds (unwrap_or_range a.range).start_inclusive (most_values a) (length values)) (DisplayHelp ∷ []) ≡ [] = rw help at e in
       absurd (false≢true (never _ DisplayHelp asks))
 ]

@@ -1,10 +1,11 @@
--- The options of the subcommands, as `clap` describes them: each has one value.
+-- The options of the subcommands, as `clap` describes them: each has one value, but for flags.
 use Rattle.std.specs.Prelude.{ℕ, ◌-◌, ◌^◌, [], ◌∷◌, codes, decimal, true, Some}
 use Rattle.clap.specs.Words.{Rule, Text, new_rule}
+use Rattle.clap.specs.declared.builder.action.ArgAction.TheVariants.{SetTrue}
 use Rattle.clap.specs.declared.builder.value_parser.ValueParser.TheVariants.{Unsigned}
 use Rattle.bh_types.specs.Limits.{default_limits, default_tuning}
 use Rattle.bh_words.specs.declared.options.OptionName.{OptionName}
-use Rattle.bh_words.specs.declared.options.OptionName.TheVariants.{File, Tenant, Name, Secret, Quota, At, Limit, Port, Count, Timeout, MinPart, MaxBody, BlockSize, CacheBlocks}
+use Rattle.bh_words.specs.declared.options.OptionName.TheVariants.{File, Tenant, Name, Secret, Quota, At, ClockLeap, Force, Limit, Port, Count, Timeout, MinPart, MaxBody, BlockSize, CacheBlocks}
 
 -- an option is written `--word value` or `--word=value`
 abbrev pub word : OptionName → Text
@@ -14,6 +15,8 @@ word Name = codes "name"
 word Secret = codes "secret"
 word Quota = codes "quota"
 word At = codes "at"
+word ClockLeap = codes "clock-leap"
+word Force = codes "force"
 word Limit = codes "limit"
 word Port = codes "port"
 word Count = codes "count"
@@ -38,6 +41,10 @@ text o = required (described o)
 abbrev pub number : OptionName → ℕ → ℕ → Rule
 number o least most = record (described o) { parser = Some (Unsigned least most) }
 
+-- the option has no value: `clap` writes the text true where it is given
+abbrev pub flag : OptionName → Rule
+flag o = record (described o) { action = Some SetTrue }
+
 -- a missing option has this value
 abbrev pub preset : ℕ → Rule → Rule
 preset value a = record a { defaults = decimal value ∷ [] }
@@ -53,6 +60,8 @@ rule Name = text Name
 rule Secret = text Secret
 rule Quota = required (number Quota 0 greatest)
 rule At = number At 0 greatest
+rule ClockLeap = preset 1 (number ClockLeap 0 3_000_000)
+rule Force = flag Force
 rule Limit = required (number Limit 0 4_294_967_295)
 rule Port = required (number Port 0 65_535)
 rule Count = required (number Count 0 greatest)

@@ -1,5 +1,6 @@
 -- The line that the matches of a command line tell.
-use Rattle.std.specs.Prelude.{◌≡◌, ℕ, ◌^◌, ◌&&◌, List, codes, find, nat_le, nat_lt, Option, Some, None, Result, Ok, Err, if◌then◌else◌}
+use Rattle.std.specs.Prelude.{◌≡◌, ℕ, ◌^◌, Bool, false, ◌&&◌, List, codes, find, nat_le, nat_lt, Option, Some, None, Result, Ok, Err, if◌then◌else◌}
+use Rattle.std.specs.Option.{option_map_or}
 use Rattle.std.specs.Str.{bytes_eq}
 use Rattle.std.specs.Str.Parse.{digits_value, without_leading_plus}
 use Rattle.clap.specs.Words.{Kinds, Row, Text, fault_of, first_of, found_of, rows_of, subcommand_of}
@@ -13,6 +14,9 @@ use Rattle.bh_words.specs.Lines as line
 use Rattle.bh_words.specs.Options.{word}
 use Rattle.bh_words.specs.declared.given.GivenError.{GivenError}
 use Rattle.bh_words.specs.declared.given.GivenError.TheVariants.{NotGiven, OutOfMemory}
+use Rattle.bh_words.specs.declared.lines.ClockGiven.{ClockGiven}
+use Rattle.bh_words.specs.declared.lines.Leap.{Leap}
+use Rattle.bh_words.specs.declared.lines.Leap.TheVariants.{Days, Any}
 use Rattle.bh_words.specs.declared.options.OptionName.{OptionName}
 use Rattle.bh_words.specs.declared.options.OptionName.TheVariants as option
 use Rattle.bh_words.specs.declared.subcommands.Subcommand.{Subcommand}
@@ -59,6 +63,24 @@ secret_at rows = do
 abbrev pub at : List Row → Option ℕ
 at rows = number_at 64 option.At rows
 
+-- whether an option without a value was given
+abbrev pub flag_at : OptionName → List Row → Bool
+flag_at o rows = option_map_or (λ text. bytes_eq text (codes "true")) (text_at o rows) false
+
+-- however far the clock may be ahead of the last stamp, or so many days
+abbrev pub leap_of : Bool → ℕ → Leap
+leap_of force days = if force then Any else Days days
+
+unfoldable pub leap_at : List Row → Option Leap
+leap_at rows = do
+  days ← number_at 64 option.ClockLeap rows
+  Some (leap_of (flag_at option.Force rows) days)
+
+unfoldable pub clock_at : List Row → Option ClockGiven
+clock_at rows = do
+  leap ← leap_at rows
+  Some (record { at = at rows; leap = leap })
+
 abbrev pub limits_of : ℕ → ℕ → Option HostLimits
 limits_of min_part max_body =
     if nat_le min_part (2 ^ 30) && (nat_le 1 max_body && nat_le max_body (2 ^ 30))
@@ -100,14 +122,16 @@ tenant_add rows = do
   file ← text_at option.File rows
   tenant ← text_at option.Tenant rows
   quota ← number_at 64 option.Quota rows
-  Some (line.TenantAdd file tenant quota (at rows))
+  clock ← clock_at rows
+  Some (line.TenantAdd file tenant quota clock)
 
 abbrev pub quota : List Row → Option CommandLine
 quota rows = do
   file ← text_at option.File rows
   tenant ← text_at option.Tenant rows
   quota ← number_at 64 option.Quota rows
-  Some (line.Quota file tenant quota (at rows))
+  clock ← clock_at rows
+  Some (line.Quota file tenant quota clock)
 
 abbrev pub key_add : List Row → Option CommandLine
 key_add rows = do
@@ -115,31 +139,36 @@ key_add rows = do
   tenant ← text_at option.Tenant rows
   name ← text_at option.Name rows
   secret ← secret_at rows
-  Some (line.KeyAdd file tenant name secret (at rows))
+  clock ← clock_at rows
+  Some (line.KeyAdd file tenant name secret clock)
 
 abbrev pub key_remove : List Row → Option CommandLine
 key_remove rows = do
   file ← text_at option.File rows
   tenant ← text_at option.Tenant rows
   name ← text_at option.Name rows
-  Some (line.KeyRemove file tenant name (at rows))
+  clock ← clock_at rows
+  Some (line.KeyRemove file tenant name clock)
 
 abbrev pub usage : List Row → Option CommandLine
 usage rows = do
   file ← text_at option.File rows
   tenant ← text_at option.Tenant rows
-  Some (line.Usage file tenant (at rows))
+  clock ← clock_at rows
+  Some (line.Usage file tenant clock)
 
 abbrev pub report : List Row → Option CommandLine
 report rows = do
   file ← text_at option.File rows
-  Some (line.Report file (at rows))
+  clock ← clock_at rows
+  Some (line.Report file clock)
 
 abbrev pub sweep : List Row → Option CommandLine
 sweep rows = do
   file ← text_at option.File rows
   limit ← number_at 32 option.Limit rows
-  Some (line.Sweep file limit (at rows))
+  clock ← clock_at rows
+  Some (line.Sweep file limit clock)
 
 abbrev pub serve : List Row → Option CommandLine
 serve rows = do
@@ -147,8 +176,9 @@ serve rows = do
   port ← number_at 16 option.Port rows
   count ← number_at 64 option.Count rows
   timeout ← number_at 64 option.Timeout rows
+  leap ← leap_at rows
   tuning ← tuning_at rows
-  Some (line.Serve file port count timeout tuning)
+  Some (line.Serve file port count timeout leap tuning)
 
 abbrev pub line_at : Subcommand → List Row → Option CommandLine
 line_at subcommand.Script = script

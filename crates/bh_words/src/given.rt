@@ -5,7 +5,7 @@ ghost use Rattle.bh_words.specs.Lines as lines;
 ghost use Rattle.bh_words.specs.Readings as spec;
 ghost use Rattle.bh_words.specs.declared.options.OptionName.TheVariants as option;
 
-use crate::lines::SecretGiven;
+use crate::lines::{ClockGiven, Leap, SecretGiven};
 use crate::options::OptionName;
 use bh_types::limits::{Limits, Tuning};
 use clap::ArgMatches;
@@ -89,11 +89,48 @@ fn number_of(text: &str) -> Option<u64>
     text.parse::<u64>().ok()
 }
 
+/// Whether an option without a value was given: `clap` writes it as a text.
+fn flag(given: &ArgMatches<'_>, option: OptionName) -> bool
+    ensures { result ≡ spec.flag_at option (spec.rows_in given.now) }
+{
+    match written(given, option) {
+        Some(text) => text == "true",
+        None => false,
+    }
+}
+
 /// The reading of the clock, if one was given.
-pub(crate) fn at(given: &ArgMatches<'_>) -> Option<u64>
+fn at(given: &ArgMatches<'_>) -> Option<u64>
     ensures { result ≡ spec.at (spec.rows_in given.now) }
 {
     number(given, OptionName::At)
+}
+
+/// How far ahead of the host's last stamp the clock may be.
+#[tactic(auto, unfolding(crate::specs::Readings::leap_at))]
+pub(crate) fn leap(given: &ArgMatches<'_>) -> Option<Leap>
+    ensures { result ≡ spec.leap_at (spec.rows_in given.now) }
+{
+    let days = number(given, OptionName::ClockLeap)?;
+    Some(leap_of(flag(given, OptionName::Force), days))
+}
+
+fn leap_of(force: bool, days: u64) -> Leap
+    ensures { result ≡ spec.leap_of force days }
+{
+    if force { Leap::Any } else { Leap::Days(days) }
+}
+
+/// The clock of a command.
+#[tactic(auto, unfolding(crate::specs::Readings::clock_at))]
+pub(crate) fn clock(given: &ArgMatches<'_>) -> Option<ClockGiven>
+    ensures { result ≡ spec.clock_at (spec.rows_in given.now) }
+{
+    let leap = leap(given)?;
+    Some(ClockGiven {
+        at: at(given),
+        leap,
+    })
 }
 
 /// How many uploads and blocks may go.

@@ -3,7 +3,7 @@ ghost use Rattle.std.specs.Prelude.{◌≡◌, false};
 ghost use Rattle.clap.specs.Words.{rule_of};
 ghost use Rattle.bh_words.specs.Options as spec;
 
-use clap::Arg;
+use clap::{Arg, ArgAction};
 use clap::builder::ValueParser;
 use std::alloc::Global;
 
@@ -16,6 +16,8 @@ pub(crate) enum OptionName {
     Secret,
     Quota,
     At,
+    ClockLeap,
+    Force,
     Limit,
     Port,
     Count,
@@ -38,6 +40,8 @@ impl OptionName {
             OptionName::Secret => "secret",
             OptionName::Quota => "quota",
             OptionName::At => "at",
+            OptionName::ClockLeap => "clock-leap",
+            OptionName::Force => "force",
             OptionName::Limit => "limit",
             OptionName::Port => "port",
             OptionName::Count => "count",
@@ -59,6 +63,9 @@ impl OptionName {
             OptionName::Quota => "How many bytes the tenant may use: 0 to 2^60",
             OptionName::At =>
                 "The clock's reading, in seconds since 1970; without it the machine's clock is read",
+            OptionName::ClockLeap =>
+                "How many days the clock may be after the host's last stamp: 0 to 3,000,000",
+            OptionName::Force => "Takes any clock, however far it is after the host's last stamp",
             OptionName::Limit => "How many uploads and blocks may go: 0 to 2^32 - 1",
             OptionName::Port => "The port on 127.0.0.1",
             OptionName::Count => "How many connections are served",
@@ -81,6 +88,8 @@ impl OptionName {
             }
             OptionName::Quota => self.number(alloc, 0, u64::MAX).required(true),
             OptionName::At => self.number(alloc, 0, u64::MAX),
+            OptionName::ClockLeap => self.number(alloc, 0, 3_000_000).default_value("1"),
+            OptionName::Force => self.flag(alloc),
             OptionName::Limit => self.number(alloc, 0, 4_294_967_295).required(true),
             OptionName::Port => self.number(alloc, 0, 65_535).required(true),
             OptionName::Count => self.number(alloc, 0, u64::MAX).required(true),
@@ -107,6 +116,14 @@ impl OptionName {
     {
         self.described(alloc)
             .value_parser(ValueParser::unsigned(least, most))
+    }
+
+    // An option without a value, which may be missing.
+    fn flag<'a>(self, alloc: Global) -> Arg<'a>
+        ensures rule { rule_of result ≡ spec.flag self }
+        ensures local { result.global ≡ false }
+    {
+        self.described(alloc).action(ArgAction::SetTrue)
     }
 
     fn described<'a>(self, alloc: Global) -> Arg<'a>

@@ -2,7 +2,9 @@
 ghost use Rattle.bh_words.specs.Lines.{command_line};
 ghost use Rattle.bh_words.specs.Readings as spec;
 
-use crate::given::{GivenError, at, limit, limits, needed, number, port, secret, text, tuning};
+use crate::given::{
+    GivenError, clock, leap, limit, limits, needed, number, port, secret, text, tuning,
+};
 use crate::lines::Line;
 use crate::options::OptionName;
 use crate::subcommands::Subcommand;
@@ -60,12 +62,12 @@ fn tenant_add(alloc: Global, given: &ArgMatches<'_>) -> Result<Line, GivenError>
     let file = text(alloc, given, OptionName::File)?;
     let tenant = text(alloc, given, OptionName::Tenant)?;
     let quota = needed(number(given, OptionName::Quota))?;
-    let at = at(given);
+    let clock = needed(clock(given))?;
     Ok(Line::TenantAdd {
         file,
         tenant,
         quota,
-        at,
+        clock,
     })
 }
 
@@ -75,12 +77,12 @@ fn quota(alloc: Global, given: &ArgMatches<'_>) -> Result<Line, GivenError>
     let file = text(alloc, given, OptionName::File)?;
     let tenant = text(alloc, given, OptionName::Tenant)?;
     let quota = needed(number(given, OptionName::Quota))?;
-    let at = at(given);
+    let clock = needed(clock(given))?;
     Ok(Line::Quota {
         file,
         tenant,
         quota,
-        at,
+        clock,
     })
 }
 
@@ -91,13 +93,13 @@ fn key_add(alloc: Global, given: &ArgMatches<'_>) -> Result<Line, GivenError>
     let tenant = text(alloc, given, OptionName::Tenant)?;
     let name = text(alloc, given, OptionName::Name)?;
     let secret = secret(alloc, given)?;
-    let at = at(given);
+    let clock = needed(clock(given))?;
     Ok(Line::KeyAdd {
         file,
         tenant,
         name,
         secret,
-        at,
+        clock,
     })
 }
 
@@ -107,12 +109,12 @@ fn key_remove(alloc: Global, given: &ArgMatches<'_>) -> Result<Line, GivenError>
     let file = text(alloc, given, OptionName::File)?;
     let tenant = text(alloc, given, OptionName::Tenant)?;
     let name = text(alloc, given, OptionName::Name)?;
-    let at = at(given);
+    let clock = needed(clock(given))?;
     Ok(Line::KeyRemove {
         file,
         tenant,
         name,
-        at,
+        clock,
     })
 }
 
@@ -121,16 +123,16 @@ fn usage(alloc: Global, given: &ArgMatches<'_>) -> Result<Line, GivenError>
 {
     let file = text(alloc, given, OptionName::File)?;
     let tenant = text(alloc, given, OptionName::Tenant)?;
-    let at = at(given);
-    Ok(Line::Usage { file, tenant, at })
+    let clock = needed(clock(given))?;
+    Ok(Line::Usage { file, tenant, clock })
 }
 
 fn report(alloc: Global, given: &ArgMatches<'_>) -> Result<Line, GivenError>
     ensures { spec.Gives command_line result (spec.report (spec.rows_in given.now)) }
 {
     let file = text(alloc, given, OptionName::File)?;
-    let at = at(given);
-    Ok(Line::Report { file, at })
+    let clock = needed(clock(given))?;
+    Ok(Line::Report { file, clock })
 }
 
 fn sweep(alloc: Global, given: &ArgMatches<'_>) -> Result<Line, GivenError>
@@ -138,8 +140,8 @@ fn sweep(alloc: Global, given: &ArgMatches<'_>) -> Result<Line, GivenError>
 {
     let file = text(alloc, given, OptionName::File)?;
     let limit = needed(limit(given))?;
-    let at = at(given);
-    Ok(Line::Sweep { file, limit, at })
+    let clock = needed(clock(given))?;
+    Ok(Line::Sweep { file, limit, clock })
 }
 
 fn serve(alloc: Global, given: &ArgMatches<'_>) -> Result<Line, GivenError>
@@ -149,12 +151,14 @@ fn serve(alloc: Global, given: &ArgMatches<'_>) -> Result<Line, GivenError>
     let port = needed(port(given))?;
     let count = needed(number(given, OptionName::Count))?;
     let timeout = needed(number(given, OptionName::Timeout))?;
+    let leap = needed(leap(given))?;
     let tuning = needed(tuning(given))?;
     Ok(Line::Serve {
         file,
         port,
         count,
         timeout,
+        leap,
         tuning,
     })
 }
