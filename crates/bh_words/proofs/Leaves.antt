@@ -48,7 +48,7 @@ tuning-given : (rows : List Row) (v w : Text) (n m : ℕ) → first_of (codes "b
 unfolding tuning_at
 tuning-given rows v w n m a b c d e f g = rw (a, b, c, d, le-leb 1 n e, le-leb n 1_048_576 f, le-leb m 65_536 g) refl
 
-leap-given : (rows : List Row) (v : Text) (n : ℕ) → first_of (codes "clock-leap") rows ≡ Some v → number_of 64 v ≡ Some n
+leap-given : (rows : List Row) (v : Text) (n : ℕ) → first_of (codes "clock-leap") rows ≡ Some v → number_of 32 v ≡ Some n
     → leap_at rows ≡ Some (leap_of (flag_at Force rows) n)
 unfolding leap_at
 leap-given rows v n a b = rw (a, b) refl
@@ -90,7 +90,7 @@ leaf-told subcommand.TenantAdd words e =
     let quota = required-value s words (codes "quota") _ fine e refl refl in
     let quota_n = number_in 64 0 (2 ^ 64 - 1) quota.0 (omega arith) quota.2 in
     let days = default-value s words (codes "clock-leap") _ fine e refl refl in
-    let days_n = number_in 64 0 3_000_000 days.0 (omega arith) days.2 in
+    let days_n = number_in 32 0 3_000_000 days.0 (omega arith) days.2 in
     let leap = leap-given (rows_of_words subcommand.TenantAdd words) _ _ days.1 days_n.1 in
     let clock = clock-given (rows_of_words subcommand.TenantAdd words) _ leap in
     rw (file.1, tenant.1, quota.1, quota_n.1, clock) refl
@@ -102,7 +102,7 @@ leaf-told subcommand.Quota words e =
     let quota = required-value s words (codes "quota") _ fine e refl refl in
     let quota_n = number_in 64 0 (2 ^ 64 - 1) quota.0 (omega arith) quota.2 in
     let days = default-value s words (codes "clock-leap") _ fine e refl refl in
-    let days_n = number_in 64 0 3_000_000 days.0 (omega arith) days.2 in
+    let days_n = number_in 32 0 3_000_000 days.0 (omega arith) days.2 in
     let leap = leap-given (rows_of_words subcommand.Quota words) _ _ days.1 days_n.1 in
     let clock = clock-given (rows_of_words subcommand.Quota words) _ leap in
     rw (file.1, tenant.1, quota.1, quota_n.1, clock) refl
@@ -114,7 +114,7 @@ leaf-told subcommand.KeyAdd words e =
     let name = required-value s words (codes "name") _ fine e refl refl in
     let secret = required-value s words (codes "secret") _ fine e refl refl in
     let days = default-value s words (codes "clock-leap") _ fine e refl refl in
-    let days_n = number_in 64 0 3_000_000 days.0 (omega arith) days.2 in
+    let days_n = number_in 32 0 3_000_000 days.0 (omega arith) days.2 in
     let leap = leap-given (rows_of_words subcommand.KeyAdd words) _ _ days.1 days_n.1 in
     let clock = clock-given (rows_of_words subcommand.KeyAdd words) _ leap in
     rw (file.1, tenant.1, name.1, secret.1, clock) refl
@@ -125,7 +125,7 @@ leaf-told subcommand.KeyRemove words e =
     let tenant = required-value s words (codes "tenant") _ fine e refl refl in
     let name = required-value s words (codes "name") _ fine e refl refl in
     let days = default-value s words (codes "clock-leap") _ fine e refl refl in
-    let days_n = number_in 64 0 3_000_000 days.0 (omega arith) days.2 in
+    let days_n = number_in 32 0 3_000_000 days.0 (omega arith) days.2 in
     let leap = leap-given (rows_of_words subcommand.KeyRemove words) _ _ days.1 days_n.1 in
     let clock = clock-given (rows_of_words subcommand.KeyRemove words) _ leap in
     rw (file.1, tenant.1, name.1, clock) refl
@@ -135,7 +135,7 @@ leaf-told subcommand.Usage words e =
     let file = required-value s words (codes "file") _ fine e refl refl in
     let tenant = required-value s words (codes "tenant") _ fine e refl refl in
     let days = default-value s words (codes "clock-leap") _ fine e refl refl in
-    let days_n = number_in 64 0 3_000_000 days.0 (omega arith) days.2 in
+    let days_n = number_in 32 0 3_000_000 days.0 (omega arith) days.2 in
     let leap = leap-given (rows_of_words subcommand.Usage words) _ _ days.1 days_n.1 in
     let clock = clock-given (rows_of_words subcommand.Usage words) _ leap in
     rw (file.1, tenant.1, clock) refl
@@ -144,7 +144,7 @@ leaf-told subcommand.Report words e =
     let s = leaf subcommand.Report in
     let file = required-value s words (codes "file") _ fine e refl refl in
     let days = default-value s words (codes "clock-leap") _ fine e refl refl in
-    let days_n = number_in 64 0 3_000_000 days.0 (omega arith) days.2 in
+    let days_n = number_in 32 0 3_000_000 days.0 (omega arith) days.2 in
     let leap = leap-given (rows_of_words subcommand.Report words) _ _ days.1 days_n.1 in
     let clock = clock-given (rows_of_words subcommand.Report words) _ leap in
     rw (file.1, clock) refl
@@ -155,7 +155,7 @@ leaf-told subcommand.Sweep words e =
     let limit = required-value s words (codes "limit") _ fine e refl refl in
     let limit_n = number_in 32 0 4_294_967_295 limit.0 (omega arith) limit.2 in
     let days = default-value s words (codes "clock-leap") _ fine e refl refl in
-    let days_n = number_in 64 0 3_000_000 days.0 (omega arith) days.2 in
+    let days_n = number_in 32 0 3_000_000 days.0 (omega arith) days.2 in
     let leap = leap-given (rows_of_words subcommand.Sweep words) _ _ days.1 days_n.1 in
     let clock = clock-given (rows_of_words subcommand.Sweep words) _ leap in
     rw (file.1, limit.1, limit_n.1, clock) refl
@@ -175,6 +175,6 @@ leaf-told subcommand.Serve words e =
     let cache_blocks_n = number_in 64 0 65_536 cache_blocks.0 (omega arith) cache_blocks.2 in
     let tuning = tuning-given (rows_of_words subcommand.Serve words) _ _ _ _ block_size.1 block_size_n.1 cache_blocks.1 cache_blocks_n.1 block_size_n.2 block_size_n.3 cache_blocks_n.3 in
     let days = default-value s words (codes "clock-leap") _ fine e refl refl in
-    let days_n = number_in 64 0 3_000_000 days.0 (omega arith) days.2 in
+    let days_n = number_in 32 0 3_000_000 days.0 (omega arith) days.2 in
     let leap = leap-given (rows_of_words subcommand.Serve words) _ _ days.1 days_n.1 in
     rw (file.1, port.1, port_n.1, count.1, count_n.1, timeout.1, timeout_n.1, leap, tuning) refl

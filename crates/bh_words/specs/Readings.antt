@@ -73,7 +73,7 @@ leap_of force days = if force then Any else Days days
 
 unfoldable pub leap_at : List Row → Option Leap
 leap_at rows = do
-  days ← number_at 64 option.ClockLeap rows
+  days ← number_at 32 option.ClockLeap rows
   Some (leap_of (flag_at option.Force rows) days)
 
 unfoldable pub clock_at : List Row → Option ClockGiven

@@ -111,11 +111,11 @@ fn at(given: &ArgMatches<'_>) -> Option<u64>
 pub(crate) fn leap(given: &ArgMatches<'_>) -> Option<Leap>
     ensures { result ≡ spec.leap_at (spec.rows_in given.now) }
 {
-    let days = number(given, OptionName::ClockLeap)?;
+    let days = small_number(given, OptionName::ClockLeap)?;
     Some(leap_of(flag(given, OptionName::Force), days))
 }
 
-fn leap_of(force: bool, days: u64) -> Leap
+fn leap_of(force: bool, days: u32) -> Leap
     ensures { result ≡ spec.leap_of force days }
 {
     if force { Leap::Any } else { Leap::Days(days) }
@@ -133,18 +133,18 @@ pub(crate) fn clock(given: &ArgMatches<'_>) -> Option<ClockGiven>
     })
 }
 
-/// How many uploads and blocks may go.
-pub(crate) fn limit(given: &ArgMatches<'_>) -> Option<u32>
-    ensures { result ≡ spec.number_at 32 option.Limit (spec.rows_in given.now) }
+/// The number of 32 bits of an option, if it has one.
+pub(crate) fn small_number(given: &ArgMatches<'_>, option: OptionName) -> Option<u32>
+    ensures { result ≡ spec.number_at 32 option (spec.rows_in given.now) }
 {
-    match written(given, OptionName::Limit) {
-        Some(text) => limit_of(text),
+    match written(given, option) {
+        Some(text) => small_number_of(text),
         None => None,
     }
 }
 
 #[tactic(auto, using(crate::proofs::Numbers::number_parsed))]
-fn limit_of(text: &str) -> Option<u32>
+fn small_number_of(text: &str) -> Option<u32>
     ensures { result ≡ spec.number_of 32 text.now }
 {
     text.parse::<u32>().ok()

@@ -13,7 +13,7 @@ pub enum SecretGiven {
 #[derive(Clone, Copy)]
 pub enum Leap {
     /// So many days.
-    Days(u64),
+    Days(u32),
     /// However far.
     Any,
 }

@@ -3,7 +3,7 @@ ghost use Rattle.bh_words.specs.Lines.{command_line};
 ghost use Rattle.bh_words.specs.Readings as spec;
 
 use crate::given::{
-    GivenError, clock, leap, limit, limits, needed, number, port, secret, text, tuning,
+    GivenError, clock, leap, limits, needed, number, port, secret, small_number, text, tuning,
 };
 use crate::lines::Line;
 use crate::options::OptionName;
@@ -139,7 +139,7 @@ fn sweep(alloc: Global, given: &ArgMatches<'_>) -> Result<Line, GivenError>
     ensures { spec.Gives command_line result (spec.sweep (spec.rows_in given.now)) }
 {
     let file = text(alloc, given, OptionName::File)?;
-    let limit = needed(limit(given))?;
+    let limit = needed(small_number(given, OptionName::Limit))?;
     let clock = needed(clock(given))?;
     Ok(Line::Sweep { file, limit, clock })
 }
