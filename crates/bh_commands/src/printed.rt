@@ -58,8 +58,9 @@ impl Printed {
     pub fn fault(alloc: Global) -> Result<Printed, AllocError>
         ensures { IfOk result IsFault }
     {
-        let text = line_of(alloc, b"fault")?;
-        Ok(Printed { text, status: 1 })
+        let mut printed = Printed::line(alloc, b"fault")?;
+        printed.status = 1;
+        Ok(printed)
     }
 
     /// A reply to an operator.
