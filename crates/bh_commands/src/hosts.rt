@@ -84,7 +84,11 @@ fn make<S: Alter + Drop>(
             connection: host.into_connection(),
         }),
         Err(error) => {
-            tell(rt, path, &why_not_made(alloc, error.cause, &error.connection));
+            tell(
+                rt,
+                path,
+                &why_not_made(alloc, error.cause, &error.connection),
+            );
             Ok(refused(alloc, error.connection, error.refusal)?)
         }
     }

@@ -38,7 +38,11 @@ pub fn carry_out(rt: &HostRuntime, line: Line) -> Result<Printed, Fault> {
             tenant,
             quota,
             clock,
-        } => (file, clock, Task::from(Command::TenantAdd { tenant, quota })),
+        } => (
+            file,
+            clock,
+            Task::from(Command::TenantAdd { tenant, quota }),
+        ),
         Line::Quota {
             file,
             tenant,
@@ -58,11 +62,21 @@ pub fn carry_out(rt: &HostRuntime, line: Line) -> Result<Printed, Fault> {
             name,
             clock,
         } => (file, clock, Task::from(Command::KeyRemove { tenant, name })),
-        Line::Usage { file, tenant, clock } => (file, clock, Task::from(Command::Usage { tenant })),
+        Line::Usage {
+            file,
+            tenant,
+            clock,
+        } => (file, clock, Task::from(Command::Usage { tenant })),
         Line::Sweep { file, limit, clock } => (file, clock, Task::Sweep { limit }),
         Line::Report { file, clock } => (file, clock, Task::Report),
     };
-    work_in(rt, file.as_str(), Tuning::default(), clock, Work::Command(task))
+    work_in(
+        rt,
+        file.as_str(),
+        Tuning::default(),
+        clock,
+        Work::Command(task),
+    )
 }
 
 /// A new access key. Its secret is read before a file is opened, so that no other process waits for it.

@@ -36,8 +36,7 @@ impl fmt::Display for Ahead {
         let latest = Second(self.latest);
         write!(
             f,
-            "the clock reads {reading}, which is {days} days after the host's last stamp, {latest}: set it right, or if it is right \
-             give --clock-leap {} or --force",
+            "the clock reads {reading}, and the host's last stamp is {latest}: set the clock right, or if it is right give --clock-leap {} or --force",
             days.saturating_add(1)
         )
     }
@@ -70,8 +69,7 @@ fn write_no_host<W: fmt::Write>(why: NoHost, f: &mut fmt::Formatter<W>) -> fmt::
         NoHost::OtherTables => f.write_str(
             "there is no host in it: the database is another program's, or of another version of bucketd",
         ),
-        NoHost::OtherVersion(version) =>
-            write!(
+        NoHost::OtherVersion(version) => write!(
             f,
             "its host is of version {version}, and this bucketd reads version 0"
         ),

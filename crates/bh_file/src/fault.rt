@@ -55,8 +55,9 @@ impl fmt::Display for OpenFault {
         match self {
             OpenFault::Memory => f.write_str("out of memory"),
             OpenFault::Busy => f.write_str("it is locked: another process has it open"),
-            OpenFault::Journal =>
-                f.write_str("it has a rollback journal: open it with sqlite3 first"),
+            OpenFault::Journal => f.write_str(
+                "it has a rollback journal: open it with sqlite3 first",
+            ),
             OpenFault::NoFile => f.write_str("it is no regular file"),
             OpenFault::NoDatabase => f.write_str("it is no SQLite database"),
             OpenFault::System(error) => write!(f, "{error}"),

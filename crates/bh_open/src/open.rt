@@ -47,9 +47,7 @@ pub struct Opened<S: Alter + Drop, D: Digester + Drop> {
 }
 
 /// What the host's row tells, in a database that has a host's tables. A transaction is open afterwards, or was taken back.
-fn read_host<S: Alter>(
-    connection: &mut Connection<S>,
-) -> Result<Result<FoundHost, NoHost>, Error>
+fn read_host<S: Alter>(connection: &mut Connection<S>) -> Result<Result<FoundHost, NoHost>, Error>
     requires schema { (stands S.Store connection.old).now.schema ≡ host_schema }
     ensures kept { IsKept (state S.Store connection.old) (state S.Store connection.new) }
     ensures read { IfOk result (λ found. IsClean S.Store connection.new → IsHost (stands S.Store connection.old).now

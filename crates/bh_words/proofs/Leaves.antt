@@ -7,7 +7,7 @@ use Rattle.clap.specs.Walk.{Row, Text, first_of, rows_after}
 use Rattle.bh_words.proofs.Valued.{IsLeaf, IsTaken, default-value, number_in, required-value}
 use Rattle.bh_words.specs.Commands.{options, shape, word}
 use Rattle.bh_words.specs.Options.{rule}
-use Rattle.bh_words.specs.Readings.{at, clock_at, flag_at, leap_at, leap_of, limits_at, line_at, number_of, tuning_at}
+use Rattle.bh_words.specs.Readings.{at, clock_at, is_given, leap_at, leap_of, limits_at, line_at, number_of, tuning_at}
 use Rattle.bh_words.specs.declared.lines.Leap.{Leap}
 use Rattle.bh_words.specs.declared.options.OptionName.TheVariants.{Force}
 use Rattle.bh_words.specs.declared.subcommands.Subcommand.{Subcommand}
@@ -49,7 +49,7 @@ unfolding tuning_at
 tuning-given rows v w n m a b c d e f g = rw (a, b, c, d, le-leb 1 n e, le-leb n 1_048_576 f, le-leb m 65_536 g) refl
 
 leap-given : (rows : List Row) (v : Text) (n : ℕ) → first_of (codes "clock-leap") rows ≡ Some v → number_of 32 v ≡ Some n
-    → leap_at rows ≡ Some (leap_of (flag_at Force rows) n)
+    → leap_at rows ≡ Some (leap_of (is_given Force rows) n)
 unfolding leap_at
 leap-given rows v n a b = rw (a, b) refl
 

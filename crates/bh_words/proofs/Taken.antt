@@ -30,7 +30,7 @@ IsOption a = (a.action ≡ Some Set) × (a.range ≡ Some one_value)
 abbrev pub no_value : ValueRange
 no_value = record { start_inclusive = 0; end_inclusive = 0 }
 
--- an option without a value, for which a text stands where it is given
+-- an option without a value, which stands for `true` where it is given
 abbrev pub IsFlag : Rule → Type 0
 IsFlag a = (a.action ≡ Some SetTrue) × (a.range ≡ Some no_value) × (a.missing ≡ codes "true" ∷ [])
 
@@ -39,7 +39,7 @@ HasOneDefault [] = Unit {0}
 HasOneDefault (v ∷ []) = Unit {0}
 HasOneDefault (v ∷ w ∷ rest) = ⊥
 
--- the only one of its id, an option, a flag or a call for help, with one default at most
+-- the only one of its id, an option or a call for help, with one default at most
 abbrev pub IsFine : List Rule → Rule → Type 0
 IsFine c a = (arg_by_id c a.id ≡ Some a) × (IsOption a ⊎ (IsFlag a ⊎ (a.action ≡ Some Help))) × HasOneDefault a.defaults
 
@@ -107,35 +107,36 @@ fits-new : (c : List Rule) (a : Rule) (v : Text) (s : ValueSource) (rows : List 
 fits-new c a v s rows known fit fresh passes =
     subst (AllFit c) (sym (at_row-new a.id (more_values s (v ∷ [])) _ rows fresh)) (fit-append c rows _ fit (a, v, known, refl, passes))
 
-given-value : (c : List Rule) (a : Rule) (v : Text) (rows : List Row) → arg_by_id c a.id ≡ Some a → AllFit c rows
-    → set_fault false a (v ∷ []) rows ≡ [] → AllFit c (with_values a.id (reading_by a) CommandLine (v ∷ []) (without a.id rows))
-given-value c a v rows known fit e =
+option-values : (c : List Rule) (a : Rule) (values : List Text) (rows : List Row) → arg_by_id c a.id ≡ Some a → AllFit c rows
+    → or_else (range_kinds 1 1 (length values)) (set_fault false a (values_or_missing a values) rows) ≡ []
+    → AllFit c (with_values a.id (reading_by a) CommandLine (values_or_missing a values) (without a.id rows))
+option-values c a [] rows known fit e = cc
+option-values c a (v ∷ []) rows known fit e =
     let parts = or_none (repeat_fault false a.id rows) _ e in
     let fresh = fresh_row a.id rows parts.0 in
     let same : without a.id rows ≡ rows = at_row-new a.id (λ _. []) [] rows fresh ∙ append-nil rows in
     subst (λ (rs : List Row). AllFit c (with_values a.id (reading_by a) CommandLine (v ∷ []) rs)) (sym same)
     (fits-new c a v CommandLine rows known fit fresh parts.1)
-
-option-values : (c : List Rule) (a : Rule) (values : List Text) (rows : List Row) → arg_by_id c a.id ≡ Some a → AllFit c rows
-    → or_else (range_kinds 1 1 (length values)) (set_fault false a (values_or_missing a values) rows) ≡ []
-    → AllFit c (with_values a.id (reading_by a) CommandLine (values_or_missing a values) (without a.id rows))
-option-values c a [] rows known fit e = cc
-option-values c a (v ∷ []) rows known fit e = given-value c a v rows known fit e
 option-values c a (v ∷ w ∷ rest) rows known fit e =
     let some : (length (v ∷ w ∷ rest) == 0) ≡ false = ne_eqb _ _ (λ n. omega arith) in
     let more : (1 == length (v ∷ w ∷ rest)) ≡ false = ne_eqb _ _ (λ n. omega arith) in
     let bad = rw (some, more) at e in
     cc
 
-flag-values : (c : List Rule) (a : Rule) (values : List Text) (rows : List Row) → arg_by_id c a.id ≡ Some a → a.missing ≡ codes "true" ∷ [] → AllFit c rows
+flag-values : (c : List Rule) (a : Rule) (values : List Text) (rows : List Row) → a.missing ≡ codes "true" ∷ [] → arg_by_id c a.id ≡ Some a → AllFit c rows
     → or_else (range_kinds 0 0 (length values)) (set_fault false a (values_or_missing a values) rows) ≡ []
     → AllFit c (with_values a.id (reading_by a) CommandLine (values_or_missing a values) (without a.id rows))
-flag-values c a [] rows known missing fit e =
-    subst (λ (vs : List Text). set_fault false a vs rows ≡ [] → AllFit c (with_values a.id (reading_by a) CommandLine vs (without a.id rows)))
-    (sym missing) (given-value c a (codes "true") rows known fit) e
-flag-values c a (v ∷ rest) rows known missing fit e =
-    let more : (0 == length (v ∷ rest)) ≡ false = ne_eqb _ _ (λ n. omega arith) in
-    let bad = rw more at e in
+flag-values c a [] rows missing known fit e =
+    let parts = or_none (repeat_fault false a.id rows) _ e in
+    let fresh = fresh_row a.id rows parts.0 in
+    let same : without a.id rows ≡ rows = at_row-new a.id (λ _. []) [] rows fresh ∙ append-nil rows in
+    let passes : values_fault a (codes "true" ∷ []) ≡ [] = rw missing at parts.1 in
+    subst (λ (vs : List Text). AllFit c (with_values a.id (reading_by a) CommandLine vs (without a.id rows))) (sym missing)
+    (subst (λ (rs : List Row). AllFit c (with_values a.id (reading_by a) CommandLine (codes "true" ∷ []) rs)) (sym same)
+    (fits-new c a (codes "true") CommandLine rows known fit fresh passes))
+flag-values c a (v ∷ vs) rows missing known fit e =
+    let some : (0 == length (v ∷ vs)) ≡ false = ne_eqb _ _ (λ n. omega arith) in
+    let bad = rw some at e in
     cc
 
 used-fits : (c : List Rule) (a : Rule) (values : List Text) (rows : List Row) → IsFine c a → AllFit c rows
@@ -146,7 +147,7 @@ used-fits c a values rows fine fit e = elim fine.1 [
       rw (one.0) (option-values c a values rows fine.0 fit taken)
   | inr (inl flag) ↦
       let taken : or_else (range_kinds 0 0 (length values)) (set_fault false a (values_or_missing a values) rows) ≡ [] = rw (flag.0, flag.1) at e in
-      rw (flag.0) (flag-values c a values rows fine.0 flag.2 fit taken)
+      rw (flag.0) (flag-values c a values rows flag.2 fine.0 fit taken)
   | inr (inr help) ↦
       let asks : or_else (range_kinds (unwrap_or_range a.range).start_inclusive (most_values a) (length values)) (DisplayHelp ∷ []) ≡ [] = rw help at e in
       absurd (false≢true (never _ DisplayHelp asks))

@@ -1,4 +1,4 @@
--- The options of the subcommands, as `clap` describes them: each has one value, but for flags.
+-- The options of the subcommands, as `clap` describes them: each has one value, or none.
 use Rattle.std.specs.Prelude.{ℕ, ◌-◌, ◌^◌, [], ◌∷◌, codes, decimal, true, Some}
 use Rattle.clap.specs.Words.{Rule, Text, new_rule}
 use Rattle.clap.specs.declared.builder.action.ArgAction.TheVariants.{SetTrue}
@@ -41,7 +41,7 @@ text o = required (described o)
 abbrev pub number : OptionName → ℕ → ℕ → Rule
 number o least most = record (described o) { parser = Some (Unsigned least most) }
 
--- the option has no value: `clap` writes the text true where it is given
+-- the option has no value: it is given, or it isn't
 abbrev pub flag : OptionName → Rule
 flag o = record (described o) { action = Some SetTrue }
 

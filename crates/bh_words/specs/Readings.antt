@@ -1,5 +1,5 @@
 -- The line that the matches of a command line tell.
-use Rattle.std.specs.Prelude.{◌≡◌, ℕ, ◌^◌, Bool, false, ◌&&◌, List, codes, find, nat_le, nat_lt, Option, Some, None, Result, Ok, Err, if◌then◌else◌}
+use Rattle.std.specs.Prelude.{◌≡◌, ℕ, Bool, false, ◌^◌, ◌&&◌, List, codes, find, nat_le, nat_lt, Option, Some, None, Result, Ok, Err, if◌then◌else◌}
 use Rattle.std.specs.Option.{option_map_or}
 use Rattle.std.specs.Str.{bytes_eq}
 use Rattle.std.specs.Str.Parse.{digits_value, without_leading_plus}
@@ -63,9 +63,9 @@ secret_at rows = do
 abbrev pub at : List Row → Option ℕ
 at rows = number_at 64 option.At rows
 
--- whether an option without a value was given
-abbrev pub flag_at : OptionName → List Row → Bool
-flag_at o rows = option_map_or (λ text. bytes_eq text (codes "true")) (text_at o rows) false
+-- an option without a value was given
+abbrev pub is_given : OptionName → List Row → Bool
+is_given o rows = option_map_or (λ text. bytes_eq text (codes "true")) (text_at o rows) false
 
 -- however far the clock may be ahead of the last stamp, or so many days
 abbrev pub leap_of : Bool → ℕ → Leap
@@ -74,7 +74,7 @@ leap_of force days = if force then Any else Days days
 unfoldable pub leap_at : List Row → Option Leap
 leap_at rows = do
   days ← number_at 32 option.ClockLeap rows
-  Some (leap_of (flag_at option.Force rows) days)
+  Some (leap_of (is_given option.Force rows) days)
 
 unfoldable pub clock_at : List Row → Option ClockGiven
 clock_at rows = do

@@ -89,9 +89,9 @@ fn number_of(text: &str) -> Option<u64>
     text.parse::<u64>().ok()
 }
 
-/// Whether an option without a value was given: `clap` writes it as a text.
-fn flag(given: &ArgMatches<'_>, option: OptionName) -> bool
-    ensures { result ≡ spec.flag_at option (spec.rows_in given.now) }
+/// Whether an option without a value was given.
+pub(crate) fn is_given(given: &ArgMatches<'_>, option: OptionName) -> bool
+    ensures { result ≡ spec.is_given option (spec.rows_in given.now) }
 {
     match written(given, option) {
         Some(text) => text == "true",
@@ -112,7 +112,7 @@ pub(crate) fn leap(given: &ArgMatches<'_>) -> Option<Leap>
     ensures { result ≡ spec.leap_at (spec.rows_in given.now) }
 {
     let days = small_number(given, OptionName::ClockLeap)?;
-    Some(leap_of(flag(given, OptionName::Force), days))
+    Some(leap_of(is_given(given, OptionName::Force), days))
 }
 
 fn leap_of(force: bool, days: u32) -> Leap

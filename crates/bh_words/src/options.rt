@@ -3,8 +3,8 @@ ghost use Rattle.std.specs.Prelude.{◌≡◌, false};
 ghost use Rattle.clap.specs.Words.{rule_of};
 ghost use Rattle.bh_words.specs.Options as spec;
 
-use clap::{Arg, ArgAction};
 use clap::builder::ValueParser;
+use clap::{Arg, ArgAction};
 use std::alloc::Global;
 
 /// An option of a subcommand.
@@ -118,7 +118,7 @@ impl OptionName {
             .value_parser(ValueParser::unsigned(least, most))
     }
 
-    // An option without a value, which may be missing.
+    // An option without a value.
     fn flag<'a>(self, alloc: Global) -> Arg<'a>
         ensures rule { rule_of result ≡ spec.flag self }
         ensures local { result.global ≡ false }

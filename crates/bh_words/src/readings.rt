@@ -124,7 +124,11 @@ fn usage(alloc: Global, given: &ArgMatches<'_>) -> Result<Line, GivenError>
     let file = text(alloc, given, OptionName::File)?;
     let tenant = text(alloc, given, OptionName::Tenant)?;
     let clock = needed(clock(given))?;
-    Ok(Line::Usage { file, tenant, clock })
+    Ok(Line::Usage {
+        file,
+        tenant,
+        clock,
+    })
 }
 
 fn report(alloc: Global, given: &ArgMatches<'_>) -> Result<Line, GivenError>
