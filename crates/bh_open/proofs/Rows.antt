@@ -15,9 +15,9 @@ other_version h other limits it = other (ap (λ (r : HostRow). r.version) (sym (
 pub out_of_range : (h : HostRow) → ¬ AreLimits h.min_part h.max_body → (limits : HostLimits) → ¬ IsRowOf limits (h ∷ [])
 out_of_range h out limits it = out (subst (λ (r : HostRow). AreLimits r.min_part r.max_body) (same_row limits h it) it.range)
 
-pub in_range : (h : HostRow) (latest : ℕ) → h.version ≡ 0 → h.latest ≡ latest → AreLimits h.min_part h.max_body
-    → Tells (h ∷ []) (record { limits = record { min_part = h.min_part; max_body = h.max_body }; latest = latest })
-in_range h latest version same range = (record { row = h; alone = refl; version = version; range = range; limits_are = refl }, sym same)
+pub in_range : (h : HostRow) (limits : HostLimits) (latest : ℕ) → h.version ≡ 0 → h.latest ≡ latest → AreLimits h.min_part h.max_body
+    → limits ≡ record { min_part = h.min_part; max_body = h.max_body } → Tells (h ∷ []) (record { limits = limits; latest = latest })
+in_range h limits latest version same range are = (record { row = h; alone = refl; version = version; range = range; limits_are = are }, sym same)
 
 pub limits_kept : (tables : Tables) (limits : HostLimits) → IsRowOf limits tables.host → limits_in tables ≡ limits
 unfolding limits_in

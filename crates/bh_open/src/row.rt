@@ -10,7 +10,7 @@ use crate::found::{FoundHost, NoHost};
 use bh_types::limits::Limits;
 use sqlite::{Alter, Connection, Error, Row};
 
-#[tactic(auto, using(crate::proofs::Rows::other_version, crate::proofs::Rows::out_of_range, crate::proofs::Rows::in_range))]
+#[tactic(auto, using(crate::proofs::Rows::other_version, crate::proofs::Rows::out_of_range))]
 /// What is told, if the version is this one and the limits are in their ranges.
 fn found_of(version: u64, latest: u64, min_part: u64, max_body: u64) -> Result<FoundHost, NoHost>
     ensures { (h : Stored) → h.version ≡ version → h.latest ≡ latest → h.min_part ≡ min_part → h.max_body ≡ max_body
