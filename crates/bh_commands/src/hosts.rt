@@ -129,6 +129,13 @@ fn held_back<S: Alter + Drop>(
     })
 }
 
+/// At a report, tells the last stamp before it.
+fn tell_stamp(rt: &HostRuntime, path: &str, asked: &Work, latest: u64) {
+    if asked.is_report() {
+        tell(rt, path, &Remark::LastStamp(latest));
+    }
+}
+
 /// Does what is asked of a host whose last stamp this is, if the clock isn't too far ahead.
 fn work_in_time<S: Alter + Drop>(
     rt: &HostRuntime,
@@ -147,10 +154,8 @@ fn work_in_time<S: Alter + Drop>(
         let ahead = Ahead { latest, reading };
         return Ok(held_back(rt, path, host.into_connection(), ahead)?);
     }
-    if asked.is_report() {
-        tell(rt, path, &Remark::LastStamp(latest));
-    }
-    work_on(rt, HostStorage { host }, reading, asked)
+    tell_stamp(rt, path, &asked, latest);
+    Ok(work_on(rt, HostStorage { host }, reading, asked)?)
 }
 
 /// Opens the host of a database, and does what is asked of it.

@@ -14,3 +14,14 @@ returns-in_ok-held_back-then g c =
       left = told.0 ∙ c.into_connection.ensures;
       line = told.1;
     })
+
+pub returns-in_ok-work_on : goal.returns-in_ok-work_on
+returns-in_ok-work_on g c =
+    inr (record {
+      reading = c.in_ok-reading.reading;
+      reads = record {
+        given = c.in_ok-reading.ensures;
+        leap = λ clean. ap (λ n. leaps c.args.clock.leap n c.in_ok-reading.reading) (sym (c.requires.latest clean)) ∙ sym c.leaps.ensures ∙ c.if-leaps.false;
+      };
+      worked = c.in_ok-work_on.ensures;
+    })
