@@ -59,7 +59,7 @@ sound_opened image s sound start clean schema =
 
 pub ready_opened : (asked : Asked) (image : Image) (s : State) → HoldsFor asked image → IsOpenedOn image s → IsReadyFor asked s
 ready_opened (Init limits) image s holds start = tt
-ready_opened (Host work) image s holds start = sound_opened image s holds start
+ready_opened (Host clock work) image s holds start = sound_opened image s holds start
 
 -- ---- the tables of a host that was opened
 

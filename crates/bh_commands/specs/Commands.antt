@@ -1,5 +1,5 @@
 -- What is done on a host, and what is printed of it.
-use Rattle.std.specs.Prelude.{◌≡◌, ℕ, List, [], Option, IfSome}
+use Rattle.std.specs.Prelude.{◌≡◌, ℕ, List, [], codes}
 use Rattle.bh_types.specs.declared.refusal.Refusal.{Refusal}
 use Rattle.bh_event.specs.Events.{Arrival, Message, Ordered, SweepOrdered, ReportOrdered, order_of}
 use Rattle.bh_tables.specs.Typed.{Tables}
@@ -35,6 +35,11 @@ pub record IsRefusal (refusal : Refusal) (printed : Printed) : Type 0 where
   pub text : printed.text.items ≡ refused_line refusal
   pub status : printed.status ≡ 1
 
+-- `fault`, for a reason that no number tells
+pub record IsFault (printed : Printed) : Type 0 where
+  pub text : printed.text.items ≡ line_of (codes "fault")
+  pub status : printed.status ≡ 1
+
 -- no byte, and status 0
 pub record IsNothing (printed : Printed) : Type 0 where
   pub text : printed.text.items ≡ []
@@ -58,17 +63,12 @@ module _ {H : Type 0} (IsIntact IsOpen : H → Type 0) (seen : H → Seen) (left
     pub line : IsLine told.1 printed
     pub kept : printed.status ≡ 0 → IsIntact new → (x : Tables) → left new x → x ≡ (seen new).now
 
-  -- the same of what an operator asks, at the reading that was given, or else at some reading
-  pub record IsCommandDone (at : Option ℕ) (message : Message) (old new : H) (printed : Printed) : Type 0 where
-    pub reading : ℕ
-    pub given : IfSome at (λ r. reading ≡ r)
-    pub done : IsTold (ordered_at reading message) old new printed
-
   -- some requests came in turn, and no other event; nothing is printed
   pub record HasServed (old new : H) (printed : Printed) : Type 0 where
     pub ran : IsIntact new → RanSome IsOpen seen left old new
     pub printed_is : IsNothing printed
 
-  abbrev pub HasDone : Work → H → H → Printed → Type 0
-  HasDone (work.Command task at) old new printed = IsCommandDone at (message_of task) old new printed
-  HasDone (work.Serve serving) old new printed = HasServed old new printed
+  -- what was asked at a reading was done; connections have the machine's clock
+  abbrev pub HasDone : Work → ℕ → H → H → Printed → Type 0
+  HasDone (work.Command task) reading old new printed = IsTold (ordered_at reading (message_of task)) old new printed
+  HasDone (work.Serve serving) reading old new printed = HasServed old new printed

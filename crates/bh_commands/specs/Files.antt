@@ -36,7 +36,7 @@ HoldsSoundHost image = (tables : Tables) → AreTablesIn image tables → IsSoun
 -- a new host needs nothing of them
 abbrev pub HoldsFor : Asked → Image → Type 0
 HoldsFor (Init limits) image = Unit {0}
-HoldsFor (Host work) image = HoldsSoundHost image
+HoldsFor (Host clock work) image = HoldsSoundHost image
 
 -- what was asked was done on a connection, and its files were closed
 pub record IsEnded {D : Type 0} {g : disk.Ghosts D} (old : Held (FileStore D g)) (asked : Asked) (printed : Printed) (files : Files D) : Type 0 where

@@ -1,3 +1,4 @@
+pub mod Clocks
 pub mod Commands
 pub mod Endings
 pub mod Files

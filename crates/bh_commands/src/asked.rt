@@ -1,6 +1,7 @@
 use crate::task::Task;
 use bh_connection::Manner;
 use bh_types::limits::Limits;
+use bh_words::ClockGiven;
 
 /// How a host is served: so many connections on a port of 127.0.0.1, or on one that the system chooses where it is 0.
 #[derive(Clone, Copy)]
@@ -14,10 +15,16 @@ pub struct Serving {
 /// What is asked of the host of a file.
 #[derive(Drop)]
 pub enum Work {
-    /// What an operator asks, at a reading of the clock in seconds since 1970, or at the machine's.
-    Command { task: Task, at: Option<u64> },
+    /// What an operator asks.
+    Command(Task),
     /// Its connections are served, by the machine's clock.
     Serve(Serving),
+}
+
+impl Work {
+    pub(crate) fn is_report(&self) -> bool {
+        matches!(self, Work::Command(Task::Report))
+    }
 }
 
 /// What is asked of a file.
@@ -25,6 +32,6 @@ pub enum Work {
 pub enum Asked {
     /// A new host with these limits.
     Init(Limits),
-    /// Something of the host that it holds.
-    Host(Work),
+    /// Something of the host that it holds, unless the clock is too far ahead of its last stamp.
+    Host { clock: ClockGiven, work: Work },
 }

@@ -1,6 +1,6 @@
+use bh_file::OpenFault;
 use bh_script::error::ScriptError;
-use sqlite::Error;
-use std::alloc::AllocError;
+use std::alloc::{AllocError, Global};
 use std::{fmt, io};
 
 /// What ends a subcommand outside of a refusal. Its `Display` tells the operator why.
@@ -8,10 +8,9 @@ use std::{fmt, io};
 pub enum Fault {
     /// Memory was wanting.
     Memory,
-    /// The file isn't opened as a database: it is none or was damaged, another process has it open, or the
-    /// system refuses it.
-    File(Error),
-    /// The file, the clock or standard input can't be read, or standard output not be written.
+    /// The file of this path isn't opened as a database.
+    Unopened { path: String, reason: OpenFault },
+    /// The clock or standard input can't be read, or standard output not be written.
     System(io::Error),
     /// Standard input has more bytes than a script may have.
     LongInput,
@@ -19,15 +18,19 @@ pub enum Fault {
     Output,
 }
 
-impl From<AllocError> for Fault {
-    fn from(_error: AllocError) -> Fault {
-        Fault::Memory
+impl Fault {
+    /// That the file of a path isn't opened.
+    pub(crate) fn unopened(alloc: Global, path: &str, reason: OpenFault) -> Fault {
+        match String::from_str(alloc, path) {
+            Ok(path) => Fault::Unopened { path, reason },
+            Err(_) => Fault::Memory,
+        }
     }
 }
 
-impl From<Error> for Fault {
-    fn from(error: Error) -> Fault {
-        Fault::File(error)
+impl From<AllocError> for Fault {
+    fn from(_error: AllocError) -> Fault {
+        Fault::Memory
     }
 }
 
@@ -50,7 +53,7 @@ impl fmt::Display for Fault {
     fn fmt<W: fmt::Write>(&self, f: &mut fmt::Formatter<W>) -> fmt::Result {
         match self {
             Fault::Memory => f.write_str("out of memory"),
-            Fault::File(error) => write!(f, "{error}"),
+            Fault::Unopened { path, reason } => write!(f, "unable to open {path}: {reason}"),
             Fault::System(error) => write!(f, "{error}"),
             Fault::LongInput => f.write_str("standard input is too long"),
             Fault::Output => f.write_str("standard output can't be written"),

@@ -4,24 +4,28 @@ ghost use Rattle.std.specs.Prelude.{◌≡◌, IfOk};
 ghost use Rattle.sqlite.specs.Held.{state};
 ghost use Rattle.sha2.specs.Sha256.{sha256};
 ghost use Rattle.bh_view.specs.Bodies.{IsSoundHost};
+ghost use Rattle.bh_view.specs.View.{latest_of};
 ghost use Rattle.bh_schema.specs.Storage.{IsClean, seen};
 ghost use Rattle.bh_storage.specs.Calls.{IsAtRest};
-ghost use Rattle.bh_commands.specs.Commands.{IsRefusal};
+ghost use Rattle.bh_commands.specs.Commands.{IsFault, IsRefusal};
 ghost use Rattle.bh_commands.specs.Endings.{IsLeft};
-ghost use Rattle.bh_commands.specs.Subcommands.{IsSoundIn, IsReadyFor, Makes, IsWorkedOn, Works, CarriesOut, LeavesDone};
+ghost use Rattle.bh_commands.specs.Subcommands.{IsSoundIn, IsReadyFor, Makes, IsWorkedOn, IsWorkedInTime, Works, CarriesOut, LeavesDone};
 
 use crate::asked::{Asked, Work};
+use crate::clocks::{leaps, reading_of};
 use crate::commands::do_work;
 use crate::ending::{Done, Left, leave};
 use crate::fault::Fault;
 use crate::printed::Printed;
+use crate::remarks::{Ahead, Remark, tell};
 use bh_blocks::digester::Sha256Digester;
 use bh_create::create;
 use bh_dispatch::storage::HostStorage;
-use bh_open::open_host;
+use bh_open::{NoHost, Opened, is_hosts, open_host};
 use bh_types::limits::{Limits, Tuning};
 use bh_types::refusal::Refusal;
-use sqlite::{Alter, Connection};
+use bh_words::ClockGiven;
+use sqlite::{Alter, Connection, Error};
 use std::alloc::{AllocError, Global};
 
 /// A refusal of what the connection shows, which stays.
@@ -39,59 +43,145 @@ fn refused<S: Alter + Drop>(
     })
 }
 
+/// Why no host was made in a database.
+fn why_not_made<S: Alter>(
+    alloc: Global,
+    cause: Option<Error>,
+    connection: &Connection<S>,
+) -> Remark {
+    if let Some(error) = cause {
+        return Remark::Trouble(error);
+    }
+    match is_hosts(alloc, connection.schema()) {
+        Ok(true) => Remark::HasHost,
+        Ok(false) => Remark::HasTables,
+        Err(error) => Remark::Trouble(error),
+    }
+}
+
+/// Why no host was found in a database.
+fn why_not_found(why: Option<NoHost>, cause: Option<Error>) -> Remark {
+    match cause {
+        Some(error) => Remark::Trouble(error),
+        None => Remark::NoHost(why.unwrap_or(NoHost::NoRow)),
+    }
+}
+
 /// Makes a host in an empty database, and prints `host`.
 fn make<S: Alter + Drop>(
-    alloc: Global,
+    rt: &HostRuntime,
+    path: &str,
     connection: Connection<S>,
     limits: Limits,
 ) -> Result<Done<S>, AllocError>
     ensures { IfOk result (λ done. Makes limits (state S.Store connection) (state S.Store done.connection) done.printed) }
 {
+    let alloc = rt.alloc();
     let printed = Printed::line(alloc, b"host")?;
     match create(connection, Sha256Digester, limits, Tuning::default()) {
         Ok(host) => Ok(Done {
             printed,
             connection: host.into_connection(),
         }),
-        Err(error) => Ok(refused(alloc, error.connection, error.refusal)?),
+        Err(error) => {
+            tell(
+                rt,
+                path,
+                &why_not_made(alloc, error.cause, &error.connection),
+            );
+            Ok(refused(alloc, error.connection, error.refusal)?)
+        }
     }
 }
 
-/// Does what is asked of a host.
+/// Does what is asked of a host at a reading of the clock.
 fn work_on<S: Alter + Drop>(
     rt: &HostRuntime,
     storage: HostStorage<S, Sha256Digester>,
+    reading: u64,
     asked: Work,
 ) -> Result<Done<S>, Fault>
     requires { IsClean S.Store storage.host → IsAtRest (IsSoundHost sha256) (seen S.Store storage.host) }
-    ensures { IfOk result (λ done. IsWorkedOn S.Store asked storage done.connection done.printed) }
+    ensures { IfOk result (λ done. IsWorkedOn S.Store asked reading storage done.connection done.printed) }
 {
     let mut storage = storage;
-    let printed = do_work(rt, &mut storage, asked)?;
+    let printed = do_work(rt, &mut storage, reading, asked)?;
     Ok(Done {
         printed,
         connection: storage.host.into_connection(),
     })
 }
 
+/// That the clock is too far ahead, of a connection that stays.
+fn held_back<S: Alter + Drop>(
+    rt: &HostRuntime,
+    path: &str,
+    connection: Connection<S>,
+    ahead: Ahead,
+) -> Result<Done<S>, AllocError>
+    ensures { IfOk result (λ done. (done.connection ≡ connection) × IsFault done.printed) }
+{
+    let printed = Printed::fault(rt.alloc())?;
+    tell(rt, path, &Remark::Leaps(ahead));
+    Ok(Done {
+        printed,
+        connection,
+    })
+}
+
+/// At a report, tells the last stamp before it.
+fn tell_stamp(rt: &HostRuntime, path: &str, asked: &Work, latest: u64) {
+    if asked.is_report() {
+        tell(rt, path, &Remark::LastStamp(latest));
+    }
+}
+
+/// Does what is asked of a host whose last stamp this is, if the clock isn't too far ahead.
+fn work_in_time<S: Alter + Drop>(
+    rt: &HostRuntime,
+    path: &str,
+    opened: Opened<S, Sha256Digester>,
+    clock: ClockGiven,
+    asked: Work,
+) -> Result<Done<S>, Fault>
+    requires rest { IsClean S.Store opened.host → IsAtRest (IsSoundHost sha256) (seen S.Store opened.host) }
+    requires latest { IsClean S.Store opened.host → opened.latest ≡ latest_of (seen S.Store opened.host).now }
+    ensures { IfOk result (λ done. IsWorkedInTime S.Store clock asked (record { host = opened.host }) done.connection done.printed) }
+{
+    let Opened { host, latest } = opened;
+    let reading = reading_of(rt, clock.at)?;
+    if leaps(clock.leap, latest, reading) {
+        let ahead = Ahead { latest, reading };
+        return Ok(held_back(rt, path, host.into_connection(), ahead)?);
+    }
+    tell_stamp(rt, path, &asked, latest);
+    Ok(work_on(rt, HostStorage { host }, reading, asked)?)
+}
+
 /// Opens the host of a database, and does what is asked of it.
 fn find<S: Alter + Drop>(
     rt: &HostRuntime,
+    path: &str,
     connection: Connection<S>,
     tuning: Tuning,
+    clock: ClockGiven,
     asked: Work,
 ) -> Result<Done<S>, Fault>
     requires { IsSoundIn (state S.Store connection) }
-    ensures { IfOk result (λ done. Works S.Store asked connection done.connection done.printed) }
+    ensures { IfOk result (λ done. Works S.Store clock asked connection done.connection done.printed) }
 {
     match open_host(rt.alloc(), connection, Sha256Digester, tuning) {
-        Ok(host) => Ok(work_on(rt, HostStorage { host }, asked)?),
-        Err(error) => Ok(refused(rt.alloc(), error.connection, error.refusal)?),
+        Ok(opened) => Ok(work_in_time(rt, path, opened, clock, asked)?),
+        Err(error) => {
+            tell(rt, path, &why_not_found(error.why, error.cause));
+            Ok(refused(rt.alloc(), error.connection, error.refusal)?)
+        }
     }
 }
 
 fn carry_out<S: Alter + Drop>(
     rt: &HostRuntime,
+    path: &str,
     connection: Connection<S>,
     tuning: Tuning,
     asked: Asked,
@@ -100,14 +190,15 @@ fn carry_out<S: Alter + Drop>(
     ensures { IfOk result (λ done. CarriesOut S.Store asked connection done.connection done.printed) }
 {
     match asked {
-        Asked::Init(limits) => Ok(make(rt.alloc(), connection, limits)?),
-        Asked::Host(work) => Ok(find(rt, connection, tuning, work)?),
+        Asked::Init(limits) => Ok(make(rt, path, connection, limits)?),
+        Asked::Host { clock, work } => Ok(find(rt, path, connection, tuning, clock, work)?),
     }
 }
 
 /// Does what is asked of a connection, and gives what is printed and what is left of it.
 pub(crate) fn on_connection<S: Alter + Drop>(
     rt: &HostRuntime,
+    path: &str,
     connection: Connection<S>,
     tuning: Tuning,
     asked: Asked,
@@ -115,6 +206,6 @@ pub(crate) fn on_connection<S: Alter + Drop>(
     requires { IsReadyFor asked (state S.Store connection) }
     ensures { IfOk result (λ it. LeavesDone S.Store asked connection it.0 it.1) }
 {
-    let done = carry_out(rt, connection, tuning, asked)?;
+    let done = carry_out(rt, path, connection, tuning, asked)?;
     Ok(leave(done))
 }

@@ -2,6 +2,7 @@
 #![tactic(auto)]
 
 mod asked;
+mod clocks;
 mod commands;
 mod ending;
 mod fault;
@@ -10,6 +11,7 @@ mod hosts;
 mod input;
 mod lines;
 mod printed;
+mod remarks;
 mod task;
 
 pub use asked::{Asked, Serving, Work};

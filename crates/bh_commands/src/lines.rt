@@ -7,15 +7,15 @@ use crate::task::Task;
 use bh_connection::Manner;
 use bh_event::event::Command;
 use bh_types::limits::{Limits, Tuning};
-use bh_words::{Line, SecretGiven};
+use bh_words::{ClockGiven, Line, SecretGiven};
 use sqlite::Wary;
 
 /// Does what a command line asks for, and gives what is printed of it.
 ///
 /// Of a subcommand on a file the first of these is told: the file can't be opened, it holds no host (`47
-/// NotAHostFile`; of `init`: it holds something), the clock can't be read, the event is refused.
+/// NotAHostFile`; of `init`: it holds something), the clock can't be read or is too far ahead, the event is refused.
 pub fn carry_out(rt: &HostRuntime, line: Line) -> Result<Printed, Fault> {
-    let (file, at, task) = match line {
+    let (file, clock, task) = match line {
         Line::Script { limits, tuning } => return answer_input(rt, limits, tuning),
         Line::Init { file, limits } => return make_in(rt, file.as_str(), limits),
         Line::Serve {
@@ -24,6 +24,7 @@ pub fn carry_out(rt: &HostRuntime, line: Line) -> Result<Printed, Fault> {
             count,
             log,
             timeout,
+            leap,
             tuning,
         } => {
             let work = Work::Serve(Serving {
@@ -34,39 +35,53 @@ pub fn carry_out(rt: &HostRuntime, line: Line) -> Result<Printed, Fault> {
                     is_logged: log,
                 },
             });
-            return work_in(rt, file.as_str(), tuning, work);
+            let clock = ClockGiven { at: None, leap };
+            return work_in(rt, file.as_str(), tuning, clock, work);
         }
         Line::TenantAdd {
             file,
             tenant,
             quota,
-            at,
-        } => (file, at, Task::from(Command::TenantAdd { tenant, quota })),
+            clock,
+        } => (
+            file,
+            clock,
+            Task::from(Command::TenantAdd { tenant, quota }),
+        ),
         Line::Quota {
             file,
             tenant,
             quota,
-            at,
-        } => (file, at, Task::from(Command::Quota { tenant, quota })),
+            clock,
+        } => (file, clock, Task::from(Command::Quota { tenant, quota })),
         Line::KeyAdd {
             file,
             tenant,
             name,
             secret,
-            at,
-        } => (file, at, key_add(rt, tenant, name, secret)?),
+            clock,
+        } => (file, clock, key_add(rt, tenant, name, secret)?),
         Line::KeyRemove {
             file,
             tenant,
             name,
-            at,
-        } => (file, at, Task::from(Command::KeyRemove { tenant, name })),
-        Line::Usage { file, tenant, at } => (file, at, Task::from(Command::Usage { tenant })),
-        Line::Sweep { file, limit, at } => (file, at, Task::Sweep { limit }),
-        Line::Report { file, at } => (file, at, Task::Report),
+            clock,
+        } => (file, clock, Task::from(Command::KeyRemove { tenant, name })),
+        Line::Usage {
+            file,
+            tenant,
+            clock,
+        } => (file, clock, Task::from(Command::Usage { tenant })),
+        Line::Sweep { file, limit, clock } => (file, clock, Task::Sweep { limit }),
+        Line::Report { file, clock } => (file, clock, Task::Report),
     };
-    let work = Work::Command { task, at };
-    work_in(rt, file.as_str(), Tuning::default(), work)
+    work_in(
+        rt,
+        file.as_str(),
+        Tuning::default(),
+        clock,
+        Work::Command(task),
+    )
 }
 
 /// A new access key. Its secret is read before a file is opened, so that no other process waits for it.
@@ -90,6 +105,12 @@ fn make_in(rt: &HostRuntime, path: &str, limits: Limits) -> Result<Printed, Faul
 }
 
 /// Does what is asked of the host of a file, of whose contents nothing is said.
-fn work_in(rt: &HostRuntime, path: &str, tuning: Tuning, work: Work) -> Result<Printed, Fault> {
-    Ok(work_in_file(rt, path, Wary, tuning, work)?.into_printed())
+fn work_in(
+    rt: &HostRuntime,
+    path: &str,
+    tuning: Tuning,
+    clock: ClockGiven,
+    work: Work,
+) -> Result<Printed, Fault> {
+    Ok(work_in_file(rt, path, Wary, tuning, clock, work)?.into_printed())
 }

@@ -1,6 +1,6 @@
 ghost use Rattle.std.specs.Prelude.{◌≡◌, IfOk};
 ghost use Rattle.bh_host.specs.Replies.{reply_bytes};
-ghost use Rattle.bh_commands.specs.Commands.{IsLine, IsNothing, IsRefusal};
+ghost use Rattle.bh_commands.specs.Commands.{IsFault, IsLine, IsNothing, IsRefusal};
 ghost use Rattle.bh_commands.specs.Printing as spec;
 
 use bh_host::Reply;
@@ -12,7 +12,7 @@ use std::alloc::{AllocError, Global};
 pub struct Printed {
     /// A line and its line feed; of a script, whose answers are written as they come, nothing.
     pub text: Vec<u8>,
-    /// 0, or 1 where the line is a refusal, or a script's line tells no event.
+    /// 0, or 1 where the line is a refusal or `fault`, or a script's line tells no event.
     pub status: u8,
 }
 
@@ -52,6 +52,15 @@ impl Printed {
             text: Vec::new(alloc),
             status: 0,
         }
+    }
+
+    /// That it can't be done, for a reason that no number tells.
+    pub fn fault(alloc: Global) -> Result<Printed, AllocError>
+        ensures { IfOk result IsFault }
+    {
+        let mut printed = Printed::line(alloc, b"fault")?;
+        printed.status = 1;
+        Ok(printed)
     }
 
     /// A reply to an operator.

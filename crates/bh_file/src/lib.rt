@@ -1,6 +1,9 @@
 //! The files of a database, opened for a host.
 #![tactic(auto)]
 
+mod fault;
+mod look;
 mod opening;
 
+pub use fault::OpenFault;
 pub use opening::{FileConnection, open_file};

@@ -6,12 +6,12 @@ ghost use Rattle.sqlite_std_file.specs.File.{file_is_usable, IsFresh};
 ghost use Rattle.sqlite_wal.specs.Files.{image_at};
 ghost use Rattle.bh_file.specs.Opened.{IsOpenedOn};
 
-use sqlite::{Connection, Error, ErrorCode, FileFrom, FileStore, Options, Start};
+use crate::fault::OpenFault;
+use crate::look::look;
+use sqlite::{Connection, FileFrom, FileStore, Options, Start};
 use sqlite_disk::Files;
-use sqlite_std_file::OpenError;
 use std::hash::{BuildHasher, RandomState};
 use std::io;
-use std::io::ErrorKind;
 
 /// So many pages that were read are kept in memory: 16 MiB.
 const CACHE_PAGES: usize = 4096;
@@ -23,26 +23,17 @@ const CHECKPOINT_FRAMES: usize = 10_000;
 /// The connection to files whose first contents `S` stands for.
 pub type FileConnection<S> = Connection<FileStore<FileFrom<S>>>;
 
-const CANNOT_OPEN: Error = Error::SqliteFailure(ErrorCode::CannotOpen);
-
-fn error_of(error: OpenError) -> Error {
-    match error {
-        OpenError::OutOfMemory => Error::SqliteFailure(ErrorCode::OutOfMemory),
-        OpenError::Busy => Error::SqliteFailure(ErrorCode::DatabaseBusy),
-        OpenError::Io(error) if error.kind() == ErrorKind::OutOfMemory => {
-            Error::SqliteFailure(ErrorCode::OutOfMemory)
-        }
-        _ => CANNOT_OPEN,
-    }
-}
-
-fn files_at<S: Start>(rt: &HostRuntime, path: &str, start: S) -> Result<Files<FileFrom<S>>, Error>
+fn files_at<S: Start>(
+    rt: &HostRuntime,
+    path: &str,
+    start: S,
+) -> Result<Files<FileFrom<S>>, OpenFault>
     ensures usable { IfOk result (λ files. IsTrue (file_is_usable S.Start files.log) × IsTrue (file_is_usable S.Start files.db)) }
     ensures fresh { IfOk result (λ files. IsFresh true files.log × IsFresh false files.db) }
 {
     match sqlite_std_file::open(rt, path, start) {
         Ok(files) => Ok(files),
-        Err(error) => Err(error_of(error)),
+        Err(error) => Err(OpenFault::from(error)),
     }
 }
 
@@ -56,24 +47,24 @@ fn options(rt: &HostRuntime) -> io::Result<Options> {
 
 /// Opens a database's file, or makes it. A new one keeps a sum of each page, by which damage is found.
 ///
-/// DatabaseBusy where another process has it open; CannotOpen, OutOfMemory and others where it isn't opened or is no
-/// database.
+/// A new file, and its log, can be read and written by its owner alone (mode 0600); a file that is there keeps its mode, which
+/// a new log gets too. What is no regular file, or begins as no database does and has no log, is told from its first 100 bytes,
+/// and nothing is made beside it.
 pub fn open_file<S: Start>(
     rt: &HostRuntime,
     path: &str,
     start: S,
-) -> Result<FileConnection<S>, Error>
+) -> Result<FileConnection<S>, OpenFault>
     ensures { IfOk result (λ connection. IsOpenedOn (image_at S.Start) (file_state connection)) }
 {
+    look(rt, path)?;
     let files = files_at(rt, path, start)?;
-    let Ok(options) = options(rt) else {
-        return Err(CANNOT_OPEN);
-    };
+    let options = options(rt)?;
     match Connection::open_files_with(rt.alloc(), files, options, true) {
         Ok(mut connection) => {
             connection.set_clock(rt);
             Ok(connection)
         }
-        Err((error, _)) => Err(error),
+        Err((error, _)) => Err(OpenFault::Database(error)),
     }
 }

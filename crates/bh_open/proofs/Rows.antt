@@ -1,10 +1,10 @@
 -- When a row is the one of a host of this version and these limits.
-use Rattle.std.proofs.Common.{arith, ◌≡◌, ◌≢◌, List, [], ◌∷◌, length, map, slice_get, Some, refl, sym, ap, ◌∙◌, subst}
+use Rattle.std.proofs.Common.{arith, ◌≡◌, ◌≢◌, ℕ, List, [], ◌∷◌, length, map, slice_get, Some, refl, sym, ap, ◌∙◌, subst}
 use Rattle.sqlite.specs.Order.{Row}
 use Rattle.bh_types.specs.Limits.{HostLimits, AreLimits}
 use Rattle.bh_tables.specs.Typed.{HostRow, Tables}
-use Rattle.bh_view.specs.View.{limits_in}
-use Rattle.bh_open.specs.Opening.{IsRowOf, shown_row}
+use Rattle.bh_view.specs.View.{latest_of, limits_in}
+use Rattle.bh_open.specs.Opening.{IsRowOf, Tells, shown_row}
 
 same_row : (limits : HostLimits) (h : HostRow) → (it : IsRowOf limits (h ∷ [])) → it.row ≡ h
 same_row limits h it = let e = it.alone in cc
@@ -15,12 +15,17 @@ other_version h other limits it = other (ap (λ (r : HostRow). r.version) (sym (
 pub out_of_range : (h : HostRow) → ¬ AreLimits h.min_part h.max_body → (limits : HostLimits) → ¬ IsRowOf limits (h ∷ [])
 out_of_range h out limits it = out (subst (λ (r : HostRow). AreLimits r.min_part r.max_body) (same_row limits h it) it.range)
 
-pub in_range : (h : HostRow) → h.version ≡ 0 → AreLimits h.min_part h.max_body → IsRowOf (record { min_part = h.min_part; max_body = h.max_body }) (h ∷ [])
-in_range h version range = record { row = h; alone = refl; version = version; range = range; limits_are = refl }
+pub in_range : (h : HostRow) (limits : HostLimits) (latest : ℕ) → h.version ≡ 0 → h.latest ≡ latest → AreLimits h.min_part h.max_body
+    → limits ≡ record { min_part = h.min_part; max_body = h.max_body } → Tells (h ∷ []) (record { limits = limits; latest = latest })
+in_range h limits latest version same range are = (record { row = h; alone = refl; version = version; range = range; limits_are = are }, sym same)
 
 pub limits_kept : (tables : Tables) (limits : HostLimits) → IsRowOf limits tables.host → limits_in tables ≡ limits
 unfolding limits_in
 limits_kept tables limits it = ap (λ l. limits_in (record tables { host = l })) it.alone ∙ sym it.limits_are
+
+pub latest_kept : (tables : Tables) (limits : HostLimits) → (it : IsRowOf limits tables.host) → it.row.latest ≡ latest_of tables
+unfolding latest_of
+latest_kept tables limits it = ap (λ l. latest_of (record tables { host = l })) (sym it.alone)
 
 -- ---- the rows that are read
 

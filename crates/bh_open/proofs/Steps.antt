@@ -1,5 +1,5 @@
 -- The calls of an open, one after another.
-use Rattle.std.proofs.Common.{◌≡◌, Bool, true, false, not, None, IsTrue, refl, sym, ap, ◌∙◌, subst}
+use Rattle.std.proofs.Common.{◌≡◌, ℕ, Bool, true, false, not, None, IsTrue, refl, sym, ap, ◌∙◌, subst}
 use Rattle.sqlite_trees.specs.declared.memory.MemStore.{MemStore}
 use Rattle.sqlite.specs.Held.{Held, state, IsNew}
 use Rattle.sqlite.specs.Steps.{over_memory}
@@ -11,14 +11,14 @@ use Rattle.bh_tables.specs.Typed.{IsHost, tables_in}
 use Rattle.bh_tables.specs.Hosts.{tables_shown}
 use Rattle.bh_tables.proofs.HostTests.{host_shows}
 use Rattle.bh_view.specs.Bodies.{IsSoundHost}
-use Rattle.bh_view.specs.View.{limits_in}
+use Rattle.bh_view.specs.View.{latest_of, limits_in}
 use Rattle.bh_storage.specs.Calls.{IsAtRest}
 use Rattle.bh_schema.specs.Layer.{Standing, standing, IsOpen, IsStateClean, KeepsDisk, taken_back}
 use Rattle.bh_schema.specs.Storage.{seen_in}
 use Rattle.bh_schema.proofs.Storing.{sound_host}
 use Rattle.bh_create.specs.Creation.{IsNewHost}
-use Rattle.bh_open.specs.Opening.{IsRowOf, IsHostOf, IsSettled, IsKept}
-use Rattle.bh_open.proofs.Rows.{limits_kept}
+use Rattle.bh_open.specs.Opening.{IsRowOf, IsHostOf, IsSettled, IsKept, Tells}
+use Rattle.bh_open.proofs.Rows.{latest_kept, limits_kept}
 
 -- ---- a new host in memory
 
@@ -65,19 +65,26 @@ module _ (old mid new : State) (settled : IsSettled old) (kept : IsKept old mid)
       let committed = sym (settled.committed (kept.follows.clean was).is_open) in
       back clean ∙ (λ i. record { now = (kept.kept was ∙ committed) i; kept = kept.kept was i; inside = sym settled.outside i; limit = kept.follows.limit i })
 
-  module _ (limits : HostLimits) (row : IsStateClean mid → IsHost (standing old).now → IsRowOf limits (tables_in (standing old).now).host) where
+  module _ (limits : HostLimits) (latest : ℕ) (row : IsStateClean mid → IsHost (standing old).now → Tells (tables_in (standing old).now).host (record { limits = limits; latest = latest })) where
     pub rests : (digest : Octets → Octets) → IsStateClean new → IsSoundHost digest (seen_in limits new).now → IsAtRest (IsSoundHost digest) (seen_in limits new)
     unfolding seen_in
     rests digest clean sound =
         let e = same clean in
         let host = sound_host (standing new).now sound.sound in
-        let it = subst (λ (x : Standing). IsHost x.now → IsRowOf limits (tables_in x.now).host) (sym e) (row (follows.clean clean)) host in
+        let it = (subst (λ (x : Standing). IsHost x.now → Tells (tables_in x.now).host (record { limits = limits; latest = latest })) (sym e) (row (follows.clean clean)) host).0 in
         record {
           outside = ap (λ (x : Standing). x.inside) (back clean);
           committed = ap (λ (x : Standing). tables_shown x.kept) (back clean) ∙ ap (λ (x : Standing). tables_shown x.now) (sym (back clean));
           sound = sound;
           limits = ap limits_in (host_shows (standing new).now host) ∙ limits_kept (tables_in (standing new).now) limits it;
         }
+
+    pub tells : (digest : Octets → Octets) → IsStateClean new → IsSoundHost digest (seen_in limits new).now → latest ≡ latest_of (seen_in limits new).now
+    unfolding seen_in
+    tells digest clean sound =
+        let host = sound_host (standing new).now sound.sound in
+        let it = subst (λ (x : Standing). IsHost x.now → Tells (tables_in x.now).host (record { limits = limits; latest = latest })) (sym (same clean)) (row (follows.clean clean)) host in
+        it.1 ∙ latest_kept (tables_in (standing new).now) limits it.0 ∙ ap latest_of (sym (host_shows (standing new).now host))
 
   pub refuses : (IsStateClean mid → IsHost (standing old).now → (limits : HostLimits) → ¬ IsRowOf limits (tables_in (standing old).now).host)
       → IsStateClean new → (standing new ≡ standing old) × ((limits : HostLimits) → ¬ IsHostOf limits (standing old).now)

@@ -1,10 +1,12 @@
 -- What an open finds in a database.
-use Rattle.std.specs.Prelude.{◌≡◌, false, List, [], ◌∷◌, Option, MatchOption}
+use Rattle.std.specs.Prelude.{◌≡◌, false, List, [], ◌∷◌, Result, MatchResult}
 use Rattle.sqlite.specs.Order.{Row}
 use Rattle.sqlite.specs.Effect.{Database}
 use Rattle.sqlite.specs.State.{State}
 use Rattle.bh_types.specs.Limits.{HostLimits, AreLimits}
 use Rattle.bh_tables.specs.Typed.{HostRow, IsHost, tables_in, number}
+use Rattle.bh_open.specs.declared.found.FoundHost.{FoundHost}
+use Rattle.bh_open.specs.declared.found.NoHost.{NoHost}
 use Rattle.bh_schema.specs.Layer.{standing, IsOpen, IsStateClean, KeepsDisk, LeavesNothingNew}
 
 -- the one row that a host of this version and these limits keeps of itself
@@ -22,13 +24,17 @@ pub record IsHostOf (limits : HostLimits) (db : Database) : Type 0 where
 
 -- the columns that are read
 abbrev pub shown_row : HostRow → Row
-shown_row h = number h.version ∷ number h.min_part ∷ number h.max_body ∷ []
+shown_row h = number h.version ∷ number h.latest ∷ number h.min_part ∷ number h.max_body ∷ []
 
 -- ---- the calls of an open
 
--- what was read of these rows: the limits of a host of this version, or that they are none's
-abbrev pub Reads : List HostRow → Option HostLimits → Type 0
-Reads rows found = MatchOption found ((limits : HostLimits) → ¬ IsRowOf limits rows) (λ limits. IsRowOf limits rows)
+-- the limits and the last stamp of a host of this version, whose rows these are
+abbrev pub Tells : List HostRow → FoundHost → Type 0
+Tells rows found = (it : IsRowOf found.limits rows) × (found.latest ≡ it.row.latest)
+
+-- what was read of these rows: that, or that they are no such host's
+abbrev pub Reads : List HostRow → Result FoundHost NoHost → Type 0
+Reads rows found = MatchResult found (Tells rows) (λ why. (limits : HostLimits) → ¬ IsRowOf limits rows)
 
 -- no transaction is open, and what stands was committed
 pub record IsSettled (s : State) : Type 0 where

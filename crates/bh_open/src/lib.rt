@@ -1,8 +1,11 @@
 //! Opens the host of buckets that a database holds.
 #![tactic(auto)]
 
+mod found;
 mod open;
 mod row;
 mod tables;
 
-pub use open::{OpenError, open_host};
+pub use found::{FoundHost, NoHost};
+pub use open::{OpenError, Opened, open_host};
+pub use tables::is_hosts;

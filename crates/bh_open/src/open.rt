@@ -1,4 +1,4 @@
-ghost use Rattle.std.specs.Prelude.{◌≡◌, ◌≢◌, ◌↔◌, true, false, None, IsTrue, IsSome, IfSome, IfOk, IfErr};
+ghost use Rattle.std.specs.Prelude.{◌≡◌, ◌≢◌, ◌↔◌, true, false, None, IsTrue, IsOk, IsSome, IfSome, IfOk, IfErr};
 ghost use Rattle.sqlite.specs.Held.{state};
 ghost use Rattle.bh_types.specs.Limits.{HostLimits};
 ghost use Rattle.bh_types.specs.declared.refusal.Refusal.TheVariants as refusal;
@@ -6,17 +6,19 @@ ghost use Rattle.bh_rows.specs.Means.{is_trouble};
 ghost use Rattle.bh_tables.specs.Schema.{host_schema};
 ghost use Rattle.bh_tables.specs.Typed.{IsHost};
 ghost use Rattle.bh_view.specs.Bodies.{IsSoundHost};
+ghost use Rattle.bh_view.specs.View.{latest_of};
 ghost use Rattle.bh_storage.specs.Calls.{IsAtRest};
 ghost use Rattle.bh_schema.specs.Connections.{IsIntact, IsOpen, IsClean, stands, tables};
 ghost use Rattle.bh_schema.specs.Layer.{taken_back, KeepsDisk, LeavesNothingNew};
 ghost use Rattle.bh_schema.specs.Storage.{seen_in};
 ghost use Rattle.bh_open.specs.Opening.{IsHostOf, IsSettled, IsKept, Reads};
 
-use crate::row::{host_rows, limits_in};
-use crate::tables::is_hosts;
+use crate::found::{FoundHost, NoHost};
+use crate::row::{found_in, host_rows};
+use crate::tables::{is_hosts, why_none};
 use bh_schema::host::{Digester, Host};
 use bh_schema::rows::transactions::{begin, take_back};
-use bh_types::limits::{Limits, Tuning};
+use bh_types::limits::Tuning;
 use bh_types::refusal::Refusal;
 use sqlite::{Alter, Connection, Error, ErrorCode};
 use std::alloc::Global;
@@ -26,6 +28,8 @@ use std::alloc::Global;
 pub struct OpenError<S: Alter + Drop, D: Digester + Drop> {
     /// `NotAHostFile` or `Unavailable`.
     pub refusal: Refusal,
+    /// Why it is no host's, where the refusal is `NotAHostFile`.
+    pub why: Option<NoHost>,
     /// The error of the database, where the refusal is `Unavailable`.
     pub cause: Option<Error>,
     /// The database.
@@ -34,9 +38,16 @@ pub struct OpenError<S: Alter + Drop, D: Digester + Drop> {
     pub digester: D,
 }
 
-/// The limits in the row of a database that has a host's tables. A transaction is open afterwards, or was
-/// taken back.
-fn read_host<S: Alter>(connection: &mut Connection<S>) -> Result<Option<Limits>, Error>
+/// A host that was opened.
+#[derive(Drop)]
+pub struct Opened<S: Alter + Drop, D: Digester + Drop> {
+    pub host: Host<S, D>,
+    /// Its last stamp, in seconds since 1970; 0 where there was none.
+    pub latest: u64,
+}
+
+/// What the host's row tells, in a database that has a host's tables. A transaction is open afterwards, or was taken back.
+fn read_host<S: Alter>(connection: &mut Connection<S>) -> Result<Result<FoundHost, NoHost>, Error>
     requires schema { (stands S.Store connection.old).now.schema ≡ host_schema }
     ensures kept { IsKept (state S.Store connection.old) (state S.Store connection.new) }
     ensures read { IfOk result (λ found. IsClean S.Store connection.new → IsHost (stands S.Store connection.old).now
@@ -46,17 +57,17 @@ fn read_host<S: Alter>(connection: &mut Connection<S>) -> Result<Option<Limits>,
 {
     begin(connection)?;
     let rows = host_rows(connection)?;
-    limits_in(rows.as_slice())
+    found_in(rows.as_slice())
 }
 
-/// The limits of the host whose database this is, if it is one and no transaction is open.
+/// What the host whose database this is keeps of itself, if it is one and no transaction is open.
 fn find_host<S: Alter>(
     alloc: Global,
     connection: &mut Connection<S>,
-) -> Result<Option<Limits>, Error>
+) -> Result<Result<FoundHost, NoHost>, Error>
     ensures kept { IsKept (state S.Store connection.old) (state S.Store connection.new) }
     ensures settled { IfOk result (λ found. IsSettled (state S.Store connection.old)) }
-    ensures schema { IfOk result (λ found. IsSome found → (stands S.Store connection.old).now.schema ≡ host_schema) }
+    ensures schema { IfOk result (λ found. IsOk found → (stands S.Store connection.old).now.schema ≡ host_schema) }
     ensures read { IfOk result (λ found. IsClean S.Store connection.new → IsHost (stands S.Store connection.old).now
         → Reads (tables S.Store connection.old).host found) }
     ensures trouble { IfErr result (λ e. IsIntact S.Store connection.new → (stands S.Store connection.old).limit ≡ None
@@ -66,7 +77,7 @@ fn find_host<S: Alter>(
         return Err(Error::SqliteFailure(ErrorCode::TransactionState));
     }
     if !is_hosts(alloc, connection.schema())? {
-        return Ok(None);
+        return Ok(Err(why_none(connection.schema())));
     }
     read_host(connection)
 }
@@ -82,18 +93,21 @@ pub fn open_host<S: Alter + Drop, D: Digester + Drop>(
     connection: Connection<S>,
     digester: D,
     tuning: Tuning,
-) -> Result<Host<S, D>, OpenError<S, D>>
-    ensures given { IfOk result (λ host. (host.tuning ≡ tuning) × (host.digester ≡ digester)) }
-    ensures schema { IfOk result (λ host. (stands S.Store connection).now.schema ≡ host_schema) }
-    ensures same { IfOk result (λ host. IsClean S.Store host.connection → stands S.Store host.connection ≡ stands S.Store connection) }
-    ensures opened { IfOk result (λ host. IsClean S.Store host.connection → IsHost (stands S.Store connection).now
-        → IsHostOf host.limits (stands S.Store connection).now) }
-    ensures rest { IfOk result (λ host. IsClean S.Store host.connection
-        → IsSoundHost D.digest_of (seen_in host.limits (state S.Store host.connection)).now
-        → IsAtRest (IsSoundHost D.digest_of) (seen_in host.limits (state S.Store host.connection))) }
-    ensures follows { IfOk result (λ host. KeepsDisk (state S.Store connection) (state S.Store host.connection)) }
-    ensures survives { IfOk result (λ host. IsOpen S.Store connection
-        → LeavesNothingNew (state S.Store connection) (state S.Store host.connection)) }
+) -> Result<Opened<S, D>, OpenError<S, D>>
+    ensures given { IfOk result (λ opened. (opened.host.tuning ≡ tuning) × (opened.host.digester ≡ digester)) }
+    ensures schema { IfOk result (λ opened. (stands S.Store connection).now.schema ≡ host_schema) }
+    ensures same { IfOk result (λ opened. IsClean S.Store opened.host.connection → stands S.Store opened.host.connection ≡ stands S.Store connection) }
+    ensures opened { IfOk result (λ opened. IsClean S.Store opened.host.connection → IsHost (stands S.Store connection).now
+        → IsHostOf opened.host.limits (stands S.Store connection).now) }
+    ensures rest { IfOk result (λ opened. IsClean S.Store opened.host.connection
+        → IsSoundHost D.digest_of (seen_in opened.host.limits (state S.Store opened.host.connection)).now
+        → IsAtRest (IsSoundHost D.digest_of) (seen_in opened.host.limits (state S.Store opened.host.connection))) }
+    ensures latest { IfOk result (λ opened. IsClean S.Store opened.host.connection
+        → IsSoundHost D.digest_of (seen_in opened.host.limits (state S.Store opened.host.connection)).now
+        → opened.latest ≡ latest_of (seen_in opened.host.limits (state S.Store opened.host.connection)).now) }
+    ensures follows { IfOk result (λ opened. KeepsDisk (state S.Store connection) (state S.Store opened.host.connection)) }
+    ensures survives { IfOk result (λ opened. IsOpen S.Store connection
+        → LeavesNothingNew (state S.Store connection) (state S.Store opened.host.connection)) }
     ensures back { IfErr result (λ e. e.digester ≡ digester) }
     ensures refused { IfErr result (λ e. e.refusal ≡ refusal.NotAHostFile → IsClean S.Store e.connection
         → (stands S.Store e.connection ≡ stands S.Store connection)
@@ -113,14 +127,18 @@ pub fn open_host<S: Alter + Drop, D: Digester + Drop>(
     take_back(&mut connection);
     match found {
         Ok(found) => match found {
-            Some(limits) => Ok(Host {
-                connection,
-                digester,
-                limits,
-                tuning,
+            Ok(found) => Ok(Opened {
+                host: Host {
+                    connection,
+                    digester,
+                    limits: found.limits,
+                    tuning,
+                },
+                latest: found.latest,
             }),
-            None => Err(OpenError {
+            Err(why) => Err(OpenError {
                 refusal: Refusal::NotAHostFile,
+                why: Some(why),
                 cause: None,
                 connection,
                 digester,
@@ -128,6 +146,7 @@ pub fn open_host<S: Alter + Drop, D: Digester + Drop>(
         },
         Err(error) => Err(OpenError {
             refusal: Refusal::Unavailable,
+            why: None,
             cause: Some(error),
             connection,
             digester,

@@ -6,41 +6,45 @@ ghost use Rattle.bh_tables.specs.Typed.{HostRow as Stored, IsHost};
 ghost use Rattle.bh_schema.specs.Connections.{IsClean, stands, tables, StaysWithin, WasOpen, ChangesNothing, IsTrouble};
 ghost use Rattle.bh_open.specs.Opening.{shown_row, Reads};
 
+use crate::found::{FoundHost, NoHost};
 use bh_types::limits::Limits;
 use sqlite::{Alter, Connection, Error, Row};
 
-#[tactic(auto, using(crate::proofs::Rows::other_version, crate::proofs::Rows::out_of_range, crate::proofs::Rows::in_range))]
-/// The limits, if the version is this one and they are in their ranges.
-fn limits_of(version: u64, min_part: u64, max_body: u64) -> Option<Limits>
-    ensures { (h : Stored) → h.version ≡ version → h.min_part ≡ min_part → h.max_body ≡ max_body → Reads (h ∷ []) result }
+#[tactic(auto, using(crate::proofs::Rows::other_version, crate::proofs::Rows::out_of_range))]
+/// What is told, if the version is this one and the limits are in their ranges.
+fn found_of(version: u64, latest: u64, min_part: u64, max_body: u64) -> Result<FoundHost, NoHost>
+    ensures { (h : Stored) → h.version ≡ version → h.latest ≡ latest → h.min_part ≡ min_part → h.max_body ≡ max_body
+        → Reads (h ∷ []) result }
 {
-    if version == 0 {
-        Limits::new(min_part, max_body)
-    } else {
-        None
+    if version != 0 {
+        return Err(NoHost::OtherVersion(version));
+    }
+    match Limits::new(min_part, max_body) {
+        Some(limits) => Ok(FoundHost { limits, latest }),
+        None => Err(NoHost::NoRow),
     }
 }
 
-/// The limits in the host's row, if it is of this version and they are in their ranges.
-fn read_limits(row: &Row) -> Result<Option<Limits>, Error>
+/// What the host's row tells, if it is of this version and its limits are in their ranges.
+fn read_row(row: &Row) -> Result<Result<FoundHost, NoHost>, Error>
     ensures read { IfOk result (λ found. (h : Stored) → row.now ≡ shown_row h → Reads (h ∷ []) found) }
     ensures trouble { IfErr result (λ e. (h : Stored) → row.now ≡ shown_row h → is_trouble e ≡ true) }
 {
-    Ok(limits_of(row.get(0)?, row.get(1)?, row.get(2)?))
+    Ok(found_of(row.get(0)?, row.get(1)?, row.get(2)?, row.get(3)?))
 }
 
 #[tactic(auto, using(crate::proofs::Rows::not_sole))]
-/// The limits of a host, if these rows are the one row of a host of this version.
-pub fn limits_in(rows: &[Row]) -> Result<Option<Limits>, Error>
+/// What these rows tell of a host, if they are the one row of a host of this version.
+pub fn found_in(rows: &[Row]) -> Result<Result<FoundHost, NoHost>, Error>
     ensures read { IfOk result (λ found. (hosts : _) → rows.now ≡ map shown_row hosts → Reads hosts found) }
     ensures trouble { IfErr result (λ e. (hosts : _) → rows.now ≡ map shown_row hosts → is_trouble e ≡ true) }
 {
     if rows.len() != 1 {
-        return Ok(None);
+        return Ok(Err(NoHost::NoRow));
     }
     match rows.first() {
-        Some(row) => read_limits(row),
-        None => Ok(None),
+        Some(row) => read_row(row),
+        None => Ok(Err(NoHost::NoRow)),
     }
 }
 
@@ -56,7 +60,7 @@ pub fn host_rows<S: Alter>(connection: &mut Connection<S>) -> Result<Vec<Row>, E
     ensures trouble { IfErr result (IsTrouble S.Store connection.old connection.new) }
 {
     connection.query_all(
-        "SELECT version, min_part, max_body FROM host ORDER BY rowid",
+        "SELECT version, latest, min_part, max_body FROM host ORDER BY rowid",
         &[],
     )
 }

@@ -4,6 +4,7 @@ ghost use Rattle.sqlite.specs.Steps.{over_memory};
 ghost use Rattle.bh_rows.specs.Means.{is_trouble};
 ghost use Rattle.bh_tables.specs.Schema.{host_schema};
 
+use crate::found::NoHost;
 use bh_compare::same_schema;
 use bh_create::make;
 use bh_types::limits::Limits;
@@ -28,4 +29,13 @@ pub fn is_hosts(alloc: Global, schema: &Schema) -> Result<bool, Error>
 {
     let connection = new_tables(alloc)?;
     Ok(same_schema(schema, connection.schema()))
+}
+
+/// Why a schema that isn't a host's is none.
+pub(crate) fn why_none(schema: &Schema) -> NoHost {
+    if schema.tables.is_empty() && schema.indexes.is_empty() && schema.views.is_empty() {
+        NoHost::NoTable
+    } else {
+        NoHost::OtherTables
+    }
 }

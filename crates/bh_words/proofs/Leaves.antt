@@ -7,7 +7,9 @@ use Rattle.clap.specs.Walk.{Row, Text, first_of, rows_after}
 use Rattle.bh_words.proofs.Valued.{IsLeaf, IsTaken, default-value, number_in, required-value}
 use Rattle.bh_words.specs.Commands.{options, shape, word}
 use Rattle.bh_words.specs.Options.{rule}
-use Rattle.bh_words.specs.Readings.{limits_at, line_at, number_of, tuning_at}
+use Rattle.bh_words.specs.Readings.{at, clock_at, is_given, leap_at, leap_of, limits_at, line_at, number_of, tuning_at}
+use Rattle.bh_words.specs.declared.lines.Leap.{Leap}
+use Rattle.bh_words.specs.declared.options.OptionName.TheVariants.{Force}
 use Rattle.bh_words.specs.declared.subcommands.Subcommand.{Subcommand}
 use Rattle.bh_words.specs.declared.subcommands.Subcommand.TheVariants as subcommand
 
@@ -25,14 +27,14 @@ rows_of_words s words = rows_after (leaf s).rules [] words
 pub leaf-fine : (s : Subcommand) → IsLeaf (leaf s)
 leaf-fine subcommand.Script = record { fine = ((refl, inl (refl, refl), tt), ((refl, inl (refl, refl), tt), ((refl, inl (refl, refl), tt), ((refl, inl (refl, refl), tt), ((refl, inr (inr refl), tt), tt))))); once = refl; negates = refl }
 leaf-fine subcommand.Init = record { fine = ((refl, inl (refl, refl), tt), ((refl, inl (refl, refl), tt), ((refl, inl (refl, refl), tt), ((refl, inr (inr refl), tt), tt)))); once = refl; negates = refl }
-leaf-fine subcommand.TenantAdd = record { fine = ((refl, inl (refl, refl), tt), ((refl, inl (refl, refl), tt), ((refl, inl (refl, refl), tt), ((refl, inl (refl, refl), tt), ((refl, inr (inr refl), tt), tt))))); once = refl; negates = refl }
-leaf-fine subcommand.Quota = record { fine = ((refl, inl (refl, refl), tt), ((refl, inl (refl, refl), tt), ((refl, inl (refl, refl), tt), ((refl, inl (refl, refl), tt), ((refl, inr (inr refl), tt), tt))))); once = refl; negates = refl }
-leaf-fine subcommand.KeyAdd = record { fine = ((refl, inl (refl, refl), tt), ((refl, inl (refl, refl), tt), ((refl, inl (refl, refl), tt), ((refl, inl (refl, refl), tt), ((refl, inl (refl, refl), tt), ((refl, inr (inr refl), tt), tt)))))); once = refl; negates = refl }
-leaf-fine subcommand.KeyRemove = record { fine = ((refl, inl (refl, refl), tt), ((refl, inl (refl, refl), tt), ((refl, inl (refl, refl), tt), ((refl, inl (refl, refl), tt), ((refl, inr (inr refl), tt), tt))))); once = refl; negates = refl }
-leaf-fine subcommand.Usage = record { fine = ((refl, inl (refl, refl), tt), ((refl, inl (refl, refl), tt), ((refl, inl (refl, refl), tt), ((refl, inr (inr refl), tt), tt)))); once = refl; negates = refl }
-leaf-fine subcommand.Report = record { fine = ((refl, inl (refl, refl), tt), ((refl, inl (refl, refl), tt), ((refl, inr (inr refl), tt), tt))); once = refl; negates = refl }
-leaf-fine subcommand.Sweep = record { fine = ((refl, inl (refl, refl), tt), ((refl, inl (refl, refl), tt), ((refl, inl (refl, refl), tt), ((refl, inr (inr refl), tt), tt)))); once = refl; negates = refl }
-leaf-fine subcommand.Serve = record { fine = ((refl, inl (refl, refl), tt), ((refl, inl (refl, refl), tt), ((refl, inl (refl, refl), tt), ((refl, inr (inl (refl, refl, refl)), tt), ((refl, inl (refl, refl), tt), ((refl, inl (refl, refl), tt), ((refl, inl (refl, refl), tt), ((refl, inr (inr refl), tt), tt)))))))); once = refl; negates = refl }
+leaf-fine subcommand.TenantAdd = record { fine = ((refl, inl (refl, refl), tt), ((refl, inl (refl, refl), tt), ((refl, inl (refl, refl), tt), ((refl, inl (refl, refl), tt), ((refl, inl (refl, refl), tt), ((refl, inr (inl (refl, refl, refl)), tt), ((refl, inr (inr refl), tt), tt))))))); once = refl; negates = refl }
+leaf-fine subcommand.Quota = record { fine = ((refl, inl (refl, refl), tt), ((refl, inl (refl, refl), tt), ((refl, inl (refl, refl), tt), ((refl, inl (refl, refl), tt), ((refl, inl (refl, refl), tt), ((refl, inr (inl (refl, refl, refl)), tt), ((refl, inr (inr refl), tt), tt))))))); once = refl; negates = refl }
+leaf-fine subcommand.KeyAdd = record { fine = ((refl, inl (refl, refl), tt), ((refl, inl (refl, refl), tt), ((refl, inl (refl, refl), tt), ((refl, inl (refl, refl), tt), ((refl, inl (refl, refl), tt), ((refl, inl (refl, refl), tt), ((refl, inr (inl (refl, refl, refl)), tt), ((refl, inr (inr refl), tt), tt)))))))); once = refl; negates = refl }
+leaf-fine subcommand.KeyRemove = record { fine = ((refl, inl (refl, refl), tt), ((refl, inl (refl, refl), tt), ((refl, inl (refl, refl), tt), ((refl, inl (refl, refl), tt), ((refl, inl (refl, refl), tt), ((refl, inr (inl (refl, refl, refl)), tt), ((refl, inr (inr refl), tt), tt))))))); once = refl; negates = refl }
+leaf-fine subcommand.Usage = record { fine = ((refl, inl (refl, refl), tt), ((refl, inl (refl, refl), tt), ((refl, inl (refl, refl), tt), ((refl, inl (refl, refl), tt), ((refl, inr (inl (refl, refl, refl)), tt), ((refl, inr (inr refl), tt), tt)))))); once = refl; negates = refl }
+leaf-fine subcommand.Report = record { fine = ((refl, inl (refl, refl), tt), ((refl, inl (refl, refl), tt), ((refl, inl (refl, refl), tt), ((refl, inr (inl (refl, refl, refl)), tt), ((refl, inr (inr refl), tt), tt))))); once = refl; negates = refl }
+leaf-fine subcommand.Sweep = record { fine = ((refl, inl (refl, refl), tt), ((refl, inl (refl, refl), tt), ((refl, inl (refl, refl), tt), ((refl, inl (refl, refl), tt), ((refl, inr (inl (refl, refl, refl)), tt), ((refl, inr (inr refl), tt), tt)))))); once = refl; negates = refl }
+leaf-fine subcommand.Serve = record { fine = ((refl, inl (refl, refl), tt), ((refl, inl (refl, refl), tt), ((refl, inl (refl, refl), tt), ((refl, inr (inl (refl, refl, refl)), tt), ((refl, inl (refl, refl), tt), ((refl, inl (refl, refl), tt), ((refl, inr (inl (refl, refl, refl)), tt), ((refl, inl (refl, refl), tt), ((refl, inl (refl, refl), tt), ((refl, inr (inr refl), tt), tt)))))))))); once = refl; negates = refl }
 
 limits-given : (rows : List Row) (v w : Text) (n m : ℕ) → first_of (codes "min-part") rows ≡ Some v → number_of 64 v ≡ Some n
     → first_of (codes "max-body") rows ≡ Some w → number_of 64 w ≡ Some m → n ≤ 2 ^ 30 → 1 ≤ m → m ≤ 2 ^ 30
@@ -45,6 +47,15 @@ tuning-given : (rows : List Row) (v w : Text) (n m : ℕ) → first_of (codes "b
     → tuning_at rows ≡ Some (record { block_size = n; cache_blocks = m })
 unfolding tuning_at
 tuning-given rows v w n m a b c d e f g = rw (a, b, c, d, le-leb 1 n e, le-leb n 1_048_576 f, le-leb m 65_536 g) refl
+
+leap-given : (rows : List Row) (v : Text) (n : ℕ) → first_of (codes "clock-leap") rows ≡ Some v → number_of 32 v ≡ Some n
+    → leap_at rows ≡ Some (leap_of (is_given Force rows) n)
+unfolding leap_at
+leap-given rows v n a b = rw (a, b) refl
+
+clock-given : (rows : List Row) (leap : Leap) → leap_at rows ≡ Some leap → clock_at rows ≡ Some (record { at = at rows; leap = leap })
+unfolding clock_at
+clock-given rows leap a = rw a refl
 
 pub leaf-told : (s : Subcommand) (words : List Text) → IsTaken (leaf s) words → is_some (line_at s (rows_of_words s words)) ≡ true
 leaf-told subcommand.Script words e =
@@ -78,7 +89,11 @@ leaf-told subcommand.TenantAdd words e =
     let tenant = required-value s words (codes "tenant") _ fine e refl refl in
     let quota = required-value s words (codes "quota") _ fine e refl refl in
     let quota_n = number_in 64 0 (2 ^ 64 - 1) quota.0 (omega arith) quota.2 in
-    rw (file.1, tenant.1, quota.1, quota_n.1) refl
+    let days = default-value s words (codes "clock-leap") _ fine e refl refl in
+    let days_n = number_in 32 0 3_000_000 days.0 (omega arith) days.2 in
+    let leap = leap-given (rows_of_words subcommand.TenantAdd words) _ _ days.1 days_n.1 in
+    let clock = clock-given (rows_of_words subcommand.TenantAdd words) _ leap in
+    rw (file.1, tenant.1, quota.1, quota_n.1, clock) refl
 leaf-told subcommand.Quota words e =
     let fine = leaf-fine subcommand.Quota in
     let s = leaf subcommand.Quota in
@@ -86,7 +101,11 @@ leaf-told subcommand.Quota words e =
     let tenant = required-value s words (codes "tenant") _ fine e refl refl in
     let quota = required-value s words (codes "quota") _ fine e refl refl in
     let quota_n = number_in 64 0 (2 ^ 64 - 1) quota.0 (omega arith) quota.2 in
-    rw (file.1, tenant.1, quota.1, quota_n.1) refl
+    let days = default-value s words (codes "clock-leap") _ fine e refl refl in
+    let days_n = number_in 32 0 3_000_000 days.0 (omega arith) days.2 in
+    let leap = leap-given (rows_of_words subcommand.Quota words) _ _ days.1 days_n.1 in
+    let clock = clock-given (rows_of_words subcommand.Quota words) _ leap in
+    rw (file.1, tenant.1, quota.1, quota_n.1, clock) refl
 leaf-told subcommand.KeyAdd words e =
     let fine = leaf-fine subcommand.KeyAdd in
     let s = leaf subcommand.KeyAdd in
@@ -94,32 +113,52 @@ leaf-told subcommand.KeyAdd words e =
     let tenant = required-value s words (codes "tenant") _ fine e refl refl in
     let name = required-value s words (codes "name") _ fine e refl refl in
     let secret = required-value s words (codes "secret") _ fine e refl refl in
-    rw (file.1, tenant.1, name.1, secret.1) refl
+    let days = default-value s words (codes "clock-leap") _ fine e refl refl in
+    let days_n = number_in 32 0 3_000_000 days.0 (omega arith) days.2 in
+    let leap = leap-given (rows_of_words subcommand.KeyAdd words) _ _ days.1 days_n.1 in
+    let clock = clock-given (rows_of_words subcommand.KeyAdd words) _ leap in
+    rw (file.1, tenant.1, name.1, secret.1, clock) refl
 leaf-told subcommand.KeyRemove words e =
     let fine = leaf-fine subcommand.KeyRemove in
     let s = leaf subcommand.KeyRemove in
     let file = required-value s words (codes "file") _ fine e refl refl in
     let tenant = required-value s words (codes "tenant") _ fine e refl refl in
     let name = required-value s words (codes "name") _ fine e refl refl in
-    rw (file.1, tenant.1, name.1) refl
+    let days = default-value s words (codes "clock-leap") _ fine e refl refl in
+    let days_n = number_in 32 0 3_000_000 days.0 (omega arith) days.2 in
+    let leap = leap-given (rows_of_words subcommand.KeyRemove words) _ _ days.1 days_n.1 in
+    let clock = clock-given (rows_of_words subcommand.KeyRemove words) _ leap in
+    rw (file.1, tenant.1, name.1, clock) refl
 leaf-told subcommand.Usage words e =
     let fine = leaf-fine subcommand.Usage in
     let s = leaf subcommand.Usage in
     let file = required-value s words (codes "file") _ fine e refl refl in
     let tenant = required-value s words (codes "tenant") _ fine e refl refl in
-    rw (file.1, tenant.1) refl
+    let days = default-value s words (codes "clock-leap") _ fine e refl refl in
+    let days_n = number_in 32 0 3_000_000 days.0 (omega arith) days.2 in
+    let leap = leap-given (rows_of_words subcommand.Usage words) _ _ days.1 days_n.1 in
+    let clock = clock-given (rows_of_words subcommand.Usage words) _ leap in
+    rw (file.1, tenant.1, clock) refl
 leaf-told subcommand.Report words e =
     let fine = leaf-fine subcommand.Report in
     let s = leaf subcommand.Report in
     let file = required-value s words (codes "file") _ fine e refl refl in
-    rw (file.1) refl
+    let days = default-value s words (codes "clock-leap") _ fine e refl refl in
+    let days_n = number_in 32 0 3_000_000 days.0 (omega arith) days.2 in
+    let leap = leap-given (rows_of_words subcommand.Report words) _ _ days.1 days_n.1 in
+    let clock = clock-given (rows_of_words subcommand.Report words) _ leap in
+    rw (file.1, clock) refl
 leaf-told subcommand.Sweep words e =
     let fine = leaf-fine subcommand.Sweep in
     let s = leaf subcommand.Sweep in
     let file = required-value s words (codes "file") _ fine e refl refl in
     let limit = required-value s words (codes "limit") _ fine e refl refl in
     let limit_n = number_in 32 0 4_294_967_295 limit.0 (omega arith) limit.2 in
-    rw (file.1, limit.1, limit_n.1) refl
+    let days = default-value s words (codes "clock-leap") _ fine e refl refl in
+    let days_n = number_in 32 0 3_000_000 days.0 (omega arith) days.2 in
+    let leap = leap-given (rows_of_words subcommand.Sweep words) _ _ days.1 days_n.1 in
+    let clock = clock-given (rows_of_words subcommand.Sweep words) _ leap in
+    rw (file.1, limit.1, limit_n.1, clock) refl
 leaf-told subcommand.Serve words e =
     let fine = leaf-fine subcommand.Serve in
     let s = leaf subcommand.Serve in
@@ -133,4 +172,7 @@ leaf-told subcommand.Serve words e =
     let cache_blocks = default-value s words (codes "cache-blocks") _ fine e refl refl in
     let cache_blocks_n = number_in 64 0 65_536 cache_blocks.0 (omega arith) cache_blocks.2 in
     let tuning = tuning-given (rows_of_words subcommand.Serve words) _ _ _ _ block_size.1 block_size_n.1 cache_blocks.1 cache_blocks_n.1 block_size_n.2 block_size_n.3 cache_blocks_n.3 in
-    rw (file.1, port.1, port_n.1, timeout.1, timeout_n.1, tuning) refl
+    let days = default-value s words (codes "clock-leap") _ fine e refl refl in
+    let days_n = number_in 32 0 3_000_000 days.0 (omega arith) days.2 in
+    let leap = leap-given (rows_of_words subcommand.Serve words) _ _ days.1 days_n.1 in
+    rw (file.1, port.1, port_n.1, timeout.1, timeout_n.1, leap, tuning) refl

@@ -4,7 +4,7 @@ use Rattle.clap.specs.Words.{App, Shape, Text, with_rule, with_subcommand}
 use Rattle.clap.specs.Simple.{new_shape}
 use Rattle.bh_words.specs.Options.{rule}
 use Rattle.bh_words.specs.declared.options.OptionName.{OptionName}
-use Rattle.bh_words.specs.declared.options.OptionName.TheVariants.{File, Tenant, Name, Secret, Quota, At, Limit, Port, Count, Log, Timeout, MinPart, MaxBody, BlockSize, CacheBlocks}
+use Rattle.bh_words.specs.declared.options.OptionName.TheVariants.{File, Tenant, Name, Secret, Quota, At, ClockLeap, Force, Limit, Port, Count, Log, Timeout, MinPart, MaxBody, BlockSize, CacheBlocks}
 use Rattle.bh_words.specs.declared.subcommands.Subcommand.{Subcommand}
 use Rattle.bh_words.specs.declared.subcommands.Subcommand.TheVariants as subcommand
 
@@ -24,14 +24,14 @@ word subcommand.Serve = codes "serve"
 abbrev pub options : Subcommand → List OptionName
 options subcommand.Script = BlockSize ∷ MinPart ∷ MaxBody ∷ CacheBlocks ∷ []
 options subcommand.Init = File ∷ MinPart ∷ MaxBody ∷ []
-options subcommand.TenantAdd = File ∷ Tenant ∷ Quota ∷ At ∷ []
-options subcommand.Quota = File ∷ Tenant ∷ Quota ∷ At ∷ []
-options subcommand.KeyAdd = File ∷ Tenant ∷ Name ∷ Secret ∷ At ∷ []
-options subcommand.KeyRemove = File ∷ Tenant ∷ Name ∷ At ∷ []
-options subcommand.Usage = File ∷ Tenant ∷ At ∷ []
-options subcommand.Report = File ∷ At ∷ []
-options subcommand.Sweep = File ∷ Limit ∷ At ∷ []
-options subcommand.Serve = File ∷ Port ∷ Count ∷ Log ∷ Timeout ∷ BlockSize ∷ CacheBlocks ∷ []
+options subcommand.TenantAdd = File ∷ Tenant ∷ Quota ∷ At ∷ ClockLeap ∷ Force ∷ []
+options subcommand.Quota = File ∷ Tenant ∷ Quota ∷ At ∷ ClockLeap ∷ Force ∷ []
+options subcommand.KeyAdd = File ∷ Tenant ∷ Name ∷ Secret ∷ At ∷ ClockLeap ∷ Force ∷ []
+options subcommand.KeyRemove = File ∷ Tenant ∷ Name ∷ At ∷ ClockLeap ∷ Force ∷ []
+options subcommand.Usage = File ∷ Tenant ∷ At ∷ ClockLeap ∷ Force ∷ []
+options subcommand.Report = File ∷ At ∷ ClockLeap ∷ Force ∷ []
+options subcommand.Sweep = File ∷ Limit ∷ At ∷ ClockLeap ∷ Force ∷ []
+options subcommand.Serve = File ∷ Port ∷ Count ∷ Log ∷ Timeout ∷ ClockLeap ∷ Force ∷ BlockSize ∷ CacheBlocks ∷ []
 
 abbrev pub subcommands : List Subcommand
 subcommands = subcommand.Script ∷ subcommand.Init ∷ subcommand.TenantAdd ∷ subcommand.Quota ∷ subcommand.KeyAdd
@@ -48,13 +48,14 @@ with_options = fold (λ a o. with_rule a (rule o))
 abbrev pub with_subcommands : App → List Subcommand → App
 with_subcommands = fold (λ a s. with_subcommand a (shape (word s) (options s)))
 
--- the program's command: one of the subcommands has to be named, and without any word it shows its help
+-- the program's command: one of the subcommands has to be named, and without any word it shows its help; asked for, its version
 abbrev pub the_command : App
 the_command = record {
   top = record (new_shape (codes "bucketd")) {
     is_leaf = false;
     arg_required_else_help = true;
     subcommand_required = true;
+    has_version = true;
   };
   subs = map (λ s. shape (word s) (options s)) subcommands;
 }

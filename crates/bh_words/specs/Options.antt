@@ -5,7 +5,7 @@ use Rattle.clap.specs.declared.builder.action.ArgAction.TheVariants.{SetTrue}
 use Rattle.clap.specs.declared.builder.value_parser.ValueParser.TheVariants.{Unsigned}
 use Rattle.bh_types.specs.Limits.{default_limits, default_tuning}
 use Rattle.bh_words.specs.declared.options.OptionName.{OptionName}
-use Rattle.bh_words.specs.declared.options.OptionName.TheVariants.{File, Tenant, Name, Secret, Quota, At, Limit, Port, Count, Log, Timeout, MinPart, MaxBody, BlockSize, CacheBlocks}
+use Rattle.bh_words.specs.declared.options.OptionName.TheVariants.{File, Tenant, Name, Secret, Quota, At, ClockLeap, Force, Limit, Port, Count, Log, Timeout, MinPart, MaxBody, BlockSize, CacheBlocks}
 
 -- an option is written `--word value` or `--word=value`
 abbrev pub word : OptionName → Text
@@ -15,6 +15,8 @@ word Name = codes "name"
 word Secret = codes "secret"
 word Quota = codes "quota"
 word At = codes "at"
+word ClockLeap = codes "clock-leap"
+word Force = codes "force"
 word Limit = codes "limit"
 word Port = codes "port"
 word Count = codes "count"
@@ -59,6 +61,8 @@ rule Name = text Name
 rule Secret = text Secret
 rule Quota = required (number Quota 0 greatest)
 rule At = number At 0 greatest
+rule ClockLeap = preset 1 (number ClockLeap 0 3_000_000)
+rule Force = flag Force
 rule Limit = required (number Limit 0 4_294_967_295)
 rule Port = required (number Port 0 65_535)
 rule Count = number Count 1 4_294_967_295

@@ -14,6 +14,9 @@ use Rattle.bh_words.specs.Lines as line
 use Rattle.bh_words.specs.Options.{word}
 use Rattle.bh_words.specs.declared.given.GivenError.{GivenError}
 use Rattle.bh_words.specs.declared.given.GivenError.TheVariants.{NotGiven, OutOfMemory}
+use Rattle.bh_words.specs.declared.lines.ClockGiven.{ClockGiven}
+use Rattle.bh_words.specs.declared.lines.Leap.{Leap}
+use Rattle.bh_words.specs.declared.lines.Leap.TheVariants.{Days, Any}
 use Rattle.bh_words.specs.declared.options.OptionName.{OptionName}
 use Rattle.bh_words.specs.declared.options.OptionName.TheVariants as option
 use Rattle.bh_words.specs.declared.subcommands.Subcommand.{Subcommand}
@@ -64,6 +67,20 @@ secret_at rows = do
 abbrev pub at : List Row → Option ℕ
 at rows = number_at 64 option.At rows
 
+-- however far the clock may be ahead of the last stamp, or so many days
+abbrev pub leap_of : Bool → ℕ → Leap
+leap_of force days = if force then Any else Days days
+
+unfoldable pub leap_at : List Row → Option Leap
+leap_at rows = do
+  days ← number_at 32 option.ClockLeap rows
+  Some (leap_of (is_given option.Force rows) days)
+
+unfoldable pub clock_at : List Row → Option ClockGiven
+clock_at rows = do
+  leap ← leap_at rows
+  Some (record { at = at rows; leap = leap })
+
 abbrev pub limits_of : ℕ → ℕ → Option HostLimits
 limits_of min_part max_body =
     if nat_le min_part (2 ^ 30) && (nat_le 1 max_body && nat_le max_body (2 ^ 30))
@@ -105,14 +122,16 @@ tenant_add rows = do
   file ← text_at option.File rows
   tenant ← text_at option.Tenant rows
   quota ← number_at 64 option.Quota rows
-  Some (line.TenantAdd file tenant quota (at rows))
+  clock ← clock_at rows
+  Some (line.TenantAdd file tenant quota clock)
 
 abbrev pub quota : List Row → Option CommandLine
 quota rows = do
   file ← text_at option.File rows
   tenant ← text_at option.Tenant rows
   quota ← number_at 64 option.Quota rows
-  Some (line.Quota file tenant quota (at rows))
+  clock ← clock_at rows
+  Some (line.Quota file tenant quota clock)
 
 abbrev pub key_add : List Row → Option CommandLine
 key_add rows = do
@@ -120,39 +139,45 @@ key_add rows = do
   tenant ← text_at option.Tenant rows
   name ← text_at option.Name rows
   secret ← secret_at rows
-  Some (line.KeyAdd file tenant name secret (at rows))
+  clock ← clock_at rows
+  Some (line.KeyAdd file tenant name secret clock)
 
 abbrev pub key_remove : List Row → Option CommandLine
 key_remove rows = do
   file ← text_at option.File rows
   tenant ← text_at option.Tenant rows
   name ← text_at option.Name rows
-  Some (line.KeyRemove file tenant name (at rows))
+  clock ← clock_at rows
+  Some (line.KeyRemove file tenant name clock)
 
 abbrev pub usage : List Row → Option CommandLine
 usage rows = do
   file ← text_at option.File rows
   tenant ← text_at option.Tenant rows
-  Some (line.Usage file tenant (at rows))
+  clock ← clock_at rows
+  Some (line.Usage file tenant clock)
 
 abbrev pub report : List Row → Option CommandLine
 report rows = do
   file ← text_at option.File rows
-  Some (line.Report file (at rows))
+  clock ← clock_at rows
+  Some (line.Report file clock)
 
 abbrev pub sweep : List Row → Option CommandLine
 sweep rows = do
   file ← text_at option.File rows
   limit ← number_at 32 option.Limit rows
-  Some (line.Sweep file limit (at rows))
+  clock ← clock_at rows
+  Some (line.Sweep file limit clock)
 
 abbrev pub serve : List Row → Option CommandLine
 serve rows = do
   file ← text_at option.File rows
   port ← number_at 16 option.Port rows
   timeout ← number_at 64 option.Timeout rows
+  leap ← leap_at rows
   tuning ← tuning_at rows
-  Some (line.Serve file port (number_at 64 option.Count rows) (is_given option.Log rows) timeout tuning)
+  Some (line.Serve file port (number_at 64 option.Count rows) (is_given option.Log rows) timeout leap tuning)
 
 abbrev pub line_at : Subcommand → List Row → Option CommandLine
 line_at subcommand.Script = script

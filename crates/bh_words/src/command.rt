@@ -9,12 +9,16 @@ use crate::subcommands::Subcommand;
 use clap::Command;
 use std::alloc::{AllocError, Global};
 
+/// The program's version.
+const VERSION: &str = "0.1.0";
+
 /// The program's command with its ten subcommands.
 pub(crate) fn the_command<'a>(alloc: Global) -> Result<Command<'a>, AllocError>
     ensures { IfOk result (λ c. app_of c ≡ spec.the_command) }
 {
     let bare = Command::new(alloc, "bucketd")
         .about("A host of S3 buckets for many tenants")
+        .version(VERSION)
         .arg_required_else_help(true)
         .subcommand_required(true);
     with_subcommands(alloc, bare, SUBCOMMANDS.as_slice())

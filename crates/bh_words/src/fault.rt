@@ -7,7 +7,7 @@ use clap::error::ErrorKind;
 use std::alloc::AllocError;
 use std::fmt;
 
-/// Why words are no line: a mistake in them, a request for help, or want of memory.
+/// Why words are no line: a mistake in them, a request for help or the version, or want of memory.
 ///
 /// Its `Display` is the text for the user, as `clap` words it.
 #[derive(Drop)]
@@ -25,6 +25,13 @@ impl LineFault {
             self.error.kind(),
             ErrorKind::DisplayHelp | ErrorKind::DisplayHelpOnMissingArgumentOrSubcommand
         )
+    }
+
+    /// Whether the text is the program's name and version, which the words asked for.
+    pub fn is_version(&self) -> bool
+        ensures { IsTrue result ↔ (kind_of self.now.error ≡ kind.DisplayVersion) }
+    {
+        self.error.kind() == ErrorKind::DisplayVersion
     }
 
     /// Whether memory ran out, so that nothing is known of the words.

@@ -5,7 +5,7 @@ ghost use Rattle.bh_words.specs.Lines as lines;
 ghost use Rattle.bh_words.specs.Readings as spec;
 ghost use Rattle.bh_words.specs.declared.options.OptionName.TheVariants as option;
 
-use crate::lines::SecretGiven;
+use crate::lines::{ClockGiven, Leap, SecretGiven};
 use crate::options::OptionName;
 use bh_types::limits::{Limits, Tuning};
 use clap::ArgMatches;
@@ -89,25 +89,62 @@ fn number_of(text: &str) -> Option<u64>
     text.parse::<u64>().ok()
 }
 
+/// Whether an option without a value was given.
+pub(crate) fn is_given(given: &ArgMatches<'_>, option: OptionName) -> bool
+    ensures { result ≡ spec.is_given option (spec.rows_in given.now) }
+{
+    match written(given, option) {
+        Some(text) => text == "true",
+        None => false,
+    }
+}
+
 /// The reading of the clock, if one was given.
-pub(crate) fn at(given: &ArgMatches<'_>) -> Option<u64>
+fn at(given: &ArgMatches<'_>) -> Option<u64>
     ensures { result ≡ spec.at (spec.rows_in given.now) }
 {
     number(given, OptionName::At)
 }
 
-/// How many uploads and blocks may go.
-pub(crate) fn limit(given: &ArgMatches<'_>) -> Option<u32>
-    ensures { result ≡ spec.number_at 32 option.Limit (spec.rows_in given.now) }
+/// How far ahead of the host's last stamp the clock may be.
+#[tactic(auto, unfolding(crate::specs::Readings::leap_at))]
+pub(crate) fn leap(given: &ArgMatches<'_>) -> Option<Leap>
+    ensures { result ≡ spec.leap_at (spec.rows_in given.now) }
 {
-    match written(given, OptionName::Limit) {
-        Some(text) => limit_of(text),
+    let days = small_number(given, OptionName::ClockLeap)?;
+    Some(leap_of(is_given(given, OptionName::Force), days))
+}
+
+fn leap_of(force: bool, days: u32) -> Leap
+    ensures { result ≡ spec.leap_of force days }
+{
+    if force { Leap::Any } else { Leap::Days(days) }
+}
+
+/// The clock of a command.
+#[tactic(auto, unfolding(crate::specs::Readings::clock_at))]
+pub(crate) fn clock(given: &ArgMatches<'_>) -> Option<ClockGiven>
+    ensures { result ≡ spec.clock_at (spec.rows_in given.now) }
+{
+    let leap = leap(given)?;
+    Some(ClockGiven {
+        at: at(given),
+        leap,
+    })
+}
+
+/// The number of 32 bits of an option, if it has one.
+pub(crate) fn small_number(given: &ArgMatches<'_>, option: OptionName) -> Option<u32>
+    ensures { result ≡ spec.number_at 32 option (spec.rows_in given.now) }
+{
+    match written(given, option) {
+        Some(text) => small_number_of(text),
         None => None,
     }
 }
 
 #[tactic(auto, using(crate::proofs::Numbers::number_parsed))]
-fn limit_of(text: &str) -> Option<u32>
+fn small_number_of(text: &str) -> Option<u32>
     ensures { result ≡ spec.number_of 32 text.now }
 {
     text.parse::<u32>().ok()
@@ -128,16 +165,6 @@ fn port_of(text: &str) -> Option<u16>
     ensures { result ≡ spec.number_of 16 text.now }
 {
     text.parse::<u16>().ok()
-}
-
-/// Whether an option without a value was given.
-pub(crate) fn is_given(given: &ArgMatches<'_>, option: OptionName) -> bool
-    ensures { result ≡ spec.is_given option (spec.rows_in given.now) }
-{
-    match written(given, option) {
-        Some(text) => text == "true",
-        None => false,
-    }
 }
 
 /// The limits of a new host.

@@ -11,5 +11,5 @@ mod readings;
 mod subcommands;
 
 pub use fault::LineFault;
-pub use lines::{Line, SecretGiven};
+pub use lines::{ClockGiven, Leap, Line, SecretGiven};
 pub use read::read_words;

@@ -9,11 +9,27 @@ pub enum SecretGiven {
     StandardInput,
 }
 
+/// How far ahead of the host's last stamp a clock may be.
+#[derive(Clone, Copy)]
+pub enum Leap {
+    /// So many days.
+    Days(u32),
+    /// However far.
+    Any,
+}
+
+/// The clock of a command.
+#[derive(Clone, Copy)]
+pub struct ClockGiven {
+    /// A reading, in seconds since 1970; without one it is the machine's clock that is read.
+    pub at: Option<u64>,
+    pub leap: Leap,
+}
+
 /// What a command line asks for: a subcommand and its options.
 ///
 /// Names, secrets and quotas are as they were given: whether they are in their ranges is the host's
-/// to say. A moment `at` is a reading of the clock in seconds since 1970; without one, it is the
-/// machine's clock that is read.
+/// to say.
 #[derive(Drop)]
 pub enum Line {
     /// Events from standard input, applied to a new host in memory.
@@ -31,14 +47,14 @@ pub enum Line {
         file: String,
         tenant: String,
         quota: u64,
-        at: Option<u64>,
+        clock: ClockGiven,
     },
     /// Another quota for a tenant, in bytes.
     Quota {
         file: String,
         tenant: String,
         quota: u64,
-        at: Option<u64>,
+        clock: ClockGiven,
     },
     /// An access key of a tenant.
     KeyAdd {
@@ -46,31 +62,31 @@ pub enum Line {
         tenant: String,
         name: String,
         secret: SecretGiven,
-        at: Option<u64>,
+        clock: ClockGiven,
     },
     /// An access key of a tenant goes.
     KeyRemove {
         file: String,
         tenant: String,
         name: String,
-        at: Option<u64>,
+        clock: ClockGiven,
     },
     /// How many bytes a tenant uses.
     Usage {
         file: String,
         tenant: String,
-        at: Option<u64>,
+        clock: ClockGiven,
     },
     /// How many blocks are stored, and what refers to them.
     Report {
         file: String,
-        at: Option<u64>,
+        clock: ClockGiven,
     },
     /// At most `limit` stale uploads and unreferenced blocks go.
     Sweep {
         file: String,
         limit: u32,
-        at: Option<u64>,
+        clock: ClockGiven,
     },
     /// Connections on a port of 127.0.0.1 are served, on one that the system chooses where it is 0:
     /// `count` of them, or without end. Each is read within `timeout` seconds, and its response is
@@ -81,6 +97,7 @@ pub enum Line {
         count: Option<u64>,
         log: bool,
         timeout: u64,
+        leap: Leap,
         tuning: Tuning,
     },
 }

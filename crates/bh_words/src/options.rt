@@ -16,6 +16,8 @@ pub(crate) enum OptionName {
     Secret,
     Quota,
     At,
+    ClockLeap,
+    Force,
     Limit,
     Port,
     Count,
@@ -39,6 +41,8 @@ impl OptionName {
             OptionName::Secret => "secret",
             OptionName::Quota => "quota",
             OptionName::At => "at",
+            OptionName::ClockLeap => "clock-leap",
+            OptionName::Force => "force",
             OptionName::Limit => "limit",
             OptionName::Port => "port",
             OptionName::Count => "count",
@@ -61,6 +65,9 @@ impl OptionName {
             OptionName::Quota => "How many bytes the tenant may use: 0 to 2^60",
             OptionName::At =>
                 "The clock's reading, in seconds since 1970; without it the machine's clock is read",
+            OptionName::ClockLeap =>
+                "How many days the clock may be after the host's last stamp: 0 to 3,000,000",
+            OptionName::Force => "Takes any clock, however far it is after the host's last stamp",
             OptionName::Limit => "How many uploads and blocks may go: 0 to 2^32 - 1",
             OptionName::Port => "The port on 127.0.0.1; 0: one that the system chooses",
             OptionName::Count =>
@@ -87,6 +94,8 @@ impl OptionName {
             }
             OptionName::Quota => self.number(alloc, 0, u64::MAX).required(true),
             OptionName::At => self.number(alloc, 0, u64::MAX),
+            OptionName::ClockLeap => self.number(alloc, 0, 3_000_000).default_value("1"),
+            OptionName::Force => self.flag(alloc),
             OptionName::Limit => self.number(alloc, 0, 4_294_967_295).required(true),
             OptionName::Port => self.number(alloc, 0, 65_535).required(true),
             OptionName::Count => self.number(alloc, 1, 4_294_967_295),

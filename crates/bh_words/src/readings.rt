@@ -3,7 +3,7 @@ ghost use Rattle.bh_words.specs.Lines.{command_line};
 ghost use Rattle.bh_words.specs.Readings as spec;
 
 use crate::given::{
-    GivenError, at, is_given, limit, limits, needed, number, port, secret, text, tuning,
+    GivenError, clock, is_given, leap, limits, needed, number, port, secret, small_number, text, tuning,
 };
 use crate::lines::Line;
 use crate::options::OptionName;
@@ -62,12 +62,12 @@ fn tenant_add(alloc: Global, given: &ArgMatches<'_>) -> Result<Line, GivenError>
     let file = text(alloc, given, OptionName::File)?;
     let tenant = text(alloc, given, OptionName::Tenant)?;
     let quota = needed(number(given, OptionName::Quota))?;
-    let at = at(given);
+    let clock = needed(clock(given))?;
     Ok(Line::TenantAdd {
         file,
         tenant,
         quota,
-        at,
+        clock,
     })
 }
 
@@ -77,12 +77,12 @@ fn quota(alloc: Global, given: &ArgMatches<'_>) -> Result<Line, GivenError>
     let file = text(alloc, given, OptionName::File)?;
     let tenant = text(alloc, given, OptionName::Tenant)?;
     let quota = needed(number(given, OptionName::Quota))?;
-    let at = at(given);
+    let clock = needed(clock(given))?;
     Ok(Line::Quota {
         file,
         tenant,
         quota,
-        at,
+        clock,
     })
 }
 
@@ -93,13 +93,13 @@ fn key_add(alloc: Global, given: &ArgMatches<'_>) -> Result<Line, GivenError>
     let tenant = text(alloc, given, OptionName::Tenant)?;
     let name = text(alloc, given, OptionName::Name)?;
     let secret = secret(alloc, given)?;
-    let at = at(given);
+    let clock = needed(clock(given))?;
     Ok(Line::KeyAdd {
         file,
         tenant,
         name,
         secret,
-        at,
+        clock,
     })
 }
 
@@ -109,12 +109,12 @@ fn key_remove(alloc: Global, given: &ArgMatches<'_>) -> Result<Line, GivenError>
     let file = text(alloc, given, OptionName::File)?;
     let tenant = text(alloc, given, OptionName::Tenant)?;
     let name = text(alloc, given, OptionName::Name)?;
-    let at = at(given);
+    let clock = needed(clock(given))?;
     Ok(Line::KeyRemove {
         file,
         tenant,
         name,
-        at,
+        clock,
     })
 }
 
@@ -123,25 +123,29 @@ fn usage(alloc: Global, given: &ArgMatches<'_>) -> Result<Line, GivenError>
 {
     let file = text(alloc, given, OptionName::File)?;
     let tenant = text(alloc, given, OptionName::Tenant)?;
-    let at = at(given);
-    Ok(Line::Usage { file, tenant, at })
+    let clock = needed(clock(given))?;
+    Ok(Line::Usage {
+        file,
+        tenant,
+        clock,
+    })
 }
 
 fn report(alloc: Global, given: &ArgMatches<'_>) -> Result<Line, GivenError>
     ensures { spec.Gives command_line result (spec.report (spec.rows_in given.now)) }
 {
     let file = text(alloc, given, OptionName::File)?;
-    let at = at(given);
-    Ok(Line::Report { file, at })
+    let clock = needed(clock(given))?;
+    Ok(Line::Report { file, clock })
 }
 
 fn sweep(alloc: Global, given: &ArgMatches<'_>) -> Result<Line, GivenError>
     ensures { spec.Gives command_line result (spec.sweep (spec.rows_in given.now)) }
 {
     let file = text(alloc, given, OptionName::File)?;
-    let limit = needed(limit(given))?;
-    let at = at(given);
-    Ok(Line::Sweep { file, limit, at })
+    let limit = needed(small_number(given, OptionName::Limit))?;
+    let clock = needed(clock(given))?;
+    Ok(Line::Sweep { file, limit, clock })
 }
 
 fn serve(alloc: Global, given: &ArgMatches<'_>) -> Result<Line, GivenError>
@@ -152,6 +156,7 @@ fn serve(alloc: Global, given: &ArgMatches<'_>) -> Result<Line, GivenError>
     let count = number(given, OptionName::Count);
     let log = is_given(given, OptionName::Log);
     let timeout = needed(number(given, OptionName::Timeout))?;
+    let leap = needed(leap(given))?;
     let tuning = needed(tuning(given))?;
     Ok(Line::Serve {
         file,
@@ -159,6 +164,7 @@ fn serve(alloc: Global, given: &ArgMatches<'_>) -> Result<Line, GivenError>
         count,
         log,
         timeout,
+        leap,
         tuning,
     })
 }

@@ -29,40 +29,65 @@ static SCRIPT: [OptionName; 4] = [
 
 static INIT: [OptionName; 3] = [OptionName::File, OptionName::MinPart, OptionName::MaxBody];
 
-static TENANT_QUOTA: [OptionName; 4] = [
+static TENANT_QUOTA: [OptionName; 6] = [
     OptionName::File,
     OptionName::Tenant,
     OptionName::Quota,
     OptionName::At,
+    OptionName::ClockLeap,
+    OptionName::Force,
 ];
 
-static KEY_ADD: [OptionName; 5] = [
+static KEY_ADD: [OptionName; 7] = [
     OptionName::File,
     OptionName::Tenant,
     OptionName::Name,
     OptionName::Secret,
     OptionName::At,
+    OptionName::ClockLeap,
+    OptionName::Force,
 ];
 
-static KEY_REMOVE: [OptionName; 4] = [
+static KEY_REMOVE: [OptionName; 6] = [
     OptionName::File,
     OptionName::Tenant,
     OptionName::Name,
     OptionName::At,
+    OptionName::ClockLeap,
+    OptionName::Force,
 ];
 
-static USAGE: [OptionName; 3] = [OptionName::File, OptionName::Tenant, OptionName::At];
+static USAGE: [OptionName; 5] = [
+    OptionName::File,
+    OptionName::Tenant,
+    OptionName::At,
+    OptionName::ClockLeap,
+    OptionName::Force,
+];
 
-static REPORT: [OptionName; 2] = [OptionName::File, OptionName::At];
+static REPORT: [OptionName; 4] = [
+    OptionName::File,
+    OptionName::At,
+    OptionName::ClockLeap,
+    OptionName::Force,
+];
 
-static SWEEP: [OptionName; 3] = [OptionName::File, OptionName::Limit, OptionName::At];
+static SWEEP: [OptionName; 5] = [
+    OptionName::File,
+    OptionName::Limit,
+    OptionName::At,
+    OptionName::ClockLeap,
+    OptionName::Force,
+];
 
-static SERVE: [OptionName; 7] = [
+static SERVE: [OptionName; 9] = [
     OptionName::File,
     OptionName::Port,
     OptionName::Count,
     OptionName::Log,
     OptionName::Timeout,
+    OptionName::ClockLeap,
+    OptionName::Force,
     OptionName::BlockSize,
     OptionName::CacheBlocks,
 ];

@@ -26,7 +26,8 @@ fn main(rt: HostRuntime) -> io::Result<ExitCode> {
         Err(fault) if fault.is_memory() => return end_fault(&rt, &Fault::Memory),
         Err(fault) => {
             print!(rt; "{fault}")?;
-            return Ok(ExitCode::from(2));
+            let status = if fault.is_version() { 0 } else { 2 };
+            return Ok(ExitCode::from(status));
         }
     };
     match carry_out(&rt, line) {

@@ -3,16 +3,19 @@ use Rattle.bh_commands.proofs.Found.{is_clean, sound_seen}
 use Rattle.bh_commands.proofs.Refused.{not_found}
 use Rattle.bh_commands.proofs.hosts.find.Goals as goal
 
-pub work_on-requires : goal.work_on-requires
-work_on-requires g c clean =
+pub work_in_time-requires : goal.work_in_time-requires
+work_in_time-requires g c =
     let it = c.in-Ok.ensures in
-    it.rest (is_clean clean) (sound_seen _ _ _ c.requires it.schema it.same it.follows (is_clean clean))
+    record {
+      rest = λ clean. it.rest (is_clean clean) (sound_seen _ _ _ c.requires it.schema it.same it.follows (is_clean clean));
+      latest = λ clean. it.latest (is_clean clean) (sound_seen _ _ _ c.requires it.schema it.same it.follows (is_clean clean));
+    }
 
-pub returns-in_ok-work_on-in-Ok : goal.returns-in_ok-work_on-in-Ok
-returns-in_ok-work_on-in-Ok g c =
+pub returns-in_ok-work_in_time-in-Ok : goal.returns-in_ok-work_in_time-in-Ok
+returns-in_ok-work_in_time-in-Ok g c =
     let it = c.in-Ok.ensures in
     inr (record {
-      host = record { host = c.in-Ok.host };
+      host = record { host = c.in-Ok.opened.host };
       found = record {
         schema = it.schema;
         same = it.same;
@@ -20,7 +23,7 @@ returns-in_ok-work_on-in-Ok g c =
         follows = it.follows;
         survives = it.survives;
       };
-      worked = c.in_ok-work_on-in-Ok.ensures;
+      worked = c.in_ok-work_in_time-in-Ok.ensures;
     })
 
 pub returns-in_ok-refused-in-Err : goal.returns-in_ok-refused-in-Err

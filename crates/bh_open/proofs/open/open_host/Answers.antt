@@ -3,19 +3,28 @@ use Rattle.sqlite.specs.Held.{state}
 use Rattle.bh_tables.specs.Typed.{IsHost, tables_in}
 use Rattle.bh_schema.specs.Layer.{standing, IsStateClean}
 use Rattle.bh_open.specs.Opening.{Reads}
-use Rattle.bh_open.proofs.Steps.{rests, refuses}
+use Rattle.bh_open.proofs.Steps.{rests, tells, refuses}
 use Rattle.bh_open.proofs.open.open_host.Goals as goal
 
-pub returns-in-Some-clause-rest : goal.returns-in-Some-clause-rest
-returns-in-Some-clause-rest g c =
+pub returns-in-Ok-found-clause-rest : goal.returns-in-Ok-found-clause-rest
+returns-in-Ok-found-clause-rest g c =
     let old = state g.S.Store c.args.connection in
     let mid = state g.S.Store c.find_host-found.new.connection in
     rests old mid (state g.S.Store c.take_back.new.connection) c.in-Ok.ensures.settled c.in-Ok.ensures.kept c.take_back.ensures.follows c.take_back.ensures.back
-    c.in-Some.limits (subst (λ found. IsStateClean mid → IsHost (standing old).now → Reads (tables_in (standing old).now).host found) c.in-Some.is c.in-Ok.ensures.read) g.D.Digester.digest_of
+    c.in-Ok-found.found.limits c.in-Ok-found.found.latest
+    (subst (λ found. IsStateClean mid → IsHost (standing old).now → Reads (tables_in (standing old).now).host found) c.in-Ok-found.is c.in-Ok.ensures.read) g.D.Digester.digest_of
 
-pub returns-in-None-clause-refused : goal.returns-in-None-clause-refused
-returns-in-None-clause-refused g c _ =
+pub returns-in-Ok-found-clause-latest : goal.returns-in-Ok-found-clause-latest
+returns-in-Ok-found-clause-latest g c =
+    let old = state g.S.Store c.args.connection in
+    let mid = state g.S.Store c.find_host-found.new.connection in
+    tells old mid (state g.S.Store c.take_back.new.connection) c.in-Ok.ensures.settled c.in-Ok.ensures.kept c.take_back.ensures.follows c.take_back.ensures.back
+    c.in-Ok-found.found.limits c.in-Ok-found.found.latest
+    (subst (λ found. IsStateClean mid → IsHost (standing old).now → Reads (tables_in (standing old).now).host found) c.in-Ok-found.is c.in-Ok.ensures.read) g.D.Digester.digest_of
+
+pub returns-in-Err-found-clause-refused : goal.returns-in-Err-found-clause-refused
+returns-in-Err-found-clause-refused g c _ =
     let old = state g.S.Store c.args.connection in
     let mid = state g.S.Store c.find_host-found.new.connection in
     refuses old mid (state g.S.Store c.take_back.new.connection) c.in-Ok.ensures.settled c.in-Ok.ensures.kept c.take_back.ensures.follows c.take_back.ensures.back
-    (subst (λ found. IsStateClean mid → IsHost (standing old).now → Reads (tables_in (standing old).now).host found) c.in-None.is c.in-Ok.ensures.read)
+    (subst (λ found. IsStateClean mid → IsHost (standing old).now → Reads (tables_in (standing old).now).host found) c.in-Err-found.is c.in-Ok.ensures.read)

@@ -1,0 +1,27 @@
+use Rattle.std.proofs.Common.{inl, inr, ap, sym, ◌∙◌}
+use Rattle.bh_commands.specs.Clocks.{leaps}
+use Rattle.bh_commands.proofs.hosts.work_in_time.Goals as goal
+
+pub returns-in_ok-held_back-then : goal.returns-in_ok-held_back-then
+returns-in_ok-held_back-then g c =
+    let told = c.in_ok-held_back-then.ensures in
+    inl (record {
+      reading = c.in_ok-reading.reading;
+      reads = record {
+        given = c.in_ok-reading.ensures;
+        leap = λ clean. ap (λ n. leaps c.args.clock.leap n c.in_ok-reading.reading) (sym (c.requires.latest clean)) ∙ sym c.leaps.ensures ∙ c.if-leaps.true;
+      };
+      left = told.0 ∙ c.into_connection.ensures;
+      line = told.1;
+    })
+
+pub returns-in_ok-work_on : goal.returns-in_ok-work_on
+returns-in_ok-work_on g c =
+    inr (record {
+      reading = c.in_ok-reading.reading;
+      reads = record {
+        given = c.in_ok-reading.ensures;
+        leap = λ clean. ap (λ n. leaps c.args.clock.leap n c.in_ok-reading.reading) (sym (c.requires.latest clean)) ∙ sym c.leaps.ensures ∙ c.if-leaps.false;
+      };
+      worked = c.in_ok-work_on.ensures;
+    })

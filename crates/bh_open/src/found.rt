@@ -1,0 +1,22 @@
+use bh_types::limits::Limits;
+
+/// What a host keeps of itself.
+#[derive(Clone, Copy)]
+pub struct FoundHost {
+    pub limits: Limits,
+    /// The last stamp, in seconds since 1970; 0 where there was none.
+    pub latest: u64,
+}
+
+/// Why a database is no host's.
+#[derive(Clone, Copy)]
+pub enum NoHost {
+    /// It has no table.
+    NoTable,
+    /// It has other tables than a host's.
+    OtherTables,
+    /// The host's row has this version.
+    OtherVersion(u64),
+    /// There isn't one row of the host, with limits in their ranges.
+    NoRow,
+}
