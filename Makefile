@@ -80,6 +80,9 @@ memory:
 others:
 	@tools/draw-others
 
+front:
+	@tools/front $(PROGRAM)
+
 # The gateway, a second program for stock S3 clients (gateway/, in Go; needs Debian's golang-go). gateway: builds it, as
 # gateway/out/gateway. s3: a tenant, a key, the gateway and an aws-cli, in one screen. test-gateway: its tests, before the proved
 # program. clients: stock S3 clients through it, each that is there, and docs/CLIENTS.md. serving-s3: puts and gets through it
