@@ -11,8 +11,9 @@
 # sweep among 10,000 and 100,000 blocks in use; profile: the instructions of a put and of a get, and the functions that take
 # most (all bench/README.md).
 # memory: the stored run with each allocation refused in turn. others: drawn scripts of two tenants, each of whom is answered as
-# where the other's events, sweeps and reports are left out.
-.PHONY: demo try build test gate times wrong-bodies stamps lint bench lookups versions serving bodies blocks uploads pages quotas sweeps profile memory others
+# where the other's events, sweeps and reports are left out. front: nginx before the program, as deploy/nginx.conf has it, and
+# slow clients.
+.PHONY: demo try build test gate times wrong-bodies stamps lint bench lookups versions serving bodies blocks uploads pages quotas sweeps profile memory others front
 
 demo:
 	@tools/bucketd <crates/bucketd/stdin
@@ -79,6 +80,23 @@ memory:
 
 others:
 	@tools/draw-others
+
+front:
+	@tools/front $(PROGRAM)
+
+# For a machine that runs a host (docs/OPERATING.md). install: the proved program, or PROGRAM=.., its page for man, completions for
+# bash, units and nginx's configuration, below PREFIX=/usr/local, which is below DESTDIR where that is given; uninstall takes them
+# away. manual: makes the page and the completions of what the program's help says.
+.PHONY: install uninstall manual
+
+install:
+	@PREFIX="$(PREFIX)" DESTDIR="$(DESTDIR)" PROGRAM="$(PROGRAM)" tools/install
+
+uninstall:
+	@PREFIX="$(PREFIX)" DESTDIR="$(DESTDIR)" tools/install --remove
+
+manual:
+	@tools/manual $(PROGRAM)
 
 # The gateway, a second program for stock S3 clients (gateway/, in Go; needs Debian's golang-go). gateway: builds it, as
 # gateway/out/gateway. s3: a tenant, a key, the gateway and an aws-cli, in one screen. test-gateway: its tests, before the proved

@@ -1,0 +1,45 @@
+# made by tools/manual of what 'bucketd help' says: it isn't changed by hand
+
+_bucketd() {
+    local word=${COMP_WORDS[COMP_CWORD]} before=${COMP_WORDS[COMP_CWORD - 1]} words= option
+    COMPREPLY=()
+    # bash takes '--file=x' for three words.
+    if [ "$word" = = ]; then
+        word=
+    elif [ "$before" = = ]; then
+        before=${COMP_WORDS[COMP_CWORD - 2]}
+    fi
+    if [ "$COMP_CWORD" -gt 1 ]; then
+        case $before in
+        --file)
+            compopt -o filenames 2>/dev/null
+            mapfile -t COMPREPLY < <(compgen -f -- "$word")
+            return
+            ;;
+        --at | --block-size | --cache-blocks | --count | --limit | --max-body | --min-part | --name | --port | --quota | --secret | --tenant | --timeout)
+            return
+            ;;
+        esac
+        case ${COMP_WORDS[1]} in
+        script) words=" --block-size --min-part --max-body --cache-blocks --help " ;;
+        init) words=" --file --min-part --max-body --help " ;;
+        tenant-add) words=" --file --tenant --quota --at --help " ;;
+        quota) words=" --file --tenant --quota --at --help " ;;
+        key-add) words=" --file --tenant --name --secret --at --help " ;;
+        key-remove) words=" --file --tenant --name --at --help " ;;
+        usage) words=" --file --tenant --at --help " ;;
+        report) words=" --file --at --help " ;;
+        sweep) words=" --file --limit --at --help " ;;
+        serve) words=" --file --port --count --timeout --block-size --cache-blocks --help " ;;
+        help) [ "$COMP_CWORD" -gt 2 ] || words=" script init tenant-add quota key-add key-remove usage report sweep serve " ;;
+        esac
+        # No option comes twice.
+        for option in "${COMP_WORDS[@]:2:COMP_CWORD - 2}"; do
+            words=${words/ $option / }
+        done
+    else
+        words=" script init tenant-add quota key-add key-remove usage report sweep serve help --help "
+    fi
+    mapfile -t COMPREPLY < <(compgen -W "$words" -- "$word")
+}
+complete -F _bucketd bucketd
