@@ -60,10 +60,9 @@ def fault_of(request, answer):
         length = int(value) if name == b"content-length" else length
     if names:
         return "no connection: close at the end"
-    if body and len(body) != length:
+    is_head = request.lstrip(b"\r\n").startswith(b"HEAD ")
+    if len(body) != (0 if is_head else length or 0):
         return f"a body of {len(body)} bytes where {length} are told"
-    if not body and length and not request.lstrip(b"\r\n").startswith(b"HEAD "):
-        return f"no body where {length} bytes are told"
     return None
 
 
