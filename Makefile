@@ -11,8 +11,9 @@
 # sweep among 10,000 and 100,000 blocks in use; profile: the instructions of a put and of a get, and the functions that take
 # most (all bench/README.md).
 # memory: the stored run with each allocation refused in turn. others: drawn scripts of two tenants, each of whom is answered as
-# where the other's events, sweeps and reports are left out.
-.PHONY: demo try build test gate times wrong-bodies stamps lint bench lookups versions serving bodies blocks uploads pages quotas sweeps profile memory others
+# where the other's events, sweeps and reports are left out. hostile: what is made to break the program, at its full size; edits:
+# ten minutes of edited requests, by a script and over a socket.
+.PHONY: demo try build test gate times wrong-bodies stamps lint bench lookups versions serving bodies blocks uploads pages quotas sweeps profile memory others hostile edits
 
 demo:
 	@tools/bucketd <crates/bucketd/stdin
@@ -79,6 +80,12 @@ memory:
 
 others:
 	@tools/draw-others
+
+hostile:
+	@tools/hostile $(PROGRAM) --long
+
+edits:
+	@tools/draw-hostile $(PROGRAM) --seconds 600
 
 # The gateway, a second program for stock S3 clients (gateway/, in Go; needs Debian's golang-go). gateway: builds it, as
 # gateway/out/gateway. s3: a tenant, a key, the gateway and an aws-cli, in one screen. test-gateway: its tests, before the proved
