@@ -45,6 +45,11 @@ def program_of(words):
     return made.stdout.strip()
 
 
+def is_fast(program):
+    """Whether a program is none that checks itself as it runs, nor one that Rattle's own compiler built."""
+    return "/tried/" not in program and not program.endswith(".by-rattle")
+
+
 def fault_of(request, answer):
     """What is wrong with an answer as a response, or none: its head has the lines of a response alone."""
     head, end, body = answer.partition(b"\r\n\r\n")
