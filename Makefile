@@ -12,8 +12,9 @@
 # most (all bench/README.md).
 # memory: the stored run with each allocation refused in turn. others: drawn scripts of two tenants, each of whom is answered as
 # where the other's events, sweeps and reports are left out. front: nginx before the program, as deploy/nginx.conf has it, and
-# slow clients.
-.PHONY: demo try build test gate times wrong-bodies stamps lint bench lookups versions serving bodies blocks uploads pages quotas sweeps profile memory others front
+# slow clients. hostile: what is made to break the program, at its full size; edits: ten minutes of edited requests, by a script
+# and over a socket.
+.PHONY: demo try build test gate times wrong-bodies stamps lint bench lookups versions serving bodies blocks uploads pages quotas sweeps profile memory others front hostile edits
 
 demo:
 	@tools/bucketd <crates/bucketd/stdin
@@ -80,6 +81,12 @@ memory:
 
 others:
 	@tools/draw-others
+
+hostile:
+	@tools/hostile $(PROGRAM) --long
+
+edits:
+	@tools/draw-hostile $(PROGRAM) --seconds 600
 
 front:
 	@tools/front $(PROGRAM)

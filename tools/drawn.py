@@ -139,3 +139,43 @@ def cut(body, span):
     first = max(0, len(body) - span[1]) if span[0] == "-" else span[0]
     sent = body[first : span[2] + 1] if span[0] != "-" and span[2:] else body[first:]
     return (sent, first) if sent else None
+
+
+def name_of(key, prefix, delimiter):
+    """The name under which a key is listed, and whether it is one that was rolled up."""
+    at = key.find(delimiter, len(prefix)) if delimiter else -1
+    return (key, False) if at < 0 else (key[: at + len(delimiter)], True)
+
+
+def page(current, prefix, delimiter, after, size):
+    """The entries of a page, and the last one's name where some are left over."""
+    most = 1000 if size is None else min(size, 1000)
+    entries = []
+    for key in sorted(current, key=str.encode):
+        if key.startswith(prefix):
+            entry = name_of(key, prefix, delimiter)
+            # The keys of a rolled-up name stand together.
+            if (after is None or entry[0].encode() > after) and entries[-1:] != [entry]:
+                entries.append(entry)
+    shown = entries[:most]
+    return most, shown, shown[-1][0] if shown and len(entries) > most else None
+
+
+def document(current, prefix, most, shown, following):
+    """The document of a page of objects; `current`: the size and checksum of each key's."""
+    contents = [
+        {"ChecksumSHA256": current[key][1], "Key": key, "LastModified": "1970-01-01T00:00:00Z", "Size": current[key][0]}
+        for key, rolled in shown
+        if not rolled
+    ]
+    told = {
+        "CommonPrefixes": [{"Prefix": name} for name, rolled in shown if rolled],
+        "Contents": contents,
+        "IsTruncated": following is not None,
+        "KeyCount": len(shown),
+        "MaxKeys": most,
+        "Name": "plans",
+    }
+    if following is not None:
+        told["NextContinuationToken"] = following.encode().hex()
+    return json.dumps(told | {"Prefix": prefix}, ensure_ascii=False, separators=(",", ":"))

@@ -18,7 +18,7 @@ const START: &str = r#"{"at":0,"op":"tenant-add","tenant":"green","quota":100000
 const BLOCKS: &str =
     "SELECT ord || ' ' || CAST(bytes AS TEXT) || ',' FROM blocks ORDER BY ord, bytes";
 
-/// `DIGEST: STEP; STEP..`: what the sweeps are answered, and then the blocks, each with its ordinal. DIGEST is `constant`,
+/// `DIGEST: STEP; STEP..`: what sweeps and reports are answered, then the blocks, each with its ordinal. DIGEST is `constant`,
 /// `parity` (of the number of bytes) or `sha256`.
 pub fn answer(alloc: Global, input: &str) -> Answer {
     let (digest, steps) = input.split_once(": ").ok_or(Fault::Form)?;
@@ -38,6 +38,7 @@ fn script_of(alloc: Global, steps: &str) -> Answer {
             Some(("store", bytes)) => push_store(alloc, &mut script, bytes)?,
             Some(("fill", count)) => push_numbers(alloc, &mut script, number(count)?)?,
             Some(("remove", limit)) => push_sweep(alloc, &mut script, limit)?,
+            Some(("event", line)) => script.push_str(format!(in alloc; "{line}\n")?.as_str())?,
             _ => return Err(Fault::Form),
         }
     }
@@ -92,9 +93,9 @@ fn shown<D: Digester + Drop>(alloc: Global, digester: D, script: &str) -> Answer
     Ok(text)
 }
 
-/// What a sweep was answered, in brackets.
+/// What a sweep or a report was answered, in brackets.
 fn push_swept(alloc: Global, text: &mut String, reply: &[u8]) -> Result<(), AllocError> {
-    if !reply.starts_with(b"sweep") {
+    if !reply.starts_with(b"sweep") && !reply.starts_with(b"blocks") {
         return Ok(());
     }
     let told = String::from_utf8_lossy(alloc, reply)?;
