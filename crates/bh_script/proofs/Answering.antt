@@ -14,12 +14,13 @@ use Rattle.bh_event.specs.Lines.{told_by}
 use Rattle.bh_types.specs.Limits.{HostLimits}
 use Rattle.bh_tables.specs.Typed.{Tables}
 use Rattle.bh_view.specs.Laws.{new_host}
+use Rattle.bh_view.specs.View.{limits_in}
 use Rattle.bh_storage.specs.Calls.{Seen}
-use Rattle.bh_host.specs.Runs.{Told, Ran}
+use Rattle.bh_host.specs.Runs.{Told, Ran, HasRun}
 use Rattle.bh_host.specs.Turns.{AppliedTo, IsToldApart, fixed}
-use Rattle.bh_host.proofs.Running.{ran-append}
+use Rattle.bh_host.proofs.Running.{each_is_alone, ran-append}
 use Rattle.bh_script.specs.Lines.{lines, events_in, events_of, then_told, bad_line_from, bad_or}
-use Rattle.bh_script.specs.Answers.{first_tables, reply_line, replies_text, end_text, answer_text, AnswersLines, AppendsFront, Writes, WritesLines, WritesScript}
+use Rattle.bh_script.specs.Answers.{first_tables, reply_line, replies_text, end_text, answer_text, AnswersLines, AppendsFront, Writes, WritesLines, WritesScript, WritesScriptAlone}
 use Rattle.bh_script.specs.declared.input.BadLine.{BadLine}
 
 -- ---- texts that were appended
@@ -234,3 +235,16 @@ pub by_new_host : {X E : Type 0} (limits : HostLimits) (input : List ℕ) (first
     → WritesLines 1 (lines input) first end result old new → WritesScript limits input result old new
 by_new_host limits input first end result old new is (text, (dones, ran, told), out) =
     (text, (dones, (end, subst (λ t. Ran (events_of input) dones t end) is ran), told), out)
+
+first_limits : (limits : HostLimits) → limits_in (first_tables limits) ≡ limits
+unfolding limits_in
+first_limits limits = refl
+
+-- each tenant was alone in it
+pub script_alone : {X E : Type 0} (limits : HostLimits) (input : List ℕ) (result : Result X E) (old new : Option (List ℕ))
+    → WritesScript limits input result old new → WritesScriptAlone limits input result old new
+script_alone limits input result old new (text, (dones, (end, ran), told), out) =
+    let alone = each_is_alone (events_of input) dones (first_tables limits) end ran in
+    let has_run : HasRun limits (events_of input) dones alone.0 (first_tables limits) end =
+    subst (λ l. HasRun l (events_of input) dones alone.0 (first_tables limits) end) (first_limits limits) alone.1 in
+    (text, (dones, (end, ran, (alone.0, has_run)), told), out)

@@ -3,7 +3,7 @@ use Rattle.std.specs.Prelude.{◌≡◌, ℕ, Bool, true, false, List, [], ◌�
 use Rattle.std.specs.Io.KnownBytes.{Appends}
 use Rattle.std.specs.List.{flat_map}
 use Rattle.bh_event.specs.Events.{Arrival}
-use Rattle.bh_host.specs.Runs.{Told, Ran}
+use Rattle.bh_host.specs.Runs.{Told, Turn, Ran, HasRun}
 use Rattle.bh_tables.specs.Typed.{Tables}
 use Rattle.bh_types.specs.Limits.{HostLimits}
 use Rattle.bh_view.specs.Laws.{new_host}
@@ -44,6 +44,13 @@ answer_text dones bad = replies_text dones ++ end_text bad
 abbrev pub AnswersScript : HostLimits → List ℕ → List ℕ → Type 0
 AnswersScript limits input text = (dones : List Told) × AnewRan limits (events_of input) dones × (text ≡ answer_text dones (bad_line_of input))
 
+-- the same, and each tenant is alone in it
+abbrev pub AnewAlone : HostLimits → List Arrival → List Told → Type 0
+AnewAlone limits events dones = (end : Tables) × Ran events dones (first_tables limits) end × ((turns : List Turn) × HasRun limits events dones turns (first_tables limits) end)
+
+abbrev pub AnswersScriptAlone : HostLimits → List ℕ → List ℕ → Type 0
+AnswersScriptAlone limits input text = (dones : List Told) × AnewAlone limits (events_of input) dones × (text ≡ answer_text dones (bad_line_of input))
+
 -- the same of lines that are counted from a number on, by a host whose tables are `first` before them and `end` after
 abbrev pub AnswersLines : ℕ → List (List ℕ) → Tables → Tables → List ℕ → Type 0
 AnswersLines number lines first end text =
@@ -70,6 +77,10 @@ WritesLines number lines first end result old new = (text : List ℕ) × Answers
 -- a text that answers a script was appended: whole on Ok, and on Err a front of it
 abbrev pub WritesScript : {X E : Type 0} → HostLimits → List ℕ → Result X E → Option (List ℕ) → Option (List ℕ) → Type 0
 WritesScript limits input result old new = (text : List ℕ) × AnswersScript limits input text × Writes text result old new
+
+-- the same of a text in which each tenant is alone
+abbrev pub WritesScriptAlone : {X E : Type 0} → HostLimits → List ℕ → Result X E → Option (List ℕ) → Option (List ℕ) → Type 0
+WritesScriptAlone limits input result old new = (text : List ℕ) × AnswersScriptAlone limits input text × Writes text result old new
 
 -- whether it is the writer that failed
 abbrev pub is_write : ScriptError → Bool

@@ -3,7 +3,7 @@ ghost use Rattle.sqlite.specs.Held.{state};
 ghost use Rattle.sqlite.specs.Steps.{over_memory};
 ghost use Rattle.bh_create.specs.Creation.{IsNewHost};
 ghost use Rattle.bh_script.specs.Lines.{bad_line_of};
-ghost use Rattle.bh_script.specs.Answers.{WritesScript, is_write};
+ghost use Rattle.bh_script.specs.Answers.{WritesScript, WritesScriptAlone, is_write};
 
 use crate::answers::answer_lines;
 use crate::error::ScriptError;
@@ -35,6 +35,7 @@ pub fn answer_script<W: Write>(
 ) -> Result<Option<BadLine>, ScriptError>
     requires { writer.old.failed ≡ false }
     ensures answers { WritesScript limits bytes.now result (W.contents writer.old.inner) (W.contents writer.new.inner) }
+    ensures alone { WritesScriptAlone limits bytes.now result (W.contents writer.old.inner) (W.contents writer.new.inner) }
     ensures bad_line { IfOk result (λ bad_line. bad_line ≡ bad_line_of bytes.now) }
     ensures going { OnOk result (writer.new.failed ≡ false) }
     ensures failed { IfErr result (λ e. writer.new.failed ≡ is_write e) }

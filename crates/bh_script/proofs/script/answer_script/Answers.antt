@@ -1,7 +1,7 @@
 use Rattle.bh_create.proofs.Memory.{is_intact, is_open}
 use Rattle.bh_script.specs.Answers.{first_tables}
 use Rattle.bh_script.specs.Lines.{lines}
-use Rattle.bh_script.proofs.Answering.{fails, nothing_sent, failing_text, answers_failing, made_first, by_new_host}
+use Rattle.bh_script.proofs.Answering.{fails, nothing_sent, failing_text, answers_failing, made_first, by_new_host, script_alone}
 use Rattle.bh_script.proofs.script.answer_script.Goals as goal
 use Rattle.std.proofs.Common.{refl}
 
@@ -24,3 +24,20 @@ returns-clause-answers g c =
     let made = c.in_ok-storage.ensures in
     by_new_host c.args.limits c.args.bytes.now _ _ c.answer_lines.result (g.W.Write.contents c.args.writer.now.inner) (g.W.Write.contents c.answer_lines.new.writer.inner)
     (made_first _ c.args.limits _ made.made.tables made.limits) c.answer_lines.ensures.answers
+
+pub returns-in_err-storage-clause-alone : goal.returns-in_err-storage-clause-alone
+returns-in_err-storage-clause-alone g c =
+    let old = g.W.Write.contents c.args.writer.now.inner in
+    let first = first_tables c.args.limits in
+    let text = failing_text 1 (lines c.args.bytes.now) in
+    script_alone c.args.limits c.args.bytes.now c.from_residual.result old old
+    (by_new_host c.args.limits c.args.bytes.now first first c.from_residual.result old old refl
+    (text, answers_failing 1 (lines c.args.bytes.now) first, fails c.from_residual.result old old text c.from_residual.ensures.0 (nothing_sent old text)))
+
+pub returns-clause-alone : goal.returns-clause-alone
+returns-clause-alone g c =
+    let made = c.in_ok-storage.ensures in
+    let old = g.W.Write.contents c.args.writer.now.inner in
+    let new = g.W.Write.contents c.answer_lines.new.writer.inner in
+    script_alone c.args.limits c.args.bytes.now c.answer_lines.result old new
+    (by_new_host c.args.limits c.args.bytes.now _ _ c.answer_lines.result old new (made_first _ c.args.limits _ made.made.tables made.limits) c.answer_lines.ensures.answers)
