@@ -42,8 +42,8 @@ def functions(lines):
 
 def body_of(lines, first, indent):
     """The first and last line of the body of the function that begins at a line: its brace stands alone after
-    clauses, and else ends the signature."""
-    has_clauses = False
+    clauses, and else ends the signature. Within the braces of a clause a line may end as anything."""
+    has_clauses, depth = False, 0
     for at in range(first, len(lines)):
         line = lines[at]
         has_clauses = has_clauses or bool(CLAUSE.match(line))
@@ -51,7 +51,8 @@ def body_of(lines, first, indent):
             ends = (end for end in range(at + 1, len(lines)) if lines[end] == indent + "}")
             last = next(ends, None)
             return None if last is None else (at, last)
-        if line.endswith(";") or (not has_clauses and line.endswith("}")) or (at > first and FUNCTION.match(line)):
+        depth += line.count("{") - line.count("}") if has_clauses else 0
+        if depth == 0 and (line.endswith(";") or (not has_clauses and line.endswith("}")) or (at > first and FUNCTION.match(line))):
             return None
     return None
 
