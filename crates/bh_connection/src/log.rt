@@ -50,7 +50,7 @@ fn time_text(alloc: Global, reading: u64) -> Result<String, AllocError> {
     }
 }
 
-/// The tenant, the method and the target.
+/// The tenant, the method and the target. Of a line that is no request line nothing is told: a secret may stand there.
 fn asked_text(alloc: Global, bytes: &[u8]) -> Result<String, AllocError> {
     let mut headers = [EMPTY_HEADER; MAX_FIELDS];
     let mut request = Request::new(&mut headers);
@@ -60,8 +60,12 @@ fn asked_text(alloc: Global, bytes: &[u8]) -> Result<String, AllocError> {
     } else {
         String::from_str(alloc, "-")?
     };
-    let method = cut(request.method).escape_ascii();
-    let target = cut(request.path).escape_ascii();
+    let (method, target) = match (request.method, request.path) {
+        (Some(method), Some(target)) => (method, target),
+        _ => ("-", "-"),
+    };
+    let method = cut(method).escape_ascii();
+    let target = cut(target).escape_ascii();
     format!(in alloc; "{tenant} {method} {target}")
 }
 
@@ -90,8 +94,8 @@ fn only_value<'a>(headers: &[Header<'a>], name: &str) -> Option<&'a [u8]> {
 }
 
 /// The bytes of a text that are told.
-fn cut(text: Option<&str>) -> &[u8] {
-    let bytes = text.unwrap_or("-").as_bytes();
+fn cut(text: &str) -> &[u8] {
+    let bytes = text.as_bytes();
     bytes.get(..MOST).unwrap_or(bytes)
 }
 
