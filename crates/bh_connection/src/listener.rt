@@ -29,9 +29,28 @@ pub fn serve_port<
     ensures limits { (H.seen host.new).limits ≡ (H.seen host.old).limits }
     ensures ran { H.IsIntact host.new → RanSome H.IsOpen H.seen H.left host.old host.new }
 {
-    let listener = TcpListener::bind(net, (Ipv4Addr::LOCALHOST, port))?;
+    let listener = bound(net, port)?;
     tell_address(net, &listener);
     serve_listener(net, host, &listener, clock, manner, count)
+}
+
+/// A listener on a port of 127.0.0.1.
+fn bound<N: Net<Stream = TcpStream, Listener = TcpListener> + AllocGlobal>(
+    net: &N,
+    port: u16,
+) -> io::Result<TcpListener> {
+    match TcpListener::bind(net, (Ipv4Addr::LOCALHOST, port)) {
+        Ok(listener) => Ok(listener),
+        Err(error) => Err(not_bound(net.alloc(), port, error)),
+    }
+}
+
+/// An error that names the address; where memory for its text is wanting, the error as it is.
+fn not_bound(alloc: Global, port: u16, error: io::Error) -> io::Error {
+    match format!(in alloc; "unable to listen on 127.0.0.1:{port}: {error}") {
+        Ok(text) => io::Error::new(error.kind(), text.as_str()),
+        Err(_) => error,
+    }
 }
 
 /// Says on standard error where a listener listens. What standard error doesn't take is lost.
