@@ -1,15 +1,14 @@
 //! What is asked of a host, done on its storage.
 
-ghost use Rattle.std.specs.Prelude.{ℕ, IfOk};
+ghost use Rattle.std.specs.Prelude.{IfOk};
 ghost use Rattle.bh_storage.specs.Calls.{Clean, IsAtRest};
-ghost use Rattle.bh_commands.specs.Commands.{message_of, ordered_at, IsTold, HasDone, StaysReady};
-ghost use Rattle.bh_commands.specs.declared.asked.Work.TheVariants as the_work;
+ghost use Rattle.bh_commands.specs.Commands.{message_of, ordered_at, IsTold, HasDone, HasServed, StaysReady};
 
 use crate::asked::{Serving, Work};
 use crate::fault::Fault;
 use crate::printed::Printed;
 use crate::task::Task;
-use bh_connection::{Clock, MachineClock, serve_port};
+use bh_connection::{MachineClock, serve_port};
 use bh_host::apply;
 use bh_storage::storage::Storage;
 use std::alloc::{AllocError, Global};
@@ -35,7 +34,7 @@ pub fn apply_command<H: Storage>(
 fn serve<H: Storage>(rt: &HostRuntime, host: &mut H, serving: Serving) -> Result<Printed, Fault>
     requires { Clean H.IsIntact H.IsOpen host.old → IsAtRest H.IsSound (H.seen host.old) }
     ensures stays { StaysReady H.IsIntact H.IsOpen H.IsSound H.seen host.old host.new }
-    ensures done { (reading : ℕ) → IfOk result (HasDone H.IsIntact H.IsOpen H.seen H.left (the_work.Serve serving) reading host.old host.new) }
+    ensures done { IfOk result (HasServed H.IsIntact H.IsOpen H.seen H.left host.old host.new) }
 {
     serve_port(
         rt,

@@ -2,9 +2,9 @@ use Rattle.std.proofs.Common.{inl, inr, ap, sym, ◌∙◌}
 use Rattle.bh_commands.specs.Clocks.{leaps}
 use Rattle.bh_commands.proofs.hosts.work_in_time.Goals as goal
 
-pub returns-in_ok-held_back-then : goal.returns-in_ok-held_back-then
-returns-in_ok-held_back-then g c =
-    let told = c.in_ok-held_back-then.ensures in
+pub returns-then-leaps : goal.returns-then-leaps
+returns-then-leaps g c =
+    let told = c.in_ok-held_back.ensures in
     inl (record {
       reading = c.in_ok-reading.reading;
       reads = record {
@@ -15,8 +15,8 @@ returns-in_ok-held_back-then g c =
       line = told.1;
     })
 
-pub returns-in_ok-work_on : goal.returns-in_ok-work_on
-returns-in_ok-work_on g c =
+pub returns : goal.returns
+returns g c =
     inr (record {
       reading = c.in_ok-reading.reading;
       reads = record {
