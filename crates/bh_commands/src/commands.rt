@@ -8,7 +8,7 @@ use crate::asked::{Serving, Work};
 use crate::fault::Fault;
 use crate::printed::Printed;
 use crate::task::Task;
-use bh_connection::{Clock, MachineClock, serve_port};
+use bh_connection::{MachineClock, serve_port};
 use bh_host::apply;
 use bh_storage::storage::Storage;
 use std::alloc::{AllocError, Global};
