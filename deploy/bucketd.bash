@@ -16,21 +16,21 @@ _bucketd() {
             mapfile -t COMPREPLY < <(compgen -f -- "$word")
             return
             ;;
-        --at | --block-size | --cache-blocks | --count | --limit | --max-body | --min-part | --name | --port | --quota | --secret | --tenant | --timeout)
+        --at | --block-size | --cache-blocks | --clock-leap | --count | --limit | --max-body | --min-part | --name | --port | --quota | --secret | --tenant | --timeout)
             return
             ;;
         esac
         case ${COMP_WORDS[1]} in
         script) words=" --block-size --min-part --max-body --cache-blocks --help " ;;
         init) words=" --file --min-part --max-body --help " ;;
-        tenant-add) words=" --file --tenant --quota --at --help " ;;
-        quota) words=" --file --tenant --quota --at --help " ;;
-        key-add) words=" --file --tenant --name --secret --at --help " ;;
-        key-remove) words=" --file --tenant --name --at --help " ;;
-        usage) words=" --file --tenant --at --help " ;;
-        report) words=" --file --at --help " ;;
-        sweep) words=" --file --limit --at --help " ;;
-        serve) words=" --file --port --count --timeout --block-size --cache-blocks --help " ;;
+        tenant-add) words=" --file --tenant --quota --at --clock-leap --force --help " ;;
+        quota) words=" --file --tenant --quota --at --clock-leap --force --help " ;;
+        key-add) words=" --file --tenant --name --secret --at --clock-leap --force --help " ;;
+        key-remove) words=" --file --tenant --name --at --clock-leap --force --help " ;;
+        usage) words=" --file --tenant --at --clock-leap --force --help " ;;
+        report) words=" --file --at --clock-leap --force --help " ;;
+        sweep) words=" --file --limit --at --clock-leap --force --help " ;;
+        serve) words=" --file --port --count --log --timeout --clock-leap --force --block-size --cache-blocks --help " ;;
         help) [ "$COMP_CWORD" -gt 2 ] || words=" script init tenant-add quota key-add key-remove usage report sweep serve " ;;
         esac
         # No option comes twice.
@@ -38,7 +38,7 @@ _bucketd() {
             words=${words/ $option / }
         done
     else
-        words=" script init tenant-add quota key-add key-remove usage report sweep serve help --help "
+        words=" script init tenant-add quota key-add key-remove usage report sweep serve help --help --version "
     fi
     mapfile -t COMPREPLY < <(compgen -W "$words" -- "$word")
 }
