@@ -1,4 +1,5 @@
 """bucketd serve on a file of its own, connections to it, and what an answer may look like."""
+import atexit
 import os
 import re
 import signal
@@ -45,9 +46,14 @@ def program_of(words):
     return made.stdout.strip()
 
 
+def is_checked(program):
+    """Whether a program was made without a proof: it checks itself as it runs, and takes seconds for each request."""
+    return "/tried/" in program
+
+
 def is_fast(program):
-    """Whether a program is none that checks itself as it runs, nor one that Rattle's own compiler built."""
-    return "/tried/" not in program and not program.endswith(".by-rattle")
+    """Whether it is the proved program as the C compiler built it."""
+    return not is_checked(program) and not program.endswith(".by-rattle")
 
 
 def fault_of(request, answer):
@@ -108,6 +114,7 @@ class Host:
             self.port = it.getsockname()[1]
         given = ["serve", "--file", self.name, "--port", str(self.port), "--count", "4000000000", *words]
         self.process = subprocess.Popen([self.program, *given], cwd=self.folder, stdout=subprocess.DEVNULL, stderr=subprocess.DEVNULL)
+        atexit.register(self.end)
         table = f"0100007F:{self.port:04X}"
         while self.lives():
             with open("/proc/net/tcp") as lines:
