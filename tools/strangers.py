@@ -1,4 +1,4 @@
-"""bucketd serve on a file of its own, connections to it, and what an answer may look like."""
+"""bucketd serve on a file of its own for requests of strangers, connections to it, and what an answer may look like."""
 import atexit
 import os
 import re
