@@ -10,9 +10,12 @@
 # among 1,000 and 10,000; pages: that of pages of a listing; quotas: what a quota and rules for uploads cost; sweeps: a
 # sweep among 10,000 and 100,000 blocks in use; profile: the instructions of a put and of a get, and the functions that take
 # most (all bench/README.md).
-# memory: the stored run with each allocation refused in turn. others: drawn scripts of two tenants, each of whom is answered as
+# stops: `serve` and commands killed, refused what they ask of the disk, and on a full disk, minutes (PROGRAM=..: of another bucketd);
+# breaks: connections that break after each byte; ample: drawn events by a script and by a file's server. opening: how long a file
+# is opened, and in how much memory (bench/README.md). memory: the stored run, and connections, with each allocation refused in
+# turn. others: drawn scripts of two tenants, each of whom is answered as
 # where the other's events, sweeps and reports are left out.
-.PHONY: demo try build test gate times wrong-bodies stamps lint bench lookups versions serving bodies blocks uploads pages quotas sweeps profile memory others
+.PHONY: demo try build test gate times wrong-bodies stamps lint bench lookups versions serving bodies blocks uploads pages quotas sweeps profile memory others stops breaks ample opening
 
 demo:
 	@tools/bucketd <crates/bucketd/stdin
@@ -79,6 +82,18 @@ memory:
 
 others:
 	@tools/draw-others
+
+stops:
+	@tools/stops $(PROGRAM)
+
+breaks:
+	@tools/breaks $(PROGRAM)
+
+ample:
+	@tools/ample $(PROGRAM)
+
+opening:
+	@bench/opening.py $(PROGRAM)
 
 # The gateway, a second program for stock S3 clients (gateway/, in Go; needs Debian's golang-go). gateway: builds it, as
 # gateway/out/gateway. s3: a tenant, a key, the gateway and an aws-cli, in one screen. test-gateway: its tests, before the proved

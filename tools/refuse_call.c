@@ -34,8 +34,15 @@ static long count = 0, number = -1, error = EIO;
 static unsigned long seed = 1;
 static const char *does = "";
 
+static ssize_t (*pwrite_of)(int, const void *, size_t, off_t);
+static int (*ftruncate_of)(int, off_t);
+
+static void *next(const char *name) { return dlsym(RTLD_NEXT, name); }
+
 __attribute__((constructor)) static void begin(void) {
     const char *text;
+    pwrite_of = next("pwrite");
+    ftruncate_of = next("ftruncate");
     if ((text = getenv("CALL_NUMBER"))) number = atol(text);
     if ((text = getenv("CALL_ERROR"))) error = atol(text);
     if ((text = getenv("CALL_SEED"))) seed = strtoul(text, NULL, 10);
@@ -50,11 +57,6 @@ __attribute__((destructor)) static void tell(void) {
         fclose(out);
     }
 }
-
-static ssize_t (*pwrite_of)(int, const void *, size_t, off_t);
-static int (*ftruncate_of)(int, off_t);
-
-static void *next(const char *name) { return dlsym(RTLD_NEXT, name); }
 
 static int is_regular(int file) {
     struct stat found;
@@ -148,7 +150,6 @@ static size_t part(int file, size_t size) {
 }
 
 ssize_t pwrite(int file, const void *bytes, size_t size, off_t at) {
-    if (!pwrite_of) pwrite_of = next("pwrite");
     if (is_refused(file)) return -1;
     if (notes(file) && size > 0) note(file, at, size, 0);
     return pwrite_of(file, bytes, part(file, size), at);
@@ -203,7 +204,6 @@ int fdatasync(int file) {
 
 int ftruncate(int file, off_t length) {
     struct stat found;
-    if (!ftruncate_of) ftruncate_of = next("ftruncate");
     if (is_refused(file)) return -1;
     if (notes(file)) {
         // What is cut off stands again where the cut is lost.

@@ -23,6 +23,11 @@ def program_of(words):
     return made.stdout.strip()
 
 
+def is_quick(program):
+    """Whether a bucketd starts in milliseconds: one that was made without proof checks itself as it runs."""
+    return "/tried/" not in program
+
+
 def expect(name, is_well, found=""):
     (passed if is_well else failed).append(name)
     print(f"{name}: {'as expected' if is_well else found}", flush=True)
