@@ -4,12 +4,15 @@ import signal
 import socket
 import subprocess
 import sys
+import tempfile
 import time
 
 TOP = os.path.dirname(os.path.dirname(os.path.abspath(__file__)))
 COUNT = 1_000_000_000
 # Seconds that a busy machine may take for anything that is waited for.
 PATIENCE = 120
+# Where no disk is to be waited for.
+SHARED_MEMORY = "/dev/shm"
 passed, failed = [], []
 
 
@@ -21,6 +24,11 @@ def program_of(words):
     if not made.stdout.strip():
         sys.exit(f"{made.stderr[-2000:]}\n0 passed, 1 failed")
     return made.stdout.strip()
+
+
+def quick_folder(name):
+    """A new folder, in memory where the machine has such a file system."""
+    return tempfile.mkdtemp(prefix=name, dir=SHARED_MEMORY if os.path.isdir(SHARED_MEMORY) else None)
 
 
 def is_quick(program):
