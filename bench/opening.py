@@ -20,8 +20,7 @@ import sys
 import tempfile
 import time
 
-from server import free_port
-from server import Server
+from server import SHARED_MEMORY, Server, free_port
 
 TOP = os.path.dirname(os.path.dirname(os.path.abspath(__file__)))
 PROGRAM = os.path.join(TOP, "crates/bucketd/out/bucketd")
@@ -113,7 +112,7 @@ def main():
     print("| File, MB | Log, MB | Pages | after | until it listens, s | resident, MB | `usage`, s |\n|---|---|---|---|---|---|---|")
     for megabytes in sizes:
         for size, has_sums in PAGES:
-            folder = tempfile.mkdtemp(prefix="opening-")
+            folder = tempfile.mkdtemp(prefix="opening-", dir=SHARED_MEMORY)
             try:
                 file = make(program, folder, size, has_sums)
                 with Server(program, folder) as on:
