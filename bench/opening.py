@@ -3,9 +3,9 @@
 
     bench/opening.py [PROGRAM [MEGABYTES..]]      the proved program, and files of 10 and 100 MB
 
-The file is filled by `serve` with objects of 4 MiB. Told are the seconds from the start of `serve` until it listens, the least of
-three, the greatest resident memory then, and the seconds of the command `usage`, which also copies the log into the file and
-closes it. After a clean end the log is empty; after a kill it has what up to 9,000 pages' writes left.
+The file is filled by `serve` with objects of 4 MiB. Told are the seconds from the start of `serve` until it listens, by the clock
+and of a processor, the least of three, the greatest resident memory then, and the seconds of the command `usage`, which also
+copies the log into the file and closes it. After a clean end the log is empty; after a kill it has up to 34 MB.
 
 `init` makes pages of 4 KiB with a sum each. It takes a file of no tables as well, and keeps its pages: those of 16 and 64 KiB are
 files of one page that Python's sqlite3 made, to which the sums of SQLite's cksumvfs are added here.
@@ -28,6 +28,8 @@ OBJECT = 4 << 20
 # Bytes that the log may have where it isn't copied into the file yet: fewer than 10,000 pages of 4 KiB.
 LOGGED = 32 << 20
 PAGES = [(4096, True), (4096, False), (16384, True), (65536, True), (65536, False)]
+# Files from this size on are made with sums alone.
+MANY_MEGABYTES = 1000
 
 
 def sum_of(page):
@@ -76,7 +78,8 @@ def fill(program, folder, total):
 
 
 def listens(program, file):
-    """Seconds until a server listens, and the greatest resident memory so far in 2^20 bytes. It is killed then."""
+    """Seconds until a server listens, by the clock and of a processor, and the greatest resident memory so far in 2^20 bytes. It is
+    killed then."""
     port = free_port()
     table = f"0100007F:{port:04X}"
     before = time.perf_counter()
@@ -89,8 +92,9 @@ def listens(program, file):
     with open(f"/proc/{process.pid}/status") as status:
         memory = int(re.search(r"VmHWM:\s+(\d+)", status.read()).group(1)) / 1024
     process.kill()
-    process.wait()
-    return seconds, memory
+    _, _, used = os.wait4(process.pid, 0)
+    process.returncode = -9
+    return seconds, used.ru_utime + used.ru_stime, memory
 
 
 def used(program, file):
@@ -103,15 +107,15 @@ def row(program, file, name, size, has_sums):
     length, log = (os.path.getsize(file + tail) / 1e6 for tail in ("", "-wal"))
     times = [listens(program, file) for _ in range(3)]
     print(f"| {length:.0f} | {log:.0f} | {size // 1024} KiB{'' if has_sums else ', no sums'} | {name} | {min(it[0] for it in times):.2f} | "
-          f"{max(it[1] for it in times):.0f} | {used(program, file):.2f} |", flush=True)
+          f"{min(it[1] for it in times):.2f} | {max(it[2] for it in times):.0f} | {used(program, file):.2f} |", flush=True)
 
 
 def main():
     program = os.path.abspath(sys.argv[1]) if sys.argv[1:] else PROGRAM
     sizes = [int(it) for it in sys.argv[2:]] or [10, 100]
-    print("| File, MB | Log, MB | Pages | after | until it listens, s | resident, MB | `usage`, s |\n|---|---|---|---|---|---|---|")
+    print("| File, MB | Log, MB | Pages | after | until it listens, s | of a processor, s | resident, MB | `usage`, s |\n|---|---|---|---|---|---|---|---|")
     for megabytes in sizes:
-        for size, has_sums in PAGES:
+        for size, has_sums in PAGES if megabytes < MANY_MEGABYTES else [it for it in PAGES if it[1]]:
             folder = tempfile.mkdtemp(prefix="opening-", dir=SHARED_MEMORY)
             try:
                 file = make(program, folder, size, has_sums)
