@@ -10,11 +10,13 @@
 # among 1,000 and 10,000; pages: that of pages of a listing; quotas: what a quota and rules for uploads cost; sweeps: a
 # sweep among 10,000 and 100,000 blocks in use; profile: the instructions of a put and of a get, and the functions that take
 # most (all bench/README.md).
-# memory: the stored run with each allocation refused in turn. others: drawn scripts of two tenants, each of whom is answered as
-# where the other's events, sweeps and reports are left out. front: nginx before the program, as deploy/nginx.conf has it, and
-# slow clients. hostile: what is made to break the program, at its full size; edits: ten minutes of edited requests, by a script
-# and over a socket.
-.PHONY: demo try build test gate times wrong-bodies stamps lint bench lookups versions serving bodies blocks uploads pages quotas sweeps profile memory others front hostile edits
+# stops: `serve` and commands killed, refused what they ask of the disk, and on a full disk, minutes (PROGRAM=..: of another bucketd);
+# breaks: connections that break after each byte; ample: drawn events by a script and by a file's server. opening: how long a file
+# is opened, and in how much memory (bench/README.md). memory: the stored run, and connections, with each allocation refused in
+# turn. others: drawn scripts of two tenants, each of whom is answered as where the other's events, sweeps and reports are left
+# out. front: nginx before the program, as deploy/nginx.conf has it, and slow clients. hostile: what is made to break the program,
+# at its full size; edits: ten minutes of edited requests, by a script and over a socket.
+.PHONY: demo try build test gate times wrong-bodies stamps lint bench lookups versions serving bodies blocks uploads pages quotas sweeps profile memory others stops breaks ample opening front hostile edits
 
 demo:
 	@tools/bucketd <crates/bucketd/stdin
@@ -81,6 +83,18 @@ memory:
 
 others:
 	@tools/draw-others
+
+stops:
+	@tools/stops $(PROGRAM)
+
+breaks:
+	@tools/breaks $(PROGRAM)
+
+ample:
+	@tools/ample $(PROGRAM)
+
+opening:
+	@bench/opening.py $(PROGRAM)
 
 hostile:
 	@tools/hostile $(PROGRAM) --long

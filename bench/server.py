@@ -41,7 +41,7 @@ class Asked:
     """A server of requests, asked over loopback, a connection a request."""
 
     def wait(self):
-        for _ in range(500):
+        for _ in range(5000):
             try:
                 return socket.create_connection(("127.0.0.1", self.port), timeout=5).close()
             except ConnectionRefusedError:
