@@ -103,7 +103,7 @@ edits:
 	@tools/draw-hostile $(PROGRAM) --seconds 600
 
 front:
-	@tools/front $(PROGRAM)
+	@tools/front --each $(PROGRAM)
 
 # For a machine that runs a host (docs/OPERATING.md). install: the proved program, or PROGRAM=.., its page for man, completions for
 # bash, units and nginx's configuration, below PREFIX=/usr/local, which is below DESTDIR where that is given; uninstall takes them
