@@ -3,7 +3,8 @@ ghost use Rattle.bh_words.specs.Lines.{command_line};
 ghost use Rattle.bh_words.specs.Readings as spec;
 
 use crate::given::{
-    GivenError, clock, is_given, leap, limits, needed, number, port, secret, small_number, text, tuning,
+    GivenError, clock, is_given, leap, limits, needed, number, port, secret, small_number, text,
+    tuning,
 };
 use crate::lines::Line;
 use crate::options::OptionName;
