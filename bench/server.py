@@ -99,7 +99,7 @@ class Server(Asked):
             self.command(program, "init")
             self.command(program, "tenant-add", "--tenant", "green", "--quota", str(1 << 40))
             self.command(program, "key-add", "--tenant", "green", "--name", "k1", "--secret", "greensecret")
-        self.process = subprocess.Popen([program, "serve", "--file", self.file, "--port", str(self.port), "--count", str((1 << 32) - 1), *words])
+        self.process = subprocess.Popen([program, "serve", "--file", self.file, "--port", str(self.port), "--count", str(10**9), *words])
         self.wait()
         if is_new:
             self.ask(b"PUT", "", b"")
