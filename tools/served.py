@@ -117,6 +117,11 @@ class Host:
                     return
             time.sleep(0.01)
 
+    def spent(self):
+        """The seconds that the program has been on a processor: what else the machine does is none of them."""
+        with open(f"/proc/{self.process.pid}/schedstat") as it:
+            return int(it.read().split()[0]) / 1e9
+
     def lives(self):
         return self.process.poll() is None
 
