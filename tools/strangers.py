@@ -46,14 +46,9 @@ def program_of(words):
     return made.stdout.strip()
 
 
-def is_checked(program):
-    """Whether a program was made without a proof: it checks itself as it runs, and takes seconds for each request."""
-    return "/tried/" in program
-
-
 def is_fast(program):
-    """Whether it is the proved program as the C compiler built it."""
-    return not is_checked(program) and not program.endswith(".by-rattle")
+    """Whether it is a proved program as the C compiler built it; Rattle's own compiler builds a slower one."""
+    return not program.endswith(".by-rattle") and "/tried/" not in program
 
 
 def fault_of(request, answer):
@@ -121,6 +116,11 @@ class Host:
                 if any(line.split()[1] == table and line.split()[3] == "0A" for line in lines):
                     return
             time.sleep(0.01)
+
+    def spent(self):
+        """The seconds that the program has been on a processor: what else the machine does is none of them."""
+        with open(f"/proc/{self.process.pid}/schedstat") as it:
+            return int(it.read().split()[0]) / 1e9
 
     def lives(self):
         return self.process.poll() is None
