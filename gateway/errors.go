@@ -3,6 +3,7 @@ package main
 import (
 	"fmt"
 	"log"
+	"runtime"
 )
 
 // apiError is an error as S3 tells it (Amazon S3 API Reference, "Error responses"). What answers a call panics with one, and
@@ -11,14 +12,13 @@ type apiError struct {
 	code    string
 	status  int
 	message string
-	region  string            // where the code has one to tell
 	fields  map[string]string // of the response's head
 }
 
 func (e *apiError) Error() string { return e.code + ": " + e.message }
 
 func newError(code string, status int, message string) *apiError {
-	return &apiError{code: code, status: status, message: message}
+	return &apiError{code, status, message, map[string]string{}}
 }
 
 func notImplemented(what string) *apiError {
@@ -27,9 +27,15 @@ func notImplemented(what string) *apiError {
 
 func invalid(message string) *apiError { return newError("InvalidArgument", 400, message) }
 
+func invalidRequest(message string) *apiError { return newError("InvalidRequest", 400, message) }
+
+func malformedXML(message string) *apiError { return newError("MalformedXML", 400, message) }
+
+func accessDenied(message string) *apiError { return newError("AccessDenied", 403, message) }
+
 func slowDown(message string) *apiError { return newError("SlowDown", 503, message) }
 
-func methodNotAllowed() *apiError { return newError("MethodNotAllowed", 405, "there is no such call") }
+var preconditionFailed = newError("PreconditionFailed", 412, "a condition of the request is not met")
 
 // refuseIf ends a call that is at fault.
 func refuseIf(isSo bool, e *apiError) {
@@ -53,8 +59,10 @@ func try(act func()) (e *apiError) {
 		case nil:
 		case *apiError:
 			e = it
+		case runtime.Error:
+			panic(it)
 		case error:
-			if _, isDefect := it.(interface{ RuntimeError() }); isDefect || it == errBroken {
+			if it == errBroken {
 				panic(it)
 			}
 			log.Print(it)
@@ -94,11 +102,10 @@ var renamed = map[int]string{1: "InvalidRequest", 11: "MalformedXML", 29: "Inter
 
 // The error that a refused request to bucketd becomes: its own code and status but for a few.
 func (r *hostResponse) refused() *apiError {
-	e := newError(renamed[r.refusal], r.status, fmt.Sprintf("the host's refusal %d %s", r.refusal, r.code))
-	if e.code == "" {
-		e.code = r.code
+	e := newError(r.code, r.status, fmt.Sprintf("the host's refusal %d %s", r.refusal, r.code))
+	if code := renamed[r.refusal]; code != "" {
+		e.code = code
 	}
-	e.fields = map[string]string{}
 	for _, name := range []string{"x-amz-delete-marker", "x-amz-version-id", "content-range", "allow"} {
 		if text := r.head.Get(name); text != "" {
 			e.fields[name] = text

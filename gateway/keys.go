@@ -41,11 +41,13 @@ func (k *keyFile) read() error {
 	info, err := os.Stat(k.name)
 	if err != nil || info.ModTime().Equal(k.changed) {
 		return err
-	}
-	if info.Mode().Perm()&0o077 != 0 {
+	} else if info.Mode().Perm()&0o077 != 0 {
 		return fmt.Errorf("%s: others may read or write it: chmod 600", k.name)
 	}
 	text, err := os.ReadFile(k.name)
+	if err != nil {
+		return err
+	}
 	secrets := map[string]string{}
 	for number, line := range strings.Split(string(text), "\n") {
 		words := strings.Fields(line)
@@ -58,10 +60,8 @@ func (k *keyFile) read() error {
 		}
 		secrets[words[0]] = words[1]
 	}
-	if err == nil {
-		k.secrets, k.changed = secrets, info.ModTime()
-	}
-	return err
+	k.secrets, k.changed = secrets, info.ModTime()
+	return nil
 }
 
 func isPrintable(text string) bool {
