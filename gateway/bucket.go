@@ -58,10 +58,8 @@ func (c *call) deleteBucket() {
 
 func (c *call) getLocation() {
 	c.need(c.request("HEAD"))
-	c.sendDocument("LocationConstraint", func(x *xmlWriter) {
-		// (S3's first region has no name there)
-		x.WriteString(strings.TrimPrefix(c.server.region, "us-east-1"))
-	})
+	// (S3's first region has no name there)
+	c.sendDocument("LocationConstraint", func(x *xmlWriter) { x.WriteString(strings.TrimPrefix(c.server.region, "us-east-1")) })
 }
 
 func (c *call) listBuckets() {
@@ -148,9 +146,6 @@ func (c *call) listObjects() {
 		}
 	})
 }
-
-// A moment of bucketd's, which has whole seconds, in S3's form.
-func milliseconds(moment string) string { return strings.TrimSuffix(moment, "Z") + ".000Z" }
 
 // Deletes up to 1000 objects or versions; each has an error of its own.
 func (c *call) deleteObjects() {

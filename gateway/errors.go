@@ -3,6 +3,7 @@ package main
 import (
 	"fmt"
 	"log"
+	"net/http"
 	"runtime"
 )
 
@@ -62,7 +63,7 @@ func try(act func()) (e *apiError) {
 		case runtime.Error:
 			panic(it)
 		case error:
-			if it == errBroken {
+			if it == http.ErrAbortHandler { // the client sees that its answer is cut
 				panic(it)
 			}
 			log.Print(it)

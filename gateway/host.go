@@ -16,6 +16,7 @@ import (
 	"runtime"
 	"strings"
 	"sync"
+	"sync/atomic"
 	"syscall"
 	"time"
 )
@@ -25,13 +26,15 @@ import (
 type host struct {
 	ahead   int
 	turn    chan struct{}
+	address atomic.Value // a string
 	mu      sync.Mutex
-	address string
 	tenants map[string]*tenant
 }
 
 func newHost(address string, ahead int) *host {
-	return &host{ahead: ahead, turn: make(chan struct{}, ahead), address: address, tenants: map[string]*tenant{}}
+	h := &host{ahead: ahead, turn: make(chan struct{}, ahead), tenants: map[string]*tenant{}}
+	h.address.Store(address)
+	return h
 }
 
 func (h *host) tenant(name string) *tenant {
@@ -46,18 +49,7 @@ func (h *host) tenant(name string) *tenant {
 	return t
 }
 
-func (h *host) dial() (net.Conn, error) {
-	h.mu.Lock()
-	address := h.address
-	h.mu.Unlock()
-	return net.Dial("tcp", address)
-}
-
-func (h *host) moveTo(address string) {
-	h.mu.Lock()
-	defer h.mu.Unlock()
-	h.address = address
-}
+func (h *host) dial() (net.Conn, error) { return net.Dial("tcp", h.address.Load().(string)) }
 
 // hostRequest is all that a request to bucketd is made of.
 type hostRequest struct {
@@ -143,16 +135,14 @@ func (h *host) ask(t *tenant, id, secret string, q *hostRequest) (*hostResponse,
 	h.turn <- struct{}{}
 	defer func() { <-h.turn }()
 	for wait := 20 * time.Millisecond; ; wait *= 2 {
+		var r *hostResponse
 		conn, err := h.dial()
 		isTaken := err == nil
 		if isTaken {
-			var r *hostResponse
-			if r, err = exchange(conn, q, q.head(id, secret)); err == nil {
-				return r, nil
-			}
+			r, err = exchange(conn, q, q.head(id, secret))
 		}
-		if isTaken && !isRead || time.Since(begun)+wait > hostPatience {
-			return nil, err
+		if err == nil || isTaken && !isRead || time.Since(begun)+wait > hostPatience {
+			return r, err
 		}
 		time.Sleep(wait)
 	}
@@ -171,27 +161,21 @@ func exchange(conn net.Conn, q *hostRequest, head string) (*hostResponse, error)
 	}
 	// (an answer may have come before the body was taken)
 	answer, failed := http.ReadResponse(bufio.NewReader(conn), &http.Request{Method: q.method})
-	if failed != nil && err != nil {
-		return nil, err
-	} else if failed != nil {
-		return nil, failed
+	if failed != nil {
+		return nil, fmt.Errorf("%v (%v)", failed, err)
 	}
 	r := &hostResponse{status: answer.StatusCode, head: answer.Header}
-	if r.status >= 300 {
-		if _, err = fmt.Sscan(r.head.Get("x-refusal"), &r.refusal, &r.code); err != nil {
-			return nil, fmt.Errorf("an answer of status %d that is no refusal", r.status)
-		}
+	if err = nil; r.status >= 300 {
+		_, err = fmt.Sscan(r.head.Get("x-refusal"), &r.refusal, &r.code)
 	}
-	if length := answer.ContentLength; q.method != "HEAD" && length > 0 {
+	if length := answer.ContentLength; err == nil && q.method != "HEAD" && length > 0 {
 		if r.body = q.buffer; int64(cap(r.body)) < length {
 			r.body = make([]byte, length)
 		}
 		r.body = r.body[:length]
-		if _, err = io.ReadFull(answer.Body, r.body); err != nil {
-			return nil, err
-		}
+		_, err = io.ReadFull(answer.Body, r.body)
 	}
-	return r, nil
+	return r, err
 }
 
 // Runs 'bucketd serve' on a host's file until the context is done, again whenever it ends. Returns when it listens, or with why it
@@ -231,7 +215,7 @@ func runHost(ctx context.Context, program, file string, h *host, tell func(error
 	if err := child.Start(); err != nil {
 		return err
 	}
-	h.moveTo("127.0.0.1:" + port)
+	h.address.Store("127.0.0.1:" + port)
 	ended := make(chan error, 1)
 	go func() { ended <- child.Wait() }()
 	for wait := 20 * time.Millisecond; ; {

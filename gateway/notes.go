@@ -149,8 +149,9 @@ func splitUpload(id string) (plain string, meta map[string]string) {
 }
 
 // What was found of a version beside its bytes is remembered, so that bucketd is asked for those alone when they are read again.
-// Its answer then says whether it is that version still. Of one with a number all of this stays as it is; of `null`, which is
-// overwritten, it is remembered only where no one writes but through this gateway (--alone), until a write begins.
+// Its answer then says whether it is that version still. Of one with a number and a note all of this stays as it is. Of `null`,
+// which is overwritten, and of one without a note, which may come yet, it is remembered only where no one writes but through this
+// gateway (--alone), until a write begins.
 
 // How many versions are remembered of all tenants, each of which has an equal share, and how great a key with metadata may be.
 const (

@@ -13,7 +13,7 @@ import (
 var objectCalls = map[string]func(c *call){
 	"GET acl":         (*call).getACL,
 	"PUT acl":         (*call).putACL,
-	"GET tagging":     (*call).getTagging,
+	"GET tagging":     func(c *call) { c.sendDocument("Tagging", func(x *xmlWriter) { x.WriteString("<TagSet></TagSet>") }) },
 	"POST uploads":    (*call).beginUpload,
 	"PUT uploadId":    (*call).putPart,
 	"COPY uploadId":   (*call).copyPart,
@@ -44,11 +44,6 @@ func (c *call) done(status int, q *hostRequest) {
 	r := c.need(q)
 	c.tellVersion(r, r.checksum())
 	c.send(status, nil)
-}
-
-// Tags aren't kept, so that there are none.
-func (c *call) getTagging() {
-	c.sendDocument("Tagging", func(x *xmlWriter) { x.WriteString("<TagSet></TagSet>") })
 }
 
 // A request about the call's own bucket and key with a body, whose SHA-256 bucketd compares.

@@ -19,9 +19,6 @@ const (
 	leastPiece    = 64 << 10
 )
 
-// errBroken ends a response that can't be gone on with: the client sees that it is cut.
-var errBroken = http.ErrAbortHandler
-
 // object names an object, or a version of one.
 type object struct{ bucket, key, version string }
 
@@ -177,7 +174,8 @@ func (c *call) look(o object, ask *hostRequest, isRanged bool) *found {
 			c.own.forget(o)
 			continue
 		}
-		if writes%2 == 0 && (d.version != nullVersion || c.server.alone) {
+		isFixed := d.version != nullVersion && (d.isNoted || !c.server.meta)
+		if writes%2 == 0 && (isFixed || c.server.alone) {
 			c.own.remember(o, d, writes)
 		}
 		size := r.head.Get("content-length")
@@ -283,7 +281,7 @@ func (c *call) getObject() {
 	if f.size > 0 && !isHead {
 		// Where the object is overwritten from here on, the client sees a broken answer, never one of two versions.
 		if e := try(func() { c.writePieces(c.w, o, f, first, last) }); e != nil {
-			panic(errBroken)
+			panic(http.ErrAbortHandler)
 		}
 	}
 }

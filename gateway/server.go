@@ -5,6 +5,7 @@ import (
 	"log"
 	"net/http"
 	"net/url"
+	"regexp"
 	"strconv"
 	"strings"
 	"sync/atomic"
@@ -136,15 +137,10 @@ func (c *call) refuseUnknown() {
 	refuseIf(list != "" && list != "private" && !strings.HasPrefix(list, "bucket-owner-"), notImplemented("an acl but private"))
 }
 
+var bucketNames = regexp.MustCompile("^[a-z0-9.-]{3,63}$")
+
 // Whether it is a bucket's name that clients may use: the hidden bucket's is none.
-func isBucketName(name string) bool {
-	for _, b := range []byte(name) {
-		if !('a' <= b && b <= 'z' || '0' <= b && b <= '9' || b == '.' || b == '-') {
-			return false
-		}
-	}
-	return len(name) >= 3 && len(name) <= 63 && name != hiddenBucket
-}
+func isBucketName(name string) bool { return bucketNames.MatchString(name) && name != hiddenBucket }
 
 // A request about the call's own bucket and key, with parameters by name and value.
 func (c *call) request(method string, pairs ...string) *hostRequest {
@@ -197,19 +193,17 @@ func (c *call) refuse(e *apiError) {
 	for name, value := range e.fields {
 		c.w.Header().Set(name, value)
 	}
-	if e.status == 304 {
-		c.send(304, nil)
-		return
-	}
 	x, region := &xmlWriter{}, ""
 	if strings.HasPrefix(e.code, "Authorization") {
 		region = c.server.region
 	}
-	x.WriteString(xml.Header)
-	x.elements("Error", func() {
-		x.elements("Code", e.code, "Message", e.message, "Region", region, "Resource", c.r.URL.Path,
-			"RequestId", c.w.Header().Get("x-amz-request-id"))
-	})
+	if e.status != 304 {
+		x.WriteString(xml.Header)
+		x.elements("Error", func() {
+			x.elements("Code", e.code, "Message", e.message, "Region", region, "Resource", c.r.URL.Path,
+				"RequestId", c.w.Header().Get("x-amz-request-id"))
+		})
+	}
 	if e.status >= 500 || e.code == "IncompleteBody" || e.code == "EntityTooLarge" {
 		c.w.Header().Set("Connection", "close")
 	}

@@ -6,12 +6,16 @@ import (
 	"crypto/sha256"
 	"encoding/base64"
 	"encoding/hex"
+	"fmt"
 	"io"
+	"log"
 	"net/http"
 	"net/url"
+	"os"
 	"sort"
 	"strconv"
 	"strings"
+	"sync"
 	"time"
 )
 
@@ -71,48 +75,45 @@ func (s *server) authenticate(r *http.Request, query url.Values, path string) *c
 	refuseIf(isTwice, invalid("a request is signed once, in its head or in its query"))
 	if isVersion2 {
 		return s.authenticateVersion2(r, query, path)
-	} else if isQuery {
-		return s.verify(r, query, signatureOfQuery(r, query))
 	}
-	refuseIf(authorization == "", accessDenied("the request is not signed"))
-	refuseIf(!strings.HasPrefix(authorization, algorithm+" "), invalidRequest("a head is signed by "+algorithm))
-	return s.verify(r, query, signatureOfHead(r, authorization))
-}
-
-// signedRequest is what a request says of its own signature.
-type signedRequest struct {
-	credential, headers, signature, date, payload string
-
-	seconds   string // that a query may be used
-	malformed string // the code of one of another form
-}
-
-func signatureOfQuery(r *http.Request, query url.Values) *signedRequest {
-	g := &signedRequest{query.Get("X-Amz-Credential"), query.Get("X-Amz-SignedHeaders"), query.Get("X-Amz-Signature"),
-		query.Get("X-Amz-Date"), unsignedPayload, query.Get("X-Amz-Expires"), "AuthorizationQueryParametersError"}
-	refuseIf(query.Get("X-Amz-Algorithm") != algorithm, newError(g.malformed, 400, "the algorithm is "+algorithm))
-	if strings.Contains(";"+g.headers+";", ";x-amz-content-sha256;") {
+	g := &signedRequest{Request: r, query: query, isQuery: isQuery, words: map[string]string{}, malformed: "AuthorizationHeaderMalformed"}
+	if isQuery {
+		g.malformed = "AuthorizationQueryParametersError"
+		for _, name := range strings.Fields("Algorithm Credential SignedHeaders Signature Date Expires") {
+			g.words[name] = query.Get("X-Amz-" + name)
+		}
+		g.date, g.payload = g.words["Date"], unsignedPayload
+		refuseIf(g.words["Algorithm"] != algorithm, newError(g.malformed, 400, "the algorithm is "+algorithm))
+	} else {
+		refuseIf(authorization == "", accessDenied("the request is not signed"))
+		refuseIf(!strings.HasPrefix(authorization, algorithm+" "), invalidRequest("a head is signed by "+algorithm))
+		for _, part := range strings.Split(authorization[len(algorithm):], ",") {
+			name, value, _ := strings.Cut(strings.TrimSpace(part), "=")
+			g.words[name] = value
+		}
+		g.date = r.Header.Get("x-amz-date")
+		if at, err := http.ParseTime(r.Header.Get("Date")); g.date == "" && err == nil {
+			g.date = at.UTC().Format(amzDate)
+		}
+	}
+	if !isQuery || strings.Contains(";"+g.words["SignedHeaders"]+";", ";x-amz-content-sha256;") {
 		g.payload = r.Header.Get("x-amz-content-sha256")
 	}
-	return g
+	return s.verify(g)
 }
 
-func signatureOfHead(r *http.Request, authorization string) *signedRequest {
-	words := map[string]string{}
-	for _, part := range strings.Split(authorization[len(algorithm):], ",") {
-		name, value, _ := strings.Cut(strings.TrimSpace(part), "=")
-		words[name] = value
-	}
-	g := &signedRequest{words["Credential"], words["SignedHeaders"], words["Signature"],
-		r.Header.Get("x-amz-date"), r.Header.Get("x-amz-content-sha256"), "", "AuthorizationHeaderMalformed"}
-	if at, err := http.ParseTime(r.Header.Get("Date")); g.date == "" && err == nil {
-		g.date = at.UTC().Format(amzDate)
-	}
-	return g
+// signedRequest is a request with what it says of its own signature.
+type signedRequest struct {
+	*http.Request
+	query         url.Values
+	isQuery       bool // where the words are
+	words         map[string]string
+	date, payload string
+	malformed     string // the code of one of another form
 }
 
-func (s *server) verify(r *http.Request, query url.Values, g *signedRequest) *caller {
-	scope := strings.Split(g.credential, "/")
+func (s *server) verify(g *signedRequest) *caller {
+	scope := strings.Split(g.words["Credential"], "/")
 	isWell := len(scope) == 5 && scope[3] == "s3" && scope[4] == "aws4_request"
 	refuseIf(!isWell, newError(g.malformed, 400, "the credential is not KEY/DATE/REGION/s3/aws4_request"))
 	isHere := s.region == "" || scope[2] == s.region
@@ -120,12 +121,12 @@ func (s *server) verify(r *http.Request, query url.Values, g *signedRequest) *ca
 	refuseIf(g.payload == "", invalidRequest("x-amz-content-sha256 is missing"))
 	g.checkTime(scope[1])
 	c := s.caller(scope[0])
-	c.date, c.payload, c.signature, c.scope = g.date, g.payload, g.signature, strings.Join(scope[1:], "/")
+	c.date, c.payload, c.signature, c.scope = g.date, g.payload, g.words["Signature"], strings.Join(scope[1:], "/")
 	c.key = []byte("AWS4" + c.secret)
 	for _, part := range scope[1:] {
 		c.key = hmacSHA256(c.key, part)
 	}
-	refuseIf(!c.signs("", hexSHA256(canonicalRequest(r, query, g.headers, g.payload)), g.signature), wrongSignature("the request"))
+	refuseIf(!c.signs("", hexSHA256(g.canonical()), c.signature), wrongSignature("the request"))
 	return c
 }
 
@@ -143,21 +144,21 @@ func wrongSignature(what string) *apiError {
 
 func (g *signedRequest) checkTime(day string) {
 	at, err := time.Parse(amzDate, g.date)
-	now, isQuery := clock(), g.malformed != "AuthorizationHeaderMalformed"
+	now := clock()
 	refuseIf(err != nil || day != g.date[:8], accessDenied("x-amz-date is of another form, or of another day than the credential"))
-	if isQuery {
-		seconds, _ := strconv.Atoi(g.seconds)
+	if g.isQuery {
+		seconds, _ := strconv.Atoi(g.words["Expires"])
 		refuseIf(seconds < 1 || seconds > longestQuery, newError(g.malformed, 400, "X-Amz-Expires is from 1 to 604800"))
 		refuseIf(now.After(at.Add(time.Duration(seconds)*time.Second)), accessDenied("Request has expired"))
 	}
-	isSkewed := at.After(now.Add(skew)) || !isQuery && at.Before(now.Add(-skew))
+	isSkewed := at.After(now.Add(skew)) || !g.isQuery && at.Before(now.Add(-skew))
 	refuseIf(isSkewed, newError("RequestTimeTooSkewed", 403, "the clocks differ by more than 15 minutes"))
 }
 
 // What is signed of a request. All fields of the head that S3 heeds by an x-amz- name have to be.
-func canonicalRequest(r *http.Request, query url.Values, signed, payload string) string {
+func (g *signedRequest) canonical() string {
 	var pairs []string
-	for name, values := range query {
+	for name, values := range g.query {
 		for _, value := range values {
 			if name != "X-Amz-Signature" {
 				pairs = append(pairs, percentEncode(name, false)+"\x00"+percentEncode(value, false))
@@ -165,18 +166,18 @@ func canonicalRequest(r *http.Request, query url.Values, signed, payload string)
 		}
 	}
 	sort.Strings(pairs) // (by names first: nothing sorts below the byte after them)
-	text := r.Method + "\n" + percentEncode(r.URL.Path, true) + "\n" + strings.ReplaceAll(strings.Join(pairs, "&"), "\x00", "=") + "\n"
-	isSigned := map[string]bool{"x-amz-content-sha256": true}
-	for _, name := range strings.Split(signed, ";") {
+	query := strings.ReplaceAll(strings.Join(pairs, "&"), "\x00", "=")
+	text, isSigned := g.Method+"\n"+percentEncode(g.URL.Path, true)+"\n"+query+"\n", map[string]bool{"x-amz-content-sha256": true}
+	for _, name := range strings.Split(g.words["SignedHeaders"], ";") {
 		isSigned[name] = true
-		text += name + ":" + canonicalField(r, name) + "\n"
+		text += name + ":" + canonicalField(g.Request, name) + "\n"
 	}
-	for name := range r.Header {
+	for name := range g.Header {
 		lower := strings.ToLower(name)
 		refuseIf(strings.HasPrefix(lower, "x-amz-") && !isSigned[lower], accessDenied("a field of the head is not signed: "+lower))
 	}
 	refuseIf(!isSigned["host"], accessDenied("host is not signed"))
-	return text + "\n" + signed + "\n" + payload
+	return text + "\n" + g.words["SignedHeaders"] + "\n" + g.payload
 }
 
 // The text of a field as it is signed; net/http keeps some fields elsewhere than in the head.
@@ -230,4 +231,60 @@ func (s *server) authenticateVersion2(r *http.Request, query url.Values, path st
 	refuseIf(!hmac.Equal([]byte(signature), []byte(query.Get("Signature"))), wrongSignature("the request"))
 	c.payload = unsignedPayload
 	return c
+}
+
+// keyFile holds the access keys of a file, which is read again where it has changed.
+type keyFile struct {
+	name    string
+	mu      sync.Mutex
+	changed time.Time
+	secrets map[string]string
+}
+
+func openKeys(name string) (*keyFile, error) {
+	k := &keyFile{name: name}
+	return k, k.read()
+}
+
+// The secret of an access key's id. Where a changed file can't be read, the keys stay that were read last.
+func (k *keyFile) secret(id string) (string, bool) {
+	k.mu.Lock()
+	defer k.mu.Unlock()
+	if err := k.read(); err != nil {
+		log.Print(err)
+	}
+	secret, ok := k.secrets[id]
+	return secret, ok
+}
+
+// Reads lines 'tenant$name secret', if the file has changed; empty ones and those that begin with # are passed over.
+func (k *keyFile) read() error {
+	info, err := os.Stat(k.name)
+	if err != nil || info.ModTime().Equal(k.changed) {
+		return err
+	} else if info.Mode().Perm()&0o077 != 0 {
+		return fmt.Errorf("%s: others may read or write it: chmod 600", k.name)
+	}
+	text, err := os.ReadFile(k.name)
+	if err != nil {
+		return err
+	}
+	secrets := map[string]string{}
+	for number, line := range strings.Split(string(text), "\n") {
+		words := strings.Fields(line)
+		if len(words) == 0 || words[0][0] == '#' {
+			continue
+		}
+		// (they become fields of requests to bucketd)
+		if len(words) != 2 || !strings.Contains(words[0], "$") || !isPrintable(words[0]+words[1]) {
+			return fmt.Errorf("%s: line %d is not 'tenant$name secret'", k.name, number+1)
+		}
+		secrets[words[0]] = words[1]
+	}
+	k.secrets, k.changed = secrets, info.ModTime()
+	return nil
+}
+
+func isPrintable(text string) bool {
+	return strings.IndexFunc(text, func(r rune) bool { return r <= ' ' || r > '~' }) < 0
 }

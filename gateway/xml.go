@@ -6,6 +6,7 @@ import (
 	"encoding/xml"
 	"fmt"
 	"sort"
+	"strings"
 )
 
 // xmlWriter writes a document's elements one after another.
@@ -60,7 +61,7 @@ func (c *call) translate(x *xmlWriter, members map[string]any) {
 			case "ChecksumSHA256":
 				x.elements("ETag", etag(value))
 			case "CreationDate", "Initiated", "LastModified":
-				x.elements(name, milliseconds(value))
+				x.elements(name, strings.TrimSuffix(value, "Z")+".000Z") // (bucketd's have whole seconds)
 			case "Key", "Prefix", "NextKeyMarker", "NextMarker", "Delimiter", "KeyMarker", "Marker", "StartAfter":
 				// (S3 tells an empty prefix, too)
 				x.elements(name, func() { xml.EscapeText(x, []byte(c.name(value))) })
@@ -75,8 +76,7 @@ func (c *call) translate(x *xmlWriter, members map[string]any) {
 
 func (c *call) translateEntry(x *xmlWriter, name string, entry map[string]any) {
 	isMarker, element := entry["DeleteMarker"] == true, entryNames[name]
-	delete(entry, "DeleteMarker")
-	if isMarker {
+	if delete(entry, "DeleteMarker"); isMarker {
 		element = "DeleteMarker"
 	}
 	x.elements(element, func() {
