@@ -31,26 +31,27 @@ type body struct {
 	file   *os.File
 	size   int64
 	sha256 string // base64: what was promised and bucketd is to compare; empty where nothing was, or it was compared here
-	free   func()
 }
 
-func (s *server) newBody(size int64) *body {
+// A body that is freed when the call ends.
+func (c *call) newBody(size int64) *body {
 	if size <= greatestInMemory {
-		if s.inMemory.Add(size) <= allInMemory {
+		c.atEnd(func() { c.server.inMemory.Add(-size) })
+		if c.server.inMemory.Add(size) <= allInMemory {
 			b := bodyOf(make([]byte, 0, size+bytes.MinRead))
-			b.size, b.free = size, func() { s.inMemory.Add(-size) }
+			b.size = size
 			return b
 		}
-		s.inMemory.Add(-size)
 	}
-	file := must(os.CreateTemp(s.spool, "gateway-"))
+	file := must(os.CreateTemp(c.server.spool, "gateway-"))
 	os.Remove(file.Name())
-	return &body{Writer: file, file: file, size: size, free: func() { file.Close() }}
+	c.atEnd(func() { file.Close() })
+	return &body{Writer: file, file: file, size: size}
 }
 
 func bodyOf(text []byte) *body {
 	memory := bytes.NewBuffer(text)
-	return &body{Writer: memory, memory: memory, size: int64(len(text)), free: func() {}}
+	return &body{Writer: memory, memory: memory, size: int64(len(text))}
 }
 
 func (b *body) text() []byte {
@@ -143,43 +144,30 @@ func (c *call) readBody(limit, passed int64) *body {
 		refuseIf(!isWell, invalidRequest("the value of x-amz-trailer is invalid"))
 		list = append(list, promise{field: field, hash: digest()})
 	}
-	b := c.server.newBody(size)
+	b, left, trailer := c.newBody(size), size, map[string]string{}
 	b.sha256 = sum
 	into := b.Writer
 	for _, it := range list {
 		into = io.MultiWriter(into, it.hash)
 	}
-	e := try(func() {
-		var trailer map[string]string
-		left := size
-		if isChunked {
-			trailer, left = c.readChunks(bufio.NewReaderSize(c.r.Body, 64<<10), into, size)
-		} else if got, err := io.Copy(into, c.r.Body); err == nil {
-			left -= got
+	if isChunked {
+		trailer, left = c.readChunks(bufio.NewReaderSize(c.r.Body, 64<<10), into, size)
+	} else if got, err := io.Copy(into, c.r.Body); err == nil {
+		left -= got
+	}
+	refuseIf(left != 0, cutBody)
+	for _, it := range list {
+		if it.want == "" {
+			it.want = trailer[it.field]
 		}
-		refuseIf(left != 0, cutBody)
-		for _, it := range list {
-			c.compare(it, trailer)
+		refuseIf(it.want == "", newError("MalformedTrailerError", 400, "the trailer has no "+it.field))
+		sum := base64.StdEncoding.EncodeToString(it.hash.Sum(nil))
+		refuseIf(sum != it.want, newError(c.badDigest(it.field), 400, "the body has another "+it.field))
+		if strings.HasPrefix(it.field, checksumField) {
+			c.w.Header().Set(it.field, it.want) // (the client is told the checksum that it gave)
 		}
-	})
-	if e != nil {
-		b.free()
-		panic(e)
 	}
 	return b
-}
-
-// Compares a body that has come with what was promised; the client is told the checksum that it gave.
-func (c *call) compare(it promise, trailer map[string]string) {
-	if it.want == "" {
-		it.want = trailer[it.field]
-	}
-	refuseIf(it.want == "", newError("MalformedTrailerError", 400, "the trailer has no "+it.field))
-	sum := base64.StdEncoding.EncodeToString(it.hash.Sum(nil))
-	refuseIf(sum != it.want, newError(c.badDigest(it.field), 400, "the body has another "+it.field))
-	if strings.HasPrefix(it.field, checksumField) {
-		c.w.Header().Set(it.field, it.want)
-	}
 }
 
 const (

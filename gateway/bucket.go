@@ -29,7 +29,7 @@ var bucketCalls = map[string]func(c *call){
 }
 
 func (c *call) createBucket() {
-	c.readBody(greatestXML, 0).free() // it names a region: there is one alone
+	c.readBody(greatestXML, 0) // it names a region: there is one alone
 	c.w.Header().Set("Location", "/"+c.bucket)
 	c.done(200, c.request("PUT"))
 }

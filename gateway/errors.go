@@ -56,20 +56,16 @@ func must[T any](value T, err error) T {
 // Runs what answers a call, and gives the error that it panicked with. One that isn't S3's is logged, not told.
 func try(act func()) (e *apiError) {
 	defer func() {
-		switch it := recover().(type) {
-		case nil:
-		case *apiError:
-			e = it
-		case runtime.Error:
+		it := recover()
+		_, isError := it.(error)
+		_, isDefect := it.(runtime.Error)
+		switch e, _ = it.(*apiError); {
+		case it == nil || e != nil:
+		case !isError || isDefect || it == http.ErrAbortHandler: // (of the last the client sees that its answer is cut)
 			panic(it)
-		case error:
-			if it == http.ErrAbortHandler { // the client sees that its answer is cut
-				panic(it)
-			}
+		default:
 			log.Print(it)
 			e = newError("InternalError", 500, "an error of the gateway")
-		default:
-			panic(it)
 		}
 	}()
 	act()

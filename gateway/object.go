@@ -59,16 +59,15 @@ func (c *call) requestWith(b *body, pairs ...string) *hostRequest {
 func (c *call) putObject() {
 	meta := metadata(c.r.Header)
 	b := c.readBody(c.server.maxPut, c.server.piece)
-	defer b.free()
 	q := c.requestWith(b)
 	if b.size > c.server.piece {
 		upload, parts := c.putPieces(b)
 		q = c.completion(upload, parts)
-		defer func() {
-			if c.status == 0 { // it wasn't completed
+		c.atEnd(func() {
+			if c.status >= 300 { // it wasn't completed
 				c.ask(c.request("DELETE", "uploadId", upload))
 			}
-		}()
+		})
 	}
 	defer c.hold(c.key)()
 	c.checkWrite()
@@ -135,9 +134,7 @@ func (c *call) beginUpload() {
 }
 
 func (c *call) putPart() {
-	b := c.readBody(c.server.piece, c.server.piece)
-	defer b.free()
-	c.done(200, c.partRequest(b))
+	c.done(200, c.partRequest(c.readBody(c.server.piece, c.server.piece)))
 }
 
 func (c *call) partRequest(b *body) *hostRequest {
@@ -223,8 +220,7 @@ func (c *call) copyPart() {
 	}
 	size := last - first + 1
 	refuseIf(size > c.server.piece, newError("EntityTooLarge", 400, "a part that is copied has more bytes than bucketd takes at once"))
-	b := c.server.newBody(size)
-	defer b.free()
+	b := c.newBody(size)
 	if size > 0 {
 		f.body = c.readPiece(o, f, first, last, nil)
 		c.writePieces(b, o, f, first, last)

@@ -39,7 +39,11 @@ type call struct {
 	own         *tenant
 	was         *details // of the key that is held, before
 	status      int
+	ends        []func()
 }
+
+// Runs something when the call has been answered.
+func (c *call) atEnd(act func()) { c.ends = append(c.ends, act) }
 
 func (s *server) ServeHTTP(w http.ResponseWriter, r *http.Request) {
 	c := &call{caller: &caller{}, server: s, w: w, r: r, query: url.Values{}}
@@ -47,6 +51,11 @@ func (s *server) ServeHTTP(w http.ResponseWriter, r *http.Request) {
 	w.Header().Set("x-amz-request-id", strings.ToUpper(hexSHA256(r.Header.Get("Authorization") + r.URL.RawQuery)[:16]))
 	w.Header().Set("Server", "bucketd-gateway")
 	begun, code := time.Now(), ""
+	defer func() {
+		for _, act := range c.ends {
+			try(act)
+		}
+	}()
 	if e := try(c.serve); e != nil {
 		code = e.code
 		c.refuse(e)

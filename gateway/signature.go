@@ -170,7 +170,7 @@ func (g *signedRequest) canonical() string {
 	text, isSigned := g.Method+"\n"+percentEncode(g.URL.Path, true)+"\n"+query+"\n", map[string]bool{"x-amz-content-sha256": true}
 	for _, name := range strings.Split(g.words["SignedHeaders"], ";") {
 		isSigned[name] = true
-		text += name + ":" + canonicalField(g.Request, name) + "\n"
+		text += name + ":" + g.field(name) + "\n"
 	}
 	for name := range g.Header {
 		lower := strings.ToLower(name)
@@ -181,20 +181,16 @@ func (g *signedRequest) canonical() string {
 }
 
 // The text of a field as it is signed; net/http keeps some fields elsewhere than in the head.
-func canonicalField(r *http.Request, name string) string {
+func (g *signedRequest) field(name string) string {
 	switch name {
 	case "host":
-		return r.Host
+		return g.Host
 	case "content-length":
-		return strconv.FormatInt(r.ContentLength, 10)
+		return strconv.FormatInt(g.ContentLength, 10)
 	case "transfer-encoding":
-		return strings.Join(r.TransferEncoding, ",")
+		return strings.Join(g.TransferEncoding, ",")
 	}
-	var words []string
-	for _, it := range r.Header.Values(name) {
-		words = append(words, strings.Join(strings.Fields(it), " "))
-	}
-	return strings.Join(words, ",")
+	return strings.Join(strings.Fields(strings.Join(g.Header.Values(name), ",")), " ")
 }
 
 // What a presigned query of version 2 counts as a part of the resource, in order.

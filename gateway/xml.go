@@ -139,9 +139,7 @@ func readXML(text []byte, into any) error {
 }
 
 func (c *call) readDocument(into any) {
-	b := c.readBody(greatestXML, 0)
-	defer b.free()
-	must(0, readXML(b.text(), into))
+	must(0, readXML(c.readBody(greatestXML, 0).text(), into))
 }
 
 // The documents of requests (Amazon S3 API Reference).
