@@ -1,8 +1,8 @@
 // Gateway lets stock S3 clients use bucketd: Signature V4, XML and TLS on their side, bucketd's own keys and JSON on the other.
 //
-// It keeps nothing. What it answers is made of the request, the key file, and what bucketd answers to that tenant. No byte of a
-// client's head is passed on: requests to bucketd are written anew. It is no part of any theorem: it is trusted for signatures,
-// for the tenant of a key, and for making an answer of that tenant's responses alone.
+// It keeps nothing but in memory what it found of a tenant's objects. What it answers is made of the request, the key file, and what
+// bucketd answers to that tenant. No byte of a client's head is passed on: requests to bucketd are written anew. It is no part of
+// any theorem: it is trusted for signatures, for the tenant of a key, and for making an answer of that tenant's responses alone.
 package main
 
 import (

@@ -122,18 +122,6 @@ func (c *call) forgetNote(o object) bool {
 	return r.refusal == 0 || r.refusal == refusalBucket
 }
 
-// The metadata in a text, be it a client's: other fields than those of metadata are passed over.
-func parseMetadata(text []byte) map[string]string {
-	var told map[string]string
-	json.Unmarshal(text, &told)
-	for name := range told {
-		if !strings.HasPrefix(name, metaField) && !strings.Contains(" "+strings.Join(keptFields, " ")+" ", " "+name+" ") {
-			delete(told, name)
-		}
-	}
-	return told
-}
-
 // An upload's id as the client has it: bucketd's, and the metadata that its object is to have.
 func joinUpload(id string, meta map[string]string) string {
 	if len(meta) == 0 {
@@ -145,7 +133,12 @@ func joinUpload(id string, meta map[string]string) string {
 func splitUpload(id string) (plain string, meta map[string]string) {
 	plain, packed, _ := strings.Cut(id, ".")
 	text, _ := base64.RawURLEncoding.DecodeString(packed)
-	return plain, parseMetadata(text)
+	told, head := map[string]string{}, http.Header{}
+	json.Unmarshal(text, &told)
+	for name, value := range told {
+		head.Set(name, value)
+	}
+	return plain, metadata(head) // (a client told it: what is no metadata is passed over)
 }
 
 // What was found of a version beside its bytes is remembered, so that bucketd is asked for those alone when they are read again.
