@@ -60,7 +60,7 @@ crash dir = {at}
 mon data = {at}/mon
 osd data = {at}/osd
 rgw data = {at}/rgw
-rgw frontends = beast endpoint=127.0.0.1:{port}
+rgw frontends = beast endpoint=127.0.0.1:{port} tcp_nodelay=1
 """
 
 

@@ -83,6 +83,7 @@ func main() {
 func run(ctx context.Context, o options) error {
 	// Bodies and pieces have bounds of their own; what is left behind them is collected before all takes more than this.
 	debug.SetMemoryLimit(48 << 20)
+	debug.SetGCPercent(400) // (a small heap would be collected all the time)
 	keys, err := openKeys(o.keys)
 	if err != nil {
 		return err
