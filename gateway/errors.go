@@ -25,11 +25,11 @@ func newError(code string, status int, message string) *apiError {
 func notImplemented(what string) *apiError {
 	return newError("NotImplemented", 501, what+" is not there")
 }
-func invalid(message string) *apiError { return newError("InvalidArgument", 400, message) }
+func invalid(message string) *apiError        { return newError("InvalidArgument", 400, message) }
 func invalidRequest(message string) *apiError { return newError("InvalidRequest", 400, message) }
-func malformedXML(message string) *apiError { return newError("MalformedXML", 400, message) }
-func accessDenied(message string) *apiError { return newError("AccessDenied", 403, message) }
-func slowDown(message string) *apiError { return newError("SlowDown", 503, message) }
+func malformedXML(message string) *apiError   { return newError("MalformedXML", 400, message) }
+func accessDenied(message string) *apiError   { return newError("AccessDenied", 403, message) }
+func slowDown(message string) *apiError       { return newError("SlowDown", 503, message) }
 
 var preconditionFailed = newError("PreconditionFailed", 412, "a condition of the request is not met")
 
