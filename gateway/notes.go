@@ -92,20 +92,21 @@ func (c *call) note(o object) (n note) {
 func (c *call) keepNote(version, checksum string, meta map[string]string) {
 	o := object{c.bucket, c.key, version}
 	isPlain := len(meta) == 0 || len(meta) == 1 && meta["content-type"] == contentType(c.key)
-	d := &details{checksum, version, time.Time{}, meta, !isPlain}
+	d, isKnown := &details{checksum: checksum, version: version}, true
 	if !c.server.meta {
 		return
 	} else if isPlain && version == nullVersion {
-		d.isNoted = !c.forgetNote(o)
+		isKnown = c.forgetNote(o)
 	} else if !isPlain {
-		r := c.askNote("PUT", o, note{checksum, meta})
+		d.note = note{checksum, meta}
+		r := c.askNote("PUT", o, d.note)
 		if r.refusal == refusalBucket {
 			c.ask(&hostRequest{method: "PUT", bucket: hiddenBucket})
-			r = c.askNote("PUT", o, note{checksum, meta})
+			r = c.askNote("PUT", o, d.note)
 		}
 		refuseIf(r.refusal != 0, newError("InternalError", 500, "the object was put, but not its metadata: "+r.code))
 	}
-	if o.version = ""; version == nullVersion && c.server.alone {
+	if o.version = ""; version == nullVersion && isKnown && c.server.alone {
 		_, writes := c.own.recall(o)
 		c.own.remember(o, d, writes)
 	}
@@ -114,7 +115,7 @@ func (c *call) keepNote(version, checksum string, meta map[string]string) {
 // Takes away the note of a version that is gone or has none; one that stays is passed over. Whether none is left.
 func (c *call) forgetNote(o object) bool {
 	isNull := o.version == nullVersion || o.version == ""
-	isKnown := isNull && c.was != nil && c.was.version == nullVersion && !c.was.isNoted
+	isKnown := isNull && c.was != nil && c.was.version == nullVersion && c.was.note.Checksum == ""
 	if !c.server.meta || isKnown {
 		return isKnown
 	}
@@ -156,8 +157,14 @@ const (
 type details struct {
 	checksum, version string
 	modified          time.Time // zero where it isn't told, or not known
-	meta              map[string]string
-	isNoted           bool // whether there is a note, be it of other bytes
+	note              note      // empty where there is none; it may be of other bytes
+}
+
+func (d *details) metadata() map[string]string {
+	if d.note.Checksum != d.checksum {
+		return nil
+	}
+	return d.note.Metadata
 }
 
 // tenant has what requests of one tenant wait for, and what is known of its objects.
@@ -215,7 +222,7 @@ func (t *tenant) recall(o object) (*details, int) {
 func (t *tenant) remember(o object, d *details, writes int) {
 	t.mu.Lock()
 	defer t.mu.Unlock()
-	if t.lockOf(o).writes != writes || len(fmt.Sprint(o, d.meta)) > greatestKnown {
+	if t.lockOf(o).writes != writes || len(fmt.Sprint(o, d.note)) > greatestKnown {
 		return
 	}
 	if t.known == nil || int64(len(t.known)) >= t.most.Load() {

@@ -194,7 +194,7 @@ func (c *call) copyObject() {
 	c.checkWrite()
 	f := c.lookAtSource(o)
 	if !strings.EqualFold(c.r.Header.Get("x-amz-metadata-directive"), "REPLACE") {
-		meta = f.meta
+		meta = f.metadata()
 	}
 	from := "/" + o.bucket + "/" + percentEncode(o.key, true)
 	if o.version != "" {

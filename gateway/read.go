@@ -161,7 +161,7 @@ func (c *call) look(o object, ask *hostRequest, isRanged bool) *found {
 		d, writes := c.own.recall(o)
 		find := func(*hostResponse) *details { return d }
 		if d == nil || c.server.lastModified && d.modified.IsZero() {
-			find = c.find(o)
+			find = c.find(o, d)
 		}
 		r := c.ask(ask)
 		if r.refusal == refusalRange && !isRanged {
@@ -174,7 +174,7 @@ func (c *call) look(o object, ask *hostRequest, isRanged bool) *found {
 			c.own.forget(o)
 			continue
 		}
-		isFixed := d.version != nullVersion && (d.isNoted || !c.server.meta)
+		isFixed := d.version != nullVersion && (d.note.Checksum != "" || !c.server.meta)
 		if writes%2 == 0 && (isFixed || c.server.alone) {
 			c.own.remember(o, d, writes)
 		}
@@ -187,21 +187,21 @@ func (c *call) look(o object, ask *hostRequest, isRanged bool) *found {
 	panic(slowDown("the object is overwritten all the time"))
 }
 
-// Begins to find the details of a version. What it gives waits for them, given the object's own answer.
-func (c *call) find(o object) func(r *hostResponse) *details {
-	entry := beside(func() hostVersion { return c.entryOf(o) })
-	kept := beside(func() note { return c.note(o) })
+// Begins to find the details of a version, of which the note may be known. What it gives waits for them, given the object's own
+// answer.
+func (c *call) find(o object, known *details) func(r *hostResponse) *details {
+	entry, kept := beside(func() hostVersion { return c.entryOf(o) }), func() note { return known.note }
+	if known == nil {
+		kept = beside(func() note { return c.note(o) })
+	}
 	return func(r *hostResponse) *details {
-		d, its := &details{checksum: r.checksum(), version: r.version()}, kept()
+		d := &details{checksum: r.checksum(), version: r.version(), note: kept()}
 		if listed := entry(); c.server.lastModified {
 			d.checksum, d.version = listed.ChecksumSHA256, listed.VersionId
 			d.modified, _ = time.Parse(time.RFC3339, listed.LastModified)
 		}
 		if d.version != nullVersion && d.version != o.version {
-			its = c.note(object{o.bucket, o.key, d.version})
-		}
-		if d.isNoted = its.Checksum != ""; its.Checksum == d.checksum {
-			d.meta = its.Metadata
+			d.note = c.note(object{o.bucket, o.key, d.version})
 		}
 		return d
 	}
@@ -295,7 +295,7 @@ func (c *call) tellObject(f *found, isRanged bool) {
 		h.Set("Last-Modified", f.modified.UTC().Format(http.TimeFormat))
 	}
 	h.Set("Content-Type", contentType(c.key))
-	for name, value := range f.meta {
+	for name, value := range f.metadata() {
 		if strings.HasPrefix(name, metaField) {
 			h[name] = []string{value} // (in small letters: some clients make the name of it)
 		} else {
