@@ -3,8 +3,10 @@
 clients at once, each with an object of its own; with notes of metadata, without, over TLS, and where others may write (each get is
 then what the first get of an object is elsewhere: three requests to the host); its memory; silent clients.
 
-    bench/gateway.py [--seconds S] [--only NAME]... [PROGRAM]      PROGRAM: crates/bucketd/out/bucketd; NAME: a column
+    bench/gateway.py [--seconds S] [--only NAMES] [--sizes BYTES] [--clients NUMBERS] [--tables NAMES] [PROGRAM]
 
+PROGRAM: crates/bucketd/out/bucketd. Lists, with commas, leave out other columns (but bucketd and gateway), sizes, numbers of clients, and
+tables: rates, silence, memory.
 It needs Debian's golang-go and openssl, and for what it is measured beside radosgw, ceph-mon, ceph-osd and ceph-common, and
 nginx-light: what isn't there is left out. All servers keep their files in one new folder in the current one (FOLDER in the
 environment names another place). The load is TestLoad of gateway/. Tables of Markdown come on standard output.
@@ -164,12 +166,12 @@ def silent_clients(url):
     return links
 
 
-def rates(tests, servers, seconds):
+def rates(tests, servers, sizes, counts, seconds):
     names = [it.name for it in servers]
     print("| Request | Clients | " + " | ".join(names) + " |\n|---|---|" + "---|" * len(names), flush=True)
-    for size, shown in SIZES:
+    for size, shown in sizes:
         for method in ("PUT", "GET"):
-            for clients in CLIENTS:
+            for clients in counts:
                 if size == 1 << 24 and clients == 64:
                     continue
                 told = [load(tests, it, method, size, clients, seconds) for it in servers]
@@ -180,9 +182,9 @@ def rates(tests, servers, seconds):
                         print(f"{server.name}: {it['faults']}", file=sys.stderr)
 
 
-def memory(tests, build, folder, host, seconds):
+def memory(tests, build, folder, host, sizes, seconds):
     print("\n| 64 clients at once | peak resident MB of the gateway |\n|---|---|", flush=True)
-    for size, shown in SIZES:
+    for size, shown in sizes:
         for method in ("PUT", "GET"):
             it = start_gateway("gateway", build, folder, "--host", f"127.0.0.1:{host}", "--alone")
             load(tests, it, method, size, 64, seconds)
@@ -206,13 +208,12 @@ def silence(tests, gateway, seconds):
 
 def main():
     signal.signal(signal.SIGTERM, lambda *_: sys.exit(1))  # (what was started is ended, too)
-    words, seconds, only = sys.argv[1:], 2.0, []
-    while words[:1] in (["--seconds"], ["--only"]):
-        if words[0] == "--only":
-            only.append(words[1])
-        else:
-            seconds = float(words[1])
-        words = words[2:]
+    words, told = sys.argv[1:], {"--seconds": "2", "--only": "", "--sizes": "", "--clients": "", "--tables": "rates,silence,memory"}
+    while words and words[0] in told:
+        told[words[0]], words = words[1], words[2:]
+    seconds, only, tables = float(told["--seconds"]), [it for it in told["--only"].split(",") if it], told["--tables"].split(",")
+    sizes = [it for it in SIZES if not told["--sizes"] or str(it[0]) in told["--sizes"].split(",")]
+    counts = [it for it in CLIENTS if not told["--clients"] or str(it) in told["--clients"].split(",")]
     program = os.path.abspath(words[0] if words else os.path.join(TOP, "crates/bucketd/out/bucketd"))
     if not os.path.exists(program):
         sys.exit(f"{program} isn't there: 'make build' makes it")
@@ -243,9 +244,12 @@ def main():
             if shutil.which("nginx") and (not only or "nginx" in only):
                 servers.append(start_nginx(folder))
             print(f"load before: {' '.join(open('/proc/loadavg').read().split()[:3])}\n")
-            rates(tests, servers, seconds)
-            silence(tests, servers[1], seconds)
-            memory(tests, build, folder, port, seconds)
+            if "rates" in tables:
+                rates(tests, servers, sizes, counts, seconds)
+            if "silence" in tables:
+                silence(tests, servers[1], seconds)
+            if "memory" in tables:
+                memory(tests, build, folder, port, sizes, seconds)
             print(f"\nload after (with this run): {' '.join(open('/proc/loadavg').read().split()[:3])}")
         finally:
             for it in servers:
