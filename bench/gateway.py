@@ -1,9 +1,12 @@
 #!/usr/bin/env python3
 """Times the gateway beside bare `bucketd serve`, radosgw and nginx's DAV in one run: puts and gets of 1 KiB to 16 MiB by 1, 8 and 64
-clients at once, each with an object of its own; with notes of metadata, without, and over TLS; its memory; silent clients.
+clients at once, each with an object of its own; with notes of metadata, without, over TLS, and where others may write (each get is
+then what the first get of an object is elsewhere: three requests to the host); its memory; silent clients.
 
-    bench/gateway.py [--seconds S] [PROGRAM]      PROGRAM: crates/bucketd/out/bucketd
+    bench/gateway.py [--seconds S] [--only NAMES] [--sizes BYTES] [--clients NUMBERS] [--tables NAMES] [PROGRAM]
 
+PROGRAM: crates/bucketd/out/bucketd. Lists, with commas, leave out other columns (but bucketd and gateway), sizes, numbers of clients, and
+tables: rates, silence, memory.
 It needs Debian's golang-go and openssl, and for what it is measured beside radosgw, ceph-mon, ceph-osd and ceph-common, and
 nginx-light: what isn't there is left out. All servers keep their files in one new folder in the current one (FOLDER in the
 environment names another place). The load is TestLoad of gateway/. Tables of Markdown come on standard output.
@@ -59,7 +62,7 @@ crash dir = {at}
 mon data = {at}/mon
 osd data = {at}/osd
 rgw data = {at}/rgw
-rgw frontends = beast endpoint=127.0.0.1:{port}
+rgw frontends = beast endpoint=127.0.0.1:{port} tcp_nodelay=1
 """
 
 
@@ -99,10 +102,18 @@ def load(tests, server, method, size, clients, seconds):
     return json.loads(found.group(1)) if found else {"rate": 0, "p50": 0, "p99": 0, "faults": done.stdout[-300:]}
 
 
-def start_gateway(name, build, folder, host, scheme="http", *options):
+def start_gateway(name, build, folder, *options, scheme="http"):
     port = free_port()
-    words = [build, "--listen", f"127.0.0.1:{port}", "--keys", os.path.join(folder, "ours/keys"), "--host", f"127.0.0.1:{host}", "--spool", folder]
+    words = [build, "--listen", f"127.0.0.1:{port}", "--keys", os.path.join(folder, "ours/keys"), "--spool", folder]
     return Server(name, [*words, *options], port, scheme=scheme)
+
+
+def serving(program, folder, name):
+    """The options of a gateway that serves a new host of its own."""
+    at = os.path.join(folder, name)
+    os.makedirs(at)
+    make_host(program, at, {"green": 1 << 40})
+    return ["--serve", os.path.join(at, "host"), "--program", program]
 
 
 def start_nginx(folder):
@@ -155,27 +166,27 @@ def silent_clients(url):
     return links
 
 
-def rates(tests, servers, seconds):
+def rates(tests, servers, sizes, counts, seconds):
     names = [it.name for it in servers]
     print("| Request | Clients | " + " | ".join(names) + " |\n|---|---|" + "---|" * len(names), flush=True)
-    for size, shown in SIZES:
+    for size, shown in sizes:
         for method in ("PUT", "GET"):
-            for clients in CLIENTS:
+            for clients in counts:
                 if size == 1 << 24 and clients == 64:
                     continue
                 told = [load(tests, it, method, size, clients, seconds) for it in servers]
-                cells = [f"{it['rate']:.3g} ({it['p50']:.3g})" + (" !" if it["faults"] else "") for it in told]
+                cells = [f"{float(format(it['rate'], '.3g')):g} ({it['p50']:.3g})" + (" !" if it["faults"] else "") for it in told]
                 print(f"| {method} {shown} | {clients} | " + " | ".join(cells) + " |", flush=True)
                 for server, it in zip(servers, told):
                     if it["faults"]:
                         print(f"{server.name}: {it['faults']}", file=sys.stderr)
 
 
-def memory(tests, build, folder, host, seconds):
+def memory(tests, build, folder, host, sizes, seconds):
     print("\n| 64 clients at once | peak resident MB of the gateway |\n|---|---|", flush=True)
-    for size, shown in SIZES:
+    for size, shown in sizes:
         for method in ("PUT", "GET"):
-            it = start_gateway("gateway", build, folder, host)
+            it = start_gateway("gateway", build, folder, "--host", f"127.0.0.1:{host}", "--alone")
             load(tests, it, method, size, 64, seconds)
             print(f"| {method} {shown} | {it.peak():.0f} |", flush=True)
             it.end()
@@ -184,19 +195,25 @@ def memory(tests, build, folder, host, seconds):
 def silence(tests, gateway, seconds):
     print("\n| 8 clients, 1 KiB | requests/s | beside 50 silent clients |\n|---|---|---|")
     for method in ("PUT", "GET"):
-        before = load(tests, gateway, method, 1024, 8, seconds)["rate"]
-        links = silent_clients(gateway.url)
-        beside = load(tests, gateway, method, 1024, 8, seconds)["rate"]
-        for it in links:
-            it.close()
-        print(f"| {method} | {before:.0f} | {beside:.0f} |", flush=True)
+        rate = lambda: load(tests, gateway, method, 1024, 8, seconds)["rate"]
+        before, beside = [], []
+        for _ in range(3):  # (in turns, so that a disk's good and bad seconds fall on both)
+            before.append(rate())
+            links = silent_clients(gateway.url)
+            beside.append(rate())
+            for it in links:
+                it.close()
+        print(f"| {method} | {sorted(before)[1]:.0f} | {sorted(beside)[1]:.0f} |", flush=True)
 
 
 def main():
     signal.signal(signal.SIGTERM, lambda *_: sys.exit(1))  # (what was started is ended, too)
-    words, seconds = sys.argv[1:], 2.0
-    if words[:1] == ["--seconds"]:
-        seconds, words = float(words[1]), words[2:]
+    words, told = sys.argv[1:], {"--seconds": "2", "--only": "", "--sizes": "", "--clients": "", "--tables": "rates,silence,memory"}
+    while words and words[0] in told:
+        told[words[0]], words = words[1], words[2:]
+    seconds, only, tables = float(told["--seconds"]), [it for it in told["--only"].split(",") if it], told["--tables"].split(",")
+    sizes = [it for it in SIZES if not told["--sizes"] or str(it[0]) in told["--sizes"].split(",")]
+    counts = [it for it in CLIENTS if not told["--clients"] or str(it) in told["--clients"].split(",")]
     program = os.path.abspath(words[0] if words else os.path.join(TOP, "crates/bucketd/out/bucketd"))
     if not os.path.exists(program):
         sys.exit(f"{program} isn't there: 'make build' makes it")
@@ -214,16 +231,26 @@ def main():
         try:
             bare = [program, "serve", "--file", os.path.join(ours, "host"), "--port", str(port), "--count", "4294967295"]
             servers.append(Server("bucketd", bare, port, mode="bare"))
-            servers.append(start_gateway("gateway", build, folder, port))
-            servers.append(start_gateway("no notes", build, folder, port, "http", "--meta=false"))
-            servers.append(start_gateway("TLS", build, folder, port, "https", "--cert", os.path.join(folder, "tls.pem"), "--cert-key", os.path.join(folder, "tls.key")))
-            if shutil.which("radosgw") and shutil.which("ceph-osd"):
+            tls = ["--cert", os.path.join(folder, "tls.pem"), "--cert-key", os.path.join(folder, "tls.key")]
+            servers.append(start_gateway("gateway", build, folder, *serving(program, folder, "gateway-host")))
+            if not only or "no notes" in only:
+                servers.append(start_gateway("no notes", build, folder, *serving(program, folder, "bare-host"), "--meta=false"))
+            if not only or "TLS" in only:
+                servers.append(start_gateway("TLS", build, folder, *serving(program, folder, "tls-host"), *tls, scheme="https"))
+            if not only or "shared" in only:
+                servers.append(start_gateway("shared", build, folder, "--host", f"127.0.0.1:{port}"))
+            if shutil.which("radosgw") and shutil.which("ceph-osd") and (not only or "radosgw" in only):
                 servers += filter(None, [start_radosgw(folder)])
-            if shutil.which("nginx"):
+            if shutil.which("nginx") and (not only or "nginx" in only):
                 servers.append(start_nginx(folder))
-            rates(tests, servers, seconds)
-            silence(tests, servers[1], seconds)
-            memory(tests, build, folder, port, seconds)
+            print(f"load before: {' '.join(open('/proc/loadavg').read().split()[:3])}\n")
+            if "rates" in tables:
+                rates(tests, servers, sizes, counts, seconds)
+            if "silence" in tables:
+                silence(tests, servers[1], seconds)
+            if "memory" in tables:
+                memory(tests, build, folder, port, sizes, seconds)
+            print(f"\nload after (with this run): {' '.join(open('/proc/loadavg').read().split()[:3])}")
         finally:
             for it in servers:
                 it.end()

@@ -2,71 +2,68 @@ package main
 
 import (
 	"encoding/hex"
-	"encoding/json"
-	"net/url"
 	"strings"
-	"unicode/utf8"
 )
 
 // The name of a bucket's rule for uploads that are left unfinished, as bucketd's has none.
 const uploadsRule = "uploads"
 
-func (c *call) serveBucket() {
-	has := c.query.Has
-	switch m := c.r.Method; {
-	case has("acl"):
-		c.serveACL()
-	case has("versioning") && m == "GET":
-		c.sendListing("VersioningConfiguration", c.request("GET", "versioning", ""), nil)
-	case has("versioning") && m == "PUT":
-		c.putVersioning()
-	case has("lifecycle") && m == "GET":
-		c.sendListing("LifecycleConfiguration", c.request("GET", "lifecycle", ""), nil)
-	case has("lifecycle") && m == "PUT":
-		c.putLifecycle()
-	case has("lifecycle") && m == "DELETE":
-		c.need(c.request("DELETE", "lifecycle", ""))
-		c.send(204, nil)
-	case has("versioning") || has("lifecycle"):
-		panic(methodNotAllowed())
-	case m == "GET" && has("location"):
-		c.need(c.request("HEAD"))
-		c.sendDocument("LocationConstraint", func(x *xmlWriter) {
-			// (S3's first region has no name there)
-			x.WriteString(strings.TrimPrefix(c.server.region, "us-east-1"))
-		})
-	case m == "GET" && has("uploads"):
-		c.sendListing("ListMultipartUploadsResult", c.page("uploads", ""), nil)
-	case m == "GET" && has("versions"):
-		c.sendListing("ListVersionsResult", c.page("versions", ""), nil)
-	case m == "GET":
-		c.listObjects()
-	case m == "POST" && has("delete"):
-		c.deleteObjects()
-	case m == "POST":
-		panic(notImplemented("an upload by a form"))
-	case m == "PUT":
-		c.readBody(greatestXML, 0).free() // it names a region: there is one alone
-		c.need(c.request("PUT"))
-		c.w.Header().Set("Location", "/"+c.bucket)
-		c.send(200, nil)
-	case m == "HEAD":
-		c.need(c.request("HEAD"))
-		c.w.Header().Set("x-amz-bucket-region", c.server.region)
-		c.send(200, nil)
-	case m == "DELETE":
-		c.own.buckets.Lock()
-		defer c.own.buckets.Unlock()
-		c.need(c.request("DELETE"))
-		c.forgetBucket()
-		c.send(204, nil)
-	default:
-		panic(methodNotAllowed())
+// The calls of a bucket by method and sub-resource.
+var bucketCalls = map[string]func(c *call){
+	"GET acl":          (*call).getACL,
+	"PUT acl":          (*call).putACL,
+	"GET versioning":   func(c *call) { c.sendListing("VersioningConfiguration", "versioning") },
+	"PUT versioning":   (*call).putVersioning,
+	"GET lifecycle":    func(c *call) { c.sendListing("LifecycleConfiguration", "lifecycle") },
+	"PUT lifecycle":    (*call).putLifecycle,
+	"DELETE lifecycle": func(c *call) { c.done(204, c.request("DELETE", "lifecycle", "")) },
+	"GET location":     (*call).getLocation,
+	"GET uploads":      func(c *call) { c.sendListing("ListMultipartUploadsResult", "uploads") },
+	"GET versions":     func(c *call) { c.sendListing("ListVersionsResult", "versions") },
+	"GET":              (*call).listObjects,
+	"POST delete":      (*call).deleteObjects,
+	"POST":             func(*call) { panic(notImplemented("an upload by a form")) },
+	"PUT":              (*call).createBucket,
+	"HEAD":             (*call).headBucket,
+	"DELETE":           (*call).deleteBucket,
+}
+
+func (c *call) createBucket() {
+	c.readBody(greatestXML, 0) // it names a region: there is one alone
+	c.w.Header().Set("Location", "/"+c.bucket)
+	c.done(200, c.request("PUT"))
+}
+
+func (c *call) headBucket() {
+	c.w.Header().Set("x-amz-bucket-region", c.server.region)
+	c.done(200, c.request("HEAD"))
+}
+
+// Deletes a bucket, and the notes that crashes left of it.
+func (c *call) deleteBucket() {
+	c.own.buckets.Lock()
+	defer c.own.buckets.Unlock()
+	r := c.need(c.request("DELETE"))
+	for c.server.meta && r.refusal == 0 {
+		r = c.ask(&hostRequest{method: "GET", bucket: hiddenBucket, query: parameters("list-type", "2", "prefix", c.bucket+"/")})
+		if r.refusal != 0 || len(r.document().Contents) == 0 {
+			break
+		}
+		for _, o := range r.document().Contents {
+			c.need(&hostRequest{method: "DELETE", bucket: hiddenBucket, key: o.Key})
+		}
 	}
+	c.send(204, nil)
+}
+
+func (c *call) getLocation() {
+	c.need(c.request("HEAD"))
+	// (S3's first region has no name there)
+	c.sendDocument("LocationConstraint", func(x *xmlWriter) { x.WriteString(strings.TrimPrefix(c.server.region, "us-east-1")) })
 }
 
 func (c *call) listBuckets() {
-	c.sendTranslated("ListAllMyBucketsResult", c.need(c.request("GET")).body, func(members map[string]any) {
+	c.sendTranslated("ListAllMyBucketsResult", c.need(c.request("GET")), func(members map[string]any) {
 		var shown []any
 		buckets, _ := members["Buckets"].([]any)
 		for _, it := range buckets {
@@ -80,8 +77,7 @@ func (c *call) listBuckets() {
 }
 
 // A bucket and its objects are their tenant's alone.
-func (c *call) serveACL() {
-	refuseIf(c.r.Method != "GET", notImplemented("an acl but private"))
+func (c *call) getACL() {
 	c.need(object{c.bucket, c.key, c.query.Get("versionId")}.request("HEAD"))
 	c.sendDocument("AccessControlPolicy", func(x *xmlWriter) {
 		c.owner(x, "Owner")
@@ -91,41 +87,26 @@ func (c *call) serveACL() {
 	})
 }
 
-// A request with a document of bucketd's.
-func (q *hostRequest) with(document any) *hostRequest {
-	text := must(json.Marshal(document))
-	q.body, q.to = bodyOf(text), int64(len(text))
-	return q
-}
+func (c *call) putACL() { panic(notImplemented("an acl but private")) }
 
 func (c *call) putVersioning() {
 	var v versioningDocument
 	c.readDocument(&v)
 	refuseIf(v.MfaDelete == "Enabled", notImplemented("MfaDelete"))
-	c.need(c.request("PUT", "versioning", "").with(map[string]any{"Status": v.Status}))
-	c.send(200, nil)
+	c.done(200, c.request("PUT", "versioning", "").with(map[string]any{"Status": v.Status}))
 }
 
 // A bucket's rule for uploads that are left unfinished is all that is there of lifecycles.
 func (c *call) putLifecycle() {
 	var v lifecycleDocument
 	c.readDocument(&v)
-	refuseIf(len(v.Rules) == 0, newError("MalformedXML", 400, "no rule is named"))
+	refuseIf(len(v.Rules) == 0, malformedXML("no rule is named"))
 	it := v.Rules[0]
-	if len(v.Rules) > 1 || it.AbortIncompleteMultipartUpload == nil || it.Prefix+it.Filter.Prefix != "" || len(it.Filter.Other)+len(it.Other) > 0 {
-		panic(notImplemented("a lifecycle but one rule of AbortIncompleteMultipartUpload for the whole bucket"))
-	}
+	isOther := len(v.Rules) > 1 || it.AbortIncompleteMultipartUpload == nil || it.Prefix+it.Filter.Prefix != "" || len(it.Filter.Other)+len(it.Other) > 0
+	refuseIf(isOther, notImplemented("a lifecycle but one rule of AbortIncompleteMultipartUpload for the whole bucket"))
 	rule := map[string]any{"AbortIncompleteMultipartUpload": it.AbortIncompleteMultipartUpload, "Status": it.Status}
-	c.need(c.request("PUT", "lifecycle", "").with(map[string]any{"Rules": []any{rule}}))
-	c.send(200, nil)
+	c.done(200, c.request("PUT", "lifecycle", "").with(map[string]any{"Rules": []any{rule}}))
 }
-
-// The parameters of listings that are told again, and the names of their elements.
-var echoed = map[string]string{"delimiter": "Delimiter", "key-marker": "KeyMarker", "marker": "Marker", "start-after": "StartAfter",
-	"continuation-token": "ContinuationToken", "encoding-type": "EncodingType", "part-number-marker": "PartNumberMarker",
-	"upload-id-marker": "UploadIdMarker", "version-id-marker": "VersionIdMarker"}
-
-var encoded = map[string]bool{"delimiter": true, "key-marker": true, "marker": true, "start-after": true}
 
 // A listing's request, with the parameters that bucketd takes under the same names.
 func (c *call) page(selector, value string) *hostRequest {
@@ -136,34 +117,19 @@ func (c *call) page(selector, value string) *hostRequest {
 			q.query.Set(name, text)
 		}
 	}
-	if id := q.query.Get("upload-id-marker"); id != "" {
-		id, _ = splitUpload(id)
+	if id, _ := splitUpload(q.query.Get("upload-id-marker")); id != "" {
 		q.query.Set("upload-id-marker", id)
 	}
 	return q
 }
 
-func (c *call) sendListing(root string, q *hostRequest, change func(members map[string]any)) {
-	c.sendTranslated(root, c.need(q).body, func(members map[string]any) {
-		for parameter, name := range echoed {
-			text := c.query.Get(parameter)
-			if encoded[parameter] {
-				text = c.name(text)
-			}
-			if c.query.Has(parameter) {
-				members[name] = text
-			}
-		}
-		if change != nil {
-			change(members)
-		}
-	})
+func (c *call) sendListing(root, selector string) {
+	c.sendTranslated(root, c.need(c.page(selector, "")), nil)
 }
 
 // ListObjects of both versions: bucketd's token is the name that a page begins after, in hexadecimal.
 func (c *call) listObjects() {
-	q := c.page("list-type", "2")
-	isFirst := c.query.Get("list-type") != "2"
+	q, isFirst := c.page("list-type", "2"), c.query.Get("list-type") != "2"
 	after, token := c.query.Get("start-after"), c.query.Get("continuation-token")
 	if isFirst {
 		after, token = c.query.Get("marker"), ""
@@ -172,7 +138,7 @@ func (c *call) listObjects() {
 		token = hex.EncodeToString([]byte(after))
 	}
 	q.query.Set("continuation-token", token)
-	c.sendListing("ListBucketResult", q, func(members map[string]any) {
+	c.sendTranslated("ListBucketResult", c.need(q), func(members map[string]any) {
 		if next, ok := members["NextContinuationToken"].(string); ok && isFirst {
 			name, _ := hex.DecodeString(next)
 			members["NextMarker"] = string(name)
@@ -181,14 +147,11 @@ func (c *call) listObjects() {
 	})
 }
 
-// A moment of bucketd's, which has whole seconds, in S3's form.
-func milliseconds(moment string) string { return strings.TrimSuffix(moment, "Z") + ".000Z" }
-
 // Deletes up to 1000 objects or versions; each has an error of its own.
 func (c *call) deleteObjects() {
 	var v deleteDocument
 	c.readDocument(&v)
-	refuseIf(len(v.Objects) == 0 || len(v.Objects) > 1000, newError("MalformedXML", 400, "1 to 1000 keys are deleted at once"))
+	refuseIf(len(v.Objects) == 0 || len(v.Objects) > 1000, malformedXML("1 to 1000 keys are deleted at once"))
 	c.need(c.request("HEAD"))
 	c.sendDocument("DeleteResult", func(x *xmlWriter) {
 		for _, o := range v.Objects {
@@ -205,33 +168,4 @@ func (c *call) deleteObjects() {
 			}
 		}
 	})
-}
-
-func (c *call) deleteOne(key, version string) *hostResponse {
-	refuseIf(len(key) > longestKey, newError("KeyTooLongError", 400, "a key has at most 1024 bytes"))
-	refuseIf(key == "" || !utf8.ValidString(key), invalid("there can be no such key"))
-	defer c.own.hold(c.bucket, key)()
-	if c.key != "" {
-		c.checkWrite()
-	}
-	o := object{c.bucket, key, version}
-	r := c.need(o.request("DELETE"))
-	if id := r.version(); version != "" || id == "" || id == nullVersion {
-		c.forget(o)
-	}
-	return r
-}
-
-// The notes that crashes left of a bucket that is gone are taken away.
-func (c *call) forgetBucket() {
-	for c.server.meta {
-		r := c.ask(&hostRequest{method: "GET", bucket: hiddenBucket, query: url.Values{"list-type": {"2"}, "prefix": {c.bucket + "/"}}})
-		d, err := r.document()
-		if r.refusal != 0 || err != nil || len(d.Contents) == 0 {
-			return
-		}
-		for _, o := range d.Contents {
-			c.need(&hostRequest{method: "DELETE", bucket: hiddenBucket, key: o.Key})
-		}
-	}
 }

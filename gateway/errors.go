@@ -3,6 +3,8 @@ package main
 import (
 	"fmt"
 	"log"
+	"net/http"
+	"runtime"
 )
 
 // apiError is an error as S3 tells it (Amazon S3 API Reference, "Error responses"). What answers a call panics with one, and
@@ -11,25 +13,25 @@ type apiError struct {
 	code    string
 	status  int
 	message string
-	region  string            // where the code has one to tell
 	fields  map[string]string // of the response's head
 }
 
 func (e *apiError) Error() string { return e.code + ": " + e.message }
 
 func newError(code string, status int, message string) *apiError {
-	return &apiError{code: code, status: status, message: message}
+	return &apiError{code, status, message, map[string]string{}}
 }
 
 func notImplemented(what string) *apiError {
 	return newError("NotImplemented", 501, what+" is not there")
 }
+func invalid(message string) *apiError        { return newError("InvalidArgument", 400, message) }
+func invalidRequest(message string) *apiError { return newError("InvalidRequest", 400, message) }
+func malformedXML(message string) *apiError   { return newError("MalformedXML", 400, message) }
+func accessDenied(message string) *apiError   { return newError("AccessDenied", 403, message) }
+func slowDown(message string) *apiError       { return newError("SlowDown", 503, message) }
 
-func invalid(message string) *apiError { return newError("InvalidArgument", 400, message) }
-
-func slowDown(message string) *apiError { return newError("SlowDown", 503, message) }
-
-func methodNotAllowed() *apiError { return newError("MethodNotAllowed", 405, "there is no such call") }
+var preconditionFailed = newError("PreconditionFailed", 412, "a condition of the request is not met")
 
 // refuseIf ends a call that is at fault.
 func refuseIf(isSo bool, e *apiError) {
@@ -49,18 +51,16 @@ func must[T any](value T, err error) T {
 // Runs what answers a call, and gives the error that it panicked with. One that isn't S3's is logged, not told.
 func try(act func()) (e *apiError) {
 	defer func() {
-		switch it := recover().(type) {
-		case nil:
-		case *apiError:
-			e = it
-		case error:
-			if _, isDefect := it.(interface{ RuntimeError() }); isDefect || it == errBroken {
-				panic(it)
-			}
+		it := recover()
+		_, isError := it.(error)
+		_, isDefect := it.(runtime.Error)
+		switch e, _ = it.(*apiError); {
+		case it == nil || e != nil:
+		case !isError || isDefect || it == http.ErrAbortHandler: // (of the last the client sees that its answer is cut)
+			panic(it)
+		default:
 			log.Print(it)
 			e = newError("InternalError", 500, "an error of the gateway")
-		default:
-			panic(it)
 		}
 	}()
 	act()
@@ -94,11 +94,10 @@ var renamed = map[int]string{1: "InvalidRequest", 11: "MalformedXML", 29: "Inter
 
 // The error that a refused request to bucketd becomes: its own code and status but for a few.
 func (r *hostResponse) refused() *apiError {
-	e := newError(renamed[r.refusal], r.status, fmt.Sprintf("the host's refusal %d %s", r.refusal, r.code))
-	if e.code == "" {
-		e.code = r.code
+	e := newError(r.code, r.status, fmt.Sprintf("the host's refusal %d %s", r.refusal, r.code))
+	if code := renamed[r.refusal]; code != "" {
+		e.code = code
 	}
-	e.fields = map[string]string{}
 	for _, name := range []string{"x-amz-delete-marker", "x-amz-version-id", "content-range", "allow"} {
 		if text := r.head.Get(name); text != "" {
 			e.fields[name] = text

@@ -293,6 +293,103 @@ func TestVersionsAndNotes(t *testing.T) {
 	}
 }
 
+// What is known of an object isn't asked again, until it is written; what others may write meanwhile is.
+func TestKnown(t *testing.T) {
+	for _, isAlone := range []bool{true, false} {
+		_, host, green, _ := newGateway(t, func(o *options) { o.alone = isAlone })
+		asked := func(count int, act func()) {
+			t.Helper()
+			host.mu.Lock()
+			before := host.requests
+			host.mu.Unlock()
+			act()
+			host.mu.Lock()
+			defer host.mu.Unlock()
+			if got := host.requests - before; got != count {
+				t.Fatal(isAlone, got, "requests, not", count)
+			}
+		}
+		get := func(target, body, n string) func() {
+			return func() {
+				t.Helper()
+				a := expect(t, green.do("GET", target, nil), 200, "")
+				if a.body != body || strings.Join(a.head["X-Amz-Meta-N"], "") != n || a.head.Get("Last-Modified") == "" {
+					t.Fatal(isAlone, target, a.body, a.head)
+				}
+			}
+		}
+		put := func(body string, pairs ...string) func() {
+			return func() { t.Helper(); expect(t, green.do("PUT", "/plans/x", []byte(body), pairs...), 200, "") }
+		}
+		first, again, known := 3, 3, 3
+		if isAlone { // (of what was put through this gateway the note is known)
+			first, again, known = 2, 1, 1
+		}
+		expect(t, green.do("PUT", "/plans", nil), 200, "")
+		asked(2, put("a"))
+		asked(1+again/3, put("a")) // (that there is no note is known)
+		asked(first, get("/plans/x", "a", ""))
+		asked(known, get("/plans/x", "a", ""))
+		asked(4, put("a", "x-amz-meta-n", "1")) // (a bucket for notes is made)
+		asked(first, get("/plans/x", "a", "1"))
+		asked(known, get("/plans/x", "a", "1"))
+		asked(2, put("a", "x-amz-meta-n", "2"))
+		asked(first, get("/plans/x", "a", "2"))
+		asked(2, put("a"))
+		asked(first, get("/plans/x", "a", ""))
+		// Other bytes, put by another: never with what was known of the old ones.
+		host.mu.Lock()
+		host.tenants["green"].buckets["plans"].keys["x"][0] = &storedVersion{id: "null", at: "2026-01-01T00:00:00Z", sum: sum([]byte("b")), data: []byte("b")}
+		host.mu.Unlock()
+		get("/plans/x", "b", "")()
+		expect(t, green.do("DELETE", "/plans/x", nil), 204, "")
+		expect(t, green.do("GET", "/plans/x", nil), 404, "NoSuchKey")
+		// A version with a number and a note stays what it is, whoever writes.
+		expect(t, green.do("PUT", "/plans?versioning", []byte("<VersioningConfiguration><Status>Enabled</Status></VersioningConfiguration>")), 200, "")
+		put("c", "x-amz-meta-n", "3")()
+		asked(4, get("/plans/x", "c", "3"))
+		asked(1, get("/plans/x", "c", "3"))
+		one := expect(t, green.do("HEAD", "/plans/x", nil), 200, "").head.Get("x-amz-version-id")
+		put("c")()
+		asked(4, get("/plans/x", "c", ""))
+		if isAlone {
+			asked(1, get("/plans/x", "c", ""))
+		} else {
+			asked(4, get("/plans/x", "c", ""))
+		}
+		asked(3, get("/plans/x?versionId="+one, "c", "3"))
+		asked(1, get("/plans/x?versionId="+one, "c", "3"))
+	}
+}
+
+// Of puts of the same bytes with other metadata a reader never sees one that was before its request began.
+func TestKnownUnderWrites(t *testing.T) {
+	_, _, green, _ := newGateway(t, func(o *options) { o.alone = true })
+	expect(t, green.do("PUT", "/plans", nil), 200, "")
+	expect(t, green.do("PUT", "/plans/x", []byte("x"), "x-amz-meta-n", "0"), 200, "")
+	var done atomic.Int64
+	var all sync.WaitGroup
+	for i := 0; i < 4; i++ {
+		all.Add(1)
+		go func() {
+			defer all.Done()
+			for done.Load() < 60 {
+				least := done.Load()
+				a := green.do("GET", "/plans/x", nil)
+				if n, _ := strconv.Atoi(strings.Join(a.head["X-Amz-Meta-N"], "")); a.status != 200 || int64(n) < least {
+					t.Error(a.status, n, least)
+				}
+			}
+		}()
+	}
+	for i := int64(1); i <= 60; i++ {
+		expect(t, green.do("PUT", "/plans/x", []byte("x"), "x-amz-meta-n", fmt.Sprint(i)), 200, "")
+		done.Store(i)
+		time.Sleep(2 * time.Millisecond)
+	}
+	all.Wait()
+}
+
 func TestUploads(t *testing.T) {
 	s, host, green, _ := newGateway(t, nil)
 	big := bytes.Repeat([]byte("0123456789abcdef"), 20000) // 5 pieces
@@ -481,7 +578,7 @@ func TestHostGone(t *testing.T) {
 			conn.Close()
 		}
 	}()
-	s.host.moveTo(broken.Addr().String())
+	s.host.address.Store(broken.Addr().String())
 	expect(t, green.do("DELETE", "/plans/x?uploadId=1", nil), 503, "SlowDown")
 	if n := asked.Load(); n != 1 {
 		t.Fatal(n)
@@ -498,10 +595,10 @@ func TestTurns(t *testing.T) {
 	expect(t, green.do("PUT", "/plans", nil), 200, "")
 	expect(t, blue.do("PUT", "/plans", nil), 200, "")
 	host.mu.Lock()
-	host.before = func(*http.Request) { time.Sleep(2 * time.Millisecond) }
+	host.before = func(*http.Request) { time.Sleep(10 * time.Millisecond) }
 	host.mu.Unlock()
 	var counts [2]atomic.Int64
-	end := time.Now().Add(time.Second)
+	end := time.Now().Add(2 * time.Second)
 	var all sync.WaitGroup
 	for i := 0; i < 42; i++ {
 		all.Add(1)
@@ -560,7 +657,6 @@ func TestKeyFile(t *testing.T) {
 		os.Chmod(name, mode)
 		later := time.Now().Add(time.Hour)
 		os.Chtimes(name, later, later)
-		k.looked = time.Time{}
 	}
 	change("green$k1 other\n", 0o644)
 	if secret, _ := k.secret("green$k1"); secret != "secret" {

@@ -2,15 +2,22 @@ package main
 
 import (
 	"bufio"
+	"context"
 	"encoding/json"
-	"hash/maphash"
+	"fmt"
 	"io"
+	"log"
+	"math"
 	"net"
 	"net/http"
 	"net/url"
-	"strconv"
+	"os"
+	"os/exec"
+	"runtime"
 	"strings"
 	"sync"
+	"sync/atomic"
+	"syscall"
 	"time"
 )
 
@@ -19,20 +26,15 @@ import (
 type host struct {
 	ahead   int
 	turn    chan struct{}
+	address atomic.Value // a string
 	mu      sync.Mutex
-	address string
 	tenants map[string]*tenant
 }
 
-// tenant has what requests of one tenant wait for.
-type tenant struct {
-	turn    chan struct{}
-	buckets sync.RWMutex // held for writing where a bucket goes with its notes
-	keys    [64]sync.Mutex
-}
-
 func newHost(address string, ahead int) *host {
-	return &host{ahead: ahead, turn: make(chan struct{}, ahead), address: address, tenants: map[string]*tenant{}}
+	h := &host{ahead: ahead, turn: make(chan struct{}, ahead), tenants: map[string]*tenant{}}
+	h.address.Store(address)
+	return h
 }
 
 func (h *host) tenant(name string) *tenant {
@@ -43,35 +45,11 @@ func (h *host) tenant(name string) *tenant {
 		t = &tenant{turn: make(chan struct{}, h.ahead)}
 		h.tenants[name] = t
 	}
+	t.most.Store(mostKnown / int64(len(h.tenants)))
 	return t
 }
 
-func (h *host) dial() (net.Conn, error) {
-	h.mu.Lock()
-	address := h.address
-	h.mu.Unlock()
-	return net.Dial("tcp", address)
-}
-
-func (h *host) moveTo(address string) {
-	h.mu.Lock()
-	defer h.mu.Unlock()
-	h.address = address
-}
-
-var hashSeed = maphash.MakeSeed()
-
-// Takes the lock of a key, so that what is asked meanwhile is asked of one state, if all writers of the key come through the
-// gateway. Gives what frees it.
-func (t *tenant) hold(bucket, key string) func() {
-	t.buckets.RLock()
-	lock := &t.keys[maphash.String(hashSeed, bucket+"/"+key)%uint64(len(t.keys))]
-	lock.Lock()
-	return func() {
-		lock.Unlock()
-		t.buckets.RUnlock()
-	}
-}
+func (h *host) dial() (net.Conn, error) { return net.Dial("tcp", h.address.Load().(string)) }
 
 // hostRequest is all that a request to bucketd is made of.
 type hostRequest struct {
@@ -83,24 +61,34 @@ type hostRequest struct {
 	buffer              []byte // for the answer's body, where it fits
 }
 
+func parameters(pairs ...string) url.Values {
+	v := url.Values{}
+	for i := 0; i < len(pairs); i += 2 {
+		v.Set(pairs[i], pairs[i+1])
+	}
+	return v
+}
+
+// A request with a document of bucketd's.
+func (q *hostRequest) with(document any) *hostRequest {
+	q.body = bodyOf(must(json.Marshal(document)))
+	q.to = q.body.size
+	return q
+}
+
 func (q *hostRequest) head(id, secret string) string {
-	var b strings.Builder
-	b.WriteString(q.method + " /" + q.bucket)
+	target := "/" + q.bucket
 	if q.key != "" {
-		b.WriteString("/" + percentEncode(q.key, true))
+		target += "/" + percentEncode(q.key, true)
 	}
 	if len(q.query) > 0 {
-		b.WriteString("?" + q.query.Encode())
+		target += "?" + q.query.Encode()
 	}
-	b.WriteString(" HTTP/1.1\r\nhost: gateway\r\nx-access-key: " + id + "\r\nx-secret-key: " + secret + "\r\n")
+	fields := append([]string{"host: gateway", "x-access-key: " + id, "x-secret-key: " + secret}, q.fields...)
 	if q.method == "PUT" || q.method == "POST" {
-		b.WriteString("content-length: " + strconv.FormatInt(q.to-q.from, 10) + "\r\n")
+		fields = append(fields, fmt.Sprint("content-length: ", q.to-q.from))
 	}
-	for _, field := range q.fields {
-		b.WriteString(field + "\r\n")
-	}
-	b.WriteString("\r\n")
-	return b.String()
+	return q.method + " " + target + " HTTP/1.1\r\n" + strings.Join(fields, "\r\n") + "\r\n\r\n"
 }
 
 // hostResponse is bucketd's answer; refusal is 0 where it is none.
@@ -113,7 +101,14 @@ type hostResponse struct {
 }
 
 func (r *hostResponse) checksum() string { return r.head.Get("x-amz-checksum-sha256") }
-func (r *hostResponse) version() string  { return r.head.Get("x-amz-version-id") }
+
+// The id of the version that was answered: a bucket without versions tells none.
+func (r *hostResponse) version() string {
+	if id := r.head.Get("x-amz-version-id"); id != "" {
+		return id
+	}
+	return nullVersion
+}
 
 // hostDocument has those members of bucketd's documents that are read; others are only translated.
 type hostDocument struct {
@@ -123,9 +118,9 @@ type hostDocument struct {
 
 type hostVersion struct{ ChecksumSHA256, Key, LastModified, VersionId string }
 
-func (r *hostResponse) document() (*hostDocument, error) {
-	d := &hostDocument{}
-	return d, json.Unmarshal(r.body, d)
+func (r *hostResponse) document() (d hostDocument) {
+	must(0, json.Unmarshal(r.body, &d))
+	return d
 }
 
 // How long a request waits for a bucketd that isn't there.
@@ -134,23 +129,20 @@ const hostPatience = 4 * time.Second
 // Asks bucketd. A connection that is refused is tried again for a while, and so is a read that got no answer: of a write that got
 // none it isn't known whether it was made.
 func (h *host) ask(t *tenant, id, secret string, q *hostRequest) (*hostResponse, error) {
-	begun := time.Now()
+	begun, isRead := time.Now(), q.method == "GET" || q.method == "HEAD"
 	t.turn <- struct{}{}
 	defer func() { <-t.turn }()
 	h.turn <- struct{}{}
 	defer func() { <-h.turn }()
 	for wait := 20 * time.Millisecond; ; wait *= 2 {
+		var r *hostResponse
 		conn, err := h.dial()
-		again := err != nil
-		if err == nil {
-			var r *hostResponse
-			if r, err = exchange(conn, q, q.head(id, secret)); err == nil {
-				return r, nil
-			}
-			again = q.method == "GET" || q.method == "HEAD"
+		isTaken := err == nil
+		if isTaken {
+			r, err = exchange(conn, q, q.head(id, secret))
 		}
-		if !again || time.Since(begun)+wait > hostPatience {
-			return nil, err
+		if err == nil || isTaken && !isRead || time.Since(begun)+wait > hostPatience {
+			return r, err
 		}
 		time.Sleep(wait)
 	}
@@ -159,41 +151,83 @@ func (h *host) ask(t *tenant, id, secret string, q *hostRequest) (*hostResponse,
 func exchange(conn net.Conn, q *hostRequest, head string) (*hostResponse, error) {
 	defer conn.Close()
 	conn.SetDeadline(time.Now().Add(5 * time.Minute))
-	var err error
-	if q.to == q.from {
-		_, err = io.WriteString(conn, head)
-	} else if q.body.file == nil {
-		buffers := net.Buffers{[]byte(head), q.body.memory[q.from:q.to]}
-		_, err = buffers.WriteTo(conn)
-	} else if _, err = io.WriteString(conn, head); err == nil {
-		if _, err = q.body.file.Seek(q.from, io.SeekStart); err == nil {
-			_, err = io.CopyN(conn, q.body.file, q.to-q.from)
-		}
+	told := net.Buffers{[]byte(head)}
+	if q.body != nil && q.body.file == nil {
+		told = append(told, q.body.memory.Bytes()[q.from:q.to])
+	}
+	_, err := told.WriteTo(conn)
+	if err == nil && q.body != nil && q.body.file != nil {
+		_, err = io.Copy(conn, io.NewSectionReader(q.body.file, q.from, q.to-q.from))
 	}
 	// (an answer may have come before the body was taken)
 	answer, failed := http.ReadResponse(bufio.NewReader(conn), &http.Request{Method: q.method})
 	if failed != nil {
-		if err == nil {
-			err = failed
-		}
-		return nil, err
+		return nil, fmt.Errorf("%v (%v)", failed, err)
 	}
 	r := &hostResponse{status: answer.StatusCode, head: answer.Header}
-	if refusal := answer.Header.Get("x-refusal"); refusal != "" {
-		number, code, _ := strings.Cut(refusal, " ")
-		r.code = code
-		if r.refusal, err = strconv.Atoi(number); err != nil {
-			return nil, err
-		}
+	if err = nil; r.status >= 300 {
+		_, err = fmt.Sscan(r.head.Get("x-refusal"), &r.refusal, &r.code)
 	}
-	if length := answer.ContentLength; q.method != "HEAD" && length > 0 {
+	if length := answer.ContentLength; err == nil && q.method != "HEAD" && length > 0 {
 		if r.body = q.buffer; int64(cap(r.body)) < length {
 			r.body = make([]byte, length)
 		}
 		r.body = r.body[:length]
-		if _, err = io.ReadFull(answer.Body, r.body); err != nil {
-			return nil, err
+		_, err = io.ReadFull(answer.Body, r.body)
+	}
+	return r, err
+}
+
+// Runs 'bucketd serve' on a host's file until the context is done, again whenever it ends. Returns when it listens, or with why it
+// doesn't; the channel is closed when it has ended. Each change is on the disk before it is answered, so it may be killed.
+func serveHost(ctx context.Context, program, file string, h *host) (<-chan struct{}, error) {
+	first, over := make(chan error, 1), make(chan struct{})
+	var once sync.Once
+	tell := func(err error) { once.Do(func() { first <- err }) }
+	go func() {
+		defer close(over)
+		// The kernel ends the child with the thread that made it, so also where the gateway is killed.
+		runtime.LockOSThread()
+		for ctx.Err() == nil {
+			err := runHost(ctx, program, file, h, tell)
+			tell(err)
+			if ctx.Err() == nil {
+				log.Printf("bucketd serve ended (%v), and is started again", err)
+				time.Sleep(250 * time.Millisecond)
+			}
+		}
+	}()
+	return over, <-first
+}
+
+// Runs bucketd once, on a free port, to its end; tells when it listens: it may have a log to read first.
+func runHost(ctx context.Context, program, file string, h *host, tell func(error)) error {
+	free, err := net.Listen("tcp", "127.0.0.1:0")
+	if err != nil {
+		return err
+	}
+	_, port, _ := net.SplitHostPort(free.Addr().String())
+	free.Close()
+	// (4294967295: the most connections that it can be told to answer before it ends, where it wants to be told)
+	child := exec.CommandContext(ctx, program, "serve", "--file", file, "--port", port, "--count", "4294967295")
+	child.Stdout, child.Stderr = os.Stderr, os.Stderr
+	child.SysProcAttr = &syscall.SysProcAttr{Pdeathsig: syscall.SIGKILL, Setpgid: true}
+	if err := child.Start(); err != nil {
+		return err
+	}
+	h.address.Store("127.0.0.1:" + port)
+	ended := make(chan error, 1)
+	go func() { ended <- child.Wait() }()
+	for wait := 20 * time.Millisecond; ; {
+		select {
+		case err := <-ended:
+			return fmt.Errorf("bucketd serve --file %s: %v", file, err)
+		case <-time.After(wait):
+		}
+		if conn, err := h.dial(); err == nil {
+			conn.Close()
+			tell(nil)
+			wait = math.MaxInt64
 		}
 	}
-	return r, nil
 }

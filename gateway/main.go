@@ -1,8 +1,8 @@
 // Gateway lets stock S3 clients use bucketd: Signature V4, XML and TLS on their side, bucketd's own keys and JSON on the other.
 //
-// It keeps nothing. What it answers is made of the request, the key file, and what bucketd answers to that tenant. No byte of a
-// client's head is passed on: requests to bucketd are written anew. It is no part of any theorem: it is trusted for signatures,
-// for the tenant of a key, and for making an answer of that tenant's responses alone.
+// It keeps nothing but in memory what it found of a tenant's objects. What it answers is made of the request, the key file, and what
+// bucketd answers to that tenant. No byte of a client's head is passed on: requests to bucketd are written anew. It is no part of
+// any theorem: it is trusted for signatures, for the tenant of a key, and for making an answer of that tenant's responses alone.
 package main
 
 import (
@@ -17,6 +17,8 @@ import (
 	"os"
 	"os/signal"
 	"runtime/debug"
+	"sync"
+	"sync/atomic"
 	"syscall"
 	"time"
 )
@@ -28,7 +30,7 @@ type options struct {
 	connections, ahead                        int
 	silence                                   time.Duration
 	piece, maxPut                             int64
-	lastModified, meta, log                   bool
+	lastModified, meta, alone, log            bool
 }
 
 func parseOptions(words []string, out io.Writer) (options, error) {
@@ -40,8 +42,9 @@ func parseOptions(words []string, out io.Writer) (options, error) {
 	set.StringVar(&o.certificate, "cert", "", "a certificate with its chain, for TLS")
 	set.StringVar(&o.certificateKey, "cert-key", "", "the certificate's key")
 	set.StringVar(&o.host, "host", "127.0.0.1:8080", "the address of 'bucketd serve'")
-	set.StringVar(&o.serve, "serve", "", "a host's file: bucketd serves it as long as the gateway runs, and --host is not looked at")
+	set.StringVar(&o.serve, "serve", "", "a host's file: bucketd serves it as long as the gateway runs, --alone, and --host is not looked at")
 	set.StringVar(&o.program, "program", "bucketd", "the program that --serve starts")
+	set.BoolVar(&o.alone, "alone", false, "no one writes to the host but through this gateway: what was found of an object needn't be asked again")
 	set.StringVar(&o.region, "region", "us-east-1", "the region that signatures name; where it is empty, any")
 	set.StringVar(&o.domain, "domain", "", "takes BUCKET.DOMAIN, too, beside /BUCKET")
 	set.StringVar(&o.spool, "spool", os.TempDir(), "the folder in which bodies above 1 MiB wait")
@@ -56,6 +59,7 @@ func parseOptions(words []string, out io.Writer) (options, error) {
 	if err := set.Parse(words); err != nil {
 		return o, err
 	}
+	o.alone = o.alone || o.serve != ""
 	if set.NArg() > 0 || o.connections < 1 || o.ahead < 1 || o.piece < 1 || o.maxPut < 0 || (o.certificate == "") != (o.certificateKey == "") {
 		return o, errors.New("an option is missing its value, or has one out of its range")
 	}
@@ -65,14 +69,12 @@ func parseOptions(words []string, out io.Writer) (options, error) {
 func main() {
 	log.SetPrefix("gateway: ")
 	o, err := parseOptions(os.Args[1:], os.Stderr)
-	if errors.Is(err, flag.ErrHelp) {
-		return
-	} else if err != nil {
-		log.Fatal(err)
+	if err == nil {
+		ended, stop := signal.NotifyContext(context.Background(), os.Interrupt, syscall.SIGTERM)
+		defer stop()
+		err = run(ended, o)
 	}
-	ended, stop := signal.NotifyContext(context.Background(), os.Interrupt, syscall.SIGTERM)
-	defer stop()
-	if err := run(ended, o); err != nil {
+	if err != nil && !errors.Is(err, flag.ErrHelp) {
 		log.Fatal(err)
 	}
 }
@@ -81,16 +83,17 @@ func main() {
 func run(ctx context.Context, o options) error {
 	// Bodies and pieces have bounds of their own; what is left behind them is collected before all takes more than this.
 	debug.SetMemoryLimit(48 << 20)
+	debug.SetGCPercent(400) // (a small heap would be collected all the time)
 	keys, err := openKeys(o.keys)
 	if err != nil {
 		return err
 	}
 	server := &server{options: o, keys: keys, host: newHost(o.host, o.ahead)}
-	inner, err := net.Listen("tcp", o.listen)
+	listener, err := net.Listen("tcp", o.listen)
 	if err != nil {
 		return err
 	}
-	listener, scheme := net.Listener(&patientListener{inner, o.silence, make(chan struct{}, o.connections)}), "http"
+	listener, scheme := &patientListener{listener, o.silence, make(chan struct{}, o.connections)}, "http"
 	if o.certificate != "" {
 		pair, err := tls.LoadX509KeyPair(o.certificate, o.certificateKey)
 		if err != nil {
@@ -99,15 +102,14 @@ func run(ctx context.Context, o options) error {
 		listener, scheme = tls.NewListener(listener, &tls.Config{Certificates: []tls.Certificate{pair}, MinVersion: tls.VersionTLS12}), "https"
 	}
 	hostCtx, endHost := context.WithCancel(context.Background())
+	defer endHost()
 	if o.serve != "" {
 		over, err := serveHost(hostCtx, o.program, o.serve, server.host)
 		if err != nil {
-			endHost()
 			return err
 		}
-		defer func() { <-over }()
+		defer func() { endHost(); <-over }()
 	}
-	defer endHost()
 	log.Printf("listening on %s://%s", scheme, listener.Addr())
 	web := http.Server{Handler: server, ReadHeaderTimeout: 20 * time.Second, IdleTimeout: time.Minute, MaxHeaderBytes: 32 << 10}
 	go func() {
@@ -122,4 +124,60 @@ func run(ctx context.Context, o options) error {
 	}
 	<-hostCtx.Done()
 	return nil
+}
+
+// How many bytes a client has to take within the time that it may be silent.
+const writeSlice = 128 << 10
+
+// patientConn breaks off when its client is silent for a while within a request; between requests http.Server sets the time.
+type patientConn struct {
+	net.Conn
+	silence time.Duration
+	isTimed atomic.Bool // by http.Server
+	release func()
+	once    sync.Once
+}
+
+func (c *patientConn) SetReadDeadline(t time.Time) error {
+	c.isTimed.Store(!t.IsZero())
+	return c.Conn.SetReadDeadline(t)
+}
+
+func (c *patientConn) Read(b []byte) (int, error) {
+	if !c.isTimed.Load() {
+		c.Conn.SetReadDeadline(time.Now().Add(c.silence))
+	}
+	return c.Conn.Read(b)
+}
+
+func (c *patientConn) Write(b []byte) (written int, err error) {
+	for len(b) > written && err == nil {
+		var n int
+		c.Conn.SetWriteDeadline(time.Now().Add(c.silence))
+		n, err = c.Conn.Write(b[written:min(len(b), written+writeSlice)])
+		written += n
+	}
+	return written, err
+}
+
+func (c *patientConn) Close() error {
+	c.once.Do(c.release)
+	return c.Conn.Close()
+}
+
+// patientListener accepts as many connections at once as it has places for.
+type patientListener struct {
+	net.Listener
+	silence time.Duration
+	places  chan struct{}
+}
+
+func (l *patientListener) Accept() (net.Conn, error) {
+	l.places <- struct{}{}
+	conn, err := l.Listener.Accept()
+	if err != nil {
+		<-l.places
+		return nil, err
+	}
+	return &patientConn{Conn: conn, silence: l.silence, release: func() { <-l.places }}, nil
 }

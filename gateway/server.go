@@ -5,6 +5,7 @@ import (
 	"log"
 	"net/http"
 	"net/url"
+	"regexp"
 	"strconv"
 	"strings"
 	"sync/atomic"
@@ -18,7 +19,7 @@ const (
 	greatestXML  = 2 << 20
 )
 
-// server answers S3 calls. What it has beside its options is no state: what waits, and how much memory bodies and pieces take.
+// server answers S3 calls. What it has beside its options is no state: what waits, what is known, and how much memory is taken.
 type server struct {
 	options
 	keys     *keyFile
@@ -36,8 +37,13 @@ type call struct {
 	query       url.Values
 	bucket, key string
 	own         *tenant
+	was         *details // of the key that is held, before
 	status      int
+	ends        []func()
 }
+
+// Runs something when the call has been answered.
+func (c *call) atEnd(act func()) { c.ends = append(c.ends, act) }
 
 func (s *server) ServeHTTP(w http.ResponseWriter, r *http.Request) {
 	c := &call{caller: &caller{}, server: s, w: w, r: r, query: url.Values{}}
@@ -45,6 +51,11 @@ func (s *server) ServeHTTP(w http.ResponseWriter, r *http.Request) {
 	w.Header().Set("x-amz-request-id", strings.ToUpper(hexSHA256(r.Header.Get("Authorization") + r.URL.RawQuery)[:16]))
 	w.Header().Set("Server", "bucketd-gateway")
 	begun, code := time.Now(), ""
+	defer func() {
+		for _, act := range c.ends {
+			try(act)
+		}
+	}()
 	if e := try(c.serve); e != nil {
 		code = e.code
 		c.refuse(e)
@@ -56,9 +67,9 @@ func (s *server) ServeHTTP(w http.ResponseWriter, r *http.Request) {
 
 func (c *call) serve() {
 	query, err := url.ParseQuery(c.r.URL.RawQuery)
-	if c.query = query; err != nil || !utf8.ValidString(c.r.URL.Path) || !strings.HasPrefix(c.r.URL.Path, "/") {
-		panic(newError("InvalidURI", 400, "the target is no percent-encoded UTF-8"))
-	}
+	c.query = query
+	isWell := err == nil && utf8.ValidString(c.r.URL.Path) && strings.HasPrefix(c.r.URL.Path, "/")
+	refuseIf(!isWell, newError("InvalidURI", 400, "the target is no percent-encoded UTF-8"))
 	for name, values := range c.query {
 		refuseIf(len(values) > 1, invalid("a parameter stands twice: "+name))
 	}
@@ -73,16 +84,29 @@ func (c *call) serve() {
 	c.caller = c.server.authenticate(c.r, c.query, path)
 	c.own = c.server.host.tenant(c.tenant)
 	c.refuseUnknown()
-	switch {
-	case c.bucket != "" && c.key != "":
-		c.serveObject()
-	case c.bucket != "":
-		c.serveBucket()
-	case c.r.Method == "GET":
-		c.listBuckets()
-	default:
-		panic(methodNotAllowed())
+	act := c.act()
+	refuseIf(act == nil, newError("MethodNotAllowed", 405, "there is no such call"))
+	act(c)
+}
+
+// What does the call, by its method and sub-resource; nil where nothing does.
+func (c *call) act() func(*call) {
+	name := c.r.Method
+	if c.key != "" && name == "PUT" && c.r.Header.Get("x-amz-copy-source") != "" {
+		name = "COPY"
 	}
+	for _, it := range strings.Fields("acl tagging versioning lifecycle uploadId uploads location versions delete") {
+		if c.query.Has(it) {
+			name += " " + it
+			break
+		}
+	}
+	if c.key != "" {
+		return objectCalls[name]
+	} else if c.bucket != "" {
+		return bucketCalls[name]
+	}
+	return map[string]func(*call){"GET": (*call).listBuckets}[name]
 }
 
 // Sub-resources that nothing here has, and S3's codes for what is not set, which a GET is answered.
@@ -103,9 +127,8 @@ var unknownFields = strings.Fields("x-amz-bucket-object-lock- x-amz-object-lock-
 func (c *call) refuseUnknown() {
 	refuseIf(c.bucket != "" && !isBucketName(c.bucket), newError("InvalidBucketName", 400, "there is no such name of a bucket"))
 	refuseIf(len(c.key) > longestKey, newError("KeyTooLongError", 400, "a key has at most 1024 bytes"))
-	owner := c.r.Header.Get("x-amz-expected-bucket-owner")
-	refuseIf(owner != "" && owner != c.tenant, newError("AccessDenied", 403, "the bucket has another owner"))
-	isRead := c.r.Method == "GET"
+	owner, isRead := c.r.Header.Get("x-amz-expected-bucket-owner"), c.r.Method == "GET"
+	refuseIf(owner != "" && owner != c.tenant, accessDenied("the bucket has another owner"))
 	for name, code := range unset {
 		isThere := name == "tagging" && c.key != "" && isRead || name == "partNumber" && c.query.Has("uploadId")
 		if c.query.Has(name) && !isThere {
@@ -115,23 +138,22 @@ func (c *call) refuseUnknown() {
 	}
 	for field := range c.r.Header {
 		for _, name := range unknownFields {
-			if lower := strings.ToLower(field); strings.HasPrefix(lower, name) && lower != "x-amz-tagging-directive" {
-				panic(notImplemented(lower))
-			}
+			lower := strings.ToLower(field)
+			refuseIf(strings.HasPrefix(lower, name) && lower != "x-amz-tagging-directive", notImplemented(lower))
 		}
 	}
 	list := c.r.Header.Get("x-amz-acl")
 	refuseIf(list != "" && list != "private" && !strings.HasPrefix(list, "bucket-owner-"), notImplemented("an acl but private"))
 }
 
+var bucketNames = regexp.MustCompile("^[a-z0-9.-]{3,63}$")
+
 // Whether it is a bucket's name that clients may use: the hidden bucket's is none.
-func isBucketName(name string) bool {
-	for _, b := range []byte(name) {
-		if !('a' <= b && b <= 'z' || '0' <= b && b <= '9' || b == '.' || b == '-') {
-			return false
-		}
-	}
-	return len(name) >= 3 && len(name) <= 63 && name != hiddenBucket
+func isBucketName(name string) bool { return bucketNames.MatchString(name) && name != hiddenBucket }
+
+// A request about the call's own bucket and key, with parameters by name and value.
+func (c *call) request(method string, pairs ...string) *hostRequest {
+	return &hostRequest{method: method, bucket: c.bucket, key: c.key, query: parameters(pairs...)}
 }
 
 // Asks bucketd; a refusal is an answer.
@@ -148,26 +170,13 @@ func (c *call) ask(q *hostRequest) *hostResponse {
 func (c *call) need(q *hostRequest) *hostResponse {
 	r := c.ask(q)
 	if r.refusal != 0 {
-		panic(r.refused())
+		e := r.refused()
+		if e.code == "BadDigest" {
+			e.code = c.badDigest("x-amz-checksum-sha256")
+		}
+		panic(e)
 	}
 	return r
-}
-
-func (c *call) list(bucket string, query url.Values) *hostDocument {
-	return must(c.need(&hostRequest{method: "GET", bucket: bucket, query: query}).document())
-}
-
-// A request about the call's own bucket and key, with parameters by name and value.
-func (c *call) request(method string, pairs ...string) *hostRequest {
-	return &hostRequest{method: method, bucket: c.bucket, key: c.key, query: parameters(pairs...)}
-}
-
-func parameters(pairs ...string) url.Values {
-	v := url.Values{}
-	for i := 0; i < len(pairs); i += 2 {
-		v.Set(pairs[i], pairs[i+1])
-	}
-	return v
 }
 
 func (c *call) begin(status int) {
@@ -180,7 +189,7 @@ func (c *call) send(status int, text []byte) {
 	if text != nil {
 		c.w.Header().Set("Content-Type", "application/xml")
 	}
-	if status != 204 {
+	if status != 204 && status != 304 {
 		c.w.Header().Set("Content-Length", strconv.Itoa(len(text)))
 	}
 	c.begin(status)
@@ -189,32 +198,23 @@ func (c *call) send(status int, text []byte) {
 	}
 }
 
-func (c *call) sendDocument(root string, content func(x *xmlWriter)) {
-	c.send(200, document(root, content))
-}
-
 func (c *call) refuse(e *apiError) {
 	for name, value := range e.fields {
 		c.w.Header().Set(name, value)
 	}
-	if e.status == 304 {
-		c.begin(304)
-		return
+	x, region := &xmlWriter{}, ""
+	if strings.HasPrefix(e.code, "Authorization") {
+		region = c.server.region
 	}
-	x := &xmlWriter{}
-	x.WriteString(xml.Header)
-	x.elements("Error", func() {
-		x.elements("Code", e.code, "Message", e.message, "Region", e.region, "Resource", c.r.URL.Path,
-			"RequestId", c.w.Header().Get("x-amz-request-id"))
-	})
+	if e.status != 304 {
+		x.WriteString(xml.Header)
+		x.elements("Error", func() {
+			x.elements("Code", e.code, "Message", e.message, "Region", region, "Resource", c.r.URL.Path,
+				"RequestId", c.w.Header().Get("x-amz-request-id"))
+		})
+	}
 	if e.status >= 500 || e.code == "IncompleteBody" || e.code == "EntityTooLarge" {
 		c.w.Header().Set("Connection", "close")
 	}
 	c.send(e.status, x.Bytes())
-}
-
-func (c *call) readDocument(into any) {
-	b := c.readBody(greatestXML, 0)
-	defer b.free()
-	must(0, readXML(must(b.text()), into))
 }

@@ -6,12 +6,16 @@ import (
 	"crypto/sha256"
 	"encoding/base64"
 	"encoding/hex"
+	"fmt"
 	"io"
+	"log"
 	"net/http"
 	"net/url"
+	"os"
 	"sort"
 	"strconv"
 	"strings"
+	"sync"
 	"time"
 )
 
@@ -22,24 +26,17 @@ const (
 	emptySHA256     = "e3b0c44298fc1c149afbf4c8996fb92427ae41e4649b934ca495991b7852b855"
 	longestQuery    = 7 * 24 * 60 * 60 // seconds that a presigned URL may be used
 	skew            = 15 * time.Minute
-	hexDigits       = "0123456789ABCDEF"
 )
 
 var clock = time.Now
 
 // Encodes all bytes but those that RFC 3986 calls unreserved; of a path also not the slash.
 func percentEncode(text string, isPath bool) string {
-	var b strings.Builder
-	for i := 0; i < len(text); i++ {
-		c := text[i]
-		switch {
-		case 'a' <= c && c <= 'z', 'A' <= c && c <= 'Z', '0' <= c && c <= '9', strings.IndexByte("-._~", c) >= 0, isPath && c == '/':
-			b.WriteByte(c)
-		default:
-			b.Write([]byte{'%', hexDigits[c>>4], hexDigits[c&15]})
-		}
+	text = strings.ReplaceAll(url.QueryEscape(text), "+", "%20")
+	if isPath {
+		text = strings.ReplaceAll(text, "%2F", "/")
 	}
-	return b.String()
+	return text
 }
 
 func hmacSHA256(key []byte, text string) []byte {
@@ -62,11 +59,10 @@ type caller struct {
 	signature          string
 }
 
-// signedRequest is what a request says of its own signature.
-type signedRequest struct {
-	credential, headers, signature, date, payload string
-	isQuery                                       bool
-	seconds                                       int // that the query may be used
+// Whether the caller's key signed a text, of a kind, by a signature.
+func (c *caller) signs(kind, text, signature string) bool {
+	sum := hmacSHA256(c.key, algorithm+kind+"\n"+c.date+"\n"+c.scope+"\n"+text)
+	return hmac.Equal([]byte(hex.EncodeToString(sum)), []byte(signature))
 }
 
 // Whose request it is (Amazon S3 API Reference, "Authenticating Requests (AWS Signature Version 4)"). The path is the bucket's and
@@ -75,61 +71,62 @@ func (s *server) authenticate(r *http.Request, query url.Values, path string) *c
 	isQuery := query.Has("X-Amz-Algorithm") || query.Has("X-Amz-Signature")
 	isVersion2 := query.Has("AWSAccessKeyId") || query.Has("Signature")
 	authorization := r.Header.Get("Authorization")
-	refuseIf(authorization != "" && (isQuery || isVersion2) || isQuery && isVersion2, invalid("a request is signed once, in its head or in its query"))
+	isTwice := authorization != "" && (isQuery || isVersion2) || isQuery && isVersion2
+	refuseIf(isTwice, invalid("a request is signed once, in its head or in its query"))
 	if isVersion2 {
 		return s.authenticateVersion2(r, query, path)
-	} else if isQuery {
-		return s.verify(r, query, signatureOfQuery(r, query))
 	}
-	refuseIf(authorization == "", newError("AccessDenied", 403, "the request is not signed"))
-	refuseIf(!strings.HasPrefix(authorization, algorithm+" "), newError("InvalidRequest", 400, "a head is signed by "+algorithm))
-	return s.verify(r, query, signatureOfHead(r, authorization))
-}
-
-func signatureOfQuery(r *http.Request, query url.Values) *signedRequest {
-	g := &signedRequest{isQuery: true, credential: query.Get("X-Amz-Credential"), headers: query.Get("X-Amz-SignedHeaders"),
-		signature: query.Get("X-Amz-Signature"), date: query.Get("X-Amz-Date"), payload: unsignedPayload}
-	if query.Get("X-Amz-Algorithm") == algorithm {
-		g.seconds, _ = strconv.Atoi(query.Get("X-Amz-Expires"))
+	g := &signedRequest{Request: r, query: query, isQuery: isQuery, words: map[string]string{}, malformed: "AuthorizationHeaderMalformed"}
+	if isQuery {
+		g.malformed = "AuthorizationQueryParametersError"
+		for _, name := range strings.Fields("Algorithm Credential SignedHeaders Signature Date Expires") {
+			g.words[name] = query.Get("X-Amz-" + name)
+		}
+		g.date, g.payload = g.words["Date"], unsignedPayload
+		refuseIf(g.words["Algorithm"] != algorithm, newError(g.malformed, 400, "the algorithm is "+algorithm))
+	} else {
+		refuseIf(authorization == "", accessDenied("the request is not signed"))
+		refuseIf(!strings.HasPrefix(authorization, algorithm+" "), invalidRequest("a head is signed by "+algorithm))
+		for _, part := range strings.Split(authorization[len(algorithm):], ",") {
+			name, value, _ := strings.Cut(strings.TrimSpace(part), "=")
+			g.words[name] = value
+		}
+		g.date = r.Header.Get("x-amz-date")
+		if at, err := http.ParseTime(r.Header.Get("Date")); g.date == "" && err == nil {
+			g.date = at.UTC().Format(amzDate)
+		}
 	}
-	if strings.Contains(";"+g.headers+";", ";x-amz-content-sha256;") {
+	if !isQuery || strings.Contains(";"+g.words["SignedHeaders"]+";", ";x-amz-content-sha256;") {
 		g.payload = r.Header.Get("x-amz-content-sha256")
 	}
-	return g
+	return s.verify(g)
 }
 
-func signatureOfHead(r *http.Request, authorization string) *signedRequest {
-	words := map[string]string{}
-	for _, part := range strings.Split(authorization[len(algorithm):], ",") {
-		name, value, _ := strings.Cut(strings.TrimSpace(part), "=")
-		words[name] = value
-	}
-	g := &signedRequest{credential: words["Credential"], headers: words["SignedHeaders"], signature: words["Signature"],
-		date: r.Header.Get("x-amz-date"), payload: r.Header.Get("x-amz-content-sha256")}
-	if at, err := http.ParseTime(r.Header.Get("Date")); g.date == "" && err == nil {
-		g.date = at.UTC().Format(amzDate)
-	}
-	return g
+// signedRequest is a request with what it says of its own signature.
+type signedRequest struct {
+	*http.Request
+	query         url.Values
+	isQuery       bool // where the words are
+	words         map[string]string
+	date, payload string
+	malformed     string // the code of one of another form
 }
 
-func (s *server) verify(r *http.Request, query url.Values, g *signedRequest) *caller {
-	scope := strings.Split(g.credential, "/")
-	refuseIf(len(scope) != 5 || scope[3] != "s3" || scope[4] != "aws4_request", g.malformed("the credential is not KEY/DATE/REGION/s3/aws4_request"))
-	if s.region != "" && scope[2] != s.region {
-		e := g.malformed("the region '" + scope[2] + "' is wrong; expecting '" + s.region + "'")
-		e.region = s.region
-		panic(e)
-	}
-	refuseIf(g.payload == "", newError("InvalidRequest", 400, "x-amz-content-sha256 is missing"))
+func (s *server) verify(g *signedRequest) *caller {
+	scope := strings.Split(g.words["Credential"], "/")
+	isWell := len(scope) == 5 && scope[3] == "s3" && scope[4] == "aws4_request"
+	refuseIf(!isWell, newError(g.malformed, 400, "the credential is not KEY/DATE/REGION/s3/aws4_request"))
+	isHere := s.region == "" || scope[2] == s.region
+	refuseIf(!isHere, newError(g.malformed, 400, "the region '"+scope[2]+"' is wrong; expecting '"+s.region+"'"))
+	refuseIf(g.payload == "", invalidRequest("x-amz-content-sha256 is missing"))
 	g.checkTime(scope[1])
 	c := s.caller(scope[0])
-	c.date, c.payload, c.signature, c.scope = g.date, g.payload, g.signature, strings.Join(scope[1:], "/")
+	c.date, c.payload, c.signature, c.scope = g.date, g.payload, g.words["Signature"], strings.Join(scope[1:], "/")
 	c.key = []byte("AWS4" + c.secret)
 	for _, part := range scope[1:] {
 		c.key = hmacSHA256(c.key, part)
 	}
-	text := algorithm + "\n" + g.date + "\n" + c.scope + "\n" + hexSHA256(canonicalRequest(r, query, g.headers, g.payload))
-	refuseIf(!c.matches(text, g.signature), wrongSignature("the request"))
+	refuseIf(!c.signs("", hexSHA256(g.canonical()), c.signature), wrongSignature("the request"))
 	return c
 }
 
@@ -145,79 +142,55 @@ func wrongSignature(what string) *apiError {
 	return newError("SignatureDoesNotMatch", 403, "the signature of "+what+" is another one")
 }
 
-func (g *signedRequest) malformed(message string) *apiError {
-	if g.isQuery {
-		return newError("AuthorizationQueryParametersError", 400, message)
-	}
-	return newError("AuthorizationHeaderMalformed", 400, message)
-}
-
 func (g *signedRequest) checkTime(day string) {
 	at, err := time.Parse(amzDate, g.date)
 	now := clock()
-	refuseIf(err != nil || day != g.date[:8], newError("AccessDenied", 403, "x-amz-date is of another form, or of another day than the credential"))
+	refuseIf(err != nil || day != g.date[:8], accessDenied("x-amz-date is of another form, or of another day than the credential"))
 	if g.isQuery {
-		refuseIf(g.seconds < 1 || g.seconds > longestQuery, g.malformed("the algorithm is "+algorithm+", and X-Amz-Expires from 1 to 604800"))
-		refuseIf(now.After(at.Add(time.Duration(g.seconds)*time.Second)), newError("AccessDenied", 403, "Request has expired"))
+		seconds, _ := strconv.Atoi(g.words["Expires"])
+		refuseIf(seconds < 1 || seconds > longestQuery, newError(g.malformed, 400, "X-Amz-Expires is from 1 to 604800"))
+		refuseIf(now.After(at.Add(time.Duration(seconds)*time.Second)), accessDenied("Request has expired"))
 	}
-	refuseIf(at.After(now.Add(skew)) || !g.isQuery && at.Before(now.Add(-skew)), newError("RequestTimeTooSkewed", 403, "the clocks differ by more than 15 minutes"))
-}
-
-func (c *caller) matches(text, signature string) bool {
-	return hmac.Equal([]byte(hex.EncodeToString(hmacSHA256(c.key, text))), []byte(signature))
+	isSkewed := at.After(now.Add(skew)) || !g.isQuery && at.Before(now.Add(-skew))
+	refuseIf(isSkewed, newError("RequestTimeTooSkewed", 403, "the clocks differ by more than 15 minutes"))
 }
 
 // What is signed of a request. All fields of the head that S3 heeds by an x-amz- name have to be.
-func canonicalRequest(r *http.Request, query url.Values, signed, payload string) string {
-	var b strings.Builder
-	b.WriteString(r.Method + "\n" + percentEncode(r.URL.Path, true) + "\n")
-	var pairs [][2]string
-	for name, values := range query {
+func (g *signedRequest) canonical() string {
+	var pairs []string
+	for name, values := range g.query {
 		for _, value := range values {
 			if name != "X-Amz-Signature" {
-				pairs = append(pairs, [2]string{percentEncode(name, false), percentEncode(value, false)})
+				pairs = append(pairs, percentEncode(name, false)+"\x00"+percentEncode(value, false))
 			}
 		}
 	}
-	sort.Slice(pairs, func(i, j int) bool {
-		return pairs[i][0] < pairs[j][0] || pairs[i][0] == pairs[j][0] && pairs[i][1] < pairs[j][1]
-	})
-	for i, pair := range pairs {
-		if i > 0 {
-			b.WriteByte('&')
-		}
-		b.WriteString(pair[0] + "=" + pair[1])
-	}
-	b.WriteByte('\n')
-	isSigned := map[string]bool{"x-amz-content-sha256": true}
-	for _, name := range strings.Split(signed, ";") {
+	sort.Strings(pairs) // (by names first: nothing sorts below the byte after them)
+	query := strings.ReplaceAll(strings.Join(pairs, "&"), "\x00", "=")
+	text, isSigned := g.Method+"\n"+percentEncode(g.URL.Path, true)+"\n"+query+"\n", map[string]bool{"x-amz-content-sha256": true}
+	for _, name := range strings.Split(g.words["SignedHeaders"], ";") {
 		isSigned[name] = true
-		b.WriteString(name + ":" + canonicalField(r, name) + "\n")
+		text += name + ":" + g.field(name) + "\n"
 	}
-	for name := range r.Header {
+	for name := range g.Header {
 		lower := strings.ToLower(name)
-		refuseIf(strings.HasPrefix(lower, "x-amz-") && !isSigned[lower], newError("AccessDenied", 403, "a field of the head is not signed: "+lower))
+		refuseIf(strings.HasPrefix(lower, "x-amz-") && !isSigned[lower], accessDenied("a field of the head is not signed: "+lower))
 	}
-	refuseIf(!isSigned["host"], newError("AccessDenied", 403, "host is not signed"))
-	return b.String() + "\n" + signed + "\n" + payload
+	refuseIf(!isSigned["host"], accessDenied("host is not signed"))
+	return text + "\n" + g.words["SignedHeaders"] + "\n" + g.payload
 }
 
 // The text of a field as it is signed; net/http keeps some fields elsewhere than in the head.
-func canonicalField(r *http.Request, name string) string {
+func (g *signedRequest) field(name string) string {
 	switch name {
 	case "host":
-		return r.Host
+		return g.Host
 	case "content-length":
-		return strconv.FormatInt(r.ContentLength, 10)
+		return strconv.FormatInt(g.ContentLength, 10)
 	case "transfer-encoding":
-		return strings.Join(r.TransferEncoding, ",")
+		return strings.Join(g.TransferEncoding, ",")
 	}
-	values := r.Header.Values(name)
-	trimmed := make([]string, len(values))
-	for i, it := range values {
-		trimmed[i] = strings.Join(strings.Fields(it), " ")
-	}
-	return strings.Join(trimmed, ",")
+	return strings.Join(strings.Fields(strings.Join(g.Header.Values(name), ",")), " ")
 }
 
 // What a presigned query of version 2 counts as a part of the resource, in order.
@@ -231,7 +204,7 @@ func (s *server) authenticateVersion2(r *http.Request, query url.Values, path st
 	c := s.caller(query.Get("AWSAccessKeyId"))
 	until, err := strconv.ParseInt(query.Get("Expires"), 10, 64)
 	now := clock().Unix()
-	refuseIf(err != nil || until < now || until > now+longestQuery, newError("AccessDenied", 403, "Request has expired"))
+	refuseIf(err != nil || until < now || until > now+longestQuery, accessDenied("Request has expired"))
 	var fields []string
 	for name, values := range r.Header {
 		if lower := strings.ToLower(name); strings.HasPrefix(lower, "x-amz-") {
@@ -250,8 +223,64 @@ func (s *server) authenticateVersion2(r *http.Request, query url.Values, path st
 	}
 	h := hmac.New(sha1.New, []byte(c.secret))
 	io.WriteString(h, text)
-	signature := []byte(base64.StdEncoding.EncodeToString(h.Sum(nil)))
-	refuseIf(!hmac.Equal(signature, []byte(query.Get("Signature"))), wrongSignature("the request"))
+	signature := base64.StdEncoding.EncodeToString(h.Sum(nil))
+	refuseIf(!hmac.Equal([]byte(signature), []byte(query.Get("Signature"))), wrongSignature("the request"))
 	c.payload = unsignedPayload
 	return c
+}
+
+// keyFile holds the access keys of a file, which is read again where it has changed.
+type keyFile struct {
+	name    string
+	mu      sync.Mutex
+	changed time.Time
+	secrets map[string]string
+}
+
+func openKeys(name string) (*keyFile, error) {
+	k := &keyFile{name: name}
+	return k, k.read()
+}
+
+// The secret of an access key's id. Where a changed file can't be read, the keys stay that were read last.
+func (k *keyFile) secret(id string) (string, bool) {
+	k.mu.Lock()
+	defer k.mu.Unlock()
+	if err := k.read(); err != nil {
+		log.Print(err)
+	}
+	secret, ok := k.secrets[id]
+	return secret, ok
+}
+
+// Reads lines 'tenant$name secret', if the file has changed; empty ones and those that begin with # are passed over.
+func (k *keyFile) read() error {
+	info, err := os.Stat(k.name)
+	if err != nil || info.ModTime().Equal(k.changed) {
+		return err
+	} else if info.Mode().Perm()&0o077 != 0 {
+		return fmt.Errorf("%s: others may read or write it: chmod 600", k.name)
+	}
+	text, err := os.ReadFile(k.name)
+	if err != nil {
+		return err
+	}
+	secrets := map[string]string{}
+	for number, line := range strings.Split(string(text), "\n") {
+		words := strings.Fields(line)
+		if len(words) == 0 || words[0][0] == '#' {
+			continue
+		}
+		// (they become fields of requests to bucketd)
+		if len(words) != 2 || !strings.Contains(words[0], "$") || !isPrintable(words[0]+words[1]) {
+			return fmt.Errorf("%s: line %d is not 'tenant$name secret'", k.name, number+1)
+		}
+		secrets[words[0]] = words[1]
+	}
+	k.secrets, k.changed = secrets, info.ModTime()
+	return nil
+}
+
+func isPrintable(text string) bool {
+	return strings.IndexFunc(text, func(r rune) bool { return r <= ' ' || r > '~' }) < 0
 }

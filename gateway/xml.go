@@ -6,6 +6,7 @@ import (
 	"encoding/xml"
 	"fmt"
 	"sort"
+	"strings"
 )
 
 // xmlWriter writes a document's elements one after another.
@@ -28,12 +29,12 @@ func (x *xmlWriter) elements(pairs ...any) {
 	}
 }
 
-func document(root string, content func(x *xmlWriter)) []byte {
+func (c *call) sendDocument(root string, content func(x *xmlWriter)) {
 	x := &xmlWriter{}
 	x.WriteString(xml.Header + "<" + root + ` xmlns="http://s3.amazonaws.com/doc/2006-03-01/">`)
 	content(x)
 	x.WriteString("</" + root + ">")
-	return x.Bytes()
+	c.send(200, x.Bytes())
 }
 
 // The elements of bucketd's arrays.
@@ -60,8 +61,8 @@ func (c *call) translate(x *xmlWriter, members map[string]any) {
 			case "ChecksumSHA256":
 				x.elements("ETag", etag(value))
 			case "CreationDate", "Initiated", "LastModified":
-				x.elements(name, milliseconds(value))
-			case "Key", "Prefix", "NextKeyMarker", "NextMarker":
+				x.elements(name, strings.TrimSuffix(value, "Z")+".000Z") // (bucketd's have whole seconds)
+			case "Key", "Prefix", "NextKeyMarker", "NextMarker", "Delimiter", "KeyMarker", "Marker", "StartAfter":
 				// (S3 tells an empty prefix, too)
 				x.elements(name, func() { xml.EscapeText(x, []byte(c.name(value))) })
 			default:
@@ -74,10 +75,8 @@ func (c *call) translate(x *xmlWriter, members map[string]any) {
 }
 
 func (c *call) translateEntry(x *xmlWriter, name string, entry map[string]any) {
-	isMarker := entry["DeleteMarker"] == true
-	delete(entry, "DeleteMarker")
-	element := entryNames[name]
-	if isMarker {
+	isMarker, element := entry["DeleteMarker"] == true, entryNames[name]
+	if delete(entry, "DeleteMarker"); isMarker {
 		element = "DeleteMarker"
 	}
 	x.elements(element, func() {
@@ -109,12 +108,22 @@ func (c *call) name(text string) string {
 	return text
 }
 
+// The parameters of listings that are told again, and the names of their elements.
+var echoed = map[string]string{"delimiter": "Delimiter", "key-marker": "KeyMarker", "marker": "Marker", "start-after": "StartAfter",
+	"continuation-token": "ContinuationToken", "encoding-type": "EncodingType", "part-number-marker": "PartNumberMarker",
+	"upload-id-marker": "UploadIdMarker", "version-id-marker": "VersionIdMarker"}
+
 // Sends a document of bucketd's, with what the request says of itself beside it, as the whole answer.
-func (c *call) sendTranslated(root string, text []byte, change func(members map[string]any)) {
+func (c *call) sendTranslated(root string, r *hostResponse, change func(members map[string]any)) {
 	var members map[string]any
-	decoder := json.NewDecoder(bytes.NewReader(text))
+	decoder := json.NewDecoder(bytes.NewReader(r.body))
 	decoder.UseNumber()
 	must(0, decoder.Decode(&members))
+	for parameter, name := range echoed {
+		if c.query.Has(parameter) {
+			members[name] = c.query.Get(parameter)
+		}
+	}
 	if change != nil {
 		change(members)
 	}
@@ -124,9 +133,13 @@ func (c *call) sendTranslated(root string, text []byte, change func(members map[
 // readXML reads one document. Of entities only XML's own five are read, and a document type is refused.
 func readXML(text []byte, into any) error {
 	if bytes.Contains(text, []byte("<!DOCTYPE")) || xml.Unmarshal(text, into) != nil {
-		return newError("MalformedXML", 400, "the document is of another form")
+		return malformedXML("the document is of another form")
 	}
 	return nil
+}
+
+func (c *call) readDocument(into any) {
+	must(0, readXML(c.readBody(greatestXML, 0).text(), into))
 }
 
 // The documents of requests (Amazon S3 API Reference).
