@@ -208,8 +208,8 @@ func runHost(ctx context.Context, program, file string, h *host, tell func(error
 	}
 	_, port, _ := net.SplitHostPort(free.Addr().String())
 	free.Close()
-	// (4294967295: the most connections that it can be told to answer before it ends, where it wants to be told)
-	child := exec.CommandContext(ctx, program, "serve", "--file", file, "--port", port, "--count", "4294967295")
+	// A year: a host may have been idle for the holidays, and a clock that is wrong is so by more.
+	child := exec.CommandContext(ctx, program, "serve", "--file", file, "--port", port, "--clock-leap", "366")
 	child.Stdout, child.Stderr = os.Stderr, os.Stderr
 	child.SysProcAttr = &syscall.SysProcAttr{Pdeathsig: syscall.SIGKILL, Setpgid: true}
 	if err := child.Start(); err != nil {
