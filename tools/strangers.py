@@ -101,13 +101,13 @@ class Host:
         """What an operator is told whose event is a subcommand on a file."""
         names = ("tenant", "quota", "name", "secret", "limit", "at")
         options = [word for name in names if name in event for word in (f"--{name}", str(event[name]))]
-        return self.run(event["op"], "--file", self.name, *options)
+        return self.run(event["op"], "--file", self.name, "--force", *options)
 
     def serve(self, *words):
         with socket.socket() as it:
             it.bind(("127.0.0.1", 0))
             self.port = it.getsockname()[1]
-        given = ["serve", "--file", self.name, "--port", str(self.port), "--count", "4000000000", *words]
+        given = ["serve", "--file", self.name, "--port", str(self.port), "--force", *words]
         self.process = subprocess.Popen([self.program, *given], cwd=self.folder, stdout=subprocess.DEVNULL, stderr=subprocess.DEVNULL)
         atexit.register(self.end)
         table = f"0100007F:{self.port:04X}"
