@@ -8,7 +8,8 @@ import struct
 import subprocess
 import time
 
-TOP = os.path.dirname(os.path.dirname(os.path.abspath(__file__)))
+from served import TOP, free_port, is_quick
+
 SCRIPTS = os.path.join(TOP, "crates/examples/data/scripts")
 WAIT = 120
 
@@ -38,17 +39,9 @@ FIELDS = {
 MASK = re.compile(MOMENT)
 
 
-def program_of(words):
-    """The path of a bucketd, which the first word tells; else tools/bucketd makes one, without proof."""
-    if words:
-        return os.path.abspath(words[0])
-    made = subprocess.run([os.path.join(TOP, "tools/bucketd"), "--path"], capture_output=True, text=True)
-    return made.stdout.strip()
-
-
 def is_fast(program):
     """Whether it is a proved program as the C compiler built it; Rattle's own compiler builds a slower one."""
-    return not program.endswith(".by-rattle") and "/tried/" not in program
+    return not program.endswith(".by-rattle") and is_quick(program)
 
 
 def fault_of(request, answer):
@@ -104,9 +97,7 @@ class Host:
         return self.run(event["op"], "--file", self.name, "--force", *options)
 
     def serve(self, *words):
-        with socket.socket() as it:
-            it.bind(("127.0.0.1", 0))
-            self.port = it.getsockname()[1]
+        self.port = free_port()
         given = ["serve", "--file", self.name, "--port", str(self.port), "--force", *words]
         self.process = subprocess.Popen([self.program, *given], cwd=self.folder, stdout=subprocess.DEVNULL, stderr=subprocess.DEVNULL)
         atexit.register(self.end)
