@@ -104,12 +104,13 @@ class Answer:
 
 
 class Server:
-    """bucketd serve on a file, from when it listens on. `env`: further variables of its environment."""
+    """bucketd serve on a file, from when it listens on. `said`: the file for its standard error; without it a pipe that nobody
+    reads before its end. `env`: further variables of its environment."""
 
-    def __init__(self, program, file, *options, count=COUNT, **env):
+    def __init__(self, program, file, *options, count=COUNT, said=subprocess.PIPE, **env):
         self.port = free_port()
         words = [program, "serve", "--file", file, "--port", str(self.port), "--count", str(count), *options]
-        self.process = subprocess.Popen(words, stdout=subprocess.PIPE, stderr=subprocess.PIPE, env=os.environ | env)
+        self.process = subprocess.Popen(words, stdout=subprocess.PIPE, stderr=said, env=os.environ | env)
         begun = time.monotonic()
         while self.process.poll() is None and not listens(self.port):
             if time.monotonic() - begun > PATIENCE:
@@ -145,7 +146,7 @@ class Server:
         return Answer(self.exchange(request(tenant, method, target, body, fields)), method)
 
     def end(self, number=signal.SIGKILL):
-        """Its status and what it printed on both."""
+        """Its status and what it printed on both; of a file for what it says, nothing."""
         if self.is_up():
             self.process.send_signal(number)
         out, said = self.process.communicate(timeout=PATIENCE)

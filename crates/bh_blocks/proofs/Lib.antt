@@ -1,6 +1,8 @@
+pub mod Counting
+pub mod UseCalls
 pub mod Loops
+pub mod BodySteps
 pub mod Storing
 pub mod Keeping
 pub mod Removing
-pub mod BodySteps
 pub mod WindowSteps

@@ -1,23 +1,15 @@
 -- What the storing of a block is to the tables.
-use Rattle.std.proofs.Common.{◌≡◌, ℕ, [], ◌∷◌, ◌++◌, false, Option, Some, None, option_map, Result, Ok, Err, IfOk, OnOk, refl, sym, ap, ◌∙◌}
-use Rattle.std.specs.List.{list_any}
+use Rattle.std.proofs.Common.{◌≡◌, ℕ, [], ◌∷◌, ◌++◌, length, Option, Some, None, option_map, refl, sym, ap, ◌∙◌}
 use Rattle.std.specs.Option.{option_map_or}
-use Rattle.sqlite_keyed.proofs.ListLemmas.{any_from_none}
 use Rattle.bh_tables.specs.Schema.{Octets}
-use Rattle.bh_tables.specs.Typed.{BlockRow, Tables, rebodied}
-use Rattle.bh_tables.specs.Shown.{Name, is_block}
+use Rattle.bh_tables.specs.Typed.{BlockRow, RefRow, Tables, rebodied}
+use Rattle.bh_tables.specs.Shown.{Name}
+use Rattle.bh_tables.proofs.ResolvedLemmas.{rebodied_twice}
 use Rattle.bh_view.specs.Blocks.{free_ord, copy_in, ord_for, blocks_with}
-use Rattle.bh_view.specs.Sound.{IsSound}
-use Rattle.bh_view.proofs.NameLemmas.{none_pass}
-use Rattle.bh_view.proofs.OrdinalLemmas.{free_ord_is_least}
-
--- no block has the free ordinal
-pub unused : (old mid : Tables) (digest : Octets) (n : ℕ) → IsSound old → mid ≡ old → n ≡ free_ord digest old.blocks → list_any (is_block (digest, n)) mid.blocks ≡ false
-unused old mid digest n sound same is =
-    let free = free_ord_is_least digest old.blocks sound.stored.one in
-    ap (λ (t : Tables). list_any (is_block (digest, n)) t.blocks) same
-    ∙ ap (λ m. list_any (is_block (digest, m)) old.blocks) is
-    ∙ any_from_none (is_block (digest, free_ord digest old.blocks)) old.blocks (none_pass _ old.blocks free.free)
+use Rattle.bh_view.specs.Bodies.{body_stored}
+use Rattle.bh_blocks.specs.Named.{placed_at, body_at}
+use Rattle.bh_blocks.specs.declared.refs.Place.{Place}
+use Rattle.bh_blocks.proofs.BodySteps.{piece_stored}
 
 module _ (digest : Octets → Octets) (c : Octets) (old : Tables) where
   abbrev row : BlockRow
@@ -48,7 +40,30 @@ module _ (digest : Octets → Octets) (c : Octets) (old : Tables) where
       go None e = (refl, refl)
       go (Some b) e = absurd (cc)
 
--- what two clauses on a value say together
-pub with_both : {X E : Type 0} (r : Result X E) (P : X → Type 0) (Q : Type 0) (R : X → Type 0) → IfOk r P → OnOk r Q → ((x : X) → P x → Q → R x) → IfOk r R
-with_both (Ok x) P Q R p q f = f x p q
-with_both (Err e) P Q R p q f = tt
+-- ---- a piece, by the block that holds its bytes or a new one
+
+module _ (digest : Octets → Octets) (c : Octets) (at : Place) (old mid new : Tables) where
+  abbrev here : Octets → ℕ → RefRow
+  here found n = placed_at at found n (length c)
+
+  -- a row that holds the bytes was found, and referred to
+  pub known_stored : rebodied old old.refs old.blocks ≡ old → mid ≡ old → (found : Octets) → found ≡ digest c → (n : ℕ) → Some n ≡ option_map (λ (b : BlockRow). b.ord) (copy_in found c old.blocks)
+      → new ≡ rebodied mid (mid.refs ++ here found n ∷ []) mid.blocks → new ≡ body_stored digest (body_at at) at.place (c ∷ []) old
+  known_stored own same found e n some is =
+      let it = copy_there digest c old own found e n some in
+      piece_stored digest (body_at at) at.place c (found, n) old mid new (same ∙ it.1) it.0 is
+
+  -- none was, and a block was added with the reference
+  pub missing_stored : mid ≡ old → (found : Octets) → found ≡ digest c → None ≡ option_map (λ (b : BlockRow). b.ord) (copy_in found c old.blocks)
+      → new ≡ rebodied mid (mid.refs ++ here found (free_ord found mid.blocks) ∷ []) (mid.blocks ++ record { digest = found; ord = free_ord found mid.blocks; bytes = c } ∷ []) → new ≡ body_stored digest (body_at at) at.place (c ∷ []) old
+  missing_stored same found e none is =
+      let it = copy_missing digest c old found e mid same none in
+      let blocks = mid.blocks ++ record { digest = found; ord = free_ord found mid.blocks; bytes = c } ∷ [] in
+      piece_stored digest (body_at at) at.place c (found, free_ord found mid.blocks) old (rebodied mid mid.refs blocks) new it.1 it.0
+      (is ∙ sym (rebodied_twice mid (mid.refs ++ here found (free_ord found mid.blocks) ∷ []) mid.refs blocks blocks))
+
+-- under the least ordinal that is free
+pub new_stored : (at : Place) (digest c : Octets) (old mid : Tables) (n : ℕ) → mid ≡ old → n ≡ free_ord digest old.blocks
+    → rebodied mid (mid.refs ++ placed_at at digest n (length c) ∷ []) (mid.blocks ++ record { digest = digest; ord = n; bytes = c } ∷ [])
+    ≡ rebodied old (old.refs ++ placed_at at digest (free_ord digest old.blocks) (length c) ∷ []) (old.blocks ++ record { digest = digest; ord = free_ord digest old.blocks; bytes = c } ∷ [])
+new_stored at digest c old mid n same is = λ i. rebodied (same i) ((same i).refs ++ placed_at at digest (is i) (length c) ∷ []) ((same i).blocks ++ record { digest = digest; ord = is i; bytes = c } ∷ [])

@@ -1,3 +1,4 @@
 pub mod Added
 pub mod Named
+pub mod Uses
 pub mod Windows

@@ -3,13 +3,9 @@ use Rattle.std.specs.Prelude.{ℕ}
 use Rattle.bh_tables.specs.Schema.{Octets}
 use Rattle.bh_tables.specs.Typed.{RefRow}
 use Rattle.bh_tables.specs.Shown.{Name}
-use Rattle.bh_blocks.specs.declared.blocks.BlockName.{BlockName}
 use Rattle.bh_blocks.specs.declared.rows.StoredName.{StoredName}
 use Rattle.bh_blocks.specs.declared.refs.BlockRef.{BlockRef}
 use Rattle.bh_blocks.specs.declared.refs.Place.{Place}
-
-abbrev pub name_of : BlockName → Name
-name_of n = (n.digest, n.ord)
 
 abbrev pub stored_name : StoredName → Name
 stored_name n = (n.digest.items, n.ord)

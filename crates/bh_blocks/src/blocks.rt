@@ -1,25 +1,17 @@
-ghost use Rattle.std.specs.Prelude.{◌≡◌, ◌++◌, ◌∷◌, [], ◌<◌, ◌^◌, List, None, Some, true, map, option_map, IfSome, IfOk, IfErr, OnOk};
+ghost use Rattle.std.specs.Prelude.{◌≡◌, ◌++◌, ◌∷◌, [], ◌<◌, ◌^◌, List, length, true, map, option_map, IfSome, IfOk, IfErr, OnOk};
 ghost use Rattle.bh_rows.specs.Means.{is_trouble};
 ghost use Rattle.bh_tables.specs.Typed.{BlockRow, rebodied};
 ghost use Rattle.bh_tables.specs.Shown.{shown_ord};
-ghost use Rattle.bh_view.specs.Blocks.{least, free_ord as the_free, copy_in, ord_for, blocks_with, row_at, AreDigests};
-ghost use Rattle.bh_view.specs.Sound.{IsSound};
-ghost use Rattle.bh_view.specs.Becomes.{KeepsBodies};
-ghost use Rattle.bh_schema.specs.Connections.{IsClean, tables, InTransaction, StaysWithin, WasOpen, StaysOpen, ChangesNothing, Becomes, IsTrouble, IsTroubleIf};
-ghost use Rattle.bh_blocks.specs.Named.{name_of};
+ghost use Rattle.bh_view.specs.Blocks.{least, free_ord as the_free, copy_in};
+ghost use Rattle.bh_view.specs.Bodies.{body_stored};
+ghost use Rattle.bh_schema.specs.Connections.{IsClean, tables, InTransaction, StaysWithin, WasOpen, StaysOpen, ChangesNothing, Becomes, IsTrouble};
+ghost use Rattle.bh_blocks.specs.Named.{body_at, placed_at};
 
+use crate::refs::{Place, insert_ref, refer};
 use crate::rows::{copy_rows, in_range, insert_block, ord_rows, read_ord};
+use crate::uses::insert_use;
 use bh_schema::host::Digester;
 use sqlite::{Alter, Connection, Error, ErrorCode, Row};
-
-/// What a block is found by.
-#[derive(Clone, Copy, PartialEq, Eq)]
-pub struct BlockName {
-    /// Of the block's bytes.
-    pub digest: [u8; 32],
-    /// By it blocks of one digest differ; below 2^63.
-    pub ord: u64,
-}
 
 /// The ordinal of the block of a digest that holds these bytes, if there is one.
 fn find_copy<S: Alter>(
@@ -77,56 +69,74 @@ fn free_ord<S: Alter>(connection: &mut Connection<S>, digest: &[u8]) -> Result<u
     in_range(free)
 }
 
-/// Adds a block of bytes that none holds.
+/// Adds a block of bytes that none holds, with the first reference to it.
 fn add_block<S: Alter>(
     connection: &mut Connection<S>,
-    digest: [u8; 32],
+    at: &Place<'_>,
+    digest: &[u8],
+    ord: u64,
     bytes: &[u8],
-) -> Result<BlockName, Error>
+) -> Result<(), Error>
     requires inside { InTransaction S.Store connection.old }
+    requires body { at.now.body < 2 ^ 63 }
+    requires place { at.now.place < 2 ^ 63 }
+    requires small { ord < 2 ^ 63 }
     ensures within { StaysWithin S.Store connection.old connection.new }
-    ensures opens { OnOk result (WasOpen S.Store connection.old connection.new) }
-    ensures small { IfOk result (λ name. name.ord < 2 ^ 63) }
-    ensures name { IfOk result (λ name. IsClean S.Store connection.new
-        → name_of name ≡ (digest, the_free digest (tables S.Store connection.old).blocks)) }
+    ensures opens { OnOk result (StaysOpen S.Store connection.old connection.new) }
     ensures added { OnOk result (Becomes S.Store connection.old connection.new
-        (λ rows. rebodied rows rows.refs
-        (rows.blocks ++ record { digest = digest; ord = the_free digest rows.blocks; bytes = bytes.now } ∷ []))) }
-    ensures trouble { IfErr result (IsTroubleIf S.Store connection.old connection.new (IsSound (tables S.Store connection.old))) }
+        (λ rows. rebodied rows (rows.refs ++ placed_at at.now digest.now ord (length bytes.now) ∷ [])
+        (rows.blocks ++ record { digest = digest.now; ord = ord; bytes = bytes.now } ∷ []))) }
 {
-    let ord = free_ord(connection, &digest)?;
-    insert_block(connection, &digest, ord, bytes)?;
-    Ok(BlockName { digest, ord })
+    insert_block(connection, digest, ord, bytes)?;
+    insert_ref(connection, at, digest, ord, bytes.len() as u64)?;
+    insert_use(connection, digest, ord)?;
+    Ok(())
 }
 
-/// Stores a block, unless one holds equal bytes, and tells its name.
+/// Adds a block of bytes that none holds, under the least ordinal that no block of its digest has, with the first
+/// reference to it.
+fn store_new<S: Alter>(
+    connection: &mut Connection<S>,
+    at: &Place<'_>,
+    digest: &[u8],
+    bytes: &[u8],
+) -> Result<(), Error>
+    requires inside { InTransaction S.Store connection.old }
+    requires body { at.now.body < 2 ^ 63 }
+    requires place { at.now.place < 2 ^ 63 }
+    ensures within { StaysWithin S.Store connection.old connection.new }
+    ensures opens { OnOk result (StaysOpen S.Store connection.old connection.new) }
+    ensures added { OnOk result (Becomes S.Store connection.old connection.new
+        (λ rows. rebodied rows
+        (rows.refs ++ placed_at at.now digest.now (the_free digest.now rows.blocks) (length bytes.now) ∷ [])
+        (rows.blocks ++ record { digest = digest.now; ord = the_free digest.now rows.blocks; bytes = bytes.now } ∷ []))) }
+{
+    let ord = free_ord(connection, digest)?;
+    add_block(connection, at, digest, ord, bytes)
+}
+
+/// Stores one piece of a body at its place: a reference to the block of its bytes, which is added unless one holds
+/// equal bytes.
 ///
-/// A new block gets the least ordinal that no block of its digest has. After an error the transaction is to be taken
-/// back.
-pub fn store_block<S: Alter, D: Digester>(
+/// A new block gets the least ordinal that no block of its digest has, and is written with its count of uses. After an
+/// error the transaction is to be taken back.
+pub fn store_piece<S: Alter, D: Digester>(
     connection: &mut Connection<S>,
     digester: &D,
+    at: &Place<'_>,
     bytes: &[u8],
-) -> Result<BlockName, Error>
+) -> Result<(), Error>
     requires inside { InTransaction S.Store connection.old }
+    requires body { at.now.body < 2 ^ 63 }
+    requires place { at.now.place < 2 ^ 63 }
     ensures within { StaysWithin S.Store connection.old connection.new }
-    ensures opens { OnOk result (WasOpen S.Store connection.old connection.new) }
-    ensures small { IfOk result (λ name. name.ord < 2 ^ 63) }
-    ensures name { IfOk result (λ name. IsClean S.Store connection.new → name_of name
-        ≡ (D.digest_of bytes.now, ord_for (D.digest_of bytes.now) bytes.now (tables S.Store connection.old).blocks)) }
+    ensures opens { OnOk result (StaysOpen S.Store connection.old connection.new) }
     ensures stored { OnOk result (Becomes S.Store connection.old connection.new
-        (λ rows. rebodied rows rows.refs (blocks_with (D.digest_of bytes.now) bytes.now rows.blocks))) }
-    ensures held { IfOk result (λ name. IsClean S.Store connection.new
-        → IsSound (tables S.Store connection.old) → AreDigests D.digest_of (tables S.Store connection.old).blocks
-        → option_map (λ (b : BlockRow). b.bytes) (row_at (tables S.Store connection.new).blocks (name_of name)) ≡ Some bytes.now) }
-    ensures keeps { OnOk result (IsClean S.Store connection.new
-        → IsSound (tables S.Store connection.old) → AreDigests D.digest_of (tables S.Store connection.old).blocks
-        → KeepsBodies D.digest_of (tables S.Store connection.old) (tables S.Store connection.new)) }
-    ensures trouble { IfErr result (IsTroubleIf S.Store connection.old connection.new (IsSound (tables S.Store connection.old))) }
+        (body_stored D.digest_of (body_at at.now) at.now.place (bytes.now ∷ []))) }
 {
     let digest = digester.digest(bytes);
     match find_copy(connection, &digest, bytes)? {
-        Some(ord) => Ok(BlockName { digest, ord }),
-        None => add_block(connection, digest, bytes),
+        Some(ord) => refer(connection, at, &digest, ord, bytes.len() as u64),
+        None => store_new(connection, at, &digest, bytes),
     }
 }

@@ -2,18 +2,20 @@
 
 ghost use Rattle.std.specs.Prelude.{◌≡◌, ◌<◌, ◌≤◌, ◌^◌, ◌++◌, ◌∷◌, [], List, map, flat_map, take, drop, IfOk, IfErr, OnOk};
 ghost use Rattle.bh_tables.specs.Schema.{Octets};
-ghost use Rattle.bh_tables.specs.Typed.{RefRow};
+ghost use Rattle.bh_tables.specs.Typed.{RefRow, counted, lowered, lowered_by};
 ghost use Rattle.bh_tables.specs.Bodies.{placed};
-ghost use Rattle.bh_tables.specs.Shown.{shown_ref};
+ghost use Rattle.bh_tables.specs.Shown.{ref_name, shown_ref};
 ghost use Rattle.bh_view.specs.Blocks.{AreDigests};
 ghost use Rattle.bh_view.specs.Bodies.{pieces, body_stored, body_again, body_copied, bodies_joined, body_dropped, AddsBody};
-ghost use Rattle.bh_schema.specs.Connections.{IsClean, tables, InTransaction, StaysWithin, StaysOpen, ChangesNothing, Becomes, IsTrouble};
+ghost use Rattle.bh_schema.specs.Connections.{IsOpen, IsClean, stands, tables, InTransaction, InMidst, Turns, StaysWithin, StaysOpen, ChangesNothing, Becomes, IsTrouble, IsTroubleIf};
 ghost use Rattle.bh_blocks.specs.Named.{body_at};
 ghost use Rattle.bh_blocks.specs.Added.{IsNewBody, bytes_in};
+ghost use Rattle.bh_blocks.specs.Uses.{IsUsed, AreUsed};
 
-use crate::blocks::store_block;
-use crate::refs::{Place, delete_refs, insert_ref, read_ref, ref_rows};
+use crate::blocks::store_piece;
+use crate::refs::{Place, delete_refs, read_ref, ref_rows, refer};
 use crate::rows::in_range;
+use crate::uses::lower_uses;
 use bh_schema::host::Digester;
 use sqlite::{Alter, Connection, Error, Row};
 use std::alloc::Global;
@@ -25,26 +27,6 @@ fn cut_off(bytes: &[u8], size: u64) -> (&[u8], &[u8])
 {
     let count = size.min(bytes.len() as u64) as usize;
     (&bytes[..count], &bytes[count..])
-}
-
-/// Stores one piece of a body at its place.
-fn store_piece<S: Alter, D: Digester>(
-    connection: &mut Connection<S>,
-    digester: &D,
-    at: &Place<'_>,
-    bytes: &[u8],
-) -> Result<(), Error>
-    requires inside { InTransaction S.Store connection.old }
-    requires body { at.now.body < 2 ^ 63 }
-    requires place { at.now.place < 2 ^ 63 }
-    ensures within { StaysWithin S.Store connection.old connection.new }
-    ensures opens { OnOk result (StaysOpen S.Store connection.old connection.new) }
-    ensures stored { OnOk result (Becomes S.Store connection.old connection.new
-        (body_stored D.digest_of (body_at at.now) at.now.place (bytes.now ∷ []))) }
-{
-    let name = store_block(connection, digester, bytes)?;
-    insert_ref(connection, at, &name.digest, name.ord, bytes.len() as u64)?;
-    Ok(())
 }
 
 /// Stores a body, cut into blocks of a size.
@@ -101,8 +83,7 @@ fn refer_again<S: Alter>(
         (body_again (body_at at.now) at.now.place (r ∷ []))) }
 {
     let block = read_ref(row)?;
-    insert_ref(connection, at, &block.digest, block.ord, block.size)?;
-    Ok(())
+    refer(connection, at, &block.digest, block.ord, block.size)
 }
 
 /// Gives a body the blocks that rows of references name, in their order.
@@ -211,7 +192,41 @@ pub fn join_bodies<S: Alter>(
     refer_to_all(connection, tenant, body, &rows)
 }
 
-/// Takes a body away. Its blocks stay.
+/// One reference less to the block that a row of references names.
+fn lower_named<S: Alter>(connection: &mut Connection<S>, row: &Row) -> Result<(), Error>
+    requires midst { InMidst S.Store connection.old }
+    ensures within { StaysWithin S.Store connection.old connection.new }
+    ensures opens { OnOk result (StaysOpen S.Store connection.old connection.new) }
+    ensures midst { OnOk result (InMidst S.Store connection.new) }
+    ensures turns { OnOk result ((r : RefRow) → row.now ≡ shown_ref r
+        → Turns S.Store connection.old connection.new (counted (lowered (ref_name r))) (λ rows. rows)) }
+    ensures trouble { IfErr result (λ e. (r : RefRow) → row.now ≡ shown_ref r → IsTroubleIf S.Store connection.old connection.new
+        (IsUsed (ref_name r) (stands S.Store connection.old)) e) }
+{
+    let block = read_ref(row)?;
+    lower_uses(connection, &block.digest, block.ord)?;
+    Ok(())
+}
+
+/// One reference less to each of the blocks that rows of references name.
+fn lower_all<S: Alter>(connection: &mut Connection<S>, rows: &[Row]) -> Result<(), Error>
+    requires midst { InMidst S.Store connection.old }
+    ensures within { StaysWithin S.Store connection.old connection.new }
+    ensures opens { OnOk result (StaysOpen S.Store connection.old connection.new) }
+    ensures midst { OnOk result (InMidst S.Store connection.new) }
+    ensures turns { OnOk result ((rs : List RefRow) → rows.now ≡ map shown_ref rs
+        → Turns S.Store connection.old connection.new (counted (lowered_by rs)) (λ rows. rows)) }
+    ensures trouble { IfErr result (λ e. (rs : List RefRow) → rows.now ≡ map shown_ref rs
+        → IsTroubleIf S.Store connection.old connection.new
+        (IsOpen S.Store connection.old × AreUsed rs (stands S.Store connection.old)) e) }
+{
+    for row in rows {
+        lower_named(connection, row)?;
+    }
+    Ok(())
+}
+
+/// Takes a body away. Its blocks stay, each with fewer uses.
 pub fn drop_body<S: Alter>(
     connection: &mut Connection<S>,
     tenant: &str,
@@ -224,6 +239,8 @@ pub fn drop_body<S: Alter>(
     ensures dropped { OnOk result (Becomes S.Store connection.old connection.new (body_dropped (tenant.now, body))) }
     ensures trouble { IfErr result (IsTrouble S.Store connection.old connection.new) }
 {
+    let rows = ref_rows(connection, tenant, body)?;
+    lower_all(connection, &rows)?;
     delete_refs(connection, tenant, body)?;
     Ok(())
 }

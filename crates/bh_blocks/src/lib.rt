@@ -9,3 +9,4 @@ pub mod reading;
 mod refs;
 pub mod removal;
 mod rows;
+mod uses;

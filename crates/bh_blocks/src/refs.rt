@@ -6,10 +6,11 @@ ghost use Rattle.sqlite_keyed.specs.Lists.{delete_where, sort_by};
 ghost use Rattle.bh_rows.specs.Means.{is_trouble};
 ghost use Rattle.bh_tables.specs.Typed.{RefRow, rebodied};
 ghost use Rattle.bh_tables.specs.Shown.{ref_name, is_block, is_of_body, is_at_place, by_place, shown_ref};
-ghost use Rattle.bh_schema.specs.Connections.{IsClean, tables, InTransaction, StaysWithin, WasOpen, StaysOpen, ChangesNothing, Becomes, IsTrouble, IsTroubleIf};
+ghost use Rattle.bh_schema.specs.Connections.{IsClean, tables, InTransaction, InMidst, Turns, StaysWithin, WasOpen, StaysOpen, ChangesNothing, Becomes, IsTrouble, IsTroubleIf};
 ghost use Rattle.bh_blocks.specs.Named.{named_by, placed_at};
 
 use crate::rows::in_range;
+use crate::uses::raise_uses;
 use bh_schema::rows::number::number;
 use sqlite::types::ToSql;
 use sqlite::{Alter, Connection, Error, Row};
@@ -69,7 +70,7 @@ pub fn ref_rows<S: Alter>(
     )
 }
 
-/// Adds a reference.
+/// Adds a reference: in the midst of a write that counts it.
 pub fn insert_ref<S: Alter>(
     connection: &mut Connection<S>,
     at: &Place<'_>,
@@ -77,14 +78,15 @@ pub fn insert_ref<S: Alter>(
     ord: u64,
     size: u64,
 ) -> Result<usize, Error>
-    requires inside { InTransaction S.Store connection.old }
+    requires midst { InMidst S.Store connection.old }
     requires body { at.now.body < 2 ^ 63 }
     requires place { at.now.place < 2 ^ 63 }
     requires small { ord < 2 ^ 63 }
     requires low { size < 2 ^ 63 }
     ensures within { StaysWithin S.Store connection.old connection.new }
     ensures opens { OnOk result (StaysOpen S.Store connection.old connection.new) }
-    ensures holds { OnOk result (Becomes S.Store connection.old connection.new
+    ensures midst { OnOk result (InMidst S.Store connection.new) }
+    ensures turns { OnOk result (Turns S.Store connection.old connection.new (λ sums. sums)
         (λ rows. rebodied rows (rows.refs ++ placed_at at.now digest.now ord size ∷ []) rows.blocks)) }
     ensures trouble { IfErr result (IsTroubleIf S.Store connection.old connection.new
         ((list_any (is_at_place (at.now.tenant.now, at.now.body) at.now.place) (tables S.Store connection.old).refs ≡ false)
@@ -105,17 +107,18 @@ pub fn insert_ref<S: Alter>(
     )
 }
 
-/// Takes the references of a body away.
+/// Takes the references of a body away: in the midst of a write that counts them.
 pub fn delete_refs<S: Alter>(
     connection: &mut Connection<S>,
     tenant: &str,
     body: u64,
 ) -> Result<usize, Error>
-    requires inside { InTransaction S.Store connection.old }
+    requires midst { InMidst S.Store connection.old }
     requires small { body < 2 ^ 63 }
     ensures within { StaysWithin S.Store connection.old connection.new }
     ensures opens { OnOk result (StaysOpen S.Store connection.old connection.new) }
-    ensures holds { OnOk result (Becomes S.Store connection.old connection.new
+    ensures midst { OnOk result (InMidst S.Store connection.new) }
+    ensures turns { OnOk result (Turns S.Store connection.old connection.new (λ sums. sums)
         (λ rows. rebodied rows (delete_where (is_of_body (tenant.now, body)) rows.refs) rows.blocks)) }
     ensures trouble { IfErr result (IsTrouble S.Store connection.old connection.new) }
 {
@@ -125,4 +128,27 @@ pub fn delete_refs<S: Alter>(
         "DELETE FROM refs WHERE tenant = ?1 AND body = ?2",
         &[tenant.to_sql(), number(body)],
     )
+}
+
+/// Adds a reference to a block, whose count of uses goes on.
+pub fn refer<S: Alter>(
+    connection: &mut Connection<S>,
+    at: &Place<'_>,
+    digest: &[u8],
+    ord: u64,
+    size: u64,
+) -> Result<(), Error>
+    requires inside { InTransaction S.Store connection.old }
+    requires body { at.now.body < 2 ^ 63 }
+    requires place { at.now.place < 2 ^ 63 }
+    requires small { ord < 2 ^ 63 }
+    requires low { size < 2 ^ 63 }
+    ensures within { StaysWithin S.Store connection.old connection.new }
+    ensures opens { OnOk result (StaysOpen S.Store connection.old connection.new) }
+    ensures holds { OnOk result (Becomes S.Store connection.old connection.new
+        (λ rows. rebodied rows (rows.refs ++ placed_at at.now digest.now ord size ∷ []) rows.blocks)) }
+{
+    insert_ref(connection, at, digest, ord, size)?;
+    raise_uses(connection, digest, ord)?;
+    Ok(())
 }

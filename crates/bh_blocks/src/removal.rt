@@ -1,16 +1,37 @@
-ghost use Rattle.std.specs.Prelude.{◌≡◌, List, map, length, true, IfOk, IfErr, OnOk};
+ghost use Rattle.std.specs.Prelude.{◌≡◌, ◌<◌, ◌^◌, List, map, length, true, false, IfOk, IfErr, OnOk};
 ghost use Rattle.std.specs.List.{AllByRecursion, list_any};
 ghost use Rattle.sqlite_keyed.specs.Lists.{delete_where};
 ghost use Rattle.bh_tables.specs.Schema.{Octets};
 ghost use Rattle.bh_tables.specs.Typed.{BlockRow, rebodied};
-ghost use Rattle.bh_tables.specs.Shown.{block_name, is_block, is_unreferenced, shown_name, unreferenced};
+ghost use Rattle.bh_tables.specs.Shown.{block_name, is_block, is_use, is_unreferenced, shown_name, unreferenced};
 ghost use Rattle.bh_view.specs.Blocks.{blocks_without, AreDigests};
 ghost use Rattle.bh_view.specs.Sound.{IsSound};
 ghost use Rattle.bh_view.specs.Becomes.{KeepsBodies};
 ghost use Rattle.bh_schema.specs.Connections.{IsOpen, IsClean, tables, InTransaction, StaysWithin, WasOpen, StaysOpen, ChangesNothing, Becomes, IsTrouble, IsTroubleIf};
 
-use crate::rows::{delete_block, read_name, unreferenced_rows};
+use crate::rows::{delete_block, read_name};
+use crate::uses::{delete_use, unreferenced_rows};
 use sqlite::{Alter, Connection, Error, Row};
+
+/// Takes a block away with its count of uses. A block that a reference names is refused.
+fn remove_block<S: Alter>(
+    connection: &mut Connection<S>,
+    digest: &[u8],
+    ord: u64,
+) -> Result<(), Error>
+    requires inside { InTransaction S.Store connection.old }
+    requires small { ord < 2 ^ 63 }
+    ensures within { StaysWithin S.Store connection.old connection.new }
+    ensures opens { OnOk result (StaysOpen S.Store connection.old connection.new) }
+    ensures removed { OnOk result (Becomes S.Store connection.old connection.new
+        (λ rows. rebodied rows rows.refs (delete_where (is_block (digest.now, ord)) rows.blocks))) }
+    ensures trouble { IfErr result (IsTroubleIf S.Store connection.old connection.new
+        (list_any (is_use (digest.now, ord)) (tables S.Store connection.old).refs ≡ false)) }
+{
+    delete_block(connection, digest, ord)?;
+    delete_use(connection, digest, ord)?;
+    Ok(())
+}
 
 /// Takes the block away that a row names.
 fn remove_named<S: Alter>(connection: &mut Connection<S>, row: &Row) -> Result<(), Error>
@@ -24,8 +45,7 @@ fn remove_named<S: Alter>(connection: &mut Connection<S>, row: &Row) -> Result<(
         (is_unreferenced (tables S.Store connection.old).refs b ≡ true) e) }
 {
     let name = read_name(row)?;
-    delete_block(connection, &name.digest, name.ord)?;
-    Ok(())
+    remove_block(connection, &name.digest, name.ord)
 }
 
 /// Takes the blocks away that rows name.

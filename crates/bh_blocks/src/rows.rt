@@ -5,9 +5,10 @@ ghost use Rattle.std.specs.List.{list_any};
 ghost use Rattle.sqlite_keyed.specs.Lists.{delete_where, sort_by};
 ghost use Rattle.bh_rows.specs.Means.{is_trouble};
 ghost use Rattle.bh_tables.specs.Typed.{BlockRow as Stored, rebodied};
-ghost use Rattle.bh_tables.specs.Shown.{block_name, is_copy, is_block, is_use, has_digest, by_ord, shown_ord, shown_name, shown_bytes, unreferenced};
-ghost use Rattle.bh_schema.specs.Connections.{IsClean, tables, InTransaction, StaysWithin, WasOpen, StaysOpen, ChangesNothing, Becomes, IsTrouble, IsTroubleIf};
+ghost use Rattle.bh_tables.specs.Shown.{block_name, is_copy, is_block, is_use, has_digest, by_ord, shown_ord, shown_name, shown_bytes};
+ghost use Rattle.bh_schema.specs.Connections.{IsClean, tables, InTransaction, InMidst, Turns, StaysWithin, WasOpen, StaysOpen, ChangesNothing, IsTrouble, IsTroubleIf};
 ghost use Rattle.bh_blocks.specs.Named.{stored_name};
+ghost use Rattle.bh_blocks.specs.Uses.{IsNewName};
 
 use bh_schema::rows::number::number;
 use sqlite::types::ToSql;
@@ -108,38 +109,21 @@ pub fn bytes_rows<S: Alter>(
     )
 }
 
-pub fn unreferenced_rows<S: Alter>(
-    connection: &mut Connection<S>,
-    limit: u64,
-) -> Result<Vec<Row>, Error>
-    requires inside { InTransaction S.Store connection.old }
-    requires small { limit < 2 ^ 63 }
-    ensures within { StaysWithin S.Store connection.old connection.new }
-    ensures opens { OnOk result (WasOpen S.Store connection.old connection.new) }
-    ensures same { OnOk result (ChangesNothing S.Store connection.old connection.new) }
-    ensures rows { IfOk result (λ rows. IsClean S.Store connection.new
-        → rows.items ≡ map shown_name (unreferenced limit (tables S.Store connection.old).refs (tables S.Store connection.old).blocks)) }
-    ensures trouble { IfErr result (IsTrouble S.Store connection.old connection.new) }
-{
-    connection.query_all(
-        "SELECT digest, ord FROM blocks WHERE NOT EXISTS (SELECT 1 FROM refs WHERE refs.digest = blocks.digest AND refs.ord = blocks.ord) ORDER BY digest, ord, rowid LIMIT ?1",
-        &[number(limit)],
-    )
-}
-
-/// Adds a block.
+/// Adds a block: in the midst of a write that counts its uses.
 pub fn insert_block<S: Alter>(
     connection: &mut Connection<S>,
     digest: &[u8],
     ord: u64,
     bytes: &[u8],
 ) -> Result<usize, Error>
-    requires inside { InTransaction S.Store connection.old }
+    requires midst { InMidst S.Store connection.old }
     requires small { ord < 2 ^ 63 }
     ensures within { StaysWithin S.Store connection.old connection.new }
     ensures opens { OnOk result (StaysOpen S.Store connection.old connection.new) }
-    ensures holds { OnOk result (Becomes S.Store connection.old connection.new
+    ensures midst { OnOk result (InMidst S.Store connection.new) }
+    ensures turns { OnOk result (Turns S.Store connection.old connection.new (λ sums. sums)
         (λ rows. rebodied rows rows.refs (rows.blocks ++ record { digest = digest.now; ord = ord; bytes = bytes.now } ∷ []))) }
+    ensures fresh { OnOk result (IsClean S.Store connection.new → IsNewName (digest.now, ord) (tables S.Store connection.old)) }
     ensures trouble { IfErr result (IsTroubleIf S.Store connection.old connection.new
         (list_any (is_block (digest.now, ord)) (tables S.Store connection.old).blocks ≡ false)) }
 {
@@ -151,17 +135,18 @@ pub fn insert_block<S: Alter>(
     )
 }
 
-/// Takes a block away. A block that a reference names is refused.
+/// Takes a block away: in the midst of a write that takes its count away. A block that a reference names is refused.
 pub fn delete_block<S: Alter>(
     connection: &mut Connection<S>,
     digest: &[u8],
     ord: u64,
 ) -> Result<usize, Error>
-    requires inside { InTransaction S.Store connection.old }
+    requires midst { InMidst S.Store connection.old }
     requires small { ord < 2 ^ 63 }
     ensures within { StaysWithin S.Store connection.old connection.new }
     ensures opens { OnOk result (StaysOpen S.Store connection.old connection.new) }
-    ensures holds { OnOk result (Becomes S.Store connection.old connection.new
+    ensures midst { OnOk result (InMidst S.Store connection.new) }
+    ensures turns { OnOk result (Turns S.Store connection.old connection.new (λ sums. sums)
         (λ rows. rebodied rows rows.refs (delete_where (is_block (digest.now, ord)) rows.blocks))) }
     ensures trouble { IfErr result (IsTroubleIf S.Store connection.old connection.new
         (list_any (is_use (digest.now, ord)) (tables S.Store connection.old).refs ≡ false)) }

@@ -69,9 +69,12 @@ fn write_no_host<W: fmt::Write>(why: NoHost, f: &mut fmt::Formatter<W>) -> fmt::
         NoHost::OtherTables => f.write_str(
             "there is no host in it: the database is another program's, or of another version of bucketd",
         ),
+        NoHost::OtherVersion(0) => f.write_str(
+            "this is a host of version 0, made by an earlier bucketd: read its objects out with that program and put them in again",
+        ),
         NoHost::OtherVersion(version) => write!(
             f,
-            "its host is of version {version}, and this bucketd reads version 0"
+            "this is a host of version {version}, made by a later bucketd"
         ),
         NoHost::NoRow => f.write_str("there is no host in its tables"),
     }

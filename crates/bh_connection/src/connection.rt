@@ -3,7 +3,7 @@ ghost use Rattle.std.specs.Io.KnownBytes.{Appends};
 ghost use Rattle.bh_model.specs.Runs.{last_reading};
 ghost use Rattle.bh_storage.specs.Calls.{Clean, IsAtRest};
 ghost use Rattle.bh_tables.specs.Typed.{Tables};
-ghost use Rattle.bh_host.specs.Replies.{reply_bytes, clock_text};
+ghost use Rattle.bh_host.specs.Replies.{reply_bytes, reply_trouble, clock_text};
 ghost use Rattle.bh_host.specs.declared.reply.Caller.TheVariants.{Request};
 ghost use Rattle.bh_connection.specs.Connections.{ends_of, EndsAs, CameTo};
 
@@ -12,6 +12,7 @@ use bh_event::event::Event;
 use bh_host::{Caller, Reply, Told, apply};
 use bh_link::link::Link;
 use bh_link::request::{TakeError, take_request};
+use bh_storage::error::Trouble;
 use bh_storage::storage::Storage;
 use bh_types::moment::LAST_READING;
 use std::alloc::Global;
@@ -55,11 +56,15 @@ pub fn serve_connection<H: Storage, R: Read, W: Write>(
             let event = Event::Http { reading, bytes };
             answer(writer, apply(alloc, host, &event))
         }
-        Err(TakeError::OutOfMemory) => answer(writer, left_out(Reply::Wanting(Caller::Request))),
+        Err(TakeError::OutOfMemory) => {
+            let reply = Reply::Wanting(Caller::Request, Trouble::Memory);
+            answer(writer, left_out(reply))
+        }
         Err(TakeError::ReadFailed) => Served {
             stamp: None,
             sent: 0,
             ended: End::ReadFailed,
+            trouble: None,
         },
     }
 }
@@ -78,6 +83,7 @@ fn answer<W: Write>(writer: &mut Link<W>, told: Told) -> Served
     ensures stamp { result.stamp ≡ told.stamp }
     ensures out { Appends (W.contents writer.old.inner) (W.contents writer.new.inner) (take result.sent (reply_bytes told.reply)) }
     ensures ended { EndsAs result.ended result.sent (reply_bytes told.reply) writer.new.failed }
+    ensures trouble { result.trouble ≡ reply_trouble told.reply }
 {
     let bytes = told.reply.bytes();
     let sent = writer.send(bytes);
@@ -90,5 +96,6 @@ fn answer<W: Write>(writer: &mut Link<W>, told: Told) -> Served
         stamp: told.stamp,
         sent: sent as u64,
         ended,
+        trouble: told.reply.trouble(),
     }
 }

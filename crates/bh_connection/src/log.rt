@@ -1,6 +1,7 @@
 //! What the log tells of a request. No field of it is told but the tenant of its access key.
 
 use bh_http::request::MAX_FIELDS;
+use bh_storage::error::Trouble;
 use bh_types::access_key::AccessKeyId;
 use bh_types::moment::{Moment, moment_text};
 use httparse::{EMPTY_HEADER, Header, Request, Response, Status};
@@ -26,10 +27,13 @@ pub(crate) struct Entry<'a> {
     pub(crate) sent: u64,
     /// How long it took, in milliseconds.
     pub(crate) took: u64,
+    /// What was wanting, where memory or the store was.
+    pub(crate) trouble: Option<Trouble>,
 }
 
 /// The line that tells of it: the time (RFC 3339, UTC), the tenant, the method, the target, the status, the refusal, the
-/// bytes that came and went, and the milliseconds; `-` stands for what there isn't.
+/// bytes that came and went, and the milliseconds; `-` stands for what there isn't. Where memory or the store was wanting,
+/// the trouble follows.
 pub(crate) fn line_of(alloc: Global, entry: &Entry<'_>) -> Result<String, AllocError> {
     let time = time_text(alloc, entry.reading)?;
     let asked = asked_text(alloc, entry.request)?;
@@ -40,7 +44,20 @@ pub(crate) fn line_of(alloc: Global, entry: &Entry<'_>) -> Result<String, AllocE
         took,
         ..
     } = entry;
-    format!(in alloc; "{time} {asked} {answered} {taken} {sent} {took}")
+    let line = format!(in alloc; "{time} {asked} {answered} {taken} {sent} {took}")?;
+    with_trouble(alloc, line, entry.trouble)
+}
+
+/// A line, and the trouble after it.
+fn with_trouble(
+    alloc: Global,
+    line: String,
+    trouble: Option<Trouble>,
+) -> Result<String, AllocError> {
+    match trouble {
+        Some(trouble) => format!(in alloc; "{line} {trouble}"),
+        None => Ok(line),
+    }
 }
 
 fn time_text(alloc: Global, reading: u64) -> Result<String, AllocError> {

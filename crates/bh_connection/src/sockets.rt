@@ -9,6 +9,7 @@ use crate::noted::Noted;
 use crate::served::{End, Served};
 use bh_http::arriving::MAX_HEAD;
 use bh_link::link::Link;
+use bh_storage::error::Trouble;
 use either::Either;
 use std::alloc::Global;
 use std::io;
@@ -106,7 +107,7 @@ impl<'a, C: Clock, E: Eprint> Acceptor for Sockets<'a, C, E> {
         let reader = arrival.reader.into_inner();
         let writer = arrival.writer.into_inner();
         if self.manner.is_logged {
-            self.tell(arrival.reading, &reader, &writer);
+            self.tell(arrival.reading, &reader, &writer, served.trouble);
         }
         if served.ended == End::Whole {
             see_off(self.current, writer.into_inner());
@@ -138,7 +139,13 @@ impl<'a, C: Clock, E: Eprint> Sockets<'a, C, E> {
     }
 
     /// Writes the line of a request. One that can't be written is lost.
-    fn tell<R, W>(&self, reading: u64, reader: &Noted<R>, writer: &Noted<W>) {
+    fn tell<R, W>(
+        &self,
+        reading: u64,
+        reader: &Noted<R>,
+        writer: &Noted<W>,
+        trouble: Option<Trouble>,
+    ) {
         let entry = Entry {
             reading,
             request: reader.first(),
@@ -146,6 +153,7 @@ impl<'a, C: Clock, E: Eprint> Sockets<'a, C, E> {
             taken: reader.passed(),
             sent: writer.passed(),
             took: self.milliseconds().saturating_sub(self.since),
+            trouble,
         };
         if let Ok(line) = line_of(self.alloc, &entry) {
             let _ = eprintln!(self.errors; "{line}");

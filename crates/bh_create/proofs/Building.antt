@@ -5,7 +5,7 @@ use Rattle.bh_types.specs.Limits.{HostLimits, AreLimits}
 use Rattle.bh_model.specs.QuotaLaws.{IsBounded}
 use Rattle.bh_model.specs.State.{Octets}
 use Rattle.bh_tables.specs.Schema.{no_schema, host_schema}
-use Rattle.bh_tables.specs.Made.{with_part_sizes}
+use Rattle.bh_tables.specs.Made.{with_uses_by_count}
 use Rattle.bh_tables.specs.Typed.{Tables, no_rows, tables_in}
 use Rattle.bh_tables.specs.Hosts.{tables_shown}
 use Rattle.bh_tables.proofs.HostTests.{host_shows}
@@ -103,24 +103,24 @@ unfolding standing
 begun_making old new empty is = record { inside = ap (λ (x : Standing). x.inside) is; blank = record { schema_is = ap (λ (x : Standing). x.now.schema) is ∙ empty; blank = tt } }
 
 -- all tables are made
-made_host : (s : State) → IsMaking with_part_sizes s → IsInside (standing s) × (tables_in (standing s).now ≡ no_rows)
+made_host : (s : State) → IsMaking with_uses_by_count s → IsInside (standing s) × (tables_in (standing s).now ≡ no_rows)
 unfolding standing
 made_host s making =
     let it = blank_host s (subst (λ schema. IsBlank schema s) all_made making.blank) in
     (record { inside = making.inside; host = it.0 }, it.1)
 
-pub made_empty : (s : State) → IsMaking with_part_sizes s → (tables_in (standing s).now).host ≡ []
+pub made_empty : (s : State) → IsMaking with_uses_by_count s → (tables_in (standing s).now).host ≡ []
 made_empty s making = ap (λ (t : Tables). t.host) (made_host s making).1
 
-pub made_inside : (s : State) → IsMaking with_part_sizes s → IsInside (standing s)
+pub made_inside : (s : State) → IsMaking with_uses_by_count s → IsInside (standing s)
 made_inside s making = (made_host s making).0
 
 -- the host's row is added
-pub filled : (old new : State) (min_part max_body : ℕ) → IsMaking with_part_sizes old
-    → Holds (record (tables_in (standing old).now) { host = (tables_in (standing old).now).host ++ record { version = 0; latest = 0; min_part = min_part; max_body = max_body } ∷ [] }) (standing new)
+pub filled : (old new : State) (min_part max_body : ℕ) → IsMaking with_uses_by_count old
+    → Holds (record (tables_in (standing old).now) { host = (tables_in (standing old).now).host ++ record { version = 1; latest = 0; min_part = min_part; max_body = max_body; digest = 0 } ∷ [] }) (standing new)
     → Holds (new_host min_part max_body) (standing new)
 filled old new min_part max_body making it =
-    record { within = it.within; is = it.is ∙ ap (λ (t : Tables). record t { host = t.host ++ record { version = 0; latest = 0; min_part = min_part; max_body = max_body } ∷ [] }) (made_host old making).1 }
+    record { within = it.within; is = it.is ∙ ap (λ (t : Tables). record t { host = t.host ++ record { version = 1; latest = 0; min_part = min_part; max_body = max_body; digest = 0 } ∷ [] }) (made_host old making).1 }
 
 -- it has no body, and no tenant
 new_sound : (digest : Octets → Octets) (tables : Tables) (min_part max_body : ℕ) → tables ≡ new_host min_part max_body → IsSound tables → ((t : Octets) → view tables t ≡ None) → IsSoundHost digest tables

@@ -2,7 +2,7 @@ ghost use Rattle.std.specs.Prelude.{◌≡◌, true, IfErr};
 ghost use Rattle.sqlite.specs.Held.{state};
 ghost use Rattle.bh_rows.specs.Means.{is_trouble};
 ghost use Rattle.bh_tables.specs.Schema.{no_schema};
-ghost use Rattle.bh_tables.specs.Made.{with_host, with_tenants, with_keys, with_buckets, with_versions, with_blocks, with_refs, with_newest, with_refs_by_block, with_uploads, with_parts, with_uploads_by_key, with_uploads_by_moment, with_version_sizes, with_part_sizes};
+ghost use Rattle.bh_tables.specs.Made.{with_host, with_tenants, with_keys, with_buckets, with_versions, with_blocks, with_refs, with_newest, with_refs_by_block, with_uploads, with_parts, with_uploads_by_key, with_uploads_by_moment, with_uses, with_uses_by_count};
 ghost use Rattle.bh_schema.specs.Layer.{IsIntact, IsStateClean};
 ghost use Rattle.bh_create.specs.Creation.{IsMaking, Makes};
 
@@ -14,7 +14,7 @@ fn create_host<S: Alter>(connection: &mut Connection<S>) -> Result<usize, Error>
     ensures trouble { IfErr result (λ e. IsIntact (state S.Store connection.new) → is_trouble e ≡ true) }
 {
     connection.execute(
-        "CREATE TABLE host (id INTEGER PRIMARY KEY CHECK (id = 1), version INTEGER NOT NULL CHECK (version >= 0), latest INTEGER NOT NULL CHECK (latest >= 0), min_part INTEGER NOT NULL CHECK (min_part >= 0), max_body INTEGER NOT NULL CHECK (max_body >= 0)) STRICT",
+        "CREATE TABLE host (id INTEGER PRIMARY KEY CHECK (id = 1), version INTEGER NOT NULL CHECK (version >= 0), latest INTEGER NOT NULL CHECK (latest >= 0), min_part INTEGER NOT NULL CHECK (min_part >= 0), max_body INTEGER NOT NULL CHECK (max_body >= 0), digest INTEGER NOT NULL CHECK (digest >= 0)) STRICT",
         &[],
     )
 }
@@ -25,7 +25,7 @@ fn create_tenants<S: Alter>(connection: &mut Connection<S>) -> Result<usize, Err
     ensures trouble { IfErr result (λ e. IsIntact (state S.Store connection.new) → is_trouble e ≡ true) }
 {
     connection.execute(
-        "CREATE TABLE tenants (tenant TEXT NOT NULL PRIMARY KEY, quota INTEGER NOT NULL CHECK (quota >= 0), next_version INTEGER NOT NULL CHECK (next_version >= 0), next_upload INTEGER NOT NULL CHECK (next_upload >= 0), next_entry INTEGER NOT NULL CHECK (next_entry >= 0)) STRICT",
+        "CREATE TABLE tenants (tenant TEXT NOT NULL PRIMARY KEY, quota INTEGER NOT NULL CHECK (quota >= 0), next_version INTEGER NOT NULL CHECK (next_version >= 0), next_upload INTEGER NOT NULL CHECK (next_upload >= 0), next_entry INTEGER NOT NULL CHECK (next_entry >= 0), used INTEGER NOT NULL CHECK (used >= 0) CHECK (used <= 4611686018427387904)) STRICT",
         &[],
     )
 }
@@ -110,7 +110,7 @@ fn create_uploads<S: Alter>(connection: &mut Connection<S>) -> Result<usize, Err
     ensures trouble { IfErr result (λ e. IsIntact (state S.Store connection.new) → is_trouble e ≡ true) }
 {
     connection.execute(
-        "CREATE TABLE uploads (tenant TEXT NOT NULL, upload INTEGER NOT NULL CHECK (upload >= 0), bucket TEXT NOT NULL, okey BLOB NOT NULL, begun INTEGER NOT NULL CHECK (begun >= 0), PRIMARY KEY (tenant, upload), FOREIGN KEY (tenant, bucket) REFERENCES buckets ON DELETE RESTRICT) STRICT",
+        "CREATE TABLE uploads (tenant TEXT NOT NULL, upload INTEGER NOT NULL CHECK (upload >= 0), bucket TEXT NOT NULL, okey BLOB NOT NULL, begun INTEGER NOT NULL CHECK (begun >= 0), bytes_kept INTEGER NOT NULL CHECK (bytes_kept >= 0) CHECK (bytes_kept <= 4611686018427387904), PRIMARY KEY (tenant, upload), FOREIGN KEY (tenant, bucket) REFERENCES buckets ON DELETE RESTRICT) STRICT",
         &[],
     )
 }
@@ -148,20 +148,26 @@ fn create_uploads_by_moment<S: Alter>(connection: &mut Connection<S>) -> Result<
     )
 }
 
-fn create_version_sizes<S: Alter>(connection: &mut Connection<S>) -> Result<usize, Error>
+fn create_uses<S: Alter>(connection: &mut Connection<S>) -> Result<usize, Error>
     requires { IsStateClean (state S.Store connection.old) → IsMaking with_uploads_by_moment (state S.Store connection.old) }
-    ensures makes { Makes with_version_sizes (state S.Store connection.old) (state S.Store connection.new) result }
+    ensures makes { Makes with_uses (state S.Store connection.old) (state S.Store connection.new) result }
     ensures trouble { IfErr result (λ e. IsIntact (state S.Store connection.new) → is_trouble e ≡ true) }
 {
-    connection.execute("CREATE INDEX version_sizes ON versions (tenant, size)", &[])
+    connection.execute(
+        "CREATE TABLE uses (digest BLOB NOT NULL, ord INTEGER NOT NULL CHECK (ord >= 0), uses INTEGER NOT NULL CHECK (uses >= 0) CHECK (uses <= 4611686018427387904), PRIMARY KEY (digest, ord)) STRICT",
+        &[],
+    )
 }
 
-fn create_part_sizes<S: Alter>(connection: &mut Connection<S>) -> Result<usize, Error>
-    requires { IsStateClean (state S.Store connection.old) → IsMaking with_version_sizes (state S.Store connection.old) }
-    ensures makes { Makes with_part_sizes (state S.Store connection.old) (state S.Store connection.new) result }
+fn create_uses_by_count<S: Alter>(connection: &mut Connection<S>) -> Result<usize, Error>
+    requires { IsStateClean (state S.Store connection.old) → IsMaking with_uses (state S.Store connection.old) }
+    ensures makes { Makes with_uses_by_count (state S.Store connection.old) (state S.Store connection.new) result }
     ensures trouble { IfErr result (λ e. IsIntact (state S.Store connection.new) → is_trouble e ≡ true) }
 {
-    connection.execute("CREATE INDEX part_sizes ON parts (tenant, size)", &[])
+    connection.execute(
+        "CREATE INDEX uses_by_count ON uses (uses, digest, ord)",
+        &[],
+    )
 }
 
 fn create_accounts<S: Alter>(connection: &mut Connection<S>) -> Result<usize, Error>
@@ -205,25 +211,25 @@ fn create_multipart<S: Alter>(connection: &mut Connection<S>) -> Result<usize, E
     create_uploads_by_moment(connection)
 }
 
-fn create_sizes<S: Alter>(connection: &mut Connection<S>) -> Result<usize, Error>
+fn create_counts<S: Alter>(connection: &mut Connection<S>) -> Result<usize, Error>
     requires { IsStateClean (state S.Store connection.old) → IsMaking with_uploads_by_moment (state S.Store connection.old) }
-    ensures makes { Makes with_part_sizes (state S.Store connection.old) (state S.Store connection.new) result }
+    ensures makes { Makes with_uses_by_count (state S.Store connection.old) (state S.Store connection.new) result }
     ensures trouble { IfErr result (λ e. IsIntact (state S.Store connection.new) → is_trouble e ≡ true) }
 {
-    create_version_sizes(connection)?;
-    create_part_sizes(connection)
+    create_uses(connection)?;
+    create_uses_by_count(connection)
 }
 
 /// Makes the tables of a host and their indexes, with no row.
 pub fn create_tables<S: Alter>(connection: &mut Connection<S>) -> Result<(), Error>
     requires { IsStateClean (state S.Store connection.old) → IsMaking no_schema (state S.Store connection.old) }
-    ensures makes { Makes with_part_sizes (state S.Store connection.old) (state S.Store connection.new) result }
+    ensures makes { Makes with_uses_by_count (state S.Store connection.old) (state S.Store connection.new) result }
     ensures trouble { IfErr result (λ e. IsIntact (state S.Store connection.new) → is_trouble e ≡ true) }
 {
     create_accounts(connection)?;
     create_objects(connection)?;
     create_indexes(connection)?;
     create_multipart(connection)?;
-    create_sizes(connection)?;
+    create_counts(connection)?;
     Ok(())
 }

@@ -26,6 +26,7 @@ use Rattle.bh_types.specs.declared.rejection.Detail.{Detail}
 use Rattle.bh_types.specs.declared.rejection.Detail.TheVariants.{CurrentMarker, NamedMarker, ObjectSize}
 use Rattle.bh_types.specs.declared.rejection.Rejection.{Rejection}
 use Rattle.bh_types.specs.declared.refusal.Refusal.TheVariants.{MethodNotAllowed, ClockOutOfRange, ServiceUnavailable, Unavailable}
+use Rattle.bh_storage.specs.declared.error.Trouble.{Trouble}
 use Rattle.bh_storage.specs.declared.report.SweepReport.{SweepReport}
 use Rattle.bh_storage.specs.declared.report.StoreReport.{StoreReport}
 use Rattle.bh_machine.specs.Machine.{Act, Asked, Commanded}
@@ -182,5 +183,11 @@ wanting_text Operator = refusal_text Unavailable
 
 abbrev pub reply_bytes : Reply → Octets
 reply_bytes (reply.ClockOutOfRange caller) = clock_text caller
-reply_bytes (reply.Wanting caller) = wanting_text caller
+reply_bytes (reply.Wanting caller trouble) = wanting_text caller
 reply_bytes (reply.Text bytes) = bytes.items
+
+-- what was wanting; the bytes don't tell it
+abbrev pub reply_trouble : Reply → Option Trouble
+reply_trouble (reply.ClockOutOfRange caller) = None
+reply_trouble (reply.Wanting caller trouble) = Some trouble
+reply_trouble (reply.Text bytes) = None

@@ -298,11 +298,11 @@ pub fn apply<H: Storage>(alloc: Global, host: &mut H, event: &Event) -> Told
             stamp: Some(stamp),
             reply: Reply::Text(bytes),
         },
-        Err(_) => {
+        Err(trouble) => {
             host.take_back();
             Told {
                 stamp: None,
-                reply: Reply::Wanting(caller_of(event)),
+                reply: Reply::Wanting(caller_of(event), trouble),
             }
         }
     }

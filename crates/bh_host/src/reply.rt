@@ -34,8 +34,9 @@ use std::alloc::{AllocError, Global};
 pub enum Reply {
     /// The clock's reading is past its limit.
     ClockOutOfRange(Caller),
-    /// Memory or the store was wanting; to a request this is ServiceUnavailable, to an operator Unavailable.
-    Wanting(Caller),
+    /// Memory or the store was wanting; to a request this is ServiceUnavailable, to an operator Unavailable. The bytes
+    /// don't tell which trouble it was.
+    Wanting(Caller, Trouble),
     /// The text of an answer or of a refusal.
     Text(Vec<u8>),
 }
@@ -54,8 +55,18 @@ impl Reply {
     {
         match self {
             Reply::ClockOutOfRange(caller) => clock_bytes(*caller),
-            Reply::Wanting(caller) => wanting_bytes(*caller),
+            Reply::Wanting(caller, _) => wanting_bytes(*caller),
             Reply::Text(bytes) => bytes,
+        }
+    }
+
+    /// What was wanting, where memory or the store was.
+    pub fn trouble(&self) -> Option<Trouble>
+        ensures { result ≡ spec.reply_trouble self.now }
+    {
+        match self {
+            Reply::Wanting(_, trouble) => Some(*trouble),
+            Reply::ClockOutOfRange(_) | Reply::Text(_) => None,
         }
     }
 }

@@ -21,7 +21,7 @@ use Rattle.bh_rows.specs.Texts.{IsReadyAt, SortedText}
 use Rattle.bh_rows.proofs.ScanLemmas.{then_assoc}
 use Rattle.bh_rows.proofs.TextLemmas as text
 use Rattle.bh_tables.specs.Schema.{Octets, host_schema}
-use Rattle.bh_tables.specs.Typed.{VersionColumns, version_form, number, IsReady, tables}
+use Rattle.bh_tables.specs.Typed.{totals_of, VersionColumns, version_form, number, IsReady, tables}
 use Rattle.bh_tables.specs.Bodies.{bare}
 use Rattle.bh_tables.proofs.Places.{versions}
 use Rattle.bh_tables.proofs.ResolvedLemmas.{seen_sorted}
@@ -78,7 +78,7 @@ module _ (tenant bucket from upto : Octets) (count : ℕ) where
 
       go : (r : Result _ Error) → IfOk r (λ x. rows_in x ≡ take count (map shows_it (sort_by before (filter passes (typed version_form (old.now.trees 7))))))
           → IfOk r (λ x. rows_in x ≡ map shown_numbered (listed_rows tenant bucket from upto count (tables old).versions))
-      go (Ok x) h = h ∙ ap (λ cs. take count (map shows_it (sort_by before (filter passes cs)))) (versions.rows_are old.now) ∙ ap (take count) (seen_sorted passes (tables old).versions shows_it before) ∙ take_map shown_numbered count (sort_by version_order (filter (is_listed tenant bucket from upto) (tables old).versions))
+      go (Ok x) h = h ∙ ap (λ cs. take count (map shows_it (sort_by before (filter passes cs)))) ((versions (totals_of (tables old))).rows_are old.now) ∙ ap (take count) (seen_sorted passes (tables old).versions shows_it before) ∙ take_map shown_numbered count (sort_by version_order (filter (is_listed tenant bucket from upto) (tables old).versions))
       go (Err e) h = tt
 
 module _ (tenant bucket okey : Octets) (seq count : ℕ) where
@@ -116,5 +116,5 @@ module _ (tenant bucket okey : Octets) (seq count : ℕ) where
 
       go : (r : Result _ Error) → IfOk r (λ x. rows_in x ≡ take count (map shows_it (sort_by before (filter is_older (typed version_form (old.now.trees 7))))))
           → IfOk r (λ x. rows_in x ≡ map shown_numbered (older_rows tenant bucket okey seq count (tables old).versions))
-      go (Ok x) h = h ∙ ap (λ cs. take count (map shows_it (sort_by before (filter is_older cs)))) (versions.rows_are old.now) ∙ ap (take count) (seen_sorted is_older (tables old).versions shows_it before) ∙ take_map shown_numbered count (sort_by version_order (filter (is_older_of tenant bucket okey seq) (tables old).versions))
+      go (Ok x) h = h ∙ ap (λ cs. take count (map shows_it (sort_by before (filter is_older cs)))) ((versions (totals_of (tables old))).rows_are old.now) ∙ ap (take count) (seen_sorted is_older (tables old).versions shows_it before) ∙ take_map shown_numbered count (sort_by version_order (filter (is_older_of tenant bucket okey seq) (tables old).versions))
       go (Err e) h = tt

@@ -40,7 +40,7 @@ use Rattle.bh_objects.proofs.Dropping.{room_found}
 use Rattle.bh_objects.proofs.Keeping.{entry_asked}
 use Rattle.bh_objects.proofs.Getting.{its, sized, row_bytes, found_version, refused_version}
 use Rattle.bh_objects.proofs.Putting.{HasBucket, has_bucket, has_numbers, next_unnamed, numbers_read}
-use Rattle.bh_objects.proofs.Written.{HasRowsOf, becomes_so, IsHostOf, is_added}
+use Rattle.bh_objects.proofs.Written.{HasRowsOf, becomes_so, IsHostOf, is_added, counters_last}
 
 -- ---- the source
 
@@ -223,8 +223,9 @@ module _ {Y : Type 0} (told : Y → Answer) (at : ℕ) (t b k sb sk : Octets) (w
     numbers_failed shows version source n same_size last two (Failed trouble) d = tt
 
 -- the writes of a copy, one after another
-pub copy_chain : (mode : BucketState) (before after : Counts) (replaced : Option Replaced) (t b k : Octets) (at : ℕ) (head : SeenHead) (old one two three new : Tables)
-    → one ≡ with_counters mode after t old → two ≡ body_copied (t, head.seq) (t, before.entry) one → three ≡ without_replaced t b k replaced two → new ≡ with_version mode before t b k at head.size head.checksum three
+pub copy_chain : (mode : BucketState) (before after : Counts) (replaced : Option Replaced) (t b k : Octets) (at : ℕ) (head : SeenHead) (old two three new : Tables)
+    → two ≡ body_copied (t, head.seq) (t, before.entry) old → three ≡ without_replaced t b k replaced two → new ≡ with_version mode before t b k at head.size head.checksum (with_counters mode after t three)
     → new ≡ copy_written mode before after replaced t b k at head old
-copy_chain mode before after replaced t b k at head old one two three new is1 is2 is3 is4 =
-    is4 ∙ ap (with_version mode before t b k at head.size head.checksum) (is3 ∙ ap (without_replaced t b k replaced) (is2 ∙ ap (body_copied (t, head.seq) (t, before.entry)) is1))
+copy_chain mode before after replaced t b k at head old two three new is1 is2 is3 =
+    is3 ∙ ap (λ (x : Tables). with_version mode before t b k at head.size head.checksum (with_counters mode after t x)) (is2 ∙ ap (without_replaced t b k replaced) is1)
+    ∙ ap (with_version mode before t b k at head.size head.checksum) (counters_last mode after replaced t b k (body_copied (t, head.seq) (t, before.entry) old))

@@ -13,15 +13,18 @@ use Rattle.bh_types.specs.Outcomes.{require}
 use Rattle.bh_storage.specs.Calls.{Decides}
 use Rattle.bh_storage.specs.declared.error.StepError.{StepError}
 use Rattle.bh_storage.specs.declared.error.StepError.TheVariants.{Refused, Failed}
-use Rattle.bh_tables.specs.Typed.{Tables, TenantRow, BucketRow}
+use Rattle.sqlite_typed.proofs.TestLemmas.{same_bytes}
+use Rattle.bh_tables.specs.Typed.{Tables, TenantRow, BucketRow, bytes_used}
 use Rattle.bh_tables.specs.Shown.{is_tenant, is_bucket}
 use Rattle.bh_view.specs.View.{view, mode_of, rows_of, bucket_shown, state_of}
 use Rattle.bh_view.specs.Sound.{IsSound}
+use Rattle.bh_view.proofs.FilterLemmas.{first_passes}
 use Rattle.bh_view.proofs.FindLemmas.{first_find, bucket_found, tenant_found}
-use Rattle.bh_schema.specs.Rows.{bucket_numbers, tenant_numbers}
+use Rattle.bh_schema.specs.Rows.{bucket_numbers, tenant_numbers, tenant_account}
+use Rattle.bh_schema.specs.declared.rows.tenants.TenantAccount.{TenantAccount}
 use Rattle.bh_schema.specs.declared.rows.tenants.TenantNumbers.{TenantNumbers}
 use Rattle.bh_schema.specs.declared.rows.buckets.BucketNumbers.{BucketNumbers}
-use Rattle.bh_objects.specs.Found.{mode_in, account_in, counts_in, tenant_in, name_free}
+use Rattle.bh_objects.specs.Found.{mode_in, account_in, bytes_in, counts_in, tenant_in, name_free}
 
 abbrev mode_or : Option Bucket → Result BucketState Refusal
 mode_or o = ok_or (option_map (λ (b : Bucket). b.mode) o) NoSuchBucket
@@ -92,6 +95,24 @@ module _ (tables : Tables) (t : Octets) where
       go : (o : Option TenantRow) → None ≡ option_map tenant_numbers o → account_in (option_map (state_of (rows_of t tables)) o) ≡ Err NoSuchBucket
       go None e = refl
       go (Some r) e = cc
+
+  -- with what it uses
+  pub account_numbers : (a : TenantAccount) → Some a ≡ option_map (tenant_account tables) own → (Some a.numbers ≡ option_map tenant_numbers own) × (a.used ≡ bytes_in t tables)
+  account_numbers a is = go own refl is
+    where
+      go : (o : Option TenantRow) → own ≡ o → Some a ≡ option_map (tenant_account tables) o → (Some a.numbers ≡ option_map tenant_numbers o) × (a.used ≡ bytes_in t tables)
+      go None there e = absurd (cc)
+      go (Some r) there e =
+          let same : a ≡ tenant_account tables r = cc in
+          let name = same_bytes r.tenant t (first_passes (is_tenant t) tables.tenants r (first_find (is_tenant t) tables.tenants ∙ there)) in
+          (ap (λ (x : TenantAccount). Some x.numbers) same, ap (λ (x : TenantAccount). x.used) same ∙ ap (bytes_used tables.versions tables.parts) name)
+
+  pub no_numbers : None ≡ option_map (tenant_account tables) own → None ≡ option_map tenant_numbers own
+  no_numbers is = go own is
+    where
+      go : (o : Option TenantRow) → None ≡ option_map (tenant_account tables) o → None ≡ option_map tenant_numbers o
+      go None e = refl
+      go (Some r) e = absurd (cc)
 
   pub has_tenant : (n : TenantNumbers) → Some n ≡ option_map tenant_numbers own → tenant_in (view tables t) ≡ Ok tt
   has_tenant n is = ap tenant_in tenant_shown ∙ go own is

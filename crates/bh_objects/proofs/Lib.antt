@@ -2,6 +2,7 @@ pub mod Dropping
 pub mod Written
 pub mod Working
 pub mod Found
+pub mod Sizes
 pub mod Creating
 pub mod Keeping
 pub mod Putting

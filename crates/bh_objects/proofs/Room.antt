@@ -19,7 +19,7 @@ use Rattle.bh_view.specs.Sound.{IsSound}
 use Rattle.bh_view.specs.View.{view}
 use Rattle.bh_view.proofs.QuotaLemmas.{null_row_size}
 use Rattle.bh_view.proofs.UsedLemmas.{used_is}
-use Rattle.bh_objects.specs.Found.{mode_in, account_in, numbers_in, bytes_in, null_in, replaced_in, replaced_bytes, room_under, room_in, entry_numbers_in}
+use Rattle.bh_objects.specs.Found.{Answers, mode_in, account_in, numbers_in, bytes_in, null_in, replaced_in, replaced_bytes, room_under, room_in, entry_numbers_in}
 use Rattle.bh_objects.proofs.Found.{account_counts}
 use Rattle.bh_objects.proofs.Putting.{HasBucket, has_bucket}
 
@@ -89,7 +89,7 @@ decides_on shown whole last old middle new (Err (Refused r)) same is d = (is ∙
 decides_on shown whole last old middle new (Err (Failed trouble)) same is d = tt
 
 -- the room is not there
-pub room_failed : {X Y : Type 0} (shown : X → Y) (whole : Tables → Result Y Refusal) (room : Tables → Result (Unit {0}) Refusal) (next : Unit {0} → Result Y Refusal) (old middle new : Tables) (error : StepError Refusal)
-    → middle ≡ old → whole old ≡ ◌>>=◌ {B = Y} (room old) next → Decides {X = Unit {0}} (λ _. tt) (room middle) middle new (Err error) → Decides shown (whole old) old new (Err error)
-room_failed shown whole room next old middle new (Refused x) same is d = (is ∙ room_refuses (room old) next x (ap room (sym same) ∙ d.0), d.1 ∙ same)
-room_failed shown whole room next old middle new (Failed trouble) same is d = tt
+pub room_failed : {X Y : Type 0} (shown : X → Y) (whole : Tables → Result Y Refusal) (room : Result (Unit {0}) Refusal) (next : Unit {0} → Result Y Refusal) (old new : Tables) (error : StepError Refusal)
+    → new ≡ old → whole old ≡ ◌>>=◌ {B = Y} room next → Answers {X = Unit {0}} {Y = Unit {0}} (λ _. tt) room (Err error) → Decides shown (whole old) old new (Err error)
+room_failed shown whole room next old new (Refused x) same is d = (is ∙ room_refuses room next x d, same)
+room_failed shown whole room next old new (Failed trouble) same is d = tt

@@ -41,6 +41,10 @@ asked_working old new working w same clean =
       digests = λ d. subst (λ (x : Standing). AreDigests digest (tables_in x.now).blocks) (sym is) d;
     }
 
+-- so a transaction is open still
+pub asked_inside : (old new : State) → (IsStateClean old → IsInside (standing old)) → StateWithin old new → (IsIntact new → standing new ≡ standing old) → IsStateClean new → IsInside (standing new)
+asked_inside old new inside within same clean = subst IsInside (sym (same clean.intact)) (inside (within.follows.clean clean))
+
 -- the tables in which operations are carried out
 pub host_at : (s : State) → IsWorking s → IsHostOf (tables_at s)
 host_at s works = record { sound = works.sound; bodies = works.bodies; resolved = tables_resolved (raw (standing s).now.trees) }

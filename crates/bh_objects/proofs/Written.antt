@@ -1,5 +1,5 @@
 -- What a put writes, as a change of versions alone.
-use Rattle.std.proofs.Common.{◌≡◌, ◌≤◌, ℕ, false, List, [], ◌∷◌, ◌++◌, Option, refl, sym, ap, ◌∙◌, subst}
+use Rattle.std.proofs.Common.{◌≡◌, ◌≤◌, ℕ, false, List, [], ◌∷◌, ◌++◌, Option, Some, None, refl, sym, ap, ◌∙◌, subst}
 use Rattle.std.specs.List.{AllByRecursion, list_any}
 use Rattle.bh_types.specs.Checksums.{checksum_text}
 use Rattle.bh_types.specs.Counts.{Counts}
@@ -187,12 +187,18 @@ module _ (old : Tables) (host : IsHostOf old) (mode : BucketState) (before after
         new_blocks old host.sound mode before after t b k moment Marker counted new has apart e,
       )
 
+-- the counters go on before what is replaced goes, or after
+pub counters_last : (mode : BucketState) (after : Counts) (replaced : Option Replaced) (t b k : Octets) (x : Tables) → with_counters mode after t (without_replaced t b k replaced x) ≡ without_replaced t b k replaced (with_counters mode after t x)
+counters_last mode after None t b k x = refl
+counters_last mode after (Some r) t b k x = refl
+
 -- the writes of a put, one after another
-pub object_chain : (digest : Octets → Octets) (size : ℕ) (mode : BucketState) (before after : Counts) (replaced : Option Replaced) (t b k : Octets) (at : ℕ) (bytes : Octets) (old one two three new : Tables)
-    → one ≡ with_counters mode after t old → two ≡ body_stored digest (t, before.entry) 0 (pieces size bytes) one → three ≡ without_replaced t b k replaced two
-    → new ≡ with_columns mode before t b k at (Body bytes (checksum_text bytes)) three → new ≡ object_written digest size mode before after replaced t b k at bytes old
-object_chain digest size mode before after replaced t b k at bytes old one two three new is1 is2 is3 is4 =
-    is4 ∙ ap (with_columns mode before t b k at (Body bytes (checksum_text bytes))) (is3 ∙ ap (without_replaced t b k replaced) (is2 ∙ ap (body_stored digest (t, before.entry) 0 (pieces size bytes)) is1))
+pub object_chain : (digest : Octets → Octets) (size : ℕ) (mode : BucketState) (before after : Counts) (replaced : Option Replaced) (t b k : Octets) (at : ℕ) (bytes : Octets) (old two three new : Tables)
+    → two ≡ body_stored digest (t, before.entry) 0 (pieces size bytes) old → three ≡ without_replaced t b k replaced two
+    → new ≡ with_columns mode before t b k at (Body bytes (checksum_text bytes)) (with_counters mode after t three) → new ≡ object_written digest size mode before after replaced t b k at bytes old
+object_chain digest size mode before after replaced t b k at bytes old two three new is1 is2 is3 =
+    is3 ∙ ap (λ (x : Tables). with_columns mode before t b k at (Body bytes (checksum_text bytes)) (with_counters mode after t x)) (is2 ∙ ap (without_replaced t b k replaced) is1)
+    ∙ ap (with_columns mode before t b k at (Body bytes (checksum_text bytes))) (counters_last mode after replaced t b k (body_stored digest (t, before.entry) 0 (pieces size bytes) old))
 
 -- ---- a delete
 

@@ -23,6 +23,7 @@ use Rattle.bh_storage.specs.declared.error.StepError.{StepError}
 use Rattle.bh_storage.specs.declared.error.StepError.TheVariants.{Refused, Failed}
 use Rattle.bh_tables.specs.Typed.{Tables}
 use Rattle.bh_tables.specs.Shown.{is_tenant, is_version, is_version_of, is_part_used}
+use Rattle.bh_schema.specs.Written.{bytes_of_id}
 use Rattle.bh_view.specs.Put.{entry_row, row_number, counters_row, rows_left}
 use Rattle.bh_objects.specs.declared.quotas.Replaced.{Replaced}
 
@@ -74,6 +75,10 @@ replaced_in Suspended tenant bucket key tables = null_in tenant bucket key table
 -- the bytes of what is replaced
 abbrev pub replaced_bytes : Option Replaced → ℕ
 replaced_bytes replaced = option_map_or (λ r. r.size) replaced 0
+
+-- what was found of the entry `null` is what it has
+abbrev pub IsHeld : Octets → Octets → Octets → Option Replaced → Tables → Type 0
+IsHeld tenant bucket key replaced tables = (r : Replaced) → replaced ≡ Some r → bytes_of_id tenant bucket key 0 tables ≡ r.size
 
 -- whether a tenant who uses so many bytes may replace so many by so many
 abbrev pub room_under : ℕ → ℕ → ℕ → ℕ → Result (Unit {0}) Refusal

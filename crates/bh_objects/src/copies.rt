@@ -7,14 +7,14 @@ ghost use Rattle.bh_view.specs.View.{view, latest_of};
 ghost use Rattle.bh_schema.specs.Connections.{IsClean, tables, InTransaction, StaysWithin, StaysOpen, Becomes};
 ghost use Rattle.bh_schema.specs.Views.{head_seen};
 ghost use Rattle.bh_schema.specs.Working.{Works, StillWorks};
-ghost use Rattle.bh_objects.specs.Found.{IsKeyText};
+ghost use Rattle.bh_objects.specs.Found.{IsKeyText, IsHeld};
 ghost use Rattle.bh_objects.specs.Copies.{version_read, copy_written};
 
 use crate::heads::wanted_head;
 use crate::ids::told_id;
 use crate::quotas::{NewEntry, new_entry};
 use crate::reads::bucket_state;
-use crate::writes::{AddedVersion, add_version, drop_replaced, set_counters};
+use crate::writes::{AddedVersion, add_version, drop_replaced};
 use bh_blocks::bodies::copy_body;
 use bh_model::entries::new_id;
 use bh_schema::rows::versions::VersionHead;
@@ -84,7 +84,7 @@ fn source_head<S: Alter>(
 }
 
 /// Puts a copy of a version into a bucket of this state, as a new entry: its body, which has the source's blocks,
-/// before what it replaces goes, since that may be the source, and then its row.
+/// before what it replaces goes, since that may be the source, and then its row with the counters.
 fn write_copy<S: Alter>(
     connection: &mut Connection<S>,
     copy: &NewCopy<'_>,
@@ -92,7 +92,9 @@ fn write_copy<S: Alter>(
     entry: NewEntry,
     head: &VersionHead,
 ) -> Result<(), Trouble>
-    requires { InTransaction S.Store connection.old }
+    requires inside { InTransaction S.Store connection.old }
+    requires held { IsClean S.Store connection.old
+        → IsHeld copy.now.tenant.now copy.now.bucket.now copy.now.key.now entry.replaced (tables S.Store connection.old) }
     ensures within { StaysWithin S.Store connection.old connection.new }
     ensures opens { OnOk result (StaysOpen S.Store connection.old connection.new) }
     ensures holds { OnOk result (Becomes S.Store connection.old connection.new
@@ -106,7 +108,6 @@ fn write_copy<S: Alter>(
         return Err(Trouble::Store);
     }
     let NewEntry { numbers, replaced } = entry;
-    set_counters(connection, copy.tenant, mode, numbers.after)?;
     or_trouble(copy_body(
         connection,
         copy.tenant.as_str(),
@@ -122,7 +123,7 @@ fn write_copy<S: Alter>(
         size: head.size,
         checksum: head.checksum.as_str(),
     };
-    add_version(connection, &version, mode, numbers.before)
+    add_version(connection, &version, mode, numbers)
 }
 
 /// S3's CopyObject, at a moment that is not after the last stamp: NoSuchBucket of the copy's bucket and then of the

@@ -12,6 +12,7 @@ ghost use Rattle.bh_objects.specs.Answers.{is_marked};
 
 use crate::heads::numbered_head;
 use crate::ids::{number_of, told_id};
+use crate::quotas::as_replaced;
 use crate::reads::{Numbers, bucket_state, new_numbers};
 use crate::writes::{drop_entry, drop_null, write_marker};
 use bh_model::entries::new_id;
@@ -123,7 +124,8 @@ fn delete_numbered<S: Alter>(
     match found {
         None => Ok(nothing_told()),
         Some(head) => {
-            drop_entry(connection, tenant, bucket, key, number, head.seq)?;
+            let entry = as_replaced(&head);
+            drop_entry(connection, tenant, bucket, key, number, entry)?;
             Ok(RemovedEntry {
                 id: told_id(mode, id),
                 marker: is_marker(head.marker),

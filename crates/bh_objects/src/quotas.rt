@@ -2,17 +2,16 @@
 ghost use Rattle.std.specs.Prelude.{◌≡◌, ◌+◌, ◌-◌, Ok, IfOk, OnOk};
 ghost use Rattle.bh_storage.specs.Calls.{Unless, Decides};
 ghost use Rattle.bh_view.specs.View.{view};
-ghost use Rattle.bh_schema.specs.Connections.{IsClean, tables, InTransaction, StaysWithin, StaysOpen, WasOpen, ChangesNothing};
+ghost use Rattle.bh_schema.specs.Connections.{IsClean, tables, InTransaction, StaysWithin, StaysOpen, ChangesNothing};
 ghost use Rattle.bh_schema.specs.Working.{Works, StillWorks};
 ghost use Rattle.bh_objects.specs.Found as spec;
-ghost use Rattle.bh_objects.specs.Found.{bytes_in, mode_in, null_in, replaced_in, room_under, entry_numbers_in};
+ghost use Rattle.bh_objects.specs.Found.{Answers, mode_in, null_in, replaced_in, room_under, entry_numbers_in};
 
 use crate::heads::numbered_head;
-use crate::reads::{Numbers, tenant_account};
+use crate::reads::{Account, Numbers, tenant_account};
 use bh_core::quotas::fits_quota;
 use bh_model::counting::after_entry;
-use bh_schema::rows::sizes::{part_total, version_total};
-use bh_schema::trouble::or_trouble;
+use bh_schema::rows::versions::VersionHead;
 use bh_storage::error::{StepError, Trouble};
 use bh_types::bucket::BucketName;
 use bh_types::bucket_state::BucketState;
@@ -20,23 +19,6 @@ use bh_types::key::ObjectKey;
 use bh_types::names::TenantName;
 use bh_types::refusal::Refusal;
 use sqlite::{Alter, Connection};
-
-/// How many bytes a tenant's versions and parts have: two sums over the tenant's own rows.
-fn used_bytes<S: Alter>(connection: &mut Connection<S>, tenant: &TenantName) -> Result<u64, Trouble>
-    requires { InTransaction S.Store connection.old }
-    ensures within { StaysWithin S.Store connection.old connection.new }
-    ensures opens { OnOk result (WasOpen S.Store connection.old connection.new) }
-    ensures same { OnOk result (ChangesNothing S.Store connection.old connection.new) }
-    ensures used { IfOk result (λ n. IsClean S.Store connection.new
-        → n ≡ bytes_in tenant.now (tables S.Store connection.old)) }
-{
-    let versions = or_trouble(version_total(connection, tenant.as_str()))?;
-    let parts = or_trouble(part_total(connection, tenant.as_str()))?;
-    match versions.checked_add(parts) {
-        Some(total) => Ok(total),
-        None => Err(Trouble::Store),
-    }
-}
 
 /// What is used once so many bytes are replaced by so many.
 fn used_after(before: u64, replaced: u64, added: u64) -> Result<u64, Trouble>
@@ -51,52 +33,27 @@ fn used_after(before: u64, replaced: u64, added: u64) -> Result<u64, Trouble>
     }
 }
 
-/// Whether a tenant of this quota may replace so many bytes by so many, by what is used: QuotaExceeded.
-fn require_sum<S: Alter>(
-    connection: &mut Connection<S>,
-    tenant: &TenantName,
-    quota: u64,
-    replaced: u64,
-    added: u64,
-) -> Result<(), StepError<Refusal>>
-    requires { Works S.Store connection.old }
-    ensures within { StaysWithin S.Store connection.old connection.new }
-    ensures opens { Unless result (StaysOpen S.Store connection.old connection.new) }
-    ensures working { Unless result (StillWorks S.Store connection.old connection.new) }
-    ensures decides { IsClean S.Store connection.new
-        → Decides (λ _. tt) (room_under quota (bytes_in tenant.now (tables S.Store connection.old)) replaced added)
-        (tables S.Store connection.old) (tables S.Store connection.new) result }
+/// Whether a tenant may replace so many bytes by so many, by what is used: QuotaExceeded.
+fn require_sum(account: &Account, replaced: u64, added: u64) -> Result<(), StepError<Refusal>>
+    ensures { Answers (λ _. tt) (room_under account.now.quota account.now.used replaced added) result }
 {
-    let before = used_bytes(connection, tenant)?;
-    let after = used_after(before, replaced, added)?;
-    if fits_quota(before, after, quota) {
+    let after = used_after(account.used, replaced, added)?;
+    if fits_quota(account.used, after, account.quota) {
         Ok(())
     } else {
         Err(StepError::Refused(Refusal::QuotaExceeded))
     }
 }
 
-/// Whether a tenant of this quota may replace so many bytes by so many: QuotaExceeded. What takes no more than it
-/// replaces is let through, and nothing is added up for it.
-pub fn require_room<S: Alter>(
-    connection: &mut Connection<S>,
-    tenant: &TenantName,
-    quota: u64,
-    replaced: u64,
-    added: u64,
-) -> Result<(), StepError<Refusal>>
-    requires { Works S.Store connection.old }
-    ensures within { StaysWithin S.Store connection.old connection.new }
-    ensures opens { Unless result (StaysOpen S.Store connection.old connection.new) }
-    ensures working { Unless result (StillWorks S.Store connection.old connection.new) }
-    ensures decides { IsClean S.Store connection.new
-        → Decides (λ _. tt) (room_under quota (bytes_in tenant.now (tables S.Store connection.old)) replaced added)
-        (tables S.Store connection.old) (tables S.Store connection.new) result }
+/// Whether a tenant may replace so many bytes by so many: QuotaExceeded. What takes no more than it replaces is let
+/// through.
+pub fn require_room(account: &Account, replaced: u64, added: u64) -> Result<(), StepError<Refusal>>
+    ensures { Answers (λ _. tt) (room_under account.now.quota account.now.used replaced added) result }
 {
     if added <= replaced {
         Ok(())
     } else {
-        require_sum(connection, tenant, quota, replaced, added)
+        require_sum(account, replaced, added)
     }
 }
 
@@ -107,6 +64,17 @@ pub struct Replaced {
     pub seq: u64,
     /// In bytes.
     pub size: u64,
+}
+
+/// What is to be known of the version or marker that is found, for its place to be taken.
+pub fn as_replaced(head: &VersionHead) -> Replaced
+    ensures seq { result.seq ≡ head.now.seq }
+    ensures size { result.size ≡ head.now.size }
+{
+    Replaced {
+        seq: head.seq,
+        size: head.size,
+    }
 }
 
 /// The entry `null` of a key, if it is there.
@@ -197,7 +165,7 @@ pub fn new_entry<S: Alter>(
     let replaced = find_replaced(connection, tenant, bucket, key, mode)?;
     let account = tenant_account(connection, tenant)?;
     let bytes = replaced_bytes(replaced);
-    require_room(connection, tenant, account.quota, bytes, added)?;
+    require_room(&account, bytes, added)?;
     let after = after_entry(mode, account.counters)?;
     let numbers = Numbers {
         before: account.counters,

@@ -1,8 +1,9 @@
+ghost use Rattle.std.specs.Prelude.{◌≡◌, IfOk};
 ghost use Rattle.bh_storage.specs.Calls.{Unless, Decides};
 ghost use Rattle.bh_view.specs.View.{view};
 ghost use Rattle.bh_schema.specs.Connections.{IsClean, tables, StaysWithin, StaysOpen};
 ghost use Rattle.bh_schema.specs.Working.{Works, StillWorks};
-ghost use Rattle.bh_objects.specs.Found.{mode_in, account_in, counts_in, numbers_in, tenant_in, name_free};
+ghost use Rattle.bh_objects.specs.Found.{mode_in, account_in, bytes_in, counts_in, numbers_in, tenant_in, name_free};
 
 use bh_model::counting::after_entry;
 use bh_schema::rows;
@@ -43,10 +44,12 @@ pub fn bucket_state<S: Alter>(
 pub struct Account {
     /// In bytes.
     pub quota: u64,
+    /// The bytes of its versions and parts.
+    pub used: u64,
     pub counters: Counters,
 }
 
-/// A tenant's quota and counters.
+/// A tenant's quota, what it uses of it, and its counters.
 pub fn tenant_account<S: Alter>(
     connection: &mut Connection<S>,
     tenant: &TenantName,
@@ -58,13 +61,16 @@ pub fn tenant_account<S: Alter>(
     ensures decides { IsClean S.Store connection.new
         → Decides (λ account. (account.quota, account.counters)) (account_in (view (tables S.Store connection.old) tenant.now))
         (tables S.Store connection.old) (tables S.Store connection.new) result }
+    ensures used { IfOk result (λ account. IsClean S.Store connection.new
+        → account.used ≡ bytes_in tenant.now (tables S.Store connection.old)) }
 {
-    match or_trouble(rows::tenants::find_tenant(connection, tenant.as_str()))? {
-        Some(numbers) => {
-            let (version, upload) = (numbers.next_version, numbers.next_upload);
-            match Counters::new(version, upload, numbers.next_entry) {
+    match or_trouble(rows::tenants::find_account(connection, tenant.as_str()))? {
+        Some(found) => {
+            let (version, upload) = (found.numbers.next_version, found.numbers.next_upload);
+            match Counters::new(version, upload, found.numbers.next_entry) {
                 Some(counters) => Ok(Account {
-                    quota: numbers.quota,
+                    quota: found.numbers.quota,
+                    used: found.used,
                     counters,
                 }),
                 None => Err(StepError::Failed(Trouble::Store)),

@@ -3,14 +3,15 @@ ghost use Rattle.sqlite_keyed.specs.Lists.{update_where};
 ghost use Rattle.bh_types.specs.Checksums.{checksum_text};
 ghost use Rattle.bh_model.specs.State.{Content.Marker, Content.Body};
 ghost use Rattle.bh_tables.specs.Shown.{is_tenant};
-ghost use Rattle.bh_schema.specs.Connections.{InTransaction, StaysWithin, StaysOpen, Becomes};
-ghost use Rattle.bh_objects.specs.Found.{IsKeyText};
+ghost use Rattle.bh_schema.specs.Connections.{IsClean, tables, InTransaction, StaysWithin, StaysOpen, Becomes};
+ghost use Rattle.bh_schema.specs.Written.{bytes_of_id, with_version as row_added};
+ghost use Rattle.bh_objects.specs.Found.{IsKeyText, IsHeld};
 ghost use Rattle.bh_objects.specs.Writes.{with_counters, without_entry, without_null, without_replaced, with_room, with_version, with_columns};
 ghost use Rattle.bh_objects.specs.Writes.{object_written, marker_written};
 
 use crate::heads::numbered_head;
 use crate::ids::row_number;
-use crate::quotas::{NewEntry, Replaced};
+use crate::quotas::{NewEntry, Replaced, as_replaced};
 use crate::reads::Numbers;
 use bh_blocks::bodies::{drop_body, store_body};
 use bh_schema::host::Digester;
@@ -24,7 +25,10 @@ use bh_types::counters::{COUNTER_END, Counters};
 use bh_types::key::ObjectKey;
 use bh_types::moment::Moment;
 use bh_types::names::TenantName;
-use sqlite::{Alter, Connection};
+use sqlite::{Alter, Connection, Error};
+
+/// No object has so many bytes, so that a sum with those that are used is one of 64 bits.
+const SIZE_END: u64 = 1 << 62;
 
 /// An object that is sent whole.
 #[derive(Clone, Copy)]
@@ -85,30 +89,40 @@ pub fn set_next_entry<S: Alter>(
     Ok(())
 }
 
-/// Takes the entry of a key with this number in the column `id` away, and its body, which has its entry number.
+/// Takes the entry of a key with this number in the column `id` away, which has so many bytes, and its body, which has
+/// its entry number.
 pub fn drop_entry<S: Alter>(
     connection: &mut Connection<S>,
     tenant: &TenantName,
     bucket: &BucketName,
     key: &ObjectKey,
     number: u64,
-    seq: u64,
+    entry: Replaced,
 ) -> Result<(), Trouble>
     requires inside { InTransaction S.Store connection.old }
     requires small { number < 2 ^ 62 }
+    requires held { IsClean S.Store connection.old
+        → bytes_of_id tenant.now bucket.now key.now number (tables S.Store connection.old) ≡ entry.size }
     ensures within { StaysWithin S.Store connection.old connection.new }
     ensures opens { OnOk result (StaysOpen S.Store connection.old connection.new) }
     ensures holds { OnOk result (Becomes S.Store connection.old connection.new
-        (without_entry tenant.now bucket.now key.now number seq)) }
+        (without_entry tenant.now bucket.now key.now number entry.seq)) }
 {
-    // No counter gives such a number.
-    if seq >= COUNTER_END {
+    // No counter gives such a number, and no object has so many bytes.
+    if entry.seq >= COUNTER_END || entry.size >= SIZE_END {
         return Err(Trouble::Store);
     }
     let tenant = tenant.as_str();
-    or_trouble(drop_body(connection, tenant, seq))?;
+    or_trouble(drop_body(connection, tenant, entry.seq))?;
     let key = key.as_str().as_bytes();
-    or_trouble(rows::versions::delete_version(connection, tenant, bucket.as_str(), key, number))?;
+    or_trouble(rows::versions::delete_version(
+        connection,
+        tenant,
+        bucket.as_str(),
+        key,
+        number,
+        entry.size,
+    ))?;
     Ok(())
 }
 
@@ -127,7 +141,7 @@ pub fn drop_null<S: Alter>(
 {
     match numbered_head(connection, tenant, bucket, key, 0)? {
         None => Ok(()),
-        Some(head) => drop_entry(connection, tenant, bucket, key, 0, head.seq),
+        Some(head) => drop_entry(connection, tenant, bucket, key, 0, as_replaced(&head)),
     }
 }
 
@@ -161,7 +175,9 @@ pub fn drop_replaced<S: Alter>(
     key: &ObjectKey,
     replaced: Option<Replaced>,
 ) -> Result<(), Trouble>
-    requires { InTransaction S.Store connection.old }
+    requires inside { InTransaction S.Store connection.old }
+    requires held { IsClean S.Store connection.old
+        → IsHeld tenant.now bucket.now key.now replaced (tables S.Store connection.old) }
     ensures within { StaysWithin S.Store connection.old connection.new }
     ensures opens { OnOk result (StaysOpen S.Store connection.old connection.new) }
     ensures holds { OnOk result (Becomes S.Store connection.old connection.new
@@ -169,7 +185,7 @@ pub fn drop_replaced<S: Alter>(
 {
     match replaced {
         None => Ok(()),
-        Some(entry) => drop_entry(connection, tenant, bucket, key, 0, entry.seq),
+        Some(entry) => drop_entry(connection, tenant, bucket, key, 0, entry),
     }
 }
 
@@ -187,37 +203,62 @@ pub struct AddedVersion<'a> {
     pub checksum: &'a str,
 }
 
-/// The row of a version in a bucket of this state.
+/// The row of a version in a bucket of this state, whose counters go on and whose tenant uses its bytes.
 pub fn add_version<S: Alter>(
     connection: &mut Connection<S>,
     version: &AddedVersion<'_>,
     mode: BucketState,
-    counters: Counters,
+    numbers: Numbers,
 ) -> Result<(), Trouble>
     requires inside { InTransaction S.Store connection.old }
     ensures within { StaysWithin S.Store connection.old connection.new }
     ensures opens { OnOk result (StaysOpen S.Store connection.old connection.new) }
     ensures holds { OnOk result (Becomes S.Store connection.old connection.new
-        (with_version mode counters version.now.tenant.now version.now.bucket.now version.now.key.now version.now.at
-        version.now.size version.now.checksum.now)) }
+        (λ rows. with_version mode numbers.before version.now.tenant.now version.now.bucket.now version.now.key.now version.now.at
+        version.now.size version.now.checksum.now (with_counters mode numbers.after version.now.tenant.now rows))) }
     ensures key { OnOk result (IsKeyText version.now.key.now) }
 {
     // No object has so many bytes.
-    if version.size > i64::MAX as u64 {
+    if version.size >= SIZE_END {
         return Err(Trouble::Store);
     }
     let row = NewVersion {
         tenant: version.tenant.as_str(),
-        seq: counters.entry,
+        seq: numbers.before.entry,
         bucket: version.bucket.as_str(),
         okey: version.key.as_str().as_bytes(),
-        id: row_number(mode, counters.version),
+        id: row_number(mode, numbers.before.version),
         stamp: version.at.seconds(),
         size: version.size,
         checksum: version.checksum,
     };
-    or_trouble(rows::versions::insert_version(connection, &row))?;
-    Ok(())
+    or_trouble(add_row(connection, &row, mode, numbers.after))
+}
+
+/// The row of a version, with the counters that go on in a bucket of this state.
+fn add_row<S: Alter>(
+    connection: &mut Connection<S>,
+    row: &NewVersion<'_>,
+    mode: BucketState,
+    after: Counters,
+) -> Result<(), Error>
+    requires inside { InTransaction S.Store connection.old }
+    requires seq { row.now.seq < 2 ^ 63 }
+    requires id { row.now.id < 2 ^ 63 }
+    requires stamp { row.now.stamp < 2 ^ 63 }
+    requires size { row.now.size < 2 ^ 62 }
+    ensures within { StaysWithin S.Store connection.old connection.new }
+    ensures opens { OnOk result (StaysOpen S.Store connection.old connection.new) }
+    ensures holds { OnOk result (Becomes S.Store connection.old connection.new
+        (λ rows. row_added row.now (with_counters mode after row.now.tenant.now rows))) }
+{
+    match mode {
+        BucketState::Enabled => {
+            rows::versions::add_numbered(connection, row, after.version, after.entry)
+        }
+        BucketState::Unversioned => rows::versions::add_version(connection, row, after.entry),
+        BucketState::Suspended => rows::versions::add_version(connection, row, after.entry),
+    }
 }
 
 /// The row of an object that is sent whole.
@@ -225,7 +266,7 @@ fn add_object<S: Alter>(
     connection: &mut Connection<S>,
     object: &NewObject<'_>,
     mode: BucketState,
-    counters: Counters,
+    numbers: Numbers,
     checksum: &str,
 ) -> Result<(), Trouble>
     requires inside { InTransaction S.Store connection.old }
@@ -233,8 +274,8 @@ fn add_object<S: Alter>(
     ensures within { StaysWithin S.Store connection.old connection.new }
     ensures opens { OnOk result (StaysOpen S.Store connection.old connection.new) }
     ensures holds { OnOk result (Becomes S.Store connection.old connection.new
-        (with_columns mode counters object.now.tenant.now object.now.bucket.now object.now.key.now object.now.at
-        (Body object.now.bytes.now (checksum_text object.now.bytes.now)))) }
+        (λ rows. with_columns mode numbers.before object.now.tenant.now object.now.bucket.now object.now.key.now object.now.at
+        (Body object.now.bytes.now (checksum_text object.now.bytes.now)) (with_counters mode numbers.after object.now.tenant.now rows))) }
     ensures key { OnOk result (IsKeyText object.now.key.now) }
 {
     let version = AddedVersion {
@@ -245,11 +286,11 @@ fn add_object<S: Alter>(
         size: object.bytes.len() as u64,
         checksum,
     };
-    add_version(connection, &version, mode, counters)
+    add_version(connection, &version, mode, numbers)
 }
 
 /// Puts an object into a bucket of this state, as a new entry, with the text of its checksum: its body, in blocks of
-/// at most this size, before what it replaces goes, and then its row.
+/// at most this size, before what it replaces goes, and then its row with the counters.
 pub fn write_object<S: Alter, D: Digester>(
     connection: &mut Connection<S>,
     digester: &D,
@@ -262,6 +303,8 @@ pub fn write_object<S: Alter, D: Digester>(
     requires inside { InTransaction S.Store connection.old }
     requires positive { 1 ≤ block_size }
     requires checksum { checksum.now ≡ checksum_text object.now.bytes.now }
+    requires held { IsClean S.Store connection.old
+        → IsHeld object.now.tenant.now object.now.bucket.now object.now.key.now entry.replaced (tables S.Store connection.old) }
     ensures within { StaysWithin S.Store connection.old connection.new }
     ensures opens { OnOk result (StaysOpen S.Store connection.old connection.new) }
     ensures holds { OnOk result (Becomes S.Store connection.old connection.new
@@ -270,7 +313,6 @@ pub fn write_object<S: Alter, D: Digester>(
     ensures key { OnOk result (IsKeyText object.now.key.now) }
 {
     let NewEntry { numbers, replaced } = entry;
-    set_counters(connection, object.tenant, mode, numbers.after)?;
     or_trouble(store_body(
         connection,
         digester,
@@ -286,7 +328,7 @@ pub fn write_object<S: Alter, D: Digester>(
         object.key,
         replaced,
     )?;
-    add_object(connection, object, mode, numbers.before, checksum)
+    add_object(connection, object, mode, numbers, checksum)
 }
 
 fn add_marker<S: Alter>(

@@ -9,13 +9,13 @@ use Rattle.bh_open.specs.Opening.{IsRowOf, Tells, shown_row}
 same_row : (limits : HostLimits) (h : HostRow) → (it : IsRowOf limits (h ∷ [])) → it.row ≡ h
 same_row limits h it = let e = it.alone in cc
 
-pub other_version : (h : HostRow) → ¬ (h.version ≡ 0) → (limits : HostLimits) → ¬ IsRowOf limits (h ∷ [])
+pub other_version : (h : HostRow) → ¬ (h.version ≡ 1) → (limits : HostLimits) → ¬ IsRowOf limits (h ∷ [])
 other_version h other limits it = other (ap (λ (r : HostRow). r.version) (sym (same_row limits h it)) ∙ it.version)
 
 pub out_of_range : (h : HostRow) → ¬ AreLimits h.min_part h.max_body → (limits : HostLimits) → ¬ IsRowOf limits (h ∷ [])
 out_of_range h out limits it = out (subst (λ (r : HostRow). AreLimits r.min_part r.max_body) (same_row limits h it) it.range)
 
-pub in_range : (h : HostRow) (limits : HostLimits) (latest : ℕ) → h.version ≡ 0 → h.latest ≡ latest → AreLimits h.min_part h.max_body
+pub in_range : (h : HostRow) (limits : HostLimits) (latest : ℕ) → h.version ≡ 1 → h.latest ≡ latest → AreLimits h.min_part h.max_body
     → limits ≡ record { min_part = h.min_part; max_body = h.max_body } → Tells (h ∷ []) (record { limits = limits; latest = latest })
 in_range h limits latest version same range are = (record { row = h; alone = refl; version = version; range = range; limits_are = are }, sym same)
 

@@ -13,7 +13,7 @@ use Rattle.bh_schema.specs.Layer.{standing, IsOpen, IsStateClean, KeepsDisk, Lea
 pub record IsRowOf (limits : HostLimits) (rows : List HostRow) : Type 0 where
   pub row : HostRow
   pub alone : rows ≡ row ∷ []
-  pub version : row.version ≡ 0
+  pub version : row.version ≡ 1
   pub range : AreLimits row.min_part row.max_body
   pub limits_are : limits ≡ record { min_part = row.min_part; max_body = row.max_body }
 

@@ -15,7 +15,7 @@ pub enum NoHost {
     NoTable,
     /// It has other tables than a host's.
     OtherTables,
-    /// The host's row has this version.
+    /// The host is of this version: its row says so, or its tables do.
     OtherVersion(u64),
     /// There isn't one row of the host, with limits in their ranges.
     NoRow,

@@ -16,7 +16,7 @@ fn found_of(version: u64, latest: u64, min_part: u64, max_body: u64) -> Result<F
     ensures { (h : Stored) → h.version ≡ version → h.latest ≡ latest → h.min_part ≡ min_part → h.max_body ≡ max_body
         → Reads (h ∷ []) result }
 {
-    if version != 0 {
+    if version != 1 {
         return Err(NoHost::OtherVersion(version));
     }
     match Limits::new(min_part, max_body) {

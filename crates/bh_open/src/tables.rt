@@ -31,9 +31,24 @@ pub fn is_hosts(alloc: Global, schema: &Schema) -> Result<bool, Error>
     Ok(same_schema(schema, connection.schema()))
 }
 
+/// Whether its table `host` is that of a host of version 0, which had no `digest`.
+fn is_of_version_0(schema: &Schema) -> bool {
+    let Some(at) = schema.table_named(b"host") else {
+        return false;
+    };
+    let Some(host) = schema.tables.get(at) else {
+        return false;
+    };
+    host.columns.len() == 5
+        && host.column_named(b"version").is_some()
+        && host.column_named(b"max_body").is_some()
+}
+
 /// Why a schema that isn't a host's is none.
 pub(crate) fn why_none(schema: &Schema) -> NoHost {
-    if schema.tables.is_empty() && schema.indexes.is_empty() && schema.views.is_empty() {
+    if is_of_version_0(schema) {
+        NoHost::OtherVersion(0)
+    } else if schema.tables.is_empty() && schema.indexes.is_empty() && schema.views.is_empty() {
         NoHost::NoTable
     } else {
         NoHost::OtherTables

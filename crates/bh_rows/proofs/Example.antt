@@ -166,7 +166,7 @@ set_room name room = record {
   means = record { is = refl; plain = (refl, refl); unlisted = refl; whole = refl; given = refl };
   accepts = refl;
   tests = λ id s. last_term (at_texts false Eq s.name name);
-  shows = λ id s. refl;
+  shows = λ id s found was. refl;
 }
 
 abbrev remove_book_text : List ℕ
@@ -331,7 +331,7 @@ module _ (old new : State) (ready : HasCleanDisk old → IsTrue old.is_open → 
 
     room_set : (name : List ℕ) (room : ℕ) → (HasCleanDisk new → Executes set_room_text (Words name ∷ number room ∷ []) old new result) → IsTrue old.is_open
         → OnOk result (Leaves shelf_form library 0 old new (update_where (is_shelf name) (λ s. record s { room = room }) (shelves_in old)))
-    room_set name room runs = text.update_sets shelf_form library library_is 0 shelves shelves_are old new shelves_ready set_room_text (Words name ∷ number room ∷ []) (is_shelf name) (λ s. record s { room = room }) (set_room name room) result runs s clean
+    room_set name room runs = text.update_sets shelf_form library library_is 0 shelves shelves_are old new shelves_ready set_room_text (Words name ∷ number room ∷ []) (is_shelf name) (λ s. record s { room = room }) (set_room name room) live result runs s clean
 
     -- the room is in no key
     room_refused : (name : List ℕ) (room : ℕ) → (HasCleanDisk new → Executes set_room_text (Words name ∷ number room ∷ []) old new result) → old.step_limit ≡ None → IfErr result (λ e. is_trouble e ≡ true)

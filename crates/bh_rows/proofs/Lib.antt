@@ -17,6 +17,7 @@ pub mod UpdateErrors
 pub mod DeleteErrors
 pub mod TotalLemmas
 pub mod CrashLemmas
+pub mod ObeyedLemmas
 pub mod TextLemmas
 pub mod Example
 pub mod IndexLemmas

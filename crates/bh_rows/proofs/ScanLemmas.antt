@@ -1,5 +1,5 @@
 -- What a scan shows, as typed rows.
-use Rattle.std.proofs.Common.{◌≡◌, ℤ, ℕ, pos, List, [], ◌∷◌, map, map-id, filter, Bool, true, refl, sym, ap, ◌∙◌, Ordering, Less, int_cmp}
+use Rattle.std.proofs.Common.{◌≡◌, ℤ, ℕ, pos, List, [], ◌∷◌, map, map-id, filter, Bool, true, refl, sym, ap, ap₂, ◌∙◌, Ordering, Less, int_cmp}
 use Rattle.std.specs.List.{list_all, AllByRecursion}
 use Rattle.std.specs.Ordering.{is_gt}
 use Rattle.std.proofs.Common.{sum_by, Some, ◌+ℤ◌}
@@ -43,6 +43,7 @@ use Rattle.std.proofs.Common.{slice_get, option_map, find}
 use Rattle.std.proofs.lemmas.Option.{slice_get-map}
 use Rattle.sqlite_keyed.proofs.ListLemmas.{slice_get-filter, map-map, map_same}
 use Rattle.sqlite_rules.proofs.ListLemmas.{any_has}
+use Rattle.sqlite_rules.specs.Lists.{Has}
 use Rattle.std.proofs.Common.{Result, Ok, Err, IfOk, IfErr, IsTrue}
 use Rattle.sqlite.specs.State.{HasCleanDisk, Survives, CommitsShowing}
 use Rattle.bh_rows.specs.Means.{Means, is_trouble, Asks}
@@ -156,10 +157,15 @@ module _ {T : Type 0} (form : Form T) (sql : List ℕ) (schema : Schema) (tree :
       let was = ready (clean_before old new _ survives clean) (shown_open sql params old new _ (ok clean)) in
       scan_shown form sql schema tree test show limit names parameters means low params m tests view shows old new was.0 was.1 (rows_in x) (ok clean)
 
+-- two functions that agree on each element of a list
+pub same_on : {X Y : Type 0} (f g : X → Y) (xs : List X) → ((x : X) → Has xs x → f x ≡ g x) → map f xs ≡ map g xs
+same_on f g [] h = refl
+same_on f g (x ∷ xs) h = ap₂ ◌∷◌ (h x (inl refl)) (same_on f g xs (λ y there. h y (inr there)))
+
 -- in no order that is known
 module _ {T : Type 0} (form : Form T) (tree : ℕ) (db : Trees) (held : AreRows form (db tree)) (test show : List Term) (order : List (Term × Key)) (params : Row)
     (m : T → Bool) (tests : (id : ℤ) (x : T) → list_all (holds (params ∷ (Int id ∷ form.encode x) ∷ [])) test ≡ m x)
-    (view : Entry T → Row) (shows : (id : ℤ) (x : T) → eval_all show (params ∷ (Int id ∷ form.encode x) ∷ []) ≡ view (id, x)) where
+    (view : Entry T → Row) (shows : (e : Entry T) → Has (filter (λ (d : Entry T). m d.1) (entries form (db tree))) e → eval_all show (params ∷ put form e ∷ []) ≡ view e) where
   -- the rows, in some order
   pub scanned_any : (rows : List Row) → IsAnswer (scan tree test show order no_limit) db params rows → IsPermutation (map view (filter (λ e. m e.1) (entries form (db tree)))) rows
   scanned_any rows a =
@@ -168,7 +174,7 @@ module _ {T : Type 0} (form : Form T) (tree : ℕ) (db : Trees) (held : AreRows 
       let hits = filter (λ (e : Entry T). m e.1) (entries form (db tree)) in
       let staged : a.staged ≡ map (λ e. params ∷ put form e ∷ []) hits = a.grouped ∙ matches_are q db params source (λ e. m e.1) (λ e. tests e.0 e.1) in
       let shown : map (λ (o : Output). o.1) a.kept ≡ map view hits =
-      ap (map (λ (o : Output). o.1)) (a.distinct ∙ ap (map (output q)) staged) ∙ map-map (λ (o : Output). o.1) (output q) _ ∙ map-map (eval_all show) (λ e. params ∷ put form e ∷ []) hits ∙ map_same _ view (λ e. shows e.0 e.1) hits in
+      ap (map (λ (o : Output). o.1)) (a.distinct ∙ ap (map (output q)) staged) ∙ map-map (λ (o : Output). o.1) (output q) _ ∙ map-map (eval_all show) (λ e. params ∷ put form e ∷ []) hits ∙ same_on _ view hits shows in
       subst₂ (λ xs ys. IsPermutation xs ys) shown (sym a.shown) (IsPermutation-map (λ (o : Output). o.1) _ _ a.same)
 
 -- ---- ORDER BY columns, and then the rowid

@@ -1,10 +1,10 @@
 -- What a program's text does, from its record: what it leaves or shows, how it may end, and that trouble is its only other error.
-use Rattle.std.proofs.Common.{◌≡◌, inl, inr, ℕ, ◌<◌, ◌^◌, pos, List, [], ◌∷◌, ◌++◌, ◌||◌, length, map, filter, not, ◌&&◌, Bool, true, false, None, Some, slice_get, Ok, Err, Result, OnOk, IfOk, IfErr, IsTrue, sum_by, refl, sym, ap, subst, ◌∙◌}
+use Rattle.std.proofs.Common.{◌≡◌, inl, inr, ℕ, ℤ, ◌<◌, ◌^◌, pos, List, [], ◌∷◌, ◌++◌, ◌||◌, length, map, filter, not, ◌&&◌, Bool, true, false, None, Some, slice_get, Ok, Err, Result, OnOk, IfOk, IfErr, IsTrue, sum_by, refl, sym, ap, subst, ◌∙◌}
 use Rattle.std.specs.declared.cmp.Ordering.{Ordering}
 use Rattle.std.specs.List.{list_any}
 use Rattle.std.proofs.lemmas.Bool.{cases_Bool}
 use Rattle.sqlite.specs.declared.types.Value.TheVariants.{Null, Int}
-use Rattle.sqlite.specs.Order.{Row}
+use Rattle.sqlite.specs.Order.{Row, column}
 use Rattle.sqlite.specs.Term.{Term, col}
 use Rattle.sqlite.specs.Tree.{Trees, IsAscending}
 use Rattle.sqlite.specs.Table.{Table}
@@ -21,9 +21,9 @@ use Rattle.sqlite_schema.specs.declared.schema.Constraint.TheVariants.{Unique, F
 use Rattle.sqlite_schema.specs.Rules.{guards, clashes, references_fit}
 use Rattle.sqlite_rules.specs.Keys.{are_unique}
 use Rattle.sqlite_rules.specs.Lists.{Has}
-use Rattle.sqlite_rules.proofs.ListLemmas.{all_has, test_from, has_got, has_kept}
+use Rattle.sqlite_rules.proofs.ListLemmas.{all_has, all_from, test_from, has_got, has_filtered, has_kept}
 use Rattle.bh_rows.specs.Form.{Form, AreRows, Entry, put, entries, typed}
-use Rattle.bh_rows.specs.Keys.{AreUnused}
+use Rattle.bh_rows.specs.Keys.{AreUnused, Suits, watched}
 use Rattle.bh_rows.specs.Means.{is_trouble, Asks, Changes}
 use Rattle.bh_rows.specs.Scan.{scan, by_rowid}
 use Rattle.bh_rows.specs.Texts.{IsOrderly, IsTableOf, IsReadyAt, Leaves, AreFree, MayAdd, MayChange, InsertText, UpdateText, DeleteText, SelectText, SortedText, CountText, SumText}
@@ -32,10 +32,11 @@ use Rattle.bh_rows.proofs.CallLemmas.{write_changes, write_open, write_refused, 
 use Rattle.bh_rows.proofs.DeleteErrors.{delete_trouble}
 use Rattle.bh_rows.proofs.FormLemmas.{typed_update, held_update, typed_delete, held_delete}
 use Rattle.bh_rows.proofs.InsertLemmas.{plainly, added, inserts, inserted_rows, typed_last, held_last}
+use Rattle.bh_rows.proofs.ObeyedLemmas.{own_key}
 use Rattle.bh_rows.proofs.RefusedLemmas.{insert_refused}
 use Rattle.bh_rows.proofs.ScanLemmas.{scan_rows, scan_asks, sorted_rows, summed_rows}
 use Rattle.bh_rows.proofs.TotalLemmas.{counted_rows, counted_asks, summed_asks}
-use Rattle.bh_rows.proofs.UpdateErrors.{update_still_trouble, referred_any}
+use Rattle.bh_rows.proofs.UpdateErrors.{update_still_trouble, referred_any, shown_fit}
 use Rattle.bh_rows.proofs.WriteLemmas.{deletes_passive, deleted_rows, updates_quiet, updated_rows}
 
 module _ {T : Type 0} (form : Form T) (schema : Schema) (orderly : IsOrderly schema) (place : ℕ) (table : Table) (is : IsTableOf form schema place table) (old new : State) (ready : IsReadyAt form schema table.tree old) where
@@ -68,6 +69,20 @@ module _ {T : Type 0} (form : Form T) (schema : Schema) (orderly : IsOrderly sch
     -- the row, with the next number
     abbrev pub new_row : Row
     new_row = put form (next_rowid (old.now.trees table.tree), x)
+
+    -- no row had its key
+    pub insert_frees : (result : Result ℕ Error) → (HasCleanDisk new → Executes sql params old new result) → {P : Trees → Type 0} → Survives old new P → HasCleanDisk new → IsTrue old.is_open
+        → OnOk result (AreFree form schema table (old.now.trees table.tree) new_row)
+    insert_frees (Err e) runs s clean up = tt
+    insert_frees (Ok n) runs s clean up =
+        let was = ready (clean_before old new _ s clean) up in
+        let done = inserts sql schema table place it.terms it.width (length params) it.means plain_table params (Null ∷ form.encode x) it.gives old new was.0 n (runs clean) in
+        let rows = inserted_rows sql schema table place it.terms it.width (length params) it.means plain_table params (Null ∷ form.encode x) it.gives old new was.0 form x refl (is.kept x) was.1 done.0 done.1 in
+        let keeps = done.1.applies.fits.rules Unique (λ e. absurd (cc)) in
+        let up = held_last form (old.now.trees table.tree) was.1 x in
+        all_from _ (filter (λ i. guards i table) schema.indexes) (λ i there.
+        let one = has_filtered (λ j. guards j table) schema.indexes i there in
+        own_key form schema table done.0 keeps (has_got schema.tables place table is.is_table) i one.0 one.1 (old.now.trees table.tree) (next_rowid (old.now.trees table.tree)) x was.1 up.rises rows)
 
     -- with no limit on the steps, a row that no key and no CHECK forbids, and whose parents are there, is refused in trouble alone
     pub insert_only_trouble : IsLive old
@@ -121,13 +136,15 @@ module _ {T : Type 0} (form : Form T) (schema : Schema) (orderly : IsOrderly sch
     update_changes = write_changes sql params old new schema _ _ it.means refl (λ clean up. (ready clean up).0)
 
     -- the rows that pass are changed
-    pub update_sets : (result : Result ℕ Error) → (HasCleanDisk new → Executes sql params old new result) → {P : Trees → Type 0} → Survives old new P → HasCleanDisk new → IsTrue old.is_open
+    pub update_sets : IsLive old → (result : Result ℕ Error) → (HasCleanDisk new → Executes sql params old new result) → {P : Trees → Type 0} → Survives old new P → HasCleanDisk new → IsTrue old.is_open
         → OnOk result (Leaves form schema table.tree old new (update_where m f (typed form (old.now.trees table.tree))))
-    update_sets (Err e) runs s clean up = tt
-    update_sets (Ok n) runs s clean up =
+    update_sets live (Err e) runs s clean up = tt
+    update_sets live (Ok n) runs s clean up =
         let was = ready (clean_before old new _ s clean) up in
+        let sound = subst (λ c. IsDatabase (record { schema = c; trees = old.now.trees })) was.0 (live up).0 in
+        let shown = shown_fit form schema table old.now.trees was.1 (has_got schema.tables place table is.is_table) sound it.show params m f it.shows in
         let done = updates_quiet sql schema table place it.test it.show (length params) is.is_table params old new was.0 it.means orderly.ignores n (runs clean) in
-        let rows = updated_rows sql schema table place it.test it.show (length params) is.is_table params old new was.0 form is.low was.1 m it.tests f is.kept it.shows done.0 done.1 done.2 done.3 in
+        let rows = updated_rows sql schema table place it.test it.show (length params) is.is_table params old new was.0 form is.low was.1 m it.tests f is.kept shown done.0 done.1 done.2 done.3 in
         record {
           next = done.1;
           now = done.3.now;
@@ -139,8 +156,15 @@ module _ {T : Type 0} (form : Form T) (schema : Schema) (orderly : IsOrderly sch
     -- where it changes no column that a key watches
     pub update_only_trouble : IsLive old → MayChange form schema table m f
         → (result : Result ℕ Error) → (HasCleanDisk new → Executes sql params old new result) → {P : Trees → Type 0} → Survives old new P → HasCleanDisk new → old.step_limit ≡ None → IfErr result (λ e. is_trouble e ≡ true)
-    update_only_trouble live may = update_still_trouble form sql schema table place it.test it.show (length params) it.means is.is_table is.low params refl it.accepts m it.tests f is.kept it.shows may.suits may.unwatched
-        orderly.apart is.fit orderly.ignores old new ready live
+    update_only_trouble live may = update_still_trouble form sql schema table place it.test it.show (length params) it.means is.is_table is.low params refl it.accepts m it.tests f is.kept it.shows may.unwatched
+        orderly.apart is.fit orderly.ignores old new ready live (λ clean up e there. may.suits e.0 e.1 (has_filtered (λ (d : Entry T). m d.1) (entries form (old.now.trees table.tree)) e there).1)
+
+    -- the same, where what suits the table is known of the rows that are there alone
+    pub update_there_trouble : IsLive old → ((id : ℤ) (y : T) → m y ≡ true → map (column (put form (id, f y))) (watched schema table) ≡ map (column (put form (id, y))) (watched schema table))
+        → (HasCleanDisk old → IsTrue old.is_open → (e : Entry T) → Has (filter (λ (d : Entry T). m d.1) (entries form (old.now.trees table.tree))) e → Suits table (put form e) → Suits table (put form (e.0, f e.1)))
+        → (result : Result ℕ Error) → (HasCleanDisk new → Executes sql params old new result) → {P : Trees → Type 0} → Survives old new P → HasCleanDisk new → old.step_limit ≡ None → IfErr result (λ e. is_trouble e ≡ true)
+    update_there_trouble live unwatched suits = update_still_trouble form sql schema table place it.test it.show (length params) it.means is.is_table is.low params refl it.accepts m it.tests f is.kept it.shows unwatched
+        orderly.apart is.fit orderly.ignores old new ready live suits
 
   -- ---- DELETE
 

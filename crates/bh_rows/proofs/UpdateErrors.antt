@@ -54,47 +54,66 @@ referred_any schema table fit true false = and_from _ _ (and_parts _ _ fit).0 re
 referred_any schema table fit false true = (and_parts _ _ fit).1
 referred_any schema table fit false false = refl
 
+-- each row of a database passes its table's own tests
+pub passes_own : (schema : Schema) (table : Table) (db : Trees) → Has schema.tables table → IsDatabase (record { schema = schema; trees = db }) → (r : Row) → Has (db table.tree) r → Suits table r
+passes_own schema table db listed sound r h = record { typed = keeps_at Datatype schema db table r (sound.obeys.rules Datatype) listed h; present = keeps_at NotNull schema db table r (sound.obeys.rules NotNull) listed h; checked = keeps_at Check schema db table r (sound.obeys.rules Check) listed h }
+
+-- so what is set may be reckoned from a row that passes them
+pub shown_fit : {T : Type 0} (form : Form T) (schema : Schema) (table : Table) (db : Trees) → AreRows form (db table.tree) → Has schema.tables table → IsDatabase (record { schema = schema; trees = db })
+    → (show : List Term) (params : Row) (m : T → Bool) (f : T → T) → ((id : ℤ) (x : T) → m x ≡ true → Suits table (put form (id, x)) → eval_all show (params ∷ (Int id ∷ form.encode x) ∷ []) ≡ Int id ∷ Int id ∷ form.encode (f x))
+    → (e : Entry T) → Has (filter (λ (d : Entry T). m d.1) (entries form (db table.tree))) e → eval_all show (params ∷ put form e ∷ []) ≡ Int e.0 ∷ Int e.0 ∷ form.encode (f e.1)
+shown_fit {T} form schema table db held listed sound show params m f shows e there =
+    let found = has_filtered (λ (d : Entry T). m d.1) (entries form (db table.tree)) e there in
+    shows e.0 e.1 found.1 (passes_own schema table db listed sound (put form e) (entry_there form (db table.tree) held m e found.0))
+
 module _ {T : Type 0} (form : Form T) (sql : List ℕ) (schema : Schema) (table : Table) (place : ℕ) (test show : List Term) (parameters : ℕ)
     (means : Means schema sql (Update place (record { lets = []; body = scan table.tree test show [] no_limit })) parameters)
     (is_table : slice_get schema.tables place ≡ Some table) (low : nat_le (2 ^ 31) table.tree ≡ false) (params : Row) (given : length params ≡ parameters)
     (accepts : accepts_program schema [] (scan table.tree test show [] no_limit) params ≡ true)
     (m : T → Bool) (tests : (id : ℤ) (x : T) → list_all (holds (params ∷ (Int id ∷ form.encode x) ∷ [])) test ≡ m x)
-    (f : T → T) (kept : (x : T) → cast_all table.columns (form.encode x) ≡ form.encode x) (shows : (id : ℤ) (x : T) → eval_all show (params ∷ (Int id ∷ form.encode x) ∷ []) ≡ Int id ∷ Int id ∷ form.encode (f x))
-    (suits : (id : ℤ) (x : T) → m x ≡ true → Suits table (put form (id, x)) → Suits table (put form (id, f x)))
+    (f : T → T) (kept : (x : T) → cast_all table.columns (form.encode x) ≡ form.encode x) (shows : (id : ℤ) (x : T) → m x ≡ true → Suits table (put form (id, x)) → eval_all show (params ∷ (Int id ∷ form.encode x) ∷ []) ≡ Int id ∷ Int id ∷ form.encode (f x))
     (unwatched : (id : ℤ) (x : T) → m x ≡ true → map (column (put form (id, f x))) (watched schema table) ≡ map (column (put form (id, x))) (watched schema table))
     (apart : are_apart schema.tables ≡ true) (fit : are_fit schema table ≡ true) (ignores : ignores_updates schema ≡ true) (old new : State) where
   abbrev db : Trees
   db = old.now.trees
 
+  -- the rows that are changed
+  abbrev hits : List (Entry T)
+  hits = filter (λ (e : Entry T). m e.1) (entries form (db table.tree))
+
+  -- each suits the table after the change too
+  abbrev StillSuits : Type 0
+  StillSuits = (e : Entry T) → Has hits e → Suits table (put form e) → Suits table (put form (e.0, f e.1))
+
   abbrev edit : List Row → Edit
   edit rows = edit_of db table (ids_of rows) Given 1 rows
 
-  module _ (has : old.now.schema ≡ schema) (held : AreRows form (db table.tree)) (sound : IsDatabase (record { schema = schema; trees = db })) (rows : List Row) (is : IsAnswer (scan table.tree test show [] no_limit) (overlay db []) params rows) where
-    abbrev hits : List (Entry T)
-    hits = filter (λ (e : Entry T). m e.1) (entries form (db table.tree))
-
-    ids : IsPermutation (map (λ (e : Entry T). e.0) hits) (ids_of rows)
-    ids = updated_ids sql schema table place test show parameters is_table params old new has form low held m tests f kept shows rows is
-
-    news : IsPermutation (map (λ (e : Entry T). put form (e.0, f e.1)) hits) (edit rows).news
-    news = updated_news sql schema table place test show parameters is_table params old new has form low held m tests f kept shows rows is
-
-    fresh : are_fresh (left_by db (edit rows)) (edit rows).news ≡ true
-    fresh = update_fresh form (db table.tree) held m f (ids_of rows) (edit rows).news ids news
-
+  module _ (has : old.now.schema ≡ schema) (held : AreRows form (db table.tree)) (sound : IsDatabase (record { schema = schema; trees = db })) (rows : List Row) (is : IsAnswer (scan table.tree test show [] no_limit) (overlay db []) params rows) (suits : StillSuits) where
     listed : Has schema.tables table
     listed = has_got schema.tables place table is_table
 
     -- each row passes its tests
     passed : (r : Row) → Has (db table.tree) r → Suits table r
-    passed r h = record { typed = keeps_at Datatype schema db table r (sound.obeys.rules Datatype) listed h; present = keeps_at NotNull schema db table r (sound.obeys.rules NotNull) listed h; checked = keeps_at Check schema db table r (sound.obeys.rules Check) listed h }
+    passed = passes_own schema table db listed sound
+
+    shown : (e : Entry T) → Has hits e → eval_all show (params ∷ put form e ∷ []) ≡ Int e.0 ∷ Int e.0 ∷ form.encode (f e.1)
+    shown = shown_fit form schema table db held listed sound show params m f shows
+
+    ids : IsPermutation (map (λ (e : Entry T). e.0) hits) (ids_of rows)
+    ids = updated_ids sql schema table place test show parameters is_table params old new has form low held m tests f kept shown rows is
+
+    news : IsPermutation (map (λ (e : Entry T). put form (e.0, f e.1)) hits) (edit rows).news
+    news = updated_news sql schema table place test show parameters is_table params old new has form low held m tests f kept shown rows is
+
+    fresh : are_fresh (left_by db (edit rows)) (edit rows).news ≡ true
+    fresh = update_fresh form (db table.tree) held m f (ids_of rows) (edit rows).news ids news
 
     -- each new row is that of a row that was found
     each : (r : Row) → Has (edit rows).news r → Suits table r
     each r h =
         let e = has_mapped (λ (e : Entry T). put form (e.0, f e.1)) hits r (has_permuted _ _ r (IsPermutation-sym _ _ news) h) in
         let found = has_filtered (λ (d : Entry T). m d.1) (entries form (db table.tree)) e.0 e.1 in
-        subst (Suits table) (sym e.2) (suits e.0.0 e.0.1 found.1 (passed (put form e.0) (entry_there form (db table.tree) held m e.0 found.0)))
+        subst (Suits table) (sym e.2) (suits e.0 e.1 (passed (put form e.0) (entry_there form (db table.tree) held m e.0 found.0)))
 
     refuted : (p : Row → Bool) → ((r : Row) → Has (edit rows).news r → p r ≡ true) → list_all p (edit rows).news ≡ false → ⊥
     refuted p h fails = true≢false (sym (test_from p (edit rows).news h) ∙ fails)
@@ -121,14 +140,15 @@ module _ {T : Type 0} (form : Form T) (sql : List ℕ) (schema : Schema) (table 
     update_allowed BadReference h = absurd (true≢false (sym (referred_any schema table fit (nat_lt 0 (length (edit rows).news)) (nat_lt 0 (length (edit rows).gone))) ∙ h))
     update_allowed TooDeep h = absurd h
 
-  module _ (ready : HasCleanDisk old → IsTrue old.is_open → (old.now.schema ≡ schema) × AreRows form (old.now.trees table.tree)) (live : IsLive old) where
-    -- with no limit on the steps, only trouble ends it, where each row that passes its tests does so still
+  module _ (ready : HasCleanDisk old → IsTrue old.is_open → (old.now.schema ≡ schema) × AreRows form (old.now.trees table.tree)) (live : IsLive old) (suits : HasCleanDisk old → IsTrue old.is_open → StillSuits) where
+    -- with no limit on the steps, only trouble ends it, where each row that is changed suits its table still
     pub update_still_trouble : (result : Result ℕ Error) → (HasCleanDisk new → Executes sql params old new result) → {P : Trees → Type 0} → Survives old new P → HasCleanDisk new → old.step_limit ≡ None → IfErr result (λ e. is_trouble e ≡ true)
     update_still_trouble (Ok count) runs s clean unlimited = tt
     update_still_trouble (Err e) runs s clean unlimited = elim (write_open sql params old new e (runs clean)) [
       | inr bad ↦ bad
       | inl up ↦
           let was = ready (clean_before old new _ s clean) up in
+          let still = suits (clean_before old new _ s clean) up in
           let sound = subst (λ c. IsDatabase (record { schema = c; trees = db })) was.0 (live up).0 in
           elim (write_refused sql params old new schema was.0 _ parameters means refl given e (runs clean)) [
             | inl bad ↦ bad
@@ -136,12 +156,12 @@ module _ {T : Type 0} (form : Form T) (sql : List ℕ) (schema : Schema) (table 
                 let cause = update_refused schema table place test show is_table params accepts old unlimited refused.0 e refused.1 in
                 let works = update_works schema db table ignores cause.0 in
                 elim cause.2 [
-                  | inl why ↦ ap is_trouble why.2 ∙ update_allowed was.0 was.1 sound cause.0 cause.1 why.0 (one_refusal schema db (edit cause.0) why.0 works why.1)
+                  | inl why ↦ ap is_trouble why.2 ∙ update_allowed was.0 was.1 sound cause.0 cause.1 still why.0 (one_refusal schema db (edit cause.0) why.0 works why.1)
                   | inr broken ↦
                       let it = one_step schema Enforced db broken.0 (edit cause.0) works broken.1 in
-                      let l = listed was.0 was.1 sound cause.0 cause.1 in
+                      let l = listed was.0 was.1 sound cause.0 cause.1 still in
                       absurd (broken.2 (refers_after form schema table db broken.0 was.1 m f (apart_by schema.tables apart) l unwatched
-                      (it.rows ∙ edited_is form (db table.tree) was.1 m f (ids_of cause.0) (edit cause.0).news (ids was.0 was.1 sound cause.0 cause.1) (news was.0 was.1 sound cause.0 cause.1) it.fresh)
+                      (it.rows ∙ edited_is form (db table.tree) was.1 m f (ids_of cause.0) (edit cause.0).news (ids was.0 was.1 sound cause.0 cause.1 still) (news was.0 was.1 sound cause.0 cause.1 still) it.fresh)
                       (λ t known other. all_has _ schema.tables t it.tables known other) (due (mode_of old)) (sound.obeys.rules ForeignKey)))
                 ]
           ]
@@ -152,11 +172,11 @@ module _ {T : Type 0} (form : Form T) (sql : List ℕ) (schema : Schema) (table 
     (is_table : slice_get schema.tables place ≡ Some table) (low : nat_le (2 ^ 31) table.tree ≡ false) (params : Row) (given : length params ≡ parameters)
     (accepts : accepts_program schema [] (scan table.tree test show [] no_limit) params ≡ true)
     (m : T → Bool) (tests : (id : ℤ) (x : T) → list_all (holds (params ∷ (Int id ∷ form.encode x) ∷ [])) test ≡ m x)
-    (f : T → T) (kept : (x : T) → cast_all table.columns (form.encode x) ≡ form.encode x) (shows : (id : ℤ) (x : T) → eval_all show (params ∷ (Int id ∷ form.encode x) ∷ []) ≡ Int id ∷ Int id ∷ form.encode (f x))
+    (f : T → T) (kept : (x : T) → cast_all table.columns (form.encode x) ≡ form.encode x) (shows : (id : ℤ) (x : T) → m x ≡ true → Suits table (put form (id, x)) → eval_all show (params ∷ (Int id ∷ form.encode x) ∷ []) ≡ Int id ∷ Int id ∷ form.encode (f x))
     (suits : (id : ℤ) (x : T) → m x ≡ true → Suits table (put form (id, f x)))
     (unwatched : (id : ℤ) (x : T) → m x ≡ true → map (column (put form (id, f x))) (watched schema table) ≡ map (column (put form (id, x))) (watched schema table))
     (apart : are_apart schema.tables ≡ true) (fit : are_fit schema table ≡ true) (ignores : ignores_updates schema ≡ true) (old new : State)
     (ready : HasCleanDisk old → IsTrue old.is_open → (old.now.schema ≡ schema) × AreRows form (old.now.trees table.tree)) (live : IsLive old) where
   -- the same, where each new row passes its tests
   pub update_trouble : (result : Result ℕ Error) → (HasCleanDisk new → Executes sql params old new result) → {P : Trees → Type 0} → Survives old new P → HasCleanDisk new → old.step_limit ≡ None → IfErr result (λ e. is_trouble e ≡ true)
-  update_trouble = update_still_trouble form sql schema table place test show parameters means is_table low params given accepts m tests f kept shows (λ id x hits was. suits id x hits) unwatched apart fit ignores old new ready live
+  update_trouble = update_still_trouble form sql schema table place test show parameters means is_table low params given accepts m tests f kept shows unwatched apart fit ignores old new ready live (λ clean up e there was. suits e.0 e.1 (has_filtered (λ (d : Entry T). m d.1) (entries form (old.now.trees table.tree)) e there).1)

@@ -26,6 +26,7 @@ use Rattle.sqlite_schema.specs.declared.program.Program.{Program}
 use Rattle.sqlite_schema.specs.declared.schema.Keys.TheVariants.{Enforced}
 use Rattle.sqlite_rules.specs.Action.{works, Writes}
 use Rattle.sqlite_rules.specs.Calls.{ids_of}
+use Rattle.sqlite_rules.specs.Lists.{Has}
 use Rattle.sqlite_keyed.specs.Lists.{update_where, delete_where}
 use Rattle.sqlite_keyed.proofs.ListLemmas.{map-map, map_same}
 use Rattle.bh_rows.specs.Means.{Means}
@@ -141,23 +142,25 @@ module _ (sql : List ℕ) (schema : Schema) (table : Table) (place : ℕ) (test 
     abbrev hits : List (Entry T)
     hits = filter (λ (e : Entry T). m e.1) (entries form was)
 
-    found_any : (view : Entry T → Row) → ((id : ℤ) (x : T) → eval_all show (params ∷ (Int id ∷ form.encode x) ∷ []) ≡ view (id, x)) → (rows : List Row) → Is rows → IsPermutation (map view hits) rows
+    found_any : (view : Entry T → Row) → ((e : Entry T) → Has hits e → eval_all show (params ∷ put form e ∷ []) ≡ view e) → (rows : List Row) → Is rows → IsPermutation (map view hits) rows
     found_any view shows rows h =
         let at_tree : overlay old.now.trees [] table.tree ≡ was = rw low in
         subst (λ l. IsPermutation (map view (filter (λ (e : Entry T). m e.1) (entries form l))) rows) at_tree
-        (scanned_any form table.tree (overlay old.now.trees []) (subst (AreRows form) (sym at_tree) held) test show [] params m tests view shows rows h)
+        (scanned_any form table.tree (overlay old.now.trees []) (subst (AreRows form) (sym at_tree) held) test show [] params m tests view
+        (λ e there. shows e (subst (λ l. Has (filter (λ (d : Entry T). m d.1) (entries form l)) e) at_tree there)) rows h)
 
     -- the numbers of the rows that are found
     pub deleted_ids : ((id : ℤ) (x : T) → eval_all show (params ∷ (Int id ∷ form.encode x) ∷ []) ≡ Int id ∷ []) → (rows : List Row) → Is rows → IsPermutation (map (λ (e : Entry T). e.0) hits) (ids_of rows)
     deleted_ids shows rows is =
-        subst (λ l. IsPermutation l (ids_of rows)) (map-map (λ r. id_in (rowid r)) (λ (e : Entry T). Int e.0 ∷ []) hits) (IsPermutation-map (λ r. id_in (rowid r)) _ _ (found_any (λ e. Int e.0 ∷ []) shows rows is))
+        subst (λ l. IsPermutation l (ids_of rows)) (map-map (λ r. id_in (rowid r)) (λ (e : Entry T). Int e.0 ∷ []) hits) (IsPermutation-map (λ r. id_in (rowid r)) _ _ (found_any (λ e. Int e.0 ∷ []) (λ e there. shows e.0 e.1) rows is))
 
     -- the rows that a DELETE leaves
     pub deleted_rows : ((id : ℤ) (x : T) → eval_all show (params ∷ (Int id ∷ form.encode x) ∷ []) ≡ Int id ∷ []) → (rows : List Row) (next : Trees) → Is rows → Edits schema (as_delete rows) old new next
         → next table.tree ≡ map (put form) (delete_where (λ (e : Entry T). m e.1) (entries form was))
     deleted_rows shows rows next is it = it.applies.rows ∙ left_is form was held m (ids_of rows) (deleted_ids shows rows is)
 
-    module _ (f : T → T) (kept : (x : T) → cast_all table.columns (form.encode x) ≡ form.encode x) (shows : (id : ℤ) (x : T) → eval_all show (params ∷ (Int id ∷ form.encode x) ∷ []) ≡ Int id ∷ Int id ∷ form.encode (f x)) where
+    module _ (f : T → T) (kept : (x : T) → cast_all table.columns (form.encode x) ≡ form.encode x)
+        (shows : (e : Entry T) → Has hits e → eval_all show (params ∷ put form e ∷ []) ≡ Int e.0 ∷ Int e.0 ∷ form.encode (f e.1)) where
       -- the numbers of the rows that are found
       pub updated_ids : (rows : List Row) → Is rows → IsPermutation (map (λ (e : Entry T). e.0) hits) (ids_of rows)
       updated_ids rows is =

@@ -82,14 +82,14 @@ module _ {T : Type 0} (form : Form T) (schema : Schema) where
     pub gives : value_rows (stamped (plainly table) params) width (length terms / width) terms ≡ (Null ∷ form.encode x) ∷ []
     pub accepts : accepts_terms terms (stamped (plainly table) params) ≡ true
 
-  -- UPDATE of the rows that pass a test
+  -- UPDATE of the rows that pass a test; what it sets may be reckoned from a row that the table's own tests let through
   pub record UpdateText (place : ℕ) (table : Table) (sql : List ℕ) (params : Row) (m : T → Bool) (f : T → T) : Type 0 where
     pub test : List Term
     pub show : List Term
     pub means : Means schema sql (Update place (record { lets = []; body = scan table.tree test show [] no_limit })) (length params)
     pub accepts : accepts_program schema [] (scan table.tree test show [] no_limit) params ≡ true
     pub tests : (id : ℤ) (y : T) → list_all (holds (params ∷ (Int id ∷ form.encode y) ∷ [])) test ≡ m y
-    pub shows : (id : ℤ) (y : T) → eval_all show (params ∷ (Int id ∷ form.encode y) ∷ []) ≡ Int id ∷ Int id ∷ form.encode (f y)
+    pub shows : (id : ℤ) (y : T) → m y ≡ true → Suits table (put form (id, y)) → eval_all show (params ∷ (Int id ∷ form.encode y) ∷ []) ≡ Int id ∷ Int id ∷ form.encode (f y)
 
   -- DELETE of the rows that pass a test
   pub record DeleteText (place : ℕ) (table : Table) (sql : List ℕ) (params : Row) (m : T → Bool) : Type 0 where

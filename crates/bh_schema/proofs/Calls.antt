@@ -1,6 +1,8 @@
 -- A call inside a transaction, in the words of the layer.
-use Rattle.std.proofs.Common.{◌≡◌, inl, inr, ℕ, List, [], ◌∷◌, ◌++◌, map, filter, Bool, true, IsTrue, None, Ok, Err, Result, OnOk, OnErr, IfOk, IfErr, Ordering, refl, sym, ap, ◌∙◌, true≢false, subst, take, length, pos, ◌<◌, ◌^◌, sum_by}
-use Rattle.sqlite.specs.Order.{Row}
+use Rattle.std.proofs.Common.{◌≡◌, inl, inr, ℕ, ℤ, List, [], ◌∷◌, ◌++◌, map, filter, Bool, true, IsTrue, None, Ok, Err, Result, OnOk, OnErr, IfOk, IfErr, Ordering, refl, sym, ap, ◌∙◌, true≢false, subst, take, length, pos, ◌<◌, ◌^◌, sum_by}
+use Rattle.std.specs.List.{AllByRecursion}
+use Rattle.sqlite.specs.Order.{Row, column}
+use Rattle.sqlite.specs.Table.{Table}
 use Rattle.sqlite.specs.Tree.{Trees}
 use Rattle.sqlite.specs.Effect.{Database}
 use Rattle.sqlite.specs.State.{State, HasCleanDisk, IsLive, IsUnchanged, Survives, Executes, CommitsBy, CommitsShowing, Shown, FailsToQuery}
@@ -9,17 +11,20 @@ use Rattle.sqlite.specs.declared.error.Error.TheVariants.{SqliteFailure}
 use Rattle.sqlite.specs.declared.error.ErrorCode.TheVariants.{OutOfMemory}
 use Rattle.sqlite.specs.declared.types.Value.TheVariants.{Int}
 use Rattle.sqlite_keyed.specs.Lists.{update_where, delete_where, sort_by}
-use Rattle.bh_rows.specs.Keys.{AreUnused}
+use Rattle.sqlite_rules.specs.Lists.{Has}
+use Rattle.bh_rows.specs.Keys.{AreUnused, Suits, watched}
 use Rattle.bh_rows.specs.Means.{is_trouble, IsUndone, IsOutside, Asks, StaysInside, Changes}
 use Rattle.bh_rows.specs.Scan.{no_limit}
-use Rattle.bh_rows.specs.Texts.{MayAdd, MayChange, InsertText, UpdateText, DeleteText, SelectText, SortedText, SumText}
+use Rattle.bh_rows.specs.Form.{Form, AreRows, Entry, put, entries, typed}
+use Rattle.bh_rows.specs.Texts.{IsReadyAt, IsTableOf, Leaves as Becomes, MayAdd, MayChange, InsertText, UpdateText, DeleteText, SelectText, SortedText, SumText}
 use Rattle.bh_tables.specs.Schema.{host_schema}
-use Rattle.bh_tables.specs.Typed.{IsHost, IsReady, Tables, tables_in, tables}
-use Rattle.bh_tables.proofs.Places.{Place, Goes}
+use Rattle.bh_tables.specs.Typed.{Totals, totals_of, IsHost, IsHostBy, IsReady, Tables, tables_in, tables}
+use Rattle.bh_rows.proofs.TextLemmas as text
+use Rattle.bh_tables.proofs.Places.{Place, Goes, orderly}
 use Rattle.bh_tables.proofs.Terms.{one_row}
 use Rattle.bh_tables.proofs.Statements.{Writes, Shows, Sums, told_as, ones}
 use Rattle.bh_tables.proofs.Statements as statement
-use Rattle.bh_schema.specs.Layer.{Standing, standing, IsIntact, IsOpen, IsStateClean, Leaves, IsInside, Holds, KeepsDisk, LeavesNothingNew, IsStandingSettled, StateWithin, Unwinds}
+use Rattle.bh_schema.specs.Layer.{Standing, standing, IsIntact, IsOpen, IsStateClean, Leaves, IsInside, IsInsideBy, IsMidst, Holds, HoldsBy, KeepsDisk, LeavesNothingNew, IsStandingSettled, StateWithin, Unwinds}
 use Rattle.bh_schema.proofs.TurnLemmas.{follows, unwinds}
 
 pub ready : (old : State) → (IsStateClean old → IsInside (standing old)) → IsReady old
@@ -194,14 +199,23 @@ pub record Write (old new : State) (change : Tables → Tables) (allowed : Error
   pub holds : OnOk result (IsStateClean new → Holds (change (tables_in (standing old).now)) (standing new))
   pub trouble : IfErr result (λ e. IsIntact new → (standing old).limit ≡ None → allowed e)
 
-write : (old new : State) (change : Tables → Tables) (allowed : Error → Type 0) (result : Result ℕ Error) → (IsStateClean old → IsInside (standing old)) → Writes old new change allowed result → Write old new change allowed result
+-- what is kept of other rows is what those have after the change too
+kept_host : (old new : State) (change : Tables → Tables) → totals_of (change (tables old)) ≡ totals_of (tables old) → IsHostBy (totals_of (tables old)) new.now × (tables new ≡ change (tables old)) → IsHost new.now × (tables new ≡ change (tables old))
+kept_host old new change same it = (subst (λ s. IsHostBy s new.now) (sym (ap totals_of it.1 ∙ same)) it.0, it.1)
+
+pub write : (old new : State) (change : Tables → Tables) (allowed : Error → Type 0) (result : Result ℕ Error) → (IsStateClean old → IsInside (standing old)) → totals_of (change (tables old)) ≡ totals_of (tables old) → Writes (totals_of (tables old)) old new change allowed result
+    → Write old new change allowed result
 unfolding standing
-write old new change allowed result inside it = record {
+write old new change allowed result inside same it = record {
   within = changes_within old new (λ c. (inside c).inside) result it.changes;
   opens = changes_opens old new (λ c. (inside c).inside) result it.changes;
-  holds = changes_holds old new (λ c. (inside c).inside) result it.changes (change (tables old)) it.leaves;
+  holds = changes_holds old new (λ c. (inside c).inside) result it.changes (change (tables old)) (λ clean up. kept result (it.leaves clean up));
   trouble = if_error old new result allowed it.errors;
 }
+  where
+    kept : (r : Result ℕ Error) → OnOk r (IsHostBy (totals_of (tables old)) new.now × (tables new ≡ change (tables old))) → OnOk r (IsHost new.now × (tables new ≡ change (tables old)))
+    kept (Ok n) h = kept_host old new change same h
+    kept (Err e) h = tt
 
 -- what is said of a sum: an error is trouble where it is not too wide
 pub record Total {X : Type 0} (old new : State) (rows_in : X → List Row) (total : Tables → ℕ) (result : Result X Error) : Type 0 where
@@ -249,7 +263,10 @@ written {old} {new} {allowed} {result} f g same w = record {
 
 -- ---- the kinds of texts, over any of the tables
 
-module _ {T : Type 0} (p : Place T) (old new : State) (inside : IsStateClean old → IsInside (standing old)) where
+module _ {T : Type 0} (place : (sums : Totals) → Place sums T) (old new : State) (inside : IsStateClean old → IsInside (standing old)) where
+  abbrev p : Place (totals_of (tables old)) T
+  p = place (totals_of (tables old))
+
   pub selected : {X : Type 0} (rows_in : X → List Row) (result : Result X Error) {sql : List ℕ} {params : Row} {m : T → Bool} {view : T → Row} → SelectText p.form host_schema p.table.tree sql params m view no_limit
       → (HasCleanDisk new → IfOk result (λ x. Shown sql params old new (rows_in x))) → (HasCleanDisk new → IfErr result (FailsToQuery sql params old new)) → Survives old new (CommitsShowing sql params old)
       → Question old new rows_in (λ t. map view (filter m (p.rows t))) result
@@ -277,25 +294,137 @@ module _ {T : Type 0} (p : Place T) (old new : State) (inside : IsStateClean old
       → Total old new rows_in (λ t. length (filter m (p.rows t))) result
   counted rows_in result {sql} {params} {m} it ok err survives = totalled_so _ _ (λ t. ones (filter m (p.rows t))) (summed rows_in result it ok err survives)
 
-  module _ (result : Result ℕ Error) (live : IsLive old) where
+  -- writes to a table of whose rows nothing is kept
+  module _ (same : (t : Tables) (l : List T) → totals_of ((place (totals_of t)).set t l) ≡ totals_of t) (result : Result ℕ Error) (live : IsLive old) where
     pub inserted : {sql : List ℕ} {params : Row} {x : T} {A : Type 0} → InsertText p.form host_schema p.number p.table sql params x → (IsStateClean old → A → MayAdd p.form host_schema p.table (standing old).now.trees x)
         → (HasCleanDisk new → Executes sql params old new result) → Survives old new (CommitsBy sql params old)
         → Write old new (λ t. p.set t (p.rows t ++ x ∷ [])) (λ e. A → is_trouble e ≡ true) result
     unfolding IsIntact IsOpen standing
-    inserted it may runs survives = write old new _ _ result inside (statement.inserted p old new (ready old inside) result _ _ runs survives live _ it (λ clean up. may (record { intact = clean; is_open = up })))
+    inserted it may runs survives = write old new _ _ result inside (same (tables old) _) (statement.inserted p old new (ready old inside) result _ _ runs survives live _ it (λ clean up. may (record { intact = clean; is_open = up })))
 
     pub updated : {sql : List ℕ} {params : Row} {m : T → Bool} {f : T → T} → UpdateText p.form host_schema p.number p.table sql params m f → MayChange p.form host_schema p.table m f
         → (HasCleanDisk new → Executes sql params old new result) → Survives old new (CommitsBy sql params old)
         → Write old new (λ t. p.set t (update_where m f (p.rows t))) (λ e. is_trouble e ≡ true) result
-    updated it may runs survives = write old new _ _ result inside (statement.updated p old new (ready old inside) result _ _ runs survives live _ _ it may)
+    updated it may runs survives = write old new _ _ result inside (same (tables old) _) (statement.updated p old new (ready old inside) result _ _ runs survives live _ _ it may)
 
     pub deleted : {sql : List ℕ} {params : Row} {m : T → Bool} → DeleteText p.form host_schema p.number p.table sql params m → ((db : Trees) (rows : List Row) → AreUnused host_schema db p.table.tree rows)
         → (HasCleanDisk new → Executes sql params old new result) → Survives old new (CommitsBy sql params old)
         → Write old new (λ t. p.set t (delete_where m (p.rows t))) (λ e. is_trouble e ≡ true) result
-    deleted it unused runs survives = write old new _ _ result inside (statement.deleted p old new (ready old inside) result _ _ runs survives live _ it (unused old.now.trees))
+    deleted it unused runs survives = write old new _ _ result inside (same (tables old) _) (statement.deleted p old new (ready old inside) result _ _ runs survives live _ it (unused old.now.trees))
 
     pub removed : {sql : List ℕ} {params : Row} {m : T → Bool} {A : Type 0} → DeleteText p.form host_schema p.number p.table sql params m → (IsStateClean old → A → Goes p (standing old).now.trees m)
         → (HasCleanDisk new → Executes sql params old new result) → Survives old new (CommitsBy sql params old)
         → Write old new (λ t. p.set t (delete_where m (p.rows t))) (λ e. A → is_trouble e ≡ true) result
     unfolding IsIntact IsOpen standing
-    removed it goes runs survives = write old new _ _ result inside (statement.removed p old new (ready old inside) result _ _ runs survives live _ it (λ clean up. goes (record { intact = clean; is_open = up })))
+    removed it goes runs survives = write old new _ _ result inside (same (tables old) _) (statement.removed p old new (ready old inside) result _ _ runs survives live _ it (λ clean up. goes (record { intact = clean; is_open = up })))
+
+-- ---- texts in the midst of a write
+
+pub record Turn (old new : State) (after : Totals → Totals) (change : Tables → Tables) (result : Result ℕ Error) : Type 0 where
+  pub within : StateWithin old new
+  pub opens : OnOk result (IsIntact new → IsOpen old → IsOpen new)
+  pub midst : OnOk result (IsStateClean new → IsMidst (standing new))
+  pub turns : OnOk result (IsStateClean new → (sums : Totals) → IsInsideBy sums (standing old) → HoldsBy (after sums) (change (tables_in (standing old).now)) (standing new))
+
+turn : (old new : State) (after : Totals → Totals) (change : Tables → Tables) (result : Result ℕ Error) → (IsStateClean old → IsMidst (standing old)) → Changes old new result
+    → (HasCleanDisk new → IsTrue old.is_open → OnOk result ((sums : Totals) → IsHostBy sums old.now → IsHostBy (after sums) new.now × (tables new ≡ change (tables old)))) → Turn old new after change result
+unfolding standing IsIntact IsOpen
+turn old new after change result midst changes each = record {
+  within = changes_within old new inside result changes;
+  opens = changes_opens old new inside result changes;
+  midst = whole result turned;
+  turns = turned;
+}
+  where
+    inside : IsStateClean old → (standing old).inside ≡ true
+    inside c = (midst c).by.inside
+
+    was : IsStateClean new → IsStateClean old
+    was = (changes_within old new inside result changes).follows.clean
+
+    go : (r : Result ℕ Error) → OnOk r (IsStateClean new → (standing new).inside ≡ true) → (HasCleanDisk new → IsTrue old.is_open → OnOk r ((sums : Totals) → IsHostBy sums old.now → IsHostBy (after sums) new.now × (tables new ≡ change (tables old))))
+        → OnOk r (IsStateClean new → (sums : Totals) → IsInsideBy sums (standing old) → HoldsBy (after sums) (change (tables old)) (standing new))
+    go (Err e) stays h = tt
+    go (Ok n) stays h = λ c sums by. let it = h c.intact (was c).is_open sums by.host in record { within = record { inside = stays c; host = it.0 }; is = it.1 }
+
+    turned : OnOk result (IsStateClean new → (sums : Totals) → IsInsideBy sums (standing old) → HoldsBy (after sums) (change (tables old)) (standing new))
+    turned = go result (changes_inside old new inside result changes) each
+
+    whole : (r : Result ℕ Error) → OnOk r (IsStateClean new → (sums : Totals) → IsInsideBy sums (standing old) → HoldsBy (after sums) (change (tables old)) (standing new)) → OnOk r (IsStateClean new → IsMidst (standing new))
+    whole (Err e) h = tt
+    whole (Ok n) h = λ c. let m = midst (was c) in record { sums = after m.sums; by = (h c m.sums m.by).within }
+
+only_if : {A : Type 0} (r : Result ℕ Error) → (A → IfErr r (λ e. is_trouble e ≡ true)) → IfErr r (λ e. A → is_trouble e ≡ true)
+only_if (Ok n) h = tt
+only_if (Err e) h = h
+
+-- over a table whose rows are stored so whatever is kept
+module _ {T : Type 0} (form : Form T) (number : ℕ) (table : Table) (is : IsTableOf form host_schema number table) (held : (sums : Totals) (db : Database) → IsHostBy sums db → AreRows form (db.trees table.tree))
+    (old new : State) (midst : IsStateClean old → IsMidst (standing old)) where
+  midst_ready : IsReadyAt form host_schema table.tree old
+  unfolding standing IsIntact IsOpen
+  midst_ready clean up = let m = midst (record { intact = clean; is_open = up }) in (m.by.host.schema, held m.sums old.now m.by.host)
+
+  -- what a write of these rows leaves
+  abbrev pub Turned : (Totals → Totals) → (Tables → Tables) → List T → Type 0
+  Turned after change rows = (sums : Totals) → IsHostBy sums old.now → Becomes form host_schema table.tree old new rows → IsHostBy (after sums) new.now × (tables new ≡ change (tables old))
+
+  on_ok : {A B : Type 0} (r : Result ℕ Error) → (A → B) → OnOk r A → OnOk r B
+  on_ok (Ok n) f h = f h
+  on_ok (Err e) f h = tt
+
+  module _ (result : Result ℕ Error) (live : IsLive old) {sql : List ℕ} {params : Row} (after : Totals → Totals) (change : Tables → Tables) where
+    pub adds : {x : T} → InsertText form host_schema number table sql params x → Turned after change (typed form (old.now.trees table.tree) ++ x ∷ [])
+        → (HasCleanDisk new → Executes sql params old new result) → Survives old new (CommitsBy sql params old) → Turn old new after change result
+    adds {x} it turned runs survives = turn old new after change result midst (text.insert_changes form host_schema orderly number table is old new midst_ready sql params x it result runs survives)
+        (λ clean up. on_ok result (λ l sums host. turned sums host l) (text.insert_adds form host_schema orderly number table is old new midst_ready sql params x it result runs survives clean up))
+
+    pub sets : {m : T → Bool} {f : T → T} → UpdateText form host_schema number table sql params m f → Turned after change (update_where m f (typed form (old.now.trees table.tree)))
+        → (HasCleanDisk new → Executes sql params old new result) → Survives old new (CommitsBy sql params old) → Turn old new after change result
+    sets {m} {f} it turned runs survives = turn old new after change result midst (text.update_changes form host_schema orderly number table is old new midst_ready sql params m f it result runs survives)
+        (λ clean up. on_ok result (λ l sums host. turned sums host l) (text.update_sets form host_schema orderly number table is old new midst_ready sql params m f it live result runs survives clean up))
+
+    pub drops : {m : T → Bool} → DeleteText form host_schema number table sql params m → Turned after change (delete_where m (typed form (old.now.trees table.tree)))
+        → (HasCleanDisk new → Executes sql params old new result) → Survives old new (CommitsBy sql params old) → Turn old new after change result
+    drops {m} it turned runs survives = turn old new after change result midst (text.delete_changes form host_schema orderly number table is old new midst_ready sql params m it result runs survives)
+        (λ clean up. on_ok result (λ l sums host. turned sums host l) (text.delete_removes form host_schema orderly number table is old new midst_ready sql params m it result runs survives clean up))
+
+    -- where the store is whole and no limit stops a text, its error is trouble alone
+    pub adds_trouble : {x : T} {A : Type 0} → InsertText form host_schema number table sql params x → (IsStateClean old → A → MayAdd form host_schema table (standing old).now.trees x)
+        → (HasCleanDisk new → Executes sql params old new result) → Survives old new (CommitsBy sql params old) → IfErr result (λ e. IsIntact new → (standing old).limit ≡ None → A → is_trouble e ≡ true)
+    unfolding standing IsIntact IsOpen
+    adds_trouble {x} {A} it may runs survives = if_error old new result (λ e. A → is_trouble e ≡ true) (λ clean unlimited. only_if result (λ a. text.insert_only_trouble form host_schema orderly number table is old new midst_ready sql params x it live result runs survives clean unlimited
+        (λ was up. may (record { intact = was; is_open = up }) a)))
+
+    pub sets_trouble : {m : T → Bool} {f : T → T} {A : Type 0} → UpdateText form host_schema number table sql params m f
+        → ((id : ℤ) (y : T) → m y ≡ true → map (column (put form (id, f y))) (watched host_schema table) ≡ map (column (put form (id, y))) (watched host_schema table))
+        → (IsStateClean old → A → (e : Entry T) → Has (filter (λ (d : Entry T). m d.1) (entries form ((standing old).now.trees table.tree))) e → Suits table (put form e) → Suits table (put form (e.0, f e.1)))
+        → (HasCleanDisk new → Executes sql params old new result) → Survives old new (CommitsBy sql params old) → IfErr result (λ e. IsIntact new → (standing old).limit ≡ None → A → is_trouble e ≡ true)
+    unfolding standing IsIntact IsOpen
+    sets_trouble {m} {f} {A} it unwatched suits runs survives = if_error old new result (λ e. A → is_trouble e ≡ true) (λ clean unlimited. only_if result (λ a. text.update_there_trouble form host_schema orderly number table is old new midst_ready sql params m f it live unwatched
+        (λ was up. suits (record { intact = was; is_open = up }) a) result runs survives clean unlimited))
+
+    pub drops_trouble : {m : T → Bool} {A : Type 0} → DeleteText form host_schema number table sql params m
+        → (IsStateClean old → A → AreUnused host_schema (standing old).now.trees table.tree (map (put form) (filter (λ (d : Entry T). m d.1) (entries form ((standing old).now.trees table.tree)))))
+        → (HasCleanDisk new → Executes sql params old new result) → Survives old new (CommitsBy sql params old) → IfErr result (λ e. IsIntact new → (standing old).limit ≡ None → A → is_trouble e ≡ true)
+    unfolding standing IsIntact IsOpen
+    drops_trouble {m} {A} it unused runs survives = if_error old new result (λ e. A → is_trouble e ≡ true) (λ clean unlimited. only_if result (λ a. text.delete_only_trouble form host_schema orderly number table is old new midst_ready sql params m it live result runs survives clean unlimited
+        (λ was up. unused (record { intact = was; is_open = up }) a)))
+
+-- what holds of each typed row holds of each entry
+pub at_entry : {T : Type 0} (form : Form T) (P : T → Type 0) (rows : List Row) → AllByRecursion P (typed form rows) → (e : Entry T) → Has (entries form rows) e → P e.1
+at_entry form P [] all e there = absurd there
+at_entry {T} form P (r ∷ rows) all e there = elim there [
+  | inl is ↦ subst (λ (x : Entry T). P x.1) (sym is) all.0
+  | inr more ↦ at_entry form P rows all.1 e more
+]
+
+-- ---- from the midst of a write to its end
+
+-- a host's database is one in the midst of a write
+pub in_midst : (x : Standing) → IsInside x → IsMidst x
+in_midst x h = record { sums = totals_of (tables_in x.now); by = h }
+
+-- what is kept is what the tables have
+pub whole_again : (sums : Totals) (t : Tables) (x : Standing) → HoldsBy sums t x → sums ≡ totals_of t → Holds t x
+whole_again sums t x h same = record { within = subst (λ s. IsInsideBy s x) (same ∙ ap totals_of (sym h.is)) h.within; is = h.is }

@@ -1,10 +1,10 @@
 -- What is known of an access key, from what was found of its tenant and then of its secret.
-use Rattle.std.proofs.Common.{◌≡◌, true, false, find, is_some, Option, Some, None, option_map, refl, sym, ap, ◌∙◌}
+use Rattle.std.proofs.Common.{◌≡◌, true, false, find, is_some, Option, Some, None, option_map, refl, sym, subst, ap, ◌∙◌}
 use Rattle.sqlite.specs.State.{State}
 use Rattle.bh_tables.specs.Schema.{Octets}
 use Rattle.bh_tables.specs.Typed.{tables_in}
 use Rattle.bh_tables.specs.Shown.{is_tenant, is_key}
-use Rattle.bh_schema.specs.Layer.{Standing, standing, IsIntact, IsOpen, IsStateClean, StateWithin}
+use Rattle.bh_schema.specs.Layer.{Standing, standing, IsIntact, IsOpen, IsStateClean, IsInside, StateWithin}
 use Rattle.bh_schema.specs.Rows.{tenant_numbers, secret_in}
 use Rattle.bh_schema.specs.Known.{key_known}
 use Rattle.bh_schema.specs.declared.rows.known.Known.TheVariants.{NoKey, Key}
@@ -14,6 +14,11 @@ use Rattle.bh_schema.proofs.Storing.{within_then}
 is_mapped : {A B : Type 0} (f : A → B) (o : Option A) → is_some (option_map f o) ≡ is_some o
 is_mapped f None = refl
 is_mapped f (Some x) = refl
+
+-- after a question the transaction is open still
+pub still_inside : (old mid : State) → (IsIntact mid → standing mid ≡ standing old) → StateWithin old mid → (IsStateClean old → IsInside (standing old))
+    → IsStateClean mid → IsInside (standing mid)
+still_inside old mid same first inside clean = subst IsInside (sym (same clean.intact)) (inside (first.follows.clean clean))
 
 -- ---- two questions, one after the other
 

@@ -1,6 +1,9 @@
 pub mod TurnLemmas
 pub mod Calls
+pub mod UsedCalls
+pub mod KeptCalls
 pub mod VersionCalls
+pub mod VersionSteps
 pub mod PartCalls
 pub mod Finds
 pub mod Storing

@@ -1,5 +1,5 @@
 -- Calls over parts, in the words of the tables, in which each part has the bytes of its body.
-use Rattle.std.proofs.Common.{◌≡◌, ℕ, List, [], ◌∷◌, ◌++◌, map, filter, Bool, true, Result, IfOk, IfErr, Ordering, ◌+◌, sum_by, cond, false, refl, sym, ap, ◌∙◌}
+use Rattle.std.proofs.Common.{◌≡◌, ℕ, List, [], ◌∷◌, ◌++◌, map, filter, Bool, true, Result, IfOk, IfErr, Ordering, ◌+◌, sum_by, cond, false, None, refl, sym, ap, ◌∙◌}
 use Rattle.std.proofs.lemmas.List.Sums.{sum_by-cons}
 use Rattle.sqlite.specs.Order.{Row}
 use Rattle.sqlite.specs.State.{State, HasCleanDisk, IsLive, Survives, Executes, CommitsBy, CommitsShowing, Shown, FailsToQuery}
@@ -7,15 +7,15 @@ use Rattle.sqlite.specs.declared.error.Error.{Error}
 use Rattle.sqlite_keyed.specs.Lists.{delete_where, sort_by}
 use Rattle.bh_rows.specs.Means.{is_trouble}
 use Rattle.bh_rows.specs.Scan.{no_limit}
-use Rattle.bh_rows.specs.Texts.{MayAdd, InsertText, DeleteText, SelectText, SortedText, SumText}
+use Rattle.bh_rows.specs.Texts.{InsertText, DeleteText, SelectText, SortedText, SumText}
 use Rattle.bh_tables.specs.Schema.{host_schema, parts_table, at}
-use Rattle.bh_tables.specs.Typed.{PartColumns, part_form, PartRow}
+use Rattle.bh_tables.specs.Typed.{PartColumns, part_form, PartRow, tables}
 use Rattle.bh_tables.specs.Bodies.{resolved_part, part_columns_of}
-use Rattle.bh_tables.proofs.Places.{parts}
+use Rattle.bh_tables.proofs.Places.{parts, parts_is, turned}
 use Rattle.bh_tables.proofs.ResolvedLemmas.{seen_parts, seen_parts_sorted, part_added, parts_deleted}
 use Rattle.bh_tables.proofs.PartTexts.{parts_unused}
-use Rattle.bh_schema.specs.Layer.{standing, IsInside, IsStateClean}
-use Rattle.bh_schema.proofs.Calls.{Question, Write, asked, written, Total, totalled_so}
+use Rattle.bh_schema.specs.Layer.{standing, IsIntact, IsInside, IsMidst, IsStateClean}
+use Rattle.bh_schema.proofs.Calls.{Question, Turn, asked, Total, totalled_so}
 use Rattle.bh_schema.proofs.Calls as call
 
 -- sizes of the stored columns are those of the rows
@@ -43,14 +43,21 @@ module _ (old new : State) (inside : IsStateClean old → IsInside (standing old
       → Total old new rows_in (λ t. sum_by (λ x. size (part_columns_of x)) (filter (λ x. m (part_columns_of x)) t.parts)) result
   summed rows_in result {sql} {params} {m} {size} it ok err survives = totalled_so _ _ (λ t. sum_seen m size t.parts) (call.summed parts old new inside rows_in result it ok err survives)
 
-  module _ (result : Result ℕ Error) (live : IsLive old) where
-    pub inserted : {sql : List ℕ} {params : Row} {c : PartColumns} {A : Type 0} → InsertText part_form host_schema 8 (at 18 parts_table) sql params c
-        → (IsStateClean old → A → MayAdd part_form host_schema (at 18 parts_table) (standing old).now.trees c)
-        → (HasCleanDisk new → Executes sql params old new result) → Survives old new (CommitsBy sql params old)
-        → Write old new (λ t. record t { parts = t.parts ++ resolved_part t.refs t.blocks c ∷ [] }) (λ e. A → is_trouble e ≡ true) result
-    inserted {sql} {params} {c} it may runs survives = written _ _ (λ db. part_added db c) (call.inserted parts old new inside result live it may runs survives)
+-- in the midst of a write of what their tenant uses and their upload keeps
+module _ (old new : State) (midst : IsStateClean old → IsMidst (standing old)) (result : Result ℕ Error) (live : IsLive old) {sql : List ℕ} {params : Row} where
+  pub comes : {c : PartColumns} → InsertText part_form host_schema 8 (at 18 parts_table) sql params c
+      → (HasCleanDisk new → Executes sql params old new result) → Survives old new (CommitsBy sql params old)
+      → Turn old new (λ sums. sums) (λ t. record t { parts = t.parts ++ resolved_part t.refs t.blocks c ∷ [] }) result
+  comes {c} it runs survives = call.adds part_form 8 (at 18 parts_table) parts_is (λ sums db h. h.held.parts) old new midst result live (λ sums. sums) (λ t. record t { parts = t.parts ++ resolved_part t.refs t.blocks c ∷ [] }) it
+      (λ sums host l. let w = turned (parts sums) old new _ host l in (w.0, w.1 ∙ ap (λ ps. record (tables old) { parts = map (resolved_part (tables old).refs (tables old).blocks) (ps ++ c ∷ []) }) ((parts sums).rows_are old.now) ∙ part_added old.now c)) runs survives
 
-    pub deleted : {sql : List ℕ} {params : Row} {m : PartColumns → Bool} → DeleteText part_form host_schema 8 (at 18 parts_table) sql params m
-        → (HasCleanDisk new → Executes sql params old new result) → Survives old new (CommitsBy sql params old)
-        → Write old new (λ t. record t { parts = delete_where (λ p. m (part_columns_of p)) t.parts }) (λ e. is_trouble e ≡ true) result
-    deleted {sql} {params} {m} it runs survives = written _ _ (λ db. parts_deleted db m) (call.deleted parts old new inside result live it parts_unused runs survives)
+  pub goes : {m : PartColumns → Bool} → DeleteText part_form host_schema 8 (at 18 parts_table) sql params m
+      → (HasCleanDisk new → Executes sql params old new result) → Survives old new (CommitsBy sql params old)
+      → Turn old new (λ sums. sums) (λ t. record t { parts = delete_where (λ p. m (part_columns_of p)) t.parts }) result
+  goes {m} it runs survives = call.drops part_form 8 (at 18 parts_table) parts_is (λ sums db h. h.held.parts) old new midst result live (λ sums. sums) (λ t. record t { parts = delete_where (λ p. m (part_columns_of p)) t.parts }) it
+      (λ sums host l. let w = turned (parts sums) old new _ host l in (w.0, w.1 ∙ ap (λ ps. record (tables old) { parts = map (resolved_part (tables old).refs (tables old).blocks) (delete_where m ps) }) ((parts sums).rows_are old.now) ∙ parts_deleted old.now m)) runs survives
+
+  -- that they go is refused in trouble alone
+  pub goes_trouble : {m : PartColumns → Bool} → DeleteText part_form host_schema 8 (at 18 parts_table) sql params m
+      → (HasCleanDisk new → Executes sql params old new result) → Survives old new (CommitsBy sql params old) → IfErr result (λ e. IsIntact new → (standing old).limit ≡ None → Unit {0} → is_trouble e ≡ true)
+  goes_trouble {m} it runs survives = call.drops_trouble part_form 8 (at 18 parts_table) parts_is (λ sums db h. h.held.parts) old new midst result live (λ sums. sums) (λ t. t) it (λ clean _. parts_unused (standing old).now.trees _) runs survives

@@ -9,15 +9,16 @@ use Rattle.bh_rows.specs.Means.{is_trouble}
 use Rattle.bh_rows.specs.Scan.{no_limit}
 use Rattle.bh_rows.specs.Texts.{MayAdd, InsertText, DeleteText, SelectText, SortedText, SumText}
 use Rattle.bh_tables.specs.Schema.{host_schema, versions_table, at}
-use Rattle.bh_tables.specs.Typed.{VersionColumns, version_form, VersionRow}
+use Rattle.bh_tables.specs.Typed.{VersionColumns, version_form, VersionRow, totals_of, tables}
 use Rattle.bh_tables.specs.Bodies.{resolved, columns_of}
-use Rattle.bh_tables.proofs.Places.{versions}
+use Rattle.bh_tables.proofs.Places.{versions, versions_is, turned}
 use Rattle.bh_tables.proofs.ResolvedLemmas.{seen, seen_sorted, version_added, versions_deleted}
 use Rattle.bh_tables.proofs.Statements.{ones}
+use Rattle.bh_tables.proofs.Statements as statement
+use Rattle.bh_tables.proofs.TotalLemmas.{totals_marker_added}
 use Rattle.bh_tables.proofs.Terms.{one_row}
-use Rattle.bh_tables.proofs.VersionTexts.{versions_unused}
-use Rattle.bh_schema.specs.Layer.{standing, IsInside, IsStateClean}
-use Rattle.bh_schema.proofs.Calls.{Question, Write, asked, written, Total, totalled_so}
+use Rattle.bh_schema.specs.Layer.{standing, IsIntact, IsOpen, IsInside, IsMidst, IsStateClean}
+use Rattle.bh_schema.proofs.Calls.{Question, Write, Turn, asked, ready, write, written, Total, totalled_so}
 use Rattle.bh_schema.proofs.Calls as call
 
 -- ---- the kinds of texts
@@ -53,14 +54,27 @@ module _ (old new : State) (inside : IsStateClean old → IsInside (standing old
       → Total old new rows_in (λ t. length (filter (λ x. m (columns_of x)) t.versions)) result
   counted rows_in result {sql} {params} {m} it ok err survives = totalled_so _ _ (λ t. ones (filter (λ x. m (columns_of x)) t.versions)) (summed rows_in result it ok err survives)
 
-  module _ (result : Result ℕ Error) (live : IsLive old) where
-    pub inserted : {sql : List ℕ} {params : Row} {c : VersionColumns} {A : Type 0} → InsertText version_form host_schema 4 (at 7 versions_table) sql params c
-        → (IsStateClean old → A → MayAdd version_form host_schema (at 7 versions_table) (standing old).now.trees c)
-        → (HasCleanDisk new → Executes sql params old new result) → Survives old new (CommitsBy sql params old)
-        → Write old new (λ t. record t { versions = t.versions ++ resolved t.refs t.blocks c ∷ [] }) (λ e. A → is_trouble e ≡ true) result
-    inserted {sql} {params} {c} it may runs survives = written _ _ (λ db. version_added db c) (call.inserted versions old new inside result live it may runs survives)
+  -- one that has no bytes comes
+  pub inserted : (result : Result ℕ Error) (live : IsLive old) {sql : List ℕ} {params : Row} {c : VersionColumns} {A : Type 0} → c.size ≡ 0 → InsertText version_form host_schema 4 (at 7 versions_table) sql params c
+      → (IsStateClean old → A → MayAdd version_form host_schema (at 7 versions_table) (standing old).now.trees c)
+      → (HasCleanDisk new → Executes sql params old new result) → Survives old new (CommitsBy sql params old)
+      → Write old new (λ t. record t { versions = t.versions ++ resolved t.refs t.blocks c ∷ [] }) (λ e. A → is_trouble e ≡ true) result
+  unfolding IsIntact IsOpen standing
+  inserted result live {sql} {params} {c} none it may runs survives =
+      let sums = totals_of (tables old) in
+      written _ _ (λ db. version_added db c) (write old new _ _ result inside (ap totals_of (version_added old.now c) ∙ totals_marker_added (tables old) (resolved (tables old).refs (tables old).blocks c) none)
+      (statement.inserted (versions sums) old new (ready old inside) result sql params runs survives live c it (λ clean up. may (record { intact = clean; is_open = up }))))
 
-    pub deleted : {sql : List ℕ} {params : Row} {m : VersionColumns → Bool} → DeleteText version_form host_schema 4 (at 7 versions_table) sql params m
-        → (HasCleanDisk new → Executes sql params old new result) → Survives old new (CommitsBy sql params old)
-        → Write old new (λ t. record t { versions = delete_where (λ v. m (columns_of v)) t.versions }) (λ e. is_trouble e ≡ true) result
-    deleted {sql} {params} {m} it runs survives = written _ _ (λ db. versions_deleted db m) (call.deleted versions old new inside result live it versions_unused runs survives)
+-- in the midst of a write of what their tenant uses
+module _ (old new : State) (midst : IsStateClean old → IsMidst (standing old)) (result : Result ℕ Error) (live : IsLive old) where
+  pub comes : {sql : List ℕ} {params : Row} {c : VersionColumns} → InsertText version_form host_schema 4 (at 7 versions_table) sql params c
+      → (HasCleanDisk new → Executes sql params old new result) → Survives old new (CommitsBy sql params old)
+      → Turn old new (λ sums. sums) (λ t. record t { versions = t.versions ++ resolved t.refs t.blocks c ∷ [] }) result
+  comes {sql} {params} {c} it runs survives = call.adds version_form 4 (at 7 versions_table) versions_is (λ sums db h. h.held.versions) old new midst result live (λ sums. sums) (λ t. record t { versions = t.versions ++ resolved t.refs t.blocks c ∷ [] }) it
+      (λ sums host l. let w = turned (versions sums) old new _ host l in (w.0, w.1 ∙ ap (λ vs. record (tables old) { versions = map (resolved (tables old).refs (tables old).blocks) (vs ++ c ∷ []) }) ((versions sums).rows_are old.now) ∙ version_added old.now c)) runs survives
+
+  pub goes : {sql : List ℕ} {params : Row} {m : VersionColumns → Bool} → DeleteText version_form host_schema 4 (at 7 versions_table) sql params m
+      → (HasCleanDisk new → Executes sql params old new result) → Survives old new (CommitsBy sql params old)
+      → Turn old new (λ sums. sums) (λ t. record t { versions = delete_where (λ v. m (columns_of v)) t.versions }) result
+  goes {sql} {params} {m} it runs survives = call.drops version_form 4 (at 7 versions_table) versions_is (λ sums db h. h.held.versions) old new midst result live (λ sums. sums) (λ t. record t { versions = delete_where (λ v. m (columns_of v)) t.versions }) it
+      (λ sums host l. let w = turned (versions sums) old new _ host l in (w.0, w.1 ∙ ap (λ vs. record (tables old) { versions = map (resolved (tables old).refs (tables old).blocks) (delete_where m vs) }) ((versions sums).rows_are old.now) ∙ versions_deleted old.now m)) runs survives

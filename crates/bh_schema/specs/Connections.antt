@@ -4,8 +4,8 @@ use Rattle.sqlite.specs.Held.{Held, state}
 use Rattle.sqlite.specs.declared.error.Error.{Error}
 use Rattle.sqlite_trees.specs.declared.store.Store.{Ghosts}
 use Rattle.bh_rows.specs.Means.{is_trouble}
-use Rattle.bh_tables.specs.Typed.{Tables, tables_in}
-use Rattle.bh_schema.specs.Layer.{Standing, standing, IsInside, Holds, StateWithin}
+use Rattle.bh_tables.specs.Typed.{Totals, Tables, tables_in}
+use Rattle.bh_schema.specs.Layer.{Standing, standing, IsInside, IsInsideBy, IsMidst, Holds, HoldsBy, StateWithin}
 use Rattle.bh_schema.specs.Layer as layer
 
 module _ {S : Type 0} (g : Ghosts S) where
@@ -32,6 +32,10 @@ module _ {S : Type 0} (g : Ghosts S) where
   abbrev pub InTransaction : Held S → Type 0
   InTransaction c = IsClean c → IsInside (stands c)
 
+  -- while it is clean, a transaction is open in the midst of a write
+  abbrev pub InMidst : Held S → Type 0
+  InMidst c = IsClean c → IsMidst (stands c)
+
   module _ (old new : Held S) where
     -- a call inside a transaction commits nothing
     abbrev pub StaysWithin : Type 0
@@ -50,6 +54,10 @@ module _ {S : Type 0} (g : Ghosts S) where
     -- a transaction is open, whose tables are these of those before
     abbrev pub Becomes : (Tables → Tables) → Type 0
     Becomes change = IsClean new → Holds (change (tables old)) (stands new)
+
+    -- in the midst of a write: what is kept of other rows becomes this of what was kept, and the tables these of those before
+    abbrev pub Turns : (Totals → Totals) → (Tables → Tables) → Type 0
+    Turns after change = IsClean new → (sums : Totals) → IsInsideBy sums (stands old) → HoldsBy (after sums) (change (tables old)) (stands new)
 
     -- where no limit on steps stops a text, its error is trouble, or is so under a premise
     abbrev pub IsTrouble : Error → Type 0

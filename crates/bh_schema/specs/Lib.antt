@@ -6,3 +6,4 @@ pub mod Views
 pub mod Known
 pub mod Connections
 pub mod Working
+pub mod Written

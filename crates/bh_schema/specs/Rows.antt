@@ -3,10 +3,11 @@ use Rattle.std.specs.Prelude.{◌≡◌, ℕ, true, false, List, filter, Option}
 use Rattle.std.specs.List.{list_any}
 use Rattle.sqlite_keyed.specs.Lists.{sort_by}
 use Rattle.bh_tables.specs.Schema.{Octets}
-use Rattle.bh_tables.specs.Typed.{HostRow, TenantRow, KeyRow, BucketRow, VersionRow, Tables}
+use Rattle.bh_tables.specs.Typed.{HostRow, TenantRow, KeyRow, BucketRow, VersionRow, Tables, bytes_used}
 use Rattle.bh_tables.specs.Shown.{is_tenant, is_key, is_bucket, is_owned_bucket, by_bucket, is_entry, is_version, is_at, is_in_bucket, is_upload_in, newer, is_ruled}
 use Rattle.bh_view.specs.Grouped.{first}
 use Rattle.bh_schema.specs.declared.rows.tenants.TenantNumbers.{TenantNumbers}
+use Rattle.bh_schema.specs.declared.rows.tenants.TenantAccount.{TenantAccount}
 use Rattle.bh_schema.specs.declared.rows.buckets.BucketNumbers.{BucketNumbers}
 
 abbrev pub latest_in : HostRow → ℕ
@@ -17,6 +18,10 @@ with_stamp n h = record h { latest = n }
 
 abbrev pub tenant_numbers : TenantRow → TenantNumbers
 tenant_numbers t = record { quota = t.quota; next_version = t.next_version; next_upload = t.next_upload; next_entry = t.next_entry }
+
+-- with the bytes that its versions and parts have
+abbrev pub tenant_account : Tables → TenantRow → TenantAccount
+tenant_account tables t = record { numbers = tenant_numbers t; used = bytes_used tables.versions tables.parts t.tenant }
 
 abbrev pub secret_in : KeyRow → Octets
 secret_in k = k.secret

@@ -4,12 +4,13 @@ ghost use Rattle.bh_schema.specs.Troubles as spec;
 use bh_storage::error::Trouble;
 use sqlite::{Error, ErrorCode};
 
-/// An error of the database, as the trouble that a host tells.
+/// An error of the database, as the trouble that a host tells: with its code, where it has one.
 pub fn trouble_of(error: Error) -> Trouble
     ensures { result ≡ spec.trouble_of error }
 {
     match error {
         Error::SqliteFailure(ErrorCode::OutOfMemory) => Trouble::Memory,
+        Error::SqliteFailure(code) => Trouble::StoreRefused(code),
         _ => Trouble::Store,
     }
 }

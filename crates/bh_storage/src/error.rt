@@ -1,15 +1,30 @@
 use bh_types::error::RequestError;
 use bh_types::refusal::Refusal;
 use bh_types::rejection::Rejection;
+use sqlite::ErrorCode;
 use std::alloc::AllocError;
+use std::fmt;
 
 /// Why a call was not carried out though nothing is wrong with what it asks.
 #[derive(Clone, Copy, PartialEq, Eq)]
 pub enum Trouble {
     /// A growth of memory was refused.
     Memory,
-    /// The store refused a call, or what it gave can't be read.
+    /// The store refused a call, with this code.
+    StoreRefused(ErrorCode),
+    /// What the store gave can't be read, or it failed without a code.
     Store,
+}
+
+/// One word, with the name of the store's code.
+impl fmt::Display for Trouble {
+    fn fmt<W: fmt::Write>(&self, f: &mut fmt::Formatter<W>) -> fmt::Result {
+        match self {
+            Trouble::Memory => f.write_str("memory"),
+            Trouble::StoreRefused(code) => write!(f, "store={code:?}"),
+            Trouble::Store => f.write_str("store"),
+        }
+    }
 }
 
 impl From<AllocError> for Trouble {

@@ -23,11 +23,11 @@ use Rattle.sqlite_typed.proofs.TestLemmas.{same_bytes, at_blobs, at_ints, last_t
 use Rattle.bh_rows.specs.Form.{put}
 use Rattle.bh_rows.specs.Keys.{Pointer, points_at}
 use Rattle.bh_rows.specs.Scan.{by_rowid, no_limit}
-use Rattle.bh_rows.specs.Texts.{MayAdd, InsertText, DeleteText, SelectText, SortedText, SumText}
+use Rattle.bh_rows.specs.Texts.{AreFree, MayAdd, InsertText, DeleteText, SelectText, SortedText, SumText}
 use Rattle.bh_rows.proofs.DeleteErrors.{none_points, none_named}
 use Rattle.bh_rows.proofs.FormLemmas.{any_typed}
 use Rattle.bh_tables.specs.Schema.{Octets, host_schema, blocks_table, at}
-use Rattle.bh_tables.specs.Typed.{BlockRow, RefRow, block_form, block_columns, ref_form, number, IsHost, tables_in}
+use Rattle.bh_tables.specs.Typed.{Totals, BlockRow, RefRow, block_form, block_columns, ref_form, number, IsHostBy, tables_in}
 use Rattle.bh_tables.specs.Shown.{Name, same_name, block_name, ref_name, is_block, is_use, is_copy, has_digest, by_ord, shown_ord}
 use Rattle.bh_tables.proofs.Places.{Goes, blocks}
 use Rattle.bh_tables.proofs.Checked.{block_checked}
@@ -39,13 +39,18 @@ block_agrees : (i j : ℤ) (a b : BlockRow) → agree plain (1 ∷ 2 ∷ []) (pu
 unfolding first_key
 block_agrees i j a b = then_term (at_blobs false Eq a.digest b.digest) (last_term (at_ints false Eq (pos a.ord) (pos b.ord)))
 
-pub new_block : (db : Database) → IsHost db → (b : BlockRow) → list_any (is_block (block_name b)) (tables_in db).blocks ≡ false → MayAdd block_form host_schema (at 10 blocks_table) db.trees b
+pub new_block : {sums : Totals} (db : Database) → IsHostBy sums db → (b : BlockRow) → list_any (is_block (block_name b)) (tables_in db).blocks ≡ false → MayAdd block_form host_schema (at 10 blocks_table) db.trees b
 unfolding everything
 new_block db host b free = record {
   suits = record { typed = refl; present = refl; checked = block_checked (next_rowid (db.trees 10)) b };
   free = (any_typed block_form _ (is_block (block_name b)) (λ id a. block_agrees id (next_rowid (db.trees 10)) a b) (db.trees 10) host.held.blocks ∙ free, tt);
   parents = refl;
 }
+
+-- and one that was added had a name that no other had
+pub block_free : {sums : Totals} (db : Database) → IsHostBy sums db → (b : BlockRow) → AreFree block_form host_schema (at 10 blocks_table) (db.trees 10) (put block_form (next_rowid (db.trees 10), b)) → list_any (is_block (block_name b)) (tables_in db).blocks ≡ false
+unfolding everything
+block_free db host b free = sym (any_typed block_form _ (is_block (block_name b)) (λ id a. block_agrees id (next_rowid (db.trees 10)) a b) (db.trees 10) host.held.blocks) ∙ free.0
 
 -- ---- a block that no reference names may go
 
@@ -61,7 +66,7 @@ uses q r b on is =
     let both = and_parts _ _ is in
     sym (λ i. bytes_eq r.digest (same_bytes b.digest q.0 both.0 i) && int_eq (pos r.ord) ((signed_Decides (pos b.ord) (pos q.1)).0 both.1 i)) ∙ on
 
-pub unreferenced_goes : (db : Database) → IsHost db → (q : Name) → list_any (is_use q) (tables_in db).refs ≡ false → Goes blocks db.trees (is_block q)
+pub unreferenced_goes : {sums : Totals} (db : Database) → IsHostBy sums db → (q : Name) → list_any (is_use q) (tables_in db).refs ≡ false → Goes (blocks sums) db.trees (is_block q)
 unfolding everything
 unreferenced_goes db host q unused = (
   none_points block_form ref_form (db.trees 10) (db.trees 12) to_blocks (is_block q) (λ r b. same_name (ref_name r) (block_name b)) names host.held.blocks host.held.refs

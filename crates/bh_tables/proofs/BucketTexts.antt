@@ -26,7 +26,7 @@ use Rattle.bh_rows.specs.Texts.{MayAdd, MayChange, InsertText, UpdateText, Delet
 use Rattle.bh_rows.proofs.DeleteErrors.{none_points, none_named}
 use Rattle.bh_rows.proofs.FormLemmas.{any_typed}
 use Rattle.bh_tables.specs.Schema.{Octets, host_schema, buckets_table, at}
-use Rattle.bh_tables.specs.Typed.{BucketRow, VersionColumns, UploadRow, bucket_form, tenant_form, version_form, upload_form, number, IsHost, tables_in}
+use Rattle.bh_tables.specs.Typed.{Totals, BucketRow, VersionColumns, UploadRow, bucket_form, tenant_form, version_form, upload_form, number, IsHostBy, tables_in}
 use Rattle.bh_tables.specs.Bodies.{bare}
 use Rattle.bh_tables.specs.Shown.{is_bucket, is_in_bucket, is_upload_in, is_owned_bucket, is_tenant, by_bucket, shown_bucket, shown_entry, is_ruled, shown_rule}
 use Rattle.bh_tables.proofs.Places.{Goes, buckets}
@@ -44,13 +44,13 @@ bucket_agrees : (i j : ℤ) (a b : BucketRow) → agree plain (1 ∷ 2 ∷ []) (
 unfolding first_key
 bucket_agrees i j a b = then_term (at_texts false Eq a.tenant b.tenant) (last_term (at_texts false Eq a.bucket b.bucket))
 
-pub new_bucket : (db : Database) → IsHost db → (b : BucketRow) → nat_le b.state 2 ≡ true → list_any (is_bucket b.tenant b.bucket) (tables_in db).buckets ≡ false → list_any (is_tenant b.tenant) (tables_in db).tenants ≡ true
+pub new_bucket : {sums : Totals} (db : Database) → IsHostBy sums db → (b : BucketRow) → nat_le b.state 2 ≡ true → list_any (is_bucket b.tenant b.bucket) (tables_in db).buckets ≡ false → list_any (is_tenant b.tenant) (tables_in db).tenants ≡ true
     → MayAdd bucket_form host_schema (at 5 buckets_table) db.trees b
 unfolding everything
-new_bucket db host b low free owned = record {
+new_bucket {sums} db host b low free owned = record {
   suits = bucket_suits _ b b.days (leb-true _ _ low);
   free = (any_typed bucket_form _ (is_bucket b.tenant b.bucket) (λ id a. bucket_agrees id (next_rowid (db.trees 5)) a b) (db.trees 5) host.held.buckets ∙ free, tt);
-  parents = ap (λ c. c && true) (any_typed tenant_form _ (is_tenant b.tenant) (λ id t. last_term (at_texts false Eq t.tenant b.tenant)) (db.trees 1) host.held.tenants ∙ owned);
+  parents = ap (λ c. c && true) (any_typed (tenant_form sums) _ (is_tenant b.tenant) (λ id t. last_term (at_texts false Eq t.tenant b.tenant)) (db.trees 1) host.held.tenants ∙ owned);
 }
 
 -- ---- a bucket that no version and no upload names may go
@@ -63,9 +63,9 @@ lies_in : (i : ℤ) (v : VersionColumns) (j : ℤ) (b : BucketRow) → points_at
 unfolding first_key
 lies_in i v j b = then_term (at_texts false Eq v.tenant b.tenant) (last_term (at_texts false Eq v.bucket b.bucket))
 
-begun_in : (i : ℤ) (u : UploadRow) (j : ℤ) (b : BucketRow) → points_at (to_buckets 16) (put upload_form (i, u)) (put bucket_form (j, b)) ≡ (bytes_eq u.tenant b.tenant && bytes_eq u.bucket b.bucket)
+begun_in : (sums : Totals) (i : ℤ) (u : UploadRow) (j : ℤ) (b : BucketRow) → points_at (to_buckets 16) (put (upload_form sums) (i, u)) (put bucket_form (j, b)) ≡ (bytes_eq u.tenant b.tenant && bytes_eq u.bucket b.bucket)
 unfolding first_key
-begun_in i u j b = then_term (at_texts false Eq u.tenant b.tenant) (last_term (at_texts false Eq u.bucket b.bucket))
+begun_in sums i u j b = then_term (at_texts false Eq u.tenant b.tenant) (last_term (at_texts false Eq u.bucket b.bucket))
 
 -- what is in the row's bucket is in the bucket of this name
 named : (tenant bucket mine its : Octets) (b : BucketRow) → (bytes_eq mine b.tenant && bytes_eq its b.bucket) ≡ true → is_bucket tenant bucket b ≡ true → (bytes_eq mine tenant && bytes_eq its bucket) ≡ true
@@ -73,17 +73,17 @@ named tenant bucket mine its b lies is =
     let both = and_parts _ _ is in
     ap₂ (λ t n. bytes_eq mine t && bytes_eq its n) (sym (same_bytes b.tenant tenant both.0)) (sym (same_bytes b.bucket bucket both.1)) ∙ lies
 
-module _ (db : Database) (host : IsHost db) (tenant bucket : Octets) where
+module _ {sums : Totals} (db : Database) (host : IsHostBy sums db) (tenant bucket : Octets) where
   no_version : list_any (is_in_bucket tenant bucket) (tables_in db).versions ≡ false → list_any (λ v. is_in_bucket tenant bucket (bare v)) (typed version_form (db.trees 7)) ≡ false
   no_version empty = sym (any_resolved (tables_in db).refs (tables_in db).blocks (is_in_bucket tenant bucket) (typed version_form (db.trees 7))) ∙ empty
 
-  pub empty_goes : list_any (is_in_bucket tenant bucket) (tables_in db).versions ≡ false → list_any (is_upload_in tenant bucket) (tables_in db).uploads ≡ false → Goes buckets db.trees (is_bucket tenant bucket)
+  pub empty_goes : list_any (is_in_bucket tenant bucket) (tables_in db).versions ≡ false → list_any (is_upload_in tenant bucket) (tables_in db).uploads ≡ false → Goes (buckets sums) db.trees (is_bucket tenant bucket)
   unfolding everything
   empty_goes empty finished = (
     none_points bucket_form version_form (db.trees 5) (db.trees 7) (to_buckets 7) (is_bucket tenant bucket) (λ v b. bytes_eq v.tenant b.tenant && bytes_eq v.bucket b.bucket) lies_in host.held.buckets host.held.versions
         (none_named (λ v b. bytes_eq v.tenant b.tenant && bytes_eq v.bucket b.bucket) (is_bucket tenant bucket) (λ v. is_in_bucket tenant bucket (bare v)) (λ v b. named tenant bucket v.tenant v.bucket b) (tables_in db).buckets (typed version_form (db.trees 7)) (no_version empty)),
     (
-      none_points bucket_form upload_form (db.trees 5) (db.trees 16) (to_buckets 16) (is_bucket tenant bucket) (λ u b. bytes_eq u.tenant b.tenant && bytes_eq u.bucket b.bucket) begun_in host.held.buckets host.held.uploads
+      none_points bucket_form (upload_form sums) (db.trees 5) (db.trees 16) (to_buckets 16) (is_bucket tenant bucket) (λ u b. bytes_eq u.tenant b.tenant && bytes_eq u.bucket b.bucket) (begun_in sums) host.held.buckets host.held.uploads
           (none_named (λ u b. bytes_eq u.tenant b.tenant && bytes_eq u.bucket b.bucket) (is_bucket tenant bucket) (is_upload_in tenant bucket) (λ u b. named tenant bucket u.tenant u.bucket b) (tables_in db).buckets (tables_in db).uploads finished),
       tt,
     ),
@@ -154,7 +154,7 @@ state_set tenant bucket state = record {
   means = record { is = refl; plain = (refl, refl); unlisted = refl; whole = refl; given = refl };
   accepts = refl;
   tests = λ id b. then_term (at_texts false Eq b.tenant tenant) (last_term (at_texts false Eq b.bucket bucket));
-  shows = λ id b. refl;
+  shows = λ id b found was. refl;
 }
 
 pub bucket_deleted : (tenant bucket : Octets) → DeleteText bucket_form host_schema 3 (at 5 buckets_table) (codes "DELETE FROM buckets WHERE tenant = ?1 AND bucket = ?2") (Text tenant ∷ Text bucket ∷ []) (is_bucket tenant bucket)
@@ -199,7 +199,7 @@ days_set tenant bucket days = record {
   means = record { is = refl; plain = (refl, refl); unlisted = refl; whole = refl; given = refl };
   accepts = refl;
   tests = λ id b. then_term (at_texts false Eq b.tenant tenant) (last_term (at_texts false Eq b.bucket bucket));
-  shows = λ id b. refl;
+  shows = λ id b found was. refl;
 }
 
 pub days_cleared : (tenant bucket : Octets) → UpdateText bucket_form host_schema 3 (at 5 buckets_table) (codes "UPDATE buckets SET days = NULL WHERE tenant = ?1 AND bucket = ?2") (Text tenant ∷ Text bucket ∷ [])
@@ -211,7 +211,7 @@ days_cleared tenant bucket = record {
   means = record { is = refl; plain = (refl, refl); unlisted = refl; whole = refl; given = refl };
   accepts = refl;
   tests = λ id b. then_term (at_texts false Eq b.tenant tenant) (last_term (at_texts false Eq b.bucket bucket));
-  shows = λ id b. refl;
+  shows = λ id b found was. refl;
 }
 
 -- 1 for each row

@@ -1,5 +1,5 @@
 -- What the CHECKs say of typed rows.
-use Rattle.std.proofs.Common.{arith, ◌≡◌, ◌≤◌, ℕ, pos, ◌∷◌, [], List, ◌&&◌, not, true, false, Bool, Option, Some, None, refl, ap, ap₂, ◌∙◌, int_le}
+use Rattle.std.proofs.Common.{inl, inr, arith, ◌≡◌, ◌≤◌, ℕ, ℤ, pos, ◌∷◌, [], List, ◌&&◌, not, true, false, Bool, Option, Some, None, refl, ap, ap₂, ◌∙◌, int_le}
 use Rattle.std.proofs.lemmas.Int.{ints}
 use Rattle.std.specs.Cmp.Derive.{both_true}
 use Rattle.std.proofs.lemmas.Bool.{and_parts}
@@ -11,9 +11,14 @@ use Rattle.sqlite_sql.specs.Ops.{binary, is_false}
 use Rattle.sqlite_typed.specs.Columns.{or_null}
 use Rattle.sqlite_typed.specs.Tests.{null_or}
 use Rattle.sqlite_typed.proofs.TestLemmas.{at_ints, at_texts, at_and, at_or, at_nullable}
+use Rattle.sqlite.specs.Order.{Row}
+use Rattle.sqlite.specs.Table.{Table}
+use Rattle.sqlite.specs.Term.{Term, eval}
+use Rattle.sqlite_rules.specs.Lists.{Has}
+use Rattle.sqlite_rules.proofs.ListLemmas.{test_has}
 use Rattle.sqlite_schema.specs.Rules.{passes_checks}
-use Rattle.bh_tables.specs.Schema.{host_table, tenants_table, buckets_table, versions_table, blocks_table, refs_table, uploads_table, parts_table}
-use Rattle.bh_tables.specs.Typed.{HostRow, host_columns, TenantRow, tenant_columns, BucketRow, bucket_columns, VersionColumns, version_columns, BlockRow, block_columns, RefRow, ref_columns, UploadRow, upload_columns, PartColumns, part_columns, number}
+use Rattle.bh_tables.specs.Schema.{Octets, is_natural, is_small, host_table, tenants_table, buckets_table, versions_table, blocks_table, refs_table, uploads_table, parts_table, uses_table}
+use Rattle.bh_tables.specs.Typed.{HostRow, host_columns, TenantRow, tenant_columns, BucketRow, bucket_columns, VersionColumns, version_columns, BlockRow, block_columns, use_columns, RefRow, ref_columns, UploadRow, upload_columns, PartColumns, part_columns, number}
 use Rattle.bh_tables.specs.Bodies.{bare}
 use Rattle.bh_tables.specs.Shown.{is_marked_right}
 
@@ -34,36 +39,55 @@ maybe_natural o = twice _ (at_nullable number true Ge (λ a b. int_le (pos b) (p
     go None = refl
     go (Some n) = grind (arith, ints)
 
-pub tenant_checked : (id : Rattle.std.proofs.Common.ℤ) (t : TenantRow) → passes_checks tenants_table (Int id ∷ tenant_columns t) ≡ true
-tenant_checked id t = both_true (natural t.quota) (both_true (natural t.next_version) (both_true (natural t.next_upload) (both_true (natural t.next_entry) refl)))
+-- a number up to 2^62
+small : (n : ℕ) → n ≤ 4611686018427387904 → not (is_false (binary (Compare Le Binary) (number n) (number 4611686018427387904))) ≡ true
+small n low = at_most n 4611686018427387904 low
 
-pub bucket_checked : (id : Rattle.std.proofs.Common.ℤ) (b : BucketRow) → b.state ≤ 2 → passes_checks buckets_table (Int id ∷ bucket_columns b) ≡ true
+pub tenant_checked : (id : ℤ) (used : ℕ) (t : TenantRow) → used ≤ 4611686018427387904 → passes_checks tenants_table (Int id ∷ tenant_columns (pos used) t) ≡ true
+tenant_checked id used t low = both_true (natural t.quota) (both_true (natural t.next_version) (both_true (natural t.next_upload) (both_true (natural t.next_entry) (both_true (natural used) (both_true (small used low) refl)))))
+
+-- each CHECK of a row that passes them all
+pub check_at : (table : Table) (row : Row) (t : Term) → Has table.checks t → passes_checks table row ≡ true → not (is_false (eval t ([] ∷ row ∷ []))) ≡ true
+check_at table row t has was = test_has (λ (c : Term). not (is_false (eval c ([] ∷ row ∷ [])))) table.checks t was has
+
+-- and stays so with other numbers beside its total
+pub tenant_checked_still : (id used : ℤ) (t u : TenantRow) → passes_checks tenants_table (Int id ∷ tenant_columns used t) ≡ true → passes_checks tenants_table (Int id ∷ tenant_columns used u) ≡ true
+tenant_checked_still id used t u was =
+    let row = Int id ∷ tenant_columns used t in
+    let least = check_at tenants_table row (is_natural 6) (inr (inr (inr (inr (inl refl))))) was in
+    let most = check_at tenants_table row (is_small 6) (inr (inr (inr (inr (inr (inl refl)))))) was in
+    both_true (natural u.quota) (both_true (natural u.next_version) (both_true (natural u.next_upload) (both_true (natural u.next_entry) (both_true least (both_true most refl)))))
+
+pub bucket_checked : (id : ℤ) (b : BucketRow) → b.state ≤ 2 → passes_checks buckets_table (Int id ∷ bucket_columns b) ≡ true
 bucket_checked id b low = both_true (natural b.created) (both_true (natural b.state) (both_true (at_most b.state 2 low) (both_true (maybe_natural b.days) refl)))
 
 -- and stays so under another rule
-pub bucket_checked_still : (id : Rattle.std.proofs.Common.ℤ) (b : BucketRow) (days : Option ℕ) → passes_checks buckets_table (Int id ∷ bucket_columns b) ≡ true → passes_checks buckets_table (Int id ∷ bucket_columns (record b { days = days })) ≡ true
+pub bucket_checked_still : (id : ℤ) (b : BucketRow) (days : Option ℕ) → passes_checks buckets_table (Int id ∷ bucket_columns b) ≡ true → passes_checks buckets_table (Int id ∷ bucket_columns (record b { days = days })) ≡ true
 bucket_checked_still id b days was = both_true (natural b.created) (both_true (natural b.state) (both_true (and_parts _ _ (and_parts _ _ (and_parts _ _ was).1).1).0 (both_true (maybe_natural days) refl)))
 
-pub version_checked : (id : Rattle.std.proofs.Common.ℤ) (v : VersionColumns) → is_marked_right (bare v) ≡ true → passes_checks versions_table (Int id ∷ version_columns v) ≡ true
+pub version_checked : (id : ℤ) (v : VersionColumns) → is_marked_right (bare v) ≡ true → passes_checks versions_table (Int id ∷ version_columns v) ≡ true
 version_checked id v right = both_true (natural v.seq) (both_true (natural v.id) (both_true (natural v.marker) (both_true (natural v.stamp) (both_true (natural v.size) (both_true (twice _ (
     at_or true _ _ (at_ints true Eq (pos v.marker) (pos 0)) (at_and true _ _ (at_ints true Eq (pos v.size) (pos 0)) (at_texts true Eq v.checksum [])) ∙ right)) refl)))))
 
-pub block_checked : (id : Rattle.std.proofs.Common.ℤ) (b : BlockRow) → passes_checks blocks_table (Int id ∷ block_columns b) ≡ true
+pub block_checked : (id : ℤ) (b : BlockRow) → passes_checks blocks_table (Int id ∷ block_columns b) ≡ true
 block_checked id b = both_true (natural b.ord) refl
 
-pub ref_checked : (id : Rattle.std.proofs.Common.ℤ) (r : RefRow) → passes_checks refs_table (Int id ∷ ref_columns r) ≡ true
+pub use_checked : (id : ℤ) (digest : Octets) (ord uses : ℕ) → uses ≤ 4611686018427387904 → passes_checks uses_table (Int id ∷ use_columns (record { digest = digest; ord = ord; uses = pos uses })) ≡ true
+use_checked id digest ord uses low = both_true (natural ord) (both_true (natural uses) (both_true (small uses low) refl))
+
+pub ref_checked : (id : ℤ) (r : RefRow) → passes_checks refs_table (Int id ∷ ref_columns r) ≡ true
 ref_checked id r = both_true (natural r.body) (both_true (natural r.place) (both_true (natural r.ord) (both_true (natural r.size) refl)))
 
-pub upload_checked : (id : Rattle.std.proofs.Common.ℤ) (u : UploadRow) → passes_checks uploads_table (Int id ∷ upload_columns u) ≡ true
-upload_checked id u = both_true (natural u.upload) (both_true (natural u.begun) refl)
+pub upload_checked : (id : ℤ) (kept : ℕ) (u : UploadRow) → kept ≤ 4611686018427387904 → passes_checks uploads_table (Int id ∷ upload_columns (pos kept) u) ≡ true
+upload_checked id kept u low = both_true (natural u.upload) (both_true (natural u.begun) (both_true (natural kept) (both_true (small kept low) refl)))
 
-pub part_checked : (id : Rattle.std.proofs.Common.ℤ) (p : PartColumns) → passes_checks parts_table (Int id ∷ part_columns p) ≡ true
+pub part_checked : (id : ℤ) (p : PartColumns) → passes_checks parts_table (Int id ∷ part_columns p) ≡ true
 part_checked id p = both_true (natural p.upload) (both_true (natural p.part) (both_true (natural p.size) (both_true (natural p.stamp) (both_true (natural p.body) refl))))
 
 -- the row number of the host is 1
 pub host_checked : (h : HostRow) → passes_checks host_table (number 1 ∷ host_columns h) ≡ true
-host_checked h = both_true (twice _ (at_ints true Eq (pos 1) (pos 1))) (both_true (natural h.version) (both_true (natural h.latest) (both_true (natural h.min_part) (both_true (natural h.max_body) refl))))
+host_checked h = both_true (twice _ (at_ints true Eq (pos 1) (pos 1))) (both_true (natural h.version) (both_true (natural h.latest) (both_true (natural h.min_part) (both_true (natural h.max_body) (both_true (natural h.digest) refl)))))
 
 -- and stays so under another last stamp
-pub host_checked_still : (id : Rattle.std.proofs.Common.ℤ) (h : HostRow) (n : ℕ) → passes_checks host_table (Int id ∷ host_columns h) ≡ true → passes_checks host_table (Int id ∷ host_columns (record h { latest = n })) ≡ true
-host_checked_still id h n was = both_true (and_parts _ _ was).0 (both_true (natural h.version) (both_true (natural n) (both_true (natural h.min_part) (both_true (natural h.max_body) refl))))
+pub host_checked_still : (id : ℤ) (h : HostRow) (n : ℕ) → passes_checks host_table (Int id ∷ host_columns h) ≡ true → passes_checks host_table (Int id ∷ host_columns (record h { latest = n })) ≡ true
+host_checked_still id h n was = both_true (and_parts _ _ was).0 (both_true (natural h.version) (both_true (natural n) (both_true (natural h.min_part) (both_true (natural h.max_body) (both_true (natural h.digest) refl)))))

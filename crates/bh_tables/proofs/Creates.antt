@@ -9,11 +9,11 @@ use Rattle.bh_rows.proofs.CreateLemmas.{Makes}
 use Rattle.bh_rows.proofs.CreateErrors.{IsFree}
 use Rattle.bh_rows.specs.Index.{Indexes}
 use Rattle.bh_rows.proofs.IndexErrors.{IsFreeIndex}
-use Rattle.bh_tables.specs.Schema.{Octets, no_schema, host_schema, host_table, tenants_table, keys_table, buckets_table, versions_table, blocks_table, refs_table, uploads_table, parts_table, at, newest, refs_by_block, uploads_by_key, uploads_by_moment, version_sizes, part_sizes}
-use Rattle.bh_tables.specs.Made.{with_host, with_tenants, with_keys, with_buckets, with_versions, with_blocks, with_refs, with_newest, with_refs_by_block, with_uploads, with_parts, with_uploads_by_key, with_uploads_by_moment, with_version_sizes, with_part_sizes}
+use Rattle.bh_tables.specs.Schema.{Octets, no_schema, host_schema, host_table, tenants_table, keys_table, buckets_table, versions_table, blocks_table, refs_table, uploads_table, parts_table, at, newest, refs_by_block, uploads_by_key, uploads_by_moment, uses_table, uses_by_count}
+use Rattle.bh_tables.specs.Made.{with_host, with_tenants, with_keys, with_buckets, with_versions, with_blocks, with_refs, with_newest, with_refs_by_block, with_uploads, with_parts, with_uploads_by_key, with_uploads_by_moment, with_uses, with_uses_by_count}
 
 abbrev host_text : Octets
-host_text = codes "CREATE TABLE host (id INTEGER PRIMARY KEY CHECK (id = 1), version INTEGER NOT NULL CHECK (version >= 0), latest INTEGER NOT NULL CHECK (latest >= 0), min_part INTEGER NOT NULL CHECK (min_part >= 0), max_body INTEGER NOT NULL CHECK (max_body >= 0)) STRICT"
+host_text = codes "CREATE TABLE host (id INTEGER PRIMARY KEY CHECK (id = 1), version INTEGER NOT NULL CHECK (version >= 0), latest INTEGER NOT NULL CHECK (latest >= 0), min_part INTEGER NOT NULL CHECK (min_part >= 0), max_body INTEGER NOT NULL CHECK (max_body >= 0), digest INTEGER NOT NULL CHECK (digest >= 0)) STRICT"
 
 pub makes_host : Makes no_schema host_text host_table
 unfolding understood everything
@@ -24,7 +24,7 @@ unfolding everything fits_kind is_free_name begins same_name value_cmp Ieee.lt I
 free_host = record { text = refl; name = refl; own = refl; free = refl; keys_free = refl; few = refl; narrow = refl; keys_narrow = refl; formed = refl; fit = refl }
 
 abbrev tenants_text : Octets
-tenants_text = codes "CREATE TABLE tenants (tenant TEXT NOT NULL PRIMARY KEY, quota INTEGER NOT NULL CHECK (quota >= 0), next_version INTEGER NOT NULL CHECK (next_version >= 0), next_upload INTEGER NOT NULL CHECK (next_upload >= 0), next_entry INTEGER NOT NULL CHECK (next_entry >= 0)) STRICT"
+tenants_text = codes "CREATE TABLE tenants (tenant TEXT NOT NULL PRIMARY KEY, quota INTEGER NOT NULL CHECK (quota >= 0), next_version INTEGER NOT NULL CHECK (next_version >= 0), next_upload INTEGER NOT NULL CHECK (next_upload >= 0), next_entry INTEGER NOT NULL CHECK (next_entry >= 0), used INTEGER NOT NULL CHECK (used >= 0) CHECK (used <= 4611686018427387904)) STRICT"
 
 pub makes_tenants : Makes with_host tenants_text tenants_table
 unfolding understood everything
@@ -112,7 +112,7 @@ unfolding everything fits_kind is_free_name begins same_name value_cmp Ieee.lt I
 free_refs_by_block = record { text = refl; name = refl; owner = refl; own = refl; free = refl; few = refl; narrow = refl; key_narrow = refl; fit = refl; any = refl }
 
 abbrev uploads_text : Octets
-uploads_text = codes "CREATE TABLE uploads (tenant TEXT NOT NULL, upload INTEGER NOT NULL CHECK (upload >= 0), bucket TEXT NOT NULL, okey BLOB NOT NULL, begun INTEGER NOT NULL CHECK (begun >= 0), PRIMARY KEY (tenant, upload), FOREIGN KEY (tenant, bucket) REFERENCES buckets ON DELETE RESTRICT) STRICT"
+uploads_text = codes "CREATE TABLE uploads (tenant TEXT NOT NULL, upload INTEGER NOT NULL CHECK (upload >= 0), bucket TEXT NOT NULL, okey BLOB NOT NULL, begun INTEGER NOT NULL CHECK (begun >= 0), bytes_kept INTEGER NOT NULL CHECK (bytes_kept >= 0) CHECK (bytes_kept <= 4611686018427387904), PRIMARY KEY (tenant, upload), FOREIGN KEY (tenant, bucket) REFERENCES buckets ON DELETE RESTRICT) STRICT"
 
 pub makes_uploads : Makes with_refs_by_block uploads_text uploads_table
 unfolding understood everything
@@ -155,29 +155,29 @@ pub free_uploads_by_moment : IsFreeIndex with_uploads_by_key uploads_by_moment_t
 unfolding everything fits_kind is_free_name begins same_name value_cmp Ieee.lt Ieee.is_nan
 free_uploads_by_moment = record { text = refl; name = refl; owner = refl; own = refl; free = refl; few = refl; narrow = refl; key_narrow = refl; fit = refl; any = refl }
 
-abbrev version_sizes_text : Octets
-version_sizes_text = codes "CREATE INDEX version_sizes ON versions (tenant, size)"
+abbrev uses_text : Octets
+uses_text = codes "CREATE TABLE uses (digest BLOB NOT NULL, ord INTEGER NOT NULL CHECK (ord >= 0), uses INTEGER NOT NULL CHECK (uses >= 0) CHECK (uses <= 4611686018427387904), PRIMARY KEY (digest, ord)) STRICT"
 
-pub makes_version_sizes : Indexes with_uploads_by_moment version_sizes_text 4 (at 7 versions_table) version_sizes
+pub makes_uses : Makes with_uploads_by_moment uses_text uses_table
 unfolding understood everything
-makes_version_sizes = record { means = record { is = refl; plain = (refl, refl); unlisted = refl; whole = refl; given = refl }; text = refl; is_table = refl; defined = refl }
+makes_uses = record { means = record { is = refl; plain = (refl, refl); unlisted = refl; whole = refl; given = refl }; text = refl; defined = refl; uncounted = refl }
 
-pub free_version_sizes : IsFreeIndex with_uploads_by_moment version_sizes_text (at 7 versions_table) version_sizes
+pub free_uses : IsFree with_uploads_by_moment uses_text uses_table
 unfolding everything fits_kind is_free_name begins same_name value_cmp Ieee.lt Ieee.is_nan
-free_version_sizes = record { text = refl; name = refl; owner = refl; own = refl; free = refl; few = refl; narrow = refl; key_narrow = refl; fit = refl; any = refl }
+free_uses = record { text = refl; name = refl; own = refl; free = refl; keys_free = refl; few = refl; narrow = refl; keys_narrow = refl; formed = refl; fit = refl }
 
-abbrev part_sizes_text : Octets
-part_sizes_text = codes "CREATE INDEX part_sizes ON parts (tenant, size)"
+abbrev uses_by_count_text : Octets
+uses_by_count_text = codes "CREATE INDEX uses_by_count ON uses (uses, digest, ord)"
 
-pub makes_part_sizes : Indexes with_version_sizes part_sizes_text 8 (at 18 parts_table) part_sizes
+pub makes_uses_by_count : Indexes with_uses uses_by_count_text 9 (at 23 uses_table) uses_by_count
 unfolding understood everything
-makes_part_sizes = record { means = record { is = refl; plain = (refl, refl); unlisted = refl; whole = refl; given = refl }; text = refl; is_table = refl; defined = refl }
+makes_uses_by_count = record { means = record { is = refl; plain = (refl, refl); unlisted = refl; whole = refl; given = refl }; text = refl; is_table = refl; defined = refl }
 
-pub free_part_sizes : IsFreeIndex with_version_sizes part_sizes_text (at 18 parts_table) part_sizes
+pub free_uses_by_count : IsFreeIndex with_uses uses_by_count_text (at 23 uses_table) uses_by_count
 unfolding everything fits_kind is_free_name begins same_name value_cmp Ieee.lt Ieee.is_nan
-free_part_sizes = record { text = refl; name = refl; owner = refl; own = refl; free = refl; few = refl; narrow = refl; key_narrow = refl; fit = refl; any = refl }
+free_uses_by_count = record { text = refl; name = refl; owner = refl; own = refl; free = refl; few = refl; narrow = refl; key_narrow = refl; fit = refl; any = refl }
 
 -- these are all
-pub all_made : with_part_sizes ≡ host_schema
+pub all_made : with_uses_by_count ≡ host_schema
 unfolding everything
 all_made = refl

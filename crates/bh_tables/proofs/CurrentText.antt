@@ -41,7 +41,7 @@ use Rattle.bh_rows.proofs.CallLemmas.{clean_before, shown_open, query_open}
 use Rattle.bh_rows.proofs.TotalLemmas.{query_cause}
 use Rattle.bh_rows.proofs.FormLemmas.{stored, keyed, picked}
 use Rattle.bh_tables.specs.Schema.{Octets, host_schema}
-use Rattle.bh_tables.specs.Typed.{VersionColumns, VersionRow, version_form, IsHost, IsReady, tables}
+use Rattle.bh_tables.specs.Typed.{Totals, VersionColumns, VersionRow, version_form, IsHostBy, IsReadyBy, tables}
 use Rattle.bh_tables.specs.Bodies.{bare, columns_of}
 use Rattle.bh_tables.specs.Shown.{is_later, current_versions}
 use Rattle.bh_tables.proofs.Places.{versions}
@@ -153,19 +153,19 @@ seen tenant rows =
     ap length (filter-map (current tenant (map columns_of rows)) columns_of rows) ∙ length-map _ columns_of
     ∙ ap (λ (m : VersionRow → Bool). length (filter m rows)) (λ i v. bytes_eq v.tenant tenant && (int_eq (pos v.marker) (pos 0) && not (any_stored (later (columns_of v)) rows i)))
 
-module _ (old new : State) (ready : IsReady old) (tenant : Octets) where
+module _ {sums : Totals} (old new : State) (ready : IsReadyBy sums old) (tenant : Octets) where
   abbrev number : ℕ
   number = length (current_versions tenant (tables old).versions)
 
   stored_number : length (filter (current tenant (typed version_form (old.now.trees 7))) (typed version_form (old.now.trees 7))) ≡ number
-  stored_number = ap (λ l. length (filter (current tenant l) l)) (versions.rows_are old.now) ∙ seen tenant (tables old).versions
+  stored_number = ap (λ l. length (filter (current tenant l) l)) ((versions sums).rows_are old.now) ∙ seen tenant (tables old).versions
 
-  shows : (rows : List Row) → IsHost old.now → Shown sql (Text tenant ∷ []) old new rows → rows ≡ (Int (pos number) ∷ []) ∷ []
+  shows : (rows : List Row) → IsHostBy sums old.now → Shown sql (Text tenant ∷ []) old new rows → rows ≡ (Int (pos number) ∷ []) ∷ []
   shows rows was h =
       let read = reads_as sql (Text tenant ∷ []) old new host_schema was.schema _ means.is means.plain means.unlisted rows h in
       answered (overlay old.now.trees []) was.held.versions tenant rows (read.answer Null) ∙ ap (λ n. (Int (pos n) ∷ []) ∷ []) stored_number
 
-  too_many : IsHost old.now → ProgramOverflows old.now.trees (Text tenant ∷ []) [] [] counting → 2 ^ 63 ≤ number
+  too_many : IsHostBy sums old.now → ProgramOverflows old.now.trees (Text tenant ∷ []) [] [] counting → 2 ^ 63 ≤ number
   too_many was (inr h) = absurd (unsummed (overlay old.now.trees []) (Text tenant ∷ []) h)
   too_many was (inl h) = let big = wide (overlay old.now.trees []) was.held.versions tenant h in let same = stored_number in omega (arith, big, same)
 

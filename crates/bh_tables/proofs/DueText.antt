@@ -35,7 +35,7 @@ use Rattle.bh_rows.proofs.FormLemmas.{stored, keyed}
 use Rattle.bh_rows.proofs.ScanLemmas.{then_assoc, sorted_typed}
 use Rattle.bh_rows.proofs.TotalLemmas.{body_asks}
 use Rattle.bh_tables.specs.Schema.{host_schema}
-use Rattle.bh_tables.specs.Typed.{BucketRow, UploadRow, bucket_form, upload_form, number, IsHost, IsReady, tables}
+use Rattle.bh_tables.specs.Typed.{Totals, BucketRow, UploadRow, bucket_form, upload_form, number, IsHostBy, IsReadyBy, tables}
 use Rattle.bh_tables.specs.Due.{is_past, is_past_in, by_owner, past_uploads, shown_owner}
 use Rattle.bh_tables.proofs.Statements.{Shows}
 
@@ -75,7 +75,7 @@ never_wide : (db : Trees) (params : Row) → ¬ ProgramOverflows db params [] []
 never_wide db params (inl h) = h
 never_wide db params (inr h) = elim (any_has _ _ h).2 [ inl inside ↦ (any_has _ _ inside).2 | inr never ↦ never ]
 
-module _ (db : Trees) (uploads : AreRows upload_form (db 16)) (buckets : AreRows bucket_form (db 5)) (moment limit : ℕ) where
+module _ (sums : Totals) (db : Trees) (uploads : AreRows (upload_form sums) (db 16)) (buckets : AreRows bucket_form (db 5)) (moment limit : ℕ) where
   abbrev given : Row
   given = number moment ∷ number limit ∷ []
 
@@ -86,7 +86,7 @@ module _ (db : Trees) (uploads : AreRows upload_form (db 16)) (buckets : AreRows
   rules u b = bytes_eq b.tenant u.tenant && (bytes_eq b.bucket u.bucket && is_past moment u.begun b.days)
 
   abbrev source : Source db past.from (Entry UploadRow)
-  source = last_table db 16 (put upload_form) (λ e. e.0) (entries upload_form (db 16)) (stored upload_form (db 16) uploads) (keyed upload_form (db 16) uploads) (then_exists db 5 rules_it (at_end db))
+  source = last_table db 16 (put (upload_form sums)) (λ e. e.0) (entries (upload_form sums) (db 16)) (stored (upload_form sums) (db 16) uploads) (keyed (upload_form sums) (db 16) uploads) (then_exists db 5 rules_it (at_end db))
 
   in_entries : (u : UploadRow) → list_any (λ (r : Entry BucketRow). rules u r.1) (entries bucket_form (db 5)) ≡ list_any (rules u) (typed bucket_form (db 5))
   in_entries u = go (db 5)
@@ -96,13 +96,13 @@ module _ (db : Trees) (uploads : AreRows upload_form (db 16)) (buckets : AreRows
       go (r ∷ rows) = ap (λ b. rules u (bucket_form.decode r) || b) (go rows)
 
   tests : (e : Entry UploadRow) → list_all (holds (given ∷ source.env (given ∷ []) e)) past.filter ≡ passes e.1
-  tests e = last_term (at_exists db 5 (put bucket_form) (λ r. r.0) (entries bucket_form (db 5)) (stored bucket_form (db 5) buckets) (keyed bucket_form (db 5) buckets) false rules_it (given ∷ put upload_form e ∷ []) (λ r. rules e.1 r.1)
+  tests e = last_term (at_exists db 5 (put bucket_form) (λ r. r.0) (entries bucket_form (db 5)) (stored bucket_form (db 5) buckets) (keyed bucket_form (db 5) buckets) false rules_it (given ∷ put (upload_form sums) e ∷ []) (λ r. rules e.1 r.1)
       (λ r. then_term (at_texts false Eq r.1.tenant e.1.tenant) (then_term (at_texts false Eq r.1.bucket e.1.bucket) (last_term refl))) ∙ in_entries e.1)
 
   abbrev by_parts : Entry UploadRow → Entry UploadRow → Ordering
   by_parts a b = ordering_then (bytes_cmp a.1.tenant b.1.tenant) (ordering_then (int_cmp (pos a.1.upload) (pos b.1.upload)) (int_cmp a.0 b.0))
 
-  answered : (rows : List Row) → IsAnswer past db given rows → rows ≡ page past given (map (λ (e : Entry UploadRow). shown_owner e.1) (sort_by by_parts (filter (λ e. passes e.1) (entries upload_form (db 16)))))
+  answered : (rows : List Row) → IsAnswer past db given rows → rows ≡ page past given (map (λ (e : Entry UploadRow). shown_owner e.1) (sort_by by_parts (filter (λ e. passes e.1) (entries (upload_form sums) (db 16)))))
   answered rows h =
       sym (map-id rows)
       ∙ answer_sorted past db given source (λ e. passes e.1) tests (λ r. r) (λ e. shown_owner e.1) (λ e. refl) refl refl by_parts
@@ -112,18 +112,18 @@ module _ (db : Trees) (uploads : AreRows upload_form (db 16)) (buckets : AreRows
   in_order : (es : List (Entry UploadRow)) → sort_by by_parts es ≡ sort_by (λ a b. ordering_then (by_owner a.1 b.1) (int_cmp a.0 b.0)) es
   in_order es = ap (λ c. sort_by c es) (λ i a b. sym (then_assoc (bytes_cmp a.1.tenant b.1.tenant) (int_cmp (pos a.1.upload) (pos b.1.upload)) (int_cmp a.0 b.0)) i)
 
-module _ (old new : State) (ready : IsReady old) (moment limit : ℕ) where
+module _ {sums : Totals} (old new : State) (ready : IsReadyBy sums old) (moment limit : ℕ) where
   abbrev params : Row
   params = number moment ∷ number limit ∷ []
 
-  shows : (rows : List Row) → IsHost old.now → Shown sql params old new rows → rows ≡ map shown_owner (past_uploads limit moment (tables old).buckets (tables old).uploads)
+  shows : (rows : List Row) → IsHostBy sums old.now → Shown sql params old new rows → rows ≡ map shown_owner (past_uploads limit moment (tables old).buckets (tables old).uploads)
   shows rows was h =
       let db = old.now.trees in
       let m = is_past_in moment (tables old).buckets in
       let read = reads_as sql params old new host_schema was.schema _ means.is means.plain means.unlisted rows h in
-      answered (overlay db []) was.held.uploads was.held.buckets moment limit rows (read.answer Null)
-      ∙ ap (λ l. take limit (map (λ (e : Entry UploadRow). shown_owner e.1) l)) (in_order (overlay db []) was.held.uploads was.held.buckets moment limit (filter (λ e. m e.1) (entries upload_form (db 16))))
-      ∙ ap (take limit) (sorted_typed upload_form (db 16) was.held.uploads by_owner m shown_owner)
+      answered sums (overlay db []) was.held.uploads was.held.buckets moment limit rows (read.answer Null)
+      ∙ ap (λ l. take limit (map (λ (e : Entry UploadRow). shown_owner e.1) l)) (in_order sums (overlay db []) was.held.uploads was.held.buckets moment limit (filter (λ e. m e.1) (entries (upload_form sums) (db 16))))
+      ∙ ap (take limit) (sorted_typed (upload_form sums) (db 16) was.held.uploads by_owner m shown_owner)
       ∙ take-map shown_owner limit _
 
   -- whose they are, and their numbers

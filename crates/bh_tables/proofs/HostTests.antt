@@ -1,17 +1,18 @@
 -- The test says what it is to say.
-use Rattle.std.proofs.Common.{◌≡◌, inl, inr, Bool, true, true≢false, cond, List, [], ◌∷◌, refl, sym, ap, ap₂, ◌∙◌, subst, Ordering, Less, Equal, Greater, is_lt}
+use Rattle.std.proofs.Common.{◌≡◌, inl, inr, Bool, true, true≢false, cond, List, [], ◌∷◌, map, pos, refl, sym, ap, ap₂, ◌∙◌, subst, Ordering, Less, Equal, Greater, is_lt}
 use Rattle.std.specs.List.{AllByRecursion, list_all}
-use Rattle.std.specs.Coded.{Coded}
+use Rattle.std.specs.Coded.{Coded, coded_list}
 use Rattle.std.proofs.lemmas.Bool.{and_parts, and_from, cases_Bool, eqb-true, eq-eqb}
 use base.Stored.{Gv, gnil, gnum, gcons}
+use Rattle.sqlite.specs.declared.types.Value.TheVariants.{Int}
 use Rattle.sqlite.specs.Order.{Row}
 use Rattle.sqlite.specs.Tree.{IsTable}
 use Rattle.sqlite.specs.Effect.{Database}
 use Rattle.sqlite_schema.specs.contracts.schema.Schema as schema
-use Rattle.bh_rows.specs.Form.{Form, AreRows}
+use Rattle.bh_rows.specs.Form.{Form, AreRows, typed}
 use Rattle.bh_tables.specs.Schema.{host_schema}
-use Rattle.bh_tables.specs.Typed.{HostRow, Raw, raw, tables_in, no_rows, AreHeld, IsHost, host_form, tenant_form, key_form, bucket_form, version_form, block_form, ref_form, upload_form, part_form}
-use Rattle.bh_tables.specs.Hosts.{same_code, same, ascends, coded_row, are_rows, are_held, is_host, tables_shown}
+use Rattle.bh_tables.specs.Typed.{Totals, totals_of, HostRow, Raw, raw, tables_in, no_rows, AreHeld, IsHost, host_form, tenant_form, key_form, bucket_form, version_form, block_form, ref_form, upload_form, part_form, UseRow, use_columns, use_of, use_form}
+use Rattle.bh_tables.specs.Hosts.{same_code, same, ascends, coded_row, are_rows, are_counts, are_held, is_host, tables_shown}
 
 -- ---- codes
 
@@ -67,8 +68,19 @@ module _ {T : Type 0} (form : Form T) (rows : List Row) where
   of_rows : AreRows form rows → are_rows form rows ≡ true
   of_rows h = and_from _ _ (of_each _ _ (λ r is. value_same coded_row r _ is) rows h.each) (of_rises rows h.rises)
 
-held_of : (r : Raw) → are_held r ≡ true → AreHeld r
-held_of r h =
+-- counts are read back from their columns
+decoded : (us : List UseRow) → map (λ (r : Row). use_of (Int (pos 0) ∷ r)) (map use_columns us) ≡ us
+decoded [] = refl
+decoded (u ∷ us) = ap (λ l. u ∷ l) (decoded us)
+
+counts_of : (rows : List Row) (uses : List UseRow) → are_counts rows uses ≡ true → typed use_form rows ≡ uses
+counts_of rows uses h = sym (decoded (typed use_form rows)) ∙ ap (map (λ (r : Row). use_of (Int (pos 0) ∷ r))) (same_value (coded_list coded_row) (map use_columns (typed use_form rows)) (map use_columns uses) h) ∙ decoded uses
+
+of_counts : (rows : List Row) (uses : List UseRow) → typed use_form rows ≡ uses → are_counts rows uses ≡ true
+of_counts rows uses h = value_same (coded_list coded_row) (map use_columns (typed use_form rows)) (map use_columns uses) (ap (map use_columns) h)
+
+held_of : (sums : Totals) (r : Raw) → are_held sums r ≡ true → AreHeld sums r
+held_of sums r h =
     let a = and_parts _ _ h in
     let b = and_parts _ _ a.1 in
     let c = and_parts _ _ b.1 in
@@ -77,32 +89,36 @@ held_of r h =
     let f = and_parts _ _ e.1 in
     let g = and_parts _ _ f.1 in
     let i = and_parts _ _ g.1 in
+    let j = and_parts _ _ i.1 in
+    let k = and_parts _ _ j.1 in
     record {
       host = rows_of host_form r.host a.0;
-      tenants = rows_of tenant_form r.tenants b.0;
+      tenants = rows_of (tenant_form sums) r.tenants b.0;
       keys = rows_of key_form r.keys c.0;
       buckets = rows_of bucket_form r.buckets d.0;
       versions = rows_of version_form r.versions e.0;
       blocks = rows_of block_form r.blocks f.0;
       refs = rows_of ref_form r.refs g.0;
-      uploads = rows_of upload_form r.uploads i.0;
-      parts = rows_of part_form r.parts i.1;
+      uploads = rows_of (upload_form sums) r.uploads i.0;
+      parts = rows_of part_form r.parts j.0;
+      uses = rows_of use_form r.uses k.0;
+      counts = counts_of r.uses sums.uses k.1;
     }
 
-of_held : (r : Raw) → AreHeld r → are_held r ≡ true
-of_held r h = and_from _ _ (of_rows host_form r.host h.host) (and_from _ _ (of_rows tenant_form r.tenants h.tenants) (and_from _ _ (of_rows key_form r.keys h.keys) (and_from _ _ (of_rows bucket_form r.buckets h.buckets)
+of_held : (sums : Totals) (r : Raw) → AreHeld sums r → are_held sums r ≡ true
+of_held sums r h = and_from _ _ (of_rows host_form r.host h.host) (and_from _ _ (of_rows (tenant_form sums) r.tenants h.tenants) (and_from _ _ (of_rows key_form r.keys h.keys) (and_from _ _ (of_rows bucket_form r.buckets h.buckets)
     (and_from _ _ (of_rows version_form r.versions h.versions) (and_from _ _ (of_rows block_form r.blocks h.blocks) (and_from _ _ (of_rows ref_form r.refs h.refs)
-    (and_from _ _ (of_rows upload_form r.uploads h.uploads) (of_rows part_form r.parts h.parts))))))))
+    (and_from _ _ (of_rows (upload_form sums) r.uploads h.uploads) (and_from _ _ (of_rows part_form r.parts h.parts) (and_from _ _ (of_rows use_form r.uses h.uses) (of_counts r.uses sums.uses h.counts))))))))))
 
 -- ---- databases
 
 host_of : (db : Database) → is_host db ≡ true → IsHost db
 unfolding is_host
-host_of db h = let parts = and_parts _ _ h in record { schema = same_value schema.the_row.coded db.schema host_schema parts.0; held = held_of (raw db.trees) parts.1 }
+host_of db h = let parts = and_parts _ _ h in record { schema = same_value schema.the_row.coded db.schema host_schema parts.0; held = held_of (totals_of (tables_in db)) (raw db.trees) parts.1 }
 
 of_host : (db : Database) → IsHost db → is_host db ≡ true
 unfolding is_host
-of_host db h = and_from _ _ (value_same schema.the_row.coded db.schema host_schema h.schema) (of_held (raw db.trees) h.held)
+of_host db h = and_from _ _ (value_same schema.the_row.coded db.schema host_schema h.schema) (of_held (totals_of (tables_in db)) (raw db.trees) h.held)
 
 -- a host's database shows its tables
 pub host_shows : (db : Database) → IsHost db → tables_shown db ≡ tables_in db

@@ -49,23 +49,24 @@ pub latest_set : (n : ℕ) → UpdateText host_form host_schema 0 (at 0 host_tab
 unfolding understood everything
 latest_set n = record {
   test = [];
-  show = col 1 0 ∷ col 1 0 ∷ lit Null ∷ col 1 2 ∷ col 0 0 ∷ col 1 4 ∷ col 1 5 ∷ [];
+  show = col 1 0 ∷ col 1 0 ∷ lit Null ∷ col 1 2 ∷ col 0 0 ∷ col 1 4 ∷ col 1 5 ∷ col 1 6 ∷ [];
   means = record { is = refl; plain = (refl, refl); unlisted = refl; whole = refl; given = refl };
   accepts = refl;
   tests = λ id h. refl;
-  shows = λ id h. refl;
+  shows = λ id h found was. refl;
 }
 
 pub latest_may : (n : ℕ) → MayChange host_form host_schema (at 0 host_table) (λ _. true) (λ h. record h { latest = n })
 unfolding everything
 latest_may n = record { suits = λ id h found was. record { typed = refl; present = refl; checked = host_checked_still id h n was.checked }; unwatched = λ id h found. refl }
 
-pub host_inserted : (min_part max_body : ℕ) → InsertText host_form host_schema 0 (at 0 host_table) (codes "INSERT INTO host (version, latest, min_part, max_body) VALUES (0, 0, ?1, ?2)") (number min_part ∷ number max_body ∷ [])
-    (record { version = 0; latest = 0; min_part = min_part; max_body = max_body })
+-- of version 1, whose blocks are named by SHA-256
+pub host_inserted : (min_part max_body : ℕ) → InsertText host_form host_schema 0 (at 0 host_table) (codes "INSERT INTO host (version, latest, min_part, max_body, digest) VALUES (1, 0, ?1, ?2, 0)") (number min_part ∷ number max_body ∷ [])
+    (record { version = 1; latest = 0; min_part = min_part; max_body = max_body; digest = 0 })
 unfolding understood everything
 host_inserted min_part max_body = record {
-  terms = lit Null ∷ lit Null ∷ lit (Int (pos 0)) ∷ lit (Int (pos 0)) ∷ col 0 0 ∷ col 0 1 ∷ [];
-  width = 6;
+  terms = lit Null ∷ lit Null ∷ lit (Int (pos 1)) ∷ lit (Int (pos 0)) ∷ col 0 0 ∷ col 0 1 ∷ lit (Int (pos 0)) ∷ [];
+  width = 7;
   means = record { is = refl; plain = (refl, refl); unlisted = refl; whole = refl; given = refl };
   gives = refl;
   accepts = refl;

@@ -1,15 +1,15 @@
 -- The columns of a typed row are stored as they are.
-use Rattle.std.proofs.Common.{◌≡◌, ap, refl, Option, Some, None, ◌∷◌, []}
+use Rattle.std.proofs.Common.{◌≡◌, ℤ, ap, refl, Option, Some, None, ◌∷◌, []}
 use Rattle.sqlite.specs.Cast.{cast_all}
 use Rattle.bh_rows.proofs.InsertLemmas.{cast_int, cast_null}
-use Rattle.bh_tables.specs.Schema.{host_table, tenants_table, keys_table, buckets_table, versions_table, blocks_table, refs_table, uploads_table, parts_table}
-use Rattle.bh_tables.specs.Typed.{HostRow, host_columns, TenantRow, tenant_columns, KeyRow, key_columns, BucketRow, bucket_columns, VersionColumns, version_columns, BlockRow, block_columns, RefRow, ref_columns, UploadRow, upload_columns, PartColumns, part_columns}
+use Rattle.bh_tables.specs.Schema.{host_table, tenants_table, keys_table, buckets_table, versions_table, blocks_table, refs_table, uploads_table, parts_table, uses_table}
+use Rattle.bh_tables.specs.Typed.{HostRow, host_columns, TenantRow, tenant_columns, KeyRow, key_columns, BucketRow, bucket_columns, VersionColumns, version_columns, BlockRow, block_columns, UseRow, use_columns, RefRow, ref_columns, UploadRow, upload_columns, PartColumns, part_columns}
 
 pub host_kept : (h : HostRow) → cast_all host_table.columns (host_columns h) ≡ host_columns h
 host_kept h = rw cast_null (simp cast_int)
 
-pub tenant_kept : (t : TenantRow) → cast_all tenants_table.columns (tenant_columns t) ≡ tenant_columns t
-tenant_kept t = simp cast_int
+pub tenant_kept : (sum : ℤ) (t : TenantRow) → cast_all tenants_table.columns (tenant_columns sum t) ≡ tenant_columns sum t
+tenant_kept sum t = simp cast_int
 
 pub key_kept : (k : KeyRow) → cast_all keys_table.columns (key_columns k) ≡ key_columns k
 key_kept k = refl
@@ -20,11 +20,14 @@ version_kept v = simp cast_int
 pub block_kept : (b : BlockRow) → cast_all blocks_table.columns (block_columns b) ≡ block_columns b
 block_kept b = simp cast_int
 
+pub use_kept : (u : UseRow) → cast_all uses_table.columns (use_columns u) ≡ use_columns u
+use_kept u = simp cast_int
+
 pub ref_kept : (r : RefRow) → cast_all refs_table.columns (ref_columns r) ≡ ref_columns r
 ref_kept r = simp cast_int
 
-pub upload_kept : (u : UploadRow) → cast_all uploads_table.columns (upload_columns u) ≡ upload_columns u
-upload_kept u = simp cast_int
+pub upload_kept : (sum : ℤ) (u : UploadRow) → cast_all uploads_table.columns (upload_columns sum u) ≡ upload_columns sum u
+upload_kept sum u = simp cast_int
 
 pub part_kept : (p : PartColumns) → cast_all parts_table.columns (part_columns p) ≡ part_columns p
 part_kept p = simp cast_int

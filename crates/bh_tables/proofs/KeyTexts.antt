@@ -19,7 +19,7 @@ use Rattle.bh_rows.specs.Scan.{no_limit}
 use Rattle.bh_rows.specs.Texts.{MayAdd, InsertText, DeleteText, SelectText}
 use Rattle.bh_rows.proofs.FormLemmas.{any_typed}
 use Rattle.bh_tables.specs.Schema.{Octets, host_schema, keys_table, at}
-use Rattle.bh_tables.specs.Typed.{KeyRow, key_form, tenant_form, IsHost, tables_in}
+use Rattle.bh_tables.specs.Typed.{Totals, KeyRow, key_form, tenant_form, IsHostBy, tables_in}
 use Rattle.bh_tables.specs.Shown.{is_key, is_tenant, shown_secret}
 use Rattle.bh_tables.proofs.Terms.{is}
 
@@ -29,12 +29,12 @@ key_agrees : (i j : ℤ) (a b : KeyRow) → agree plain (1 ∷ 2 ∷ []) (put ke
 unfolding first_key
 key_agrees i j a b = then_term (at_texts false Eq a.tenant b.tenant) (last_term (at_texts false Eq a.name b.name))
 
-pub new_key : (db : Database) → IsHost db → (k : KeyRow) → list_any (is_key k.tenant k.name) (tables_in db).keys ≡ false → list_any (is_tenant k.tenant) (tables_in db).tenants ≡ true → MayAdd key_form host_schema (at 3 keys_table) db.trees k
+pub new_key : {sums : Totals} (db : Database) → IsHostBy sums db → (k : KeyRow) → list_any (is_key k.tenant k.name) (tables_in db).keys ≡ false → list_any (is_tenant k.tenant) (tables_in db).tenants ≡ true → MayAdd key_form host_schema (at 3 keys_table) db.trees k
 unfolding everything
-new_key db host k free owned = record {
+new_key {sums} db host k free owned = record {
   suits = record { typed = refl; present = refl; checked = refl };
   free = (any_typed key_form _ (is_key k.tenant k.name) (λ id a. key_agrees id (next_rowid (db.trees 3)) a k) (db.trees 3) host.held.keys ∙ free, tt);
-  parents = ap (λ b. b && true) (any_typed tenant_form _ (is_tenant k.tenant) (λ id t. last_term (at_texts false Eq t.tenant k.tenant)) (db.trees 1) host.held.tenants ∙ owned);
+  parents = ap (λ b. b && true) (any_typed (tenant_form sums) _ (is_tenant k.tenant) (λ id t. last_term (at_texts false Eq t.tenant k.tenant)) (db.trees 1) host.held.tenants ∙ owned);
 }
 
 pub keys_unused : (db : Trees) (rows : List Row) → AreUnused host_schema db 3 rows

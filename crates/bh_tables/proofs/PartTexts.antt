@@ -21,7 +21,7 @@ use Rattle.bh_rows.specs.Scan.{no_limit, by_rowid}
 use Rattle.bh_rows.specs.Texts.{MayAdd, InsertText, DeleteText, SelectText, SortedText, SumText}
 use Rattle.bh_rows.proofs.FormLemmas.{any_typed}
 use Rattle.bh_tables.specs.Schema.{Octets, host_schema, parts_table, at}
-use Rattle.bh_tables.specs.Typed.{PartColumns, PartRow, part_form, part_columns, upload_form, number, IsHost, tables_in}
+use Rattle.bh_tables.specs.Typed.{Totals, PartColumns, PartRow, part_form, part_columns, upload_form, number, IsHostBy, tables_in}
 use Rattle.bh_tables.specs.Bodies.{bare_part, resolved_part}
 use Rattle.bh_tables.specs.Shown.{is_upload, is_part, is_part_of, has_body, by_part, shown_part, shown_body, is_part_used}
 use Rattle.bh_tables.proofs.ResolvedLemmas.{any_resolved_part}
@@ -30,7 +30,7 @@ use Rattle.bh_tables.proofs.Terms.{is}
 
 -- ---- a part of an upload, whose number and whose body no other has, may be added
 
-part_agrees : (i j : ℤ) (a b : PartColumns) → agree plain (1 ∷ 2 ∷ 3 ∷ []) (put part_form (i, a)) (1 ∷ 2 ∷ 3 ∷ []) (put part_form (j, b)) ≡ is_part b.tenant b.upload b.part (bare_part a)
+pub part_agrees : (i j : ℤ) (a b : PartColumns) → agree plain (1 ∷ 2 ∷ 3 ∷ []) (put part_form (i, a)) (1 ∷ 2 ∷ 3 ∷ []) (put part_form (j, b)) ≡ is_part b.tenant b.upload b.part (bare_part a)
 unfolding first_key
 part_agrees i j a b = then_term (at_texts false Eq a.tenant b.tenant) (then_term (at_ints false Eq (pos a.upload) (pos b.upload)) (last_term (at_ints false Eq (pos a.part) (pos b.part))))
 
@@ -41,16 +41,16 @@ body_agrees i j a b = then_term (at_texts false Eq a.tenant b.tenant) (last_term
 pub any_in_parts : (db : Database) (m : PartRow → Bool) → list_any m (tables_in db).parts ≡ list_any (λ c. m (resolved_part (tables_in db).refs (tables_in db).blocks c)) (typed part_form (db.trees 18))
 any_in_parts db m = any_resolved_part (tables_in db).refs (tables_in db).blocks m (typed part_form (db.trees 18))
 
-pub new_part : (db : Database) → IsHost db → (p : PartColumns) → list_any (is_part p.tenant p.upload p.part) (tables_in db).parts ≡ false → list_any (has_body (p.tenant, p.body)) (tables_in db).parts ≡ false
+pub new_part : {sums : Totals} (db : Database) → IsHostBy sums db → (p : PartColumns) → list_any (is_part p.tenant p.upload p.part) (tables_in db).parts ≡ false → list_any (has_body (p.tenant, p.body)) (tables_in db).parts ≡ false
     → list_any (is_upload p.tenant p.upload) (tables_in db).uploads ≡ true → MayAdd part_form host_schema (at 18 parts_table) db.trees p
 unfolding everything
-new_part db host p free unshared owned = record {
+new_part {sums} db host p free unshared owned = record {
   suits = record { typed = refl; present = refl; checked = part_checked (next_rowid (db.trees 18)) p };
   free = (
     any_typed part_form _ (λ a. is_part p.tenant p.upload p.part (bare_part a)) (λ id a. part_agrees id (next_rowid (db.trees 18)) a p) (db.trees 18) host.held.parts ∙ sym (any_in_parts db (is_part p.tenant p.upload p.part)) ∙ free,
     (any_typed part_form _ (λ a. has_body (p.tenant, p.body) (bare_part a)) (λ id a. body_agrees id (next_rowid (db.trees 18)) a p) (db.trees 18) host.held.parts ∙ sym (any_in_parts db (has_body (p.tenant, p.body))) ∙ unshared, tt),
   );
-  parents = ap (λ c. c && true) (any_typed upload_form _ (is_upload p.tenant p.upload) (λ id u. then_term (at_texts false Eq u.tenant p.tenant) (last_term (at_ints false Eq (pos u.upload) (pos p.upload)))) (db.trees 16) host.held.uploads ∙ owned);
+  parents = ap (λ c. c && true) (any_typed (upload_form sums) _ (is_upload p.tenant p.upload) (λ id u. then_term (at_texts false Eq u.tenant p.tenant) (last_term (at_ints false Eq (pos u.upload) (pos p.upload)))) (db.trees 16) host.held.uploads ∙ owned);
 }
 
 -- no table refers to parts

@@ -10,10 +10,10 @@ use Rattle.sqlite_trees.specs.Tree.{with_tree}
 use Rattle.bh_rows.specs.Form.{Form, AreRows, Entry, put, entries, typed}
 use Rattle.bh_rows.specs.Keys.{AreUnused}
 use Rattle.bh_rows.specs.Texts.{IsOrderly, IsTableOf, Leaves}
-use Rattle.bh_tables.specs.Schema.{host_schema, host_table, tenants_table, keys_table, buckets_table, versions_table, blocks_table, refs_table, uploads_table, parts_table, at}
-use Rattle.bh_tables.specs.Typed.{HostRow, TenantRow, KeyRow, BucketRow, VersionColumns, BlockRow, RefRow, UploadRow, PartColumns, host_form, tenant_form, key_form, bucket_form, version_form, block_form, ref_form, upload_form, part_form, Tables, tables, tables_in, tables_of, Raw, raw, AreHeld, IsHost, rebodied}
+use Rattle.bh_tables.specs.Schema.{host_schema, host_table, tenants_table, keys_table, buckets_table, versions_table, blocks_table, refs_table, uploads_table, parts_table, uses_table, at}
+use Rattle.bh_tables.specs.Typed.{HostRow, TenantRow, KeyRow, BucketRow, VersionColumns, BlockRow, RefRow, UploadRow, PartColumns, host_form, tenant_form, key_form, bucket_form, version_form, block_form, ref_form, upload_form, part_form, Tables, tables, tables_in, tables_of, Raw, raw, AreHeld, Totals, IsHostBy, rebodied, UseRow, use_form, TenantColumns, stored_tenant_form, UploadColumns, stored_upload_form}
 use Rattle.bh_tables.specs.Bodies.{resolved, columns_of, resolved_part, part_columns_of}
-use Rattle.bh_tables.proofs.Kept.{host_kept, tenant_kept, key_kept, bucket_kept, version_kept, block_kept, ref_kept, upload_kept, part_kept}
+use Rattle.bh_tables.proofs.Kept.{host_kept, tenant_kept, key_kept, bucket_kept, version_kept, block_kept, ref_kept, upload_kept, part_kept, use_kept}
 use Rattle.bh_tables.proofs.RawLemmas.{raw_changed}
 use Rattle.bh_tables.proofs.ResolvedLemmas.{stored_versions, resolved_twice, stored_parts, resolved_parts_twice}
 
@@ -23,7 +23,7 @@ orderly = record { apart = refl; passive = refl; ignores = refl }
 
 -- ---- a table's place
 
-pub record Place (T : Type 0) : Type 0 where
+pub record Place (sums : Totals) (T : Type 0) : Type 0 where
   pub form : Form T
   -- among the tables of the schema
   pub number : ℕ
@@ -33,24 +33,24 @@ pub record Place (T : Type 0) : Type 0 where
   pub rows : Tables → List T
   pub set : Tables → List T → Tables
   pub rows_are : (db : Database) → typed form (db.trees table.tree) ≡ rows (tables_in db)
-  pub held : (db : Database) → IsHost db → AreRows form (db.trees table.tree)
+  pub held : (db : Database) → IsHostBy sums db → AreRows form (db.trees table.tree)
   -- the same of the rows as they are stored
   pub put : Raw → List Row → Raw
   pub put_is : (db : Trees) (l : List Row) → raw (with_tree db table.tree l) ≡ put (raw db) l
   pub put_reads : (r : Raw) (l : List Row) → tables_of (put r l) ≡ set (tables_of r) (typed form l)
-  pub put_held : (r : Raw) (l : List Row) → AreHeld r → AreRows form l → AreHeld (put r l)
+  pub put_held : (r : Raw) (l : List Row) → AreHeld sums r → AreRows form l → AreHeld sums (put r l)
 
 -- a write to one table leaves a host's database, with the other tables as they were
-pub turned : {T : Type 0} (p : Place T) (old new : State) (after : List T) → IsHost old.now → Leaves p.form host_schema p.table.tree old new after → IsHost new.now × (tables new ≡ p.set (tables old) after)
-turned p old new after host l =
+pub turned : {sums : Totals} {T : Type 0} (p : Place sums T) (old new : State) (after : List T) → IsHostBy sums old.now → Leaves p.form host_schema p.table.tree old new after → IsHostBy sums new.now × (tables new ≡ p.set (tables old) after)
+turned {sums} p old new after host l =
     let now_is : raw new.now.trees ≡ p.put (raw old.now.trees) (l.next p.table.tree) = ap (λ (d : Database). raw d.trees) l.now ∙ raw_changed p.table.tree old.now.trees l.next l.others ∙ p.put_is old.now.trees (l.next p.table.tree) in (
-      record { schema = ap (λ (d : Database). d.schema) l.now; held = subst AreHeld (sym now_is) (p.put_held (raw old.now.trees) (l.next p.table.tree) host.held l.held) },
+      record { schema = ap (λ (d : Database). d.schema) l.now; held = subst (AreHeld sums) (sym now_is) (p.put_held (raw old.now.trees) (l.next p.table.tree) host.held l.held) },
       ap tables_of now_is ∙ p.put_reads (raw old.now.trees) (l.next p.table.tree) ∙ ap (p.set (tables old)) l.rows,
     )
 
 -- no row of another table names one of the rows that pass a test
-abbrev pub Goes : {T : Type 0} → Place T → Trees → (T → Bool) → Type 0
-Goes {T} p db m = AreUnused host_schema db p.table.tree (map (put p.form) (filter (λ (e : Entry T). m e.1) (entries p.form (db p.table.tree))))
+abbrev pub Goes : {sums : Totals} {T : Type 0} → Place sums T → Trees → (T → Bool) → Type 0
+Goes {sums} {T} p db m = AreUnused host_schema db p.table.tree (map (put p.form) (filter (λ (e : Entry T). m e.1) (entries p.form (db p.table.tree))))
 
 -- ---- the tables
 
@@ -58,8 +58,8 @@ pub host_is : IsTableOf host_form host_schema 0 (at 0 host_table)
 unfolding everything
 host_is = record { is_table = refl; plain = refl; low = refl; kept = host_kept; fit = refl }
 
-abbrev pub host : Place HostRow
-host = record {
+abbrev pub host : (sums : Totals) → Place sums HostRow
+host sums = record {
   form = host_form;
   number = 0;
   table = at 0 host_table;
@@ -71,19 +71,19 @@ host = record {
   put = λ r l. record r { host = l };
   put_is = λ db l. refl;
   put_reads = λ r l. refl;
-  put_held = λ r l h it. record { host = it; tenants = h.tenants; keys = h.keys; buckets = h.buckets; versions = h.versions; blocks = h.blocks; refs = h.refs; uploads = h.uploads; parts = h.parts };
+  put_held = λ r l h it. record { host = it; tenants = h.tenants; keys = h.keys; buckets = h.buckets; versions = h.versions; blocks = h.blocks; refs = h.refs; uploads = h.uploads; parts = h.parts; uses = h.uses; counts = h.counts };
 }
 
-pub tenants_is : IsTableOf tenant_form host_schema 1 (at 1 tenants_table)
+pub tenants_is : (sums : Totals) → IsTableOf (tenant_form sums) host_schema 1 (at 1 tenants_table)
 unfolding everything
-tenants_is = record { is_table = refl; plain = refl; low = refl; kept = tenant_kept; fit = refl }
+tenants_is sums = record { is_table = refl; plain = refl; low = refl; kept = λ x. tenant_kept (sums.used x.tenant) x; fit = refl }
 
-abbrev pub tenants : Place TenantRow
-tenants = record {
-  form = tenant_form;
+abbrev pub tenants : (sums : Totals) → Place sums TenantRow
+tenants sums = record {
+  form = tenant_form sums;
   number = 1;
   table = at 1 tenants_table;
-  is = tenants_is;
+  is = tenants_is sums;
   rows = λ t. t.tenants;
   set = λ t l. record t { tenants = l };
   rows_are = λ db. refl;
@@ -91,15 +91,15 @@ tenants = record {
   put = λ r l. record r { tenants = l };
   put_is = λ db l. refl;
   put_reads = λ r l. refl;
-  put_held = λ r l h it. record { host = h.host; tenants = it; keys = h.keys; buckets = h.buckets; versions = h.versions; blocks = h.blocks; refs = h.refs; uploads = h.uploads; parts = h.parts };
+  put_held = λ r l h it. record { host = h.host; tenants = it; keys = h.keys; buckets = h.buckets; versions = h.versions; blocks = h.blocks; refs = h.refs; uploads = h.uploads; parts = h.parts; uses = h.uses; counts = h.counts };
 }
 
 pub keys_is : IsTableOf key_form host_schema 2 (at 3 keys_table)
 unfolding everything
 keys_is = record { is_table = refl; plain = refl; low = refl; kept = key_kept; fit = refl }
 
-abbrev pub keys : Place KeyRow
-keys = record {
+abbrev pub keys : (sums : Totals) → Place sums KeyRow
+keys sums = record {
   form = key_form;
   number = 2;
   table = at 3 keys_table;
@@ -111,15 +111,15 @@ keys = record {
   put = λ r l. record r { keys = l };
   put_is = λ db l. refl;
   put_reads = λ r l. refl;
-  put_held = λ r l h it. record { host = h.host; tenants = h.tenants; keys = it; buckets = h.buckets; versions = h.versions; blocks = h.blocks; refs = h.refs; uploads = h.uploads; parts = h.parts };
+  put_held = λ r l h it. record { host = h.host; tenants = h.tenants; keys = it; buckets = h.buckets; versions = h.versions; blocks = h.blocks; refs = h.refs; uploads = h.uploads; parts = h.parts; uses = h.uses; counts = h.counts };
 }
 
 pub buckets_is : IsTableOf bucket_form host_schema 3 (at 5 buckets_table)
 unfolding everything
 buckets_is = record { is_table = refl; plain = refl; low = refl; kept = bucket_kept; fit = refl }
 
-abbrev pub buckets : Place BucketRow
-buckets = record {
+abbrev pub buckets : (sums : Totals) → Place sums BucketRow
+buckets sums = record {
   form = bucket_form;
   number = 3;
   table = at 5 buckets_table;
@@ -131,15 +131,15 @@ buckets = record {
   put = λ r l. record r { buckets = l };
   put_is = λ db l. refl;
   put_reads = λ r l. refl;
-  put_held = λ r l h it. record { host = h.host; tenants = h.tenants; keys = h.keys; buckets = it; versions = h.versions; blocks = h.blocks; refs = h.refs; uploads = h.uploads; parts = h.parts };
+  put_held = λ r l h it. record { host = h.host; tenants = h.tenants; keys = h.keys; buckets = it; versions = h.versions; blocks = h.blocks; refs = h.refs; uploads = h.uploads; parts = h.parts; uses = h.uses; counts = h.counts };
 }
 
 pub versions_is : IsTableOf version_form host_schema 4 (at 7 versions_table)
 unfolding everything
 versions_is = record { is_table = refl; plain = refl; low = refl; kept = version_kept; fit = refl }
 
-abbrev pub versions : Place VersionColumns
-versions = record {
+abbrev pub versions : (sums : Totals) → Place sums VersionColumns
+versions sums = record {
   form = version_form;
   number = 4;
   table = at 7 versions_table;
@@ -151,7 +151,7 @@ versions = record {
   put = λ r l. record r { versions = l };
   put_is = λ db l. refl;
   put_reads = λ r l. refl;
-  put_held = λ r l h it. record { host = h.host; tenants = h.tenants; keys = h.keys; buckets = h.buckets; versions = it; blocks = h.blocks; refs = h.refs; uploads = h.uploads; parts = h.parts };
+  put_held = λ r l h it. record { host = h.host; tenants = h.tenants; keys = h.keys; buckets = h.buckets; versions = it; blocks = h.blocks; refs = h.refs; uploads = h.uploads; parts = h.parts; uses = h.uses; counts = h.counts };
 }
 
 -- the tables with other references and blocks, as they are read
@@ -165,8 +165,8 @@ pub blocks_is : IsTableOf block_form host_schema 5 (at 10 blocks_table)
 unfolding everything
 blocks_is = record { is_table = refl; plain = refl; low = refl; kept = block_kept; fit = refl }
 
-abbrev pub blocks : Place BlockRow
-blocks = record {
+abbrev pub blocks : (sums : Totals) → Place sums BlockRow
+blocks sums = record {
   form = block_form;
   number = 5;
   table = at 10 blocks_table;
@@ -178,15 +178,15 @@ blocks = record {
   put = λ r l. record r { blocks = l };
   put_is = λ db l. refl;
   put_reads = λ r l. reread r (typed ref_form r.refs) (typed block_form l);
-  put_held = λ r l h it. record { host = h.host; tenants = h.tenants; keys = h.keys; buckets = h.buckets; versions = h.versions; blocks = it; refs = h.refs; uploads = h.uploads; parts = h.parts };
+  put_held = λ r l h it. record { host = h.host; tenants = h.tenants; keys = h.keys; buckets = h.buckets; versions = h.versions; blocks = it; refs = h.refs; uploads = h.uploads; parts = h.parts; uses = h.uses; counts = h.counts };
 }
 
 pub refs_is : IsTableOf ref_form host_schema 6 (at 12 refs_table)
 unfolding everything
 refs_is = record { is_table = refl; plain = refl; low = refl; kept = ref_kept; fit = refl }
 
-abbrev pub refs : Place RefRow
-refs = record {
+abbrev pub refs : (sums : Totals) → Place sums RefRow
+refs sums = record {
   form = ref_form;
   number = 6;
   table = at 12 refs_table;
@@ -198,19 +198,19 @@ refs = record {
   put = λ r l. record r { refs = l };
   put_is = λ db l. refl;
   put_reads = λ r l. reread r (typed ref_form l) (typed block_form r.blocks);
-  put_held = λ r l h it. record { host = h.host; tenants = h.tenants; keys = h.keys; buckets = h.buckets; versions = h.versions; blocks = h.blocks; refs = it; uploads = h.uploads; parts = h.parts };
+  put_held = λ r l h it. record { host = h.host; tenants = h.tenants; keys = h.keys; buckets = h.buckets; versions = h.versions; blocks = h.blocks; refs = it; uploads = h.uploads; parts = h.parts; uses = h.uses; counts = h.counts };
 }
 
-pub uploads_is : IsTableOf upload_form host_schema 7 (at 16 uploads_table)
+pub uploads_is : (sums : Totals) → IsTableOf (upload_form sums) host_schema 7 (at 16 uploads_table)
 unfolding everything
-uploads_is = record { is_table = refl; plain = refl; low = refl; kept = upload_kept; fit = refl }
+uploads_is sums = record { is_table = refl; plain = refl; low = refl; kept = λ x. upload_kept (sums.kept (x.tenant, x.upload)) x; fit = refl }
 
-abbrev pub uploads : Place UploadRow
-uploads = record {
-  form = upload_form;
+abbrev pub uploads : (sums : Totals) → Place sums UploadRow
+uploads sums = record {
+  form = upload_form sums;
   number = 7;
   table = at 16 uploads_table;
-  is = uploads_is;
+  is = uploads_is sums;
   rows = λ t. t.uploads;
   set = λ t l. record t { uploads = l };
   rows_are = λ db. refl;
@@ -218,15 +218,15 @@ uploads = record {
   put = λ r l. record r { uploads = l };
   put_is = λ db l. refl;
   put_reads = λ r l. refl;
-  put_held = λ r l h it. record { host = h.host; tenants = h.tenants; keys = h.keys; buckets = h.buckets; versions = h.versions; blocks = h.blocks; refs = h.refs; uploads = it; parts = h.parts };
+  put_held = λ r l h it. record { host = h.host; tenants = h.tenants; keys = h.keys; buckets = h.buckets; versions = h.versions; blocks = h.blocks; refs = h.refs; uploads = it; parts = h.parts; uses = h.uses; counts = h.counts };
 }
 
 pub parts_is : IsTableOf part_form host_schema 8 (at 18 parts_table)
 unfolding everything
 parts_is = record { is_table = refl; plain = refl; low = refl; kept = part_kept; fit = refl }
 
-abbrev pub parts : Place PartColumns
-parts = record {
+abbrev pub parts : (sums : Totals) → Place sums PartColumns
+parts sums = record {
   form = part_form;
   number = 8;
   table = at 18 parts_table;
@@ -238,5 +238,19 @@ parts = record {
   put = λ r l. record r { parts = l };
   put_is = λ db l. refl;
   put_reads = λ r l. refl;
-  put_held = λ r l h it. record { host = h.host; tenants = h.tenants; keys = h.keys; buckets = h.buckets; versions = h.versions; blocks = h.blocks; refs = h.refs; uploads = h.uploads; parts = it };
+  put_held = λ r l h it. record { host = h.host; tenants = h.tenants; keys = h.keys; buckets = h.buckets; versions = h.versions; blocks = h.blocks; refs = h.refs; uploads = h.uploads; parts = it; uses = h.uses; counts = h.counts };
 }
+
+-- ---- the columns and the table that keep what other rows have, as they are stored
+
+pub stored_tenants_is : IsTableOf stored_tenant_form host_schema 1 (at 1 tenants_table)
+unfolding everything
+stored_tenants_is = record { is_table = refl; plain = refl; low = refl; kept = λ c. tenant_kept c.used c.row; fit = refl }
+
+pub stored_uploads_is : IsTableOf stored_upload_form host_schema 7 (at 16 uploads_table)
+unfolding everything
+stored_uploads_is = record { is_table = refl; plain = refl; low = refl; kept = λ c. upload_kept c.kept c.row; fit = refl }
+
+pub uses_is : IsTableOf use_form host_schema 9 (at 23 uses_table)
+unfolding everything
+uses_is = record { is_table = refl; plain = refl; low = refl; kept = use_kept; fit = refl }

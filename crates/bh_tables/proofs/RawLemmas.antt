@@ -22,4 +22,5 @@ module _ (tree : ℕ) (db next : Trees) where
     refs = at 12 h.1.1.1.1.1.1.0 i;
     uploads = at 16 h.1.1.1.1.1.1.1.0 i;
     parts = at 18 h.1.1.1.1.1.1.1.1.0 i;
+    uses = at 23 h.1.1.1.1.1.1.1.1.1.0 i;
   }

@@ -21,7 +21,7 @@ use Rattle.bh_rows.specs.Scan.{by_rowid, no_limit}
 use Rattle.bh_rows.specs.Texts.{MayAdd, InsertText, DeleteText, SelectText, SortedText, SumText}
 use Rattle.bh_rows.proofs.FormLemmas.{any_typed}
 use Rattle.bh_tables.specs.Schema.{host_schema, refs_table, at}
-use Rattle.bh_tables.specs.Typed.{RefRow, block_form, ref_form, ref_columns, number, IsHost, tables_in}
+use Rattle.bh_tables.specs.Typed.{Totals, RefRow, block_form, ref_form, ref_columns, number, IsHostBy, tables_in}
 use Rattle.bh_tables.specs.Shown.{Name, ref_name, is_block, is_of_body, is_at_place, by_place, shown_ref, shown_bytes}
 use Rattle.bh_tables.proofs.Checked.{ref_checked}
 use Rattle.bh_tables.proofs.Terms.{is}
@@ -32,7 +32,7 @@ place_agrees : (i j : ℤ) (a b : RefRow) → agree plain (1 ∷ 2 ∷ 3 ∷ [])
 unfolding first_key
 place_agrees i j a b = then_term (at_texts false Eq a.tenant b.tenant) (then_term (at_ints false Eq (pos a.body) (pos b.body)) (last_term (at_ints false Eq (pos a.place) (pos b.place))))
 
-pub new_ref : (db : Database) → IsHost db → (r : RefRow) → list_any (is_at_place (r.tenant, r.body) r.place) (tables_in db).refs ≡ false → list_any (is_block (ref_name r)) (tables_in db).blocks ≡ true
+pub new_ref : {sums : Totals} (db : Database) → IsHostBy sums db → (r : RefRow) → list_any (is_at_place (r.tenant, r.body) r.place) (tables_in db).refs ≡ false → list_any (is_block (ref_name r)) (tables_in db).blocks ≡ true
     → MayAdd ref_form host_schema (at 12 refs_table) db.trees r
 unfolding everything
 new_ref db host r free there = record {

@@ -20,14 +20,14 @@ use Rattle.bh_rows.proofs.CallLemmas.{clean_before, shown_same, shown_open, quer
 use Rattle.bh_rows.proofs.TotalLemmas.{summed_fails}
 use Rattle.bh_rows.proofs.TextLemmas as text
 use Rattle.bh_tables.specs.Schema.{host_schema}
-use Rattle.bh_tables.specs.Typed.{IsHost, IsReady, Tables, tables}
+use Rattle.bh_tables.specs.Typed.{Totals, IsHostBy, IsReadyBy, Tables, tables}
 use Rattle.bh_tables.proofs.Places.{Place, Goes, orderly, turned}
 use Rattle.bh_tables.proofs.Terms.{one_row}
 
 -- how a write may end, which tables it leaves, and which errors it gives
-pub record Writes (old new : State) (change : Tables → Tables) (allowed : Error → Type 0) (result : Result ℕ Error) : Type 0 where
+pub record Writes (sums : Totals) (old new : State) (change : Tables → Tables) (allowed : Error → Type 0) (result : Result ℕ Error) : Type 0 where
   pub changes : Changes old new result
-  pub leaves : HasCleanDisk new → IsTrue old.is_open → OnOk result (IsHost new.now × (tables new ≡ change (tables old)))
+  pub leaves : HasCleanDisk new → IsTrue old.is_open → OnOk result (IsHostBy sums new.now × (tables new ≡ change (tables old)))
   pub errors : HasCleanDisk new → old.step_limit ≡ None → IfErr result allowed
 
 -- how a question may end, and which rows it shows
@@ -72,7 +72,7 @@ if_narrow total (Err e) (inl bad) = λ _. bad
 if_narrow total (Err e) (inr wide) = λ small. let big = wide.1 in absurd (omega (arith, big, small))
 
 -- how a sum may end, whose error is told as trouble
-module _ (old new : State) (ready : IsReady old) (sql : List ℕ) (params : Row) {body : Query} {names : List (List ℕ)} {parameters : ℕ} (means : Means host_schema sql (Select (record { lets = []; body = body }) names) parameters)
+module _ {sums : Totals} (old new : State) (ready : IsReadyBy sums old) (sql : List ℕ) (params : Row) {body : Query} {names : List (List ℕ)} {parameters : ℕ} (means : Means host_schema sql (Select (record { lets = []; body = body }) names) parameters)
     {X : Type 0} (rows_in : X → List Row) (survives : Survives old new (CommitsShowing sql params old)) (other : Error) (bad : is_trouble other ≡ true) where
   pub sum_ends : (r : Result X Error) → (HasCleanDisk new → IfOk r (λ x. Shown sql params old new (rows_in x))) → (HasCleanDisk new → IfErr r (FailsToQuery sql params old new)) → Asks old new (told_as other r)
   sum_ends (Ok x) ok err = record {
@@ -90,7 +90,7 @@ module _ (old new : State) (ready : IsReady old) (sql : List ℕ) (params : Row)
     survives = shows_outside sql params old new survives;
   }
 
-module _ {T : Type 0} (p : Place T) (old new : State) (ready : IsReady old) where
+module _ {sums : Totals} {T : Type 0} (p : Place sums T) (old new : State) (ready : IsReadyBy sums old) where
   ready_at : IsReadyAt p.form host_schema p.table.tree old
   ready_at clean up = let h = ready clean up in (h.schema, p.held old.now h)
 
@@ -99,14 +99,14 @@ module _ {T : Type 0} (p : Place T) (old new : State) (ready : IsReady old) wher
 
   -- the table's rows become these of the rows that it had
   left : (after : List T → List T) (result : Result ℕ Error) {P : Trees → Type 0} → Survives old new P → (HasCleanDisk new → IsTrue old.is_open → OnOk result (Leaves p.form host_schema p.table.tree old new (after stored)))
-      → HasCleanDisk new → IsTrue old.is_open → OnOk result (IsHost new.now × (tables new ≡ p.set (tables old) (after (p.rows (tables old)))))
+      → HasCleanDisk new → IsTrue old.is_open → OnOk result (IsHostBy sums new.now × (tables new ≡ p.set (tables old) (after (p.rows (tables old)))))
   left after (Err e) survives h clean up = tt
   left after (Ok n) survives h clean up = turned p old new _ (ready (clean_before old new _ survives clean) up) (subst (λ l. Leaves p.form host_schema p.table.tree old new (after l)) (p.rows_are old.now) (h clean up))
 
   module _ (result : Result ℕ Error) (sql : List ℕ) (params : Row) (runs : HasCleanDisk new → Executes sql params old new result) (survives : Survives old new (CommitsBy sql params old)) (live : IsLive old) where
     -- one row more, where it may be the next
     pub inserted : (x : T) {A : Type 0} → InsertText p.form host_schema p.number p.table sql params x → (HasCleanDisk old → IsTrue old.is_open → A → MayAdd p.form host_schema p.table old.now.trees x)
-        → Writes old new (λ t. p.set t (p.rows t ++ x ∷ [])) (λ e. A → is_trouble e ≡ true) result
+        → Writes sums old new (λ t. p.set t (p.rows t ++ x ∷ [])) (λ e. A → is_trouble e ≡ true) result
     inserted x it may = record {
       changes = text.insert_changes p.form host_schema orderly p.number p.table p.is old new ready_at sql params x it result runs survives;
       leaves = left (λ l. l ++ x ∷ []) result survives (text.insert_adds p.form host_schema orderly p.number p.table p.is old new ready_at sql params x it result runs survives);
@@ -115,16 +115,16 @@ module _ {T : Type 0} (p : Place T) (old new : State) (ready : IsReady old) wher
 
     -- the rows that pass, changed
     pub updated : (m : T → Bool) (f : T → T) → UpdateText p.form host_schema p.number p.table sql params m f → MayChange p.form host_schema p.table m f
-        → Writes old new (λ t. p.set t (update_where m f (p.rows t))) (λ e. is_trouble e ≡ true) result
+        → Writes sums old new (λ t. p.set t (update_where m f (p.rows t))) (λ e. is_trouble e ≡ true) result
     updated m f it may = record {
       changes = text.update_changes p.form host_schema orderly p.number p.table p.is old new ready_at sql params m f it result runs survives;
-      leaves = left (update_where m f) result survives (text.update_sets p.form host_schema orderly p.number p.table p.is old new ready_at sql params m f it result runs survives);
+      leaves = left (update_where m f) result survives (text.update_sets p.form host_schema orderly p.number p.table p.is old new ready_at sql params m f it live result runs survives);
       errors = text.update_only_trouble p.form host_schema orderly p.number p.table p.is old new ready_at sql params m f it live may result runs survives;
     }
 
     -- the rows that pass, gone, of a table to which no other refers
     pub deleted : (m : T → Bool) → DeleteText p.form host_schema p.number p.table sql params m → ((rows : List Row) → AreUnused host_schema old.now.trees p.table.tree rows)
-        → Writes old new (λ t. p.set t (delete_where m (p.rows t))) (λ e. is_trouble e ≡ true) result
+        → Writes sums old new (λ t. p.set t (delete_where m (p.rows t))) (λ e. is_trouble e ≡ true) result
     deleted m it unused = record {
       changes = text.delete_changes p.form host_schema orderly p.number p.table p.is old new ready_at sql params m it result runs survives;
       leaves = left (delete_where m) result survives (text.delete_removes p.form host_schema orderly p.number p.table p.is old new ready_at sql params m it result runs survives);
@@ -133,7 +133,7 @@ module _ {T : Type 0} (p : Place T) (old new : State) (ready : IsReady old) wher
 
     -- the same of a table to which others refer, where they name none of those rows
     pub removed : (m : T → Bool) {A : Type 0} → DeleteText p.form host_schema p.number p.table sql params m → (HasCleanDisk old → IsTrue old.is_open → A → Goes p old.now.trees m)
-        → Writes old new (λ t. p.set t (delete_where m (p.rows t))) (λ e. A → is_trouble e ≡ true) result
+        → Writes sums old new (λ t. p.set t (delete_where m (p.rows t))) (λ e. A → is_trouble e ≡ true) result
     removed m it goes = record {
       changes = text.delete_changes p.form host_schema orderly p.number p.table p.is old new ready_at sql params m it result runs survives;
       leaves = left (delete_where m) result survives (text.delete_removes p.form host_schema orderly p.number p.table p.is old new ready_at sql params m it result runs survives);

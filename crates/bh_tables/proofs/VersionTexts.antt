@@ -23,7 +23,7 @@ use Rattle.bh_rows.specs.Texts.{MayAdd, InsertText, DeleteText, SelectText, Sort
 use Rattle.bh_rows.proofs.FormLemmas.{any_typed}
 use Rattle.bh_rows.proofs.ScanLemmas.{then_assoc}
 use Rattle.bh_tables.specs.Schema.{Octets, host_schema, versions_table, at}
-use Rattle.bh_tables.specs.Typed.{VersionColumns, VersionRow, version_form, bucket_form, number, IsHost, tables_in}
+use Rattle.bh_tables.specs.Typed.{Totals, VersionColumns, VersionRow, version_form, bucket_form, number, IsHostBy, tables_in}
 use Rattle.bh_tables.specs.Bodies.{bare, resolved}
 use Rattle.bh_tables.specs.Shown.{is_version, is_at, is_in_bucket, is_entry, is_bucket, is_marked_right, newer, by_id, shown_head, shown_seq, is_version_of, has_marker}
 use Rattle.bh_tables.proofs.ResolvedLemmas.{any_resolved}
@@ -36,14 +36,14 @@ entry_agrees : (i j : ℤ) (a b : VersionColumns) → agree plain (1 ∷ 2 ∷ [
 unfolding first_key
 entry_agrees i j a b = then_term (at_texts false Eq a.tenant b.tenant) (last_term (at_ints false Eq (pos a.seq) (pos b.seq)))
 
-version_agrees : (i j : ℤ) (a b : VersionColumns) → agree plain (1 ∷ 3 ∷ 4 ∷ 5 ∷ []) (put version_form (i, a)) (1 ∷ 3 ∷ 4 ∷ 5 ∷ []) (put version_form (j, b)) ≡ is_version b.tenant b.bucket b.okey b.id (bare a)
+pub version_agrees : (i j : ℤ) (a b : VersionColumns) → agree plain (1 ∷ 3 ∷ 4 ∷ 5 ∷ []) (put version_form (i, a)) (1 ∷ 3 ∷ 4 ∷ 5 ∷ []) (put version_form (j, b)) ≡ is_version b.tenant b.bucket b.okey b.id (bare a)
 unfolding first_key
 version_agrees i j a b = then_term (at_texts false Eq a.tenant b.tenant) (then_term (at_texts false Eq a.bucket b.bucket) (then_term (at_blobs false Eq a.okey b.okey) (last_term (at_ints false Eq (pos a.id) (pos b.id)))))
 
-pub new_version : (db : Database) → IsHost db → (v : VersionColumns) → is_marked_right (bare v) ≡ true → list_any (is_entry v.tenant v.seq) (tables_in db).versions ≡ false → list_any (is_version v.tenant v.bucket v.okey v.id) (tables_in db).versions ≡ false
+pub new_version : {sums : Totals} (db : Database) → IsHostBy sums db → (v : VersionColumns) → is_marked_right (bare v) ≡ true → list_any (is_entry v.tenant v.seq) (tables_in db).versions ≡ false → list_any (is_version v.tenant v.bucket v.okey v.id) (tables_in db).versions ≡ false
     → list_any (is_bucket v.tenant v.bucket) (tables_in db).buckets ≡ true → MayAdd version_form host_schema (at 7 versions_table) db.trees v
 unfolding everything
-new_version db host v right unnumbered free owned = record {
+new_version {sums} db host v right unnumbered free owned = record {
   suits = record { typed = refl; present = refl; checked = version_checked (next_rowid (db.trees 7)) v right };
   free = (
     any_typed version_form _ (λ a. is_entry v.tenant v.seq (bare a)) (λ id a. entry_agrees id (next_rowid (db.trees 7)) a v) (db.trees 7) host.held.versions ∙ sym (any_in_it (is_entry v.tenant v.seq)) ∙ unnumbered,

@@ -1,5 +1,5 @@
 -- Whether a database is a host's, as a test, and what it then shows.
-use Rattle.std.specs.Prelude.{◌==◌, Bool, true, false, ◌&&◌, List, [], ◌∷◌, if◌then◌else◌}
+use Rattle.std.specs.Prelude.{◌==◌, Bool, true, false, ◌&&◌, List, [], ◌∷◌, map, if◌then◌else◌}
 use Rattle.std.specs.List.{list_all}
 use Rattle.std.specs.Ordering.{is_lt}
 use Rattle.std.specs.Coded.{Coded, coded_list}
@@ -11,9 +11,9 @@ use Rattle.sqlite.specs.Edit.{id_in}
 use Rattle.sqlite.specs.Effect.{Database}
 use Rattle.sqlite_value.specs.contracts.value.Value as value
 use Rattle.sqlite_schema.specs.contracts.schema.Schema as schema
-use Rattle.bh_rows.specs.Form.{Form}
+use Rattle.bh_rows.specs.Form.{Form, typed}
 use Rattle.bh_tables.specs.Schema.{host_schema}
-use Rattle.bh_tables.specs.Typed.{Tables, Raw, raw, tables_in, no_rows, host_form, tenant_form, key_form, bucket_form, version_form, block_form, ref_form, upload_form, part_form}
+use Rattle.bh_tables.specs.Typed.{Tables, Totals, totals_of, Raw, raw, tables_in, no_rows, host_form, tenant_form, key_form, bucket_form, version_form, block_form, ref_form, upload_form, part_form, UseRow, use_columns, use_form}
 
 -- ---- equality, by the codes that the logic gives to values
 
@@ -47,13 +47,19 @@ is_row form r = same coded_row r (Int (id_in (rowid r)) ∷ form.encode (form.de
 abbrev pub are_rows : {T : Type 0} → Form T → List Row → Bool
 are_rows form rows = list_all (is_row form) rows && ascends rows
 
-abbrev pub are_held : Raw → Bool
-are_held r = are_rows host_form r.host && (are_rows tenant_form r.tenants && (are_rows key_form r.keys && (are_rows bucket_form r.buckets && (are_rows version_form r.versions && (are_rows block_form r.blocks && (are_rows ref_form r.refs && (are_rows upload_form r.uploads && are_rows part_form r.parts)))))))
+-- the counts of uses are these
+abbrev pub are_counts : List Row → List UseRow → Bool
+are_counts rows uses = same (coded_list coded_row) (map use_columns (typed use_form rows)) (map use_columns uses)
+
+abbrev pub are_held : Totals → Raw → Bool
+are_held sums r = are_rows host_form r.host && (are_rows (tenant_form sums) r.tenants && (are_rows key_form r.keys && (are_rows bucket_form r.buckets && (are_rows version_form r.versions && (are_rows block_form r.blocks && (are_rows ref_form r.refs && (are_rows (upload_form sums) r.uploads
+    && (are_rows part_form r.parts && (are_rows use_form r.uses && are_counts r.uses sums.uses)))))))))
 
 -- ---- databases
 
+-- The schema is a host's, each row is typed, and what is kept of other rows, as a tenant's `used`, is what they have
 unfoldable pub is_host : Database → Bool
-is_host db = same schema.the_row.coded db.schema host_schema && are_held (raw db.trees)
+is_host db = same schema.the_row.coded db.schema host_schema && are_held (totals_of (tables_in db)) (raw db.trees)
 
 -- a host's tables; a database that is no host's shows no row
 unfoldable pub tables_shown : Database → Tables

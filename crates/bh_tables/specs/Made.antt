@@ -1,7 +1,7 @@
 -- The schema as its tables and indexes are made, one after another.
 use Rattle.sqlite.specs.Schema.{Schema}
 use Rattle.sqlite.specs.Change.{created, indexed}
-use Rattle.bh_tables.specs.Schema.{no_schema, host_table, tenants_table, keys_table, buckets_table, versions_table, blocks_table, refs_table, uploads_table, parts_table, at, newest, refs_by_block, uploads_by_key, uploads_by_moment, version_sizes, part_sizes}
+use Rattle.bh_tables.specs.Schema.{no_schema, host_table, tenants_table, keys_table, buckets_table, versions_table, blocks_table, refs_table, uploads_table, parts_table, at, newest, refs_by_block, uploads_by_key, uploads_by_moment, uses_table, uses_by_count}
 
 abbrev pub with_host : Schema
 with_host = created no_schema host_table
@@ -42,8 +42,8 @@ with_uploads_by_key = indexed with_parts (at 16 uploads_table) uploads_by_key
 abbrev pub with_uploads_by_moment : Schema
 with_uploads_by_moment = indexed with_uploads_by_key (at 16 uploads_table) uploads_by_moment
 
-abbrev pub with_version_sizes : Schema
-with_version_sizes = indexed with_uploads_by_moment (at 7 versions_table) version_sizes
+abbrev pub with_uses : Schema
+with_uses = created with_uploads_by_moment uses_table
 
-abbrev pub with_part_sizes : Schema
-with_part_sizes = indexed with_version_sizes (at 18 parts_table) part_sizes
+abbrev pub with_uses_by_count : Schema
+with_uses_by_count = indexed with_uses (at 23 uses_table) uses_by_count

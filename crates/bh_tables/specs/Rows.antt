@@ -1,5 +1,5 @@
 -- The rows of each table as typed records, with the columns that each is stored as.
-use Rattle.std.specs.Prelude.{◌≡◌, ℕ, pos, [], ◌∷◌, Option, Some, None, refl, unsigned_abs}
+use Rattle.std.specs.Prelude.{◌≡◌, ℕ, ℤ, pos, List, [], ◌∷◌, Option, Some, None, refl, unsigned_abs}
 use Rattle.sqlite.specs.declared.types.Value.{Value}
 use Rattle.sqlite.specs.declared.types.Value.TheVariants.{Null, Int, Text, Blob}
 use Rattle.sqlite.specs.Order.{Row, column}
@@ -24,6 +24,28 @@ pub maybe_back : (o : Option ℕ) → maybe_number (or_null number o) ≡ o
 maybe_back None = refl
 maybe_back (Some n) = refl
 
+-- ---- what is kept of other rows: of a tenant the bytes that its versions and parts have, of an upload those of its parts, and of
+-- each block, in the order of the blocks, how many references name it. The columns and the table that hold it have CHECKs from 0 to 2^62
+
+pub record UseRow : Type 0 where
+  pub digest : Octets
+  pub ord : ℕ
+  pub uses : ℤ
+
+abbrev pub use_columns : UseRow → Row
+use_columns u = Blob u.digest ∷ number u.ord ∷ Int u.uses ∷ []
+
+abbrev pub use_of : Row → UseRow
+use_of r = record { digest = bytes_of (column r 1); ord = column_number (column r 2); uses = int_of (column r 3) }
+
+abbrev pub use_form : Form UseRow
+use_form = record { encode = use_columns; decode = use_of; back = λ _ x. refl }
+
+pub record Totals : Type 0 where
+  pub used : Octets → ℤ
+  pub kept : Octets × ℕ → ℤ
+  pub uses : List UseRow
+
 -- ---- the host: one row, whose id is the row's number and so is no column of the record
 
 pub record HostRow : Type 0 where
@@ -32,12 +54,14 @@ pub record HostRow : Type 0 where
   pub latest : ℕ
   pub min_part : ℕ
   pub max_body : ℕ
+  -- the function that names blocks: 0 is SHA-256 (FIPS 180-4)
+  pub digest : ℕ
 
 abbrev pub host_columns : HostRow → Row
-host_columns x = Null ∷ number x.version ∷ number x.latest ∷ number x.min_part ∷ number x.max_body ∷ []
+host_columns x = Null ∷ number x.version ∷ number x.latest ∷ number x.min_part ∷ number x.max_body ∷ number x.digest ∷ []
 
 abbrev pub host_of : Row → HostRow
-host_of r = record { version = column_number (column r 2); latest = column_number (column r 3); min_part = column_number (column r 4); max_body = column_number (column r 5) }
+host_of r = record { version = column_number (column r 2); latest = column_number (column r 3); min_part = column_number (column r 4); max_body = column_number (column r 5); digest = column_number (column r 6) }
 
 abbrev pub host_form : Form HostRow
 host_form = record { encode = host_columns; decode = host_of; back = λ _ x. refl }
@@ -51,14 +75,22 @@ pub record TenantRow : Type 0 where
   pub next_upload : ℕ
   pub next_entry : ℕ
 
-abbrev pub tenant_columns : TenantRow → Row
-tenant_columns x = Text x.tenant ∷ number x.quota ∷ number x.next_version ∷ number x.next_upload ∷ number x.next_entry ∷ []
+abbrev pub tenant_columns : ℤ → TenantRow → Row
+tenant_columns used x = Text x.tenant ∷ number x.quota ∷ number x.next_version ∷ number x.next_upload ∷ number x.next_entry ∷ Int used ∷ []
 
 abbrev pub tenant_of : Row → TenantRow
 tenant_of r = record { tenant = bytes_of (column r 1); quota = column_number (column r 2); next_version = column_number (column r 3); next_upload = column_number (column r 4); next_entry = column_number (column r 5) }
 
-abbrev pub tenant_form : Form TenantRow
-tenant_form = record { encode = tenant_columns; decode = tenant_of; back = λ _ x. refl }
+abbrev pub tenant_form : Totals → Form TenantRow
+tenant_form sums = record { encode = λ x. tenant_columns (sums.used x.tenant) x; decode = tenant_of; back = λ _ x. refl }
+
+-- as it is stored, whatever its total
+pub record TenantColumns : Type 0 where
+  pub row : TenantRow
+  pub used : ℤ
+
+abbrev pub stored_tenant_form : Form TenantColumns
+stored_tenant_form = record { encode = λ c. tenant_columns c.used c.row; decode = λ r. record { row = tenant_of r; used = int_of (column r 6) }; back = λ _ x. refl }
 
 -- ---- access keys
 
@@ -200,14 +232,22 @@ pub record UploadRow : Type 0 where
   -- seconds since 1970
   pub begun : ℕ
 
-abbrev pub upload_columns : UploadRow → Row
-upload_columns x = Text x.tenant ∷ number x.upload ∷ Text x.bucket ∷ Blob x.okey ∷ number x.begun ∷ []
+abbrev pub upload_columns : ℤ → UploadRow → Row
+upload_columns kept x = Text x.tenant ∷ number x.upload ∷ Text x.bucket ∷ Blob x.okey ∷ number x.begun ∷ Int kept ∷ []
 
 abbrev pub upload_of : Row → UploadRow
 upload_of r = record { tenant = bytes_of (column r 1); upload = column_number (column r 2); bucket = bytes_of (column r 3); okey = bytes_of (column r 4); begun = column_number (column r 5) }
 
-abbrev pub upload_form : Form UploadRow
-upload_form = record { encode = upload_columns; decode = upload_of; back = λ _ x. refl }
+abbrev pub upload_form : Totals → Form UploadRow
+upload_form sums = record { encode = λ x. upload_columns (sums.kept (x.tenant, x.upload)) x; decode = upload_of; back = λ _ x. refl }
+
+-- as it is stored, whatever its total
+pub record UploadColumns : Type 0 where
+  pub row : UploadRow
+  pub kept : ℤ
+
+abbrev pub stored_upload_form : Form UploadColumns
+stored_upload_form = record { encode = λ c. upload_columns c.kept c.row; decode = λ r. record { row = upload_of r; kept = int_of (column r 6) }; back = λ _ x. refl }
 
 -- ---- parts of uploads
 

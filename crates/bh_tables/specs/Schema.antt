@@ -1,4 +1,4 @@
--- The schema of a host as a value: nine tables and three indexes, each as its CREATE text defines it.
+-- The schema of a host as a value: ten tables and five indexes, each as its CREATE text defines it.
 use Rattle.std.specs.Prelude.{ℕ, true, false, [], ◌∷◌, List, map, Some, None, codes, pos}
 use Rattle.sqlite.specs.Collation.TheVariants.{Binary}
 use Rattle.sqlite.specs.declared.types.Value.TheVariants.{Null, Int, Text as Words}
@@ -32,6 +32,10 @@ maybe name kind = record (given name kind) { not_null = false }
 abbrev pub is_natural : ℕ → Term
 is_natural place = op2 (Compare Ge Binary) (col 1 place) (lit (Int (pos 0)))
 
+-- CHECK (column <= 4611686018427387904), which is 2^62: one more, or a sum with a smaller number, is still a number of 64 bits
+abbrev pub is_small : ℕ → Term
+is_small place = op2 (Compare Le Binary) (col 1 place) (lit (Int (pos 4611686018427387904)))
+
 -- a table with these columns, whose primary key and other keys are the columns at these places
 abbrev pub table : Octets → List Column → List ℕ → List (List ℕ) → List Reference → List Term → Table
 table name columns primary others references checks = record {
@@ -57,16 +61,17 @@ refers columns parent = record { columns = columns; parent = parent; parent_colu
 
 -- one row, whose id is the row's number
 abbrev pub host_table : Table
-host_table = record (table (codes "host") (maybe (codes "id") Integer ∷ given (codes "version") Integer ∷ given (codes "latest") Integer ∷ given (codes "min_part") Integer ∷ given (codes "max_body") Integer ∷ []) (0 ∷ []) [] []
-    (op2 (Compare Eq Binary) (col 1 0) (lit (Int (pos 1))) ∷ is_natural 2 ∷ is_natural 3 ∷ is_natural 4 ∷ is_natural 5 ∷ [])) {
+host_table = record (table (codes "host") (maybe (codes "id") Integer ∷ given (codes "version") Integer ∷ given (codes "latest") Integer ∷ given (codes "min_part") Integer ∷ given (codes "max_body") Integer ∷ given (codes "digest") Integer ∷ []) (0 ∷ []) [] []
+    (op2 (Compare Eq Binary) (col 1 0) (lit (Int (pos 1))) ∷ is_natural 2 ∷ is_natural 3 ∷ is_natural 4 ∷ is_natural 5 ∷ is_natural 6 ∷ [])) {
       key = Some 0;
       uniques = [];
       orders = [];
     }
 
+-- each with the bytes that its versions and parts have
 abbrev pub tenants_table : Table
-tenants_table = table (codes "tenants") (given (codes "tenant") Text ∷ given (codes "quota") Integer ∷ given (codes "next_version") Integer ∷ given (codes "next_upload") Integer ∷ given (codes "next_entry") Integer ∷ [])
-    (1 ∷ []) [] [] (is_natural 2 ∷ is_natural 3 ∷ is_natural 4 ∷ is_natural 5 ∷ [])
+tenants_table = table (codes "tenants") (given (codes "tenant") Text ∷ given (codes "quota") Integer ∷ given (codes "next_version") Integer ∷ given (codes "next_upload") Integer ∷ given (codes "next_entry") Integer ∷ given (codes "used") Integer ∷ [])
+    (1 ∷ []) [] [] (is_natural 2 ∷ is_natural 3 ∷ is_natural 4 ∷ is_natural 5 ∷ is_natural 6 ∷ is_small 6 ∷ [])
 
 abbrev pub keys_table : Table
 keys_table = table (codes "keys") (given (codes "tenant") Text ∷ given (codes "name") Text ∷ given (codes "secret") Text ∷ []) (1 ∷ 2 ∷ []) [] (refers (1 ∷ []) (codes "tenants") ∷ []) []
@@ -88,15 +93,19 @@ versions_table = table (codes "versions")
 abbrev pub blocks_table : Table
 blocks_table = table (codes "blocks") (given (codes "digest") Blob ∷ given (codes "ord") Integer ∷ given (codes "bytes") Blob ∷ []) (1 ∷ 2 ∷ []) [] [] (is_natural 2 ∷ [])
 
+-- how many references name each block. It is no column of blocks, since an UPDATE writes a row whole, its bytes too
+abbrev pub uses_table : Table
+uses_table = table (codes "uses") (given (codes "digest") Blob ∷ given (codes "ord") Integer ∷ given (codes "uses") Integer ∷ []) (1 ∷ 2 ∷ []) [] [] (is_natural 2 ∷ is_natural 3 ∷ is_small 3 ∷ [])
+
 -- the block at each place of a body, which is an entry number of the tenant
 abbrev pub refs_table : Table
 refs_table = table (codes "refs") (given (codes "tenant") Text ∷ given (codes "body") Integer ∷ given (codes "place") Integer ∷ given (codes "digest") Blob ∷ given (codes "ord") Integer ∷ given (codes "size") Integer ∷ [])
     (1 ∷ 2 ∷ 3 ∷ []) [] (refers (4 ∷ 5 ∷ []) (codes "blocks") ∷ []) (is_natural 2 ∷ is_natural 3 ∷ is_natural 5 ∷ is_natural 6 ∷ [])
 
--- uploads that are neither completed nor aborted
+-- uploads that are neither completed nor aborted, each with the bytes that its parts have
 abbrev pub uploads_table : Table
-uploads_table = table (codes "uploads") (given (codes "tenant") Text ∷ given (codes "upload") Integer ∷ given (codes "bucket") Text ∷ given (codes "okey") Blob ∷ given (codes "begun") Integer ∷ [])
-    (1 ∷ 2 ∷ []) [] (refers (1 ∷ 3 ∷ []) (codes "buckets") ∷ []) (is_natural 2 ∷ is_natural 5 ∷ [])
+uploads_table = table (codes "uploads") (given (codes "tenant") Text ∷ given (codes "upload") Integer ∷ given (codes "bucket") Text ∷ given (codes "okey") Blob ∷ given (codes "begun") Integer ∷ given (codes "bytes_kept") Integer ∷ [])
+    (1 ∷ 2 ∷ []) [] (refers (1 ∷ 3 ∷ []) (codes "buckets") ∷ []) (is_natural 2 ∷ is_natural 5 ∷ is_natural 6 ∷ is_small 6 ∷ [])
 
 -- the parts of uploads, each with its body, which is an entry number of the tenant
 abbrev pub parts_table : Table
@@ -132,13 +141,9 @@ uploads_by_key = record { name = codes "uploads_by_key"; tree = 0; table = 16; c
 abbrev pub uploads_by_moment : Index
 uploads_by_moment = record { name = codes "uploads_by_moment"; tree = 0; table = 16; columns = 1 ∷ 3 ∷ 5 ∷ 2 ∷ []; order = record { digits = 0 }; is_unique = false }
 
--- a tenant's versions by size. Having all that a sum of sizes reads, it is read in place of the table
-abbrev pub version_sizes : Index
-version_sizes = record { name = codes "version_sizes"; tree = 0; table = 7; columns = 1 ∷ 8 ∷ []; order = record { digits = 0 }; is_unique = false }
-
--- a tenant's parts by size
-abbrev pub part_sizes : Index
-part_sizes = record { name = codes "part_sizes"; tree = 0; table = 18; columns = 1 ∷ 4 ∷ []; order = record { digits = 0 }; is_unique = false }
+-- blocks by how many references name them, those of none first
+abbrev pub uses_by_count : Index
+uses_by_count = record { name = codes "uses_by_count"; tree = 0; table = 23; columns = 3 ∷ 1 ∷ 2 ∷ []; order = record { digits = 0 }; is_unique = false }
 
 abbrev pub no_schema : Schema
 no_schema = record { tables = []; indexes = []; views = [] }
@@ -146,13 +151,13 @@ no_schema = record { tables = []; indexes = []; views = [] }
 abbrev pub host_schema : Schema
 host_schema = record {
   tables = at 0 host_table ∷ at 1 tenants_table ∷ at 3 keys_table ∷ at 5 buckets_table ∷ at 7 versions_table ∷ at 10 blocks_table ∷ at 12 refs_table
-      ∷ at 16 uploads_table ∷ at 18 parts_table ∷ [];
+      ∷ at 16 uploads_table ∷ at 18 parts_table ∷ at 23 uses_table ∷ [];
   indexes = auto (codes "sqlite_autoindex_tenants_1") 2 1 (1 ∷ []) ∷ auto (codes "sqlite_autoindex_keys_1") 4 3 (1 ∷ 2 ∷ [])
       ∷ auto (codes "sqlite_autoindex_buckets_1") 6 5 (1 ∷ 2 ∷ []) ∷ auto (codes "sqlite_autoindex_versions_1") 8 7 (1 ∷ 2 ∷ [])
       ∷ auto (codes "sqlite_autoindex_versions_2") 9 7 (1 ∷ 3 ∷ 4 ∷ 5 ∷ []) ∷ auto (codes "sqlite_autoindex_blocks_1") 11 10 (1 ∷ 2 ∷ [])
       ∷ auto (codes "sqlite_autoindex_refs_1") 13 12 (1 ∷ 2 ∷ 3 ∷ []) ∷ record newest { tree = 14 } ∷ record refs_by_block { tree = 15 }
       ∷ auto (codes "sqlite_autoindex_uploads_1") 17 16 (1 ∷ 2 ∷ []) ∷ auto (codes "sqlite_autoindex_parts_1") 19 18 (1 ∷ 2 ∷ 3 ∷ [])
       ∷ auto (codes "sqlite_autoindex_parts_2") 20 18 (1 ∷ 7 ∷ []) ∷ record uploads_by_key { tree = 21 } ∷ record uploads_by_moment { tree = 22 }
-      ∷ record version_sizes { tree = 23 } ∷ record part_sizes { tree = 24 } ∷ [];
+      ∷ auto (codes "sqlite_autoindex_uses_1") 24 23 (1 ∷ 2 ∷ []) ∷ record uses_by_count { tree = 25 } ∷ [];
   views = [];
 }

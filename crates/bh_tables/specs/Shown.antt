@@ -3,14 +3,14 @@ use Rattle.std.specs.Prelude.{ℕ, Bool, ◌&&◌, ◌||◌, not, pos, List, [],
 use Rattle.std.specs.List.{list_any}
 use Rattle.std.specs.Ordering.{int_eq, int_cmp, ordering_then}
 use Rattle.std.specs.declared.cmp.Ordering.{Ordering}
-use Rattle.sqlite.specs.declared.types.Value.TheVariants.{Text, Blob}
+use Rattle.sqlite.specs.declared.types.Value.TheVariants.{Int, Text, Blob}
 use Rattle.sqlite.specs.Order.{Row}
 use Rattle.sqlite_keyed.specs.Lists.{sort_by}
 use Rattle.sqlite_typed.specs.Columns.{or_null}
 use Rattle.sqlite_typed.specs.Tests.{bytes_eq, bytes_cmp}
 use Rattle.bh_tables.specs.Schema.{Octets}
 pub use Rattle.bh_tables.specs.Bodies.{Name, same_name, block_name, ref_name, body_name, part_name, by_place}
-use Rattle.bh_tables.specs.Typed.{HostRow, TenantRow, KeyRow, BucketRow, VersionRow, BlockRow, RefRow, UploadRow, PartRow, number}
+use Rattle.bh_tables.specs.Typed.{Totals, UseRow, HostRow, TenantRow, KeyRow, BucketRow, VersionRow, BlockRow, RefRow, UploadRow, PartRow, number}
 
 -- ---- the row of a primary key, or of the unique key of versions
 
@@ -89,6 +89,13 @@ by_name a b = ordering_then (bytes_cmp a.digest b.digest) (int_cmp (pos a.ord) (
 -- at most so many blocks that no reference names, by digest and ordinal
 abbrev pub unreferenced : ℕ → List RefRow → List BlockRow → List BlockRow
 unreferenced limit refs blocks = take limit (sort_by by_name (filter (is_unreferenced refs) blocks))
+
+-- the count of a block that no reference names
+abbrev pub is_unused : UseRow → Bool
+is_unused u = int_eq u.uses (pos 0)
+
+abbrev pub by_use_name : UseRow → UseRow → Ordering
+by_use_name a b = ordering_then (bytes_cmp a.digest b.digest) (int_cmp (pos a.ord) (pos b.ord))
 
 -- ---- uploads and their parts
 
@@ -178,6 +185,10 @@ shown_latest h = number h.latest ∷ []
 abbrev pub shown_tenant : TenantRow → Row
 shown_tenant t = number t.quota ∷ number t.next_version ∷ number t.next_upload ∷ number t.next_entry ∷ []
 
+-- the same, with the bytes that it uses
+abbrev pub shown_account : Totals → TenantRow → Row
+shown_account sums t = number t.quota ∷ number t.next_version ∷ number t.next_upload ∷ number t.next_entry ∷ Int (sums.used t.tenant) ∷ []
+
 abbrev pub shown_secret : KeyRow → Row
 shown_secret k = Text k.secret ∷ []
 
@@ -205,6 +216,9 @@ shown_ord b = number b.ord ∷ []
 abbrev pub shown_name : BlockRow → Row
 shown_name b = Blob b.digest ∷ number b.ord ∷ []
 
+abbrev pub shown_use_name : UseRow → Row
+shown_use_name u = Blob u.digest ∷ number u.ord ∷ []
+
 abbrev pub shown_bytes : BlockRow → Row
 shown_bytes b = Blob b.bytes ∷ []
 
@@ -214,6 +228,10 @@ shown_ref r = Blob r.digest ∷ number r.ord ∷ number r.size ∷ []
 
 abbrev pub shown_upload : UploadRow → Row
 shown_upload u = Text u.bucket ∷ Blob u.okey ∷ number u.begun ∷ []
+
+-- the bytes of its parts
+abbrev pub shown_kept : Totals → UploadRow → Row
+shown_kept sums u = Int (sums.kept (u.tenant, u.upload)) ∷ []
 
 abbrev pub shown_number : UploadRow → Row
 shown_number u = number u.upload ∷ []

@@ -1,13 +1,17 @@
 -- The tables that a state of the store shows, each as a list of typed rows.
-use Rattle.std.specs.Prelude.{◌≡◌, List, [], map, IsTrue}
+use Rattle.std.specs.Prelude.{◌≡◌, ℕ, Bool, ◌+◌, ◌+ℤ◌, ◌-ℤ◌, ◌&&◌, if◌then◌else◌, pos, List, [], ◌∷◌, map, filter, length, IsTrue}
+use Rattle.std.specs.List.{sum_by}
+use Rattle.std.specs.Ordering.{int_eq}
+use Rattle.sqlite_keyed.specs.Lists.{update_where}
+use Rattle.sqlite_typed.specs.Tests.{bytes_eq}
 use Rattle.sqlite.specs.Order.{Row}
 use Rattle.sqlite.specs.Tree.{Trees}
 use Rattle.sqlite.specs.Effect.{Database}
 use Rattle.sqlite.specs.State.{State, HasCleanDisk}
 use Rattle.bh_rows.specs.Form.{AreRows, typed}
-use Rattle.bh_tables.specs.Schema.{host_schema}
-use Rattle.bh_tables.specs.Bodies.{resolved, resolved_again, resolved_part, resolved_part_again}
-pub use Rattle.bh_tables.specs.Rows.{column_number, maybe_number, number, maybe_back, HostRow, host_columns, host_of, host_form, TenantRow, tenant_columns, tenant_of, tenant_form, KeyRow, key_columns, key_of, key_form, BucketRow, bucket_columns, bucket_of, bucket_form, VersionColumns, version_columns, version_of, version_form, VersionRow, BlockRow, block_columns, block_of, block_form, RefRow, ref_columns, ref_of, ref_form, UploadRow, upload_columns, upload_of, upload_form, PartColumns, part_columns, part_of, part_form, PartRow}
+use Rattle.bh_tables.specs.Schema.{Octets, host_schema}
+use Rattle.bh_tables.specs.Bodies.{Name, same_name, block_name, ref_name, resolved, resolved_again, resolved_part, resolved_part_again}
+pub use Rattle.bh_tables.specs.Rows.{Totals, column_number, maybe_number, number, maybe_back, HostRow, host_columns, host_of, host_form, TenantRow, tenant_columns, tenant_of, tenant_form, TenantColumns, stored_tenant_form, KeyRow, key_columns, key_of, key_form, BucketRow, bucket_columns, bucket_of, bucket_form, VersionColumns, version_columns, version_of, version_form, VersionRow, BlockRow, block_columns, block_of, block_form, UseRow, use_columns, use_of, use_form, RefRow, ref_columns, ref_of, ref_form, UploadRow, upload_columns, upload_of, upload_form, UploadColumns, stored_upload_form, PartColumns, part_columns, part_of, part_form, PartRow}
 
 -- ---- all tables
 
@@ -36,20 +40,21 @@ pub record Raw : Type 0 where
   pub refs : List Row
   pub uploads : List Row
   pub parts : List Row
+  pub uses : List Row
 
 abbrev pub raw : Trees → Raw
-raw db = record { host = db 0; tenants = db 1; keys = db 3; buckets = db 5; versions = db 7; blocks = db 10; refs = db 12; uploads = db 16; parts = db 18 }
+raw db = record { host = db 0; tenants = db 1; keys = db 3; buckets = db 5; versions = db 7; blocks = db 10; refs = db 12; uploads = db 16; parts = db 18; uses = db 23 }
 
 abbrev pub tables_of : Raw → Tables
 tables_of r = record {
   host = typed host_form r.host;
-  tenants = typed tenant_form r.tenants;
+  tenants = map tenant_of r.tenants;
   keys = typed key_form r.keys;
   buckets = typed bucket_form r.buckets;
   versions = map (resolved (typed ref_form r.refs) (typed block_form r.blocks)) (typed version_form r.versions);
   blocks = typed block_form r.blocks;
   refs = typed ref_form r.refs;
-  uploads = typed upload_form r.uploads;
+  uploads = map upload_of r.uploads;
   parts = map (resolved_part (typed ref_form r.refs) (typed block_form r.blocks)) (typed part_form r.parts);
 }
 
@@ -62,17 +67,19 @@ rebodied tables refs blocks = record tables {
   blocks = blocks;
 }
 
--- each stored row is the columns of a typed row
-pub record AreHeld (r : Raw) : Type 0 where
+-- each stored row is the columns of a typed row, and what is kept of other rows is this
+pub record AreHeld (sums : Totals) (r : Raw) : Type 0 where
   pub host : AreRows host_form r.host
-  pub tenants : AreRows tenant_form r.tenants
+  pub tenants : AreRows (tenant_form sums) r.tenants
   pub keys : AreRows key_form r.keys
   pub buckets : AreRows bucket_form r.buckets
   pub versions : AreRows version_form r.versions
   pub blocks : AreRows block_form r.blocks
   pub refs : AreRows ref_form r.refs
-  pub uploads : AreRows upload_form r.uploads
+  pub uploads : AreRows (upload_form sums) r.uploads
   pub parts : AreRows part_form r.parts
+  pub uses : AreRows use_form r.uses
+  pub counts : typed use_form r.uses ≡ sums.uses
 
 -- what a database has in its tables, and a state of the store in those of the database that it sees
 abbrev pub tables_in : Database → Tables
@@ -81,11 +88,64 @@ tables_in db = tables_of (raw db.trees)
 abbrev pub tables : State → Tables
 tables s = tables_in s.now
 
--- the database is a host's: it has the schema, and rows that are typed rows
-pub record IsHost (db : Database) : Type 0 where
+-- how many references name a block
+abbrev pub use_among : List RefRow → BlockRow → UseRow
+use_among refs b = record { digest = b.digest; ord = b.ord; uses = pos (length (filter (λ r. same_name (ref_name r) (block_name b)) refs)) }
+
+-- the bytes that a tenant's versions and parts have, and those that an upload's parts have
+abbrev pub bytes_used : List VersionRow → List PartRow → Octets → ℕ
+bytes_used versions parts tenant = sum_by (λ (v : VersionRow). v.size) (filter (λ v. bytes_eq v.tenant tenant) versions) + sum_by (λ (p : PartRow). p.size) (filter (λ p. bytes_eq p.tenant tenant) parts)
+
+abbrev pub bytes_kept : List PartRow → Octets → ℕ → ℕ
+bytes_kept parts tenant upload = sum_by (λ (p : PartRow). p.size) (filter (λ p. bytes_eq p.tenant tenant && int_eq (pos p.upload) (pos upload)) parts)
+
+-- what is to be kept of rows
+abbrev pub totals_of : Tables → Totals
+totals_of t = record {
+  used = λ tenant. pos (bytes_used t.versions t.parts tenant);
+  kept = λ q. pos (bytes_kept t.parts q.0 q.1);
+  uses = map (use_among t.refs) t.blocks;
+}
+
+-- the count of this block
+abbrev pub is_named : Name → UseRow → Bool
+is_named q u = same_name (u.digest, u.ord) q
+
+-- other counts are kept
+abbrev pub counted : (List UseRow → List UseRow) → Totals → Totals
+counted change sums = record sums { uses = change sums.uses }
+
+-- one use more or fewer of a block
+abbrev pub raised : Name → List UseRow → List UseRow
+raised q = update_where (is_named q) (λ u. record u { uses = u.uses +ℤ pos 1 })
+
+abbrev pub lowered : Name → List UseRow → List UseRow
+lowered q = update_where (is_named q) (λ u. record u { uses = u.uses -ℤ pos 1 })
+
+-- one use fewer for each of these references
+abbrev pub lowered_by : List RefRow → List UseRow → List UseRow
+lowered_by [] uses = uses
+lowered_by (r ∷ rs) uses = lowered_by rs (lowered (ref_name r) uses)
+
+-- so many bytes more and so many fewer are kept of a tenant, and of an upload
+abbrev pub used_changed : Octets → ℕ → ℕ → Totals → Totals
+used_changed tenant more less sums = record sums { used = λ t. if bytes_eq t tenant then sums.used t +ℤ pos more -ℤ pos less else sums.used t }
+
+abbrev pub kept_changed : Name → ℕ → ℕ → Totals → Totals
+kept_changed upload more less sums = record sums { kept = λ q. if same_name q upload then sums.kept q +ℤ pos more -ℤ pos less else sums.kept q }
+
+-- the database is a host's, but for what is kept of other rows, which is this: it has the schema, and rows that are typed rows
+pub record IsHostBy (sums : Totals) (db : Database) : Type 0 where
   pub schema : db.schema ≡ host_schema
-  pub held : AreHeld (raw db.trees)
+  pub held : AreHeld sums (raw db.trees)
+
+-- the database is a host's: what is kept of other rows is what they have
+abbrev pub IsHost : Database → Type 0
+IsHost db = IsHostBy (totals_of (tables_in db)) db
 
 -- if the store returned what was written and the connection is open, the database is a host's
+abbrev pub IsReadyBy : Totals → State → Type 0
+IsReadyBy sums s = HasCleanDisk s → IsTrue s.is_open → IsHostBy sums s.now
+
 abbrev pub IsReady : State → Type 0
-IsReady s = HasCleanDisk s → IsTrue s.is_open → IsHost s.now
+IsReady s = IsReadyBy (totals_of (tables s)) s

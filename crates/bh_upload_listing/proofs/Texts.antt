@@ -21,7 +21,7 @@ use Rattle.bh_rows.specs.Texts.{IsReadyAt, SortedText}
 use Rattle.bh_rows.proofs.ScanLemmas.{then_assoc}
 use Rattle.bh_rows.proofs.TextLemmas as text
 use Rattle.bh_tables.specs.Schema.{Octets, host_schema}
-use Rattle.bh_tables.specs.Typed.{UploadRow, PartColumns, upload_form, part_form, number, IsReady, tables}
+use Rattle.bh_tables.specs.Typed.{Totals, totals_of, UploadRow, PartColumns, upload_form, part_form, number, IsReady, tables}
 use Rattle.bh_tables.specs.Bodies.{bare_part}
 use Rattle.bh_tables.specs.Shown.{by_key, by_part}
 use Rattle.bh_tables.proofs.Places.{uploads, parts}
@@ -49,9 +49,9 @@ module _ (tenant bucket from upto : Octets) (count : ℕ) where
   abbrev passes : UploadRow → Bool
   passes = is_listed tenant bucket from upto
 
-  listed : SortedText upload_form host_schema 16 listed_text params passes shown_listed by_key (col 0 4)
+  listed : (sums : Totals) → SortedText (upload_form sums) host_schema 16 listed_text params passes shown_listed by_key (col 0 4)
   unfolding understood everything
-  listed = record {
+  listed sums = record {
     test = is 1 0 ∷ is 3 1 ∷ op2 (Compare Ge Binary) (col 1 4) (col 0 2) ∷ op2 (Compare Lt Binary) (col 1 4) (col 0 3) ∷ [];
     show = col 1 4 ∷ col 1 2 ∷ col 1 5 ∷ [];
     keys = (col 1 4, ascending Binary) ∷ (col 1 2, ascending Binary) ∷ by_rowid;
@@ -68,16 +68,19 @@ module _ (tenant bucket from upto : Octets) (count : ℕ) where
       → (HasCleanDisk new → IfErr result (FailsToQuery listed_text params old new)) → Survives old new (CommitsShowing listed_text params old)
       → Shows old new rows_in (λ t. map shown_listed (listed_rows tenant bucket from upto count t.uploads)) result
   listed_shown old new ready rows_in result ok err survives = record {
-    asks = text.sorted_asks upload_form host_schema 16 old new ready_at listed_text params passes shown_listed by_key (col 0 4) listed rows_in result ok err survives;
-    rows = λ clean. go result (text.select_sorted upload_form host_schema 16 old new ready_at listed_text params passes shown_listed by_key (col 0 4) listed rows_in result ok survives clean);
+    asks = text.sorted_asks (upload_form sums) host_schema 16 old new ready_at listed_text params passes shown_listed by_key (col 0 4) (listed sums) rows_in result ok err survives;
+    rows = λ clean. go result (text.select_sorted (upload_form sums) host_schema 16 old new ready_at listed_text params passes shown_listed by_key (col 0 4) (listed sums) rows_in result ok survives clean);
   }
     where
-      ready_at : IsReadyAt upload_form host_schema 16 old
+      sums : Totals
+      sums = totals_of (tables old)
+
+      ready_at : IsReadyAt (upload_form sums) host_schema 16 old
       ready_at clean up = let h = ready clean up in (h.schema, h.held.uploads)
 
-      go : (r : Result _ Error) → IfOk r (λ x. rows_in x ≡ take count (map shown_listed (sort_by by_key (filter passes (typed upload_form (old.now.trees 16))))))
+      go : (r : Result _ Error) → IfOk r (λ x. rows_in x ≡ take count (map shown_listed (sort_by by_key (filter passes (typed (upload_form sums) (old.now.trees 16))))))
           → IfOk r (λ x. rows_in x ≡ map shown_listed (listed_rows tenant bucket from upto count (tables old).uploads))
-      go (Ok x) h = h ∙ ap (λ us. take count (map shown_listed (sort_by by_key (filter passes us)))) (uploads.rows_are old.now) ∙ take_map shown_listed count (sort_by by_key (filter passes (tables old).uploads))
+      go (Ok x) h = h ∙ ap (λ us. take count (map shown_listed (sort_by by_key (filter passes us)))) ((uploads sums).rows_are old.now) ∙ take_map shown_listed count (sort_by by_key (filter passes (tables old).uploads))
       go (Err e) h = tt
 
 module _ (tenant bucket okey : Octets) (n count : ℕ) where
@@ -87,9 +90,9 @@ module _ (tenant bucket okey : Octets) (n count : ℕ) where
   abbrev is_later : UploadRow → Bool
   is_later = is_later_of tenant bucket okey n
 
-  later : SortedText upload_form host_schema 16 later_text later_params is_later shown_listed by_key (col 0 4)
+  later : (sums : Totals) → SortedText (upload_form sums) host_schema 16 later_text later_params is_later shown_listed by_key (col 0 4)
   unfolding understood everything
-  later = record {
+  later sums = record {
     test = is 1 0 ∷ is 3 1 ∷ is 4 2 ∷ op2 (Compare Gt Binary) (col 1 2) (col 0 3) ∷ [];
     show = col 1 4 ∷ col 1 2 ∷ col 1 5 ∷ [];
     keys = (col 1 4, ascending Binary) ∷ (col 1 2, ascending Binary) ∷ by_rowid;
@@ -106,16 +109,19 @@ module _ (tenant bucket okey : Octets) (n count : ℕ) where
       → (HasCleanDisk new → IfErr result (FailsToQuery later_text later_params old new)) → Survives old new (CommitsShowing later_text later_params old)
       → Shows old new rows_in (λ t. map shown_listed (later_rows tenant bucket okey n count t.uploads)) result
   later_shown old new ready rows_in result ok err survives = record {
-    asks = text.sorted_asks upload_form host_schema 16 old new ready_at later_text later_params is_later shown_listed by_key (col 0 4) later rows_in result ok err survives;
-    rows = λ clean. go result (text.select_sorted upload_form host_schema 16 old new ready_at later_text later_params is_later shown_listed by_key (col 0 4) later rows_in result ok survives clean);
+    asks = text.sorted_asks (upload_form sums) host_schema 16 old new ready_at later_text later_params is_later shown_listed by_key (col 0 4) (later sums) rows_in result ok err survives;
+    rows = λ clean. go result (text.select_sorted (upload_form sums) host_schema 16 old new ready_at later_text later_params is_later shown_listed by_key (col 0 4) (later sums) rows_in result ok survives clean);
   }
     where
-      ready_at : IsReadyAt upload_form host_schema 16 old
+      sums : Totals
+      sums = totals_of (tables old)
+
+      ready_at : IsReadyAt (upload_form sums) host_schema 16 old
       ready_at clean up = let h = ready clean up in (h.schema, h.held.uploads)
 
-      go : (r : Result _ Error) → IfOk r (λ x. rows_in x ≡ take count (map shown_listed (sort_by by_key (filter is_later (typed upload_form (old.now.trees 16))))))
+      go : (r : Result _ Error) → IfOk r (λ x. rows_in x ≡ take count (map shown_listed (sort_by by_key (filter is_later (typed (upload_form sums) (old.now.trees 16))))))
           → IfOk r (λ x. rows_in x ≡ map shown_listed (later_rows tenant bucket okey n count (tables old).uploads))
-      go (Ok x) h = h ∙ ap (λ us. take count (map shown_listed (sort_by by_key (filter is_later us)))) (uploads.rows_are old.now) ∙ take_map shown_listed count (sort_by by_key (filter is_later (tables old).uploads))
+      go (Ok x) h = h ∙ ap (λ us. take count (map shown_listed (sort_by by_key (filter is_later us)))) ((uploads sums).rows_are old.now) ∙ take_map shown_listed count (sort_by by_key (filter is_later (tables old).uploads))
       go (Err e) h = tt
 
 -- ---- parts
@@ -161,5 +167,5 @@ module _ (tenant : Octets) (upload n count : ℕ) where
 
       go : (r : Result _ Error) → IfOk r (λ x. rows_in x ≡ take count (map shows_it (sort_by before (filter is_after (typed part_form (old.now.trees 18))))))
           → IfOk r (λ x. rows_in x ≡ map shown_part (parts_from tenant upload n count (tables old).parts))
-      go (Ok x) h = h ∙ ap (λ ps. take count (map shows_it (sort_by before (filter is_after ps)))) (parts.rows_are old.now) ∙ ap (take count) (seen_parts_sorted is_after (tables old).parts shows_it before) ∙ take_map shown_part count (sort_by by_part (filter (is_part_after tenant upload n) (tables old).parts))
+      go (Ok x) h = h ∙ ap (λ ps. take count (map shows_it (sort_by before (filter is_after ps)))) ((parts (totals_of (tables old))).rows_are old.now) ∙ ap (take count) (seen_parts_sorted is_after (tables old).parts shows_it before) ∙ take_map shown_part count (sort_by by_part (filter (is_part_after tenant upload n) (tables old).parts))
       go (Err e) h = tt

@@ -1,11 +1,13 @@
 -- CompleteMultipartUpload and AbortMultipartUpload: what was read, and the rows that were written, are the machine's step.
-use Rattle.std.proofs.Common.{◌≡◌, ℕ, ◌≤◌, false, is_ok, true≢false, List, map, filter, flat_map, length, Option, Some, None, Result, Ok, Err, refl, sym, ap, ◌∙◌, subst}
+use Rattle.std.proofs.Common.{◌≡◌, ℕ, ◌≤◌, false, is_ok, true≢false, List, map, filter, find, flat_map, length, Option, Some, None, Result, Ok, Err, refl, sym, ap, ◌∙◌, subst}
 use Rattle.std.specs.FinMap.{get}
+use Rattle.std.specs.Option.{option_map_or}
 use Rattle.std.specs.Result.{result_map_both}
 use Rattle.sqlite_keyed.specs.Lists.{sort_by}
 use Rattle.bh_types.specs.Counts.{Counts}
 use Rattle.bh_types.specs.Outcomes.{◌>>=◌}
 use Rattle.bh_types.specs.declared.bucket_state.BucketState.{BucketState}
+use Rattle.bh_types.specs.declared.bucket_state.BucketState.TheVariants.{Unversioned, Enabled, Suspended}
 use Rattle.bh_types.specs.declared.id.UploadId.{UploadId}
 use Rattle.bh_types.specs.declared.id.VersionId.TheVariants.{Null}
 use Rattle.bh_types.specs.declared.refusal.Refusal.{Refusal}
@@ -16,8 +18,8 @@ use Rattle.bh_model.specs.Parts.{Naming, completed}
 use Rattle.bh_model.specs.State.{Octets, Content, Content.Body, State, Bucket}
 use Rattle.bh_model.specs.Uploads.{FoundUpload, find_upload, without_upload, completion, with_completed, complete_upload, abort_upload}
 use Rattle.bh_tables.specs.Bodies.{Name, whole}
-use Rattle.bh_tables.specs.Typed.{PartRow, Tables}
-use Rattle.bh_tables.specs.Shown.{is_part_of, by_part}
+use Rattle.bh_tables.specs.Typed.{VersionRow, PartRow, Tables}
+use Rattle.bh_tables.specs.Shown.{is_version, is_part_of, by_part}
 use Rattle.bh_view.specs.Blocks.{AreDigests}
 use Rattle.bh_view.specs.Bodies.{HasBodies, IsResolved, AddsBody, bodies_joined}
 use Rattle.bh_view.specs.Sound.{IsSound}
@@ -33,7 +35,7 @@ use Rattle.bh_view.proofs.WriteLemmas.{same_resolved, same_unnamed}
 use Rattle.bh_storage.specs.Calls.{GivesStep}
 use Rattle.bh_blocks.proofs.BodySteps.{flat_named}
 use Rattle.bh_objects.specs.Found.{numbers_in, IsKeyText, with_entry}
-use Rattle.bh_objects.specs.Writes.{with_counters, with_room, with_version}
+use Rattle.bh_objects.specs.Writes.{with_counters, with_room, with_version, without_entry}
 use Rattle.bh_objects.proofs.Putting.{has_numbers}
 use Rattle.bh_objects.proofs.Written.{becomes_so, IsHostOf, is_added}
 use Rattle.bh_uploads.specs.Found.{upload_in, completion_in, joined_bytes}
@@ -173,9 +175,24 @@ aborts old new host t name key id mode n found bodies are e =
       digests = λ digest d. subst (AreDigests digest) (sym it.blocks) d;
     }
 
+-- the counters go on before what is replaced goes, or after
+room_counted : (mode : BucketState) (after : Counts) (t b k : Octets) (x : Tables) → with_counters mode after t (with_room mode t b k x) ≡ with_room mode t b k (with_counters mode after t x)
+room_counted Unversioned after t b k x = go (find (is_version t b k 0) x.versions)
+  where
+    go : (o : Option VersionRow) → with_counters Unversioned after t (option_map_or (λ v. without_entry t b k 0 v.seq x) o x) ≡ option_map_or (λ v. without_entry t b k 0 v.seq (with_counters Unversioned after t x)) o (with_counters Unversioned after t x)
+    go None = refl
+    go (Some v) = refl
+room_counted Enabled after t b k x = refl
+room_counted Suspended after t b k x = go (find (is_version t b k 0) x.versions)
+  where
+    go : (o : Option VersionRow) → with_counters Suspended after t (option_map_or (λ v. without_entry t b k 0 v.seq x) o x) ≡ option_map_or (λ v. without_entry t b k 0 v.seq (with_counters Suspended after t x)) o (with_counters Suspended after t x)
+    go None = refl
+    go (Some v) = refl
+
 -- the writes of a version, one after another
-pub version_chain : (mode : BucketState) (before after : Counts) (t b k : Octets) (at size : ℕ) (checksum : Octets) (bodies : List ℕ) (old one two three new : Tables)
-    → one ≡ with_counters mode after t old → two ≡ bodies_joined (map (λ (body : ℕ). (t, body)) bodies) (t, before.entry) one → three ≡ with_room mode t b k two → new ≡ with_version mode before t b k at size checksum three
+pub version_chain : (mode : BucketState) (before after : Counts) (t b k : Octets) (at size : ℕ) (checksum : Octets) (bodies : List ℕ) (old two three new : Tables)
+    → two ≡ bodies_joined (map (λ (body : ℕ). (t, body)) bodies) (t, before.entry) old → three ≡ with_room mode t b k two → new ≡ with_version mode before t b k at size checksum (with_counters mode after t three)
     → new ≡ version_written mode before after t b k at size checksum bodies old
-version_chain mode before after t b k at size checksum bodies old one two three new x y z w =
-    w ∙ ap (with_version mode before t b k at size checksum) (z ∙ ap (with_room mode t b k) (y ∙ ap (bodies_joined (map (λ (body : ℕ). (t, body)) bodies) (t, before.entry)) x))
+version_chain mode before after t b k at size checksum bodies old two three new x y z =
+    z ∙ ap (λ (w : Tables). with_version mode before t b k at size checksum (with_counters mode after t w)) (y ∙ ap (with_room mode t b k) x)
+    ∙ ap (with_version mode before t b k at size checksum) (room_counted mode after t b k (bodies_joined (map (λ (body : ℕ). (t, body)) bodies) (t, before.entry) old))

@@ -1,6 +1,7 @@
 pub mod Taking
 pub mod DigestBytes
 pub mod Steps
+pub mod Keeping
 pub mod Uploads
 pub mod Rules
 pub mod Beginning

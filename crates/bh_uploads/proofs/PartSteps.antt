@@ -1,6 +1,8 @@
 -- UploadPart: what was read, and the rows and the body that were written, are the machine's step.
-use Rattle.std.proofs.Common.{◌≡◌, ℕ, ◌+◌, ◌≤◌, Bool, true, false, ◌&&◌, length, is_ok, true≢false, List, [], ◌∷◌, ◌++◌, map, filter, find, Option, Some, None, option_map, Result, Ok, Err, refl, sym, ap, ◌∙◌, subst}
+use Rattle.std.proofs.Common.{◌≡◌, ℕ, ◌+◌, ◌≤◌, Bool, true, false, ◌&&◌, length, is_ok, true≢false, List, [], ◌∷◌, ◌++◌, map, filter, find, cond, not, Option, Some, None, option_map, Result, Ok, Err, refl, sym, ap, ◌∙◌, subst}
 use Rattle.std.specs.List.{AllByRecursion, list_any}
+use Rattle.std.specs.Option.{option_map_or}
+use Rattle.std.proofs.lemmas.List.{map-append}
 use Rattle.sqlite_keyed.specs.Lists.{delete_where, update_where}
 use Rattle.sqlite_keyed.proofs.ListLemmas.{all-filter}
 use Rattle.sqlite_typed.specs.Tests.{bytes_eq}
@@ -16,11 +18,11 @@ use Rattle.bh_model.specs.State.{Octets, State}
 use Rattle.bh_model.specs.Operations.{Answer, Outcome, PartStored, with_bucket, require_quota}
 use Rattle.bh_model.specs.Parts.{is_checksum}
 use Rattle.bh_model.specs.Uploads.{FoundUpload, after_part, with_stored, upload_part}
-use Rattle.bh_tables.specs.Bodies.{Name, same_name, version_name, part_name}
-use Rattle.bh_tables.specs.Typed.{PartRow, Tables}
-use Rattle.bh_tables.specs.Shown.{is_tenant, is_part}
+use Rattle.bh_tables.specs.Bodies.{Name, same_name, version_name, part_name, part_columns_of, resolved_part, resolved_part_again}
+use Rattle.bh_tables.specs.Typed.{PartRow, RefRow, BlockRow, Tables, rebodied}
+use Rattle.bh_tables.specs.Shown.{is_tenant, is_part, is_of_body}
 use Rattle.bh_view.specs.Blocks.{whole, AreDigests}
-use Rattle.bh_view.specs.Bodies.{HasBodies, IsResolved, IsUnnamed, AreWhole, pieces, body_stored}
+use Rattle.bh_view.specs.Bodies.{HasBodies, IsResolved, IsUnnamed, AreWhole, pieces, body_stored, body_dropped}
 use Rattle.bh_view.specs.Grouped.{same_number}
 use Rattle.bh_view.specs.Put.{part_row}
 use Rattle.bh_view.specs.Sound.{IsSound}
@@ -46,7 +48,7 @@ use Rattle.bh_storage.specs.declared.error.StepError.TheVariants.{Refused, Faile
 use Rattle.bh_objects.proofs.Written.{HasRowsOf, becomes_so, IsHostOf}
 use Rattle.bh_objects.specs.Found.{room_in}
 use Rattle.bh_uploads.specs.Found.{next_entry_in, part_bytes_in, replaced_body, part_entry_in, upload_in}
-use Rattle.bh_uploads.specs.Writes.{with_next_entry, without_part, without_replaced, with_part_row, part_written}
+use Rattle.bh_uploads.specs.Writes.{with_next_entry, without_part, without_replaced, with_part_row, part_placed, without_body_of, part_written}
 use Rattle.bh_uploads.proofs.PartQuota.{part_asked}
 use Rattle.bh_uploads.proofs.Uploads.{HasUpload, has_upload, has_entry_number}
 
@@ -219,7 +221,49 @@ module _ (old new : Tables) (host : IsHostOf old) (t name key : Octets) (id : Op
       let number = has_entry_number (view old t) h.state entry h.added (entry_read (part_bytes_in t n k old) (length bytes) (view old t) entry read) in
       puts_at h (read ∙ ap (λ m. Ok m) (sym number.1)) number.0 (e ∙ ap (λ m. part_written digest size t n k bytes at m (replaced_body t n k old) old) (sym number.1))
 
--- the writes of a part, one after another
-pub part_chain : (digest : Octets → Octets) (size : ℕ) (t : Octets) (n k : ℕ) (bytes : Octets) (at entry : ℕ) (replaced : Option ℕ) (old one two three new : Tables)
-    → one ≡ with_next_entry t (entry + 1) old → two ≡ body_stored digest (t, entry) 0 (pieces size bytes) one → three ≡ without_replaced t n k replaced two → new ≡ with_part_row (part_row t n k bytes at entry) three → new ≡ part_written digest size t n k bytes at entry replaced old
-part_chain digest size t n k bytes at entry replaced old one two three new a b c d = d ∙ ap (with_part_row (part_row t n k bytes at entry)) (c ∙ ap (without_replaced t n k replaced) (b ∙ ap (body_stored digest (t, entry) 0 (pieces size bytes)) a))
+-- ---- the writes of a part, one after another
+
+-- other references and blocks change no size
+pub part_size_again : (t : Octets) (n k : ℕ) (refs : List RefRow) (blocks : List BlockRow) (x : Tables) → part_bytes_in t n k (rebodied x refs blocks) ≡ part_bytes_in t n k x
+part_size_again t n k refs blocks x = go x.parts
+  where
+    go : (ps : List PartRow) → option_map_or (λ (p : PartRow). p.size) (find (is_part t n k) (map (resolved_part_again refs blocks) ps)) 0 ≡ option_map_or (λ (p : PartRow). p.size) (find (is_part t n k) ps) 0
+    go [] = refl
+    go (p ∷ ps) = elim (is_part t n k p) as (λ s. option_map_or (λ (p : PartRow). p.size) (cond s (Some (resolved_part_again refs blocks p)) (find (is_part t n k) (map (resolved_part_again refs blocks) ps))) 0 ≡ option_map_or (λ (p : PartRow). p.size) (cond s (Some p) (find (is_part t n k) ps)) 0) [
+      | true ↦ refl
+      | false ↦ go ps
+    ]
+
+-- where no part has the number, none goes
+none_goes : (t : Octets) (n k : ℕ) (refs : List RefRow) (blocks : List BlockRow) (ps : List PartRow) → None ≡ option_map (λ (p : PartRow). p.body) (find (is_part t n k) ps) → delete_where (is_part t n k) (map (resolved_part_again refs blocks) ps) ≡ map (resolved_part_again refs blocks) ps
+none_goes t n k refs blocks [] none = refl
+none_goes t n k refs blocks (p ∷ ps) none = go (is_part t n k p) none (none_goes t n k refs blocks ps)
+  where
+    go : (b : Bool) → None ≡ option_map (λ (p : PartRow). p.body) (cond b (Some p) (find (is_part t n k) ps)) → (None ≡ option_map (λ (p : PartRow). p.body) (find (is_part t n k) ps) → delete_where (is_part t n k) (map (resolved_part_again refs blocks) ps) ≡ map (resolved_part_again refs blocks) ps)
+        → cond (not b) (resolved_part_again refs blocks p ∷ delete_where (is_part t n k) (map (resolved_part_again refs blocks) ps)) (delete_where (is_part t n k) (map (resolved_part_again refs blocks) ps)) ≡ resolved_part_again refs blocks p ∷ map (resolved_part_again refs blocks) ps
+    go true none rest = absurd (cc)
+    go false none rest = ap (λ l. resolved_part_again refs blocks p ∷ l) (rest none)
+
+-- a body goes once the row is there, or before it comes
+row_then_drop : (q : Name) (p : PartRow) (x : Tables) → body_dropped q (with_part_row p x) ≡ with_part_row p (body_dropped q x)
+row_then_drop q p x =
+    let refs = delete_where (is_of_body q) x.refs in
+    ap (λ ps. record (body_dropped q x) { parts = ps }) (map-append (resolved_part_again refs x.blocks) x.parts (resolved_part x.refs x.blocks (part_columns_of p) ∷ []))
+
+pub part_chain : (digest : Octets → Octets) (size : ℕ) (t : Octets) (n k : ℕ) (bytes : Octets) (at entry : ℕ) (replaced : Option ℕ) (old two three new : Tables) → replaced ≡ replaced_body t n k old
+    → two ≡ body_stored digest (t, entry) 0 (pieces size bytes) old → three ≡ part_placed (part_columns_of (part_row t n k bytes at entry)) (entry + 1) two → new ≡ without_body_of t replaced three → new ≡ part_written digest size t n k bytes at entry replaced old
+part_chain digest size t n k bytes at entry replaced old two three new its a b c =
+    c ∙ ap (without_body_of t replaced) (b ∙ ap (part_placed (part_columns_of row) (entry + 1)) a) ∙ go replaced its
+  where
+    row : PartRow
+    row = part_row t n k bytes at entry
+
+    stored : Tables
+    stored = body_stored digest (t, entry) 0 (pieces size bytes) (with_next_entry t (entry + 1) old)
+
+    left : Tables
+    left = record stored { parts = delete_where (is_part t n k) stored.parts }
+
+    go : (o : Option ℕ) → o ≡ replaced_body t n k old → without_body_of t o (with_part_row row left) ≡ with_part_row row (without_replaced t n k o stored)
+    go None e = ap (λ ps. with_part_row row (record stored { parts = ps })) (none_goes t n k stored.refs stored.blocks old.parts e)
+    go (Some body) e = row_then_drop (t, body) row left

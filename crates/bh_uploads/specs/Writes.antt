@@ -6,7 +6,7 @@ use Rattle.bh_types.specs.Counts.{Counts}
 use Rattle.bh_types.specs.declared.bucket_state.BucketState.{BucketState}
 use Rattle.bh_model.specs.State.{Octets}
 use Rattle.bh_tables.specs.Bodies.{resolved_part, part_columns_of}
-use Rattle.bh_tables.specs.Typed.{PartRow, Tables}
+use Rattle.bh_tables.specs.Typed.{PartRow, PartColumns, Tables}
 use Rattle.bh_tables.specs.Shown.{is_tenant, is_upload, is_part, is_part_of}
 use Rattle.bh_view.specs.Bodies.{pieces, body_stored, body_dropped, bodies_joined}
 use Rattle.bh_view.specs.Put.{part_row}
@@ -40,6 +40,16 @@ without_replaced tenant upload part replaced tables = option_map_or (λ body. wi
 -- the row of a part, which has the bytes of its body
 abbrev pub with_part_row : PartRow → Tables → Tables
 with_part_row p tables = record tables { parts = tables.parts ++ resolved_part tables.refs tables.blocks (part_columns_of p) ∷ [] }
+
+-- a part in the place of that of its number, whose body stays for now, under the entry number before this one
+abbrev pub part_placed : PartColumns → ℕ → Tables → Tables
+part_placed p next tables = with_next_entry p.tenant next (record tables {
+  parts = delete_where (is_part p.tenant p.upload p.part) tables.parts ++ resolved_part tables.refs tables.blocks p ∷ [];
+})
+
+-- the body of a part that was replaced goes
+abbrev pub without_body_of : Octets → Option ℕ → Tables → Tables
+without_body_of tenant replaced tables = option_map_or (λ body. body_dropped (tenant, body) tables) replaced tables
 
 -- a part of these bytes under an entry number, whose body is stored before that of the part that it replaces goes
 abbrev pub part_written : (Octets → Octets) → ℕ → Octets → ℕ → ℕ → Octets → ℕ → ℕ → Option ℕ → Tables → Tables

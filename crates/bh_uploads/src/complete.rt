@@ -21,7 +21,7 @@ use bh_blocks::bodies::join_bodies;
 use bh_model::entries::new_id;
 use bh_objects::ids::told_id;
 use bh_objects::reads::{Numbers, new_numbers};
-use bh_objects::writes::{AddedVersion, add_version, make_room, set_counters};
+use bh_objects::writes::{AddedVersion, add_version, make_room};
 use bh_schema::trouble::or_trouble;
 use bh_storage::answer::CompletedUpload;
 use bh_storage::error::{StepError, Trouble};
@@ -80,7 +80,7 @@ fn completion_plan<S: Alter>(
 }
 
 /// Puts a version that is joined from parts into a bucket of this state, under the tenant's next numbers: its body,
-/// which has the blocks of theirs, before what it replaces goes, and then its row.
+/// which has the blocks of theirs, before what it replaces goes, and then its row with the counters.
 fn write_version<S: Alter>(
     connection: &mut Connection<S>,
     alloc: Global,
@@ -98,7 +98,6 @@ fn write_version<S: Alter>(
         joined.now.size (string_bytes joined.now.checksum) joined.now.bodies.items)) }
     ensures key { OnOk result (IsKeyText upload.now.key.now) }
 {
-    set_counters(connection, upload.tenant, mode, numbers.after)?;
     or_trouble(join_bodies(
         connection,
         alloc,
@@ -115,7 +114,7 @@ fn write_version<S: Alter>(
         size: joined.size,
         checksum: joined.checksum.as_str(),
     };
-    add_version(connection, &version, mode, numbers.before)
+    add_version(connection, &version, mode, numbers)
 }
 
 /// What is told of an upload that is completed, where its version was this number in a bucket of this state.

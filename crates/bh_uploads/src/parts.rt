@@ -1,4 +1,4 @@
-ghost use Rattle.std.specs.Prelude.{◌≡◌, ◌≤◌, ◌<◌, ◌^◌, OnOk};
+ghost use Rattle.std.specs.Prelude.{◌≡◌, ◌≤◌, ◌<◌, ◌^◌, ◌+◌, OnOk};
 ghost use Rattle.std.specs.Option.{option_copied};
 ghost use Rattle.std.specs.String.{string_bytes};
 ghost use Rattle.bh_types.specs.Checksums.{checksum_text};
@@ -10,15 +10,17 @@ ghost use Rattle.bh_view.specs.Put.{part_row};
 ghost use Rattle.bh_view.specs.View.{latest_of};
 ghost use Rattle.bh_schema.specs.Connections.{IsClean, tables, InTransaction, StaysWithin, StaysOpen, Becomes};
 ghost use Rattle.bh_schema.specs.Working.{Works, StillWorksBy};
-ghost use Rattle.bh_uploads.specs.Writes.{without_part, without_replaced, with_part_row, part_written};
+ghost use Rattle.bh_tables.specs.Bodies.{part_columns_of};
+ghost use Rattle.bh_uploads.specs.Found.{part_bytes_in, replaced_body};
+ghost use Rattle.bh_uploads.specs.Writes.{without_body_of, part_placed, part_written};
 
 use crate::quotas::{PartEntry, part_entry};
 use crate::reads::{NamedUpload, found_upload};
-use crate::rows::parts::{PartRecord, delete_part, insert_part};
+use crate::rows::kept::place_part;
+use crate::rows::parts::PartRecord;
 use crate::writes::drop_entry_body;
 use bh_blocks::bodies::store_body;
 use bh_objects::objects::checked_sum;
-use bh_objects::writes::set_next_entry;
 use bh_schema::host::Digester;
 use bh_schema::trouble::or_trouble;
 use bh_storage::error::{StepError, Trouble};
@@ -27,6 +29,9 @@ use bh_types::names::TenantName;
 use bh_types::refusal::Refusal;
 use sqlite::{Alter, Connection};
 use std::alloc::Global;
+
+/// No part has so many bytes, so that a sum with those that are used is one of 64 bits.
+const SIZE_END: u64 = 1 << 62;
 
 /// The last number that a part may have.
 const LAST_PART: u32 = 10_000;
@@ -42,75 +47,62 @@ pub struct NewPart<'a> {
     pub bytes: &'a [u8],
 }
 
-/// Takes the part of a number away, whose body this is, and then its body.
-fn drop_part<S: Alter>(
-    connection: &mut Connection<S>,
-    tenant: &TenantName,
-    upload: u64,
-    number: u32,
-    body: u64,
-) -> Result<(), Trouble>
-    requires inside { InTransaction S.Store connection.old }
-    requires small { upload < 2 ^ 62 }
-    ensures within { StaysWithin S.Store connection.old connection.new }
-    ensures opens { OnOk result (StaysOpen S.Store connection.old connection.new) }
-    ensures holds { OnOk result (Becomes S.Store connection.old connection.new (without_part tenant.now upload number body)) }
-{
-    or_trouble(delete_part(connection, tenant.as_str(), upload, u64::from(number)))?;
-    drop_entry_body(connection, tenant, body)
-}
-
-/// Takes the part of a number away, and its body, if one is replaced.
+/// The body of a part that is replaced goes.
 fn drop_old<S: Alter>(
     connection: &mut Connection<S>,
     tenant: &TenantName,
-    upload: u64,
-    number: u32,
     replaced: Option<u64>,
 ) -> Result<(), Trouble>
-    requires inside { InTransaction S.Store connection.old }
-    requires small { upload < 2 ^ 62 }
+    requires { InTransaction S.Store connection.old }
     ensures within { StaysWithin S.Store connection.old connection.new }
     ensures opens { OnOk result (StaysOpen S.Store connection.old connection.new) }
-    ensures holds { OnOk result (Becomes S.Store connection.old connection.new (without_replaced tenant.now upload number replaced)) }
+    ensures holds { OnOk result (Becomes S.Store connection.old connection.new (without_body_of tenant.now replaced)) }
 {
     match replaced {
         None => Ok(()),
-        Some(body) => drop_part(connection, tenant, upload, number, body),
+        Some(body) => drop_entry_body(connection, tenant, body),
     }
 }
 
+/// The row of a part in the place of that of its number, if there is one, under the tenant's next entry number.
 fn add_part<S: Alter>(
     connection: &mut Connection<S>,
     part: &NewPart<'_>,
     upload: u64,
-    entry: u64,
+    taken: PartEntry,
     checksum: &str,
 ) -> Result<(), Trouble>
     requires inside { InTransaction S.Store connection.old }
     requires upload { upload < 2 ^ 62 }
-    requires entry { entry < 2 ^ 62 }
+    requires entry { taken.entry < 2 ^ 62 }
     requires checksum { checksum.now ≡ checksum_text part.now.bytes.now }
+    requires held { IsClean S.Store connection.old
+        → part_bytes_in part.now.upload.tenant.now upload part.now.number (tables S.Store connection.old) ≡ taken.bytes }
     ensures within { StaysWithin S.Store connection.old connection.new }
     ensures opens { OnOk result (StaysOpen S.Store connection.old connection.new) }
     ensures holds { OnOk result (Becomes S.Store connection.old connection.new
-        (with_part_row (part_row part.now.upload.tenant.now upload part.now.number part.now.bytes.now part.now.at entry))) }
+        (part_placed (part_columns_of (part_row part.now.upload.tenant.now upload part.now.number part.now.bytes.now part.now.at taken.entry))
+        (taken.entry + 1))) }
 {
+    let size = part.bytes.len() as u64;
+    // No part has so many bytes.
+    if size >= SIZE_END || taken.bytes >= SIZE_END {
+        return Err(Trouble::Store);
+    }
     let row = PartRecord {
         tenant: part.upload.tenant.as_str(),
         upload,
         number: u64::from(part.number),
-        size: part.bytes.len() as u64,
+        size,
         checksum,
         stamp: part.at.seconds(),
-        body: entry,
+        body: taken.entry,
     };
-    or_trouble(insert_part(connection, &row))?;
-    Ok(())
+    or_trouble(place_part(connection, &row, taken.entry + 1, taken.bytes))
 }
 
 /// Puts a part into an upload under the tenant's next entry number, with the text of its checksum: its body, in
-/// blocks of at most this size, before that of the part that it replaces goes, and then its row.
+/// blocks of at most this size, and its row, before the body of the part that it replaces goes.
 fn write_part<S: Alter, D: Digester>(
     connection: &mut Connection<S>,
     digester: &D,
@@ -125,6 +117,10 @@ fn write_part<S: Alter, D: Digester>(
     requires upload { upload < 2 ^ 62 }
     requires entry { taken.entry < 2 ^ 62 }
     requires checksum { checksum.now ≡ checksum_text part.now.bytes.now }
+    requires held { IsClean S.Store connection.old
+        → part_bytes_in part.now.upload.tenant.now upload part.now.number (tables S.Store connection.old) ≡ taken.bytes }
+    requires replaced { IsClean S.Store connection.old
+        → taken.replaced ≡ replaced_body part.now.upload.tenant.now upload part.now.number (tables S.Store connection.old) }
     ensures within { StaysWithin S.Store connection.old connection.new }
     ensures opens { OnOk result (StaysOpen S.Store connection.old connection.new) }
     ensures holds { OnOk result (Becomes S.Store connection.old connection.new
@@ -138,7 +134,6 @@ fn write_part<S: Alter, D: Digester>(
         return Err(Trouble::Store);
     }
     let tenant = part.upload.tenant;
-    set_next_entry(connection, tenant, taken.entry + 1)?;
     or_trouble(store_body(
         connection,
         digester,
@@ -147,8 +142,8 @@ fn write_part<S: Alter, D: Digester>(
         taken.entry,
         part.bytes,
     ))?;
-    drop_old(connection, tenant, upload, part.number, taken.replaced)?;
-    add_part(connection, part, upload, taken.entry, checksum)
+    add_part(connection, part, upload, taken, checksum)?;
+    drop_old(connection, tenant, taken.replaced)
 }
 
 /// S3's UploadPart, at a moment that is not after the last stamp, where the request may say which checksum the bytes

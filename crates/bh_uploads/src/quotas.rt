@@ -53,11 +53,14 @@ fn replaced_part<S: Alter>(
     }
 }
 
-/// The entry number that a part takes, and that of the body of the part that it replaces, if there is one.
+/// The entry number that a part takes, and what the part has that it replaces.
 #[derive(Clone, Copy, PartialEq, Eq)]
 pub struct PartEntry {
     pub entry: u64,
+    /// The entry number of its body, if there is one.
     pub replaced: Option<u64>,
+    /// Its bytes, 0 if there is none.
+    pub bytes: u64,
 }
 
 /// The entry number that a part of so many bytes takes: QuotaExceeded, CounterExhausted. What a part of its number
@@ -80,15 +83,17 @@ pub fn part_entry<S: Alter>(
         (tables S.Store connection.old) (tables S.Store connection.new) result }
     ensures replaced { IfOk result (λ taken. IsClean S.Store connection.new
         → taken.replaced ≡ replaced_body tenant.now upload number (tables S.Store connection.old)) }
+    ensures bytes { IfOk result (λ taken. IsClean S.Store connection.new
+        → part_bytes_in tenant.now upload number (tables S.Store connection.old) ≡ taken.bytes) }
     ensures small { IfOk result (λ taken. taken.entry < 2 ^ 62) }
 {
     let replaced = replaced_part(connection, tenant, upload, number)?;
     let account = tenant_account(connection, tenant)?;
-    let counters = account.counters;
-    require_room(connection, tenant, account.quota, replaced.bytes, added)?;
-    let entry = given(counters.entry)?;
+    require_room(&account, replaced.bytes, added)?;
+    let entry = given(account.counters.entry)?;
     Ok(PartEntry {
         entry,
         replaced: replaced.body,
+        bytes: replaced.bytes,
     })
 }

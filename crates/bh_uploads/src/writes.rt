@@ -60,7 +60,7 @@ pub fn close_upload<S: Alter>(
     ensures opens { OnOk result (StaysOpen S.Store connection.old connection.new) }
     ensures holds { OnOk result (Becomes S.Store connection.old connection.new (upload_closed tenant.now number bodies.now)) }
 {
-    or_trouble(rows::parts::delete_parts(connection, tenant.as_str(), number))?;
+    or_trouble(rows::kept::remove_parts(connection, tenant.as_str(), number))?;
     drop_bodies(connection, tenant, bodies)?;
     or_trouble(rows::uploads::delete_upload(connection, tenant.as_str(), number))?;
     Ok(())

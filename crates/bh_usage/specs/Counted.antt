@@ -6,7 +6,7 @@ use Rattle.bh_types.specs.declared.refusal.Refusal.{Refusal}
 use Rattle.bh_model.specs.Operations.{added_tenant}
 use Rattle.bh_model.specs.State.{Octets, State}
 use Rattle.bh_model.specs.Usage.{Usage}
-use Rattle.bh_tables.specs.Typed.{Tables}
+use Rattle.bh_tables.specs.Typed.{Tables, bytes_used}
 use Rattle.bh_tables.specs.Shown.{has_marker, current_versions, is_owned_bucket, is_owned_upload, is_part_used, is_version_of}
 use Rattle.bh_usage.specs.declared.counts.ByteTotals.{ByteTotals}
 use Rattle.bh_usage.specs.declared.counts.EntryCounts.{EntryCounts}
@@ -14,6 +14,10 @@ use Rattle.bh_usage.specs.declared.counts.RowCounts.{RowCounts}
 
 abbrev pub quota_in : Option State → Result ℕ Refusal
 quota_in s = result_map_both (λ t. t.quota) (λ refusal. refusal) (added_tenant s)
+
+-- the bytes that a tenant uses
+abbrev pub used_in : Octets → Tables → ℕ
+used_in t tables = bytes_used tables.versions tables.parts t
 
 abbrev pub entries_in : Octets → Tables → EntryCounts
 entries_in t tables = record {

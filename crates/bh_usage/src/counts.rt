@@ -1,12 +1,12 @@
 ghost use Rattle.std.specs.Prelude.{◌≡◌, IfOk, OnOk};
 ghost use Rattle.bh_schema.specs.Connections.{IsClean, tables, InTransaction, StaysWithin, StaysOpen, ChangesNothing};
-ghost use Rattle.bh_usage.specs.Counted.{entries_in, bytes_in, rows_in};
+ghost use Rattle.bh_usage.specs.Counted.{entries_in, bytes_in, used_in, rows_in};
 
 use bh_schema::rows::counts::{
     bucket_count, marker_count, object_count, upload_count, version_count,
 };
-use bh_schema::rows::sizes::{part_total, version_total};
-use sqlite::{Alter, Connection, Error};
+use bh_schema::rows::sizes::part_total;
+use sqlite::{Alter, Connection, Error, ErrorCode};
 
 /// How many entries a tenant's keys have.
 #[derive(Clone, Copy)]
@@ -56,8 +56,14 @@ fn entry_counts<S: Alter>(
     })
 }
 
-fn byte_totals<S: Alter>(connection: &mut Connection<S>, tenant: &str) -> Result<ByteTotals, Error>
+/// The bytes of a tenant who uses so many: those of its parts are added up, and the others are its versions'.
+fn byte_totals<S: Alter>(
+    connection: &mut Connection<S>,
+    tenant: &str,
+    used: u64,
+) -> Result<ByteTotals, Error>
     requires inside { InTransaction S.Store connection.old }
+    requires held { IsClean S.Store connection.old → used ≡ used_in tenant.now (tables S.Store connection.old) }
     ensures within { StaysWithin S.Store connection.old connection.new }
     ensures opens { OnOk result (StaysOpen S.Store connection.old connection.new) }
     ensures same { OnOk result (ChangesNothing S.Store connection.old connection.new) }
@@ -65,16 +71,20 @@ fn byte_totals<S: Alter>(connection: &mut Connection<S>, tenant: &str) -> Result
         → totals ≡ bytes_in tenant.now (tables S.Store connection.old)) }
 {
     let parts = part_total(connection, tenant)?;
-    let versions = version_total(connection, tenant)?;
-    Ok(ByteTotals { parts, versions })
+    match used.checked_sub(parts) {
+        Some(versions) => Ok(ByteTotals { parts, versions }),
+        None => Err(Error::SqliteFailure(ErrorCode::DatabaseCorrupt)),
+    }
 }
 
-/// What a tenant's rows come to. The store refuses a sum of bytes of 2^63 or more.
+/// What the rows of a tenant come to, who uses so many bytes. The store refuses a sum of bytes of 2^63 or more.
 pub fn row_counts<S: Alter>(
     connection: &mut Connection<S>,
     tenant: &str,
+    used: u64,
 ) -> Result<RowCounts, Error>
     requires inside { InTransaction S.Store connection.old }
+    requires held { IsClean S.Store connection.old → used ≡ used_in tenant.now (tables S.Store connection.old) }
     ensures within { StaysWithin S.Store connection.old connection.new }
     ensures opens { OnOk result (StaysOpen S.Store connection.old connection.new) }
     ensures same { OnOk result (ChangesNothing S.Store connection.old connection.new) }
@@ -82,7 +92,7 @@ pub fn row_counts<S: Alter>(
         → counts ≡ rows_in tenant.now (tables S.Store connection.old)) }
 {
     let buckets = bucket_count(connection, tenant)?;
-    let bytes = byte_totals(connection, tenant)?;
+    let bytes = byte_totals(connection, tenant, used)?;
     let entries = entry_counts(connection, tenant)?;
     let uploads = upload_count(connection, tenant)?;
     Ok(RowCounts {

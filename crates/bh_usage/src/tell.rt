@@ -6,32 +6,34 @@ ghost use Rattle.bh_storage.specs.Calls.{Unless, Carries, Decides};
 ghost use Rattle.bh_view.specs.View.{view};
 ghost use Rattle.bh_schema.specs.Connections.{IsClean, tables, InTransaction, StaysWithin, StaysOpen, ChangesNothing};
 ghost use Rattle.bh_schema.specs.Working.{Works, StillWorks};
-ghost use Rattle.bh_usage.specs.Counted.{quota_in, usage_told};
+ghost use Rattle.bh_usage.specs.Counted.{quota_in, used_in, usage_told};
 
 use crate::counts::{RowCounts, row_counts};
 use bh_docs::Usage;
-use bh_schema::rows::tenants::find_tenant;
+use bh_schema::rows::tenants::{TenantAccount, find_account};
 use bh_schema::trouble::or_trouble;
 use bh_storage::error::{StepError, Trouble};
 use bh_types::names::TenantName;
 use bh_types::refusal::Refusal;
 use sqlite::{Alter, Connection};
 
-/// A tenant's quota, in bytes: NoSuchTenant.
-fn quota_of<S: Alter>(
+/// A tenant's quota and what it uses of it, in bytes: NoSuchTenant.
+fn account_of<S: Alter>(
     connection: &mut Connection<S>,
     tenant: &TenantName,
-) -> Result<u64, StepError<Refusal>>
+) -> Result<TenantAccount, StepError<Refusal>>
     requires inside { InTransaction S.Store connection.old }
     ensures within { StaysWithin S.Store connection.old connection.new }
     ensures opens { Unless result (StaysOpen S.Store connection.old connection.new) }
     ensures same { Unless result (ChangesNothing S.Store connection.old connection.new) }
     ensures decides { IsClean S.Store connection.new
-        → Decides (λ quota. quota) (quota_in (view (tables S.Store connection.old) tenant.now))
+        → Decides (λ account. account.numbers.quota) (quota_in (view (tables S.Store connection.old) tenant.now))
         (tables S.Store connection.old) (tables S.Store connection.new) result }
+    ensures used { IfOk result (λ account. IsClean S.Store connection.new
+        → account.used ≡ used_in tenant.now (tables S.Store connection.old)) }
 {
-    match or_trouble(find_tenant(connection, tenant.as_str()))? {
-        Some(numbers) => Ok(numbers.quota),
+    match or_trouble(find_account(connection, tenant.as_str()))? {
+        Some(account) => Ok(account),
         None => Err(StepError::Refused(Refusal::NoSuchTenant)),
     }
 }
@@ -70,7 +72,7 @@ pub fn usage<S: Alter>(
         → Carries used_answer tenant.now machine.tell_usage
         (tables S.Store connection.old) (tables S.Store connection.new) result }
 {
-    let quota = quota_of(connection, tenant)?;
-    let rows = or_trouble(row_counts(connection, tenant.as_str()))?;
-    Ok(told(quota, rows)?)
+    let account = account_of(connection, tenant)?;
+    let rows = or_trouble(row_counts(connection, tenant.as_str(), account.used))?;
+    Ok(told(account.numbers.quota, rows)?)
 }

@@ -50,7 +50,7 @@ stamped old new n sound up top e =
       limits = limits_are (with_latest n old) (record row { latest = n }) alone ∙ sym (limits_are old row sound.host.alone);
       views = λ u. same_view u old (with_latest n old) refl;
       sound = record {
-        host = record { row = record row { latest = n }; alone = alone; good = record { version = sound.host.good.version; latest = top; limits = sound.host.good.limits } };
+        host = record { row = record row { latest = n }; alone = alone; good = record { version = sound.host.good.version; digest = sound.host.good.digest; latest = top; limits = sound.host.good.limits } };
         tenants = λ t. subst (λ m. AreSound m (rows_of t old)) (sym latest) (sound_later (latest_of old) n up (rows_of t old) (sound.tenants t));
         stored = sound.stored;
       };
@@ -69,10 +69,10 @@ stamped_again tables sound =
 pub created : (tables : Tables) (min_part max_body : ℕ) → AreLimits min_part max_body → tables ≡ new_host min_part max_body
     → IsSound tables × (latest_of tables ≡ 0) × ((t : Octets) → view tables t ≡ None) × (limits_in tables ≡ record { min_part = min_part; max_body = max_body })
 created tables min_part max_body limits e =
-    let row : HostRow = record { version = 0; latest = 0; min_part = min_part; max_body = max_body } in
+    let row : HostRow = record { version = 1; latest = 0; min_part = min_part; max_body = max_body; digest = 0 } in
     subst (λ (x : Tables). IsSound x × (latest_of x ≡ 0) × ((t : Octets) → view x t ≡ None) × (limits_in x ≡ record { min_part = min_part; max_body = max_body })) (sym e) (
       record {
-        host = record { row = row; alone = refl; good = record { version = refl; latest = omega arith; limits = limits } };
+        host = record { row = row; alone = refl; good = record { version = refl; digest = refl; latest = omega arith; limits = limits } };
         tenants = λ t. record {
           tenants = record { each = tt; one = omega arith };
           keys = record { each = tt; one = λ q. omega arith; owned = λ gone. refl };

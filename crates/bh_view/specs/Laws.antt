@@ -22,7 +22,7 @@ ViewsStandAlone = (t : Octets) (old new : Tables) → rows_of t new ≡ rows_of 
 -- the tables of a new host
 abbrev pub new_host : ℕ → ℕ → Tables
 new_host min_part max_body = record {
-  host = record { version = 0; latest = 0; min_part = min_part; max_body = max_body } ∷ [];
+  host = record { version = 1; latest = 0; min_part = min_part; max_body = max_body; digest = 0 } ∷ [];
   tenants = [];
   keys = [];
   buckets = [];

@@ -6,11 +6,13 @@ ghost use Rattle.bh_tables.specs.Typed.{VersionRow as Stored};
 ghost use Rattle.bh_tables.specs.Bodies.{resolved};
 ghost use Rattle.bh_tables.specs.Shown.{is_version, is_at, is_in_bucket, by_id, shown_head, shown_seq, newer};
 ghost use Rattle.bh_rows.specs.Means.{is_trouble};
-ghost use Rattle.bh_schema.specs.Connections.{IsClean, tables, InTransaction, StaysWithin, WasOpen, StaysOpen, ChangesNothing, Becomes, IsTrouble, IsTroubleIf};
+ghost use Rattle.bh_schema.specs.Connections.{IsClean, tables, InTransaction, InMidst, Turns, StaysWithin, WasOpen, StaysOpen, ChangesNothing, Becomes, IsTrouble, IsTroubleIf};
 ghost use Rattle.bh_schema.specs.Rows.{seen_head, newest_at, IsNewVersion};
 ghost use Rattle.bh_schema.specs.Views.{head_seen};
+ghost use Rattle.bh_schema.specs.Written.{with_version, without_version, with_next, with_numbers, bytes_of_id};
 
 use crate::rows::number::number;
+use crate::rows::tenants::{use_entry, use_less, use_numbers};
 use sqlite::types::ToSql;
 use sqlite::{Alter, Connection, Error, Row};
 
@@ -212,35 +214,20 @@ pub fn bucket_has_versions<S: Alter>(
     }
 }
 
-/// Adds a version, whose bytes are those of the body of its name.
-pub fn insert_version<S: Alter>(
+/// The row of a version, whose bytes are those of the body of its name: in the midst of a write of what its tenant uses.
+fn insert_version<S: Alter>(
     connection: &mut Connection<S>,
     version: &NewVersion<'_>,
 ) -> Result<usize, Error>
-    requires inside { InTransaction S.Store connection.old }
+    requires midst { InMidst S.Store connection.old }
     requires seq { version.now.seq < 2 ^ 63 }
     requires id { version.now.id < 2 ^ 63 }
     requires stamp { version.now.stamp < 2 ^ 63 }
     requires size { version.now.size < 2 ^ 63 }
     ensures within { StaysWithin S.Store connection.old connection.new }
     ensures opens { OnOk result (StaysOpen S.Store connection.old connection.new) }
-    ensures holds { OnOk result (Becomes S.Store connection.old connection.new
-        (λ rows. record rows {
-          versions = rows.versions ++ resolved rows.refs rows.blocks (record {
-            tenant = version.now.tenant.now;
-            seq = version.now.seq;
-            bucket = version.now.bucket.now;
-            okey = version.now.okey.now;
-            id = version.now.id;
-            marker = 0;
-            stamp = version.now.stamp;
-            size = version.now.size;
-            checksum = version.now.checksum.now;
-          }) ∷ [];
-        })) }
-    ensures trouble { IfErr result (IsTroubleIf S.Store connection.old connection.new
-        (IsNewVersion (tables S.Store connection.old) version.now.tenant.now version.now.bucket.now version.now.okey.now
-        version.now.seq version.now.id)) }
+    ensures midst { OnOk result (InMidst S.Store connection.new) }
+    ensures turns { OnOk result (Turns S.Store connection.old connection.new (λ sums. sums) (with_version version.now)) }
 {
     // Asked for what it ensures: the rows obey the schema.
     let _schema = connection.schema();
@@ -257,6 +244,83 @@ pub fn insert_version<S: Alter>(
             version.checksum.to_sql(),
         ],
     )
+}
+
+/// Takes the row of the version or marker of a key with this id away: in the midst of a write of what its tenant uses.
+fn remove_version<S: Alter>(
+    connection: &mut Connection<S>,
+    tenant: &str,
+    bucket: &str,
+    okey: &[u8],
+    id: u64,
+) -> Result<usize, Error>
+    requires midst { InMidst S.Store connection.old }
+    requires small { id < 2 ^ 63 }
+    ensures within { StaysWithin S.Store connection.old connection.new }
+    ensures opens { OnOk result (StaysOpen S.Store connection.old connection.new) }
+    ensures midst { OnOk result (InMidst S.Store connection.new) }
+    ensures turns { OnOk result (Turns S.Store connection.old connection.new (λ sums. sums)
+        (without_version tenant.now bucket.now okey.now id)) }
+{
+    // Asked for what it ensures: the rows obey the schema.
+    let _schema = connection.schema();
+    connection.execute(
+        "DELETE FROM versions WHERE tenant = ?1 AND bucket = ?2 AND okey = ?3 AND id = ?4",
+        &[tenant.to_sql(), bucket.to_sql(), okey.to_sql(), number(id)],
+    )
+}
+
+/// Adds a version, whose bytes are those of the body of its name. The tenant's next entry takes this number.
+pub fn add_version<S: Alter>(
+    connection: &mut Connection<S>,
+    version: &NewVersion<'_>,
+    next: u64,
+) -> Result<(), Error>
+    requires inside { InTransaction S.Store connection.old }
+    requires seq { version.now.seq < 2 ^ 63 }
+    requires id { version.now.id < 2 ^ 63 }
+    requires stamp { version.now.stamp < 2 ^ 63 }
+    requires size { version.now.size < 2 ^ 62 }
+    requires small { next < 2 ^ 63 }
+    ensures within { StaysWithin S.Store connection.old connection.new }
+    ensures opens { OnOk result (StaysOpen S.Store connection.old connection.new) }
+    ensures holds { OnOk result (Becomes S.Store connection.old connection.new
+        (λ rows. with_version version.now (with_next version.now.tenant.now next rows))) }
+{
+    use_entry(connection, version.tenant, next, version.size, 0)?;
+    insert_version(connection, version)?;
+    Ok(())
+}
+
+/// Adds a numbered version. The tenant's next numbered version and its next entry take these numbers.
+pub fn add_numbered<S: Alter>(
+    connection: &mut Connection<S>,
+    version: &NewVersion<'_>,
+    next_version: u64,
+    next_entry: u64,
+) -> Result<(), Error>
+    requires inside { InTransaction S.Store connection.old }
+    requires seq { version.now.seq < 2 ^ 63 }
+    requires id { version.now.id < 2 ^ 63 }
+    requires stamp { version.now.stamp < 2 ^ 63 }
+    requires size { version.now.size < 2 ^ 62 }
+    requires version { next_version < 2 ^ 63 }
+    requires entry { next_entry < 2 ^ 63 }
+    ensures within { StaysWithin S.Store connection.old connection.new }
+    ensures opens { OnOk result (StaysOpen S.Store connection.old connection.new) }
+    ensures holds { OnOk result (Becomes S.Store connection.old connection.new
+        (λ rows. with_version version.now (with_numbers version.now.tenant.now next_version next_entry rows))) }
+{
+    use_numbers(
+        connection,
+        version.tenant,
+        next_version,
+        next_entry,
+        version.size,
+        0,
+    )?;
+    insert_version(connection, version)?;
+    Ok(())
 }
 
 /// Adds a delete marker.
@@ -303,26 +367,28 @@ pub fn insert_marker<S: Alter>(
     )
 }
 
-/// Takes the version or marker of a key with this id away, if it is there.
+/// Takes the version or marker of a key with this id away, which has so many bytes.
 pub fn delete_version<S: Alter>(
     connection: &mut Connection<S>,
     tenant: &str,
     bucket: &str,
     okey: &[u8],
     id: u64,
-) -> Result<usize, Error>
+    size: u64,
+) -> Result<(), Error>
     requires inside { InTransaction S.Store connection.old }
     requires small { id < 2 ^ 63 }
+    requires few { size < 2 ^ 62 }
+    requires held { IsClean S.Store connection.old
+        → bytes_of_id tenant.now bucket.now okey.now id (tables S.Store connection.old) ≡ size }
     ensures within { StaysWithin S.Store connection.old connection.new }
     ensures opens { OnOk result (StaysOpen S.Store connection.old connection.new) }
     ensures holds { OnOk result (Becomes S.Store connection.old connection.new
-        (λ rows. record rows { versions = delete_where (is_version tenant.now bucket.now okey.now id) rows.versions })) }
-    ensures trouble { IfErr result (IsTrouble S.Store connection.old connection.new) }
+        (without_version tenant.now bucket.now okey.now id)) }
 {
-    // Asked for what it ensures: the rows obey the schema.
+    // Asked for what it ensures: one entry of a key has an id at most.
     let _schema = connection.schema();
-    connection.execute(
-        "DELETE FROM versions WHERE tenant = ?1 AND bucket = ?2 AND okey = ?3 AND id = ?4",
-        &[tenant.to_sql(), bucket.to_sql(), okey.to_sql(), number(id)],
-    )
+    use_less(connection, tenant, size)?;
+    remove_version(connection, tenant, bucket, okey, id)?;
+    Ok(())
 }

@@ -4,8 +4,8 @@ ghost use Rattle.bh_rows.specs.Means.{is_trouble};
 ghost use Rattle.bh_tables.specs.Typed.{PartRow as Stored};
 ghost use Rattle.bh_tables.specs.Bodies.{resolved_part};
 ghost use Rattle.bh_tables.specs.Shown.{is_part, is_part_of, shown_part, shown_body};
-ghost use Rattle.bh_schema.specs.Connections.{IsClean, tables, InTransaction, StaysWithin, WasOpen, StaysOpen, ChangesNothing, Becomes, IsTrouble, IsTroubleIf};
-ghost use Rattle.bh_uploads.specs.Rows.{seen_row, row_seen, part_body, stored_part, listed_parts, IsNewPart};
+ghost use Rattle.bh_schema.specs.Connections.{IsClean, tables, InTransaction, InMidst, Turns, StaysWithin, WasOpen, StaysOpen, ChangesNothing, IsTrouble};
+ghost use Rattle.bh_uploads.specs.Rows.{seen_row, row_seen, part_body, stored_part, listed_parts};
 
 use bh_core::parts::PartRow;
 use bh_schema::rows::number::number;
@@ -184,12 +184,12 @@ pub fn find_body<S: Alter>(
     }
 }
 
-/// Adds a part, whose bytes are those of its body.
+/// Adds a part, whose bytes are those of its body: in the midst of a write of what its tenant uses and its upload keeps.
 pub fn insert_part<S: Alter>(
     connection: &mut Connection<S>,
     part: &PartRecord<'_>,
 ) -> Result<usize, Error>
-    requires inside { InTransaction S.Store connection.old }
+    requires midst { InMidst S.Store connection.old }
     requires upload { part.now.upload < 2 ^ 63 }
     requires number { part.now.number < 2 ^ 63 }
     requires size { part.now.size < 2 ^ 63 }
@@ -197,10 +197,9 @@ pub fn insert_part<S: Alter>(
     requires body { part.now.body < 2 ^ 63 }
     ensures within { StaysWithin S.Store connection.old connection.new }
     ensures opens { OnOk result (StaysOpen S.Store connection.old connection.new) }
-    ensures holds { OnOk result (Becomes S.Store connection.old connection.new
+    ensures midst { OnOk result (InMidst S.Store connection.new) }
+    ensures turns { OnOk result (Turns S.Store connection.old connection.new (λ sums. sums)
         (λ rows. record rows { parts = rows.parts ++ resolved_part rows.refs rows.blocks (stored_part part.now) ∷ [] })) }
-    ensures trouble { IfErr result (IsTroubleIf S.Store connection.old connection.new
-        (IsNewPart (tables S.Store connection.old) part.now.tenant.now part.now.upload part.now.number part.now.body)) }
 {
     // Asked for what it ensures: the rows obey the schema.
     let _schema = connection.schema();
@@ -218,19 +217,20 @@ pub fn insert_part<S: Alter>(
     )
 }
 
-/// Takes the part of a number away, if it is there.
+/// Takes the part of a number away, if it is there: in the midst of a write of what its tenant uses and its upload keeps.
 pub fn delete_part<S: Alter>(
     connection: &mut Connection<S>,
     tenant: &str,
     upload: u64,
     part: u64,
 ) -> Result<usize, Error>
-    requires inside { InTransaction S.Store connection.old }
+    requires midst { InMidst S.Store connection.old }
     requires upload { upload < 2 ^ 63 }
     requires part { part < 2 ^ 63 }
     ensures within { StaysWithin S.Store connection.old connection.new }
     ensures opens { OnOk result (StaysOpen S.Store connection.old connection.new) }
-    ensures holds { OnOk result (Becomes S.Store connection.old connection.new
+    ensures midst { OnOk result (InMidst S.Store connection.new) }
+    ensures turns { OnOk result (Turns S.Store connection.old connection.new (λ sums. sums)
         (λ rows. record rows { parts = delete_where (is_part tenant.now upload part) rows.parts })) }
     ensures trouble { IfErr result (IsTrouble S.Store connection.old connection.new) }
 {
@@ -242,17 +242,18 @@ pub fn delete_part<S: Alter>(
     )
 }
 
-/// Takes all parts of an upload away.
+/// Takes all parts of an upload away: in the midst of a write of what its tenant uses and it keeps.
 pub fn delete_parts<S: Alter>(
     connection: &mut Connection<S>,
     tenant: &str,
     upload: u64,
 ) -> Result<usize, Error>
-    requires inside { InTransaction S.Store connection.old }
+    requires midst { InMidst S.Store connection.old }
     requires small { upload < 2 ^ 63 }
     ensures within { StaysWithin S.Store connection.old connection.new }
     ensures opens { OnOk result (StaysOpen S.Store connection.old connection.new) }
-    ensures holds { OnOk result (Becomes S.Store connection.old connection.new
+    ensures midst { OnOk result (InMidst S.Store connection.new) }
+    ensures turns { OnOk result (Turns S.Store connection.old connection.new (λ sums. sums)
         (λ rows. record rows { parts = delete_where (is_part_of tenant.now upload) rows.parts })) }
     ensures trouble { IfErr result (IsTrouble S.Store connection.old connection.new) }
 {

@@ -145,7 +145,7 @@ pub fn stale_list<S: Alter>(
     read_numbers(alloc, &rows)
 }
 
-/// Adds an upload.
+/// Adds an upload, of which no part is there.
 pub fn insert_upload<S: Alter>(
     connection: &mut Connection<S>,
     upload: &UploadRecord<'_>,
@@ -163,7 +163,7 @@ pub fn insert_upload<S: Alter>(
     // Asked for what it ensures: the rows obey the schema.
     let _schema = connection.schema();
     connection.execute(
-        "INSERT INTO uploads (tenant, upload, bucket, okey, begun) VALUES (?1, ?2, ?3, ?4, ?5)",
+        "INSERT INTO uploads (tenant, upload, bucket, okey, begun, bytes_kept) VALUES (?1, ?2, ?3, ?4, ?5, 0)",
         &[
             upload.tenant.to_sql(),
             number(upload.upload),

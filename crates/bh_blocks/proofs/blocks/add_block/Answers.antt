@@ -1,20 +1,36 @@
-use Rattle.std.proofs.Common.{ap, ◌∙◌}
+use Rattle.std.proofs.Common.{refl, ◌++◌, ◌∷◌, [], pos, length, subst}
 use Rattle.sqlite.specs.Held.{state}
-use Rattle.bh_rows.specs.Means.{is_trouble}
-use Rattle.bh_tables.specs.Typed.{tables_in}
-use Rattle.bh_schema.specs.Layer.{Standing, IsStateClean}
-use Rattle.bh_schema.specs.Working.{tables_at}
-use Rattle.bh_schema.proofs.Finds.{handed_on}
-use Rattle.bh_blocks.proofs.Storing.{unused}
+use Rattle.bh_tables.specs.Typed.{Totals, Tables, BlockRow, UseRow, counted, tables_in, rebodied}
+use Rattle.bh_schema.specs.Layer.{standing, Holds}
+use Rattle.bh_schema.proofs.Calls.{in_midst}
+use Rattle.bh_schema.proofs.VersionSteps.{then_turned, ended}
+use Rattle.bh_blocks.specs.Named.{placed_at}
+use Rattle.bh_blocks.proofs.Counting.{added_twice, piece_law}
 use Rattle.bh_blocks.proofs.blocks.add_block.Goals as goal
 
-pub returns-in_err-insert_block-clause-trouble : goal.returns-in_err-insert_block-clause-trouble
-returns-in_err-insert_block-clause-trouble g c = handed_on _ _ _ c.from_residual-in_err-insert_block.ensures (λ e same intact unlimited sound.
-    let old = state g.S.Store c.args.connection.now in
-    let mid = state g.S.Store c.free_ord.new.connection in
-    let first = c.in_ok-ord.ensures in
-    let then = c.in_err-insert_block.ensures in
-    let before = then.within.follows.intact intact in
-    let clean : IsStateClean mid = record { intact = before; is_open = (first.opens before).1 } in
-    ap is_trouble same ∙ then.trouble intact (first.within.follows.limit ∙ unlimited)
-    (unused (tables_at old) (tables_at mid) c.args.digest c.in_ok-ord.ord sound (ap (λ (x : Standing). tables_in x.now) (first.same before)) (first.free clean)))
+pub insert_block-requires-clause-midst : goal.insert_block-requires-clause-midst
+insert_block-requires-clause-midst g c clean = in_midst (standing (state g.S.Store c.args.connection.now)) (c.requires.inside clean)
+
+pub returns-clause-added : goal.returns-clause-added
+returns-clause-added g c clean =
+    let a = state g.S.Store c.args.connection.now in
+    let b = state g.S.Store c.insert_block.new.connection in
+    let d = state g.S.Store c.insert_ref.new.connection in
+    let e = state g.S.Store c.insert_use.new.connection in
+    let one = c.in_ok-insert_block.ensures in
+    let two = c.in_ok-insert_ref.ensures in
+    let three = c.in_ok-insert_use.ensures in
+    let t = tables_in (standing a).now in
+    let block : BlockRow = record { digest = c.args.digest.now; ord = c.args.ord; bytes = c.args.bytes.now } in
+    let count : UseRow = record { digest = c.args.digest.now; ord = c.args.ord; uses = pos 1 } in
+    let r = placed_at c.args.at.now c.args.digest.now c.args.ord (length c.args.bytes.now) in
+    let with_block : Tables → Tables = λ rows. rebodied rows rows.refs (rows.blocks ++ block ∷ []) in
+    let with_ref : Tables → Tables = λ rows. rebodied rows (rows.refs ++ r ∷ []) rows.blocks in
+    let counts : Totals → Totals = counted (λ us. us ++ count ∷ []) in
+    let mid = three.within.follows.clean clean in
+    let first = two.within.follows.clean mid in
+    subst (λ rows. Holds rows (standing e)) (added_twice t r block)
+    (ended a e counts (λ rows. with_ref (with_block rows)) (λ _. one.within.follows.clean first) c.requires.inside
+    (then_turned a d e (λ s. s) counts (λ rows. with_ref (with_block rows)) (λ rows. rows) three.within.follows.clean
+    (then_turned a b d (λ s. s) (λ s. s) with_block with_ref two.within.follows.clean one.turns two.turns) three.turns)
+    (λ was. piece_law t r block refl (one.fresh first)) clean)

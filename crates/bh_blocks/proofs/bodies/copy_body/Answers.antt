@@ -8,8 +8,11 @@ use Rattle.bh_view.proofs.BodyChanges.{body_copies}
 use Rattle.bh_schema.specs.Layer.{Standing}
 use Rattle.bh_schema.specs.Working.{tables_at}
 use Rattle.bh_blocks.specs.Added.{bytes_in}
-use Rattle.bh_blocks.proofs.Keeping.{resolved_at}
+use Rattle.bh_blocks.proofs.Keeping.{resolved_at, still_inside}
 use Rattle.bh_blocks.proofs.bodies.copy_body.Goals as goal
+
+pub refer_to_all-requires-clause-inside : goal.refer_to_all-requires-clause-inside
+refer_to_all-requires-clause-inside g c = still_inside _ _ c.in_ok-rows.ensures.within c.in_ok-rows.ensures.same c.requires.inside
 
 pub returns-clause-copied : goal.returns-clause-copied
 returns-clause-copied g c = on_ok_weaker c.refer_to_all.result (λ again clean.

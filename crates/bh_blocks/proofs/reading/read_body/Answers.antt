@@ -9,7 +9,11 @@ use Rattle.bh_schema.specs.Layer.{Standing}
 use Rattle.bh_schema.specs.Working.{tables_at}
 use Rattle.bh_blocks.specs.Windows.{IsMeasured}
 use Rattle.bh_blocks.proofs.WindowSteps.{shown_of, read_is}
+use Rattle.bh_blocks.proofs.Keeping.{still_inside}
 use Rattle.bh_blocks.proofs.reading.read_body.Goals as goal
+
+pub append_blocks-requires : goal.append_blocks-requires
+append_blocks-requires g c = record { inside = still_inside _ _ c.in_ok-rows.ensures.within c.in_ok-rows.ensures.same c.requires.inside }
 
 pub returns-clause-read : goal.returns-clause-read
 returns-clause-read g c clean bodies =

@@ -9,9 +9,14 @@ use Rattle.bh_view.proofs.BlockChanges.{blocks_removed}
 use Rattle.bh_schema.specs.Layer.{Standing, IsStateClean}
 use Rattle.bh_schema.specs.Working.{tables_at}
 use Rattle.bh_schema.proofs.Finds.{handed_on}
-use Rattle.bh_blocks.proofs.Keeping.{resolved_at}
+use Rattle.bh_blocks.proofs.Keeping.{resolved_at, still_inside}
 use Rattle.bh_blocks.proofs.Removing.{left, unreferenced_are}
 use Rattle.bh_blocks.proofs.removal.remove_unreferenced.Goals as goal
+
+pub remove_all-requires : goal.remove_all-requires
+remove_all-requires g c =
+    let first = rw c.from.ensures at c.in_ok-rows.ensures in
+    record { inside = still_inside _ _ first.within first.same c.requires.inside }
 
 pub returns-in_err-remove_all-clause-trouble : goal.returns-in_err-remove_all-clause-trouble
 returns-in_err-remove_all-clause-trouble g c = handed_on _ _ _ c.from_residual-in_err-remove_all.ensures (λ e same intact unlimited.

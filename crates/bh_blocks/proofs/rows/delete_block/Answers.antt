@@ -1,13 +1,15 @@
 use Rattle.sqlite.specs.Held.{state}
-use Rattle.bh_tables.proofs.Places.{blocks}
-use Rattle.bh_tables.proofs.BlockTexts.{block_deleted, unreferenced_goes}
-use Rattle.bh_schema.specs.Layer.{standing}
-use Rattle.bh_schema.proofs.Calls.{removed}
+use Rattle.bh_tables.specs.Shown.{Name}
+use Rattle.bh_tables.proofs.BlockTexts.{block_deleted}
+use Rattle.bh_blocks.proofs.UseCalls.{block_goes, block_goes_trouble}
 use Rattle.bh_blocks.proofs.rows.delete_block.Goals as goal
 
 pub returns : goal.returns
 returns g c =
     let h = rw (c.to_sql.ensures, c.number.ensures) at c.execute.ensures in
     let old = state g.S.Store c.args.connection.now in
-    let w = removed blocks old (state g.S.Store c.execute.new.self) c.requires.inside c.execute.result c.schema-schema.ensures.live (block_deleted (c.args.digest.now, c.args.ord)) (λ clean unused. unreferenced_goes (standing old).now (c.requires.inside clean).host (c.args.digest.now, c.args.ord) unused) h.runs h.survives in
-    record { within = w.within; opens = w.opens; holds = w.holds; trouble = w.trouble }
+    let new = state g.S.Store c.execute.new.self in
+    let live = c.schema-schema.ensures.live in
+    let q : Name = (c.args.digest.now, c.args.ord) in
+    let w = block_goes old new c.requires.midst c.execute.result live (block_deleted q) h.runs h.survives in
+    record { within = w.within; opens = w.opens; midst = w.midst; turns = w.turns; trouble = block_goes_trouble old new c.requires.midst c.execute.result live q (block_deleted q) h.runs h.survives }

@@ -3,8 +3,12 @@ use Rattle.sqlite.specs.Held.{state}
 use Rattle.bh_schema.specs.Working.{tables_at}
 use Rattle.bh_schema.proofs.Storing.{within_then}
 use Rattle.bh_objects.proofs.BucketSteps.{nothing_found}
-use Rattle.bh_objects.proofs.Working.{same_tables}
+use Rattle.bh_objects.proofs.Working.{same_tables, asked_inside}
 use Rattle.bh_objects.proofs.buckets.has_nothing.Goals as goal
+
+pub bucket_has_uploads-requires : goal.bucket_has_uploads-requires
+bucket_has_uploads-requires g c =
+    record { inside = asked_inside (state g.S.Store c.args.connection.now) (state g.S.Store c.bucket_has_versions.new.connection) c.requires.inside c.in_ok-bucket_has_versions.ensures.within c.in_ok-bucket_has_versions.ensures.same }
 
 pub returns-clause-within : goal.returns-clause-within
 returns-clause-within g c = within_then _ _ _ (λ intact up. (c.in_ok-bucket_has_versions.ensures.opens intact).1) c.in_ok-bucket_has_versions.ensures.within c.in_ok-bucket_has_uploads.ensures.within

@@ -5,7 +5,7 @@ use Rattle.bh_schema.specs.Views.{entry_seen}
 use Rattle.bh_schema.specs.Working.{tables_at}
 use Rattle.bh_schema.proofs.Storing.{on_ok}
 use Rattle.bh_objects.proofs.BucketSteps.{lists}
-use Rattle.bh_objects.proofs.Working.{same_tables}
+use Rattle.bh_objects.proofs.Working.{same_tables, asked_working}
 use Rattle.bh_objects.proofs.buckets.list_buckets.Goals as goal
 
 pub returns-clause-carries : goal.returns-clause-carries
@@ -15,3 +15,6 @@ returns-clause-carries g c clean =
     let listed = rw c.as_str.ensures.value at (IfOk-at_ok _ c.in_ok-listed.ensures.ok c.bucket_list.ensures.listed clean) in
     lists (tables_at old) (tables_at new) c.args.tenant.now (c.requires.working (c.bucket_list.ensures.within.follows.clean clean)).sound _
     (c.in_ok-bucket_entries.ensures ∙ ap (map entry_seen) c.deref.ensures.value ∙ listed) (same_tables old new (on_ok _ c.in_ok-listed.ensures.ok c.bucket_list.ensures.same clean.intact))
+
+pub returns-clause-working : goal.returns-clause-working
+returns-clause-working g c = asked_working (state g.S.Store c.args.connection.now) (state g.S.Store c.bucket_list.new.connection) c.requires.working c.bucket_list.ensures.within (on_ok _ c.in_ok-listed.ensures.ok c.bucket_list.ensures.same)

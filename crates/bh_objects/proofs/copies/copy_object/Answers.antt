@@ -19,6 +19,7 @@ use Rattle.bh_objects.specs.declared.reads.Numbers.{Numbers}
 use Rattle.bh_objects.proofs.Working.{host_at, works_then, unless_then}
 use Rattle.bh_objects.proofs.Copying.{Copies, copies_body, bucket_failed, source_failed, numbers_failed}
 use Rattle.bh_objects.proofs.copies.copy_object.Given as given
+use Rattle.bh_objects.proofs.Sizes.{replaced_held}
 use Rattle.bh_objects.proofs.copies.copy_object.Goals as goal
 
 done : (g : given.Over) (c : goal.After-result-1 g) → IsStateClean (state g.S.Store c.write_copy.new.connection)
@@ -103,8 +104,16 @@ new_entry-requires-clause-there g c clean =
 pub new_entry-requires-clause-working : goal.new_entry-requires-clause-working
 new_entry-requires-clause-working g c clean = (c.in_ok-head.ensures.working clean (λ bytes. bytes)).is
 
-pub write_copy-requires : goal.write_copy-requires
-write_copy-requires g c clean = (c.in_ok-entry.ensures.working clean (λ bytes. bytes)).is.inside
+pub write_copy-requires-clause-inside : goal.write_copy-requires-clause-inside
+write_copy-requires-clause-inside g c clean = (c.in_ok-entry.ensures.working clean (λ bytes. bytes)).is.inside
+
+pub write_copy-requires-clause-held : goal.write_copy-requires-clause-held
+write_copy-requires-clause-held g c clean r is =
+    let copy = c.args.copy.now in
+    let mode = c.in_ok-mode.mode in
+    let same = (c.in_ok-entry.ensures.decides clean).1 in
+    replaced_held copy.tenant.now copy.bucket.now copy.key.now (tables_at (state g.S.Store c.new_entry.new.connection)) mode r
+    (ap (replaced_in mode copy.tenant.now copy.bucket.now copy.key.now) same ∙ sym (c.in_ok-entry.ensures.replaced clean) ∙ is)
 
 pub returns-in_err-head-clause-working : goal.returns-in_err-head-clause-working
 returns-in_err-head-clause-working g c =

@@ -8,10 +8,12 @@ use Rattle.bh_view.proofs.BucketLemmas.{row_of}
 use Rattle.bh_schema.specs.Rows.{SeenHead, seen_head}
 use Rattle.bh_schema.specs.Views.{head_seen}
 use Rattle.bh_schema.specs.Working.{tables_at}
+use Rattle.bh_schema.specs.Written.{bytes_of_id}
+use Rattle.bh_objects.proofs.Sizes.{size_of_head}
 use Rattle.bh_storage.specs.Calls.{GivesStep}
 use Rattle.bh_schema.specs.Layer.{IsStateClean}
 use Rattle.bh_objects.specs.Writes.{without_entry}
-use Rattle.bh_objects.proofs.Working.{same_tables, host_at, still_working}
+use Rattle.bh_objects.proofs.Working.{same_tables, asked_inside, asked_working, host_at, still_working}
 use Rattle.bh_objects.proofs.deletes.delete_numbered.Given as given
 use Rattle.bh_objects.proofs.Deleting.{Deletes, deletes_absent, deletes_entry, marked_object}
 use Rattle.bh_objects.proofs.deletes.delete_numbered.Goals as goal
@@ -38,7 +40,9 @@ done g c at clean =
     subst (λ (id : Option VersionId). Deletes c.args.tenant.now c.args.bucket.now c.args.key.now at (Named c.args.id) (Removed id c.is_marker.result) old new) (sym c.told_id.ensures)
     (deletes_entry old new c.args.tenant.now c.args.bucket.now c.args.key.now at (host_at (state g.S.Store c.args.connection.now) (c.requires.working clean_old)) c.args.mode (c.requires.state clean_old) c.args.id c.args.number c.requires.number
     row.0 c.is_marker.result row.1 (c.is_marker.ensures ∙ marked_object row.0 c.in-Some.head.marker (ap (λ (x : SeenHead). x.marker) (sym row.2)))
-    ((c.in_ok-drop_entry-in-Some.ensures.holds clean).is ∙ ap (λ (x : SeenHead). without_entry c.args.tenant.now c.args.bucket.now c.args.key.now c.args.number x.seq (tables_at (state g.S.Store c.numbered_head.new.connection))) (sym row.2)
+    ((c.in_ok-drop_entry-in-Some.ensures.holds clean).is
+    ∙ ap (λ (n : ℕ). without_entry c.args.tenant.now c.args.bucket.now c.args.key.now c.args.number n (tables_at (state g.S.Store c.numbered_head.new.connection))) c.as_replaced-entry.ensures.seq
+    ∙ ap (λ (x : SeenHead). without_entry c.args.tenant.now c.args.bucket.now c.args.key.now c.args.number x.seq (tables_at (state g.S.Store c.numbered_head.new.connection))) (sym row.2)
     ∙ ap (without_entry c.args.tenant.now c.args.bucket.now c.args.key.now c.args.number row.0.seq) same))
 
 pub returns-in_ok-drop_entry-in-Some-clause-working : goal.returns-in_ok-drop_entry-in-Some-clause-working
@@ -48,3 +52,19 @@ returns-in_ok-drop_entry-in-Some-clause-working g c clean =
 
 pub returns-in_ok-drop_entry-in-Some-clause-carries : goal.returns-in_ok-drop_entry-in-Some-clause-carries
 returns-in_ok-drop_entry-in-Some-clause-carries g c at clean = (done g c at clean).0.0
+
+pub drop_entry-requires-clause-held : goal.drop_entry-requires-clause-held
+drop_entry-requires-clause-held g c clean =
+    let t = c.args.tenant.now in
+    let b = c.args.bucket.now in
+    let k = c.args.key.now in
+    let old = state g.S.Store c.args.connection.now in
+    let same = same_tables old (state g.S.Store c.numbered_head.new.connection) (c.in_ok-found.ensures.same clean.intact) in
+    ap (bytes_of_id t b k c.args.number) same ∙ size_of_head t b k c.args.number (tables_at old) (head_seen c.in-Some.head) (sym (ap (option_map head_seen) c.in-Some.is) ∙ c.in_ok-found.ensures.found clean) ∙ sym c.as_replaced-entry.ensures.size
+
+pub drop_entry-requires-clause-inside : goal.drop_entry-requires-clause-inside
+drop_entry-requires-clause-inside g c =
+    asked_inside (state g.S.Store c.args.connection.now) (state g.S.Store c.numbered_head.new.connection) (λ clean. (c.requires.working clean).inside) c.in_ok-found.ensures.within c.in_ok-found.ensures.same
+
+pub returns-in-None-clause-working : goal.returns-in-None-clause-working
+returns-in-None-clause-working g c = asked_working (state g.S.Store c.args.connection.now) (state g.S.Store c.numbered_head.new.connection) c.requires.working c.in_ok-found.ensures.within c.in_ok-found.ensures.same

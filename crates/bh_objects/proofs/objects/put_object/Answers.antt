@@ -18,6 +18,7 @@ use Rattle.bh_objects.specs.declared.quotas.NewEntry.{NewEntry}
 use Rattle.bh_objects.specs.declared.quotas.Replaced.{Replaced}
 use Rattle.bh_objects.specs.declared.reads.Numbers.{Numbers}
 use Rattle.bh_objects.proofs.Working.{host_at, works_then, any_unless, unless_then}
+use Rattle.bh_objects.proofs.Sizes.{replaced_held}
 use Rattle.bh_objects.proofs.Putting.{Puts, puts_pieces, put_failed, sum_right}
 use Rattle.bh_objects.proofs.objects.put_object.Given as given
 use Rattle.bh_objects.proofs.objects.put_object.Goals as goal
@@ -91,3 +92,11 @@ returns-in_err-entry-clause-carries g c clean =
     rw (p.1, p.2) (put_failed (λ (entry : NewEntry). (entry.numbers.before, entry.numbers.after)) stored_answer object.tenant.now object.at object.bucket.now object.key.now object.bytes.now (option_copied c.args.given)
     (tables_at (state g.S.Store c.args.connection.now)) (tables_at (state g.S.Store c.bucket_state.new.connection)) (tables_at (state g.S.Store c.new_entry.new.connection)) c.in_ok-mode.mode one.0
     (sum_right (option_copied c.args.given) object.bytes.now (string_bytes c.in_ok-checksum.checksum) c.in_ok-checksum.ensures.answers) one.1 c.in_err-entry.field-0.0 (c.in_err-entry.ensures.decides clean))
+
+pub write_object-requires-clause-held : goal.write_object-requires-clause-held
+write_object-requires-clause-held g c clean r is =
+    let object = c.args.object.now in
+    let mode = c.in_ok-mode.mode in
+    let same = (c.in_ok-entry.ensures.decides clean).1 in
+    replaced_held object.tenant.now object.bucket.now object.key.now (tables_at (state g.S.Store c.new_entry.new.connection)) mode r
+    (ap (replaced_in mode object.tenant.now object.bucket.now object.key.now) same ∙ sym (c.in_ok-entry.ensures.replaced clean) ∙ is)

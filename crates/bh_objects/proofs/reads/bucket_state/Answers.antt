@@ -3,7 +3,7 @@ use Rattle.std.proofs.lemmas.Result.{IfOk-at_ok}
 use Rattle.sqlite.specs.Held.{state}
 use Rattle.bh_schema.specs.Working.{tables_at}
 use Rattle.bh_schema.proofs.Storing.{on_ok}
-use Rattle.bh_objects.proofs.Working.{same_tables}
+use Rattle.bh_objects.proofs.Working.{same_tables, asked_working}
 use Rattle.bh_objects.proofs.Found.{mode_found, no_mode}
 use Rattle.bh_objects.proofs.reads.bucket_state.Goals as goal
 
@@ -21,3 +21,9 @@ returns-in-None-clause-decides g c clean =
     let old = state g.S.Store c.args.connection.now in
     let new = state g.S.Store c.find_bucket.new.connection in
     (no_mode (tables_at old) c.args.tenant.now c.args.bucket.now (c.requires (c.find_bucket.ensures.within.follows.clean clean)).sound (sym c.in-None.is ∙ rw (c.as_str.ensures.value, c.as_str-2.ensures.value) at (IfOk-at_ok _ c.in_ok-numbers.ensures.ok c.find_bucket.ensures.found clean)), same_tables old new (on_ok _ c.in_ok-numbers.ensures.ok c.find_bucket.ensures.same clean.intact))
+
+pub returns-in-Some-from_number-clause-working : goal.returns-in-Some-from_number-clause-working
+returns-in-Some-from_number-clause-working g c = asked_working (state g.S.Store c.args.connection.now) (state g.S.Store c.find_bucket.new.connection) c.requires c.find_bucket.ensures.within (on_ok _ c.in_ok-numbers.ensures.ok c.find_bucket.ensures.same)
+
+pub returns-in-None-clause-working : goal.returns-in-None-clause-working
+returns-in-None-clause-working g c = asked_working (state g.S.Store c.args.connection.now) (state g.S.Store c.find_bucket.new.connection) c.requires c.find_bucket.ensures.within (on_ok _ c.in_ok-numbers.ensures.ok c.find_bucket.ensures.same)

@@ -3,7 +3,7 @@ use Rattle.std.proofs.lemmas.Result.{IfOk-at_ok}
 use Rattle.sqlite.specs.Held.{state}
 use Rattle.bh_schema.specs.Working.{tables_at}
 use Rattle.bh_schema.proofs.Storing.{on_ok}
-use Rattle.bh_objects.proofs.Working.{same_tables}
+use Rattle.bh_objects.proofs.Working.{same_tables, asked_working}
 use Rattle.bh_objects.proofs.Found.{has_tenant, no_tenant}
 use Rattle.bh_objects.proofs.reads.require_tenant.Goals as goal
 
@@ -18,3 +18,9 @@ returns-in-None-clause-decides g c clean =
     let old = state g.S.Store c.args.connection.now in
     let new = state g.S.Store c.find_tenant.new.connection in
     (no_tenant (tables_at old) c.args.tenant.now (sym c.in-None.is ∙ rw c.as_str.ensures.value at (IfOk-at_ok _ c.in_ok-or_trouble.ensures.ok c.find_tenant.ensures.found clean)), same_tables old new (on_ok _ c.in_ok-or_trouble.ensures.ok c.find_tenant.ensures.same clean.intact))
+
+pub returns-in-Some-clause-working : goal.returns-in-Some-clause-working
+returns-in-Some-clause-working g c = asked_working (state g.S.Store c.args.connection.now) (state g.S.Store c.find_tenant.new.connection) c.requires c.find_tenant.ensures.within (on_ok _ c.in_ok-or_trouble.ensures.ok c.find_tenant.ensures.same)
+
+pub returns-in-None-clause-working : goal.returns-in-None-clause-working
+returns-in-None-clause-working g c = asked_working (state g.S.Store c.args.connection.now) (state g.S.Store c.find_tenant.new.connection) c.requires c.find_tenant.ensures.within (on_ok _ c.in_ok-or_trouble.ensures.ok c.find_tenant.ensures.same)

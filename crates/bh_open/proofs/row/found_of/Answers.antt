@@ -4,6 +4,6 @@ use Rattle.bh_open.proofs.row.found_of.Goals as goal
 
 pub returns-in-Some : goal.returns-in-Some
 returns-in-Some c h version latest min_part max_body =
-    let zero : c.args.version ≡ 0 = search rules in
+    let one : c.args.version ≡ 1 = search rules in
     let it = c.in-Some.ensures in
-    in_range h c.in-Some.limits c.args.latest (rw version zero) latest (rw (min_part, max_body) it.0) (rw (min_part, max_body) it.1)
+    in_range h c.in-Some.limits c.args.latest (rw version one) latest (rw (min_part, max_body) it.0) (rw (min_part, max_body) it.1)

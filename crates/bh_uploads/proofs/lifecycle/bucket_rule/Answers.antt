@@ -3,9 +3,17 @@ use Rattle.std.proofs.lemmas.Result.{IfOk-at_ok}
 use Rattle.sqlite.specs.Held.{state}
 use Rattle.bh_schema.specs.Working.{tables_at}
 use Rattle.bh_schema.proofs.Storing.{on_ok}
-use Rattle.bh_objects.proofs.Working.{same_tables}
+use Rattle.bh_objects.proofs.Working.{same_tables, asked_working}
 use Rattle.bh_uploads.proofs.Rules.{rule_found, no_rule_found}
 use Rattle.bh_uploads.proofs.lifecycle.bucket_rule.Goals as goal
+
+pub returns-in-Ok-clause-working : goal.returns-in-Ok-clause-working
+returns-in-Ok-clause-working g c clean =
+    asked_working (state g.S.Store c.args.connection.now) (state g.S.Store c.find_bucket.new.connection) c.requires c.find_bucket.ensures.within (on_ok _ c.in_ok-numbers.ensures.ok c.find_bucket.ensures.same) clean
+
+pub returns-in-None-clause-working : goal.returns-in-None-clause-working
+returns-in-None-clause-working g c clean =
+    asked_working (state g.S.Store c.args.connection.now) (state g.S.Store c.find_bucket.new.connection) c.requires c.find_bucket.ensures.within (on_ok _ c.in_ok-numbers.ensures.ok c.find_bucket.ensures.same) clean
 
 pub returns-in-Ok-clause-decides : goal.returns-in-Ok-clause-decides
 returns-in-Ok-clause-decides g c clean =

@@ -67,6 +67,16 @@ returns-in_err-taken-clause-working g c =
 pub write_part-requires-clause-inside : goal.write_part-requires-clause-inside
 write_part-requires-clause-inside g c clean = (c.in_ok-taken.ensures.working clean (λ bytes. bytes)).is.inside
 
+pub write_part-requires-clause-held : goal.write_part-requires-clause-held
+write_part-requires-clause-held g c clean =
+    let same = (c.in_ok-taken.ensures.decides clean).1 in
+    ap (part_bytes_in c.args.part.now.upload.tenant.now c.in_ok-found.found.number c.args.part.now.number) same ∙ c.in_ok-taken.ensures.bytes clean
+
+pub write_part-requires-clause-replaced : goal.write_part-requires-clause-replaced
+write_part-requires-clause-replaced g c clean =
+    let same = (c.in_ok-taken.ensures.decides clean).1 in
+    c.in_ok-taken.ensures.replaced clean ∙ ap (replaced_body c.args.part.now.upload.tenant.now c.in_ok-found.found.number c.args.part.now.number) (sym same)
+
 pub returns-in_err-taken-clause-carries : goal.returns-in_err-taken-clause-carries
 returns-in_err-taken-clause-carries g c clean =
     let p = err_from_is_err_and c.from_residual-in_err-taken.result c.from_residual-in_err-taken.ensures.1 in

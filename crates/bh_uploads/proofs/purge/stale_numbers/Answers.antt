@@ -1,7 +1,7 @@
-use Rattle.std.proofs.Common.{◌≡◌, ℕ, List, map, flat_map, sym, ap, ◌∙◌, subst}
+use Rattle.std.proofs.Common.{map, flat_map, sym, ap, ◌∙◌, subst}
 use Rattle.sqlite.specs.Held.{state}
 use Rattle.bh_tables.specs.Typed.{Tables}
-use Rattle.bh_schema.specs.Rows.{rule_in, listed_rules}
+use Rattle.bh_schema.specs.Layer.{IsInside}
 use Rattle.bh_schema.specs.Views.{rule_seen}
 use Rattle.bh_schema.specs.Working.{tables_at}
 use Rattle.bh_schema.proofs.Storing.{on_ok}
@@ -10,6 +10,11 @@ use Rattle.bh_objects.proofs.Working.{same_tables}
 use Rattle.bh_uploads.specs.Purging.{stale_by}
 use Rattle.bh_uploads.proofs.Taking.{flat_named}
 use Rattle.bh_uploads.proofs.purge.stale_numbers.Goals as goal
+
+pub stale_of_rules-requires : goal.stale_of_rules-requires
+stale_of_rules-requires g c = record {
+  inside = λ clean. subst IsInside (sym (on_ok _ c.in_ok-rules.ensures.ok c.rule_list.ensures.same clean.intact)) (c.requires.inside (c.rule_list.ensures.within.follows.clean clean));
+}
 
 pub returns-clause-numbers : goal.returns-clause-numbers
 returns-clause-numbers g c clean =

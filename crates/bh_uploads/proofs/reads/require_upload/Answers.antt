@@ -1,6 +1,8 @@
 use Rattle.std.proofs.Common.{refl, arith}
 use Rattle.sqlite.specs.Held.{state}
 use Rattle.bh_schema.specs.Working.{tables_at}
+use Rattle.bh_schema.proofs.Storing.{on_ok}
+use Rattle.bh_objects.proofs.Working.{asked_working}
 use Rattle.bh_uploads.proofs.Uploads.{number_high}
 use Rattle.bh_uploads.proofs.reads.require_upload.Goals as goal
 
@@ -9,3 +11,15 @@ returns-then-number-ge-COUNTER_END-clause-decides g c clean =
     let u = c.args.upload.now in
     let high = c.if-number-ge-COUNTER_END.true in
     (number_high (tables_at (state g.S.Store c.args.connection.now)) u.tenant.now u.bucket.now u.key.now c.args.number (λ low. omega (arith, low, high)) (c.requires clean).sound, refl)
+
+pub returns-then-is_of-clause-working : goal.returns-then-is_of-clause-working
+returns-then-is_of-clause-working g c clean =
+    asked_working (state g.S.Store c.args.connection.now) (state g.S.Store c.find_upload.new.connection) c.requires c.find_upload.ensures.within (on_ok _ c.in_ok-head.ensures.ok c.find_upload.ensures.same) clean
+
+pub returns-in-Some-clause-working : goal.returns-in-Some-clause-working
+returns-in-Some-clause-working g c clean =
+    asked_working (state g.S.Store c.args.connection.now) (state g.S.Store c.find_upload.new.connection) c.requires c.find_upload.ensures.within (on_ok _ c.in_ok-head.ensures.ok c.find_upload.ensures.same) clean
+
+pub returns-clause-working : goal.returns-clause-working
+returns-clause-working g c clean =
+    asked_working (state g.S.Store c.args.connection.now) (state g.S.Store c.find_upload.new.connection) c.requires c.find_upload.ensures.within (on_ok _ c.in_ok-head.ensures.ok c.find_upload.ensures.same) clean

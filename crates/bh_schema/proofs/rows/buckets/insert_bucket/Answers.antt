@@ -10,5 +10,5 @@ pub returns : goal.returns
 returns g c =
     let h = rw (c.to_sql.ensures, c.to_sql-2.ensures, c.number.ensures) at c.execute.ensures in
     let old = state g.S.Store c.args.connection.now in
-    let w = inserted buckets old (state g.S.Store c.execute.new.self) c.requires.inside c.execute.result c.schema-schema.ensures.live (bucket_inserted c.args.tenant.now c.args.bucket.now c.args.created) (λ clean is. new_bucket (standing old).now (c.requires.inside clean).host _ refl is.free is.owned) h.runs h.survives in
+    let w = inserted buckets old (state g.S.Store c.execute.new.self) c.requires.inside (λ t l. refl) c.execute.result c.schema-schema.ensures.live (bucket_inserted c.args.tenant.now c.args.bucket.now c.args.created) (λ clean is. new_bucket (standing old).now (c.requires.inside clean).host _ refl is.free is.owned) h.runs h.survives in
     record { within = w.within; opens = w.opens; holds = w.holds; trouble = w.trouble }

@@ -1,4 +1,4 @@
-use Rattle.std.proofs.Common.{◌≤◌, arith}
+use Rattle.std.proofs.Common.{refl, ◌≤◌, arith}
 use Rattle.sqlite.specs.Held.{state}
 use Rattle.bh_types.specs.BucketStates.{state_number}
 use Rattle.bh_types.specs.declared.bucket_state.BucketState.{BucketState}
@@ -17,5 +17,5 @@ pub returns : goal.returns
 returns g c =
     let h = rw (c.to_sql.ensures, c.to_sql-2.ensures, c.number-2.ensures, c.number.ensures) at c.execute.ensures in
     let old = state g.S.Store c.args.connection.now in
-    let w = updated buckets old (state g.S.Store c.execute.new.self) c.requires.inside c.execute.result c.schema-schema.ensures.live (state_set c.args.tenant.now c.args.bucket.now (state_number c.args.state)) (state_may c.args.tenant.now c.args.bucket.now (state_number c.args.state) (state_low c.args.state)) h.runs h.survives in
+    let w = updated buckets old (state g.S.Store c.execute.new.self) c.requires.inside (λ t l. refl) c.execute.result c.schema-schema.ensures.live (state_set c.args.tenant.now c.args.bucket.now (state_number c.args.state)) (state_may c.args.tenant.now c.args.bucket.now (state_number c.args.state) (state_low c.args.state)) h.runs h.survives in
     record { within = w.within; opens = w.opens; holds = w.holds; trouble = w.trouble }

@@ -1,4 +1,5 @@
 use Rattle.sqlite.specs.Held.{state}
+use Rattle.bh_tables.specs.Typed.{totals_of, tables}
 use Rattle.bh_tables.proofs.Places.{uploads}
 use Rattle.bh_tables.proofs.UploadTexts.{uploads_counted}
 use Rattle.bh_schema.proofs.Calls.{counted}
@@ -7,5 +8,5 @@ use Rattle.bh_schema.proofs.rows.counts.upload_rows.Goals as goal
 pub returns : goal.returns
 returns g c =
     let h = rw c.to_sql.ensures at c.query_all.ensures in
-    let q = counted uploads (state g.S.Store c.args.connection.now) (state g.S.Store c.query_all.new.self) c.requires.inside (λ v. v.items) c.query_all.result (uploads_counted c.args.tenant.now) h.ok h.err h.survives in
+    let q = counted uploads (state g.S.Store c.args.connection.now) (state g.S.Store c.query_all.new.self) c.requires.inside (λ v. v.items) c.query_all.result (uploads_counted (totals_of (tables (state g.S.Store c.args.connection.now))) c.args.tenant.now) h.ok h.err h.survives in
     record { within = q.within; opens = q.opens; same = q.same; rows = q.rows; trouble = q.trouble }

@@ -1,3 +1,4 @@
+use Rattle.std.proofs.Common.{refl}
 use Rattle.bh_schema.specs.Layer.{standing}
 use Rattle.sqlite.specs.Held.{state}
 use Rattle.bh_tables.proofs.Places.{host}
@@ -9,5 +10,5 @@ pub returns : goal.returns
 returns g c =
     let h = rw (c.number.ensures, c.number-2.ensures) at c.execute.ensures in
     let old = state g.S.Store c.args.connection.now in
-    let w = inserted host old (state g.S.Store c.execute.new.self) c.requires.inside c.execute.result c.schema-schema.ensures.live (host_inserted c.args.min_part c.args.max_body) (λ clean none. first_host (standing old).now _ (none clean)) h.runs h.survives in
+    let w = inserted host old (state g.S.Store c.execute.new.self) c.requires.inside (λ t l. refl) c.execute.result c.schema-schema.ensures.live (host_inserted c.args.min_part c.args.max_body) (λ clean none. first_host (standing old).now _ (none clean)) h.runs h.survives in
     record { within = w.within; opens = w.opens; holds = w.holds; trouble = w.trouble }

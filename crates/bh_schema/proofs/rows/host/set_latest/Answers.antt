@@ -1,3 +1,4 @@
+use Rattle.std.proofs.Common.{refl}
 use Rattle.sqlite.specs.Held.{state}
 use Rattle.bh_tables.proofs.Places.{host}
 use Rattle.bh_tables.proofs.HostTexts.{latest_set, latest_may}
@@ -8,5 +9,5 @@ pub returns : goal.returns
 returns g c =
     let h = rw c.number.ensures at c.execute.ensures in
     let old = state g.S.Store c.args.connection.now in
-    let w = updated host old (state g.S.Store c.execute.new.self) c.requires.inside c.execute.result c.schema-schema.ensures.live (latest_set c.args.stamp) (latest_may c.args.stamp) h.runs h.survives in
+    let w = updated host old (state g.S.Store c.execute.new.self) c.requires.inside (λ t l. refl) c.execute.result c.schema-schema.ensures.live (latest_set c.args.stamp) (latest_may c.args.stamp) h.runs h.survives in
     record { within = w.within; opens = w.opens; holds = w.holds; trouble = w.trouble }

@@ -1,3 +1,4 @@
+use Rattle.std.proofs.Common.{refl}
 use Rattle.sqlite.specs.Held.{state}
 use Rattle.bh_tables.proofs.Places.{keys}
 use Rattle.bh_tables.proofs.KeyTexts.{key_deleted, keys_unused}
@@ -8,5 +9,5 @@ pub returns : goal.returns
 returns g c =
     let h = rw (c.to_sql.ensures, c.to_sql-2.ensures) at c.execute.ensures in
     let old = state g.S.Store c.args.connection.now in
-    let w = deleted keys old (state g.S.Store c.execute.new.self) c.requires.inside c.execute.result c.schema-schema.ensures.live (key_deleted c.args.tenant.now c.args.name.now) keys_unused h.runs h.survives in
+    let w = deleted keys old (state g.S.Store c.execute.new.self) c.requires.inside (λ t l. refl) c.execute.result c.schema-schema.ensures.live (key_deleted c.args.tenant.now c.args.name.now) keys_unused h.runs h.survives in
     record { within = w.within; opens = w.opens; holds = w.holds; trouble = w.trouble }

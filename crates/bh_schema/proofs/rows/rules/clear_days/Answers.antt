@@ -1,4 +1,4 @@
-use Rattle.std.proofs.Common.{None}
+use Rattle.std.proofs.Common.{refl, None}
 use Rattle.sqlite.specs.Held.{state}
 use Rattle.bh_tables.proofs.Places.{buckets}
 use Rattle.bh_tables.proofs.BucketTexts.{days_cleared, days_may}
@@ -9,5 +9,5 @@ pub returns : goal.returns
 returns g c =
     let h = rw (c.to_sql.ensures, c.to_sql-2.ensures) at c.execute.ensures in
     let old = state g.S.Store c.args.connection.now in
-    let w = updated buckets old (state g.S.Store c.execute.new.self) c.requires.inside c.execute.result c.schema-schema.ensures.live (days_cleared c.args.tenant.now c.args.bucket.now) (days_may c.args.tenant.now c.args.bucket.now None) h.runs h.survives in
+    let w = updated buckets old (state g.S.Store c.execute.new.self) c.requires.inside (λ t l. refl) c.execute.result c.schema-schema.ensures.live (days_cleared c.args.tenant.now c.args.bucket.now) (days_may c.args.tenant.now c.args.bucket.now None) h.runs h.survives in
     record { within = w.within; opens = w.opens; holds = w.holds; trouble = w.trouble }

@@ -1,5 +1,6 @@
 use Rattle.sqlite.specs.Held.{state}
 use Rattle.bh_tables.proofs.UploadTexts.{bucket_upload_shown}
+use Rattle.bh_tables.specs.Typed.{totals_of, tables}
 use Rattle.bh_tables.proofs.Places.{uploads}
 use Rattle.bh_schema.proofs.Calls.{selected_first}
 use Rattle.bh_schema.proofs.rows.uploads.first_upload_rows.Goals as goal
@@ -7,5 +8,5 @@ use Rattle.bh_schema.proofs.rows.uploads.first_upload_rows.Goals as goal
 pub returns : goal.returns
 returns g c =
     let h = rw (c.to_sql.ensures, c.to_sql-2.ensures) at c.query_all.ensures in
-    let q = selected_first uploads (state g.S.Store c.args.connection.now) (state g.S.Store c.query_all.new.self) c.requires.inside (λ v. v.items) c.query_all.result (bucket_upload_shown c.args.tenant.now c.args.bucket.now) h.ok h.err h.survives in
+    let q = selected_first uploads (state g.S.Store c.args.connection.now) (state g.S.Store c.query_all.new.self) c.requires.inside (λ v. v.items) c.query_all.result (bucket_upload_shown (totals_of (tables (state g.S.Store c.args.connection.now))) c.args.tenant.now c.args.bucket.now) h.ok h.err h.survives in
     record { within = q.within; opens = q.opens; same = q.same; rows = q.rows; trouble = q.trouble }

@@ -10,5 +10,5 @@ returns g c =
     let v = c.args.marker.now in
     let h = rw (c.to_sql.ensures, c.number.ensures, c.to_sql-2.ensures, c.to_sql-3.ensures, c.number-2.ensures, c.number-3.ensures) at c.execute.ensures in
     let old = state g.S.Store c.args.connection.now in
-    let w = inserted old (state g.S.Store c.execute.new.self) c.requires.inside c.execute.result c.schema-schema.ensures.live (marker_inserted v.tenant.now v.bucket.now v.okey.now v.seq v.id v.stamp) (λ clean is. new_version (standing old).now (c.requires.inside clean).host _ refl is.unnumbered is.free is.owned) h.runs h.survives in
+    let w = inserted old (state g.S.Store c.execute.new.self) c.requires.inside c.execute.result c.schema-schema.ensures.live refl (marker_inserted v.tenant.now v.bucket.now v.okey.now v.seq v.id v.stamp) (λ clean is. new_version (standing old).now (c.requires.inside clean).host _ refl is.unnumbered is.free is.owned) h.runs h.survives in
     record { within = w.within; opens = w.opens; holds = w.holds; trouble = w.trouble }

@@ -1,8 +1,6 @@
-use Rattle.std.proofs.Common.{refl}
-use Rattle.bh_schema.specs.Layer.{standing}
 use Rattle.sqlite.specs.Held.{state}
-use Rattle.bh_tables.proofs.VersionTexts.{version_inserted, new_version}
-use Rattle.bh_schema.proofs.VersionCalls.{inserted}
+use Rattle.bh_tables.proofs.VersionTexts.{version_inserted}
+use Rattle.bh_schema.proofs.VersionCalls.{comes}
 use Rattle.bh_schema.proofs.rows.versions.insert_version.Goals as goal
 
 pub returns : goal.returns
@@ -10,5 +8,5 @@ returns g c =
     let v = c.args.version.now in
     let h = rw (c.to_sql.ensures, c.number.ensures, c.to_sql-2.ensures, c.to_sql-3.ensures, c.number-2.ensures, c.number-3.ensures, c.number-4.ensures, c.to_sql-4.ensures) at c.execute.ensures in
     let old = state g.S.Store c.args.connection.now in
-    let w = inserted old (state g.S.Store c.execute.new.self) c.requires.inside c.execute.result c.schema-schema.ensures.live (version_inserted v.tenant.now v.bucket.now v.okey.now v.checksum.now v.seq v.id v.stamp v.size) (λ clean is. new_version (standing old).now (c.requires.inside clean).host _ refl is.unnumbered is.free is.owned) h.runs h.survives in
-    record { within = w.within; opens = w.opens; holds = w.holds; trouble = w.trouble }
+    let w = comes old (state g.S.Store c.execute.new.self) c.requires.midst c.execute.result c.schema-schema.ensures.live (version_inserted v.tenant.now v.bucket.now v.okey.now v.checksum.now v.seq v.id v.stamp v.size) h.runs h.survives in
+    record { within = w.within; opens = w.opens; midst = w.midst; turns = w.turns }

@@ -1,11 +1,14 @@
 use Rattle.sqlite.specs.Held.{state}
 use Rattle.bh_tables.proofs.PartTexts.{part_deleted}
-use Rattle.bh_schema.proofs.PartCalls.{deleted}
+use Rattle.bh_schema.proofs.PartCalls.{goes, goes_trouble}
+use Rattle.bh_uploads.proofs.Keeping.{alone}
 use Rattle.bh_uploads.proofs.rows.parts.delete_part.Goals as goal
 
 pub returns : goal.returns
 returns g c =
     let h = rw (c.to_sql.ensures, c.number.ensures, c.number-2.ensures) at c.execute.ensures in
     let old = state g.S.Store c.args.connection.now in
-    let w = deleted old (state g.S.Store c.execute.new.self) c.requires.inside c.execute.result c.schema-schema.ensures.live (part_deleted c.args.tenant.now c.args.upload c.args.part) h.runs h.survives in
-    record { within = w.within; opens = w.opens; holds = w.holds; trouble = w.trouble }
+    let new = state g.S.Store c.execute.new.self in
+    let live = c.schema-schema.ensures.live in
+    let w = goes old new c.requires.midst c.execute.result live (part_deleted c.args.tenant.now c.args.upload c.args.part) h.runs h.survives in
+    record { within = w.within; opens = w.opens; midst = w.midst; turns = w.turns; trouble = alone old new c.execute.result (goes_trouble old new c.requires.midst c.execute.result live (part_deleted c.args.tenant.now c.args.upload c.args.part) h.runs h.survives) }

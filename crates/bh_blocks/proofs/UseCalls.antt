@@ -1,0 +1,113 @@
+-- Calls over counts of uses, and over references and blocks beside them, in the midst of a write.
+use Rattle.std.proofs.Common.{◌≡◌, ℕ, ℤ, pos, ◌-ℤ◌, List, [], ◌∷◌, ◌++◌, Bool, true, false, None, int_lt, Ok, Err, Result, OnOk, IfErr, sym, subst, ap, ◌∙◌}
+use Rattle.std.specs.List.{list_any, AllByRecursion}
+use Rattle.sqlite.specs.Edit.{next_rowid}
+use Rattle.sqlite.specs.Effect.{IsDatabase}
+use Rattle.sqlite.specs.Order.{Row}
+use Rattle.sqlite.specs.State.{State, HasCleanDisk, IsLive, Survives, Executes, CommitsBy}
+use Rattle.sqlite.specs.declared.error.Error.{Error}
+use Rattle.sqlite_keyed.specs.Lists.{update_where, delete_where}
+use Rattle.sqlite_rules.proofs.ListLemmas.{has_filtered}
+use Rattle.bh_rows.specs.Texts.{IsReadyAt, InsertText, UpdateText, DeleteText, Leaves, AreFree}
+use Rattle.bh_rows.specs.Form.{Entry, put, entries, typed}
+use Rattle.bh_rows.specs.Means.{is_trouble}
+use Rattle.bh_rows.proofs.TextLemmas as text
+use Rattle.bh_tables.specs.Schema.{host_schema, uses_table, refs_table, blocks_table, at}
+use Rattle.bh_tables.specs.Typed.{Totals, counted, UseRow, use_form, is_named, RefRow, ref_form, BlockRow, block_form, IsHostBy, Tables, tables, tables_in, rebodied}
+use Rattle.bh_tables.specs.Shown.{Name, block_name, ref_name, is_block, is_use, is_at_place}
+use Rattle.bh_tables.proofs.BlockTexts.{new_block, block_free, unreferenced_goes}
+use Rattle.bh_tables.proofs.OwnedLemmas.{block_unused}
+use Rattle.bh_tables.proofs.Places.{orderly, uses_is, refs, refs_is, blocks, blocks_is, turned}
+use Rattle.bh_tables.proofs.RefTexts.{new_ref, refs_unused}
+use Rattle.bh_tables.proofs.StoredLemmas.{uses_turned}
+use Rattle.bh_tables.proofs.UseTexts.{uses_unused, lowered_suits, lowered_unwatched}
+use Rattle.bh_schema.specs.Layer.{standing, IsIntact, IsOpen, IsStateClean, IsMidst}
+use Rattle.bh_schema.proofs.Calls.{Turn}
+use Rattle.bh_schema.proofs.Calls as call
+use Rattle.bh_blocks.specs.Uses.{IsNewName, IsUsed}
+
+-- the counts that are kept become these of those that were
+use_turned : (old new : State) (change : List UseRow → List UseRow) (sums : Totals) → IsHostBy sums old.now → Leaves use_form host_schema 23 old new (change (typed use_form (old.now.trees 23))) → IsHostBy (counted change sums) new.now × (tables new ≡ tables old)
+use_turned old new change sums host l = uses_turned sums (change sums.uses) old new host (subst (λ us. Leaves use_form host_schema 23 old new (change us)) host.held.counts l)
+
+module _ (old new : State) (midst : IsStateClean old → IsMidst (standing old)) (result : Result ℕ Error) (live : IsLive old) {sql : List ℕ} {params : Row} where
+  pub adds : {x : UseRow} → InsertText use_form host_schema 9 (at 23 uses_table) sql params x → (HasCleanDisk new → Executes sql params old new result) → Survives old new (CommitsBy sql params old)
+      → Turn old new (counted (λ us. us ++ x ∷ [])) (λ t. t) result
+  adds {x} it = call.adds use_form 9 (at 23 uses_table) uses_is (λ sums db h. h.held.uses) old new midst result live (counted (λ us. us ++ x ∷ [])) (λ t. t) it (use_turned old new (λ us. us ++ x ∷ []))
+
+  pub sets : {m : UseRow → Bool} {f : UseRow → UseRow} → UpdateText use_form host_schema 9 (at 23 uses_table) sql params m f → (HasCleanDisk new → Executes sql params old new result) → Survives old new (CommitsBy sql params old)
+      → Turn old new (counted (update_where m f)) (λ t. t) result
+  sets {m} {f} it = call.sets use_form 9 (at 23 uses_table) uses_is (λ sums db h. h.held.uses) old new midst result live (counted (update_where m f)) (λ t. t) it (use_turned old new (update_where m f))
+
+  pub drops : {m : UseRow → Bool} → DeleteText use_form host_schema 9 (at 23 uses_table) sql params m → (HasCleanDisk new → Executes sql params old new result) → Survives old new (CommitsBy sql params old)
+      → Turn old new (counted (delete_where m)) (λ t. t) result
+  drops {m} it = call.drops use_form 9 (at 23 uses_table) uses_is (λ sums db h. h.held.uses) old new midst result live (counted (delete_where m)) (λ t. t) it (use_turned old new (delete_where m))
+
+  -- references come and go, and counts stay
+  pub ref_comes : {r : RefRow} → InsertText ref_form host_schema 6 (at 12 refs_table) sql params r → (HasCleanDisk new → Executes sql params old new result) → Survives old new (CommitsBy sql params old)
+      → Turn old new (λ s. s) (λ t. rebodied t (t.refs ++ r ∷ []) t.blocks) result
+  ref_comes {r} it = call.adds ref_form 6 (at 12 refs_table) refs_is (λ sums db h. h.held.refs) old new midst result live (λ s. s) (λ t. rebodied t (t.refs ++ r ∷ []) t.blocks) it (λ sums host l. turned (refs sums) old new _ host l)
+
+  pub refs_go : {m : RefRow → Bool} → DeleteText ref_form host_schema 6 (at 12 refs_table) sql params m → (HasCleanDisk new → Executes sql params old new result) → Survives old new (CommitsBy sql params old)
+      → Turn old new (λ s. s) (λ t. rebodied t (delete_where m t.refs) t.blocks) result
+  refs_go {m} it = call.drops ref_form 6 (at 12 refs_table) refs_is (λ sums db h. h.held.refs) old new midst result live (λ s. s) (λ t. rebodied t (delete_where m t.refs) t.blocks) it (λ sums host l. turned (refs sums) old new _ host l)
+
+  -- and so do blocks
+  pub block_comes : {b : BlockRow} → InsertText block_form host_schema 5 (at 10 blocks_table) sql params b → (HasCleanDisk new → Executes sql params old new result) → Survives old new (CommitsBy sql params old)
+      → Turn old new (λ s. s) (λ t. rebodied t t.refs (t.blocks ++ b ∷ [])) result
+  block_comes {b} it = call.adds block_form 5 (at 10 blocks_table) blocks_is (λ sums db h. h.held.blocks) old new midst result live (λ s. s) (λ t. rebodied t t.refs (t.blocks ++ b ∷ [])) it (λ sums host l. turned (blocks sums) old new _ host l)
+
+  pub block_goes : {m : BlockRow → Bool} → DeleteText block_form host_schema 5 (at 10 blocks_table) sql params m → (HasCleanDisk new → Executes sql params old new result) → Survives old new (CommitsBy sql params old)
+      → Turn old new (λ s. s) (λ t. rebodied t t.refs (delete_where m t.blocks)) result
+  block_goes {m} it = call.drops block_form 5 (at 10 blocks_table) blocks_is (λ sums db h. h.held.blocks) old new midst result live (λ s. s) (λ t. rebodied t t.refs (delete_where m t.blocks)) it (λ sums host l. turned (blocks sums) old new _ host l)
+
+  -- a name under which a block comes is new
+  pub block_fresh : {b : BlockRow} → InsertText block_form host_schema 5 (at 10 blocks_table) sql params b → (IsStateClean new → IsStateClean old) → (HasCleanDisk new → Executes sql params old new result) → Survives old new (CommitsBy sql params old)
+      → OnOk result (IsStateClean new → IsNewName (block_name b) (tables_in (standing old).now))
+  unfolding standing IsIntact IsOpen
+  block_fresh {b} it was runs survives = go result (λ c. text.insert_frees block_form host_schema orderly 5 (at 10 blocks_table) blocks_is old new block_ready sql params b it result runs survives c.intact (was c).is_open)
+    where
+      block_ready : IsReadyAt block_form host_schema 10 old
+      block_ready clean up = let m = midst (record { intact = clean; is_open = up }) in (m.by.host.schema, m.by.host.held.blocks)
+
+      is_new : IsStateClean old → AreFree block_form host_schema (at 10 blocks_table) (old.now.trees 10) (put block_form (next_rowid (old.now.trees 10), b)) → IsNewName (block_name b) (tables_in old.now)
+      is_new c free =
+          let m = midst c in
+          let sound = subst (λ s. IsDatabase (record { schema = s; trees = old.now.trees })) m.by.host.schema (live c.is_open).0 in
+          let none = block_free old.now m.by.host b free in
+          record { free = none; unused = block_unused m.sums old.now sound m.by.host (block_name b) none }
+
+      go : (r : Result ℕ Error) → (IsStateClean new → OnOk r (AreFree block_form host_schema (at 10 blocks_table) (old.now.trees 10) (put block_form (next_rowid (old.now.trees 10), b)))) → OnOk r (IsStateClean new → IsNewName (block_name b) (tables_in old.now))
+      go (Err e) h = tt
+      go (Ok n) h = λ c. is_new (was c) (h c)
+
+  -- ---- which errors are trouble alone
+
+  pub use_drops_trouble : {m : UseRow → Bool} → DeleteText use_form host_schema 9 (at 23 uses_table) sql params m → (HasCleanDisk new → Executes sql params old new result) → Survives old new (CommitsBy sql params old)
+      → IfErr result (λ e. IsIntact new → (standing old).limit ≡ None → Unit {0} → is_trouble e ≡ true)
+  use_drops_trouble it runs survives = call.drops_trouble use_form 9 (at 23 uses_table) uses_is (λ sums db h. h.held.uses) old new midst result live (λ s. s) (λ t. t) it (λ clean _. uses_unused (standing old).now.trees _) runs survives
+
+  pub refs_go_trouble : {m : RefRow → Bool} → DeleteText ref_form host_schema 6 (at 12 refs_table) sql params m → (HasCleanDisk new → Executes sql params old new result) → Survives old new (CommitsBy sql params old)
+      → IfErr result (λ e. IsIntact new → (standing old).limit ≡ None → Unit {0} → is_trouble e ≡ true)
+  refs_go_trouble it runs survives = call.drops_trouble ref_form 6 (at 12 refs_table) refs_is (λ sums db h. h.held.refs) old new midst result live (λ s. s) (λ t. t) it (λ clean _. refs_unused (standing old).now.trees _) runs survives
+
+  pub ref_comes_trouble : (r : RefRow) → InsertText ref_form host_schema 6 (at 12 refs_table) sql params r → (HasCleanDisk new → Executes sql params old new result) → Survives old new (CommitsBy sql params old)
+      → IfErr result (λ e. IsIntact new → (standing old).limit ≡ None → (list_any (is_at_place (r.tenant, r.body) r.place) (tables_in (standing old).now).refs ≡ false) × (list_any (is_block (ref_name r)) (tables_in (standing old).now).blocks ≡ true) → is_trouble e ≡ true)
+  ref_comes_trouble r it runs survives = call.adds_trouble ref_form 6 (at 12 refs_table) refs_is (λ sums db h. h.held.refs) old new midst result live (λ s. s) (λ t. t) it (λ clean may. new_ref (standing old).now (midst clean).by.host r may.0 may.1) runs survives
+
+  pub block_comes_trouble : (b : BlockRow) → InsertText block_form host_schema 5 (at 10 blocks_table) sql params b → (HasCleanDisk new → Executes sql params old new result) → Survives old new (CommitsBy sql params old)
+      → IfErr result (λ e. IsIntact new → (standing old).limit ≡ None → list_any (is_block (block_name b)) (tables_in (standing old).now).blocks ≡ false → is_trouble e ≡ true)
+  block_comes_trouble b it runs survives = call.adds_trouble block_form 5 (at 10 blocks_table) blocks_is (λ sums db h. h.held.blocks) old new midst result live (λ s. s) (λ t. t) it (λ clean free. new_block (standing old).now (midst clean).by.host b free) runs survives
+
+  pub block_goes_trouble : (q : Name) → DeleteText block_form host_schema 5 (at 10 blocks_table) sql params (is_block q) → (HasCleanDisk new → Executes sql params old new result) → Survives old new (CommitsBy sql params old)
+      → IfErr result (λ e. IsIntact new → (standing old).limit ≡ None → list_any (is_use q) (tables_in (standing old).now).refs ≡ false → is_trouble e ≡ true)
+  block_goes_trouble q it runs survives = call.drops_trouble block_form 5 (at 10 blocks_table) blocks_is (λ sums db h. h.held.blocks) old new midst result live (λ s. s) (λ t. t) it (λ clean unused. unreferenced_goes (standing old).now (midst clean).by.host q unused) runs survives
+
+  -- a count that is above 0 may be lowered
+  pub lowers_trouble : (q : Name) → UpdateText use_form host_schema 9 (at 23 uses_table) sql params (is_named q) (λ u. record u { uses = u.uses -ℤ pos 1 }) → (HasCleanDisk new → Executes sql params old new result) → Survives old new (CommitsBy sql params old)
+      → IfErr result (λ e. IsIntact new → (standing old).limit ≡ None → IsUsed q (standing old) → is_trouble e ≡ true)
+  lowers_trouble q it runs survives = call.sets_trouble use_form 9 (at 23 uses_table) uses_is (λ sums db h. h.held.uses) old new midst result live (λ s. s) (λ t. t) it (lowered_unwatched q) (λ clean used e there suits.
+      let m = midst clean in
+      let found = has_filtered (λ (d : Entry UseRow). is_named q d.1) (entries use_form ((standing old).now.trees 23)) e there in
+      let counts = call.at_entry use_form (λ u. is_named q u ≡ true → int_lt (pos 0) u.uses ≡ true) ((standing old).now.trees 23) (subst (AllByRecursion (λ u. is_named q u ≡ true → int_lt (pos 0) u.uses ≡ true)) (sym m.by.host.held.counts) (used m.sums m.by)) e found.0 in
+      lowered_suits e.0 e.1 (counts found.1) suits) runs survives

@@ -1,0 +1,39 @@
+use Rattle.std.proofs.Common.{◌++◌, ◌∷◌, []}
+use Rattle.sqlite.specs.Held.{state}
+use Rattle.sqlite_keyed.specs.Lists.{delete_where}
+use Rattle.bh_tables.specs.Bodies.{resolved_part}
+use Rattle.bh_tables.specs.Shown.{is_part}
+use Rattle.bh_tables.specs.Typed.{Totals, Tables, used_changed, kept_changed}
+use Rattle.bh_schema.specs.Layer.{standing}
+use Rattle.bh_schema.proofs.Calls.{in_midst}
+use Rattle.bh_schema.proofs.VersionSteps.{then_turned, ended}
+use Rattle.bh_uploads.specs.Rows.{stored_part}
+use Rattle.bh_uploads.specs.Writes.{with_next_entry}
+use Rattle.bh_uploads.proofs.Keeping.{placed_law}
+use Rattle.bh_uploads.proofs.rows.kept.place_part.Goals as goal
+
+pub delete_part-requires-clause-midst : goal.delete_part-requires-clause-midst
+delete_part-requires-clause-midst g c clean = in_midst (standing (state g.S.Store c.args.connection.now)) (c.requires.inside clean)
+
+pub returns-clause-holds : goal.returns-clause-holds
+returns-clause-holds g c =
+    let p = stored_part c.args.part.now in
+    let a = state g.S.Store c.args.connection.now in
+    let b = state g.S.Store c.delete_part.new.connection in
+    let d = state g.S.Store c.insert_part.new.connection in
+    let e = state g.S.Store c.use_entry.new.connection in
+    let f = state g.S.Store c.keep_bytes.new.connection in
+    let one = c.in_ok-delete_part.ensures in
+    let two = c.in_ok-insert_part.ensures in
+    let three = c.in_ok-use_entry.ensures in
+    let four = c.in_ok-keep_bytes.ensures in
+    let gone : Tables → Tables = λ t. record t { parts = delete_where (is_part p.tenant p.upload p.part) t.parts } in
+    let come : Tables → Tables = λ t. record t { parts = t.parts ++ resolved_part t.refs t.blocks p ∷ [] } in
+    let next : Tables → Tables = with_next_entry p.tenant c.args.next in
+    let used : Totals → Totals = used_changed p.tenant p.size c.args.replaced in
+    let kept : Totals → Totals = kept_changed (p.tenant, p.upload) p.size c.args.replaced in
+    ended a f (λ s. kept (used s)) (λ t. next (come (gone t))) (λ clean. one.within.follows.clean (two.within.follows.clean (three.within.follows.clean (four.within.follows.clean clean)))) c.requires.inside
+    (then_turned a e f used kept (λ t. next (come (gone t))) (λ t. t) four.within.follows.clean
+    (then_turned a d e (λ s. s) used (λ t. come (gone t)) next three.within.follows.clean
+    (then_turned a b d (λ s. s) (λ s. s) gone come two.within.follows.clean one.turns two.turns) three.turns) four.turns)
+    (λ was. placed_law a c.schema-schema.ensures.live was (c.requires.inside was) p c.args.next c.args.replaced (c.requires.held was))

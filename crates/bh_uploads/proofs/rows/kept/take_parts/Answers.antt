@@ -1,0 +1,28 @@
+use Rattle.sqlite.specs.Held.{state}
+use Rattle.bh_tables.specs.Typed.{Totals, used_changed, kept_changed, tables_in}
+use Rattle.bh_schema.specs.Layer.{standing}
+use Rattle.bh_schema.proofs.Calls.{in_midst}
+use Rattle.bh_schema.proofs.VersionSteps.{then_turned, ended}
+use Rattle.bh_uploads.specs.Writes.{without_parts}
+use Rattle.bh_uploads.proofs.Keeping.{taken_law}
+use Rattle.bh_uploads.proofs.rows.kept.take_parts.Goals as goal
+
+pub delete_parts-requires-clause-midst : goal.delete_parts-requires-clause-midst
+delete_parts-requires-clause-midst g c clean = in_midst (standing (state g.S.Store c.args.connection.now)) (c.requires.inside clean)
+
+pub returns-clause-holds : goal.returns-clause-holds
+returns-clause-holds g c =
+    let t = c.args.tenant.now in
+    let a = state g.S.Store c.args.connection.now in
+    let b = state g.S.Store c.delete_parts.new.connection in
+    let d = state g.S.Store c.use_less.new.connection in
+    let e = state g.S.Store c.keep_bytes.new.connection in
+    let one = c.in_ok-delete_parts.ensures in
+    let two = c.in_ok-use_less.ensures in
+    let three = c.in_ok-keep_bytes.ensures in
+    let gone = without_parts t c.args.upload in
+    let used : Totals → Totals = used_changed t 0 c.args.kept in
+    let kept : Totals → Totals = kept_changed (t, c.args.upload) 0 c.args.kept in
+    ended a e (λ s. kept (used s)) gone (λ clean. one.within.follows.clean (two.within.follows.clean (three.within.follows.clean clean))) c.requires.inside
+    (then_turned a d e used kept gone (λ x. x) three.within.follows.clean (then_turned a b d (λ s. s) used gone (λ x. x) two.within.follows.clean one.turns two.turns) three.turns)
+    (λ was. taken_law (tables_in (standing a).now) t c.args.upload c.args.kept (c.requires.held was))

@@ -1,0 +1,163 @@
+//! Parts that come or go with what their tenant uses and their upload keeps.
+
+ghost use Rattle.std.specs.Prelude.{ℕ, ◌≡◌, ◌∷◌, [], ◌<◌, ◌^◌, map, filter, IfOk, IfErr, OnOk};
+ghost use Rattle.bh_tables.specs.Typed.{number as stored, totals_of, bytes_kept, kept_changed};
+ghost use Rattle.bh_tables.specs.Shown.{is_upload, shown_kept};
+ghost use Rattle.bh_schema.specs.Connections.{IsClean, tables, InTransaction, InMidst, Turns, StaysWithin, WasOpen, StaysOpen, ChangesNothing, Becomes, IsTrouble};
+ghost use Rattle.bh_uploads.specs.Rows.{stored_part};
+ghost use Rattle.bh_uploads.specs.Found.{part_bytes_in};
+ghost use Rattle.bh_uploads.specs.Writes.{part_placed, without_parts};
+
+use crate::rows::parts::{PartRecord, delete_part, delete_parts, insert_part};
+use bh_schema::rows::number::number;
+use bh_schema::rows::tenants::{use_entry, use_less};
+use sqlite::types::ToSql;
+use sqlite::{Alter, Connection, Error, ErrorCode, Row};
+
+/// So many bytes more and so many fewer are to be kept of an upload: in the midst of a write of those.
+fn keep_bytes<S: Alter>(
+    connection: &mut Connection<S>,
+    tenant: &str,
+    upload: u64,
+    more: u64,
+    less: u64,
+) -> Result<usize, Error>
+    requires midst { InMidst S.Store connection.old }
+    requires upload { upload < 2 ^ 63 }
+    requires more { more < 2 ^ 62 }
+    requires less { less < 2 ^ 62 }
+    ensures within { StaysWithin S.Store connection.old connection.new }
+    ensures opens { OnOk result (StaysOpen S.Store connection.old connection.new) }
+    ensures midst { OnOk result (InMidst S.Store connection.new) }
+    ensures turns { OnOk result (Turns S.Store connection.old connection.new (kept_changed (tenant.now, upload) more less) (λ rows. rows)) }
+{
+    // Asked for what it ensures: the rows obey the schema.
+    let _schema = connection.schema();
+    connection.execute(
+        "UPDATE uploads SET bytes_kept = bytes_kept + ?3 - ?4 WHERE tenant = ?1 AND upload = ?2",
+        &[tenant.to_sql(), number(upload), number(more), number(less)],
+    )
+}
+
+fn kept_rows<S: Alter>(
+    connection: &mut Connection<S>,
+    tenant: &str,
+    upload: u64,
+) -> Result<Vec<Row>, Error>
+    requires inside { InTransaction S.Store connection.old }
+    requires small { upload < 2 ^ 63 }
+    ensures within { StaysWithin S.Store connection.old connection.new }
+    ensures opens { OnOk result (WasOpen S.Store connection.old connection.new) }
+    ensures same { OnOk result (ChangesNothing S.Store connection.old connection.new) }
+    ensures rows { IfOk result (λ rows. IsClean S.Store connection.new
+        → rows.items ≡ map (shown_kept (totals_of (tables S.Store connection.old)))
+        (filter (is_upload tenant.now upload) (tables S.Store connection.old).uploads)) }
+    ensures trouble { IfErr result (IsTrouble S.Store connection.old connection.new) }
+{
+    connection.query_all(
+        "SELECT bytes_kept FROM uploads WHERE tenant = ?1 AND upload = ?2 ORDER BY rowid",
+        &[tenant.to_sql(), number(upload)],
+    )
+}
+
+/// A number of bytes that a sum can be lowered by.
+fn read_kept(row: &Row) -> Result<u64, Error>
+    ensures read { IfOk result (λ n. (m : ℕ) → row.now ≡ stored m ∷ [] → n ≡ m) }
+    ensures small { IfOk result (λ n. n < 2 ^ 62) }
+{
+    let kept: u64 = row.get(0)?;
+    if kept < 1 << 62 {
+        Ok(kept)
+    } else {
+        Err(Error::SqliteFailure(ErrorCode::TooBig))
+    }
+}
+
+/// The bytes of an upload's parts, of its own row. The upload is to be there.
+fn find_kept<S: Alter>(
+    connection: &mut Connection<S>,
+    tenant: &str,
+    upload: u64,
+) -> Result<u64, Error>
+    requires inside { InTransaction S.Store connection.old }
+    requires small { upload < 2 ^ 63 }
+    ensures within { StaysWithin S.Store connection.old connection.new }
+    ensures opens { OnOk result (WasOpen S.Store connection.old connection.new) }
+    ensures same { OnOk result (ChangesNothing S.Store connection.old connection.new) }
+    ensures kept { IfOk result (λ n. IsClean S.Store connection.new
+        → bytes_kept (tables S.Store connection.old).parts tenant.now upload ≡ n) }
+    ensures low { IfOk result (λ n. n < 2 ^ 62) }
+{
+    let rows = kept_rows(connection, tenant, upload)?;
+    match rows.first() {
+        Some(row) => read_kept(row),
+        None => Err(Error::SqliteFailure(ErrorCode::DatabaseCorrupt)),
+    }
+}
+
+/// Adds a part in the place of that of its number, which has so many bytes. The tenant's next entry takes this number.
+pub fn place_part<S: Alter>(
+    connection: &mut Connection<S>,
+    part: &PartRecord<'_>,
+    next: u64,
+    replaced: u64,
+) -> Result<(), Error>
+    requires inside { InTransaction S.Store connection.old }
+    requires upload { part.now.upload < 2 ^ 63 }
+    requires number { part.now.number < 2 ^ 63 }
+    requires size { part.now.size < 2 ^ 62 }
+    requires stamp { part.now.stamp < 2 ^ 63 }
+    requires body { part.now.body < 2 ^ 63 }
+    requires small { next < 2 ^ 63 }
+    requires few { replaced < 2 ^ 62 }
+    requires held { IsClean S.Store connection.old
+        → part_bytes_in part.now.tenant.now part.now.upload part.now.number (tables S.Store connection.old) ≡ replaced }
+    ensures within { StaysWithin S.Store connection.old connection.new }
+    ensures opens { OnOk result (StaysOpen S.Store connection.old connection.new) }
+    ensures holds { OnOk result (Becomes S.Store connection.old connection.new (part_placed (stored_part part.now) next)) }
+{
+    // Asked for what it ensures: one part of an upload has a number at most.
+    let _schema = connection.schema();
+    delete_part(connection, part.tenant, part.upload, part.number)?;
+    insert_part(connection, part)?;
+    use_entry(connection, part.tenant, next, part.size, replaced)?;
+    keep_bytes(connection, part.tenant, part.upload, part.size, replaced)?;
+    Ok(())
+}
+
+/// Takes the parts of an upload away, of which so many bytes are kept.
+fn take_parts<S: Alter>(
+    connection: &mut Connection<S>,
+    tenant: &str,
+    upload: u64,
+    kept: u64,
+) -> Result<(), Error>
+    requires inside { InTransaction S.Store connection.old }
+    requires small { upload < 2 ^ 63 }
+    requires low { kept < 2 ^ 62 }
+    requires held { IsClean S.Store connection.old → bytes_kept (tables S.Store connection.old).parts tenant.now upload ≡ kept }
+    ensures within { StaysWithin S.Store connection.old connection.new }
+    ensures opens { OnOk result (StaysOpen S.Store connection.old connection.new) }
+    ensures holds { OnOk result (Becomes S.Store connection.old connection.new (without_parts tenant.now upload)) }
+{
+    delete_parts(connection, tenant, upload)?;
+    use_less(connection, tenant, kept)?;
+    keep_bytes(connection, tenant, upload, 0, kept)?;
+    Ok(())
+}
+
+/// Takes all parts of an upload away. The upload is to be there.
+pub fn remove_parts<S: Alter>(
+    connection: &mut Connection<S>,
+    tenant: &str,
+    upload: u64,
+) -> Result<(), Error>
+    requires inside { InTransaction S.Store connection.old }
+    requires small { upload < 2 ^ 63 }
+    ensures within { StaysWithin S.Store connection.old connection.new }
+    ensures opens { OnOk result (StaysOpen S.Store connection.old connection.new) }
+    ensures holds { OnOk result (Becomes S.Store connection.old connection.new (without_parts tenant.now upload)) }
+{
+    let kept = find_kept(connection, tenant, upload)?;
+    take_parts(connection, tenant, upload, kept)
+}

@@ -1,0 +1,27 @@
+use Rattle.sqlite.specs.Held.{state}
+use Rattle.bh_usage.proofs.Asked.{asked_inside}
+use Rattle.bh_usage.proofs.counts.row_counts.Goals as goal
+
+pub byte_totals-requires-clause-inside : goal.byte_totals-requires-clause-inside
+byte_totals-requires-clause-inside g c =
+    let old = state g.S.Store c.args.connection.now in
+    let one = state g.S.Store c.bucket_count.new.connection in
+    asked_inside old one c.bucket_count.ensures.within c.requires.inside c.in_ok-buckets.ensures.same
+
+pub entry_counts-requires : goal.entry_counts-requires
+entry_counts-requires g c =
+    let old = state g.S.Store c.args.connection.now in
+    let one = state g.S.Store c.bucket_count.new.connection in
+    let two = state g.S.Store c.byte_totals.new.connection in
+    let inside = asked_inside old one c.bucket_count.ensures.within c.requires.inside c.in_ok-buckets.ensures.same in
+    record { inside = asked_inside one two c.byte_totals.ensures.within inside c.in_ok-bytes.ensures.same }
+
+pub upload_count-requires : goal.upload_count-requires
+upload_count-requires g c =
+    let old = state g.S.Store c.args.connection.now in
+    let one = state g.S.Store c.bucket_count.new.connection in
+    let two = state g.S.Store c.byte_totals.new.connection in
+    let three = state g.S.Store c.entry_counts.new.connection in
+    let inside_one = asked_inside old one c.bucket_count.ensures.within c.requires.inside c.in_ok-buckets.ensures.same in
+    let inside_two = asked_inside one two c.byte_totals.ensures.within inside_one c.in_ok-bytes.ensures.same in
+    record { inside = asked_inside two three c.entry_counts.ensures.within inside_two c.in_ok-entries.ensures.same }
