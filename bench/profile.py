@@ -12,18 +12,13 @@ what runs beside it, and say nothing of the kernel. Each byte that the C library
 `rep movsb` (a `memset` of 4 KiB, a `memcpy` of 64 KiB) counts as an instruction.
 """
 import os
-import re
-import socket
-import subprocess
 import sys
 import tempfile
-import time
 
+from callgrind import FOLDER, KEY, counted, served
 from events import line, request
 
-KEY = ("green$k1", "greensecret")
 NOW = 1_700_000_000
-FOLDER = "/dev/shm" if os.path.isdir("/dev/shm") else None
 FEW = {1024: 20, 65536: 10, 16777216: 1}
 MORE = {1024: 200, 65536: 40, 16777216: 2}
 SHOWN = 10
@@ -32,29 +27,6 @@ PARTS = [("SHA-256", "sha2"), ("the store", "sqlite"), ("this repository", ("bh_
 
 def body(size, number):
     return ("%016d" % number * (size // 16 + 1))[:size] if size <= 65536 else "".join("%016d" % (number * size + n) for n in range(size // 16))
-
-
-def counted(folder, words, drive=None, text=None):
-    """The instructions of each function of a run, and of all."""
-    out = os.path.join(folder, "callgrind")
-    command = ["valgrind", "--tool=callgrind", f"--callgrind-out-file={out}"] + words
-    if text is not None:
-        done = subprocess.run(command, input=text, stdout=subprocess.DEVNULL, stderr=subprocess.PIPE)
-        status = done.returncode
-    else:
-        child = subprocess.Popen(command, stdout=subprocess.DEVNULL, stderr=subprocess.PIPE)
-        drive()
-        child.communicate()
-        status = child.returncode
-    if status != 0:
-        sys.exit(f"{words} ended with {status}")
-    told = subprocess.run(["callgrind_annotate", "--threshold=100", out], capture_output=True, text=True).stdout
-    functions = {}
-    for count, name in re.findall(r"^ *([\d,]+) \(.*?\)  (\S.*?)(?: \[.*)?$", told, re.M):
-        name = re.sub(r"::<#[0-9a-f]+>|'\d+$", "", name.split(":", 1)[-1] if name.startswith("???") else name.rsplit(":", 1)[-1])
-        if name != "PROGRAM TOTALS":
-            functions[name] = functions.get(name, 0) + int(count.replace(",", ""))
-    return functions
 
 
 def start():
@@ -67,39 +39,6 @@ def start():
 
 def script_of(requests):
     return "".join(start() + [line({"at": NOW, "http": text}) for text in requests]).encode()
-
-
-def send(port, text):
-    for _ in range(600):
-        try:
-            with socket.create_connection(("127.0.0.1", port)) as link:
-                link.sendall(text.encode())
-                link.shutdown(socket.SHUT_WR)
-                while link.recv(1 << 20):
-                    pass
-            return
-        except ConnectionRefusedError:
-            time.sleep(0.1)
-    sys.exit("the server doesn't listen")
-
-
-def served(program, folder, first, last):
-    """The functions of a server that answers these, after another answered the first ones."""
-    file = os.path.join(folder, "host")
-    for words in (["init"], ["tenant-add", "--tenant", "green", "--quota", str(1 << 50)], ["key-add", "--tenant", "green", "--name", "k1", "--secret", "greensecret"]):
-        subprocess.run([program, words[0], "--file", file] + words[1:], check=True, stdout=subprocess.DEVNULL)
-
-    def serve(texts):
-        port = 20000 + os.getpid() % 20000
-        words = [program, "serve", "--file", file, "--port", str(port), "--count", str(len(texts)), "--timeout", "600"]
-        return words, lambda: [send(port, text) for text in texts]
-
-    words, drive = serve([request("PUT", *KEY, "/plans", "")] + first)
-    child = subprocess.Popen(words)
-    drive()
-    child.wait()
-    words, drive = serve(last)
-    return counted(folder, words, drive)
 
 
 def part_of(name):

@@ -55,10 +55,10 @@ class Asked:
         self.process.kill()
         self.process.wait()
 
-    def ask(self, method, key, body=None, status=b"200 OK", tenant="green"):
+    def ask(self, method, key, body=None, status=b"200 OK", tenant="green", headers=b""):
         """The milliseconds of one request of a tenant, and the body of what it was answered."""
         length = b"" if body is None else b"content-length: %d\r\n" % len(body)
-        asked = method + b" /plans%s HTTP/1.1\r\n" % key.encode() + CREDENTIALS.replace(b"green$", b"%s$" % tenant.encode()) + length + b"\r\n" + (body or b"")
+        asked = method + b" /plans%s HTTP/1.1\r\n" % key.encode() + CREDENTIALS.replace(b"green$", b"%s$" % tenant.encode()) + headers + length + b"\r\n" + (body or b"")
         before = time.perf_counter()
         with socket.create_connection(("127.0.0.1", self.port)) as s:
             s.sendall(asked)

@@ -1,0 +1,93 @@
+#!/usr/bin/env python3
+"""What is kept beside the rows, in place of being added up, is worth: a program, and another in the same run.
+
+    bench/totals.py [PROGRAM [BEFORE]]       PROGRAM: crates/bucketd/out/bucketd; BEFORE: an earlier one
+
+Instructions, by callgrind, of a put of 1 KiB under a new key by `serve` where the tenant has 20 and 10,000 objects, and of
+GET /?usage at 10,000; milliseconds of that and of a sweep that finds nothing among 100,000 blocks in use, by `script`; of a
+copy and of a delete of 16 MiB, by `serve` on a file that lies in memory. Exit 1 where a put among 10,000 takes more than
+1.05 times the instructions of one among 20.
+"""
+import os
+import statistics
+import sys
+import tempfile
+
+from callgrind import FOLDER, KEY, served
+from events import answered, line, program_of, request
+from server import SHARED_MEMORY, Server
+
+NOW = 1_700_000_000
+FEW, MORE = 10, 60
+OBJECTS = (20, 10_000)
+BLOCKS, EACH = 100_000, 100
+SWEEPS = 5
+COPIES = 7
+GREATEST_RATIO = 1.05
+
+
+def puts(name, many, size):
+    return [request("PUT", *KEY, f"/plans/{name}{n}", ("%016d" % n * (size // 16))) for n in range(many)]
+
+
+def instructions(program, objects, last):
+    """Those of one of the last requests, where the tenant has so many objects."""
+    with tempfile.TemporaryDirectory(dir=FOLDER) as folder:
+        found = puts("k", objects, 16)
+        few = sum(served(program, folder, found, last[:FEW]).values())
+        return (sum(served(program, folder, [], last[FEW:]).values()) - few) / (len(last) - 2 * FEW)
+
+
+def usage_milliseconds(program):
+    first = [line({"at": NOW, "http": text}) for text in [request("PUT", *KEY, "/plans", ""), *puts("k", OBJECTS[-1], 16)]]
+    last = [line({"at": NOW, "http": request("GET", *KEY, "/?usage")})] * 100
+    return answered(program, tenant("green") + first, last)[2] / 1000 / len(last)
+
+
+def tenant(name):
+    return [
+        line({"at": NOW, "op": "tenant-add", "tenant": name, "quota": 1 << 40}),
+        line({"at": NOW, "op": "key-add", "tenant": name, "name": "k1", "secret": "greensecret"}),
+    ]
+
+
+def sweep_milliseconds(program):
+    """Those of a sweep that finds nothing, where tenants have a hundred objects each, all of bytes of their own."""
+    first = []
+    for number in range(BLOCKS // EACH):
+        key = (f"t{number}$k1", KEY[1])
+        bodies = [("PUT", "/plans", ""), *(("PUT", f"/plans/{n}", f"{number} {n}") for n in range(EACH))]
+        first += tenant(f"t{number}") + [line({"at": NOW, "http": request(method, *key, path, body)}) for method, path, body in bodies]
+    text, _, spent = answered(program, first, [line({"at": NOW, "op": "sweep", "limit": 1000})] * SWEEPS)
+    if text.count(b"sweep uploads 0 blocks 0 complete\n") != SWEEPS:
+        sys.exit(f"a sweep found something: {text[-300:]}")
+    return spent / 1000 / SWEEPS
+
+
+def copy_milliseconds(program):
+    """The medians of a copy and of a delete of 16 MiB."""
+    body = os.urandom(1 << 24)
+    with tempfile.TemporaryDirectory(dir=SHARED_MEMORY) as folder, Server(program, folder) as server:
+        server.put("/one", body)
+        copies = [server.ask(b"PUT", f"/c{n}", headers=b"x-amz-copy-source: /plans/one\r\n")[0] for n in range(COPIES)]
+        deletes = [server.ask(b"DELETE", f"/c{n}", status=b"204 No Content")[0] for n in range(COPIES)]
+    return statistics.median(copies), statistics.median(deletes)
+
+
+def main():
+    programs = [program_of(sys.argv[1:2]), *(os.path.abspath(it) for it in sys.argv[2:3])]
+    last = puts("new", FEW + MORE + FEW, 1024)
+    rows = {f"PUT of 1 KiB among {many:,} objects, instructions": [instructions(it, many, last) for it in programs] for many in OBJECTS}
+    rows["GET /?usage at 10,000 objects, instructions"] = [instructions(it, OBJECTS[-1], [request("GET", *KEY, "/?usage")] * (2 * FEW + 10)) for it in programs]
+    rows["GET /?usage at 10,000 objects, ms"] = [usage_milliseconds(it) for it in programs]
+    rows["a sweep that finds nothing among 100,000 blocks, ms"] = [sweep_milliseconds(it) for it in programs]
+    copies = [copy_milliseconds(it) for it in programs]
+    rows["a copy of 16 MiB, ms"], rows["a delete of 16 MiB, ms"] = ([it[at] for it in copies] for at in (0, 1))
+    for name, found in rows.items():
+        ratio = f"{found[0] / found[1]:>8.2f}" if len(found) > 1 else ""
+        print(name.ljust(54) + "".join(f"{it:>16,.2f}" for it in found) + ratio)
+    few, many = (rows[f"PUT of 1 KiB among {it:,} objects, instructions"][0] for it in OBJECTS)
+    sys.exit(0 if many <= GREATEST_RATIO * few else f"a put takes {many / few:.2f} times as much among 10,000 objects")
+
+
+main()
