@@ -1,6 +1,7 @@
 """Counts the instructions of the functions of a program by valgrind's callgrind: of a run, or of a server's answers."""
 import os
 import re
+import shutil
 import socket
 import subprocess
 import sys
@@ -49,23 +50,29 @@ def send(port, text):
     sys.exit("the server doesn't listen")
 
 
-def served(program, folder, first, last):
-    """The functions of a server that answers these, after another answered the first ones."""
+def serving(program, file, texts):
+    """The words of a server on a file, and what asks it these."""
+    port = 20000 + os.getpid() % 20000
+    words = [program, "serve", "--file", file, "--port", str(port), "--count", str(len(texts)), "--timeout", "600"]
+    return words, lambda: [send(port, text) for text in texts]
+
+
+def filled(program, folder, first):
+    """A host with a tenant and its bucket, which a server has answered these."""
     file = os.path.join(folder, "host")
-    if not os.path.exists(file):
-        for words in (["init"], ["tenant-add", "--tenant", "green", "--quota", str(1 << 50)], ["key-add", "--tenant", "green", "--name", "k1", "--secret", "greensecret"]):
-            subprocess.run([program, words[0], "--file", file] + words[1:], check=True, stdout=subprocess.DEVNULL)
-        first = [request("PUT", *KEY, "/plans", "")] + first
+    for words in (["init"], ["tenant-add", "--tenant", "green", "--quota", str(1 << 50)], ["key-add", "--tenant", "green", "--name", "k1", "--secret", "greensecret"]):
+        subprocess.run([program, words[0], "--file", file] + words[1:], check=True, stdout=subprocess.DEVNULL)
+    words, drive = serving(program, file, [request("PUT", *KEY, "/plans", "")] + first)
+    child = subprocess.Popen(words, stderr=subprocess.DEVNULL)
+    drive()
+    child.wait()
+    return file
 
-    def serve(texts):
-        port = 20000 + os.getpid() % 20000
-        words = [program, "serve", "--file", file, "--port", str(port), "--count", str(len(texts)), "--timeout", "600"]
-        return words, lambda: [send(port, text) for text in texts]
 
-    if first:
-        words, drive = serve(first)
-        child = subprocess.Popen(words)
-        drive()
-        child.wait()
-    words, drive = serve(last)
-    return counted(folder, words, drive)
+def served(program, file, last):
+    """The functions of a server that answers these, on a copy of a host."""
+    copy = f"{file}-copy"
+    for end in ("", "-wal"):
+        if os.path.exists(file + end):
+            shutil.copy(file + end, copy + end)
+    return counted(os.path.dirname(file), *serving(program, copy, last))

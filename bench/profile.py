@@ -15,7 +15,7 @@ import os
 import sys
 import tempfile
 
-from callgrind import FOLDER, KEY, counted, served
+from callgrind import FOLDER, KEY, counted, filled, served
 from events import line, request
 
 NOW = 1_700_000_000
@@ -76,7 +76,7 @@ def profiled(program, size):
 
     def serve(first, last):
         with tempfile.TemporaryDirectory(dir=FOLDER) as folder:
-            return served(program, folder, first, last)
+            return served(program, filled(program, folder, first), last)
 
     if size * (few + more) < 1 << 25:
         told("script, put", size, script(puts[:few]), script(puts), more)

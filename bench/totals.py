@@ -3,17 +3,17 @@
 
     bench/totals.py [PROGRAM [BEFORE]]       PROGRAM: crates/bucketd/out/bucketd; BEFORE: an earlier one
 
-Instructions, by callgrind, of a put of 1 KiB under a new key by `serve` where the tenant has 20 and 10,000 objects, and of
-GET /?usage at 10,000; milliseconds of that and of a sweep that finds nothing among 100,000 blocks in use, by `script`; of a
+Instructions, by callgrind, of a put of 1 KiB under a new key by `serve` where the tenant has 20 and 10,000 objects;
+milliseconds of GET /?usage at 10,000 and of a sweep that finds nothing among 100,000 blocks in use, by `script`; of a
 copy and of a delete of 16 MiB, by `serve` on a file that lies in memory. Exit 1 where a put among 10,000 takes more than
-1.05 times the instructions of one among 20.
+1.25 times the instructions of one among 20 (the trees are deeper).
 """
 import os
 import statistics
 import sys
 import tempfile
 
-from callgrind import FOLDER, KEY, served
+from callgrind import FOLDER, KEY, filled, served
 from events import answered, line, program_of, request
 from server import SHARED_MEMORY, Server
 
@@ -23,7 +23,7 @@ OBJECTS = (20, 10_000)
 BLOCKS, EACH = 100_000, 100
 SWEEPS = 5
 COPIES = 7
-GREATEST_RATIO = 1.05
+GREATEST_RATIO = 1.25
 
 
 def puts(name, many, size):
@@ -31,11 +31,11 @@ def puts(name, many, size):
 
 
 def instructions(program, objects, last):
-    """Those of one of the last requests, where the tenant has so many objects."""
+    """Those of one of the last requests, where the tenant has so many objects: two servers on copies of a file differ by them."""
     with tempfile.TemporaryDirectory(dir=FOLDER) as folder:
-        found = puts("k", objects, 16)
-        few = sum(served(program, folder, found, last[:FEW]).values())
-        return (sum(served(program, folder, [], last[FEW:]).values()) - few) / (len(last) - 2 * FEW)
+        file = filled(program, folder, puts("k", objects, 16))
+        few, many = (sum(served(program, file, last[:count]).values()) for count in (FEW, FEW + MORE))
+        return (many - few) / MORE
 
 
 def usage_milliseconds(program):
@@ -69,24 +69,27 @@ def copy_milliseconds(program):
     body = os.urandom(1 << 24)
     with tempfile.TemporaryDirectory(dir=SHARED_MEMORY) as folder, Server(program, folder) as server:
         server.put("/one", body)
-        copies = [server.ask(b"PUT", f"/c{n}", headers=b"x-amz-copy-source: /plans/one\r\n")[0] for n in range(COPIES)]
+        copies = [server.ask(b"PUT", f"/c{n}", b"", headers=b"x-amz-copy-source: /plans/one\r\n")[0] for n in range(COPIES)]
         deletes = [server.ask(b"DELETE", f"/c{n}", status=b"204 No Content")[0] for n in range(COPIES)]
     return statistics.median(copies), statistics.median(deletes)
 
 
+def told(name, found):
+    """Prints a row: what each program takes, and how many times the earlier one's that of the later is."""
+    ratio = f"{found[0] / found[1]:>8.2f}" if len(found) > 1 else ""
+    print(name.ljust(54) + "".join(f"{it:>16,.2f}" for it in found) + ratio, flush=True)
+    return found[0]
+
+
 def main():
     programs = [program_of(sys.argv[1:2]), *(os.path.abspath(it) for it in sys.argv[2:3])]
-    last = puts("new", FEW + MORE + FEW, 1024)
-    rows = {f"PUT of 1 KiB among {many:,} objects, instructions": [instructions(it, many, last) for it in programs] for many in OBJECTS}
-    rows["GET /?usage at 10,000 objects, instructions"] = [instructions(it, OBJECTS[-1], [request("GET", *KEY, "/?usage")] * (2 * FEW + 10)) for it in programs]
-    rows["GET /?usage at 10,000 objects, ms"] = [usage_milliseconds(it) for it in programs]
-    rows["a sweep that finds nothing among 100,000 blocks, ms"] = [sweep_milliseconds(it) for it in programs]
-    copies = [copy_milliseconds(it) for it in programs]
-    rows["a copy of 16 MiB, ms"], rows["a delete of 16 MiB, ms"] = ([it[at] for it in copies] for at in (0, 1))
-    for name, found in rows.items():
-        ratio = f"{found[0] / found[1]:>8.2f}" if len(found) > 1 else ""
-        print(name.ljust(54) + "".join(f"{it:>16,.2f}" for it in found) + ratio)
-    few, many = (rows[f"PUT of 1 KiB among {it:,} objects, instructions"][0] for it in OBJECTS)
+    last = puts("new", FEW + MORE, 1024)
+    few, many = (told(f"PUT of 1 KiB among {it:,} objects, instructions", [instructions(program, it, last) for program in programs]) for it in OBJECTS)
+    told("GET /?usage at 10,000 objects, ms", [usage_milliseconds(it) for it in programs])
+    copies, deletes = zip(*(copy_milliseconds(it) for it in programs))
+    told("a copy of 16 MiB, ms", copies)
+    told("a delete of 16 MiB, ms", deletes)
+    told("a sweep that finds nothing among 100,000 blocks, ms", [sweep_milliseconds(it) for it in programs])
     sys.exit(0 if many <= GREATEST_RATIO * few else f"a put takes {many / few:.2f} times as much among 10,000 objects")
 
 
