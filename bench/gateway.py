@@ -3,10 +3,12 @@
 clients at once, each with an object of its own; with notes of metadata, without, over TLS, and where others may write (each get is
 then what the first get of an object is elsewhere: three requests to the host); its memory; silent clients.
 
-    bench/gateway.py [--seconds S] [--only NAMES] [--sizes BYTES] [--clients NUMBERS] [--tables NAMES] [PROGRAM]
+    bench/gateway.py [--seconds S] [--only NAMES] [--sizes BYTES] [--clients NUMBERS] [--tables NAMES] [--beside GATEWAYS] [PROGRAM]
 
 PROGRAM: crates/bucketd/out/bucketd. Lists, with commas, leave out other columns (but bucketd and gateway), sizes, numbers of clients, and
-tables: rates, silence, memory.
+tables: rates, silence, memory, added. The last, which isn't made unasked, has what the gateway adds to a request of one client, and
+other builds of it (--beside PATH,..): all are before the same bucketd and asked in turns, so that a busy machine's good and bad moments
+fall on all. Where PROGRAM is `stand-in`, only this table is made, before the stand-in of gateway/'s tests.
 It needs Debian's golang-go and openssl, and for what it is measured beside radosgw, ceph-mon, ceph-osd and ceph-common, and
 nginx-light: what isn't there is left out. All servers keep their files in one new folder in the current one (FOLDER in the
 environment names another place). The load is TestLoad of gateway/. Tables of Markdown come on standard output.
@@ -158,6 +160,39 @@ def start_radosgw(folder):
         print(f"radosgw is left out: {error}", file=sys.stderr)
 
 
+def added(tests, builds, folder, program, sizes, seconds):
+    """Medians in turns of bare bucketd (or the stand-in) and of gateways before it, by a bare socket and by Go's client of HTTP."""
+    at, port = os.path.join(folder, "ours"), free_port()
+    if program == "stand-in":
+        with open(os.open(os.path.join(at, "keys"), os.O_CREAT | os.O_WRONLY, 0o600), "w") as keys:
+            keys.write("green$k1 greensecret\n")
+        os.environ["STANDIN"] = f"127.0.0.1:{port}"
+        words = [tests, "-test.run", "^TestStandin$", "-test.timeout", "0"]
+    else:
+        words = [program, "serve", "--file", os.path.join(at, "host"), "--port", str(port), "--count", "4294967295"]
+    servers = [Server("bucketd", words, port, mode="bare")]
+    try:
+        for build in builds:
+            for mode, name in (("kept", "a socket"), ("s3", "Go's client")):
+                it = start_gateway(f"{os.path.basename(build)}, {name}", build, folder, "--host", f"127.0.0.1:{port}", "--alone")
+                it.mode = mode
+                servers.append(it)
+        print("| Request | | median, ms | added | quartile | added | processor time, ms |\n|---|---|---|---|---|---|---|", flush=True)
+        for size, shown in sizes:
+            for method in ("PUT", "GET"):
+                plans = [{"Mode": it.mode, "URL": it.url, "ID": it.id, "Secret": "greensecret", "Method": method, "Size": size, "Seconds": seconds,
+                          "PIDs": [it.process.pid]} for it in servers]
+                done = subprocess.run([tests, "-test.run", "^TestAdded$", "-test.v"], env={**os.environ, "ADDED": json.dumps(plans)}, capture_output=True, text=True)
+                found = [json.loads(it) for it in re.findall(r"^ADDED (.*)$", done.stdout, re.M)]
+                for server, it in zip(servers, found):
+                    more = [f"{it[name]:.3f} | {it[name] - found[0][name]:.3f}" for name in ("p50", "p25")]
+                    print(f"| {method} {shown} | {server.name} | {more[0]} | {more[1]} | {it['spent']:.3f} |", flush=True)
+                print(f"{method} {shown}: {found[0]['count']} requests each" if found else done.stdout[-500:], file=sys.stderr)
+    finally:
+        for it in servers:
+            it.end()
+
+
 def silent_clients(url):
     host, port = url.split("//")[1].split(":")
     links = [socket.create_connection((host, int(port))) for _ in range(50)]
@@ -208,15 +243,19 @@ def silence(tests, gateway, seconds):
 
 def main():
     signal.signal(signal.SIGTERM, lambda *_: sys.exit(1))  # (what was started is ended, too)
-    words, told = sys.argv[1:], {"--seconds": "2", "--only": "", "--sizes": "", "--clients": "", "--tables": "rates,silence,memory"}
+    words, told = sys.argv[1:], {"--seconds": "2", "--only": "", "--sizes": "", "--clients": "", "--tables": "rates,silence,memory", "--beside": ""}
     while words and words[0] in told:
         told[words[0]], words = words[1], words[2:]
     seconds, only, tables = float(told["--seconds"]), [it for it in told["--only"].split(",") if it], told["--tables"].split(",")
     sizes = [it for it in SIZES if not told["--sizes"] or str(it[0]) in told["--sizes"].split(",")]
     counts = [it for it in CLIENTS if not told["--clients"] or str(it) in told["--clients"].split(",")]
-    program = os.path.abspath(words[0] if words else os.path.join(TOP, "crates/bucketd/out/bucketd"))
-    if not os.path.exists(program):
-        sys.exit(f"{program} isn't there: 'make build' makes it")
+    program = words[0] if words else os.path.join(TOP, "crates/bucketd/out/bucketd")
+    if program == "stand-in":
+        tables = ["added"]
+    else:
+        program = os.path.abspath(program)
+        if not os.path.exists(program):
+            sys.exit(f"{program} isn't there: 'make build' makes it")
     with tempfile.TemporaryDirectory(dir=os.environ.get("FOLDER", ".")) as folder:
         folder = os.path.abspath(folder)
         build, tests, ours = build_gateway(folder), os.path.join(folder, "tests"), os.path.join(folder, "ours")
@@ -226,7 +265,14 @@ def main():
         subprocess.run("openssl req -x509 -newkey ec -pkeyopt ec_paramgen_curve:prime256v1 -nodes -keyout tls.key -out tls.pem -days 2 -subj /CN=localhost".split(),
                        cwd=folder, check=True, capture_output=True)
         os.makedirs(ours)
-        make_host(program, ours, {"green": 1 << 40})
+        if program != "stand-in":
+            make_host(program, ours, {"green": 1 << 40})
+        print(f"load before: {' '.join(open('/proc/loadavg').read().split()[:3])}\n")
+        if "added" in tables:
+            added(tests, [build] + [os.path.abspath(it) for it in told["--beside"].split(",") if it], folder, program, sizes, seconds)
+        if tables == ["added"]:
+            print(f"\nload after (with this run): {' '.join(open('/proc/loadavg').read().split()[:3])}")
+            return
         port, servers = free_port(), []
         try:
             bare = [program, "serve", "--file", os.path.join(ours, "host"), "--port", str(port), "--count", "4294967295"]
@@ -243,7 +289,6 @@ def main():
                 servers += filter(None, [start_radosgw(folder)])
             if shutil.which("nginx") and (not only or "nginx" in only):
                 servers.append(start_nginx(folder))
-            print(f"load before: {' '.join(open('/proc/loadavg').read().split()[:3])}\n")
             if "rates" in tables:
                 rates(tests, servers, sizes, counts, seconds)
             if "silence" in tables:

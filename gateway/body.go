@@ -16,12 +16,15 @@ import (
 	"os"
 	"strconv"
 	"strings"
+	"sync"
 )
 
 const (
 	greatestInMemory = 1 << 20  // of one body
 	allInMemory      = 16 << 20 // of all bodies
+	md5Field         = "content-md5"
 	checksumField    = "x-amz-checksum-"
+	sha256Field      = checksumField + "sha256"
 )
 
 // body is written, and then one that has come whole: in memory, or in a file without a name.
@@ -33,25 +36,26 @@ type body struct {
 	sha256 string // base64: what was promised and bucketd is to compare; empty where nothing was, or it was compared here
 }
 
+var buffers = sync.Pool{New: func() any { return &bytes.Buffer{} }}
+
 // A body that is freed when the call ends.
 func (c *call) newBody(size int64) *body {
 	if size <= greatestInMemory {
-		c.atEnd(func() { c.server.inMemory.Add(-size) })
+		memory := buffers.Get().(*bytes.Buffer)
+		c.atEnd(func() {
+			c.server.inMemory.Add(-size)
+			buffers.Put(memory)
+		})
 		if c.server.inMemory.Add(size) <= allInMemory {
-			b := bodyOf(make([]byte, 0, size+bytes.MinRead))
-			b.size = size
-			return b
+			memory.Reset()
+			memory.Grow(int(size) + bytes.MinRead)
+			return &body{Writer: memory, memory: memory, size: size}
 		}
 	}
 	file := must(os.CreateTemp(c.server.spool, "gateway-"))
 	os.Remove(file.Name())
 	c.atEnd(func() { file.Close() })
 	return &body{Writer: file, file: file, size: size}
-}
-
-func bodyOf(text []byte) *body {
-	memory := bytes.NewBuffer(text)
-	return &body{Writer: memory, memory: memory, size: int64(len(text))}
 }
 
 func (b *body) text() []byte {
@@ -61,61 +65,50 @@ func (b *body) text() []byte {
 	return must(io.ReadAll(io.NewSectionReader(b.file, 0, b.size)))
 }
 
+// The digests that a body may be promised to have, by the fields that tell them in base64.
 var digests = map[string]func() hash.Hash{
-	"crc32":     func() hash.Hash { return crc32.NewIEEE() },
-	"crc32c":    func() hash.Hash { return crc32.New(crc32.MakeTable(crc32.Castagnoli)) },
-	"crc64nvme": func() hash.Hash { return crc64.New(crc64NVME) },
-	"sha1":      sha1.New,
-	"sha256":    sha256.New,
+	md5Field:                    md5.New,
+	checksumField + "crc32":     func() hash.Hash { return crc32.NewIEEE() },
+	checksumField + "crc32c":    func() hash.Hash { return crc32.New(crc32.MakeTable(crc32.Castagnoli)) },
+	checksumField + "crc64nvme": func() hash.Hash { return crc64.New(crc64NVME) },
+	checksumField + "sha1":      sha1.New,
+	sha256Field:                 sha256.New,
 }
 
 var crc64NVME = crc64.MakeTable(0x9a6c9329ac4bc9b5)
 
-// promise is a digest that a request tells of its body.
-type promise struct {
-	field string
-	hash  hash.Hash
-	want  string // base64; empty where the trailer tells it
-}
+// Fields that are named like a checksum's, and tell none.
+var noChecksums = map[string]bool{checksumField + "algorithm": true, checksumField + "type": true, checksumField + "mode": true}
 
-// What a request promises of its body. The SHA-256 is given apart: bucketd compares it, where it gets the body as it is.
-func (c *call) promises() (list []promise, sha256Sum string) {
+// The digests that a request's head promises of its body, by field; the signed SHA-256 as if its field told it.
+func (c *call) promises() map[string]string {
+	promised := map[string]string{}
+	for field, values := range c.r.Header {
+		name := strings.ToLower(field)
+		// (a completion's checksum is that of the object, not of its document)
+		isChecksum := strings.HasPrefix(name, checksumField) && !noChecksums[name] && (c.r.Method != "POST" || c.key == "")
+		if isChecksum || name == md5Field {
+			digest := digests[name]
+			sum, err := base64.StdEncoding.Strict().DecodeString(values[0])
+			isWell := digest != nil && err == nil && len(sum) == digest().Size()
+			refuseIf(!isWell && name == md5Field, "InvalidDigest", "Content-MD5 is of another form")
+			refuseIf(!isWell, "InvalidRequest", "the value of "+name+" is invalid")
+			promised[name] = values[0]
+		}
+	}
 	if !strings.HasPrefix(c.payload, "STREAMING-") && c.payload != unsignedPayload {
 		sum, err := hex.DecodeString(c.payload)
-		refuseIf(err != nil || len(sum) != sha256.Size, invalid("x-amz-content-sha256 is of another form"))
-		sha256Sum = base64.StdEncoding.EncodeToString(sum)
+		refuseIf(err != nil || len(sum) != sha256.Size, "InvalidArgument", "x-amz-content-sha256 is of another form")
+		text, told := base64.StdEncoding.EncodeToString(sum), promised[sha256Field]
+		refuseIf(told != "" && told != text, "BadDigest", sha256Field+" is another one than x-amz-content-sha256")
+		promised[sha256Field] = text
 	}
-	if text := c.r.Header.Get("Content-MD5"); text != "" {
-		refuseIf(!isDigest(text, md5.Size), newError("InvalidDigest", 400, "Content-MD5 is of another form"))
-		list = append(list, promise{"Content-MD5", md5.New(), text})
-	}
-	for field, values := range c.r.Header {
-		name := strings.TrimPrefix(strings.ToLower(field), checksumField)
-		// (a completion's checksum is that of the object, not of its document)
-		if len(name) == len(field) || name == "algorithm" || name == "type" || name == "mode" || c.r.Method == "POST" && c.key != "" {
-			continue
-		}
-		digest, value := digests[name], values[0]
-		refuseIf(digest == nil || !isDigest(value, digest().Size()), invalidRequest("the value of "+checksumField+name+" is invalid"))
-		if name != "sha256" {
-			list = append(list, promise{checksumField + name, digest(), value})
-			continue
-		}
-		isOther := sha256Sum != "" && sha256Sum != value
-		refuseIf(isOther, newError("BadDigest", 400, "x-amz-checksum-sha256 is another one than x-amz-content-sha256"))
-		sha256Sum = value
-	}
-	return list, sha256Sum
-}
-
-func isDigest(text string, size int) bool {
-	sum, err := base64.StdEncoding.Strict().DecodeString(text)
-	return err == nil && len(sum) == size
+	return promised
 }
 
 // The code of a body that isn't what was promised: of its SHA-256, where that was told for the signature alone, another one.
 func (c *call) badDigest(field string) string {
-	if field == "x-amz-checksum-sha256" && c.r.Header.Get(field) == "" && c.payload != unsignedPayload {
+	if field == sha256Field && c.r.Header.Get(field) == "" && c.payload != unsignedPayload {
 		return "XAmzContentSHA256Mismatch"
 	}
 	return "BadDigest"
@@ -126,45 +119,41 @@ func (c *call) badDigest(field string) string {
 func (c *call) readBody(limit, passed int64) *body {
 	size, isChunked := c.r.ContentLength, strings.HasPrefix(c.payload, "STREAMING-")
 	if isChunked {
-		length, err := strconv.ParseInt(c.r.Header.Get("x-amz-decoded-content-length"), 10, 64)
-		if size = length; err != nil {
-			size = -1
-		}
+		size = number(c.r.Header.Get("x-amz-decoded-content-length"))
 	}
-	refuseIf(size < 0, newError("MissingContentLength", 411, "the length of the body is missing"))
-	refuseIf(size > limit, newError("EntityTooLarge", 400, fmt.Sprint("the body has more bytes than are allowed: ", limit)))
-	list, sum := c.promises()
-	if sum != "" && size > passed {
-		list, sum = append(list, promise{"x-amz-checksum-sha256", sha256.New(), sum}), ""
+	refuseIf(size < 0, "MissingContentLength", "the length of the body is missing")
+	refuseIf(size > limit, "EntityTooLarge", fmt.Sprint("the body has more bytes than are allowed: ", limit))
+	b, promised := c.newBody(size), c.promises()
+	if size <= passed {
+		b.sha256 = promised[sha256Field]
+		delete(promised, sha256Field)
 	}
-	isBetween := func(r rune) bool { return r == ',' || r == ' ' }
-	for _, field := range strings.FieldsFunc(strings.ToLower(c.r.Header.Get("x-amz-trailer")), isBetween) {
-		digest := digests[strings.TrimPrefix(field, checksumField)]
-		isWell := digest != nil && strings.HasPrefix(field, checksumField) && strings.HasSuffix(c.payload, "-TRAILER")
-		refuseIf(!isWell, invalidRequest("the value of x-amz-trailer is invalid"))
-		list = append(list, promise{field: field, hash: digest()})
+	for _, name := range strings.FieldsFunc(strings.ToLower(c.r.Header.Get("x-amz-trailer")), func(r rune) bool { return r == ',' || r == ' ' }) {
+		isWell := digests[name] != nil && name != md5Field && promised[name] == "" && strings.HasSuffix(c.payload, "-TRAILER")
+		refuseIf(!isWell, "InvalidRequest", "the value of x-amz-trailer is invalid")
+		promised[name] = "" // the trailer tells it
 	}
-	b, left, trailer := c.newBody(size), size, map[string]string{}
-	b.sha256 = sum
-	into := b.Writer
-	for _, it := range list {
-		into = io.MultiWriter(into, it.hash)
+	into, hashes := b.Writer, map[string]hash.Hash{}
+	for name := range promised {
+		hashes[name] = digests[name]()
+		into = io.MultiWriter(into, hashes[name])
 	}
+	left, trailer := size, map[string]string{}
 	if isChunked {
-		trailer, left = c.readChunks(bufio.NewReaderSize(c.r.Body, 64<<10), into, size)
-	} else if got, err := io.Copy(into, c.r.Body); err == nil {
+		trailer, left = c.readChunks(bufio.NewReaderSize(c, 64<<10), into, size)
+	} else if got, err := io.Copy(into, c); err == nil {
 		left -= got
 	}
-	refuseIf(left != 0, cutBody)
-	for _, it := range list {
-		if it.want == "" {
-			it.want = trailer[it.field]
+	cutIf(left != 0)
+	for name, want := range promised {
+		if want == "" {
+			want = trailer[name]
 		}
-		refuseIf(it.want == "", newError("MalformedTrailerError", 400, "the trailer has no "+it.field))
-		sum := base64.StdEncoding.EncodeToString(it.hash.Sum(nil))
-		refuseIf(sum != it.want, newError(c.badDigest(it.field), 400, "the body has another "+it.field))
-		if strings.HasPrefix(it.field, checksumField) {
-			c.w.Header().Set(it.field, it.want) // (the client is told the checksum that it gave)
+		refuseIf(want == "", "MalformedTrailerError", "the trailer has no "+name)
+		sum := base64.StdEncoding.EncodeToString(hashes[name].Sum(nil))
+		refuseIf(sum != want, c.badDigest(name), "the body has another "+name)
+		if name != md5Field {
+			c.tell(name, want) // (the client is told the checksum that it gave)
 		}
 	}
 	return b
@@ -179,12 +168,15 @@ const (
 	longestLine           = 4096
 )
 
-var cutBody = newError("IncompleteBody", 400, "the body has another length than was announced, or its chunks are of another form")
+// Ends a call whose body isn't what was announced.
+func cutIf(isSo bool) {
+	refuseIf(isSo, "IncompleteBody", "the body has another length than was announced, or its chunks are of another form")
+}
 
 // A line without its end, which is CRLF; of the trailer's also LF.
 func readLine(in *bufio.Reader) string {
 	line, err := in.ReadSlice('\n')
-	refuseIf(err != nil || len(line) > longestLine, cutBody)
+	cutIf(err != nil || len(line) > longestLine)
 	return strings.TrimSuffix(string(line[:len(line)-1]), "\r")
 }
 
@@ -193,21 +185,23 @@ func readLine(in *bufio.Reader) string {
 // at its end.
 func (c *caller) readChunks(in *bufio.Reader, into io.Writer, left int64) (map[string]string, int64) {
 	signs, trails := c.payload == signedChunks || c.payload == signedChunksTrailer, strings.HasSuffix(c.payload, "-TRAILER")
-	refuseIf(!signs && c.payload != unsignedChunksTrailer, invalid("x-amz-content-sha256 names no known way of chunks"))
-	refuseIf(signs && c.key == nil, invalid("chunks are not signed by a signature of version 2"))
+	refuseIf(!signs && c.payload != unsignedChunksTrailer, "InvalidArgument", "x-amz-content-sha256 names no known way of chunks")
 	previous := c.signature
 	for length := int64(-1); length != 0; {
-		refuseIf(length > 0 && readLine(in) != "", cutBody)
+		cutIf(length > 0 && readLine(in) != "")
 		size, extension, _ := strings.Cut(readLine(in), ";")
 		number, err := strconv.ParseUint(size, 16, 62)
 		length = int64(number)
-		refuseIf(err != nil || length > left, cutBody)
-		sum := sha256.New()
-		_, err = io.CopyN(io.MultiWriter(into, sum), in, length)
-		refuseIf(err != nil, cutBody)
+		cutIf(err != nil || length > left)
+		sum, both := sha256.New(), into
+		if signs {
+			both = io.MultiWriter(into, sum)
+		}
+		_, err = io.CopyN(both, in, length)
+		cutIf(err != nil)
 		signature := strings.TrimPrefix(extension, "chunk-signature=")
 		text := previous + "\n" + emptySHA256 + "\n" + hex.EncodeToString(sum.Sum(nil))
-		refuseIf(signs && !c.signs("-PAYLOAD", text, signature), wrongSignature("a chunk"))
+		refuseIf(signs && !c.signs("-PAYLOAD", text, signature), "SignatureDoesNotMatch", "the signature of a chunk is another one")
 		previous, left = signature, left-length
 	}
 	return c.readTrailer(in, signs, trails, previous), left
@@ -224,7 +218,7 @@ func (c *caller) readTrailer(in *bufio.Reader, signs, trails bool, previous stri
 		if line == "" {
 			break
 		}
-		refuseIf(count > mostTrailers || !trails, cutBody)
+		cutIf(count > mostTrailers || !trails)
 		name, value, _ := strings.Cut(line, ":")
 		name, value = strings.ToLower(strings.TrimSpace(name)), strings.TrimSpace(value)
 		if name != trailerSignatureName {
@@ -233,8 +227,8 @@ func (c *caller) readTrailer(in *bufio.Reader, signs, trails bool, previous stri
 		trailer[name] = value
 	}
 	isWrong := trails && signs && !c.signs("-TRAILER", previous+"\n"+hexSHA256(signed), trailer[trailerSignatureName])
-	refuseIf(isWrong, wrongSignature("the trailer"))
+	refuseIf(isWrong, "SignatureDoesNotMatch", "the signature of the trailer is another one")
 	rest, _ := io.Copy(io.Discard, io.LimitReader(in, 64))
-	refuseIf(rest > 2, cutBody)
+	cutIf(rest > 2)
 	return trailer
 }

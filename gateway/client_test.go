@@ -135,7 +135,9 @@ func newGateway(t testing.TB, change func(o *options)) (*server, *standin, signe
 		t.Fatal(err)
 	}
 	s := &server{options: o, keys: keys, host: newHost(o.host, o.ahead)}
-	web := httptest.NewServer(s)
+	web := httptest.NewUnstartedServer(s)
+	web.Config = s.web()
+	web.Start()
 	t.Cleanup(web.Close)
 	client := func(name string) signer {
 		return signer{base: web.URL, id: name + "$k1", secret: name + "secret", region: "us-east-1"}

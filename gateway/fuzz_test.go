@@ -69,7 +69,7 @@ func FuzzChunks(f *testing.F) {
 		for rest, isEnded := payload, false; !isEnded; {
 			n := min(len(rest), 1+int(size))
 			isEnded = n == 0
-			previous = hex.EncodeToString(mac256(c.key, "AWS4-HMAC-SHA256-PAYLOAD\n"+c.date+"\n"+c.scope+"\n"+previous+"\n"+emptySHA256+"\n"+sum256(rest[:n])))
+			previous = hex.EncodeToString(mac256(c.signing, "AWS4-HMAC-SHA256-PAYLOAD\n"+c.date+"\n"+c.scope+"\n"+previous+"\n"+emptySHA256+"\n"+sum256(rest[:n])))
 			signed += fmt.Sprintf("%x;chunk-signature=%s\r\n%s", n, previous, rest[:n])
 			plain += fmt.Sprintf("%x\r\n%s", n, rest[:n])
 			if !isEnded {

@@ -2,12 +2,12 @@ package main
 
 import (
 	"bufio"
+	"bytes"
 	"context"
 	"encoding/json"
 	"fmt"
 	"io"
 	"log"
-	"math"
 	"net"
 	"net/http"
 	"net/url"
@@ -49,38 +49,62 @@ func (h *host) tenant(name string) *tenant {
 	return t
 }
 
-func (h *host) dial() (net.Conn, error) { return net.Dial("tcp", h.address.Load().(string)) }
+// (a connection has one request, so nothing keeps it alive)
+func (h *host) dial() (net.Conn, error) {
+	return (&net.Dialer{KeepAlive: -1}).Dial("tcp", h.address.Load().(string))
+}
+
+// object names an object, or a version of one; a bucket where it has no key.
+type object struct{ bucket, key, version string }
+
+// The target of an object or a bucket.
+func (o object) path() string {
+	if o.key == "" {
+		return "/" + o.bucket
+	}
+	return "/" + o.bucket + "/" + percentEncode(o.key, true)
+}
 
 // hostRequest is all that a request to bucketd is made of.
 type hostRequest struct {
-	method, bucket, key string
-	query               url.Values
-	fields              []string
-	body                *body
-	from, to            int64  // the bytes of the body
-	buffer              []byte // for the answer's body, where it fits
+	object
+	method   string
+	query    url.Values
+	fields   []string
+	body     *body
+	from, to int64  // the bytes of the body
+	buffer   []byte // for the answer's body, where it fits
 }
 
-func parameters(pairs ...string) url.Values {
-	v := url.Values{}
-	for i := 0; i < len(pairs); i += 2 {
-		v.Set(pairs[i], pairs[i+1])
+// A request about an object, a bucket or all buckets, with parameters by name and value.
+func (o object) request(method string, pairs ...string) *hostRequest {
+	q := &hostRequest{object: o, method: method, query: url.Values{}}
+	if o.version != "" {
+		q.query.Set("versionId", o.version)
 	}
-	return v
-}
-
-// A request with a document of bucketd's.
-func (q *hostRequest) with(document any) *hostRequest {
-	q.body = bodyOf(must(json.Marshal(document)))
-	q.to = q.body.size
+	for i := 0; i < len(pairs); i += 2 {
+		q.query.Set(pairs[i], pairs[i+1])
+	}
 	return q
 }
 
-func (q *hostRequest) head(id, secret string) string {
-	target := "/" + q.bucket
-	if q.key != "" {
-		target += "/" + percentEncode(q.key, true)
+// The request with a body, whose SHA-256 bucketd compares where it was promised.
+func (q *hostRequest) sending(b *body) *hostRequest {
+	q.body, q.to = b, b.size
+	if b.sha256 != "" {
+		q.fields = append(q.fields, "x-amz-checksum-sha256: "+b.sha256)
 	}
+	return q
+}
+
+// The request with a document of bucketd's.
+func (q *hostRequest) with(document any) *hostRequest {
+	text := must(json.Marshal(document))
+	return q.sending(&body{memory: bytes.NewBuffer(text), size: int64(len(text))})
+}
+
+func (q *hostRequest) head(id, secret string) string {
+	target := q.path()
 	if len(q.query) > 0 {
 		target += "?" + q.query.Encode()
 	}
@@ -103,12 +127,7 @@ type hostResponse struct {
 func (r *hostResponse) checksum() string { return r.head.Get("x-amz-checksum-sha256") }
 
 // The id of the version that was answered: a bucket without versions tells none.
-func (r *hostResponse) version() string {
-	if id := r.head.Get("x-amz-version-id"); id != "" {
-		return id
-	}
-	return nullVersion
-}
+func (r *hostResponse) version() string { return or(r.head.Get("x-amz-version-id"), nullVersion) }
 
 // hostDocument has those members of bucketd's documents that are read; others are only translated.
 type hostDocument struct {
@@ -149,7 +168,8 @@ func (h *host) ask(t *tenant, id, secret string, q *hostRequest) (*hostResponse,
 }
 
 func exchange(conn net.Conn, q *hostRequest, head string) (*hostResponse, error) {
-	defer conn.Close()
+	// (nobody waits for the end of a connection)
+	defer func() { go conn.Close() }()
 	conn.SetDeadline(time.Now().Add(5 * time.Minute))
 	told := net.Buffers{[]byte(head)}
 	if q.body != nil && q.body.file == nil {
@@ -181,53 +201,48 @@ func exchange(conn net.Conn, q *hostRequest, head string) (*hostResponse, error)
 // Runs 'bucketd serve' on a host's file until the context is done, again whenever it ends. Returns when it listens, or with why it
 // doesn't; the channel is closed when it has ended. Each change is on the disk before it is answered, so it may be killed.
 func serveHost(ctx context.Context, program, file string, h *host) (<-chan struct{}, error) {
-	first, over := make(chan error, 1), make(chan struct{})
-	var once sync.Once
-	tell := func(err error) { once.Do(func() { first <- err }) }
+	h.address.Store("")
+	ended, over := make(chan error, 1), make(chan struct{})
 	go func() {
 		defer close(over)
 		// The kernel ends the child with the thread that made it, so also where the gateway is killed.
 		runtime.LockOSThread()
 		for ctx.Err() == nil {
-			err := runHost(ctx, program, file, h, tell)
-			tell(err)
+			err := runHost(ctx, program, file, h)
+			select {
+			case ended <- err:
+			default:
+			}
 			if ctx.Err() == nil {
-				log.Printf("bucketd serve ended (%v), and is started again", err)
+				log.Printf("%v; it is started again", err)
 				time.Sleep(250 * time.Millisecond)
 			}
 		}
 	}()
-	return over, <-first
+	for {
+		select {
+		case err := <-ended:
+			return over, err
+		case <-time.After(20 * time.Millisecond): // (it may have a log to read first)
+			if conn, err := h.dial(); err == nil {
+				return over, conn.Close()
+			}
+		}
+	}
 }
 
-// Runs bucketd once, on a free port, to its end; tells when it listens: it may have a log to read first.
-func runHost(ctx context.Context, program, file string, h *host, tell func(error)) error {
+// Runs bucketd once, on a free port, to its end.
+func runHost(ctx context.Context, program, file string, h *host) error {
 	free, err := net.Listen("tcp", "127.0.0.1:0")
 	if err != nil {
 		return err
 	}
 	_, port, _ := net.SplitHostPort(free.Addr().String())
 	free.Close()
+	h.address.Store("127.0.0.1:" + port)
 	// A year: a host may have been idle for the holidays, and a clock that is wrong is so by more.
 	child := exec.CommandContext(ctx, program, "serve", "--file", file, "--port", port, "--clock-leap", "366")
 	child.Stdout, child.Stderr = os.Stderr, os.Stderr
 	child.SysProcAttr = &syscall.SysProcAttr{Pdeathsig: syscall.SIGKILL, Setpgid: true}
-	if err := child.Start(); err != nil {
-		return err
-	}
-	h.address.Store("127.0.0.1:" + port)
-	ended := make(chan error, 1)
-	go func() { ended <- child.Wait() }()
-	for wait := 20 * time.Millisecond; ; {
-		select {
-		case err := <-ended:
-			return fmt.Errorf("bucketd serve --file %s: %v", file, err)
-		case <-time.After(wait):
-		}
-		if conn, err := h.dial(); err == nil {
-			conn.Close()
-			tell(nil)
-			wait = math.MaxInt64
-		}
-	}
+	return fmt.Errorf("bucketd serve --file %s ended: %v", file, child.Run())
 }

@@ -17,8 +17,6 @@ import (
 	"os"
 	"os/signal"
 	"runtime/debug"
-	"sync"
-	"sync/atomic"
 	"syscall"
 	"time"
 )
@@ -49,7 +47,7 @@ func parseOptions(words []string, out io.Writer) (options, error) {
 	set.StringVar(&o.domain, "domain", "", "takes BUCKET.DOMAIN, too, beside /BUCKET")
 	set.StringVar(&o.spool, "spool", os.TempDir(), "the folder in which bodies above 1 MiB wait")
 	set.IntVar(&o.connections, "connections", 1024, "the most connections of clients at once")
-	set.DurationVar(&o.silence, "silence", 30*time.Second, "how long a client may be silent within a request")
+	set.DurationVar(&o.silence, "silence", 30*time.Second, "how long a client may be silent within a request; in reading an answer, twice that")
 	set.IntVar(&o.ahead, "ahead", 4, "how many requests of all, and of a tenant, are sent before bucketd has answered")
 	set.Int64Var(&o.piece, "piece", 16<<20, "a put of more bytes goes as an upload of parts of so many: at least the host's least part, at most its greatest body")
 	set.Int64Var(&o.maxPut, "max-put", 5<<30, "the most bytes of a put")
@@ -69,115 +67,57 @@ func parseOptions(words []string, out io.Writer) (options, error) {
 func main() {
 	log.SetPrefix("gateway: ")
 	o, err := parseOptions(os.Args[1:], os.Stderr)
-	if err == nil {
-		ended, stop := signal.NotifyContext(context.Background(), os.Interrupt, syscall.SIGTERM)
-		defer stop()
-		err = run(ended, o)
-	}
-	if err != nil && !errors.Is(err, flag.ErrHelp) {
+	if err == flag.ErrHelp {
+		return
+	} else if err != nil {
 		log.Fatal(err)
+	}
+	ended, stop := signal.NotifyContext(context.Background(), os.Interrupt, syscall.SIGTERM)
+	defer stop()
+	if try(func() { run(ended, o) }) != nil {
+		os.Exit(1)
 	}
 }
 
 // Serves until the context is done.
-func run(ctx context.Context, o options) error {
+func run(ctx context.Context, o options) {
 	// Bodies and pieces have bounds of their own; what is left behind them is collected before all takes more than this.
 	debug.SetMemoryLimit(48 << 20)
 	debug.SetGCPercent(400) // (a small heap would be collected all the time)
-	keys, err := openKeys(o.keys)
-	if err != nil {
-		return err
-	}
-	server := &server{options: o, keys: keys, host: newHost(o.host, o.ahead)}
-	listener, err := net.Listen("tcp", o.listen)
-	if err != nil {
-		return err
-	}
-	listener, scheme := &patientListener{listener, o.silence, make(chan struct{}, o.connections)}, "http"
+	server := &server{options: o, keys: must(openKeys(o.keys)), host: newHost(o.host, o.ahead)}
+	listener, scheme := must(net.Listen("tcp", o.listen)), "http"
 	if o.certificate != "" {
-		pair, err := tls.LoadX509KeyPair(o.certificate, o.certificateKey)
-		if err != nil {
-			return err
-		}
+		pair := must(tls.LoadX509KeyPair(o.certificate, o.certificateKey))
 		listener, scheme = tls.NewListener(listener, &tls.Config{Certificates: []tls.Certificate{pair}, MinVersion: tls.VersionTLS12}), "https"
 	}
-	hostCtx, endHost := context.WithCancel(context.Background())
-	defer endHost()
 	if o.serve != "" {
+		hostCtx, endHost := context.WithCancel(context.Background())
 		over, err := serveHost(hostCtx, o.program, o.serve, server.host)
-		if err != nil {
-			return err
-		}
 		defer func() { endHost(); <-over }()
+		must(over, err)
 	}
 	log.Printf("listening on %s://%s", scheme, listener.Addr())
-	web := http.Server{Handler: server, ReadHeaderTimeout: 20 * time.Second, IdleTimeout: time.Minute, MaxHeaderBytes: 32 << 10}
-	go func() {
-		<-ctx.Done()
+	web, ended := server.web(), make(chan error, 1)
+	go func() { ended <- web.Serve(listener) }()
+	select {
+	case err := <-ended:
+		panic(err)
+	case <-ctx.Done():
 		patience, cancel := context.WithTimeout(context.Background(), 10*time.Second)
 		defer cancel()
 		web.Shutdown(patience)
-		endHost()
-	}()
-	if err := web.Serve(listener); err != http.ErrServerClosed {
-		return err
 	}
-	<-hostCtx.Done()
-	return nil
 }
 
-// How many bytes a client has to take within the time that it may be silent.
-const writeSlice = 128 << 10
-
-// patientConn breaks off when its client is silent for a while within a request; between requests http.Server sets the time.
-type patientConn struct {
-	net.Conn
-	silence time.Duration
-	isTimed atomic.Bool // by http.Server
-	release func()
-	once    sync.Once
-}
-
-func (c *patientConn) SetReadDeadline(t time.Time) error {
-	c.isTimed.Store(!t.IsZero())
-	return c.Conn.SetReadDeadline(t)
-}
-
-func (c *patientConn) Read(b []byte) (int, error) {
-	if !c.isTimed.Load() {
-		c.Conn.SetReadDeadline(time.Now().Add(c.silence))
-	}
-	return c.Conn.Read(b)
-}
-
-func (c *patientConn) Write(b []byte) (written int, err error) {
-	for len(b) > written && err == nil {
-		var n int
-		c.Conn.SetWriteDeadline(time.Now().Add(c.silence))
-		n, err = c.Conn.Write(b[written:min(len(b), written+writeSlice)])
-		written += n
-	}
-	return written, err
-}
-
-func (c *patientConn) Close() error {
-	c.once.Do(c.release)
-	return c.Conn.Close()
-}
-
-// patientListener accepts as many connections at once as it has places for.
-type patientListener struct {
-	net.Listener
-	silence time.Duration
-	places  chan struct{}
-}
-
-func (l *patientListener) Accept() (net.Conn, error) {
-	l.places <- struct{}{}
-	conn, err := l.Listener.Accept()
-	if err != nil {
-		<-l.places
-		return nil, err
-	}
-	return &patientConn{Conn: conn, silence: l.silence, release: func() { <-l.places }}, nil
+// What serves the connections of clients, so many at once; one that has no place holds up those behind it.
+func (s *server) web() *http.Server {
+	places := make(chan struct{}, s.connections)
+	return &http.Server{Handler: s, ReadHeaderTimeout: 20 * time.Second, IdleTimeout: time.Minute, MaxHeaderBytes: 32 << 10, ConnContext: withConn,
+		ConnState: func(_ net.Conn, state http.ConnState) {
+			if state == http.StateNew {
+				places <- struct{}{}
+			} else if state == http.StateClosed {
+				<-places
+			}
+		}}
 }

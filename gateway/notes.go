@@ -22,41 +22,34 @@ const (
 )
 
 // Fields that S3 keeps as they are, and that a request may have answered otherwise (response-*).
-var keptFields = []string{"content-type", "content-language", "expires", "cache-control", "content-disposition", "content-encoding"}
+var keptFields = map[string]bool{"content-type": true, "content-language": true, "expires": true, "cache-control": true,
+	"content-disposition": true, "content-encoding": true}
 
 var contentTypes = map[string]string{".css": "text/css", ".csv": "text/csv", ".gif": "image/gif", ".html": "text/html",
 	".jpg": "image/jpeg", ".json": "application/json", ".pdf": "application/pdf", ".png": "image/png", ".svg": "image/svg+xml",
 	".txt": "text/plain", ".zip": "application/zip"}
 
 // The type of an object of which no note tells one.
-func contentType(key string) string {
-	if kind := contentTypes[path.Ext(key)]; kind != "" {
-		return kind
-	}
-	return "binary/octet-stream"
-}
+func contentType(key string) string { return or(contentTypes[path.Ext(key)], "binary/octet-stream") }
 
 // What a request wants kept: x-amz-meta-* and the fields that S3 keeps.
 func metadata(h http.Header) map[string]string {
+	const message = "user metadata has at most 2048 bytes, and so has each of the other fields"
 	meta, size := map[string]string{}, 0
-	for name, values := range h {
-		if lower := strings.ToLower(name); strings.HasPrefix(lower, metaField) {
-			meta[lower] = strings.Join(values, ",")
-			size += len(lower) - len(metaField) + len(meta[lower])
-		}
-	}
-	tooLarge := newError("MetadataTooLarge", 400, "user metadata has at most 2048 bytes, and so has each of the other fields")
-	refuseIf(size > greatestMeta, tooLarge)
-	for _, name := range keptFields {
-		value := h.Get(name)
+	for field, values := range h {
+		name, value := strings.ToLower(field), strings.Join(values, ",")
 		if name == "content-encoding" {
 			value = strings.Trim(strings.ReplaceAll(value, "aws-chunked", ""), ", ")
 		}
-		if value != "" {
+		if strings.HasPrefix(name, metaField) {
+			meta[name] = value
+			size += len(name) - len(metaField) + len(value)
+		} else if keptFields[name] && value != "" {
+			refuseIf(len(value) > greatestMeta, "MetadataTooLarge", message)
 			meta[name] = value
 		}
-		refuseIf(len(value) > greatestMeta, tooLarge)
 	}
+	refuseIf(size > greatestMeta, "MetadataTooLarge", message)
 	return meta
 }
 
@@ -66,47 +59,44 @@ type note struct {
 	Metadata map[string]string
 }
 
-// Asks for the note of a version; without an id it is that of `null`.
-func (c *call) askNote(method string, o object, document ...any) *hostResponse {
-	if o.version == "" {
-		o.version = nullVersion
-	}
-	q := &hostRequest{method: method, bucket: hiddenBucket, key: o.bucket + "/" + hexSHA256(o.version+"/"+o.key)}
-	for _, it := range document {
-		q.with(it)
-	}
-	return c.ask(q)
+// Where the note of a version lies; without an id it is that of `null`.
+func noteOf(o object) object {
+	return object{bucket: hiddenBucket, key: o.bucket + "/" + hexSHA256(or(o.version, nullVersion)+"/"+o.key)}
 }
 
 // The note of a version, empty where there is none.
 func (c *call) note(o object) (n note) {
 	if c.server.meta {
-		if r := c.askNote("GET", o); r.refusal == 0 {
+		if r := c.ask(noteOf(o).request("GET")); r.refusal == 0 {
 			json.Unmarshal(r.body, &n)
 		}
 	}
 	return n
 }
 
-// Keeps the metadata of a version that was just made, under the key's lock.
-func (c *call) keepNote(version, checksum string, meta map[string]string) {
-	o := object{c.bucket, c.key, version}
-	isPlain := len(meta) == 0 || len(meta) == 1 && meta["content-type"] == contentType(c.key)
-	d, isKnown := &details{checksum: checksum, version: version}, true
+// Keeps the metadata of a version that was just made, under the key's lock, and tells its ETag and id.
+func (c *call) keepVersion(r *hostResponse, meta map[string]string) {
+	d, isKnown := &details{checksum: r.checksum(), version: r.version()}, true
+	if d.checksum == "" { // (of a joined or copied object its document tells it)
+		d.checksum = r.document().ChecksumSHA256
+	}
+	c.tellVersion(r, d.checksum)
+	o, isNull := object{c.bucket, c.key, d.version}, d.version == nullVersion
 	if !c.server.meta {
 		return
-	} else if isPlain && version == nullVersion {
-		isKnown = c.forgetNote(o)
-	} else if !isPlain {
-		d.note = note{checksum, meta}
-		r := c.askNote("PUT", o, d.note)
-		if r.refusal == refusalBucket {
-			c.ask(&hostRequest{method: "PUT", bucket: hiddenBucket})
-			r = c.askNote("PUT", o, d.note)
+	} else if len(meta) > 1 || len(meta) == 1 && meta["content-type"] != contentType(c.key) {
+		d.note = note{d.checksum, meta}
+		put := noteOf(o).request("PUT").with(d.note)
+		kept := c.ask(put)
+		if kept.refusal == refusalBucket {
+			c.ask(object{bucket: hiddenBucket}.request("PUT"))
+			kept = c.ask(put)
 		}
-		refuseIf(r.refusal != 0, newError("InternalError", 500, "the object was put, but not its metadata: "+r.code))
+		refuseIf(kept.refusal != 0, "InternalError", "the object was put, but not its metadata: "+kept.code)
+	} else if isNull {
+		isKnown = c.forgetNote(o)
 	}
-	if o.version = ""; version == nullVersion && isKnown && c.server.alone {
+	if o.version = ""; isNull && isKnown && c.server.alone {
 		_, writes := c.own.recall(o)
 		c.own.remember(o, d, writes)
 	}
@@ -114,12 +104,11 @@ func (c *call) keepNote(version, checksum string, meta map[string]string) {
 
 // Takes away the note of a version that is gone or has none; one that stays is passed over. Whether none is left.
 func (c *call) forgetNote(o object) bool {
-	isNull := o.version == nullVersion || o.version == ""
-	isKnown := isNull && c.was != nil && c.was.version == nullVersion && c.was.note.Checksum == ""
+	isKnown := or(o.version, nullVersion) == nullVersion && c.was != nil && c.was.version == nullVersion && c.was.note.Checksum == ""
 	if !c.server.meta || isKnown {
 		return isKnown
 	}
-	r := c.askNote("DELETE", o)
+	r := c.ask(noteOf(o).request("DELETE"))
 	return r.refusal == 0 || r.refusal == refusalBucket
 }
 
@@ -131,16 +120,22 @@ func joinUpload(id string, meta map[string]string) string {
 	return id + "." + base64.RawURLEncoding.EncodeToString(must(json.Marshal(meta)))
 }
 
-func splitUpload(id string) (plain string, meta map[string]string) {
-	plain, packed, _ := strings.Cut(id, ".")
+func plainUpload(id string) string { return strings.SplitN(id, ".", 2)[0] }
+
+// The metadata in an upload's id. A client told it: what is no metadata is passed over.
+func metadataOf(id string) map[string]string {
+	_, packed, _ := strings.Cut(id, ".")
 	text, _ := base64.RawURLEncoding.DecodeString(packed)
 	told, head := map[string]string{}, http.Header{}
 	json.Unmarshal(text, &told)
 	for name, value := range told {
 		head.Set(name, value)
 	}
-	return plain, metadata(head) // (a client told it: what is no metadata is passed over)
+	return metadata(head)
 }
+
+// The id that bucketd has of the call's upload.
+func (c *call) upload() string { return plainUpload(c.query.Get("uploadId")) }
 
 // What was found of a version beside its bytes is remembered, so that bucketd is asked for those alone when they are read again.
 // Its answer then says whether it is that version still. Of one with a number and a note all of this stays as it is. Of `null`,
@@ -180,7 +175,7 @@ type tenant struct {
 // keyLock is that of the keys with one hash: how often a write of one began or ended is odd while one is on its way.
 type keyLock struct {
 	sync.Mutex
-	writes int
+	writes atomic.Int64
 }
 
 var hashSeed = maphash.MakeSeed()
@@ -192,37 +187,32 @@ func (t *tenant) lockOf(o object) *keyLock {
 // Takes the lock of a key, so that what is asked meanwhile is asked of one state, if all writers of the key come through the
 // gateway; what was known of it is forgotten, but by the call. Gives what frees it.
 func (c *call) hold(key string) func() {
-	t, o := c.own, object{c.bucket, key, ""}
+	o, t := object{c.bucket, key, ""}, c.own
 	lock := t.lockOf(o)
-	turn := func() {
-		t.mu.Lock()
-		defer t.mu.Unlock()
-		lock.writes++
-	}
 	t.buckets.RLock()
 	lock.Lock()
-	turn()
+	lock.writes.Add(1)
 	c.was, _ = t.recall(o)
 	t.forget(o)
 	return func() {
-		turn()
+		lock.writes.Add(1)
 		lock.Unlock()
 		t.buckets.RUnlock()
 	}
 }
 
 // What is known of a version, and the writes until now of its key.
-func (t *tenant) recall(o object) (*details, int) {
+func (t *tenant) recall(o object) (*details, int64) {
 	t.mu.Lock()
 	defer t.mu.Unlock()
-	return t.known[o], t.lockOf(o).writes
+	return t.known[o], t.lockOf(o).writes.Load()
 }
 
 // Remembers what was found of a version, if no write began since: `writes` is from before.
-func (t *tenant) remember(o object, d *details, writes int) {
+func (t *tenant) remember(o object, d *details, writes int64) {
 	t.mu.Lock()
 	defer t.mu.Unlock()
-	if t.lockOf(o).writes != writes || len(fmt.Sprint(o, d.note)) > greatestKnown {
+	if t.lockOf(o).writes.Load() != writes || len(fmt.Sprint(o, d.note)) > greatestKnown {
 		return
 	}
 	if t.known == nil || int64(len(t.known)) >= t.most.Load() {

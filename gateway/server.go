@@ -1,8 +1,11 @@
 package main
 
 import (
+	"bytes"
+	"context"
 	"encoding/xml"
 	"log"
+	"net"
 	"net/http"
 	"net/url"
 	"regexp"
@@ -17,6 +20,7 @@ const (
 	hiddenBucket = "bucketd.meta"
 	longestKey   = 1024
 	greatestXML  = 2 << 20
+	writeSlice   = 128 << 10 // how many bytes a client has to take within the time that it may be silent
 )
 
 // server answers S3 calls. What it has beside its options is no state: what waits, what is known, and how much memory is taken.
@@ -28,25 +32,54 @@ type server struct {
 	readers  atomic.Int64 // GETs
 }
 
-// call is one S3 call.
+// call is one S3 call: its body is read and its answer written through it, and it breaks off where its client is silent for a while.
 type call struct {
 	*caller
-	server      *server
-	w           http.ResponseWriter
-	r           *http.Request
-	query       url.Values
-	bucket, key string
-	own         *tenant
-	was         *details // of the key that is held, before
-	status      int
-	ends        []func()
+	server *server
+	conn   net.Conn
+	w      http.ResponseWriter
+	r      *http.Request
+	query  url.Values
+	object
+	own    *tenant
+	was    *details // of the key that is held, before
+	status int
+	ends   []func()
+}
+
+type connKey struct{}
+
+// Keeps a connection where its calls find it.
+func withConn(ctx context.Context, conn net.Conn) context.Context {
+	return context.WithValue(ctx, connKey{}, conn)
+}
+
+func (c *call) beginWaiting() {
+	c.conn.SetReadDeadline(time.Now().Add(c.server.silence))
+	c.conn.SetWriteDeadline(time.Now().Add(2 * c.server.silence)) // (before it answers, http.Server waits for the body's rest)
+}
+
+func (c *call) Read(b []byte) (int, error) {
+	c.beginWaiting()
+	return c.r.Body.Read(b)
+}
+
+func (c *call) Write(b []byte) (written int, err error) {
+	for len(b) > written && err == nil {
+		var n int
+		c.beginWaiting()
+		n, err = c.w.Write(b[written:min(len(b), written+writeSlice)])
+		written += n
+	}
+	return written, err
 }
 
 // Runs something when the call has been answered.
 func (c *call) atEnd(act func()) { c.ends = append(c.ends, act) }
 
 func (s *server) ServeHTTP(w http.ResponseWriter, r *http.Request) {
-	c := &call{caller: &caller{}, server: s, w: w, r: r, query: url.Values{}}
+	c := &call{caller: &caller{}, server: s, w: w, r: r, conn: r.Context().Value(connKey{}).(net.Conn)}
+	c.beginWaiting()
 	// (made of the request alone: a counter would tell one tenant of the others' requests)
 	w.Header().Set("x-amz-request-id", strings.ToUpper(hexSHA256(r.Header.Get("Authorization") + r.URL.RawQuery)[:16]))
 	w.Header().Set("Server", "bucketd-gateway")
@@ -69,9 +102,9 @@ func (c *call) serve() {
 	query, err := url.ParseQuery(c.r.URL.RawQuery)
 	c.query = query
 	isWell := err == nil && utf8.ValidString(c.r.URL.Path) && strings.HasPrefix(c.r.URL.Path, "/")
-	refuseIf(!isWell, newError("InvalidURI", 400, "the target is no percent-encoded UTF-8"))
+	refuseIf(!isWell, "InvalidURI", "the target is no percent-encoded UTF-8")
 	for name, values := range c.query {
-		refuseIf(len(values) > 1, invalid("a parameter stands twice: "+name))
+		refuseIf(len(values) > 1, "InvalidArgument", "a parameter stands twice: "+name)
 	}
 	path := c.r.URL.EscapedPath()
 	name, _, _ := strings.Cut(c.r.Host, ":")
@@ -84,29 +117,69 @@ func (c *call) serve() {
 	c.caller = c.server.authenticate(c.r, c.query, path)
 	c.own = c.server.host.tenant(c.tenant)
 	c.refuseUnknown()
-	act := c.act()
-	refuseIf(act == nil, newError("MethodNotAllowed", 405, "there is no such call"))
+	act := calls[c.kind()]
+	refuseIf(act == nil, "MethodNotAllowed", "there is no such call")
 	act(c)
 }
 
-// What does the call, by its method and sub-resource; nil where nothing does.
-func (c *call) act() func(*call) {
+// The calls of an object, of a bucket and of all buckets, by method and sub-resource; COPY is a PUT that names a source.
+var calls = map[string]func(c *call){
+	"object GET acl":          (*call).getACL,
+	"object PUT acl":          notThere("an acl but private"),
+	"object GET tagging":      func(c *call) { c.sendDocument("Tagging", document{"TagSet": document{}}) },
+	"object POST uploads":     (*call).beginUpload,
+	"object PUT uploadId":     func(c *call) { c.done(200, c.partOf(c.readBody(c.server.piece, c.server.piece))) },
+	"object COPY uploadId":    (*call).copyPart,
+	"object POST uploadId":    (*call).completeUpload,
+	"object GET uploadId":     (*call).listParts,
+	"object DELETE uploadId":  func(c *call) { c.done(204, c.request("DELETE", "uploadId", c.upload())) },
+	"object PUT":              (*call).putObject,
+	"object COPY":             (*call).copyObject,
+	"object GET":              (*call).getObject,
+	"object HEAD":             (*call).getObject,
+	"object DELETE":           (*call).deleteObject,
+	"bucket GET acl":          (*call).getACL,
+	"bucket PUT acl":          notThere("an acl but private"),
+	"bucket GET versioning":   func(c *call) { c.sendListing("VersioningConfiguration", "versioning") },
+	"bucket PUT versioning":   (*call).putVersioning,
+	"bucket GET lifecycle":    func(c *call) { c.sendListing("LifecycleConfiguration", "lifecycle") },
+	"bucket PUT lifecycle":    (*call).putLifecycle,
+	"bucket DELETE lifecycle": func(c *call) { c.done(204, c.request("DELETE", "lifecycle", "")) },
+	"bucket GET location":     (*call).getLocation,
+	"bucket GET uploads":      func(c *call) { c.sendListing("ListMultipartUploadsResult", "uploads") },
+	"bucket GET versions":     func(c *call) { c.sendListing("ListVersionsResult", "versions") },
+	"bucket GET":              (*call).listObjects,
+	"bucket POST delete":      (*call).deleteObjects,
+	"bucket POST":             notThere("an upload by a form"),
+	"bucket PUT":              (*call).createBucket,
+	"bucket HEAD":             (*call).headBucket,
+	"bucket DELETE":           (*call).deleteBucket,
+	"GET":                     (*call).listBuckets,
+}
+
+func notThere(what string) func(*call) {
+	return func(*call) { panic(newError("NotImplemented", what+" is not there")) }
+}
+
+var subresources = strings.Fields("acl tagging versioning lifecycle uploadId uploads location versions delete")
+
+// The name that the call has in the table.
+func (c *call) kind() string {
 	name := c.r.Method
 	if c.key != "" && name == "PUT" && c.r.Header.Get("x-amz-copy-source") != "" {
 		name = "COPY"
 	}
-	for _, it := range strings.Fields("acl tagging versioning lifecycle uploadId uploads location versions delete") {
+	if c.key != "" {
+		name = "object " + name
+	} else if c.bucket != "" {
+		name = "bucket " + name
+	}
+	for _, it := range subresources {
 		if c.query.Has(it) {
-			name += " " + it
-			break
+			return name + " " + it
 		}
 	}
-	if c.key != "" {
-		return objectCalls[name]
-	} else if c.bucket != "" {
-		return bucketCalls[name]
-	}
-	return map[string]func(*call){"GET": (*call).listBuckets}[name]
+	return name
 }
 
 // Sub-resources that nothing here has, and S3's codes for what is not set, which a GET is answered.
@@ -120,30 +193,32 @@ var unset = map[string]string{
 }
 
 // Beginnings of fields whose being passed over would be taken for a promise.
-var unknownFields = strings.Fields("x-amz-bucket-object-lock- x-amz-object-lock- x-amz-server-side-encryption x-amz-grant- x-amz-tagging " +
-	"x-amz-website-redirect-location x-amz-write-offset-bytes x-amz-copy-source-server-side-encryption x-amz-if-match- x-amz-rename-source")
+var unknownFields = strings.Fields("X-Amz-Bucket-Object-Lock- X-Amz-Object-Lock- X-Amz-Server-Side-Encryption X-Amz-Grant- X-Amz-Tagging " +
+	"X-Amz-Website-Redirect-Location X-Amz-Write-Offset-Bytes X-Amz-Copy-Source-Server-Side-Encryption X-Amz-If-Match- X-Amz-Rename-Source")
 
 // Refuses what no call here does.
 func (c *call) refuseUnknown() {
-	refuseIf(c.bucket != "" && !isBucketName(c.bucket), newError("InvalidBucketName", 400, "there is no such name of a bucket"))
-	refuseIf(len(c.key) > longestKey, newError("KeyTooLongError", 400, "a key has at most 1024 bytes"))
+	refuseIf(c.bucket != "" && !isBucketName(c.bucket), "InvalidBucketName", "there is no such name of a bucket")
+	refuseIf(len(c.key) > longestKey, "KeyTooLongError", "a key has at most 1024 bytes")
 	owner, isRead := c.r.Header.Get("x-amz-expected-bucket-owner"), c.r.Method == "GET"
-	refuseIf(owner != "" && owner != c.tenant, accessDenied("the bucket has another owner"))
-	for name, code := range unset {
+	refuseIf(owner != "" && owner != c.tenant, "AccessDenied", "the bucket has another owner")
+	for name := range c.query {
+		code, isUnset := unset[name]
 		isThere := name == "tagging" && c.key != "" && isRead || name == "partNumber" && c.query.Has("uploadId")
-		if c.query.Has(name) && !isThere {
-			refuseIf(code != "" && isRead, newError(code, 404, "nothing is set"))
-			panic(notImplemented(name))
+		if isUnset && !isThere && code != "" && isRead {
+			panic(&apiError{code, http.StatusNotFound, "nothing is set"})
 		}
+		refuseIf(isUnset && !isThere, "NotImplemented", name+" is not there")
 	}
 	for field := range c.r.Header {
 		for _, name := range unknownFields {
-			lower := strings.ToLower(field)
-			refuseIf(strings.HasPrefix(lower, name) && lower != "x-amz-tagging-directive", notImplemented(lower))
+			if strings.HasPrefix(field, name) && field != "X-Amz-Tagging-Directive" {
+				panic(newError("NotImplemented", field+" is not there"))
+			}
 		}
 	}
 	list := c.r.Header.Get("x-amz-acl")
-	refuseIf(list != "" && list != "private" && !strings.HasPrefix(list, "bucket-owner-"), notImplemented("an acl but private"))
+	refuseIf(list != "" && list != "private" && !strings.HasPrefix(list, "bucket-owner-"), "NotImplemented", "an acl but private is not there")
 }
 
 var bucketNames = regexp.MustCompile("^[a-z0-9.-]{3,63}$")
@@ -151,35 +226,32 @@ var bucketNames = regexp.MustCompile("^[a-z0-9.-]{3,63}$")
 // Whether it is a bucket's name that clients may use: the hidden bucket's is none.
 func isBucketName(name string) bool { return bucketNames.MatchString(name) && name != hiddenBucket }
 
-// A request about the call's own bucket and key, with parameters by name and value.
-func (c *call) request(method string, pairs ...string) *hostRequest {
-	return &hostRequest{method: method, bucket: c.bucket, key: c.key, query: parameters(pairs...)}
-}
-
 // Asks bucketd; a refusal is an answer.
 func (c *call) ask(q *hostRequest) *hostResponse {
 	r, err := c.server.host.ask(c.own, c.id, c.secret, q)
 	if err != nil {
 		log.Printf("%s: no answer of bucketd: %v", c.tenant, err)
-		panic(slowDown("the host doesn't answer"))
+		panic(newError("SlowDown", "the host doesn't answer"))
 	}
 	return r
 }
 
 // Asks bucketd, and takes a refusal for an error.
-func (c *call) need(q *hostRequest) *hostResponse {
-	r := c.ask(q)
-	if r.refusal != 0 {
-		e := r.refused()
-		if e.code == "BadDigest" {
-			e.code = c.badDigest("x-amz-checksum-sha256")
+func (c *call) need(q *hostRequest) *hostResponse { return c.accepted(c.ask(q)) }
+
+// Sets fields of the response's head, by name and value; what is empty is left out.
+func (c *call) tell(pairs ...string) {
+	for i := 0; i < len(pairs); i += 2 {
+		if name, value := pairs[i], pairs[i+1]; strings.HasPrefix(name, metaField) || name == "ETag" {
+			c.w.Header()[name] = []string{value} // (in these letters: some clients want them, or make names of them)
+		} else if value != "" {
+			c.w.Header().Set(name, value)
 		}
-		panic(e)
 	}
-	return r
 }
 
 func (c *call) begin(status int) {
+	c.beginWaiting()
 	c.status = status
 	c.w.WriteHeader(status)
 }
@@ -187,34 +259,29 @@ func (c *call) begin(status int) {
 // Sends a document, or nothing, as the whole answer.
 func (c *call) send(status int, text []byte) {
 	if text != nil {
-		c.w.Header().Set("Content-Type", "application/xml")
+		c.tell("Content-Type", "application/xml")
 	}
 	if status != 204 && status != 304 {
-		c.w.Header().Set("Content-Length", strconv.Itoa(len(text)))
+		c.tell("Content-Length", strconv.Itoa(len(text)))
 	}
 	c.begin(status)
 	if c.r.Method != "HEAD" {
-		c.w.Write(text)
+		c.Write(text)
 	}
 }
 
 func (c *call) refuse(e *apiError) {
-	for name, value := range e.fields {
-		c.w.Header().Set(name, value)
-	}
-	x, region := &xmlWriter{}, ""
-	if strings.HasPrefix(e.code, "Authorization") {
-		region = c.server.region
-	}
+	var x bytes.Buffer
 	if e.status != 304 {
+		told := document{"Code": e.code, "Message": e.message, "Resource": c.r.URL.Path, "RequestId": c.w.Header().Get("x-amz-request-id")}
+		if strings.HasPrefix(e.code, "Authorization") {
+			told["Region"] = c.server.region
+		}
 		x.WriteString(xml.Header)
-		x.elements("Error", func() {
-			x.elements("Code", e.code, "Message", e.message, "Region", region, "Resource", c.r.URL.Path,
-				"RequestId", c.w.Header().Get("x-amz-request-id"))
-		})
+		c.write(&x, "Error", told)
 	}
 	if e.status >= 500 || e.code == "IncompleteBody" || e.code == "EntityTooLarge" {
-		c.w.Header().Set("Connection", "close")
+		c.tell("Connection", "close")
 	}
 	c.send(e.status, x.Bytes())
 }

@@ -53,7 +53,7 @@ func hexSHA256(text string) string {
 // caller is who asks, by a signature that was right.
 type caller struct {
 	id, tenant, secret string
-	key                []byte // that signs
+	signing            []byte // the key that signs
 	date, scope        string
 	payload            string // x-amz-content-sha256, or what stands for it
 	signature          string
@@ -61,7 +61,7 @@ type caller struct {
 
 // Whether the caller's key signed a text, of a kind, by a signature.
 func (c *caller) signs(kind, text, signature string) bool {
-	sum := hmacSHA256(c.key, algorithm+kind+"\n"+c.date+"\n"+c.scope+"\n"+text)
+	sum := hmacSHA256(c.signing, algorithm+kind+"\n"+c.date+"\n"+c.scope+"\n"+text)
 	return hmac.Equal([]byte(hex.EncodeToString(sum)), []byte(signature))
 }
 
@@ -72,7 +72,7 @@ func (s *server) authenticate(r *http.Request, query url.Values, path string) *c
 	isVersion2 := query.Has("AWSAccessKeyId") || query.Has("Signature")
 	authorization := r.Header.Get("Authorization")
 	isTwice := authorization != "" && (isQuery || isVersion2) || isQuery && isVersion2
-	refuseIf(isTwice, invalid("a request is signed once, in its head or in its query"))
+	refuseIf(isTwice, "InvalidArgument", "a request is signed once, in its head or in its query")
 	if isVersion2 {
 		return s.authenticateVersion2(r, query, path)
 	}
@@ -83,10 +83,10 @@ func (s *server) authenticate(r *http.Request, query url.Values, path string) *c
 			g.words[name] = query.Get("X-Amz-" + name)
 		}
 		g.date, g.payload = g.words["Date"], unsignedPayload
-		refuseIf(g.words["Algorithm"] != algorithm, newError(g.malformed, 400, "the algorithm is "+algorithm))
+		refuseIf(g.words["Algorithm"] != algorithm, g.malformed, "the algorithm is "+algorithm)
 	} else {
-		refuseIf(authorization == "", accessDenied("the request is not signed"))
-		refuseIf(!strings.HasPrefix(authorization, algorithm+" "), invalidRequest("a head is signed by "+algorithm))
+		refuseIf(authorization == "", "AccessDenied", "the request is not signed")
+		refuseIf(!strings.HasPrefix(authorization, algorithm+" "), "InvalidRequest", "a head is signed by "+algorithm)
 		for _, part := range strings.Split(authorization[len(algorithm):], ",") {
 			name, value, _ := strings.Cut(strings.TrimSpace(part), "=")
 			g.words[name] = value
@@ -115,96 +115,65 @@ type signedRequest struct {
 func (s *server) verify(g *signedRequest) *caller {
 	scope := strings.Split(g.words["Credential"], "/")
 	isWell := len(scope) == 5 && scope[3] == "s3" && scope[4] == "aws4_request"
-	refuseIf(!isWell, newError(g.malformed, 400, "the credential is not KEY/DATE/REGION/s3/aws4_request"))
+	refuseIf(!isWell, g.malformed, "the credential is not KEY/DATE/REGION/s3/aws4_request")
 	isHere := s.region == "" || scope[2] == s.region
-	refuseIf(!isHere, newError(g.malformed, 400, "the region '"+scope[2]+"' is wrong; expecting '"+s.region+"'"))
-	refuseIf(g.payload == "", invalidRequest("x-amz-content-sha256 is missing"))
+	refuseIf(!isHere, g.malformed, "the region '"+scope[2]+"' is wrong; expecting '"+s.region+"'")
+	refuseIf(g.payload == "", "InvalidRequest", "x-amz-content-sha256 is missing")
 	g.checkTime(scope[1])
-	c := s.caller(scope[0])
+	c := s.keys.caller(scope[0])
 	c.date, c.payload, c.signature, c.scope = g.date, g.payload, g.words["Signature"], strings.Join(scope[1:], "/")
-	c.key = []byte("AWS4" + c.secret)
+	c.signing = []byte("AWS4" + c.secret)
 	for _, part := range scope[1:] {
-		c.key = hmacSHA256(c.key, part)
+		c.signing = hmacSHA256(c.signing, part)
 	}
-	refuseIf(!c.signs("", hexSHA256(g.canonical()), c.signature), wrongSignature("the request"))
+	refuseIf(!c.signs("", hexSHA256(g.canonical()), c.signature), "SignatureDoesNotMatch", "the signature of the request is another one")
 	return c
-}
-
-// Who has an access key; nothing is known of the signature yet.
-func (s *server) caller(id string) *caller {
-	secret, ok := s.keys.secret(id)
-	refuseIf(!ok, newError("InvalidAccessKeyId", 403, "there is no such access key"))
-	tenant, _, _ := strings.Cut(id, "$")
-	return &caller{id: id, tenant: tenant, secret: secret}
-}
-
-func wrongSignature(what string) *apiError {
-	return newError("SignatureDoesNotMatch", 403, "the signature of "+what+" is another one")
 }
 
 func (g *signedRequest) checkTime(day string) {
 	at, err := time.Parse(amzDate, g.date)
 	now := clock()
-	refuseIf(err != nil || day != g.date[:8], accessDenied("x-amz-date is of another form, or of another day than the credential"))
+	refuseIf(err != nil || day != g.date[:8], "AccessDenied", "x-amz-date is of another form, or of another day than the credential")
 	if g.isQuery {
 		seconds, _ := strconv.Atoi(g.words["Expires"])
-		refuseIf(seconds < 1 || seconds > longestQuery, newError(g.malformed, 400, "X-Amz-Expires is from 1 to 604800"))
-		refuseIf(now.After(at.Add(time.Duration(seconds)*time.Second)), accessDenied("Request has expired"))
+		refuseIf(seconds < 1 || seconds > longestQuery, g.malformed, "X-Amz-Expires is from 1 to 604800")
+		refuseIf(now.After(at.Add(time.Duration(seconds)*time.Second)), "AccessDenied", "Request has expired")
 	}
 	isSkewed := at.After(now.Add(skew)) || !g.isQuery && at.Before(now.Add(-skew))
-	refuseIf(isSkewed, newError("RequestTimeTooSkewed", 403, "the clocks differ by more than 15 minutes"))
+	refuseIf(isSkewed, "RequestTimeTooSkewed", "the clocks differ by more than 15 minutes")
 }
 
 // What is signed of a request. All fields of the head that S3 heeds by an x-amz- name have to be.
 func (g *signedRequest) canonical() string {
-	var pairs []string
-	for name, values := range g.query {
-		for _, value := range values {
-			if name != "X-Amz-Signature" {
-				pairs = append(pairs, percentEncode(name, false)+"\x00"+percentEncode(value, false))
-			}
-		}
-	}
-	sort.Strings(pairs) // (by names first: nothing sorts below the byte after them)
-	query := strings.ReplaceAll(strings.Join(pairs, "&"), "\x00", "=")
+	// (these net/http keeps elsewhere than in the head)
+	g.Header["Host"], g.Header["Transfer-Encoding"] = []string{g.Host}, g.TransferEncoding
+	g.query.Del("X-Amz-Signature")
+	query := strings.ReplaceAll(g.query.Encode(), "+", "%20")
 	text, isSigned := g.Method+"\n"+percentEncode(g.URL.Path, true)+"\n"+query+"\n", map[string]bool{"x-amz-content-sha256": true}
 	for _, name := range strings.Split(g.words["SignedHeaders"], ";") {
 		isSigned[name] = true
-		text += name + ":" + g.field(name) + "\n"
+		text += name + ":" + strings.Join(strings.Fields(strings.Join(g.Header.Values(name), ",")), " ") + "\n"
 	}
 	for name := range g.Header {
 		lower := strings.ToLower(name)
-		refuseIf(strings.HasPrefix(lower, "x-amz-") && !isSigned[lower], accessDenied("a field of the head is not signed: "+lower))
+		refuseIf(strings.HasPrefix(lower, "x-amz-") && !isSigned[lower], "AccessDenied", "a field of the head is not signed: "+lower)
 	}
-	refuseIf(!isSigned["host"], accessDenied("host is not signed"))
+	refuseIf(!isSigned["host"], "AccessDenied", "host is not signed")
 	return text + "\n" + g.words["SignedHeaders"] + "\n" + g.payload
 }
 
-// The text of a field as it is signed; net/http keeps some fields elsewhere than in the head.
-func (g *signedRequest) field(name string) string {
-	switch name {
-	case "host":
-		return g.Host
-	case "content-length":
-		return strconv.FormatInt(g.ContentLength, 10)
-	case "transfer-encoding":
-		return strings.Join(g.TransferEncoding, ",")
-	}
-	return strings.Join(strings.Fields(strings.Join(g.Header.Values(name), ",")), " ")
-}
-
 // What a presigned query of version 2 counts as a part of the resource, in order.
-var subresources = strings.Fields("acl cors delete lifecycle location logging notification partNumber policy requestPayment " +
+var signedParameters = strings.Fields("acl cors delete lifecycle location logging notification partNumber policy requestPayment " +
 	"response-cache-control response-content-disposition response-content-encoding response-content-language response-content-type " +
 	"response-expires restore tagging torrent uploadId uploads versionId versioning versions website")
 
 // Whose a presigned URL of version 2 is ("Authenticating Requests (AWS Signature Version 2)"): boto3 and aws-cli 1 make them where
 // nothing is said. No head is signed so.
 func (s *server) authenticateVersion2(r *http.Request, query url.Values, path string) *caller {
-	c := s.caller(query.Get("AWSAccessKeyId"))
+	c := s.keys.caller(query.Get("AWSAccessKeyId"))
 	until, err := strconv.ParseInt(query.Get("Expires"), 10, 64)
 	now := clock().Unix()
-	refuseIf(err != nil || until < now || until > now+longestQuery, accessDenied("Request has expired"))
+	refuseIf(err != nil || until < now || until > now+longestQuery, "AccessDenied", "Request has expired")
 	var fields []string
 	for name, values := range r.Header {
 		if lower := strings.ToLower(name); strings.HasPrefix(lower, "x-amz-") {
@@ -215,7 +184,7 @@ func (s *server) authenticateVersion2(r *http.Request, query url.Values, path st
 	text := strings.Join([]string{r.Method, r.Header.Get("Content-MD5"), r.Header.Get("Content-Type"), query.Get("Expires"), ""}, "\n") +
 		strings.Join(fields, "") + path
 	mark := "?"
-	for _, name := range subresources {
+	for _, name := range signedParameters {
 		if query.Has(name) {
 			text += mark + strings.TrimSuffix(name+"="+query.Get(name), "=")
 			mark = "&"
@@ -224,7 +193,7 @@ func (s *server) authenticateVersion2(r *http.Request, query url.Values, path st
 	h := hmac.New(sha1.New, []byte(c.secret))
 	io.WriteString(h, text)
 	signature := base64.StdEncoding.EncodeToString(h.Sum(nil))
-	refuseIf(!hmac.Equal([]byte(signature), []byte(query.Get("Signature"))), wrongSignature("the request"))
+	refuseIf(!hmac.Equal([]byte(signature), []byte(query.Get("Signature"))), "SignatureDoesNotMatch", "the signature of the request is another one")
 	c.payload = unsignedPayload
 	return c
 }
@@ -242,15 +211,17 @@ func openKeys(name string) (*keyFile, error) {
 	return k, k.read()
 }
 
-// The secret of an access key's id. Where a changed file can't be read, the keys stay that were read last.
-func (k *keyFile) secret(id string) (string, bool) {
+// Who has an access key; nothing is known of the signature yet. Where a changed file can't be read, the keys stay that were read last.
+func (k *keyFile) caller(id string) *caller {
 	k.mu.Lock()
 	defer k.mu.Unlock()
 	if err := k.read(); err != nil {
 		log.Print(err)
 	}
 	secret, ok := k.secrets[id]
-	return secret, ok
+	refuseIf(!ok, "InvalidAccessKeyId", "there is no such access key")
+	tenant, _, _ := strings.Cut(id, "$")
+	return &caller{id: id, tenant: tenant, secret: secret}
 }
 
 // Reads lines 'tenant$name secret', if the file has changed; empty ones and those that begin with # are passed over.

@@ -52,13 +52,14 @@ type standin struct {
 	mu       sync.Mutex
 	tenants  map[string]*storedTenant
 	minPart  int
-	before   func(r *http.Request) // called before each request is applied
+	before   func(r *http.Request)     // called before each request is applied
+	refusal  func(r *http.Request) int // where it gives one, the request is refused
 	requests int
 }
 
 var standinSecrets = map[string]string{"green$k1": "greensecret", "blue$k1": "bluesecret"}
 
-var codes = map[int][2]string{1: {"400", "BadRequest"}, 2: {"501", "NotImplemented"}, 3: {"411", "MissingContentLength"}, 4: {"400", "EntityTooLarge"}, 5: {"403", "AccessDenied"}, 6: {"403", "InvalidAccessKeyId"}, 10: {"400", "InvalidArgument"}, 11: {"400", "MalformedJSON"}, 12: {"404", "NoSuchBucket"}, 13: {"404", "NoSuchKey"}, 14: {"404", "NoSuchVersion"}, 15: {"404", "NoSuchUpload"}, 16: {"405", "MethodNotAllowed"}, 17: {"409", "BucketAlreadyOwnedByYou"}, 18: {"409", "BucketNotEmpty"}, 20: {"404", "NoSuchLifecycleConfiguration"}, 21: {"400", "InvalidPart"}, 22: {"400", "InvalidPartOrder"}, 23: {"400", "EntityTooSmall"}, 25: {"416", "InvalidRange"}, 26: {"400", "BadDigest"}, 28: {"400", "InvalidRequest"}}
+var codes = map[int][2]string{1: {"400", "BadRequest"}, 2: {"501", "NotImplemented"}, 3: {"411", "MissingContentLength"}, 4: {"400", "EntityTooLarge"}, 5: {"403", "AccessDenied"}, 6: {"403", "InvalidAccessKeyId"}, 7: {"400", "InvalidURI"}, 8: {"400", "InvalidBucketName"}, 9: {"400", "KeyTooLongError"}, 10: {"400", "InvalidArgument"}, 11: {"400", "MalformedJSON"}, 12: {"404", "NoSuchBucket"}, 13: {"404", "NoSuchKey"}, 14: {"404", "NoSuchVersion"}, 15: {"404", "NoSuchUpload"}, 16: {"405", "MethodNotAllowed"}, 17: {"409", "BucketAlreadyOwnedByYou"}, 18: {"409", "BucketNotEmpty"}, 20: {"404", "NoSuchLifecycleConfiguration"}, 21: {"400", "InvalidPart"}, 22: {"400", "InvalidPartOrder"}, 23: {"400", "EntityTooSmall"}, 24: {"403", "QuotaExceeded"}, 25: {"416", "InvalidRange"}, 26: {"400", "BadDigest"}, 27: {"400", "IncompleteBody"}, 28: {"400", "InvalidRequest"}, 29: {"500", "CounterExhausted"}, 30: {"500", "ClockOutOfRange"}, 31: {"503", "ServiceUnavailable"}}
 
 const maxBody = 16 << 20
 
@@ -572,7 +573,11 @@ func (s *standin) serve(conn net.Conn) {
 		if s.before != nil {
 			s.before(r)
 		}
-		a = s.handle(r, body)
+		if s.refusal != nil && s.refusal(r) != 0 {
+			a = refuse(s.refusal(r), "allow: GET, HEAD", "content-range: bytes */7")
+		} else {
+			a = s.handle(r, body)
+		}
 		s.mu.Unlock()
 	}
 	var out bytes.Buffer
@@ -591,4 +596,11 @@ func (s *standin) serve(conn net.Conn) {
 		out.Write(a.body)
 	}
 	conn.Write(out.Bytes())
+}
+
+// Changes the stand-in between two requests.
+func (s *standin) set(change func()) {
+	s.mu.Lock()
+	defer s.mu.Unlock()
+	change()
 }

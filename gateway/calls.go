@@ -1,0 +1,322 @@
+package main
+
+import (
+	"encoding/hex"
+	"math"
+	"net/http"
+	"net/url"
+	"strconv"
+	"strings"
+	"time"
+	"unicode/utf8"
+)
+
+// The name of a bucket's rule for uploads that are left unfinished, as bucketd's has none.
+const uploadsRule = "uploads"
+
+func (c *call) createBucket() {
+	c.readBody(greatestXML, 0) // it names a region: there is one alone
+	c.tell("Location", c.path())
+	c.done(200, c.request("PUT"))
+}
+
+func (c *call) headBucket() {
+	c.tell("x-amz-bucket-region", c.server.region)
+	c.done(200, c.request("HEAD"))
+}
+
+// Deletes a bucket, and the notes that crashes left of it.
+func (c *call) deleteBucket() {
+	c.own.buckets.Lock()
+	defer c.own.buckets.Unlock()
+	c.need(c.request("DELETE"))
+	for c.server.meta {
+		r := c.ask(object{bucket: hiddenBucket}.request("GET", "list-type", "2", "prefix", c.bucket+"/"))
+		if r.refusal != 0 || len(r.document().Contents) == 0 {
+			break
+		}
+		for _, it := range r.document().Contents {
+			c.need(object{bucket: hiddenBucket, key: it.Key}.request("DELETE"))
+		}
+	}
+	c.send(204, nil)
+}
+
+func (c *call) getLocation() {
+	c.need(c.request("HEAD"))
+	if c.server.region == "us-east-1" { // S3's first region has no name there
+		c.sendDocument("LocationConstraint", document{})
+	} else {
+		c.sendDocument("LocationConstraint", c.server.region)
+	}
+}
+
+func (c *call) listBuckets() {
+	members := c.translated(c.need(c.request("GET")))
+	members["Buckets"], members["Owner"] = document{"Buckets": members["Buckets"]}, c.owner()
+	c.sendDocument("ListAllMyBucketsResult", members)
+}
+
+// A bucket and its objects are their tenant's alone.
+func (c *call) getACL() {
+	c.need(object{c.bucket, c.key, c.query.Get("versionId")}.request("HEAD"))
+	const grantee = `Grantee xmlns:xsi="http://www.w3.org/2001/XMLSchema-instance" xsi:type="CanonicalUser"`
+	grant := document{grantee: c.owner(), "Permission": "FULL_CONTROL"}
+	c.sendDocument("AccessControlPolicy", document{"Owner": c.owner(), "AccessControlList": document{"Grant": grant}})
+}
+
+func (c *call) putVersioning() {
+	var v versioningDocument
+	c.readDocument(&v)
+	refuseIf(v.MfaDelete == "Enabled", "NotImplemented", "MfaDelete is not there")
+	c.done(200, c.request("PUT", "versioning", "").with(document{"Status": v.Status}))
+}
+
+// A bucket's rule for uploads that are left unfinished is all that is there of lifecycles.
+func (c *call) putLifecycle() {
+	var v lifecycleDocument
+	c.readDocument(&v)
+	refuseIf(len(v.Rules) == 0, "MalformedXML", "no rule is named")
+	it := v.Rules[0]
+	isOther := len(v.Rules) > 1 || it.AbortIncompleteMultipartUpload == nil || it.Prefix+it.Filter.Prefix != "" || len(it.Filter.Other)+len(it.Other) > 0
+	refuseIf(isOther, "NotImplemented", "a lifecycle but one rule of AbortIncompleteMultipartUpload for the whole bucket is not there")
+	rule := document{"AbortIncompleteMultipartUpload": it.AbortIncompleteMultipartUpload, "Status": it.Status}
+	c.done(200, c.request("PUT", "lifecycle", "").with(document{"Rules": []any{rule}}))
+}
+
+// Parameters of listings that bucketd takes under the same names.
+var pageParameters = strings.Fields("prefix delimiter max-keys max-uploads max-parts key-marker version-id-marker upload-id-marker part-number-marker")
+
+// A listing's request.
+func (c *call) page(selector, value string) *hostRequest {
+	q := c.request("GET", selector, value)
+	for _, name := range pageParameters {
+		if text := c.query.Get(name); text != "" {
+			q.query.Set(name, text)
+		}
+	}
+	if id := c.query.Get("upload-id-marker"); id != "" {
+		q.query.Set("upload-id-marker", plainUpload(id))
+	}
+	return q
+}
+
+func (c *call) sendListing(root, selector string) {
+	c.sendDocument(root, c.translated(c.need(c.page(selector, ""))))
+}
+
+// ListObjects of both versions: bucketd's token is the name that a page begins after, in hexadecimal.
+func (c *call) listObjects() {
+	q, isFirst := c.page("list-type", "2"), c.query.Get("list-type") != "2"
+	token := or(c.query.Get("continuation-token"), hex.EncodeToString([]byte(c.query.Get("start-after"))))
+	if isFirst {
+		token = hex.EncodeToString([]byte(c.query.Get("marker")))
+	}
+	q.query.Set("continuation-token", token)
+	members := c.translated(c.need(q))
+	if next, ok := members["NextContinuationToken"].(string); ok && isFirst {
+		name, _ := hex.DecodeString(next)
+		members["NextMarker"] = string(name)
+		delete(members, "NextContinuationToken")
+	}
+	c.sendDocument("ListBucketResult", members)
+}
+
+// Deletes up to 1000 objects or versions; each has an error of its own.
+func (c *call) deleteObjects() {
+	var v deleteDocument
+	c.readDocument(&v)
+	refuseIf(len(v.Objects) == 0 || len(v.Objects) > 1000, "MalformedXML", "1 to 1000 keys are deleted at once")
+	c.need(c.request("HEAD"))
+	var deleted, failed []any
+	for _, it := range v.Objects {
+		var r *hostResponse
+		told := document{"Key": it.Key, "VersionId": it.VersionId}
+		if e := try(func() { r = c.deleteOne(it.Key, it.VersionId) }); e != nil {
+			told["Code"], told["Message"] = e.code, e.message
+			failed = append(failed, told)
+		} else if !v.Quiet {
+			if r.head.Get("x-amz-delete-marker") != "" {
+				told["DeleteMarker"], told["DeleteMarkerVersionId"] = true, r.version()
+			}
+			deleted = append(deleted, told)
+		}
+	}
+	c.sendDocument("DeleteResult", document{"Deleted": deleted, "Error": failed})
+}
+
+// Tells the version that was answered, and the ETag of a checksum where there is one.
+func (c *call) tellVersion(r *hostResponse, checksum string) {
+	c.tell("x-amz-version-id", r.head.Get("x-amz-version-id"), "x-amz-delete-marker", r.head.Get("x-amz-delete-marker"))
+	if checksum != "" {
+		c.tell("ETag", etag(checksum))
+	}
+}
+
+// Asks bucketd, and tells no more than that it was done.
+func (c *call) done(status int, q *hostRequest) {
+	r := c.need(q)
+	c.tellVersion(r, r.checksum())
+	c.send(status, nil)
+}
+
+func (c *call) putObject() {
+	meta, b := metadata(c.r.Header), c.readBody(c.server.maxPut, c.server.piece)
+	q := c.request("PUT").sending(b)
+	if b.size > c.server.piece {
+		q = c.putPieces(b)
+	}
+	defer c.hold(c.key)()
+	c.checkWrite()
+	c.keepVersion(c.need(q), meta)
+	c.send(200, nil)
+}
+
+// Puts a body of more than a piece as the parts of an upload; gives the request that completes it.
+func (c *call) putPieces(b *body) *hostRequest {
+	upload := c.need(c.request("POST", "uploads", "")).document().UploadId
+	c.atEnd(func() {
+		if c.status >= 300 { // it wasn't completed
+			c.ask(c.request("DELETE", "uploadId", upload))
+		}
+	})
+	var parts []part
+	for at := int64(0); at < b.size; at += c.server.piece {
+		number := len(parts) + 1
+		q := c.request("PUT", "uploadId", upload, "partNumber", strconv.Itoa(number)).sending(b)
+		q.from, q.to = at, min(b.size, at+c.server.piece)
+		parts = append(parts, part{c.need(q).checksum(), number})
+	}
+	return c.completion(upload, parts)
+}
+
+// part is one that an upload is completed with.
+type part struct {
+	ChecksumSHA256 string
+	PartNumber     int
+}
+
+func (c *call) completion(upload string, parts []part) *hostRequest {
+	return c.request("POST", "uploadId", upload).with(document{"Parts": parts})
+}
+
+func (c *call) beginUpload() {
+	meta, r := metadata(c.r.Header), c.need(c.request("POST", "uploads", ""))
+	if at, err := time.Parse(time.RFC3339, r.head.Get("x-amz-abort-date")); err == nil {
+		c.tell("x-amz-abort-date", at.Format(http.TimeFormat), "x-amz-abort-rule-id", uploadsRule)
+	}
+	members := c.translated(r)
+	if c.server.meta {
+		members["UploadId"] = joinUpload(members["UploadId"].(string), meta)
+	}
+	c.sendDocument("InitiateMultipartUploadResult", members)
+}
+
+func (c *call) partOf(b *body) *hostRequest {
+	return c.request("PUT", "uploadId", c.upload(), "partNumber", c.query.Get("partNumber")).sending(b)
+}
+
+func (c *call) listParts() {
+	members := c.translated(c.need(c.page("uploadId", c.upload())))
+	members["UploadId"] = c.query.Get("uploadId")
+	c.sendDocument("ListPartsResult", members)
+}
+
+func (c *call) completeUpload() {
+	var v completeDocument
+	c.readDocument(&v)
+	refuseIf(len(v.Parts) == 0, "MalformedXML", "no part is named")
+	var parts []part
+	for _, it := range v.Parts {
+		checksum := checksumOf(it.ETag)
+		isOther := checksum == "" || it.ChecksumSHA256 != "" && it.ChecksumSHA256 != checksum
+		refuseIf(isOther, "InvalidPart", "an ETag or checksum is that of no part here")
+		parts = append(parts, part{checksum, it.PartNumber})
+	}
+	defer c.hold(c.key)()
+	c.checkWrite()
+	r := c.need(c.completion(c.upload(), parts))
+	c.keepVersion(r, metadataOf(c.query.Get("uploadId")))
+	members := c.translated(r)
+	members["Location"] = c.path()
+	c.sendDocument("CompleteMultipartUploadResult", members)
+}
+
+// What x-amz-copy-source names: a bucket and a key, percent-encoded together or each, and perhaps a version.
+func (c *call) source() object {
+	text, version, _ := strings.Cut(strings.TrimPrefix(c.r.Header.Get("x-amz-copy-source"), "/"), "?versionId=")
+	path, err := url.PathUnescape(text)
+	bucket, key, _ := strings.Cut(strings.TrimPrefix(path, "/"), "/")
+	isWell := err == nil && isBucketName(bucket) && key != "" && len(key) <= longestKey && utf8.ValidString(key) && isPrintable(version)
+	refuseIf(!isWell, "InvalidArgument", "x-amz-copy-source is of another form")
+	return object{bucket, key, version}
+}
+
+// Looks at the source of a copy, and at the conditions on it.
+func (c *call) lookAtSource(o object) (f *found) {
+	if e := try(func() { f = c.look(o, o.request("HEAD"), false) }); e != nil {
+		refuseIf(e.code == "MethodNotAllowed", "InvalidRequest", "the source is a delete marker")
+		panic(e)
+	}
+	c.checkConditions("X-Amz-Copy-Source-", f.details, "PreconditionFailed")
+	return f
+}
+
+func (c *call) copyObject() {
+	o, meta := c.source(), metadata(c.r.Header)
+	defer c.hold(c.key)()
+	c.checkWrite()
+	f := c.lookAtSource(o)
+	if !strings.EqualFold(c.r.Header.Get("x-amz-metadata-directive"), "REPLACE") {
+		meta = f.metadata()
+	}
+	from := o.path()
+	if o.version != "" {
+		from += "?versionId=" + percentEncode(o.version, false)
+		c.tell("x-amz-copy-source-version-id", o.version)
+	}
+	q := c.request("PUT")
+	q.fields = []string{"x-amz-copy-source: " + from}
+	r := c.need(q)
+	refuseIf(r.document().ChecksumSHA256 != f.checksum, "SlowDown", "the source was overwritten meanwhile")
+	c.keepVersion(r, meta)
+	c.sendDocument("CopyObjectResult", c.translated(r))
+}
+
+// Puts a part that is another object or a range of one.
+func (c *call) copyPart() {
+	o, wanted := c.source(), c.r.Header.Get("x-amz-copy-source-range")
+	first, last, isRanged := parseRange(wanted)
+	refuseIf(wanted != "" && (!isRanged || first < 0 || last == math.MaxInt64), "InvalidArgument", "x-amz-copy-source-range is not bytes=FIRST-LAST")
+	f := c.lookAtSource(o)
+	first, last = rangeOf(first, last, f.size, isRanged)
+	refuseIf(last-first >= c.server.piece, "EntityTooLarge", "a part that is copied has more bytes than bucketd takes at once")
+	b := c.newBody(last - first + 1)
+	next := c.pieces(o, f, first, last)
+	writePieces(b, next(), next)
+	r := c.need(c.partOf(b))
+	c.sendDocument("CopyPartResult", document{"LastModified": time.Now().UTC().Format(time.RFC3339), "ChecksumSHA256": r.checksum()})
+}
+
+func (c *call) deleteObject() {
+	c.tellVersion(c.deleteOne(c.key, c.query.Get("versionId")), "")
+	c.send(204, nil)
+}
+
+func (c *call) deleteOne(key, version string) *hostResponse {
+	refuseIf(len(key) > longestKey, "KeyTooLongError", "a key has at most 1024 bytes")
+	refuseIf(key == "" || !utf8.ValidString(key), "InvalidArgument", "there can be no such key")
+	defer c.hold(key)()
+	if c.key != "" {
+		c.checkWrite()
+	}
+	o := object{c.bucket, key, version}
+	r := c.need(o.request("DELETE"))
+	if version != "" {
+		c.own.forget(o)
+	}
+	if version != "" || r.version() == nullVersion {
+		c.forgetNote(o)
+	}
+	return r
+}
