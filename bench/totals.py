@@ -21,7 +21,7 @@ NOW = 1_700_000_000
 FEW, MORE = 10, 60
 OBJECTS = (20, 10_000)
 BLOCKS, EACH = 100_000, 100
-SWEEPS = 5
+USAGES, SWEEPS = 50, 1000
 COPIES = 7
 GREATEST_RATIO = 1.25
 
@@ -38,10 +38,15 @@ def instructions(program, objects, last):
         return (many - few) / MORE
 
 
+def milliseconds(program, first, event, count):
+    """Those of one event among so many, where a script has others before it; the program's end takes as long in both runs."""
+    few, many = (answered(program, first, [line(event)] * times) for times in (1, 1 + count))
+    return (many[2] - few[2]) / 1000 / count, many[0]
+
+
 def usage_milliseconds(program):
     first = [line({"at": NOW, "http": text}) for text in [request("PUT", *KEY, "/plans", ""), *puts("k", OBJECTS[-1], 16)]]
-    last = [line({"at": NOW, "http": request("GET", *KEY, "/?usage")})] * 100
-    return answered(program, tenant("green") + first, last)[2] / 1000 / len(last)
+    return milliseconds(program, tenant("green") + first, {"at": NOW, "http": request("GET", *KEY, "/?usage")}, USAGES)[0]
 
 
 def tenant(name):
@@ -58,10 +63,10 @@ def sweep_milliseconds(program):
         key = (f"t{number}$k1", KEY[1])
         bodies = [("PUT", "/plans", ""), *(("PUT", f"/plans/{n}", f"{number} {n}") for n in range(EACH))]
         first += tenant(f"t{number}") + [line({"at": NOW, "http": request(method, *key, path, body)}) for method, path, body in bodies]
-    text, _, spent = answered(program, first, [line({"at": NOW, "op": "sweep", "limit": 1000})] * SWEEPS)
-    if text.count(b"sweep uploads 0 blocks 0 complete\n") != SWEEPS:
+    spent, text = milliseconds(program, first, {"at": NOW, "op": "sweep", "limit": 1000}, SWEEPS)
+    if text.count(b"sweep uploads 0 blocks 0 complete\n") != SWEEPS + 1:
         sys.exit(f"a sweep found something: {text[-300:]}")
-    return spent / 1000 / SWEEPS
+    return spent
 
 
 def copy_milliseconds(program):
@@ -77,7 +82,7 @@ def copy_milliseconds(program):
 def told(name, found):
     """Prints a row: what each program takes, and how many times the earlier one's that of the later is."""
     ratio = f"{found[0] / found[1]:>8.2f}" if len(found) > 1 else ""
-    print(name.ljust(54) + "".join(f"{it:>16,.2f}" for it in found) + ratio, flush=True)
+    print(name.ljust(54) + "".join(f"{it:>16,.3f}" for it in found) + ratio, flush=True)
     return found[0]
 
 
