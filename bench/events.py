@@ -29,13 +29,13 @@ def answered(program, first, last):
     process = subprocess.Popen([program, "script"], stdin=subprocess.PIPE, stdout=subprocess.PIPE)
     feed = threading.Thread(target=lambda: (process.stdin.write(script), process.stdin.close()))
     feed.start()
-    text, begun = bytearray(), None
+    text, begun, ended = bytearray(), None, 0.0
     while piece := os.read(process.stdout.fileno(), 1 << 16):
         seen = max(0, len(text) - len(MARK))
         text += piece
+        ended = time.perf_counter()  # the program's own end takes longer the more its host has
         if begun is None and text.find(MARK, seen) >= 0:
-            begun = time.perf_counter()
-    ended = time.perf_counter()
+            begun = ended
     feed.join()
     if process.wait() != 0 or text.count(MARK) != MARKS:
         sys.exit(f"an event was answered otherwise than it should be: status {process.returncode}, {bytes(text[-300:])}")
