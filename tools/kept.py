@@ -5,6 +5,7 @@ import copy
 import hashlib
 import json
 import sqlite3
+from urllib.parse import quote
 
 BLOCK = 65536
 # The least size of a part but the last, with which the hosts are made.
@@ -97,12 +98,20 @@ def document(server, tenant, target):
     return json.loads(answer.body)
 
 
+def pages_of_versions(server, tenant, bucket):
+    target = f"/{bucket}?versions"
+    while target:
+        page = document(server, tenant, target)
+        yield from page["Versions"]
+        target = None
+        if page["IsTruncated"]:
+            key, version = quote(page["NextKeyMarker"], safe=""), page["NextVersionIdMarker"]
+            target = f"/{bucket}?versions&key-marker={key}&version-id-marker={version}"
+
+
 def read_versions(server, tenant, bucket):
-    page = document(server, tenant, f"/{bucket}?versions")
-    if page["IsTruncated"]:
-        raise RuntimeError("more versions than a page has")
     found = {}
-    for it in page["Versions"]:
+    for it in pages_of_versions(server, tenant, bucket):
         told = None
         if not it["DeleteMarker"]:
             answer = server.ask(tenant, "GET", f"/{bucket}/{it['Key']}?versionId={it['VersionId']}")
