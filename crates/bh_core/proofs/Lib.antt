@@ -2,5 +2,4 @@ pub mod Choosing
 pub mod Completing
 pub mod Cutting
 pub mod Finding
-pub mod Leaving
 pub mod Writing

@@ -1,5 +1,5 @@
 -- Steps of the machine as operations, and refusals with what they tell.
-use Rattle.std.proofs.Common.{◌≡◌, ℕ, Bool, List, map, Option, Result, Ok, Err, refl, ap, sym, ◌∙◌, option_map, ◌≤◌, ◌&&◌, ℤ, pos, negsuc, true, false, true≢false, is_ok, nat_le, subst, if◌then◌else◌}
+use Rattle.std.proofs.Common.{◌≡◌, ℕ, Bool, List, map, Option, Result, Ok, Err, refl, ap, sym, ◌∙◌, option_map, ◌≤◌, ◌&&◌, ℤ, pos, negsuc, true, false, true≢false, is_ok, nat_le, subst, OnOk, if◌then◌else◌}
 use Rattle.std.specs.Result.{result_map_both}
 use Rattle.std.proofs.lemmas.Simd.{map-map}
 use Rattle.bh_types.specs.Limits.{HostLimits}
@@ -44,6 +44,10 @@ pub unless_told : {X : Type 0} (made : X → Told) (outcome : Result X (StepErro
 unless_told made (Ok x) P h = h
 unless_told made (Err (Refused r)) P h = h
 unless_told made (Err (Failed trouble)) P h = tt
+
+pub on_ok_told : {X : Type 0} (made : X → Told) (outcome : Result X (StepError Refusal)) (P : Type 0) → OnOk outcome P → OnOk (result_map_both made step_rejected outcome) P
+on_ok_told made (Ok x) P h = h
+on_ok_told made (Err e) P h = tt
 
 pub carries_told : {X : Type 0} (t : Octets) (step : Option Machine → Result Outcome Refusal) (old new : Tables) (shown : X → Answer) (made : X → Told)
     → ((x : X) → answer_view (made x) ≡ shown x) → (outcome : Result X (StepError Refusal)) → Carries shown t step old new outcome

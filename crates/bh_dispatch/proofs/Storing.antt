@@ -25,6 +25,8 @@ use Rattle.bh_schema.specs.Layer.{IsStateClean}
 use Rattle.bh_schema.specs.Storage.{seen_in, IsIntact, IsOpen, seen, left, Keeps}
 use Rattle.bh_schema.specs.Working.{tables_at, IsWorking, StillWorking, StillWorkingBy}
 use Rattle.bh_schema.proofs.Storing.{AreBoth, both, inside_of, shows_in, holds_seen, same_limits}
+use Rattle.bh_operation.specs.declared.operation.Operation.{Operation}
+use Rattle.bh_dispatch.specs.Stored.{StoresBody}
 use Rattle.bh_dispatch.specs.declared.storage.HostStorage.{HostStorage}
 
 module _ (digest : Octets → Octets) (l : HostLimits) (s : State) where
@@ -178,3 +180,16 @@ pub by_any : {X E : Type 0} (digest : Octets → Octets) (old new : State) (resu
 by_any digest old new (Ok x) h = λ clean. h clean digest
 by_any digest old new (Err (Refused r)) h = λ clean. h clean digest
 by_any digest old new (Err (Failed trouble)) h = tt
+
+-- ---- what an operation stores of the bytes that are sent with it
+
+module _ (digest : Octets → Octets) (size : ℕ) (body : Octets) (old new : State) where
+  abbrev StoredBy : Operation → Type 0
+  StoredBy operation = IsStateClean new → StoresBody digest size body operation (tables_at old) (tables_at new)
+
+  pub stores_its : {X E : Type 0} (result : Result X E) (is own : Operation) → is ≡ own → OnOk result (StoredBy own) → OnOk result (StoredBy is)
+  stores_its result is own same h = subst (λ (x : Operation). OnOk result (StoredBy x)) (sym same) h
+
+  pub stores_none : {X E : Type 0} (result : Result X E) (is own : Operation) → is ≡ own → StoredBy own → OnOk result (StoredBy is)
+  stores_none (Ok x) is own same h = subst StoredBy (sym same) h
+  stores_none (Err e) is own same h = tt

@@ -1,16 +1,18 @@
 ghost use Rattle.std.specs.Option.{option_copied};
-ghost use Rattle.std.specs.Prelude.{◌≡◌, ◌≤◌, option_map};
+ghost use Rattle.std.specs.Prelude.{◌≡◌, ◌≤◌, option_map, OnOk};
 ghost use Rattle.bh_types.specs.Limits.{HostLimits};
 ghost use Rattle.bh_types.specs.Rejections.{plainly};
 ghost use Rattle.bh_machine.specs.Machine.{set_versioning, page_asked, operated, place_asked};
 ghost use Rattle.bh_model.specs.Operations as machine;
 ghost use Rattle.bh_model.specs.Listings.{list_objects, list_versions};
 ghost use Rattle.bh_view.specs.Blocks.{AreDigests};
+ghost use Rattle.bh_view.specs.Bodies.{StoresPieces};
 ghost use Rattle.bh_view.specs.View.{latest_of};
 ghost use Rattle.bh_storage.specs.Answers.{answer_view};
 ghost use Rattle.bh_storage.specs.Calls.{Unless, Carries};
 ghost use Rattle.bh_schema.specs.Connections.{IsClean, tables, StaysWithin, StaysOpen};
 ghost use Rattle.bh_schema.specs.Working.{Works, StillWorks, StillWorksBy};
+ghost use Rattle.bh_dispatch.specs.Stored.{StoresBody};
 
 use crate::{answers, lifecycle, uploads};
 use bh_docs::read_versioning;
@@ -170,6 +172,8 @@ fn put_object<S: Alter, D: Digester>(
     ensures carries { IsClean S.Store connection.new
         → Carries answer_view object.now.tenant.now (λ s. plainly (machine.put_object object.now.at object.now.bucket.now object.now.key.now object.now.bytes.now (option_copied given.entry) s))
         (tables S.Store connection.old) (tables S.Store connection.new) result }
+    ensures blocks { OnOk result (IsClean S.Store connection.new
+        → StoresPieces D.digest_of block_size object.now.bytes.now (tables S.Store connection.old) (tables S.Store connection.new)) }
 {
     answers::stored(objects::put_object(connection, alloc, digester, block_size, object, given))
 }
@@ -413,6 +417,8 @@ fn operate_object<S: Alter, D: Digester>(
     ensures carries { (limits : HostLimits) → IsClean S.Store connection.new
         → Carries answer_view tenant.now (operated limits at body.now operation.now)
         (tables S.Store connection.old) (tables S.Store connection.new) result }
+    ensures blocks { OnOk result (IsClean S.Store connection.new
+        → StoresBody D.digest_of block_size body.now operation.now (tables S.Store connection.old) (tables S.Store connection.new)) }
 {
     match operation {
         Operation::PutObject { object, checksum } => {
@@ -466,6 +472,8 @@ fn operate_upload<S: Alter, D: Digester>(
     ensures carries { IsClean S.Store connection.new
         → Carries answer_view tenant.now (operated limits.now at body.now operation.now)
         (tables S.Store connection.old) (tables S.Store connection.new) result }
+    ensures blocks { OnOk result (IsClean S.Store connection.new
+        → StoresBody D.digest_of block_size body.now operation.now (tables S.Store connection.old) (tables S.Store connection.new)) }
 {
     match operation {
         Operation::CreateMultipartUpload(object) => {
@@ -535,6 +543,8 @@ pub fn operate<S: Alter, D: Digester>(
     ensures carries { IsClean S.Store connection.new
         → Carries answer_view tenant.now (operated limits.now at body.now operation.now)
         (tables S.Store connection.old) (tables S.Store connection.new) result }
+    ensures blocks { OnOk result (IsClean S.Store connection.new
+        → StoresBody D.digest_of block_size body.now operation.now (tables S.Store connection.old) (tables S.Store connection.new)) }
 {
     match operation {
         Operation::ListBuckets

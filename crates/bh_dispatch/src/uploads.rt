@@ -1,11 +1,12 @@
 //! The operations on multipart uploads, as answers of a host's storage.
 ghost use Rattle.std.specs.Option.{option_copied};
-ghost use Rattle.std.specs.Prelude.{◌≡◌, ◌≤◌, option_map};
+ghost use Rattle.std.specs.Prelude.{◌≡◌, ◌≤◌, option_map, OnOk};
 ghost use Rattle.bh_types.specs.Rejections.{plainly};
 ghost use Rattle.bh_machine.specs.Machine.{finish_upload, page_asked, upload_asked};
 ghost use Rattle.bh_model.specs.Listings as listings;
 ghost use Rattle.bh_model.specs.Uploads as machine;
 ghost use Rattle.bh_view.specs.Blocks.{AreDigests};
+ghost use Rattle.bh_view.specs.Bodies.{StoresPieces};
 ghost use Rattle.bh_view.specs.View.{latest_of};
 ghost use Rattle.bh_storage.specs.Answers.{answer_view};
 ghost use Rattle.bh_storage.specs.Calls.{Unless, Carries};
@@ -79,6 +80,8 @@ pub fn put_part<S: Alter, D: Digester>(
         (λ s. plainly (machine.upload_part part.now.at part.now.upload.bucket.now part.now.upload.key.now part.now.upload.upload
         part.now.number part.now.bytes.now (option_copied given.entry) s))
         (tables S.Store connection.old) (tables S.Store connection.new) result }
+    ensures blocks { OnOk result (IsClean S.Store connection.new
+        → StoresPieces D.digest_of block_size part.now.bytes.now (tables S.Store connection.old) (tables S.Store connection.new)) }
 {
     answers::part_stored(parts::put_part(connection, alloc, digester, block_size, part, given))
 }

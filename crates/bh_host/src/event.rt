@@ -5,7 +5,7 @@ ghost use Rattle.bh_http.specs.Views.{view as request_view};
 ghost use Rattle.bh_machine.specs.Machine.{Asked, Commanded, owner_of as owner_of_act};
 ghost use Rattle.bh_machine.specs.Machine as machine;
 ghost use Rattle.bh_model.specs.Runs.{last_reading};
-ghost use Rattle.bh_storage.specs.Calls.{Clean, Within, IsAtRest, IsWorking};
+ghost use Rattle.bh_storage.specs.Calls.{Clean, Within, LeavesSound, IsAtRest, IsWorking};
 ghost use Rattle.bh_tables.specs.Typed.{Tables};
 ghost use Rattle.bh_types.specs.Limits.{HostLimits};
 ghost use Rattle.bh_types.specs.Rejections.{plain};
@@ -239,6 +239,7 @@ fn try_apply<H: Storage>(
     ensures survives { OnOk result (H.IsIntact host.new → (x : Tables) → H.left host.new x → x ≡ (H.seen host.new).now) }
     ensures crash { OnErr result (H.IsIntact host.new → (x : Tables) → H.left host.new x
         → H.left host.old x ⊎ (H.IsOpen host.old × WouldApply (arrival event.now) (H.seen host.old).now x)) }
+    ensures leaves { H.IsIntact host.new → LeavesSound H.IsSound H.left host.old host.new }
     ensures kept { OnErr result (Clean H.IsIntact H.IsOpen host.new → (H.seen host.new).kept ≡ (H.seen host.old).kept) }
 {
     host.begin()?;
@@ -283,6 +284,7 @@ pub fn apply<H: Storage>(alloc: Global, host: &mut H, event: &Event) -> Told
         → (x : Tables) → H.left host.new x → x ≡ (H.seen host.new).now) }
     ensures crash { IfNone result.stamp (H.IsIntact host.new → (x : Tables) → H.left host.new x
         → H.left host.old x ⊎ (H.IsOpen host.old × WouldApply (arrival event.now) (H.seen host.old).now x)) }
+    ensures leaves { H.IsIntact host.new → LeavesSound H.IsSound H.left host.old host.new }
     ensures clock { last_reading < (arrival event.now).reading
         → (result.stamp ≡ None) × (reply_bytes result.reply ≡ clock_text (reply.caller_of (arrival event.now).message))
         × (host.new ≡ host.old) }

@@ -2,7 +2,7 @@
 
 ghost use Rattle.std.specs.Prelude.{◌≡◌, length, map, IfOk, OnErr};
 ghost use Rattle.bh_event.specs.Events.{arrival};
-ghost use Rattle.bh_storage.specs.Calls.{Clean, IsAtRest};
+ghost use Rattle.bh_storage.specs.Calls.{Clean, LeavesSound, IsAtRest};
 ghost use Rattle.bh_host.specs.Answers.{told};
 ghost use Rattle.bh_host.specs.Runs.{HasRunOn, RanOn};
 
@@ -17,7 +17,8 @@ use std::alloc::{AllocError, Global};
 /// A sweep and a report belong to nobody: a sweep removes what is stale or unreferenced, of all tenants, and a report
 /// changes nothing, so that each tenant's answers stay those of its own machine.
 ///
-/// A fault of the store takes nothing from what is said of the events before it.
+/// A fault of the store takes nothing from what is said of the events before it, and what a crash may leave then, unless it
+/// might have been left before the run, is sound.
 pub fn run<H: Storage>(
     alloc: Global,
     host: &mut H,
@@ -30,6 +31,7 @@ pub fn run<H: Storage>(
     ensures limits { (H.seen host.new).limits ≡ (H.seen host.old).limits }
     ensures ran { IfOk result (λ dones. H.IsIntact host.new
         → RanOn H.IsOpen H.seen H.left (map arrival events.now) (map told dones.items) host.old host.new) }
+    ensures leaves { H.IsIntact host.new → LeavesSound H.IsSound H.left host.old host.new }
     ensures alone { IfOk result (λ dones. H.IsIntact host.new
         → HasRunOn H.IsOpen H.seen (map arrival events.now) (map told dones.items) host.old host.new) }
     ensures count { IfOk result (λ dones. length dones.items ≡ length events.now) }

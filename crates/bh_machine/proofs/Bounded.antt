@@ -1,132 +1,62 @@
--- That no step takes a tenant above the greatest quota.
-use Rattle.std.proofs.Common.{ℕ, List, [], ◌∷◌, length, map, Option, option_map, Result, Ok, Err}
-use Rattle.std.specs.Prelude.{ok_or}
+-- That no step takes a tenant above its quota, or above the greatest one.
+use Rattle.std.proofs.Common.{ℕ, List, [], ◌∷◌, Option, Result, Ok, Err, arith}
 use Rattle.std.specs.Result.{IfOk}
 use Rattle.bh_types.specs.Limits.{HostLimits}
-use Rattle.bh_types.specs.Names.{is_tenant_name}
-use Rattle.bh_types.specs.Outcomes.{◌>>=◌, require}
-use Rattle.bh_types.specs.Rejections.{plain, plainly}
-use Rattle.bh_types.specs.declared.id.UploadId.{UploadId}
+use Rattle.bh_types.specs.Rejections.{plainly}
 use Rattle.bh_types.specs.declared.refusal.Refusal.{Refusal}
-use Rattle.bh_types.specs.declared.refusal.Refusal.TheVariants.{InvalidAccessKeyId, InvalidName, NoSuchLifecycleConfiguration}
-use Rattle.bh_types.specs.declared.wanted.Wanted.{Wanted}
-use Rattle.bh_docs.specs.Requests.{versioning_of, lifecycle_of, complete_of}
 use Rattle.bh_event.specs.Events.{Order, AddTenant, SetQuota, AddKey, RemoveKey, ShowUsage}
-use Rattle.bh_http.specs.Credentials.{key_given, secret_given}
-use Rattle.bh_http.specs.Views.{Taken}
-use Rattle.bh_model.specs.Credentials.{authenticate}
-use Rattle.bh_model.specs.Listings.{objects_listed, versions_listed, uploads_listed, parts_listed, list_objects, list_versions, list_uploads, list_parts}
-use Rattle.bh_model.specs.Operations.{Outcome, added_tenant, tenant_bucket, tell_usage, wanted_version, planned, create_bucket, head_bucket, delete_bucket, get_versioning, get_lifecycle, delete_lifecycle, put_object, copy_object, get_object, head_object, delete_object}
-use Rattle.bh_model.specs.Uploads.{create_upload, upload_part, abort_upload}
-use Rattle.bh_model.specs.QuotaLaws.{IsBounded}
-use Rattle.bh_model.specs.Runs.{solo_state}
+use Rattle.bh_model.specs.Operations.{Outcome, add_tenant, set_quota}
+use Rattle.bh_model.specs.QuotaLaws.{FitsQuota, UsesNoMore, IsBounded}
+use Rattle.bh_model.specs.Runs.{purged_tenant, settled, solo_state}
 use Rattle.bh_model.specs.State.{Octets, State, absent}
-use Rattle.bh_operation.specs.Operations.{operation}
 use Rattle.bh_operation.specs.declared.operation.Operation.{Operation}
-use Rattle.bh_operation.specs.declared.operation.Operation.TheVariants as op
-use Rattle.bh_model.proofs.BoundLemmas.{used_stays_bounded, steps_stay_bounded}
-use Rattle.bh_machine.specs.Machine.{Act, Act.Asked, Act.Commanded, page_asked, place_asked, upload_asked, naming, operated, requested, asked, ordered, change, step, set_versioning, set_lifecycle, finish_upload}
-use Rattle.bh_machine.specs.Bounded.{StepsStayBounded, RunsStayBounded}
+use Rattle.bh_model.proofs.BoundLemmas.{KeepsBound, changes_fit, settings_use_no_more, purged_fits, fits_later, purge_uses_no_more, changes_keep_bound, settings_keep_bound, used_stays_bounded}
+use Rattle.bh_machine.specs.Machine.{Act, Act.Asked, Act.Commanded, operated, ordered, change, step}
+use Rattle.bh_machine.specs.Bounded.{StepsKeepQuota, StepsStayBounded, RunsStayBounded}
+use Rattle.bh_machine.proofs.Changing.{plainly_holds, operated_as, asked_as, key_added_as, key_removed_as, usage_shown_as, ordered_as, settled_as, step_as}
 
-abbrev Holds : {E : Type 0} → Result Outcome E → Type 0
-Holds r = IfOk r (λ o. IsBounded o.1)
+-- ---- against the quota
 
-plainly_holds : (r : Result Outcome Refusal) → Holds r → Holds (plainly r)
-plainly_holds (Ok o) h = h
-plainly_holds (Err e) h = tt
+module _ (limits : HostLimits) (now : ℕ) (s : Option State) where
+  abbrev purged : Option State
+  purged = purged_tenant s now
 
-then_holds : {X E : Type 0} (r : Result X E) (F : X → Result Outcome E) → ((x : X) → Holds (F x)) → Holds (r >>= F)
-then_holds (Ok x) F h = h x
-then_holds (Err e) F h = tt
+  fits : (act : Act) → IfOk (change limits now act purged) (λ o. FitsQuota purged o.1) → FitsQuota s (step limits now act s).1
+  fits act h = fits_later s purged (step limits now act s).1 (purged_fits now s) (settled_as FitsQuota changes_fit purged (change limits now act purged) h)
 
-module _ (s : Option State) (bound : IsBounded s) where
-  tells_usage : Holds (tell_usage s)
-  tells_usage = then_holds (added_tenant s) _ (λ t. bound)
+  commanded : (order : Order) → IfOk (ordered order purged) (λ o. FitsQuota purged o.1) → FitsQuota s (step limits now (Commanded order) s).1
+  commanded order h = fits (Commanded order) (plainly_holds FitsQuota changes_fit purged (ordered order purged) h)
 
-  sets_versioning : (bucket body : Octets) → Holds (set_versioning bucket body s)
-  sets_versioning bucket body = then_holds (versioning_of body) _ (λ mode. used_stays_bounded.put_versioning_bounded bucket mode s bound)
+  -- where the quota is set
+  sets : (r : Result Outcome Refusal) → IfOk r (λ o. UsesNoMore purged o.1) → UsesNoMore s (settled purged (plainly r)).1
+  sets (Ok o) h = let less = purge_uses_no_more now s in omega (arith, h, less)
+  sets (Err e) h = purge_uses_no_more now s
 
-  sets_lifecycle : (bucket body : Octets) → Holds (set_lifecycle bucket body s)
-  sets_lifecycle bucket body = then_holds (lifecycle_of body) _ (λ days. used_stays_bounded.put_lifecycle_bounded bucket days s bound)
+pub steps_keep_quota : StepsKeepQuota
+steps_keep_quota limits now (Asked answer) s = fits limits now s (Asked answer) (asked_as FitsQuota changes_fit (purged_tenant s now) limits now answer)
+steps_keep_quota limits now (Commanded (AddTenant tenant quota)) s =
+    sets limits now s (add_tenant tenant quota (purged_tenant s now)) (settings_use_no_more.tenant_added tenant quota (purged_tenant s now))
+steps_keep_quota limits now (Commanded (SetQuota tenant quota)) s =
+    sets limits now s (set_quota tenant quota (purged_tenant s now)) (settings_use_no_more.quota_set tenant quota (purged_tenant s now))
+steps_keep_quota limits now (Commanded (AddKey tenant name secret)) s = commanded limits now s (AddKey tenant name secret) (key_added_as FitsQuota changes_fit (purged_tenant s now) tenant name secret)
+steps_keep_quota limits now (Commanded (RemoveKey tenant name)) s = commanded limits now s (RemoveKey tenant name) (key_removed_as FitsQuota changes_fit (purged_tenant s now) tenant name)
+steps_keep_quota limits now (Commanded (ShowUsage tenant)) s = commanded limits now s (ShowUsage tenant) (usage_shown_as FitsQuota changes_fit (purged_tenant s now) tenant)
 
-  finishes : (limits : HostLimits) (now : ℕ) (bucket key : Octets) (upload : Option UploadId) (body : Octets) → Holds (finish_upload limits now bucket key upload body s)
-  finishes limits now bucket key upload body =
-      then_holds (complete_of body) _ (λ parts. used_stays_bounded.complete_upload_bounded now limits.min_part bucket key upload (map naming parts) s bound)
+-- ---- against the greatest quota
 
-  -- what only tells leaves the state as it is
-  got : (bucket key : Octets) (wanted : Wanted) (range : Option Octets) → Holds (get_object bucket key wanted range s)
-  got bucket key wanted range =
-      then_holds (wanted_version bucket key wanted s) _ (λ f. then_holds (planned range (length f.1.bytes)) _ (λ plan. bound))
+left_bounded : (s : Option State) → IsBounded s → {E : Type 0} (r : Result Outcome E) → IfOk r (λ o. KeepsBound s o.1) → IfOk r (λ o. IsBounded o.1)
+left_bounded s bound (Ok o) h = h bound
+left_bounded s bound (Err e) h = tt
 
-  headed : (bucket key : Octets) (wanted : Wanted) → Holds (head_object bucket key wanted s)
-  headed bucket key wanted = then_holds (wanted_version bucket key wanted s) _ (λ f. bound)
+pub operated_bounded : (s : Option State) → IsBounded s → (limits : HostLimits) (now : ℕ) (body : Octets) (operation : Operation) → IfOk (operated limits now body operation s) (λ o. IsBounded o.1)
+operated_bounded s bound limits now body operation =
+    left_bounded s bound (operated limits now body operation s) (operated_as KeepsBound changes_keep_bound s limits now body operation)
 
-  rule_read : (bucket : Octets) → Holds (get_lifecycle bucket s)
-  rule_read bucket = then_holds (tenant_bucket bucket s) _ (λ f. then_holds (ok_or f.1.days NoSuchLifecycleConfiguration) _ (λ days. bound))
-
-  pub operated_bounded : (limits : HostLimits) (now : ℕ) (body : Octets) (operation : Operation) → Holds (operated limits now body operation s)
-  unfolding operated
-  operated_bounded limits now body op.ListBuckets = bound
-  operated_bounded limits now body (op.CreateBucket bucket) = plainly_holds (create_bucket now bucket s) (used_stays_bounded.create_bucket_bounded now bucket s bound)
-  operated_bounded limits now body (op.HeadBucket bucket) = plainly_holds (head_bucket bucket s) (then_holds (tenant_bucket bucket s) _ (λ f. bound))
-  operated_bounded limits now body (op.DeleteBucket bucket) = plainly_holds (delete_bucket bucket s) (used_stays_bounded.delete_bucket_bounded bucket s bound)
-  operated_bounded limits now body (op.ListObjectsV2 bucket page token) =
-      plainly_holds (list_objects bucket (page_asked page) token s) (then_holds (objects_listed bucket (page_asked page) token s) _ (λ told. bound))
-  operated_bounded limits now body (op.ListObjectVersions bucket page after) =
-      plainly_holds (list_versions bucket (page_asked page) (option_map place_asked after) s) (then_holds (versions_listed bucket (page_asked page) (option_map place_asked after) s) _ (λ told. bound))
-  operated_bounded limits now body (op.ListMultipartUploads bucket page after) =
-      plainly_holds (list_uploads bucket (page_asked page) (option_map upload_asked after) s) (then_holds (uploads_listed bucket (page_asked page) (option_map upload_asked after) s) _ (λ told. bound))
-  operated_bounded limits now body (op.GetBucketVersioning bucket) = plainly_holds (get_versioning bucket s) (then_holds (tenant_bucket bucket s) _ (λ f. bound))
-  operated_bounded limits now body (op.PutBucketVersioning bucket) = plainly_holds (set_versioning bucket body s) (sets_versioning bucket body)
-  operated_bounded limits now body (op.GetLifecycle bucket) = plainly_holds (get_lifecycle bucket s) (rule_read bucket)
-  operated_bounded limits now body (op.PutLifecycle bucket) = plainly_holds (set_lifecycle bucket body s) (sets_lifecycle bucket body)
-  operated_bounded limits now body (op.DeleteLifecycle bucket) = plainly_holds (delete_lifecycle bucket s) (used_stays_bounded.delete_lifecycle_bounded bucket s bound)
-  operated_bounded limits now body (op.PutObject object checksum) =
-      plainly_holds (put_object now object.bucket object.key body checksum s) (used_stays_bounded.put_object_bounded now object.bucket object.key body checksum s bound)
-  operated_bounded limits now body (op.CopyObject object source) =
-      plainly_holds (copy_object now object.bucket object.key source.object.bucket source.object.key source.version s)
-      (used_stays_bounded.copy_object_bounded now object.bucket object.key source.object.bucket source.object.key source.version s bound)
-  operated_bounded limits now body (op.GetObject object version range) = got object.bucket object.key version range
-  operated_bounded limits now body (op.HeadObject object version) = headed object.bucket object.key version
-  operated_bounded limits now body (op.DeleteObject object version) =
-      plainly_holds (delete_object now object.bucket object.key version s) (used_stays_bounded.delete_object_bounded now object.bucket object.key version s bound)
-  operated_bounded limits now body (op.CreateMultipartUpload object) =
-      plainly_holds (create_upload now object.bucket object.key s) (used_stays_bounded.create_upload_bounded now object.bucket object.key s bound)
-  operated_bounded limits now body (op.UploadPart object upload number checksum) =
-      plainly_holds (upload_part now object.bucket object.key upload number body checksum s)
-      (used_stays_bounded.upload_part_bounded now number object.bucket object.key body upload checksum s bound)
-  operated_bounded limits now body (op.ListParts object upload page) =
-      plainly_holds (list_parts object.bucket object.key upload page.size page.after s) (then_holds (parts_listed object.bucket object.key upload page.size page.after s) _ (λ told. bound))
-  operated_bounded limits now body (op.CompleteMultipartUpload object upload) =
-      plainly_holds (finish_upload limits now object.bucket object.key upload body s) (finishes limits now object.bucket object.key upload body)
-  operated_bounded limits now body (op.AbortMultipartUpload object upload) =
-      plainly_holds (abort_upload object.bucket object.key upload s) (used_stays_bounded.abort_upload_bounded object.bucket object.key upload s bound)
-  operated_bounded limits now body op.Usage = plainly_holds (tell_usage s) tells_usage
-
-  requested_bounded : (limits : HostLimits) (now : ℕ) (request : Taken) → Holds (requested limits now request s)
-  requested_bounded limits now request =
-      then_holds (plainly (secret_given request)) _ (λ secret.
-      then_holds (ok_or (key_given request) (plain InvalidAccessKeyId)) _ (λ key.
-      then_holds (plainly (authenticate key secret s)) _ (λ _.
-      then_holds (plainly (operation key.tenant request)) _ (λ asked_for. operated_bounded limits now request.body asked_for))))
-
-  asked_bounded : (limits : HostLimits) (now : ℕ) (answer : Result Taken Refusal) → Holds (asked limits now answer s)
-  asked_bounded limits now (Ok request) = requested_bounded limits now request
-  asked_bounded limits now (Err refusal) = tt
-
-  pub ordered_bounded : (order : Order) → Holds (ordered order s)
-  ordered_bounded (AddTenant tenant quota) = used_stays_bounded.add_tenant_bounded tenant quota s bound
-  ordered_bounded (SetQuota tenant quota) = used_stays_bounded.set_quota_bounded tenant quota s bound
-  ordered_bounded (AddKey tenant name secret) = used_stays_bounded.add_key_bounded tenant name secret s bound
-  ordered_bounded (RemoveKey tenant name) = used_stays_bounded.remove_key_bounded tenant name s bound
-  ordered_bounded (ShowUsage tenant) = then_holds (require (is_tenant_name tenant) InvalidName) _ (λ _. tells_usage)
-
-  change_bounded : (limits : HostLimits) (now : ℕ) (act : Act) → Holds (change limits now act s)
-  change_bounded limits now (Asked answer) = asked_bounded limits now answer
-  change_bounded limits now (Commanded order) = plainly_holds (ordered order s) (ordered_bounded order)
+pub ordered_bounded : (s : Option State) → IsBounded s → (order : Order) → IfOk (ordered order s) (λ o. IsBounded o.1)
+ordered_bounded s bound order = left_bounded s bound (ordered order s) (ordered_as KeepsBound changes_keep_bound s settings_keep_bound order)
 
 pub steps_bounded : StepsStayBounded
-steps_bounded limits now act s bound = steps_stay_bounded (change limits) now act (λ p h. change_bounded p h limits now act) s bound
+steps_bounded limits now act s bound = step_as KeepsBound changes_keep_bound settings_keep_bound limits now act s (used_stays_bounded.purged_bounded now s bound)
 
 from_here : (limits : HostLimits) (s : Option State) (acts : List (ℕ × Act)) → IsBounded s → IsBounded (solo_state (step limits) s acts)
 from_here limits s [] bound = bound

@@ -1,3 +1,5 @@
 pub mod Nameless
 pub mod Refused
+pub mod Changing
 pub mod Bounded
+pub mod NumberLemmas

@@ -31,10 +31,9 @@ use Rattle.bh_http.specs.Fields.{Occurrence, Missing, Once, Repeated}
 use Rattle.bh_http.specs.Refused.{is_reading_refusal}
 use Rattle.bh_http.specs.Views.{Taken}
 use Rattle.bh_http.proofs.Refused.{reads_only}
-use Rattle.bh_model.specs.declared.entries.LookupFault.{LookupFault}
 use Rattle.bh_model.specs.Counting.{counts, can_give, can_number, after_entry, after_delete}
 use Rattle.bh_model.specs.Credentials.{authenticate, secret_of}
-use Rattle.bh_model.specs.Entries.{Version, has_id, lookup, opened, found_named}
+use Rattle.bh_model.specs.Entries.{Version, LookupFault, has_id, lookup, opened, found_named}
 use Rattle.bh_model.specs.FinMaps.{is_empty}
 use Rattle.bh_model.specs.Operations.{Outcome, added_tenant, tenant_bucket, with_bucket, listed, not_found, wanted_version, source_refusal, source_version, out_of_range, planned, tell_usage, create_bucket, head_bucket, delete_bucket, get_versioning, with_object, with_copy, require_quota, put_object, copy_object, get_object, head_object, delete_object, get_lifecycle, delete_lifecycle}
 use Rattle.bh_model.specs.Parts.{Naming, ascends, is_checksum, checked, choice, chosen, are_large, completed}

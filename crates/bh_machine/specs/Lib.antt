@@ -1,3 +1,4 @@
 pub mod Machine
 pub mod Refused
 pub mod Bounded
+pub mod Numbers

@@ -1,5 +1,10 @@
 //! How much a tenant may come to use, each law the contract of a function that does nothing.
-ghost use Rattle.bh_machine.specs.Bounded.{StepsStayBounded, RunsStayBounded};
+ghost use Rattle.bh_machine.specs.Bounded.{StepsKeepQuota, StepsStayBounded, RunsStayBounded};
+
+/// No step of the machine takes a tenant above its quota, and only those that set it change it.
+pub fn steps_keep_quota()
+    ensures { StepsKeepQuota }
+{}
 
 /// No step of the machine takes a tenant above 2^60 bytes.
 pub fn steps_stay_bounded()

@@ -2,10 +2,12 @@ pub mod MapLemmas
 pub mod PurgeLemmas
 pub mod EntryLemmas
 pub mod RunLemmas
-pub mod PartLemmas
 pub mod KeyLemmas
 pub mod ObjectLemmas
 pub mod UploadLemmas
 pub mod UsedLemmas
 pub mod QuotaLemmas
+pub mod Changes
+pub mod IdLemmas
+pub mod RisingLemmas
 pub mod BoundLemmas

@@ -1,9 +1,9 @@
 -- What a map answers whose values are changed or taken out.
-use Rattle.std.proofs.Common.{◌≡◌, Bool, true, false, true≢false, cond, ◌||◌, List, [], ◌∷◌, map, Option, Some, None, is_some, option_map, option_and_then, refl, sym, ap, ◌∙◌, Ordering, Less, Equal, Greater, is_eq, is_lt, T, ◌&&◌, filter, subst}
+use Rattle.std.proofs.Common.{◌≡◌, Bool, true, false, true≢false, cond, ◌||◌, List, [], ◌∷◌, map, Option, Some, None, is_some, option_map, option_and_then, refl, sym, ap, ◌∙◌, Ordering, Less, Equal, Greater, is_eq, is_lt, T, ◌&&◌}
 use Rattle.std.specs.List.{filter_map, cons_option, list_any}
 use Rattle.std.specs.Ordering.{eq_by_cmp}
 use Rattle.std.specs.Cmp.{IsTotalOrder, Equal-is}
-use Rattle.std.specs.FinMap.{FinMap, IsAntisymmetric, entries, from_entries, is_sorted, find, get, get-from_entries, contains_key-keys, same_map}
+use Rattle.std.specs.FinMap.{FinMap, IsAntisymmetric, entries, find, get, get-from_entries, contains_key-keys, same_map}
 use Rattle.std.specs.FinMap.Entries.{below_all}
 use Rattle.bh_model.specs.FinMaps.{adjusted}
 
@@ -77,41 +77,3 @@ module _ {K X : Type 0} (R : K → K → Ordering) where
   pub find_below : (q : K) (es : List (K × X)) → T (below_all R q es) → find R q es ≡ None
   find_below q [] h = refl
   find_below q (e ∷ es) h = ap (λ b. cond b (Some e.1) (find R q es)) (not_tied _ (left _ _ h)) ∙ find_below q es (right _ _ h)
-
-  module _ (total : IsTotalOrder R) (same : IsAntisymmetric R) (p : X → Bool) where
-    abbrev passed : X → Option X
-    passed x = cond (p x) (Some x) None
-
-    -- of entries whose keys rise, those that pass a test of their values
-    find-filter : (q : K) (es : List (K × X)) → T (is_sorted R es) → find R q (filter (λ e. p e.1) es) ≡ option_and_then passed (find R q es)
-    find-filter q [] up = refl
-    find-filter q (e ∷ es) up =
-        let rest : find R q (filter (λ e. p e.1) es) ≡ option_and_then passed (find R q es) = find-filter q es (right _ _ up) in
-        elim (eq_by_cmp R q e.0) as (λ b. eq_by_cmp R q e.0 ≡ b → find R q (cond (p e.1) (e ∷ filter (λ e. p e.1) es) (filter (λ e. p e.1) es)) ≡ option_and_then passed (cond b (Some e.1) (find R q es))) [
-          | true ↦ λ t. elim (p e.1) as (λ b. find R q (cond b (e ∷ filter (λ e. p e.1) es) (filter (λ e. p e.1) es)) ≡ cond b (Some e.1) None) [
-            | true ↦ ap (λ b. cond b (Some e.1) (find R q (filter (λ e. p e.1) es))) t
-            | false ↦ rest ∙ ap (option_and_then passed) (find_below q es (subst (λ k. T (below_all R k es)) (sym (same q e.0 ((Equal-is _).0 t))) (left _ _ up)))
-          ]
-          | false ↦ λ t. elim (p e.1) as (λ b. find R q (cond b (e ∷ filter (λ e. p e.1) es) (filter (λ e. p e.1) es)) ≡ option_and_then passed (find R q es)) [
-            | true ↦ ap (λ b. cond b (Some e.1) (find R q (filter (λ e. p e.1) es))) t ∙ rest
-            | false ↦ rest
-          ]
-        ] refl
-
-    -- so the map of these entries is that of all, with the other values taken out
-    pub from_entries-filter : (es : List (K × X)) → T (is_sorted R es) → from_entries {R = R} (filter (λ e. p e.1) es) ≡ adjusted passed (from_entries es)
-    from_entries-filter es up = same_map total same _ _ (λ q. get-from_entries total _ q ∙ find-filter q es up ∙ sym (get-adjusted total same passed (from_entries es) q ∙ ap (option_and_then passed) (get-from_entries total es q)))
-
-  below_filter : (q : K) (p : K × X → Bool) (es : List (K × X)) → T (below_all R q es) → T (below_all R q (filter p es))
-  below_filter q p [] h = tt
-  below_filter q p (e ∷ es) h = elim (p e) as (λ b. T (below_all R q (cond b (e ∷ filter p es) (filter p es)))) [
-    | true ↦ both _ _ (left _ _ h) (below_filter q p es (right _ _ h))
-    | false ↦ below_filter q p es (right _ _ h)
-  ]
-
-  pub is_sorted-filter : (p : K × X → Bool) (es : List (K × X)) → T (is_sorted R es) → T (is_sorted R (filter p es))
-  is_sorted-filter p [] h = tt
-  is_sorted-filter p (e ∷ es) h = elim (p e) as (λ b. T (is_sorted R (cond b (e ∷ filter p es) (filter p es)))) [
-    | true ↦ both _ _ (below_filter e.0 p es (left _ _ h)) (is_sorted-filter p es (right _ _ h))
-    | false ↦ is_sorted-filter p es (right _ _ h)
-  ]

@@ -1,14 +1,11 @@
 -- To purge twice is to purge at the later moment.
-use Rattle.std.proofs.Common.{◌≡◌, ℕ, ◌≤◌, Bool, true, false, cond, not, T, List, filter, Option, ◌∙◌, nat_cmp, Some, None, option_and_then, refl, sym, ap, arith, le-leb, leb-true, nat_le, nat_lt, ◌*◌, ◌/◌, ◌+◌}
-use Rattle.std.specs.Bool.{passes}
+use Rattle.std.proofs.Common.{◌≡◌, ℕ, ◌≤◌, true, false, cond, Option, nat_cmp, Some, None, option_and_then, refl, sym, ap, arith, le-leb, leb-true, nat_le, nat_lt, ◌*◌, ◌/◌, ◌+◌}
 use Rattle.std.specs.Cmp.{nat_cmp_total}
 use Rattle.std.specs.Cmp.Lexicographic.{nat_list_cmp_total}
 use Rattle.std.specs.FinMap.{nat_cmp-IsAntisymmetric, slice_cmp-IsAntisymmetric}
 use Rattle.bh_model.specs.State.{Upload, State, is_stale, fresh, purged_bucket, purged, stale_before}
 use Rattle.std.proofs.lemmas.Bool.Decides.{nat_tests}
-use Rattle.bh_model.specs.FinMaps.{adjusted}
-use Rattle.bh_model.specs.Shown.{uploads_of, are_in_order}
-use Rattle.bh_model.proofs.MapLemmas.{adjusted_after, from_entries-filter, is_sorted-filter}
+use Rattle.bh_model.proofs.MapLemmas.{adjusted_after}
 
 pub still_stale : (days : Option ℕ) (begun m n : ℕ) → m ≤ n → is_stale days begun m ≡ true → is_stale days begun n ≡ true
 still_stale None begun m n up h = h
@@ -32,23 +29,3 @@ pub state_purged_later : (s : State) (m n : ℕ) → m ≤ n → purged (purged 
 state_purged_later s m n up =
     ap (λ b. record s { buckets = b }) (adjusted_after nat_list_cmp_total (slice_cmp-IsAntisymmetric nat_cmp-IsAntisymmetric) (λ b. Some (purged_bucket m b)) (λ b. Some (purged_bucket n b)) (λ b. Some (purged_bucket n b))
     (λ b. ap (λ u. Some (record b { uploads = u })) (adjusted_after nat_cmp_total nat_cmp-IsAntisymmetric (fresh b.days m) (fresh b.days n) (fresh b.days n) (fresh_later b.days m n up) b.uploads)) s.buckets)
-
-turned : {X : Type 0} (b : Bool) (x y : X) → cond (not b) x y ≡ cond b y x
-turned true x y = refl
-turned false x y = refl
-
-held : (b : Bool) → T b → b ≡ true
-held true h = refl
-held false h = absurd h
-
-abbrev pub is_fresh : Option ℕ → ℕ → ℕ × Upload → Bool
-is_fresh days now e = not (is_stale days e.1.begun now)
-
--- of a list of uploads in order, those that are not stale
-pub uploads_of-filter : (days : Option ℕ) (now : ℕ) (es : List (ℕ × Upload)) → are_in_order es ≡ true → uploads_of (filter (is_fresh days now) es) ≡ adjusted (fresh days now) (uploads_of es)
-uploads_of-filter days now es up =
-    from_entries-filter nat_cmp nat_cmp_total nat_cmp-IsAntisymmetric (λ u. not (is_stale days u.begun now)) es (passes _ up)
-    ∙ ap (λ f. adjusted f (uploads_of es)) (λ i u. turned (is_stale days u.begun now) (Some u) None i)
-
-pub are_in_order-filter : (days : Option ℕ) (now : ℕ) (es : List (ℕ × Upload)) → are_in_order es ≡ true → are_in_order (filter (is_fresh days now) es) ≡ true
-are_in_order-filter days now es up = held _ (is_sorted-filter nat_cmp (is_fresh days now) es (passes _ up))

@@ -9,7 +9,6 @@ use Rattle.bh_types.specs.declared.wanted.Wanted.{Wanted}
 use Rattle.bh_types.specs.declared.wanted.Wanted.TheVariants.{Current, Named, Unknown}
 use Rattle.bh_types.specs.declared.refusal.Refusal.{Refusal}
 use Rattle.bh_types.specs.declared.refusal.Refusal.TheVariants.{NoSuchKey, NoSuchVersion, MethodNotAllowed}
-use Rattle.bh_model.specs.declared.entries.LookupFault.{LookupFault}
 use Rattle.bh_model.specs.State.{Octets, Content, Content.Marker, Content.Body, Entry}
 
 abbrev pub same_id : VersionId → VersionId → Bool
@@ -72,6 +71,11 @@ pub record Version : Type 0 where
   pub moment : ℕ
   pub bytes : Octets
   pub checksum : Octets
+
+-- why a lookup finds no version, and whether a delete marker was met
+pub record LookupFault : Type 0 where
+  pub refusal : Refusal
+  pub marker : Bool
 
 -- nothing was found
 abbrev pub not_found : Refusal → Result Version LookupFault

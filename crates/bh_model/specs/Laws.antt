@@ -16,7 +16,7 @@ use Rattle.bh_types.specs.Checksums.{checksum_text}
 use Rattle.bh_types.specs.AccessKeys.{access_key}
 use Rattle.bh_types.specs.declared.access_key.AccessKeyId.{AccessKeyId}
 use Rattle.bh_model.specs.Credentials.{authenticate}
-use Rattle.bh_model.specs.Operations.{Answer.Stored, Answer.Copied, Answer.Object, add_tenant, set_quota, add_key, remove_key, create_bucket, delete_bucket, put_versioning, put_lifecycle, delete_lifecycle, put_object, source_version, copy_object, get_object, delete_object}
+use Rattle.bh_model.specs.Operations.{Answer.Stored, Answer.Copied, Answer.Object, add_key, remove_key, put_object, source_version, copy_object, get_object}
 use Rattle.bh_model.specs.Runs.{solo, solo_state, step, Follows}
 
 -- to purge, and then at a later moment, is to purge at the later one
@@ -87,29 +87,6 @@ abbrev pub Rises : Option State → Option State → Type 0
 Rises None s = Unit {0}
 Rises (Some s) None = ⊥
 Rises (Some s) (Some t) = AtMost (counts s) (counts t)
-
-abbrev pub AlwaysRises : {X E : Type 0} → (Option State → Result (X × Option State) E) → Type 0
-AlwaysRises change = (s : Option State) → IfOk (change s) (λ o. Rises s o.1)
-
-pub record CountersRise : Type 0 where
-  pub add_tenant_rises : (name : Octets) (quota : ℕ) → AlwaysRises (add_tenant name quota)
-  pub set_quota_rises : (name : Octets) (quota : ℕ) → AlwaysRises (set_quota name quota)
-  pub add_key_rises : (tenant name secret : Octets) → AlwaysRises (add_key tenant name secret)
-  pub remove_key_rises : (tenant name : Octets) → AlwaysRises (remove_key tenant name)
-  pub create_bucket_rises : (moment : ℕ) (name : Octets) → AlwaysRises (create_bucket moment name)
-  pub put_object_rises : (moment : ℕ) (name key bytes : Octets) (given : Option Octets) → AlwaysRises (put_object moment name key bytes given)
-  pub copy_object_rises : (moment : ℕ) (name key source_name source_key : Octets) (wanted : Wanted) → AlwaysRises (copy_object moment name key source_name source_key wanted)
-  pub get_object_rises : (name key : Octets) (wanted : Wanted) (range : Option Octets) → AlwaysRises (get_object name key wanted range)
-  pub delete_object_rises : (moment : ℕ) (name key : Octets) (wanted : Wanted) → AlwaysRises (delete_object moment name key wanted)
-  pub delete_bucket_rises : (name : Octets) → AlwaysRises (delete_bucket name)
-  pub put_versioning_rises : (name : Octets) (mode : BucketState) → AlwaysRises (put_versioning name mode)
-  pub put_lifecycle_rises : (name : Octets) (days : ℕ) → AlwaysRises (put_lifecycle name days)
-  pub delete_lifecycle_rises : (name : Octets) → AlwaysRises (delete_lifecycle name)
-
--- so no counter goes down in a step that purges first and then makes such a change, or is refused
-abbrev pub StepsRise : Type 0 → Type 0 → Type 0 → Type 0
-StepsRise A X E = (change : ℕ → A → Option State → Result (X × Option State) E) (now : ℕ) (act : A)
-    → AlwaysRises (change now act) → (s : Option State) → Rises s (step change now act s).1
 
 -- states that are equal once purged take the same step at any later moment
 abbrev pub FollowersStepAlike : Type 0 → Type 0 → Type 0 → Type 0

@@ -4,6 +4,7 @@ pub mod Pages
 pub mod Counting
 pub mod Entries
 pub mod Parts
+pub mod Ids
 pub mod Quotas
 pub mod Usage
 pub mod Credentials

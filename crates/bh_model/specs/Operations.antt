@@ -18,7 +18,6 @@ use Rattle.bh_types.specs.declared.rejection.Detail.TheVariants.{Nothing, Curren
 use Rattle.bh_types.specs.declared.rejection.Rejection.{Rejection}
 use Rattle.bh_types.specs.declared.wanted.Wanted.{Wanted}
 use Rattle.bh_types.specs.declared.wanted.Wanted.TheVariants.{Current, Named, Unknown}
-use Rattle.bh_model.specs.declared.entries.LookupFault.{LookupFault}
 use Rattle.bh_model.specs.FinMaps.{is_empty, set_at, non_empty}
 use Rattle.bh_model.specs.State.{Octets, Content, Content.Body, Entry, Bucket, State, new_tenant, new_bucket}
 use Rattle.bh_types.specs.Checksums.{checksum_text}
@@ -26,7 +25,7 @@ use Rattle.bh_types.specs.Outcomes.{◌>>=◌, require}
 use Rattle.bh_types.specs.Ranges.{range_of, cut}
 use Rattle.bh_types.specs.Rejections.{plainly}
 use Rattle.bh_model.specs.Counting.{counts, with_counts, after_entry, after_delete}
-use Rattle.bh_model.specs.Entries.{Version, has_id, is_version, added, deleted, new_id, lookup}
+use Rattle.bh_model.specs.Entries.{Version, LookupFault, has_id, is_version, added, deleted, new_id, lookup}
 use Rattle.bh_model.specs.Pages.{ObjectsListed, VersionsListed, UploadsListed, PartsListed}
 use Rattle.bh_model.specs.Parts.{is_checksum}
 use Rattle.bh_model.specs.Quotas.{keeps_quota}

@@ -12,7 +12,6 @@ use Rattle.bh_types.specs.declared.wanted.Wanted.TheVariants.{Current}
 use Rattle.bh_model.specs.State.{Octets, State}
 use Rattle.bh_model.specs.Parts.{Naming}
 use Rattle.bh_model.specs.Operations.{Answer.Object, Answer.Begun, Answer.Completed, get_object}
-use Rattle.bh_model.specs.Laws.{AlwaysRises}
 use Rattle.bh_model.specs.Uploads.{FoundUpload, find_upload, new_upload, create_upload, upload_part, complete_upload, abort_upload}
 
 -- it is done, or a counter has given its last number
@@ -47,10 +46,3 @@ AbortedIsGone = (name key : Octets) (upload : Option UploadId) (s : Option State
 abbrev pub CompletedIsGone : Type 0
 CompletedIsGone = (moment least : ℕ) (name key : Octets) (upload : Option UploadId) (names : List Naming) (s : Option State)
     → IfOk (complete_upload moment least name key upload names s) (λ done. IsGone name key upload done.1)
-
--- counters never go down
-pub record UploadCountersRise : Type 0 where
-  pub create_upload_rises : (moment : ℕ) (name key : Octets) → AlwaysRises (create_upload moment name key)
-  pub upload_part_rises : (moment number : ℕ) (name key bytes : Octets) (upload : Option UploadId) (given : Option Octets) → AlwaysRises (upload_part moment name key upload number bytes given)
-  pub complete_upload_rises : (moment least : ℕ) (name key : Octets) (upload : Option UploadId) (names : List Naming) → AlwaysRises (complete_upload moment least name key upload names)
-  pub abort_upload_rises : (name key : Octets) (upload : Option UploadId) → AlwaysRises (abort_upload name key upload)

@@ -1,6 +1,5 @@
 //! Laws of the definitions, each the contract of a function that does nothing.
-ghost use Rattle.bh_model.specs.Laws.{PurgedLater, PurgedTwice, PutIsFound, EnabledDeleteKeeps, SuspendedDeleteClears, PutIsRead, CopyIsRead, AddedKeyOpens, RemovedKeyIsUnknown, CountersRise, StepsRise, FollowersStepAlike, RunsJoin};
-ghost use Rattle.bh_model.specs.QuotaLaws.{QuotaHolds, UsedStaysBounded, StepsStayBounded};
+ghost use Rattle.bh_model.specs.Laws.{PurgedLater, PurgedTwice, PutIsFound, EnabledDeleteKeeps, SuspendedDeleteClears, PutIsRead, CopyIsRead, AddedKeyOpens, RemovedKeyIsUnknown, FollowersStepAlike, RunsJoin};
 
 /// To purge a tenant's state, and then at a later moment, is to purge it at the later one.
 pub fn purged_later()
@@ -47,16 +46,6 @@ pub fn removed_key_is_unknown()
     ensures { RemovedKeyIsUnknown }
 {}
 
-/// No step of the machine makes a counter go down.
-pub fn counters_rise()
-    ensures { CountersRise }
-{}
-
-/// Nor does a step that purges the state first, whatever the act is.
-pub fn steps_rise<Act, Answer, Fault>()
-    ensures { StepsRise Act Answer Fault }
-{}
-
 /// Two states that are equal once purged take the same step at any later moment.
 pub fn followers_step_alike<Act, Answer, Fault>()
     ensures { FollowersStepAlike Act Answer Fault }
@@ -65,19 +54,4 @@ pub fn followers_step_alike<Act, Answer, Fault>()
 /// The private run over two lists of acts joined is the run over the second, from the state after the first.
 pub fn runs_join<Act, Reply>()
     ensures { RunsJoin Act Reply }
-{}
-
-/// What a tenant uses goes above its quota in no operation.
-pub fn quota_holds()
-    ensures { QuotaHolds }
-{}
-
-/// What a tenant uses goes above 2^60 bytes in no operation and no command of the operator.
-pub fn used_stays_bounded()
-    ensures { UsedStaysBounded }
-{}
-
-/// Nor does it in a step that purges the state first, whatever the act is.
-pub fn steps_stay_bounded<Act, Answer, Fault>()
-    ensures { StepsStayBounded Act Answer Fault }
 {}

@@ -1,4 +1,4 @@
-//! The private machine of one tenant: its definitions, and a plain program that meets them.
+//! The private machine of one tenant: its definitions and their laws, and what a host asks of them where they name no bytes.
 #![tactic(auto)]
 
 pub mod counting;
@@ -6,4 +6,3 @@ pub mod entries;
 pub mod laws;
 pub mod parts;
 pub mod upload_laws;
-pub mod uploads;

@@ -1,5 +1,5 @@
 //! Laws of multipart uploads, each the contract of a function that does nothing.
-ghost use Rattle.bh_model.specs.UploadLaws.{BegunIsFound, PartIsRead, AbortedIsGone, CompletedIsGone, UploadCountersRise};
+ghost use Rattle.bh_model.specs.UploadLaws.{BegunIsFound, PartIsRead, AbortedIsGone, CompletedIsGone};
 
 /// An upload that was begun is found by the id that was told.
 pub fn begun_is_found()
@@ -19,9 +19,4 @@ pub fn aborted_is_gone()
 /// Nor is one that was completed.
 pub fn completed_is_gone()
     ensures { CompletedIsGone }
-{}
-
-/// No operation on an upload makes a counter go down.
-pub fn upload_counters_rise()
-    ensures { UploadCountersRise }
 {}

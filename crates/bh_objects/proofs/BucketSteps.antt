@@ -52,11 +52,11 @@ module _ (old new : Tables) (t b : Octets) (mode : BucketState) (found : mode_in
   low Enabled = omega arith
   low Suspended = omega arith
 
-  pub sets_versioning : (m : BucketState) → (m ≡ Unversioned → ⊥) → IsSound old → new ≡ record old { buckets = update_where (is_bucket t b) (λ r. record r { state = state_number m }) old.buckets }
+  pub sets_versioning : (m : BucketState) → IsSound old → new ≡ record old { buckets = update_where (is_bucket t b) (λ r. record r { state = state_number m }) old.buckets }
       → GivesStep t (put_versioning b m) Done old new × IsSound new × (limits_in new ≡ limits_in old)
-  sets_versioning m kept sound e =
+  sets_versioning m sound e =
       let h = has_bucket b (view old t) mode found in
-      let change = state_changed old new t h.state sound h.added b h.bucket h.there (state_number m) (low m) (λ none. kept (sym (mode_back m) ∙ none)) e in
+      let change = state_changed old new t h.state sound h.added b h.bucket h.there (state_number m) (low m) e in
       (record { gives = rw (h.added, change.shown, h.there, mode_back m) refl; others = change.others; latest = change.latest; shared = shared_same old new (ap (λ (x : Tables). x.blocks) e) }, change.sound, change.limits)
 
   module _ (sound : IsSound old) where

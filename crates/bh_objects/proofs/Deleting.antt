@@ -1,5 +1,7 @@
 -- DeleteObject: what was read, and the rows that were written, are the machine's step.
 use Rattle.std.proofs.Common.{◌≡◌, ◌≢◌, ℕ, zero, suc, ◌<◌, ◌≤◌, ◌^◌, Bool, true, false, not, ◌&&◌, List, [], find, Option, Some, None, option_map, Result, Ok, refl, sym, ap, ◌∙◌, subst}
+use Rattle.std.specs.Prelude.{if◌then◌else◌}
+use Rattle.std.specs.Option.{option_map_or}
 use Rattle.std.specs.FinMap.{get}
 use Rattle.std.proofs.lemmas.Bool.{and_parts}
 use Rattle.sqlite_keyed.specs.Lists.{delete_where}
@@ -29,13 +31,13 @@ use Rattle.bh_view.proofs.FindLemmas.{first_find}
 use Rattle.bh_view.proofs.PutLemmas.{marker_put}
 use Rattle.bh_view.proofs.VersionChanges.{version_removed}
 use Rattle.bh_view.proofs.WantedLemmas.{named_row, named_entry, no_row}
-use Rattle.bh_view.proofs.DeleteLemmas.{entries_same, nothing_removed, null_removed}
+use Rattle.bh_view.proofs.DeleteLemmas.{entries_same, nothing_removed, null_removed, null_kept}
 use Rattle.bh_view.proofs.SharedLemmas.{shared_same, shared_none}
 use Rattle.bh_storage.specs.Calls.{GivesStep}
 use Rattle.bh_view.specs.Bodies.{HasBodies}
 use Rattle.bh_objects.specs.Found.{mode_in, numbers_in, IsKeyText, with_entry}
-use Rattle.bh_objects.specs.Writes.{without_entry, without_null, marker_written}
-use Rattle.bh_objects.proofs.Dropping.{Leaves, entry_gone, null_gone}
+use Rattle.bh_objects.specs.Writes.{without_entry, without_null_version, marker_written}
+use Rattle.bh_objects.proofs.Dropping.{Leaves, entry_gone}
 use Rattle.bh_objects.proofs.Written.{becomes_so, IsHostOf, marker_is_written, left_written, whole_host}
 use Rattle.bh_objects.specs.Answers.{is_marked}
 use Rattle.bh_objects.proofs.Putting.{HasBucket, has_bucket, has_numbers, next_unnamed}
@@ -96,7 +98,7 @@ module _ (old new : Tables) (t b k : Octets) (at : ℕ) (host : IsHostOf old) wh
       let given = has_numbers (view old t) h.state mode c after h.added read in
       let it = marker_is_written old host mode c after t b k at (next_unnamed old t h.state sound h.added c given.0) new e in
       let target = with_entry mode c after t b k at Marker old in
-      let change = becomes_so t _ old target new (marker_put old target t h.state sound h.added b k h.bucket h.there at early key.key key.valid mode after h.its apart given.1 (ap (λ (x : Counts). with_entry mode x after t b k at Marker old) (sym given.0))) it.0.rows in (
+      let change = becomes_so t _ old target new (marker_put old target t h.state sound h.added b k h.bucket h.there at early key.key key.valid mode after apart given.1 (ap (λ (x : Counts). with_entry mode x after t b k at Marker old) (sym given.0))) it.0.rows in (
         subst (λ (x : Counts). Steps t b k at Current (Removed (Some (new_id mode x.version)) true) old new) given.0
             (steps t b k at Current _ old new _ change it.1 (delete_at b k at Current (view old t) mode h ∙ ap (made b k at Current h.state h.bucket mode) (versioned_counts mode apart (counts h.state) ∙ given.1)
             ∙ ap (λ a. Ok (a, Some (with_bucket b (with_entries k (deleted mode Current h.state.next_version at (listed k h.bucket)) h.bucket) (with_counts after h.state)))) (versioned_answer mode apart h.state.next_version (listed k h.bucket)))),
@@ -106,12 +108,36 @@ module _ (old new : Tables) (t b k : Octets) (at : ℕ) (host : IsHostOf old) wh
 
   -- ---- the version `null`, where versions were never kept
 
-  pub deletes_null : mode_in b (view old t) ≡ Ok Unversioned → new ≡ without_null t b k old → Deletes t b k at Current (Removed None false) old new
-  deletes_null found e =
-      let h = has_bucket b (view old t) Unversioned found in
-      let target : Tables = record old { versions = delete_where (is_version t b k 0) old.versions } in
-      let it = left_written old new target.versions (subst (Leaves [] target.versions old) (sym e) (null_gone old sound [] old (whole_host old host) refl refl t b k)) in
-      (steps t b k at Current _ old new _ (becomes_so t _ old target new (null_removed old t h.state h.added b k h.bucket h.there target sound h.its refl) it.0.rows) it.1 (delete_at b k at Current (view old t) Unversioned h), it.0.bodies, it.1)
+  module _ (found : mode_in b (view old t) ≡ Ok Unversioned) where
+    abbrev plain : HasBucket b (view old t) Unversioned
+    plain = has_bucket b (view old t) Unversioned found
+
+    -- none is there, or a delete marker
+    null_stays : option_map_or (λ v. is_object (entry_of v)) (find (is_version t b k 0) old.versions) false ≡ false → new ≡ old → Deletes t b k at Current (Removed None false) old new
+    null_stays none e =
+        let kept = null_kept old t plain.state plain.added b k plain.bucket plain.there sound none in (
+          (stays t b k at Current _ old new plain.state e plain.added (delete_at b k at Current (view old t) Unversioned plain ∙ ap (λ (s : State). Ok (Removed None false, Some s)) kept), subst IsSound (sym e) sound, ap limits_in e),
+          subst HasBodies (sym e) host.bodies,
+          ap (λ (x : Tables). x.blocks) e,
+        )
+
+    null_goes : (v : VersionRow) → find (is_version t b k 0) old.versions ≡ Some v → v.marker ≡ 0 → new ≡ without_entry t b k 0 v.seq old → Deletes t b k at Current (Removed None false) old new
+    null_goes v there body e =
+        let target : Tables = record old { versions = delete_where (is_version t b k 0) old.versions } in
+        let it = left_written old new target.versions (subst (Leaves [] target.versions old) (sym e) (entry_gone old sound [] old (whole_host old host) refl refl t b k 0 v there)) in
+        let change = null_removed old t plain.state plain.added b k plain.bucket plain.there sound v there body target refl in
+        (steps t b k at Current _ old new _ (becomes_so t _ old target new change it.0.rows) it.1 (delete_at b k at Current (view old t) Unversioned plain), it.0.bodies, it.1)
+
+    pub deletes_null : new ≡ without_null_version t b k old → Deletes t b k at Current (Removed None false) old new
+    deletes_null = go (find (is_version t b k 0) old.versions) refl
+      where
+        of_row : (v : VersionRow) → find (is_version t b k 0) old.versions ≡ Some v → (m : ℕ) → v.marker ≡ m → new ≡ (if is_marked m then old else without_entry t b k 0 v.seq old) → Deletes t b k at Current (Removed None false) old new
+        of_row v there zero its = null_goes v there its
+        of_row v there (suc m) its = null_stays (ap (λ o. option_map_or (λ v. is_object (entry_of v)) o false) there ∙ ap (λ n. is_body (content_of n v)) its)
+
+        go : (o : Option VersionRow) → find (is_version t b k 0) old.versions ≡ o → new ≡ option_map_or (λ v. if is_marked v.marker then old else without_entry t b k 0 v.seq old) o old → Deletes t b k at Current (Removed None false) old new
+        go None none = null_stays (ap (λ o. option_map_or (λ v. is_object (entry_of v)) o false) none)
+        go (Some v) there = of_row v there v.marker refl
 
   -- ---- by an id
 

@@ -69,7 +69,7 @@ module _ (old : Tables) (sound : IsSound old) (more : List Name) (x : Tables) (i
     named = λ body block apart named. named;
   }
 
-  pub null_gone : Gone 0 (without_null t b k x)
+  null_gone : Gone 0 (without_null t b k x)
   null_gone = go (find (is_version t b k 0) x.versions) refl
     where
       go : (o : Option VersionRow) → find (is_version t b k 0) x.versions ≡ o → Gone 0 (option_map_or (λ v. without_entry t b k 0 v.seq x) o x)

@@ -11,9 +11,8 @@ use Rattle.bh_types.specs.declared.rejection.Rejection.{Rejection}
 use Rattle.bh_types.specs.declared.wanted.Wanted.{Wanted}
 use Rattle.bh_types.specs.declared.wanted.Wanted.TheVariants.{Current, Named, Unknown}
 use Rattle.bh_model.specs.State.{Octets, State, Bucket}
-use Rattle.bh_model.specs.Entries.{Version, opened, lookup}
+use Rattle.bh_model.specs.Entries.{Version, LookupFault, opened, lookup}
 use Rattle.bh_model.specs.Operations.{Answer, Outcome, Head, Object, id_told, listed, not_found, planned, shown, wanted_version, get_object, head_object}
-use Rattle.bh_model.specs.declared.entries.LookupFault.{LookupFault}
 use Rattle.bh_tables.specs.Typed.{Tables, VersionRow}
 use Rattle.bh_tables.specs.Bodies.{version_name}
 use Rattle.bh_tables.specs.Shown.{is_entry}

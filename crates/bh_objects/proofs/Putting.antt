@@ -23,7 +23,7 @@ use Rattle.bh_storage.specs.Calls.{GivesStep, Decides, Carries}
 use Rattle.bh_storage.specs.declared.error.StepError.{StepError}
 use Rattle.bh_storage.specs.declared.error.StepError.TheVariants.{Refused, Failed}
 use Rattle.bh_view.specs.Blocks.{AreDigests}
-use Rattle.bh_view.specs.Bodies.{HasBodies, IsUnnamed}
+use Rattle.bh_view.specs.Bodies.{HasBodies, IsUnnamed, StoresPieces}
 use Rattle.bh_view.proofs.BodyNames.{next_unnamed as unnamed}
 use Rattle.bh_objects.specs.Found.{mode_in, numbers_in, replaced_in, room_in, entry_numbers_in, sum_given, IsKeyText, with_entry}
 use Rattle.bh_objects.specs.Writes.{object_written}
@@ -132,9 +132,9 @@ module _ (old new : Tables) (t b k : Octets) (at : ℕ) (bytes : Octets) (given 
 
   -- an object whose body is stored in pieces
   pub puts_pieces : (digest : Octets → Octets) (size : ℕ) → 1 ≤ size → AreDigests digest old.blocks → (mode : BucketState) (c : Counts) → mode_in b (view old t) ≡ Ok mode → entry_numbers_in mode b k (length bytes) (view old t) ≡ Ok (c, after)
-      → new ≡ object_written digest size mode c after (replaced_in mode t b k old) t b k at bytes old → Puts t b k at bytes given mode c old new × HasBodies new × AreDigests digest new.blocks
+      → new ≡ object_written digest size mode c after (replaced_in mode t b k old) t b k at bytes old → Puts t b k at bytes given mode c old new × HasBodies new × AreDigests digest new.blocks × StoresPieces digest size bytes old new
   puts_pieces digest size low digests mode c found read e =
       let h = has_bucket b (view old t) mode found in
       let free = next_unnamed old t h.state host.sound h.added c (has_numbers (view old t) h.state mode c after h.added (numbers_read (view old t) b k mode h (length bytes) (c, after) read)).0 in
       let it = object_is_written old host mode c after t b k at free digest size bytes new low digests e in
-      (puts mode c found read it.0.rows it.2, it.0.bodies, it.1)
+      (puts mode c found read it.0.rows it.2, it.0.bodies, it.1, it.3)

@@ -9,7 +9,7 @@ use Rattle.bh_tables.specs.Bodies.{Name, same_name, version_name}
 use Rattle.bh_tables.specs.Typed.{VersionRow, Tables}
 use Rattle.bh_view.specs.Becomes.{Becomes, KeepsShared}
 use Rattle.bh_view.specs.Blocks.{whole, AreStored, AreDigests}
-use Rattle.bh_view.specs.Bodies.{HasBodies, IsResolved, AreWhole, IsUnnamed, AddsBody, pieces, body_stored}
+use Rattle.bh_view.specs.Bodies.{HasBodies, IsResolved, AreWhole, IsUnnamed, AddsBody, StoresPieces, pieces, body_stored}
 use Rattle.bh_view.specs.Put.{entry_row, row_number, rows_left, bytes_in}
 use Rattle.bh_view.specs.Sound.{AreSound, IsSound}
 use Rattle.bh_view.specs.View.{rows_of, latest_of}
@@ -163,14 +163,14 @@ module _ (old : Tables) (host : IsHostOf old) (mode : BucketState) (before after
       )
 
   pub object_is_written : (digest : Octets → Octets) (size : ℕ) (bytes : Octets) (new : Tables) → 1 ≤ size → AreDigests digest old.blocks → new ≡ object_written digest size mode before after (replaced_in mode t b k old) t b k moment bytes old
-      → IsWritten (with_entry mode before after t b k moment (Body bytes (checksum_text bytes)) old) new × AreDigests digest new.blocks × KeepsShared old new
+      → IsWritten (with_entry mode before after t b k moment (Body bytes (checksum_text bytes)) old) new × AreDigests digest new.blocks × KeepsShared old new × StoresPieces digest size bytes old new
   object_is_written digest size bytes new low d e =
       let middle = body_stored digest its 0 (pieces size bytes) counted in
       let once = each_once digest its (pieces size bytes) old.refs old.blocks host.sound.stored d in
       let adds = body_stores counted its counted_resolved host.sound.stored host.bodies counted_free digest size bytes low d in
       let room = room_found mode t b k old middle (ap (λ (x : Tables). x.versions) adds.is) in
       let it = is_added digest bytes (checksum_text bytes) middle new adds (record { added = once.added; grown = once.grown; named = once.named }) (e ∙ ap (with_columns mode before t b k moment (Body bytes (checksum_text bytes))) room) in
-      (it.0, it.1 d, it.2)
+      (it.0, it.1 d, it.2, it.3)
 
   pub marker_is_written : (new : Tables) → new ≡ marker_written mode before after t b k moment old → IsWritten (with_entry mode before after t b k moment Marker old) new × (new.blocks ≡ old.blocks)
   marker_is_written new e =

@@ -1,5 +1,5 @@
 -- What a put or a delete writes, one call after another.
-use Rattle.std.specs.Prelude.{ℕ, ◌++◌, [], ◌∷◌, Option, find}
+use Rattle.std.specs.Prelude.{ℕ, ◌++◌, [], ◌∷◌, Option, find, if◌then◌else◌}
 use Rattle.std.specs.Option.{option_map_or}
 use Rattle.sqlite_keyed.specs.Lists.{update_where, delete_where}
 use Rattle.bh_types.specs.Counts.{Counts}
@@ -12,6 +12,7 @@ use Rattle.bh_tables.specs.Typed.{Tables}
 use Rattle.bh_tables.specs.Shown.{is_tenant, is_version}
 use Rattle.bh_view.specs.Bodies.{pieces, body_stored, body_dropped}
 use Rattle.bh_view.specs.Put.{entry_row, row_number, counters_row}
+use Rattle.bh_objects.specs.Answers.{is_marked}
 use Rattle.bh_objects.specs.declared.quotas.Replaced.{Replaced}
 
 -- the counters have gone on, as a new entry in a bucket of this state has them
@@ -29,6 +30,11 @@ without_entry tenant bucket key number seq tables = without_row tenant bucket ke
 -- the same of the entry `null`, if it is there
 abbrev pub without_null : Octets → Octets → Octets → Tables → Tables
 without_null tenant bucket key tables = option_map_or (λ v. without_entry tenant bucket key 0 v.seq tables) (find (is_version tenant bucket key 0) tables.versions) tables
+
+-- the same of the version `null`: a delete marker of that id stays
+abbrev pub without_null_version : Octets → Octets → Octets → Tables → Tables
+without_null_version tenant bucket key tables =
+    option_map_or (λ v. if is_marked v.marker then tables else without_entry tenant bucket key 0 v.seq tables) (find (is_version tenant bucket key 0) tables.versions) tables
 
 -- room for a new entry of a key
 abbrev pub with_room : BucketState → Octets → Octets → Octets → Tables → Tables

@@ -8,13 +8,12 @@ ghost use Rattle.bh_view.specs.View.{view, latest_of, id_of};
 ghost use Rattle.bh_schema.specs.Connections.{IsClean, tables, StaysWithin, StaysOpen};
 ghost use Rattle.bh_schema.specs.Working.{Works, StillWorks};
 ghost use Rattle.bh_objects.specs.Found.{mode_in};
-ghost use Rattle.bh_objects.specs.Answers.{is_marked};
 
-use crate::heads::numbered_head;
+use crate::heads::{is_marker, numbered_head};
 use crate::ids::{number_of, told_id};
 use crate::quotas::as_replaced;
 use crate::reads::{Numbers, bucket_state, new_numbers};
-use crate::writes::{drop_entry, drop_null, write_marker};
+use crate::writes::{drop_entry, drop_null_version, write_marker};
 use bh_model::entries::new_id;
 use bh_storage::answer::RemovedEntry;
 use bh_storage::error::StepError;
@@ -35,16 +34,6 @@ fn nothing_told() -> RemovedEntry
     RemovedEntry {
         id: None,
         marker: false,
-    }
-}
-
-/// Whether the column `marker` says that an entry is a delete marker.
-fn is_marker(marker: u64) -> bool
-    ensures { result ≡ is_marked marker }
-{
-    match marker {
-        0 => false,
-        _ => true,
     }
 }
 
@@ -77,7 +66,8 @@ fn make_marker<S: Alter>(
     })
 }
 
-/// The version `null` goes, in a bucket that never had versions.
+/// The version `null` goes, in a bucket that never had versions. A delete marker stays: no operation leaves one there, but
+/// the file that was opened may have had it.
 fn delete_null<S: Alter>(
     connection: &mut Connection<S>,
     tenant: &TenantName,
@@ -95,7 +85,7 @@ fn delete_null<S: Alter>(
         → Carries removed_answer tenant.now (machine.delete_object at bucket.now key.now Current)
         (tables S.Store connection.old) (tables S.Store connection.new) result }
 {
-    drop_null(connection, tenant, bucket, key)?;
+    drop_null_version(connection, tenant, bucket, key)?;
     Ok(nothing_told())
 }
 

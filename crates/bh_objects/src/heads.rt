@@ -30,6 +30,16 @@ use bh_types::rejection::{Detail, Rejection};
 use bh_types::wanted::Wanted;
 use sqlite::{Alter, Connection};
 
+/// Whether the column `marker` says that an entry is a delete marker.
+pub fn is_marker(marker: u64) -> bool
+    ensures { result ≡ spec.is_marked marker }
+{
+    match marker {
+        0 => false,
+        _ => true,
+    }
+}
+
 /// The newest version or delete marker of a key, if it has one.
 fn newest_head<S: Alter>(
     connection: &mut Connection<S>,

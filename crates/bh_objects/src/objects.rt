@@ -1,4 +1,4 @@
-ghost use Rattle.std.specs.Prelude.{◌≡◌, ◌≤◌, IfOk};
+ghost use Rattle.std.specs.Prelude.{◌≡◌, ◌≤◌, IfOk, OnOk};
 ghost use Rattle.std.specs.Option.{option_copied};
 ghost use Rattle.std.specs.String.{string_bytes};
 ghost use Rattle.bh_types.specs.Checksums.{checksum_text};
@@ -6,6 +6,7 @@ ghost use Rattle.bh_model.specs.Operations as machine;
 ghost use Rattle.bh_storage.specs.Answers.{stored_answer};
 ghost use Rattle.bh_storage.specs.Calls.{Unless, Carries};
 ghost use Rattle.bh_view.specs.Blocks.{AreDigests};
+ghost use Rattle.bh_view.specs.Bodies.{StoresPieces};
 ghost use Rattle.bh_view.specs.View.{latest_of};
 ghost use Rattle.bh_schema.specs.Connections.{IsClean, tables, StaysWithin, StaysOpen};
 ghost use Rattle.bh_schema.specs.Working.{Works, StillWorksBy};
@@ -65,6 +66,8 @@ pub fn put_object<S: Alter, D: Digester>(
         → Carries stored_answer object.now.tenant.now
         (machine.put_object object.now.at object.now.bucket.now object.now.key.now object.now.bytes.now (option_copied given.entry))
         (tables S.Store connection.old) (tables S.Store connection.new) result }
+    ensures blocks { OnOk result (IsClean S.Store connection.new
+        → StoresPieces D.digest_of block_size object.now.bytes.now (tables S.Store connection.old) (tables S.Store connection.new)) }
 {
     let mode = bucket_state(connection, object.tenant, object.bucket)?;
     let checksum = checked_sum(alloc, object.bytes, given)?;

@@ -6,10 +6,10 @@ ghost use Rattle.bh_tables.specs.Shown.{is_tenant};
 ghost use Rattle.bh_schema.specs.Connections.{IsClean, tables, InTransaction, StaysWithin, StaysOpen, Becomes};
 ghost use Rattle.bh_schema.specs.Written.{bytes_of_id, with_version as row_added};
 ghost use Rattle.bh_objects.specs.Found.{IsKeyText, IsHeld};
-ghost use Rattle.bh_objects.specs.Writes.{with_counters, without_entry, without_null, without_replaced, with_room, with_version, with_columns};
+ghost use Rattle.bh_objects.specs.Writes.{with_counters, without_entry, without_null, without_null_version, without_replaced, with_room, with_version, with_columns};
 ghost use Rattle.bh_objects.specs.Writes.{object_written, marker_written};
 
-use crate::heads::numbered_head;
+use crate::heads::{is_marker, numbered_head};
 use crate::ids::row_number;
 use crate::quotas::{NewEntry, Replaced, as_replaced};
 use crate::reads::Numbers;
@@ -127,7 +127,7 @@ pub fn drop_entry<S: Alter>(
 }
 
 /// Takes the entry `null` of a key away, and its body, if it is there.
-pub fn drop_null<S: Alter>(
+fn drop_null<S: Alter>(
     connection: &mut Connection<S>,
     tenant: &TenantName,
     bucket: &BucketName,
@@ -142,6 +142,31 @@ pub fn drop_null<S: Alter>(
     match numbered_head(connection, tenant, bucket, key, 0)? {
         None => Ok(()),
         Some(head) => drop_entry(connection, tenant, bucket, key, 0, as_replaced(&head)),
+    }
+}
+
+/// Takes the version `null` of a key away, and its body, if it is there. A delete marker `null` stays.
+pub fn drop_null_version<S: Alter>(
+    connection: &mut Connection<S>,
+    tenant: &TenantName,
+    bucket: &BucketName,
+    key: &ObjectKey,
+) -> Result<(), Trouble>
+    requires { InTransaction S.Store connection.old }
+    ensures within { StaysWithin S.Store connection.old connection.new }
+    ensures opens { OnOk result (StaysOpen S.Store connection.old connection.new) }
+    ensures holds { OnOk result (Becomes S.Store connection.old connection.new
+        (without_null_version tenant.now bucket.now key.now)) }
+{
+    match numbered_head(connection, tenant, bucket, key, 0)? {
+        None => Ok(()),
+        Some(head) => {
+            if is_marker(head.marker) {
+                Ok(())
+            } else {
+                drop_entry(connection, tenant, bucket, key, 0, as_replaced(&head))
+            }
+        }
     }
 }
 

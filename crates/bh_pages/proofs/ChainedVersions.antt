@@ -1,8 +1,11 @@
 -- Pages of versions that are chained by their markers show each entry once and in order.
-use Rattle.std.proofs.Common.{◌≡◌, ◌⊎◌, inl, inr, ℕ, ◌≤◌, Bool, true, false, true≢false, cond, ◌==◌, List, [], ◌∷◌, ◌++◌, length, map, filter, take, Option, None, Some, refl, sym, ap, subst, ◌∙◌, arith, Ordering, Less, Equal, Greater}
+use Rattle.std.proofs.Common.{◌≡◌, ◌⊎◌, inl, inr, ℕ, ◌≤◌, Bool, true, false, true≢false, cond, ◌==◌, List, [], ◌∷◌, ◌++◌, length, map, filter, take, Option, None, Some, refl, sym, ap, subst, ◌∙◌, arith, Ordering, Less, Equal, Greater, T}
 use Rattle.std.specs.List.{AllByRecursion}
-use Rattle.std.specs.FinMap.{entries, entries_sorted}
-use Rattle.std.specs.Ordering.{is_eq, is_lt, is_le, ordering_reverse}
+use Rattle.std.specs.FinMap.{entries, entries_sorted, get-entries, find, is_sorted}
+use Rattle.std.specs.FinMap.Entries.{below_all}
+use Rattle.std.specs.Cmp.{Equal-is}
+use Rattle.std.proofs.lemmas.Option.{none-some}
+use Rattle.std.specs.Ordering.{is_eq, is_lt, is_le, ordering_reverse, eq_by_cmp}
 use Rattle.std.proofs.lemmas.Bool.Decides.{nat_tests}
 use Rattle.std.proofs.lemmas.Cmp.{nat_list_cmp_total, tied_itself}
 use Rattle.bh_types.specs.declared.id.VersionId.{VersionId}
@@ -10,7 +13,11 @@ use Rattle.bh_types.specs.declared.id.VersionId.TheVariants.{Null, Numbered}
 use Rattle.bh_model.specs.State.{Octets, octets_cmp, Entry}
 use Rattle.bh_model.specs.Entries.{same_id, has_id}
 use Rattle.bh_model.specs.Pages.{Listed, Listed.Single, Listed.Common, is_before, is_upto, same, begins, rolled, as_listed, paged, joined, entry_of, entries_after, VersionItem, VersionPlace, version_item, versions_of, all_versions, after_id, versions_after, passes_version, key_of}
-use Rattle.bh_pages.specs.Laws.{total, chained, version_key, version_marked, HaveOwnIds, VersionsChain}
+use Rattle.bh_model.specs.Ids.{HaveOwnIds}
+use Rattle.bh_model.proofs.MapLemmas.{find_below}
+use Rattle.bh_model.proofs.MapLemmas as pairs
+use Rattle.bh_model.proofs.UsedLemmas.{octets_same}
+use Rattle.bh_pages.specs.Laws.{total, chained, version_key, version_marked, VersionsChain}
 use Rattle.bh_pages.proofs.Bytes.{same_number, upto_self, upto_begun, rolled_begins}
 use Rattle.bh_pages.proofs.Before.{less_not_equal, less_not_same, before_upto}
 use Rattle.bh_pages.proofs.Filters.{all_map, filter_none, filter_whole, filter_passes, keep_all}
@@ -246,6 +253,25 @@ versions_ascend (k ∷ keys) up ids =
     pairs_append Follows (versions_of k.0 k.1) (all_versions keys) (one_key k.0 k.1 (own_ids k.1 ids.0)) (versions_ascend keys up.1 ids.1)
     (all_of_key (λ v. AllByRecursion (Follows v) (all_versions keys)) k.0 (λ latest e. all_map (λ w h. inl h) (all_versions keys) (versions_above k keys up.0)) k.1)
 
+-- what holds of each value of a map holds of each of its entries
+each_entry : {X : Type 0} (P : X → Type 0) (es : List (Octets × X)) → T (is_sorted octets_cmp es) → ((q : Octets) (x : X) → find octets_cmp q es ≡ Some x → P x) → AllByRecursion (λ e. P e.1) es
+each_entry P [] up all = tt
+each_entry {X = X} P (e ∷ es) up all = (
+  all e.0 e.1 (ap (λ t. cond t (Some e.1) (find octets_cmp e.0 es)) (same_self e.0)),
+  each_entry P es (pairs.right (below_all octets_cmp e.0 es) (is_sorted octets_cmp es) up) (λ q x there. all q x (ap (λ t. cond t (Some e.1) (find octets_cmp q es)) (apart q x there) ∙ there)),
+)
+  where
+    apart : (q : Octets) (x : X) → find octets_cmp q es ≡ Some x → eq_by_cmp octets_cmp q e.0 ≡ false
+    apart q x there = elim (eq_by_cmp octets_cmp q e.0) as (λ t. eq_by_cmp octets_cmp q e.0 ≡ t → t ≡ false) [
+      | true ↦ λ here.
+          let below : T (below_all octets_cmp q es) = subst (λ k. T (below_all octets_cmp k es)) (sym (octets_same q e.0 ((Equal-is _).0 here))) (pairs.left (below_all octets_cmp e.0 es) (is_sorted octets_cmp es) up) in
+          absurd (none-some x (sym (find_below octets_cmp q es below) ∙ there))
+      | false ↦ λ here. refl
+    ] refl
+
 pub versions_chain : VersionsChain
-versions_chain prefix delimiter objects sizes ids =
+versions_chain prefix delimiter t name b sizes numbered here =
+    let objects = b.objects in
+    let ids : AllByRecursion (λ (k : Octets × List Entry). HaveOwnIds k.1) (entries objects)
+    = each_entry HaveOwnIds (entries objects) (entries_sorted objects) (λ key versions there. (numbered name b here key versions (get-entries objects key ∙ there)).own) in
     chained_listing prefix delimiter (all_versions (entries objects)) (versions_ascend (entries objects) (sorted_pairs octets_cmp (entries objects) (entries_sorted objects)) ids) sizes

@@ -1,13 +1,12 @@
 -- What shows that a page is the intended one: pages that are chained by their markers show each entry once and in order.
-use Rattle.std.specs.Prelude.{◌≡◌, ℕ, ◌+◌, ◌≤◌, List, [], ◌∷◌, ◌++◌, length, take, Option, None, Some}
+use Rattle.std.specs.Prelude.{◌≡◌, ℕ, ◌+◌, ◌≤◌, List, [], ◌∷◌, ◌++◌, take, Option, None, Some}
 use Rattle.std.specs.Option.{option_map_or}
-use Rattle.std.specs.List.{filter, AllByRecursion}
-use Rattle.std.specs.FinMap.{FinMap, entries}
+use Rattle.std.specs.List.{AllByRecursion}
+use Rattle.std.specs.FinMap.{FinMap, entries, get}
 use Rattle.std.specs.Ordering.{nat_cmp}
-use Rattle.bh_types.specs.declared.id.VersionId.{VersionId}
 use Rattle.bh_types.specs.declared.wanted.Wanted.TheVariants.{Current, Named}
-use Rattle.bh_model.specs.State.{Octets, octets_cmp, Entry, Part, Upload}
-use Rattle.bh_model.specs.Entries.{has_id}
+use Rattle.bh_model.specs.State.{Octets, octets_cmp, Entry, Part, Upload, Bucket, State}
+use Rattle.bh_model.specs.Ids.{IsNumbered}
 use Rattle.bh_model.specs.Pages.{Asked, Listed, Paged, name_of, entries_after, ObjectItem, after_name, objects_in, objects_page, VersionItem, VersionPlace, VersionNext, all_versions, passes_version, versions_page, version_next, UploadItem, UploadPlace, UploadNext, all_uploads, passes_upload, uploads_page, upload_next, PartItem, parts_after, parts_page}
 use Rattle.bh_pages.specs.Uploads.{upload_key}
 
@@ -67,17 +66,13 @@ versions_paged prefix delimiter keys m marker = versions_page (asked prefix deli
 abbrev pub version_entries : Octets → Octets → List (Octets × List Entry) → List (Listed VersionItem)
 version_entries prefix delimiter keys = entries_after prefix delimiter version_key (passes_version None) (all_versions keys)
 
--- no two entries have one id
-abbrev pub HaveOwnIds : List Entry → Type 0
-HaveOwnIds versions = (id : VersionId) → length (filter (has_id id) versions) ≤ 1
-
--- the same of versions, where no two of a key have one id
+-- the same of the versions of a tenant's bucket, in whose state no two entries of a key have one id
 abbrev pub VersionsChain : Type 0
-VersionsChain = (prefix delimiter : Octets) (objects : FinMap octets_cmp (List Entry)) (sizes : List ℕ)
-    → AllByRecursion (λ (k : Octets × List Entry). HaveOwnIds k.1) (entries objects)
+VersionsChain = (prefix delimiter : Octets) (t : State) (name : Octets) (b : Bucket) (sizes : List ℕ)
+    → IsNumbered (Some t) → get t.buckets name ≡ Some b
     → AllByRecursion (λ m. 1 ≤ m) sizes
-    → chained version_marked (versions_paged prefix delimiter (entries objects)) sizes None
-    ≡ take (total sizes) (version_entries prefix delimiter (entries objects))
+    → chained version_marked (versions_paged prefix delimiter (entries b.objects)) sizes None
+    ≡ take (total sizes) (version_entries prefix delimiter (entries b.objects))
 
 -- ---- uploads
 

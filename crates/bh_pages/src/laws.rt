@@ -8,7 +8,7 @@ pub fn pages_chain()
 {}
 
 /// Pages of a listing of versions that are chained by their markers show each entry once and in order, however large
-/// they are.
+/// they are, in a bucket of a tenant no two of whose entries of one key have one id.
 pub fn versions_chain()
     ensures { VersionsChain }
 {}

@@ -1,6 +1,6 @@
 -- What a call on the storage does, in the words that a host needs: what is seen and committed, the machine's steps, and
 -- what a crash leaves.
-use Rattle.std.specs.Prelude.{◌≡◌, ◌≢◌, ℕ, Bool, true, false, Option, Result, Ok, Err}
+use Rattle.std.specs.Prelude.{◌≡◌, ◌≢◌, ◌⊎◌, ℕ, Bool, true, false, Option, Result, Ok, Err}
 use Rattle.bh_types.specs.Limits.{HostLimits}
 use Rattle.bh_model.specs.Runs.{stamp_of, purged_tenant}
 use Rattle.bh_model.specs.State.{Octets, State}
@@ -47,6 +47,10 @@ Unless (Err (Failed trouble)) P = Unit {0}
 -- what a crash may leave from then on, it might have left before
 abbrev pub LeavesNothingNew : {H : Type 0} → (H → Tables → Type 0) → H → H → Type 0
 LeavesNothingNew left old new = (x : Tables) → left new x → left old x
+
+-- what a crash may leave from then on, it might have left before, or it is sound: a host can be opened on it
+abbrev pub LeavesSound : {H : Type 0} → (Tables → Type 0) → (H → Tables → Type 0) → H → H → Type 0
+LeavesSound IsSound left old new = (x : Tables) → left new x → left old x ⊎ IsSound x
 
 -- a call inside a transaction commits nothing, whether it succeeds or not
 pub record Within {H : Type 0} (IsIntact IsOpen : H → Type 0) (seen : H → Seen) (left : H → Tables → Type 0) (old new : H) : Type 0 where

@@ -22,7 +22,7 @@ use Rattle.bh_tables.specs.Bodies.{Name, same_name, version_name, part_name, par
 use Rattle.bh_tables.specs.Typed.{PartRow, RefRow, BlockRow, Tables, rebodied}
 use Rattle.bh_tables.specs.Shown.{is_tenant, is_part, is_of_body}
 use Rattle.bh_view.specs.Blocks.{whole, AreDigests}
-use Rattle.bh_view.specs.Bodies.{HasBodies, IsResolved, IsUnnamed, AreWhole, pieces, body_stored, body_dropped}
+use Rattle.bh_view.specs.Bodies.{HasBodies, IsResolved, IsUnnamed, AreWhole, StoresPieces, pieces, body_stored, body_dropped}
 use Rattle.bh_view.specs.Grouped.{same_number}
 use Rattle.bh_view.specs.Put.{part_row}
 use Rattle.bh_view.specs.Sound.{IsSound}
@@ -164,16 +164,17 @@ entry_read replaced added v entry = go (room_in replaced added v)
 -- ---- the part is written
 
 -- what is given, and what stays of the tables
-pub record PutsPart (digest : Octets → Octets) (t name key : Octets) (id : Option UploadId) (k at : ℕ) (bytes : Octets) (given : Option Octets) (old new : Tables) : Type 0 where
+pub record PutsPart (digest : Octets → Octets) (size : ℕ) (t name key : Octets) (id : Option UploadId) (k at : ℕ) (bytes : Octets) (given : Option Octets) (old new : Tables) : Type 0 where
   pub step : GivesStep t (upload_part at name key id k bytes given) (PartStored (checksum_text bytes)) old new
   pub sound : IsSound new
   pub limits : limits_in new ≡ limits_in old
   pub bodies : HasBodies new
   pub digests : AreDigests digest new.blocks
+  pub blocks : StoresPieces digest size bytes old new
 
 module _ (old new : Tables) (host : IsHostOf old) (t name key : Octets) (id : Option UploadId) (mode : BucketState) (n : ℕ) (found : upload_in name key id (view old t) ≡ Ok (mode, n)) (k at : ℕ) (bytes : Octets) (given : Option Octets)
     (low : 1 ≤ k) (high : k ≤ 10000) (early : at ≤ latest_of old) (right : is_checksum given bytes ≡ true) (digest : Octets → Octets) (size : ℕ) (some : 1 ≤ size) (digests : AreDigests digest old.blocks) where
-  puts_at : (h : HasUpload name key id (view old t) mode n) → part_entry_in (part_bytes_in t n k old) (length bytes) (view old t) ≡ Ok h.state.next_entry → can_give h.state.next_entry ≡ true → new ≡ part_written digest size t n k bytes at h.state.next_entry (replaced_body t n k old) old → PutsPart digest t name key id k at bytes given old new
+  puts_at : (h : HasUpload name key id (view old t) mode n) → part_entry_in (part_bytes_in t n k old) (length bytes) (view old t) ≡ Ok h.state.next_entry → can_give h.state.next_entry ≡ true → new ≡ part_written digest size t n k bytes at h.state.next_entry (replaced_body t n k old) old → PutsPart digest size t name key id k at bytes given old new
   puts_at h read room e =
       let s = h.state in
       let entry = s.next_entry in
@@ -202,7 +203,8 @@ module _ (old new : Tables) (host : IsHostOf old) (t name key : Octets) (id : Op
       let change = becomes_so t _ old target new (part_put old target t s host.sound h.added name h.bucket h.there n h.upload h.begun k bytes at low high early room refl)
       (subst (HasRowsOf target) (sym is) (record { is = rows; stored = left.is_whole.stored })) in
       let once = each_once digest its (pieces size bytes) old.refs old.blocks host.sound.stored digests in
-      let shared = shared_for its old middle new (record { added = once.added; grown = once.grown; named = once.named }) (ap (λ (x : Tables). x.blocks) is ∙ blocks_same)
+      let stored : new.blocks ≡ middle.blocks = ap (λ (x : Tables). x.blocks) is ∙ blocks_same in
+      let shared = shared_for its old middle new (record { added = once.added; grown = once.grown; named = once.named }) stored
       (λ block named. ap (λ (x : Tables). list_any (names_block its block) x.refs) is ∙ left.named block named) in
       let gives : upload_part at name key id k bytes given (view old t) ≡ Ok (PartStored (checksum_text bytes), view new t) =
       part_shape old host.sound t name key id mode n k at bytes given right h ∙ ap (λ r. ◌>>=◌ {B = Outcome} r (stored_under old host.sound t name key id mode n k at bytes given right h)) read
@@ -213,9 +215,10 @@ module _ (old new : Tables) (host : IsHostOf old) (t name key : Octets) (id : Op
         limits = change.limits;
         bodies = subst HasBodies (sym is) whole_now.bodies;
         digests = subst (λ (x : Tables). AreDigests digest x.blocks) (sym is) (subst (AreDigests digest) (sym blocks_same) (adds.digests digests));
+        blocks = stored;
       }
 
-  pub puts : (entry : ℕ) → part_entry_in (part_bytes_in t n k old) (length bytes) (view old t) ≡ Ok entry → new ≡ part_written digest size t n k bytes at entry (replaced_body t n k old) old → PutsPart digest t name key id k at bytes given old new
+  pub puts : (entry : ℕ) → part_entry_in (part_bytes_in t n k old) (length bytes) (view old t) ≡ Ok entry → new ≡ part_written digest size t n k bytes at entry (replaced_body t n k old) old → PutsPart digest size t name key id k at bytes given old new
   puts entry read e =
       let h = has_upload name key mode n id (view old t) found in
       let number = has_entry_number (view old t) h.state entry h.added (entry_read (part_bytes_in t n k old) (length bytes) (view old t) entry read) in

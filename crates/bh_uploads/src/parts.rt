@@ -6,6 +6,7 @@ ghost use Rattle.bh_model.specs.Operations.{PartStored};
 ghost use Rattle.bh_model.specs.Uploads as machine;
 ghost use Rattle.bh_storage.specs.Calls.{Unless, Carries};
 ghost use Rattle.bh_view.specs.Blocks.{AreDigests};
+ghost use Rattle.bh_view.specs.Bodies.{StoresPieces};
 ghost use Rattle.bh_view.specs.Put.{part_row};
 ghost use Rattle.bh_view.specs.View.{latest_of};
 ghost use Rattle.bh_schema.specs.Connections.{IsClean, tables, InTransaction, StaysWithin, StaysOpen, Becomes};
@@ -169,6 +170,8 @@ pub fn put_part<S: Alter, D: Digester>(
         (machine.upload_part part.now.at part.now.upload.bucket.now part.now.upload.key.now part.now.upload.upload part.now.number
         part.now.bytes.now (option_copied given.entry))
         (tables S.Store connection.old) (tables S.Store connection.new) result }
+    ensures blocks { OnOk result (IsClean S.Store connection.new
+        → StoresPieces D.digest_of block_size part.now.bytes.now (tables S.Store connection.old) (tables S.Store connection.new)) }
 {
     let found = found_upload(connection, &part.upload)?;
     let checksum = checked_sum(alloc, part.bytes, given)?;

@@ -1,28 +1,25 @@
 -- A row of `buckets` added, changed or taken out: the tenant's buckets with an empty one more, with another state of one, or without one.
-use Rattle.std.proofs.Common.{◌≡◌, ◌≢◌, ℕ, ◌≤◌, Bool, true, false, true≢false, List, [], ◌∷◌, ◌++◌, Some, None, IsTrue, refl, sym, ap, ◌∙◌, subst, arith, Option}
-use Rattle.std.specs.List.{AllByRecursion}
+use Rattle.std.proofs.Common.{◌≡◌, ◌≢◌, ℕ, ◌≤◌, Bool, List, [], ◌∷◌, ◌++◌, Some, None, IsTrue, refl, sym, ap, ◌∙◌, subst, arith, Option}
 use Rattle.std.specs.FinMap.{FinMap, get, insert, remove}
 use Rattle.std.proofs.lemmas.Bool.{and_parts}
 use Rattle.sqlite_keyed.specs.Lists.{update_where, delete_where}
 use Rattle.sqlite_keyed.proofs.ListLemmas.{all-filter}
 use Rattle.sqlite_typed.specs.Tests.{bytes_eq}
 use Rattle.bh_types.specs.Names.{is_bucket_name}
-use Rattle.bh_types.specs.declared.bucket_state.BucketState.TheVariants.{Unversioned}
 use Rattle.bh_model.specs.State.{Octets, octets_cmp, Bucket, State, new_bucket}
 use Rattle.bh_model.specs.Operations.{with_bucket}
 use Rattle.bh_tables.specs.Typed.{TenantRow, BucketRow, VersionRow, UploadRow, Tables}
 use Rattle.bh_tables.specs.Shown.{is_bucket}
 use Rattle.bh_view.specs.Grouped.{first, Refers}
 use Rattle.bh_view.specs.View.{mode_of, rows_of, bucket_shown, buckets_of, view, latest_of, named, in_bucket, uploads_in}
-use Rattle.bh_view.specs.Sound.{IsPlain, AreBuckets, AreVersions, AreUploads, AreSound, IsSound, AreDays}
+use Rattle.bh_view.specs.Sound.{AreBuckets, AreVersions, AreUploads, AreSound, IsSound, AreDays}
 use Rattle.bh_view.specs.Becomes.{Becomes}
 use Rattle.bh_view.proofs.Keys.{octets}
-use Rattle.bh_view.proofs.FilterLemmas.{none_some, same_Some, none_mapped, push_other, delete_other, update_other, first_updated}
-use Rattle.bh_view.proofs.GroupedLemmas.{is_other}
+use Rattle.bh_view.proofs.FilterLemmas.{none_some, none_mapped}
 use Rattle.bh_view.proofs.FactLemmas.{all_pushed, all_updated, none_first, unique_pushed, unique_deleted, unique_updated, refers_grown, refers_left, refers_updated}
 use Rattle.bh_view.proofs.OwnLemmas.{rows_at, others_pushed, others_deleted, others_updated, mine_pushed, mine_deleted, mine_updated, within_own}
 use Rattle.bh_view.proofs.ViewLemmas.{view_is, own_row, becomes, buckets_shown}
-use Rattle.bh_view.proofs.BucketLemmas.{get-buckets_of, bucket_row, bucket_pushed, bucket_deleted, bucket_updated}
+use Rattle.bh_view.proofs.BucketLemmas.{get-buckets_of, bucket_pushed, bucket_deleted, bucket_updated}
 
 abbrev own : BucketRow → Octets
 own r = r.tenant
@@ -30,23 +27,11 @@ own r = r.tenant
 abbrev name : BucketRow → Octets
 name r = r.bucket
 
--- a name that is one is not another
-apart_from : (b q n : Octets) → bytes_eq b q ≡ false → bytes_eq n q ≡ true → n ≢ b
-apart_from b q n apart here there = true≢false (sym (ap (λ z. bytes_eq z q) (sym there) ∙ here) ∙ apart)
-
 -- no row has the name of a bucket that is not there
 pub bucket_fresh : (tables : Tables) (t : Octets) (s : State) → view tables t ≡ Some s → (b : Octets) → get s.buckets b ≡ None → named b (rows_of t tables).buckets ≡ []
 bucket_fresh tables t s is b none =
     let mine = rows_of t tables in
     none_first _ (none_mapped (bucket_shown mine b) _ (sym (get-buckets_of mine b) ∙ ap (λ (x : State). get x.buckets b) (own_row tables t s is).2 ∙ none))
-
--- a bucket with a new name has no versions
-unversioned_grown : (latest : ℕ) (tenants : List TenantRow) (buckets : List BucketRow) (versions : List VersionRow) → AreVersions latest tenants buckets versions → (new : BucketRow) → named new.bucket buckets ≡ []
-    → (b : Octets) (r : BucketRow) → first (named b (buckets ++ new ∷ [])) ≡ Some r → mode_of r.state ≡ Unversioned → AllByRecursion IsPlain (in_bucket b versions)
-unversioned_grown latest tenants buckets versions all new fresh b r there zero = elim (bytes_eq new.bucket b) as (λ h. bytes_eq new.bucket b ≡ h → AllByRecursion IsPlain (in_bucket b versions)) [
-  | true ↦ λ e. subst (AllByRecursion IsPlain) (sym (all.owned b (ap first (ap (λ z. named z buckets) (sym ((octets.decides new.bucket b).0 e)) ∙ fresh)))) tt
-  | false ↦ λ e. all.unversioned b r (ap first (sym (push_other (λ x. bytes_eq x.bucket b) buckets new e)) ∙ there) zero
-] refl
 
 -- uploads whose buckets are there still
 uploads_kept : (latest : ℕ) (tenants : List TenantRow) (was now : List BucketRow) (uploads : List UploadRow) → AreUploads latest tenants was uploads → Refers bytes_eq name now (λ (u : UploadRow). u.bucket) uploads → AreUploads latest tenants now uploads
@@ -72,7 +57,7 @@ bucket_added old new t s b at sound is none good early e =
       tenants = all.tenants;
       keys = all.keys;
       buckets = record { each = all_pushed _ _ r all.buckets.each (record { name = good; created = early; state = omega arith; days = tt }); one = unique_pushed octets name _ r all.buckets.one fresh; owned = λ gone. absurd (none_some (sym gone ∙ row.1)) };
-      versions = record { each = all.versions.each; one_seq = all.versions.one_seq; one_id = all.versions.one_id; owned = refers_grown octets name (λ (v : VersionRow). v.bucket) mine.buckets mine.versions r all.versions.owned; unversioned = unversioned_grown (latest_of old) mine.tenants mine.buckets mine.versions all.versions r fresh; given = all.versions.given };
+      versions = record { each = all.versions.each; one_seq = all.versions.one_seq; one_id = all.versions.one_id; owned = refers_grown octets name (λ (v : VersionRow). v.bucket) mine.buckets mine.versions r all.versions.owned; given = all.versions.given };
       uploads = uploads_kept (latest_of old) mine.tenants mine.buckets (mine.buckets ++ r ∷ []) mine.uploads all.uploads (refers_grown octets name (λ (u : UploadRow). u.bucket) mine.buckets mine.uploads r all.uploads.owned);
       parts = all.parts;
     })))
@@ -93,12 +78,6 @@ module _ (old new : Tables) (t : Octets) (s : State) (sound : IsSound old) (is :
   -- ---- taken out
 
   module _ (b : Octets) (empty : in_bucket b (rows_of t old).versions ≡ []) (no_uploads : uploads_in b (rows_of t old).uploads ≡ []) where
-    unversioned_left : (q : Octets) (r : BucketRow) → first (named q (delete_where (λ (x : BucketRow). bytes_eq x.bucket b) (rows_of t old).buckets)) ≡ Some r → mode_of r.state ≡ Unversioned → AllByRecursion IsPlain (in_bucket q (rows_of t old).versions)
-    unversioned_left q r there zero = elim (bytes_eq b q) as (λ h. bytes_eq b q ≡ h → AllByRecursion IsPlain (in_bucket q (rows_of t old).versions)) [
-      | true ↦ λ e. subst (λ z. AllByRecursion IsPlain (in_bucket z (rows_of t old).versions)) ((octets.decides b q).0 e) (subst (AllByRecursion IsPlain) (sym empty) tt)
-      | false ↦ λ e. (sound.tenants t).versions.unversioned q r (ap first (sym (delete_other (λ x. bytes_eq x.bucket q) (λ x. bytes_eq x.bucket b) (rows_of t old).buckets (λ x here. is_other octets x.bucket b (apart_from b q x.bucket e here)))) ∙ there) zero
-    ] refl
-
     -- a bucket without versions and without uploads
     pub bucket_removed : new ≡ record old { buckets = delete_where (is_bucket t b) old.buckets } → Becomes t (Some (record s { buckets = remove s.buckets b })) old new
     bucket_removed =
@@ -109,12 +88,12 @@ module _ (old new : Tables) (t : Octets) (s : State) (sound : IsSound old) (is :
         (others_deleted own t (is_bucket t b) (λ r h. within_own own t r (and_parts _ _ h).0) old.buckets)
         (mine_deleted own t test old.buckets) (bucket_deleted mine b)
         (record { each = all-filter _ _ _ all.buckets.each; one = unique_deleted octets name _ test all.buckets.one; owned = λ gone. ap (delete_where test) (all.buckets.owned gone) })
-        (record { each = all.versions.each; one_seq = all.versions.one_seq; one_id = all.versions.one_id; owned = refers_left octets name (λ (v : VersionRow). v.bucket) mine.buckets mine.versions b all.versions.owned empty; unversioned = unversioned_left; given = all.versions.given })
+        (record { each = all.versions.each; one_seq = all.versions.one_seq; one_id = all.versions.one_id; owned = refers_left octets name (λ (v : VersionRow). v.bucket) mine.buckets mine.versions b all.versions.owned empty; given = all.versions.given })
         (refers_left octets name (λ (u : UploadRow). u.bucket) mine.buckets mine.uploads b all.uploads.owned no_uploads)
 
   -- ---- changed
 
-  module _ (b : Octets) (B : Bucket) (at : get s.buckets b ≡ Some B) (n : ℕ) (low : n ≤ 2) (kept : mode_of n ≡ Unversioned → ⊥) where
+  module _ (b : Octets) (B : Bucket) (at : get s.buckets b ≡ Some B) (n : ℕ) (low : n ≤ 2) where
     abbrev is_it : BucketRow → Bool
     is_it r = bytes_eq r.bucket b
 
@@ -124,17 +103,7 @@ module _ (old new : Tables) (t : Octets) (s : State) (sound : IsSound old) (is :
     there_before : get (buckets_of (rows_of t old)) b ≡ Some B
     there_before = ap (λ (x : State). get x.buckets b) (own_row old t s is).2 ∙ at
 
-    unversioned_set : (q : Octets) (r : BucketRow) → first (named q (update_where is_it with_state (rows_of t old).buckets)) ≡ Some r → mode_of r.state ≡ Unversioned → AllByRecursion IsPlain (in_bucket q (rows_of t old).versions)
-    unversioned_set q r there zero = elim (bytes_eq b q) as (λ h. bytes_eq b q ≡ h → AllByRecursion IsPlain (in_bucket q (rows_of t old).versions)) [
-      | true ↦ λ e.
-          let row = bucket_row (rows_of t old) b B there_before in
-          let set = first_updated is_it with_state (λ x. refl) (rows_of t old).buckets row.0 row.1 in
-          let same = same_Some (sym set ∙ ap (λ z. first (named z (update_where is_it with_state (rows_of t old).buckets))) ((octets.decides b q).0 e) ∙ there) in
-          absurd (kept (ap (λ (x : BucketRow). mode_of x.state) same ∙ zero))
-      | false ↦ λ e. (sound.tenants t).versions.unversioned q r (ap first (sym (update_other (λ x. bytes_eq x.bucket q) is_it with_state (λ x here. is_other octets x.bucket b (apart_from b q x.bucket e here)) (λ x here. ap (λ z. bytes_eq z q) ((octets.decides x.bucket b).0 here) ∙ e) (rows_of t old).buckets)) ∙ there) zero
-    ] refl
-
-    -- the state of a bucket, which is to keep versions or kept them once
+    -- the state of a bucket
     pub state_changed : new ≡ record old { buckets = update_where (is_bucket t b) with_state old.buckets } → Becomes t (Some (with_bucket b (record B { mode = mode_of n }) s)) old new
     state_changed =
         let mine = rows_of t old in
@@ -147,7 +116,7 @@ module _ (old new : Tables) (t : Octets) (s : State) (sound : IsSound old) (is :
           one = unique_updated octets name _ is_it with_state (λ x. refl) all.buckets.one;
           owned = λ gone. ap (update_where is_it with_state) (all.buckets.owned gone);
         })
-        (record { each = all.versions.each; one_seq = all.versions.one_seq; one_id = all.versions.one_id; owned = refers_updated octets name (λ (v : VersionRow). v.bucket) mine.buckets mine.versions is_it with_state (λ x. refl) all.versions.owned; unversioned = unversioned_set; given = all.versions.given })
+        (record { each = all.versions.each; one_seq = all.versions.one_seq; one_id = all.versions.one_id; owned = refers_updated octets name (λ (v : VersionRow). v.bucket) mine.buckets mine.versions is_it with_state (λ x. refl) all.versions.owned; given = all.versions.given })
         (refers_updated octets name (λ (u : UploadRow). u.bucket) mine.buckets mine.uploads is_it with_state (λ x. refl) all.uploads.owned)
 
   -- ---- another rule
@@ -162,17 +131,6 @@ module _ (old new : Tables) (t : Octets) (s : State) (sound : IsSound old) (is :
     shown_before : get (buckets_of (rows_of t old)) b ≡ Some B
     shown_before = ap (λ (x : State). get x.buckets b) (own_row old t s is).2 ∙ at
 
-    unversioned_still : (q : Octets) (r : BucketRow) → first (named q (update_where named_so with_days (rows_of t old).buckets)) ≡ Some r → mode_of r.state ≡ Unversioned → AllByRecursion IsPlain (in_bucket q (rows_of t old).versions)
-    unversioned_still q r there zero = elim (bytes_eq b q) as (λ h. bytes_eq b q ≡ h → AllByRecursion IsPlain (in_bucket q (rows_of t old).versions)) [
-      | true ↦ λ e.
-          let row = bucket_row (rows_of t old) b B shown_before in
-          let here = (octets.decides b q).0 e in
-          let set = first_updated named_so with_days (λ x. refl) (rows_of t old).buckets row.0 row.1 in
-          let same = same_Some (sym set ∙ ap (λ z. first (named z (update_where named_so with_days (rows_of t old).buckets))) here ∙ there) in
-          subst (λ z. AllByRecursion IsPlain (in_bucket z (rows_of t old).versions)) here ((sound.tenants t).versions.unversioned b row.0 row.1 (ap (λ (x : BucketRow). mode_of x.state) same ∙ zero))
-      | false ↦ λ e. (sound.tenants t).versions.unversioned q r (ap first (sym (update_other (λ x. bytes_eq x.bucket q) named_so with_days (λ x here. is_other octets x.bucket b (apart_from b q x.bucket e here)) (λ x here. ap (λ z. bytes_eq z q) ((octets.decides x.bucket b).0 here) ∙ e) (rows_of t old).buckets)) ∙ there) zero
-    ] refl
-
     pub days_changed : new ≡ record old { buckets = update_where (is_bucket t b) with_days old.buckets } → Becomes t (Some (with_bucket b (record B { days = d }) s)) old new
     days_changed =
         let mine = rows_of t old in
@@ -185,5 +143,5 @@ module _ (old new : Tables) (t : Octets) (s : State) (sound : IsSound old) (is :
           one = unique_updated octets name _ named_so with_days (λ x. refl) all.buckets.one;
           owned = λ gone. ap (update_where named_so with_days) (all.buckets.owned gone);
         })
-        (record { each = all.versions.each; one_seq = all.versions.one_seq; one_id = all.versions.one_id; owned = refers_updated octets name (λ (v : VersionRow). v.bucket) mine.buckets mine.versions named_so with_days (λ x. refl) all.versions.owned; unversioned = unversioned_still; given = all.versions.given })
+        (record { each = all.versions.each; one_seq = all.versions.one_seq; one_id = all.versions.one_id; owned = refers_updated octets name (λ (v : VersionRow). v.bucket) mine.buckets mine.versions named_so with_days (λ x. refl) all.versions.owned; given = all.versions.given })
         (refers_updated octets name (λ (u : UploadRow). u.bucket) mine.buckets mine.uploads named_so with_days (λ x. refl) all.uploads.owned)

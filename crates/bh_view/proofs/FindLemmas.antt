@@ -3,27 +3,25 @@ use Rattle.std.proofs.Common.{◌≡◌, ℕ, ◌≤◌, Bool, true, false, cond
 use Rattle.std.specs.List.{list_any}
 use Rattle.std.specs.FinMap.{get}
 use Rattle.sqlite_keyed.specs.Lists.{sort_by, delete_where}
-use Rattle.sqlite_keyed.proofs.ListLemmas.{all_weaker, all-filter, filter-map, filter_all, filter_none}
+use Rattle.sqlite_keyed.proofs.ListLemmas.{all_weaker, filter-map, filter_none}
 use Rattle.sqlite_typed.specs.Tests.{bytes_eq}
-use Rattle.bh_types.specs.declared.bucket_state.BucketState.TheVariants.{Unversioned}
-use Rattle.bh_types.specs.declared.wanted.Wanted.TheVariants.{Current, Named}
-use Rattle.bh_types.specs.declared.refusal.Refusal.TheVariants.{NoSuchKey}
+use Rattle.bh_types.specs.declared.wanted.Wanted.TheVariants.{Named}
 use Rattle.bh_model.specs.State.{Octets, Bucket, State}
 use Rattle.bh_model.specs.Counting.{counts}
 use Rattle.bh_model.specs.Credentials.{secret_of}
-use Rattle.bh_model.specs.Entries.{has_id, not_found, opened, found_named, lookup}
+use Rattle.bh_model.specs.Entries.{has_id, found_named, lookup}
 use Rattle.bh_model.specs.Operations.{listed}
 use Rattle.bh_tables.specs.Typed.{TenantRow, KeyRow, BucketRow, VersionRow, Tables}
 use Rattle.bh_tables.specs.Shown.{is_tenant, is_key, is_bucket, is_version, is_entry, newer}
 use Rattle.bh_view.specs.Grouped.{first, matching, same_number}
-use Rattle.bh_view.specs.View.{rows_of, id_of, content_of, entry_of, entries_of, bucket_shown, buckets_of, state_of, view, in_bucket, named, at_key}
+use Rattle.bh_view.specs.View.{rows_of, id_of, entry_of, entries_of, bucket_shown, buckets_of, state_of, view, in_bucket, named, at_key}
 use Rattle.bh_view.specs.Sound.{IsSound}
 use Rattle.bh_view.proofs.Keys.{octets, numbers}
 use Rattle.bh_view.proofs.FilterLemmas.{none_some, none_mapped, delete_all, filter_both}
 use Rattle.bh_view.proofs.SortLemmas.{sorted_single, sort_by-filter}
 use Rattle.bh_view.proofs.GroupedLemmas.{get-keyed, is_other}
 use Rattle.bh_view.proofs.ObjectLemmas.{newer_total, entries_at-objects_of}
-use Rattle.bh_view.proofs.BucketLemmas.{row_of, bucket_row, get-buckets_of, objects_shown}
+use Rattle.bh_view.proofs.BucketLemmas.{row_of, get-buckets_of, objects_shown}
 use Rattle.bh_view.proofs.ViewLemmas.{view_is, own_row}
 use Rattle.bh_view.proofs.VersionChanges.{at_id, one_version, same_ids}
 use Rattle.bh_view.proofs.PutLemmas.{older, next_fresh}
@@ -152,24 +150,11 @@ module _ (tables : Tables) (t : Octets) where
       pub named_found : (n : ℕ) → lookup (Named (id_of n)) (listed k B) ≡ found_named (option_map entry_of (first (filter (is_version t b k n) tables.versions)))
       named_found n = ap found_named (version_found n)
 
-      -- where versions were never kept a key has the version `null` alone, or nothing
-      pub null_found : B.mode ≡ Unversioned → listed k B ≡ option_to_list (option_map entry_of (first (filter (is_version t b k 0) tables.versions)))
-      null_found plain =
-          let mine : List VersionRow = at_key k (in_bucket b (rows_of t tables).versions) in
-          let bucket = bucket_row (rows_of t tables) b B here in
-          let all : at_id 0 mine ≡ mine = filter_all (λ v. same_number v.id 0) mine (all-filter _ _ _ (all_weaker _ (λ v. same_number v.id 0 ≡ true) (λ v plain. (numbers.decides v.id 0).1 plain.null) _
-          ((sound.tenants t).versions.unversioned b bucket.0 bucket.1 (ap (λ (x : Bucket). x.mode) bucket.2 ∙ plain)))) in
-          let short : length mine ≤ 1 = subst (λ l. length l ≤ 1) all ((sound.tenants t).versions.one_id b k 0) in
-          listed_rows ∙ ap (map entry_of) (sorted_single newer mine short) ∙ as_option entry_of mine short
-          ∙ ap (λ l. option_to_list (option_map entry_of (first l))) (sym all ∙ one_version t b k 0 tables.versions)
-
-      -- so a lookup of the current version finds that row
-      module _ (plain : B.mode ≡ Unversioned) where
-        pub current_missing : first (filter (is_version t b k 0) tables.versions) ≡ None → lookup Current (listed k B) ≡ not_found NoSuchKey
-        current_missing none = ap (lookup Current) (null_found plain ∙ ap (λ o. option_to_list (option_map entry_of o)) none)
-
-        pub current_found : (v : VersionRow) → first (filter (is_version t b k 0) tables.versions) ≡ Some v → lookup Current (listed k B) ≡ opened NoSuchKey (entry_of v) (content_of v.marker v)
-        current_found v there = ap (lookup Current) (null_found plain ∙ ap (λ o. option_to_list (option_map entry_of o)) there)
+      -- of which there is one at most
+      pub id_found : (n : ℕ) → filter (has_id (id_of n)) (listed k B) ≡ option_to_list (option_map entry_of (find (is_version t b k n) tables.versions))
+      id_found n = id_filtered n
+          ∙ as_option entry_of (filter (is_version t b k n) tables.versions) (subst (λ l. length l ≤ 1) (one_version t b k n tables.versions) ((sound.tenants t).versions.one_id b k n))
+          ∙ ap (λ o. option_to_list (option_map entry_of o)) (first_find (is_version t b k n) tables.versions)
 
   -- the next numbers are of no row yet
   module _ (s : State) (sound : IsSound tables) (is : view tables t ≡ Some s) where

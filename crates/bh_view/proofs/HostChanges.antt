@@ -10,7 +10,6 @@ use Rattle.bh_view.specs.View.{TenantRows, rows_of, view, latest_of, limits_in, 
 use Rattle.bh_view.specs.Sound.{IsBucketRow, IsVersionRow, IsUploadRow, IsPartRow, AreSound, IsSound}
 use Rattle.bh_view.specs.Becomes.{IsStamped}
 use Rattle.bh_view.specs.Laws.{new_host}
-use Rattle.bh_view.proofs.FilterLemmas.{none_some}
 use Rattle.bh_view.proofs.ViewLemmas.{view_is, same_view}
 
 -- the last stamp is that of the one row
@@ -34,7 +33,7 @@ sound_later m n up rows all =
       tenants = all.tenants;
       keys = all.keys;
       buckets = record { each = buckets; one = all.buckets.one; owned = all.buckets.owned };
-      versions = record { each = versions; one_seq = all.versions.one_seq; one_id = all.versions.one_id; owned = all.versions.owned; unversioned = all.versions.unversioned; given = all.versions.given };
+      versions = record { each = versions; one_seq = all.versions.one_seq; one_id = all.versions.one_id; owned = all.versions.owned; given = all.versions.given };
       uploads = record { each = uploads; one = all.uploads.one; owned = all.uploads.owned; given = all.uploads.given };
       parts = record { each = parts; one = all.parts.one; one_body = all.parts.one_body; apart = all.parts.apart; owned = all.parts.owned; given = all.parts.given };
     }
@@ -77,7 +76,7 @@ created tables min_part max_body limits e =
           tenants = record { each = tt; one = omega arith };
           keys = record { each = tt; one = λ q. omega arith; owned = λ gone. refl };
           buckets = record { each = tt; one = λ q. omega arith; owned = λ gone. refl };
-          versions = record { each = tt; one_seq = λ q. omega arith; one_id = λ b k q. omega arith; owned = λ q gone. refl; unversioned = λ b r none. absurd (none_some none); given = tt };
+          versions = record { each = tt; one_seq = λ q. omega arith; one_id = λ b k q. omega arith; owned = λ q gone. refl; given = tt };
           uploads = record { each = tt; one = λ q. omega arith; owned = λ q gone. refl; given = tt };
           parts = record { each = tt; one = λ u q. omega arith; one_body = λ q. omega arith; apart = tt; owned = λ q gone. refl; given = tt };
         };

@@ -20,6 +20,7 @@ pub mod VersionChanges
 pub mod PutLemmas
 pub mod FindLemmas
 pub mod WantedLemmas
+pub mod IdLemmas
 pub mod DeleteLemmas
 pub mod RowLemmas
 pub mod PurgeLemmas

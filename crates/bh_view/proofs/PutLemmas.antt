@@ -61,14 +61,6 @@ pub numbered_id : (n : ℕ) → 1 ≤ n → id_of n ≡ Numbered n
 numbered_id zero low = absurd (omega arith)
 numbered_id (suc n) low = refl
 
-abbrev pub is_plain : BucketState → Bool
-is_plain Unversioned = true
-is_plain Enabled = false
-is_plain Suspended = false
-
-enabled : Unversioned ≡ Enabled → ⊥
-enabled e = absurd (true≢false (ap is_plain e))
-
 -- ---- what sound rows say of the next numbers
 
 module _ (tables : Tables) (t : Octets) (s : State) (sound : IsSound tables) (is : view tables t ≡ Some s) where
@@ -122,7 +114,7 @@ entry_shown t b k seq id moment (Body bytes checksum) = refl
 
 module _ (old new : Tables) (t : Octets) (s : State) (sound : IsSound old) (is : view old t ≡ Some s) (b k : Octets) (B : Bucket) (at : get s.buckets b ≡ Some B)
     (moment : ℕ) (early : moment ≤ latest_of old) (good : IsTrue (is_object_key k)) (text : IsUtf8 k) where
-  module _ (content : Content) (fits : B.mode ≡ Unversioned → marker_number content ≡ 0) where
+  module _ (content : Content) where
     row_good : (seq id : ℕ) (tables : Tables) → latest_of tables ≡ latest_of old → IsVersionRow (latest_of tables) (entry_row t b k seq id moment content)
     row_good seq id tables same = record { key = good; text = text; marker = marker_small content; bare = marker_bare content; stamp = subst (λ n. moment ≤ n) (sym same) early; size = content_sized content }
 
@@ -139,7 +131,7 @@ module _ (old new : Tables) (t : Octets) (s : State) (sound : IsSound old) (is :
         let second = version_removed one two t s1 first.sound first.shown b k 0 B at refl in
         let third = version_added two new (with_bucket b B1 s1) (entry_row t b k s.next_entry 0 moment content) B1 second.sound second.shown (get_here octets s.buckets b (Some B1))
         (row_good s.next_entry 0 two (second.latest ∙ first.latest)) (omega arith) (omega (arith, (counters_good old t s sound is).0.0))
-        (subst (AllByRecursion (λ x. x.seq < s.next_entry)) (sym (mine_deleted (λ (x : VersionRow). x.tenant) t _ old.versions)) (all-filter _ _ _ (older old t s sound is))) (parts_older old t s sound is) (delete_all (is_version t b k 0) old.versions) (λ plain. record { null = refl; body = fits plain }) e in
+        (subst (AllByRecursion (λ x. x.seq < s.next_entry)) (sym (mine_deleted (λ (x : VersionRow). x.tenant) t _ old.versions)) (all-filter _ _ _ (older old t s sound is))) (parts_older old t s sound is) (delete_all (is_version t b k 0) old.versions) e in
         subst (λ (x : State). Becomes t (Some x) old new)
         (bucket_again b B1 _ s1 ∙ ap (λ x. with_bucket b x s1)
         (ap (λ (x : Entry). with_entries k (x ∷ listed k B1) B1) (entry_shown t b k s.next_entry 0 moment content)
@@ -148,33 +140,33 @@ module _ (old new : Tables) (t : Octets) (s : State) (sound : IsSound old) (is :
         (becomes_then t _ _ old two new (becomes_then t _ _ old one two first second) third)
 
     -- a numbered entry is added
-    put_numbered : (B.mode ≡ Unversioned → ⊥) → can_give s.next_version ≡ true → can_give s.next_entry ≡ true
+    put_numbered : can_give s.next_version ≡ true → can_give s.next_entry ≡ true
         → new ≡ record old { tenants = update_where (is_tenant t) (λ r. record r { next_version = s.next_version + 1; next_entry = s.next_entry + 1 }) old.tenants; versions = old.versions ++ entry_row t b k s.next_entry s.next_version moment content ∷ [] }
         → Becomes t (Some (with_bucket b (with_entries k (entry (Numbered s.next_version) moment content ∷ listed k B) B) (record s { next_version = s.next_version + 1; next_entry = s.next_entry + 1 }))) old new
-    put_numbered versioned version room e =
+    put_numbered version room e =
         let one : Tables = record old { tenants = update_where (is_tenant t) (λ r. record r { next_version = s.next_version + 1; next_entry = s.next_entry + 1 }) old.tenants } in
         let s1 : State = record s { next_version = s.next_version + 1; next_entry = s.next_entry + 1 } in
         let first = numbers_set old one t s sound is (s.next_version + 1) (s.next_entry + 1) (omega arith) (omega (arith, leb-true _ _ version)) (omega arith) (omega (arith, leb-true _ _ room)) refl in
         let second = version_added one new s1 (entry_row t b k s.next_entry s.next_version moment content) B first.sound first.shown at
-        (row_good s.next_entry s.next_version one first.latest) (omega arith) (omega arith) (older old t s sound is) (parts_older old t s sound is) (next_fresh old t s sound is b k) (λ plain. absurd (versioned plain)) e in
+        (row_good s.next_entry s.next_version one first.latest) (omega arith) (omega arith) (older old t s sound is) (parts_older old t s sound is) (next_fresh old t s sound is b k) e in
         subst (λ (x : Entry). Becomes t (Some (with_bucket b (with_entries k (x ∷ listed k B) B) s1)) old new)
         (entry_shown t b k s.next_entry s.next_version moment content ∙ ap (λ id. entry id moment content) (numbered_id s.next_version (counters_good old t s sound is).0.0))
         (becomes_then t _ _ old one new first second)
 
     -- the entries that the machine makes, in a bucket of any state
-    put_in : (mode : BucketState) (c : Counts) → B.mode ≡ mode → after_entry mode (counts s) ≡ Ok c
+    put_in : (mode : BucketState) (c : Counts) → after_entry mode (counts s) ≡ Ok c
         → new ≡ record old { tenants = update_where (is_tenant t) (counters_row mode c) old.tenants; versions = rows_left mode t b k old.versions ++ entry_row t b k s.next_entry (row_number mode s.next_version) moment content ∷ [] }
         → Becomes t (Some (with_bucket b (with_entries k (added mode s.next_version moment content (listed k B)) B) (with_counts c s))) old new
-    put_in Unversioned c its given e =
+    put_in Unversioned c given e =
         let g = was_given (can_give s.next_entry) _ c given in
         subst (λ (x : Counts). Becomes t (Some (with_bucket b (with_entries k (entry Null moment content ∷ without Null (listed k B)) B) (with_counts x s))) old new) g.1
         (put_replacing g.0 (e ∙ ap (λ (x : Counts). record old { tenants = update_where (is_tenant t) (λ r. record r { next_entry = x.entry }) old.tenants; versions = delete_where (is_version t b k 0) old.versions ++ entry_row t b k s.next_entry 0 moment content ∷ [] }) (sym g.1)))
-    put_in Enabled c its given e =
+    put_in Enabled c given e =
         let g = was_given (can_give s.next_version && can_give s.next_entry) _ c given in
         let both = and_parts _ _ g.0 in
         subst (λ (x : Counts). Becomes t (Some (with_bucket b (with_entries k (entry (Numbered s.next_version) moment content ∷ listed k B) B) (with_counts x s))) old new) g.1
-        (put_numbered (λ plain. enabled (sym plain ∙ its)) both.0 both.1 (e ∙ ap (λ (x : Counts). record old { tenants = update_where (is_tenant t) (λ r. record r { next_version = x.version; next_entry = x.entry }) old.tenants; versions = old.versions ++ entry_row t b k s.next_entry s.next_version moment content ∷ [] }) (sym g.1)))
-    put_in Suspended c its given e =
+        (put_numbered both.0 both.1 (e ∙ ap (λ (x : Counts). record old { tenants = update_where (is_tenant t) (λ r. record r { next_version = x.version; next_entry = x.entry }) old.tenants; versions = old.versions ++ entry_row t b k s.next_entry s.next_version moment content ∷ [] }) (sym g.1)))
+    put_in Suspended c given e =
         let g = was_given (can_give s.next_entry) _ c given in
         subst (λ (x : Counts). Becomes t (Some (with_bucket b (with_entries k (entry Null moment content ∷ without Null (listed k B)) B) (with_counts x s))) old new) g.1
         (put_replacing g.0 (e ∙ ap (λ (x : Counts). record old { tenants = update_where (is_tenant t) (λ r. record r { next_entry = x.entry }) old.tenants; versions = delete_where (is_version t b k 0) old.versions ++ entry_row t b k s.next_entry 0 moment content ∷ [] }) (sym g.1)))
@@ -186,16 +178,16 @@ module _ (old new : Tables) (t : Octets) (s : State) (sound : IsSound old) (is :
   -- an object is put: the machine's state then
   pub object_put : (bytes : Octets) (c : Counts) → after_entry B.mode (counts s) ≡ Ok c → new ≡ with_row B.mode c (Body bytes (checksum_text bytes))
       → Becomes t (Some (with_bucket b (with_object moment k s.next_version bytes B) (with_counts c s))) old new
-  object_put bytes c given e = put_in (Body bytes (checksum_text bytes)) (λ _. refl) B.mode c refl given e
+  object_put bytes c given e = put_in (Body bytes (checksum_text bytes)) B.mode c given e
 
   -- a version is copied
   pub copy_put : (v : Version) (c : Counts) → after_entry B.mode (counts s) ≡ Ok c → new ≡ with_row B.mode c (Body v.bytes v.checksum)
       → Becomes t (Some (with_bucket b (with_copy moment k s.next_version v B) (with_counts c s))) old new
-  copy_put v c given e = put_in (Body v.bytes v.checksum) (λ _. refl) B.mode c refl given e
+  copy_put v c given e = put_in (Body v.bytes v.checksum) B.mode c given e
 
   -- a delete marker is made, where versions are or were numbered
-  pub marker_put : (mode : BucketState) (c : Counts) → B.mode ≡ mode → (mode ≡ Unversioned → ⊥) → after_entry mode (counts s) ≡ Ok c → new ≡ with_row mode c Marker
+  pub marker_put : (mode : BucketState) (c : Counts) → (mode ≡ Unversioned → ⊥) → after_entry mode (counts s) ≡ Ok c → new ≡ with_row mode c Marker
       → Becomes t (Some (with_bucket b (with_entries k (deleted_current mode s.next_version moment (listed k B)) B) (with_counts c s))) old new
-  marker_put Unversioned c its versioned given e = absurd (versioned refl)
-  marker_put Enabled c its versioned given e = put_in Marker (λ plain. absurd (true≢false (ap is_plain (sym plain ∙ its)))) Enabled c its given e
-  marker_put Suspended c its versioned given e = put_in Marker (λ plain. absurd (true≢false (ap is_plain (sym plain ∙ its)))) Suspended c its given e
+  marker_put Unversioned c versioned given e = absurd (versioned refl)
+  marker_put Enabled c versioned given e = put_in Marker Enabled c given e
+  marker_put Suspended c versioned given e = put_in Marker Suspended c given e

@@ -64,7 +64,6 @@ module _ (old new : Tables) (t : Octets) (s : State) (sound : IsSound old) (is :
           one_seq = all.versions.one_seq;
           one_id = all.versions.one_id;
           owned = all.versions.owned;
-          unversioned = all.versions.unversioned;
           given = (all_weaker (λ v. IsBelow v r) (λ v. IsBelow v (f r)) (λ v. below_later v r (f r) fine.1) mine.versions (all_first _ _ r row.1 all.versions.given), tt);
         };
         uploads = record {
@@ -146,7 +145,7 @@ tenant_added old new t quota sound is name few e =
       tenants = record { each = (record { name = name; quota = few; counters = ((omega arith, omega arith), (omega arith, omega arith), (omega arith, omega arith)) }, tt); one = omega arith };
       keys = record { each = tt; one = λ q. omega arith; owned = λ gone. refl };
       buckets = record { each = tt; one = λ q. omega arith; owned = λ gone. refl };
-      versions = record { each = tt; one_seq = λ q. omega arith; one_id = λ b k q. omega arith; owned = λ q gone. refl; unversioned = λ b r none. absurd (none_some none); given = (tt, tt) };
+      versions = record { each = tt; one_seq = λ q. omega arith; one_id = λ b k q. omega arith; owned = λ q gone. refl; given = (tt, tt) };
       uploads = record { each = tt; one = λ q. omega arith; owned = λ q gone. refl; given = (tt, tt) };
       parts = record { each = tt; one = λ u q. omega arith; one_body = λ q. omega arith; apart = tt; owned = λ q gone. refl; given = (tt, tt) };
     })))

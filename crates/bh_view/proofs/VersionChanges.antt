@@ -8,18 +8,17 @@ use Rattle.std.proofs.lemmas.Bool.{and_parts}
 use Rattle.sqlite_keyed.specs.Lists.{delete_where}
 use Rattle.sqlite_keyed.proofs.ListLemmas.{all_weaker, all_both, all-filter, filter_none, none_from_any, any_from_none}
 use Rattle.sqlite_typed.specs.Tests.{bytes_eq}
-use Rattle.bh_types.specs.declared.bucket_state.BucketState.TheVariants.{Unversioned}
 use Rattle.bh_model.specs.State.{Octets, Bucket, State}
 use Rattle.bh_model.specs.Entries.{same_id, has_id, without}
 use Rattle.bh_model.specs.Operations.{with_bucket, with_entries, listed}
 use Rattle.bh_tables.specs.Typed.{TenantRow, BucketRow, VersionRow, UploadRow, PartRow, Tables}
 use Rattle.bh_tables.specs.Shown.{is_version}
 use Rattle.bh_view.specs.Grouped.{first, same_number, matching, HasUnique}
-use Rattle.bh_view.specs.View.{at_key, named, rows_of, id_of, mode_of, entry_of, buckets_of, view, latest_of, in_bucket}
-use Rattle.bh_view.specs.Sound.{IsVersionRow, IsBelow, IsPlain, AreVersions, AreParts, IsSound}
+use Rattle.bh_view.specs.View.{at_key, named, rows_of, id_of, entry_of, buckets_of, view, latest_of, in_bucket}
+use Rattle.bh_view.specs.Sound.{IsVersionRow, IsBelow, AreVersions, AreParts, IsSound}
 use Rattle.bh_view.specs.Becomes.{Becomes}
 use Rattle.bh_view.proofs.Keys.{octets, numbers}
-use Rattle.bh_view.proofs.FilterLemmas.{none_some, same_Some, push_here, push_other, filter_swap, filter_both}
+use Rattle.bh_view.proofs.FilterLemmas.{none_some, push_here, push_other, filter_swap, filter_both}
 use Rattle.bh_view.proofs.GroupedLemmas.{is_other}
 use Rattle.bh_view.proofs.FactLemmas.{all_pushed, unique_pushed, unique_deleted, refers_pushed, refers_deleted}
 use Rattle.bh_view.proofs.ObjectLemmas.{latest_of_seq}
@@ -57,7 +56,6 @@ module _ (latest : ℕ) (tenants : List TenantRow) (buckets : List BucketRow) (v
     one_id = λ b k. subst (HasUnique same_number (λ (v : VersionRow). v.id)) (sym (ap (at_key k) (filter_swap (λ v. bytes_eq v.bucket b) (λ v. not (test v)) versions) ∙ filter_swap (λ v. bytes_eq v.okey k) (λ v. not (test v)) (in_bucket b versions)))
         (unique_deleted numbers (λ (v : VersionRow). v.id) (at_key k (in_bucket b versions)) test (all.one_id b k));
     owned = refers_deleted octets (λ (r : BucketRow). r.bucket) (λ (v : VersionRow). v.bucket) buckets versions test all.owned;
-    unversioned = λ b r there none. subst (AllByRecursion IsPlain) (sym (filter_swap (λ v. bytes_eq v.bucket b) (λ v. not (test v)) versions)) (all-filter _ _ _ (all.unversioned b r there none));
     given = all_weaker _ _ (λ r below. all-filter (λ v. IsBelow v r) _ versions below) tenants all.given;
   }
 
@@ -73,22 +71,13 @@ module _ (latest : ℕ) (tenants : List TenantRow) (buckets : List BucketRow) (v
     | false ↦ λ apart. subst (λ l. HasUnique same_number (λ (v : VersionRow). v.id) (at_key k l)) (sym (push_other (λ x. bytes_eq x.bucket b) versions v apart)) (all.one_id b k)
   ] refl
 
-  unversioned_more : (v : VersionRow) → ((r : BucketRow) → first (named v.bucket buckets) ≡ Some r → mode_of r.state ≡ Unversioned → IsPlain v)
-      → (b : Octets) (r : BucketRow) → first (named b buckets) ≡ Some r → mode_of r.state ≡ Unversioned → AllByRecursion IsPlain (in_bucket b (versions ++ v ∷ []))
-  unversioned_more v plain b r there none = elim (bytes_eq v.bucket b) as (λ h. bytes_eq v.bucket b ≡ h → AllByRecursion IsPlain (in_bucket b (versions ++ v ∷ []))) [
-    | true ↦ λ here. subst (AllByRecursion IsPlain) (sym (push_here (λ x. bytes_eq x.bucket b) versions v here))
-        (all_pushed _ _ v (all.unversioned b r there none) (plain r (ap (λ z. first (named z buckets)) ((octets.decides v.bucket b).0 here) ∙ there) none))
-    | false ↦ λ apart. subst (AllByRecursion IsPlain) (sym (push_other (λ x. bytes_eq x.bucket b) versions v apart)) (all.unversioned b r there none)
-  ] refl
-
   versions_more : (v : VersionRow) → IsVersionRow latest v → AllByRecursion (λ x. x.seq < v.seq) versions → at_id v.id (at_key v.okey (in_bucket v.bucket versions)) ≡ []
-      → (first (named v.bucket buckets) ≡ None → ⊥) → ((r : BucketRow) → first (named v.bucket buckets) ≡ Some r → mode_of r.state ≡ Unversioned → IsPlain v) → AllByRecursion (IsBelow v) tenants → AreVersions latest tenants buckets (versions ++ v ∷ [])
-  versions_more v good older fresh has plain below = record {
+      → (first (named v.bucket buckets) ≡ None → ⊥) → AllByRecursion (IsBelow v) tenants → AreVersions latest tenants buckets (versions ++ v ∷ [])
+  versions_more v good older fresh has below = record {
     each = all_pushed _ versions v all.each good;
     one_seq = unique_pushed numbers (λ (v : VersionRow). v.seq) versions v all.one_seq (filter_none _ versions (all_weaker _ (λ x. same_number x.seq v.seq ≡ false) (λ x less. is_other numbers x.seq v.seq (λ e. absurd (omega (arith, less, e)))) versions older));
     one_id = one_id_more v fresh;
     owned = refers_pushed octets (λ (r : BucketRow). r.bucket) (λ (v : VersionRow). v.bucket) buckets versions v all.owned has;
-    unversioned = unversioned_more v plain;
     given = all_both _ (IsBelow v) _ (λ r before it. all_pushed (λ x. IsBelow x r) versions v before it) tenants all.given below;
   }
 
@@ -143,9 +132,9 @@ module _ (old new : Tables) (t : Octets) (s : State) (sound : IsSound old) (is :
 
 pub version_added : (old new : Tables) (s : State) (v : VersionRow) (B : Bucket) → IsSound old → view old v.tenant ≡ Some s → get s.buckets v.bucket ≡ Some B
     → IsVersionRow (latest_of old) v → v.seq < s.next_entry → v.id < s.next_version → AllByRecursion (λ x. x.seq < v.seq) (rows_of v.tenant old).versions → AllByRecursion (λ (p : PartRow). p.body < v.seq) (rows_of v.tenant old).parts
-    → filter (is_version v.tenant v.bucket v.okey v.id) old.versions ≡ [] → (B.mode ≡ Unversioned → IsPlain v)
+    → filter (is_version v.tenant v.bucket v.okey v.id) old.versions ≡ []
     → new ≡ record old { versions = old.versions ++ v ∷ [] } → Becomes v.tenant (Some (with_bucket v.bucket (with_entries v.okey (entry_of v ∷ listed v.okey B) B) s)) old new
-version_added old new s v B sound is at good entry version older parts_older fresh plain =
+version_added old new s v B sound is at good entry version older parts_older fresh =
     let t = v.tenant in
     let mine = rows_of t old in
     let row = own_row old t s is in
@@ -155,6 +144,5 @@ version_added old new s v B sound is at good entry version older parts_older fre
     (others_pushed own old.versions v) (mine_pushed own old.versions v)
     (version_pushed mine v B here (all_weaker _ _ (λ x less. latest_of_seq v x less) mine.versions older))
     (versions_more (latest_of old) mine.tenants mine.buckets mine.versions (sound.tenants t).versions v good older (one_version t v.bucket v.okey v.id old.versions ∙ fresh) (λ none. none_some (sym none ∙ bucket.1))
-    (λ r there none. plain (sym (ap (λ (x : Bucket). x.mode) bucket.2) ∙ ap (λ (x : BucketRow). mode_of x.state) (same_Some (sym bucket.1 ∙ there)) ∙ none))
     (subst (AllByRecursion (IsBelow v)) (sym (own_rows old t s sound is)) (record { seq = subst (λ (x : State). v.seq < x.next_entry) (sym row.2) entry; id = subst (λ (x : State). v.id < x.next_version) (sym row.2) version }, tt)))
     (apart_more (latest_of old) mine.tenants mine.versions mine.uploads mine.parts (sound.tenants t).parts v parts_older)

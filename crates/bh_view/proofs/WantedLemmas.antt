@@ -33,7 +33,7 @@ find_none p [] none = refl
 find_none p (x ∷ xs) none = ap (λ b. cond b (Some x) (find p xs)) (none x) ∙ find_none p xs none
 
 -- no row has the number 0 as its id's
-not_zero : (n : ℕ) → same_id (id_of n) (Numbered 0) ≡ false
+pub not_zero : (n : ℕ) → same_id (id_of n) (Numbered 0) ≡ false
 not_zero zero = refl
 not_zero (suc n) = elim (suc n == 0) as (λ b. (suc n == 0) ≡ b → b ≡ false) [ true ↦ λ e. absurd (omega (arith, (unsigned_Decides (suc n) 0).0 e)) | false ↦ λ e. refl ] refl
 

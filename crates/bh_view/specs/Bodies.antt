@@ -102,6 +102,10 @@ refs_after digest body place (c ∷ cs) blocks refs = refs_after digest body (pl
 abbrev pub body_stored : (Octets → Octets) → Name → ℕ → List Octets → Tables → Tables
 body_stored digest body place cs tables = rebodied tables (refs_after digest body place cs tables.blocks tables.refs) (blocks_after digest cs tables.blocks)
 
+-- the blocks of the tables once bytes were cut into pieces of so many: those that there were, and each piece that none of them was
+abbrev pub StoresPieces : (Octets → Octets) → ℕ → Octets → Tables → Tables → Type 0
+StoresPieces digest size bytes old new = new.blocks ≡ blocks_after digest (pieces size bytes) old.blocks
+
 -- ---- a body of the blocks of others
 
 -- references of a body to the blocks that these name, from a place on

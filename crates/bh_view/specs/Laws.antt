@@ -5,6 +5,7 @@ use Rattle.std.specs.Prelude.{◌≡◌, ℕ, true, ◌&&◌, List, [], ◌∷�
 use Rattle.std.specs.List.{AllByRecursion, list_any}
 use Rattle.sqlite_typed.specs.Tests.{bytes_eq}
 use Rattle.bh_types.specs.Limits.{AreLimits}
+use Rattle.bh_model.specs.Ids.{IsNumbered}
 use Rattle.bh_model.specs.State.{Octets}
 use Rattle.bh_tables.specs.Typed.{BlockRow, RefRow, Tables}
 use Rattle.bh_tables.specs.Shown.{Name, same_name, block_name, is_use, is_of_body}
@@ -18,6 +19,10 @@ use Rattle.bh_view.specs.Sound.{IsSound}
 -- a tenant whose rows are the same has the same state, whatever the other rows are
 abbrev pub ViewsStandAlone : Type 0
 ViewsStandAlone = (t : Octets) (old new : Tables) → rows_of t new ≡ rows_of t old → view new t ≡ view old t
+
+-- in a sound host no two entries of a key of a tenant have one id, and the tenant's next version number is no entry's
+abbrev pub ViewsAreNumbered : Type 0
+ViewsAreNumbered = (tables : Tables) (t : Octets) → IsSound tables → IsNumbered (view tables t)
 
 -- the tables of a new host
 abbrev pub new_host : ℕ → ℕ → Tables

@@ -7,13 +7,12 @@ use Rattle.bh_types.specs.Names.{is_tenant_name, is_key_name, is_secret, is_buck
 use Rattle.bh_types.specs.Checksums.{checksum_text}
 use Rattle.bh_types.specs.Counts.{AreCounters}
 use Rattle.bh_types.specs.Limits.{AreLimits, IsQuota}
-use Rattle.bh_types.specs.declared.bucket_state.BucketState.TheVariants.{Unversioned}
 use Rattle.bh_model.specs.State.{Octets}
 use Rattle.bh_model.specs.Runs.{last_reading}
 use Rattle.bh_tables.specs.Typed.{HostRow, TenantRow, KeyRow, BucketRow, VersionRow, UploadRow, PartRow, Tables}
 use Rattle.bh_view.specs.Grouped.{first, same_number, HasUnique, Refers}
 use Rattle.bh_view.specs.Blocks.{AreStored}
-use Rattle.bh_view.specs.View.{TenantRows, rows_of, named, in_bucket, at_key, of_upload, mode_of, latest_of}
+use Rattle.bh_view.specs.View.{TenantRows, rows_of, in_bucket, at_key, of_upload, latest_of}
 
 -- ---- the row of the host
 
@@ -82,20 +81,12 @@ pub record IsBelow (v : VersionRow) (r : TenantRow) : Type 0 where
   pub seq : v.seq < r.next_entry
   pub id : v.id < r.next_version
 
--- a version `null`, and no delete marker
-pub record IsPlain (v : VersionRow) : Type 0 where
-  pub null : v.id ≡ 0
-  pub body : v.marker ≡ 0
-
--- no two rows of one number, no two of a key with one id, none without its bucket, and only versions `null` where the
--- bucket never had versions
+-- no two rows of one number, no two of a key with one id, and none without its bucket
 pub record AreVersions (latest : ℕ) (tenants : List TenantRow) (buckets : List BucketRow) (versions : List VersionRow) : Type 0 where
   pub each : AllByRecursion (IsVersionRow latest) versions
   pub one_seq : HasUnique same_number (λ (v : VersionRow). v.seq) versions
   pub one_id : (bucket okey : Octets) → HasUnique same_number (λ (v : VersionRow). v.id) (at_key okey (in_bucket bucket versions))
   pub owned : Refers bytes_eq (λ (r : BucketRow). r.bucket) buckets (λ (v : VersionRow). v.bucket) versions
-  pub unversioned : (bucket : Octets) (r : BucketRow) → first (named bucket buckets) ≡ Some r → mode_of r.state ≡ Unversioned
-      → AllByRecursion IsPlain (in_bucket bucket versions)
   pub given : AllByRecursion (λ (r : TenantRow). AllByRecursion (λ v. IsBelow v r) versions) tenants
 
 pub record IsUploadRow (latest : ℕ) (r : UploadRow) : Type 0 where

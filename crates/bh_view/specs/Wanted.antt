@@ -8,8 +8,7 @@ use Rattle.bh_types.specs.declared.refusal.Refusal.TheVariants.{NoSuchKey, NoSuc
 use Rattle.bh_types.specs.declared.wanted.Wanted.{Wanted}
 use Rattle.bh_types.specs.declared.wanted.Wanted.TheVariants.{Current, Named, Unknown}
 use Rattle.bh_model.specs.State.{Octets}
-use Rattle.bh_model.specs.Entries.{Version, same_id, not_found, opened, found_named}
-use Rattle.bh_model.specs.declared.entries.LookupFault.{LookupFault}
+use Rattle.bh_model.specs.Entries.{Version, LookupFault, same_id, not_found, opened, found_named}
 use Rattle.bh_tables.specs.Typed.{VersionRow}
 use Rattle.bh_tables.specs.Shown.{is_at, newer}
 use Rattle.bh_view.specs.Grouped.{first}

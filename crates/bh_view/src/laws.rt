@@ -1,9 +1,14 @@
 //! Laws of the definitions, each the contract of a function that does nothing.
-ghost use Rattle.bh_view.specs.Laws.{ViewsStandAlone, NewHostIsSound, FreeIsLeast, EachPieceIsOnce};
+ghost use Rattle.bh_view.specs.Laws.{ViewsStandAlone, ViewsAreNumbered, NewHostIsSound, FreeIsLeast, EachPieceIsOnce};
 
 /// A tenant's state depends on that tenant's rows alone.
 pub fn views_stand_alone()
     ensures { ViewsStandAlone }
+{}
+
+/// In sound tables no two entries of a key of a tenant have one id, nor has any the next version number.
+pub fn views_are_numbered()
+    ensures { ViewsAreNumbered }
 {}
 
 /// The tables of a new host are sound and show no tenant; its last stamp is 0.

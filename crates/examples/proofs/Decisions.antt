@@ -1,90 +1,118 @@
 -- What the Amazon S3 User Guide has of versioning ("Adding objects to versioning-enabled buckets", "Deleting object versions",
--- "Working with delete markers"), decided before a row is touched.
-use Rattle.std.proofs.Common.{ℕ, Bool, true, false, [], ◌∷◌, Result, Ok, Err, refl}
+-- "Working with delete markers"): what a put and a delete make of the entries of a key, newest first, and of the next numbers,
+-- and which version a lookup finds.
+use Rattle.std.proofs.Common.{ℕ, Bool, true, false, List, [], ◌∷◌, codes, Result, Ok, Err, refl}
 use Rattle.examples.proofs.Rows.{Holds}
 use Rattle.bh_types.specs.Counts.{Counts}
 use Rattle.bh_types.specs.declared.id.VersionId.{VersionId}
 use Rattle.bh_types.specs.declared.id.VersionId.TheVariants.{Null, Numbered}
+use Rattle.bh_types.specs.declared.bucket_state.BucketState.{BucketState}
 use Rattle.bh_types.specs.declared.bucket_state.BucketState.TheVariants.{Unversioned, Enabled, Suspended}
+use Rattle.bh_types.specs.declared.wanted.Wanted.{Wanted}
 use Rattle.bh_types.specs.declared.wanted.Wanted.TheVariants.{Current, Named, Unknown}
 use Rattle.bh_types.specs.declared.refusal.Refusal.{Refusal}
 use Rattle.bh_types.specs.declared.refusal.Refusal.TheVariants.{NoSuchKey, NoSuchVersion, MethodNotAllowed, CounterExhausted}
-use Rattle.bh_model.specs.declared.entries.LookupFault.{LookupFault}
-use Rattle.bh_core.specs.Plans.{put_plan, delete_plan}
-use Rattle.bh_core.specs.Places.{place}
-use Rattle.bh_core.specs.declared.entries.Entry.{Entry}
-use Rattle.bh_core.specs.declared.plans.PutPlan.{PutPlan}
-use Rattle.bh_core.specs.declared.plans.DeletePlan.TheVariants.{Nothing, Remove, Marker}
+use Rattle.bh_model.specs.State.{Content, Content.Marker, Content.Body, Entry}
+use Rattle.bh_model.specs.Entries.{Version, LookupFault, added, deleted, lookup}
+use Rattle.bh_model.specs.Counting.{after_entry, after_delete}
 
--- the next numbers of versions, of uploads and of entries
-abbrev counts : ℕ → ℕ → ℕ → Counts
-counts version upload entry = record { version = version; upload = upload; entry = entry }
+-- an object, whose checksum plays no part
+abbrev object : Content
+object = Body (codes "v") []
 
--- the new entry's id and number, whether `null` goes, and the next numbers then
-abbrev put : VersionId → ℕ → Bool → Counts → PutPlan
-put id seq replaces_null after = record { id = id; seq = seq; replaces_null = replaces_null; after = after }
-
+-- versions and markers of one moment
 abbrev version : VersionId → Entry
-version id = record { id = id; marker = false }
+version id = record { id = id; moment = 0; content = object }
 
 abbrev marker : VersionId → Entry
-marker id = record { id = id; marker = true }
+marker id = record { id = id; moment = 0; content = Marker }
 
--- a refusal, and whether a delete marker was met
-abbrev fault : Refusal → Bool → Result ℕ LookupFault
-fault refusal met = Err (record { refusal = refusal; marker = met })
+-- what a put and a delete leave, where 5 is the next number of a version
+abbrev put : BucketState → List Entry → List Entry
+put state entries = added state 5 0 object entries
 
--- A bucket's state, whether the key has an entry `null`, and the tenant's next numbers, of which one may be at its end, 2^62
+abbrev delete : BucketState → Wanted → List Entry → List Entry
+delete state wanted entries = deleted state wanted 5 0 entries
+
 puts : Holds (
-    (put_plan Unversioned false (counts 5 2 9), Ok (put Null 9 false (counts 5 2 10)))
-    ∷ (put_plan Unversioned true (counts 5 2 9), Ok (put Null 9 true (counts 5 2 10)))
-    ∷ (put_plan Enabled false (counts 5 2 9), Ok (put (Numbered 5) 9 false (counts 6 2 10)))
-    ∷ (put_plan Enabled true (counts 5 2 9), Ok (put (Numbered 5) 9 false (counts 6 2 10)))
-    ∷ (put_plan Suspended false (counts 5 2 9), Ok (put Null 9 false (counts 5 2 10)))
-    ∷ (put_plan Suspended true (counts 5 2 9), Ok (put Null 9 true (counts 5 2 10)))
-    ∷ (put_plan Enabled false (counts 4611686018427387903 1 4611686018427387903), Ok (put (Numbered 4611686018427387903) 4611686018427387903 false (counts 4611686018427387904 1 4611686018427387904)))
-    ∷ (put_plan Enabled false (counts 4611686018427387904 1 1), Err CounterExhausted)
-    ∷ (put_plan Enabled false (counts 1 1 4611686018427387904), Err CounterExhausted)
-    ∷ (put_plan Suspended true (counts 4611686018427387904 1 1), Ok (put Null 1 true (counts 4611686018427387904 1 2)))
-    ∷ (put_plan Unversioned false (counts 1 1 4611686018427387904), Err CounterExhausted)
+    (put Unversioned [], version Null ∷ [])
+    ∷ (put Unversioned (version Null ∷ []), version Null ∷ [])
+    ∷ (put Enabled [], version (Numbered 5) ∷ [])
+    ∷ (put Enabled (version Null ∷ []), version (Numbered 5) ∷ version Null ∷ [])
+    ∷ (put Enabled (marker (Numbered 4) ∷ []), version (Numbered 5) ∷ marker (Numbered 4) ∷ [])
+    ∷ (put Suspended (version (Numbered 4) ∷ []), version Null ∷ version (Numbered 4) ∷ [])
+    ∷ (put Suspended (version (Numbered 4) ∷ version Null ∷ []), version Null ∷ version (Numbered 4) ∷ [])
+    ∷ (put Suspended (marker Null ∷ version (Numbered 4) ∷ []), version Null ∷ version (Numbered 4) ∷ [])
     ∷ [])
 puts = refl
 
--- A bucket's state, what is to be deleted, whether the key has an entry `null`, whether it has one of the id, and the next numbers
 deletes : Holds (
-    (delete_plan Unversioned Current true false (counts 5 2 9), Ok (Remove Null))
-    ∷ (delete_plan Unversioned Current false false (counts 5 2 9), Ok Nothing)
-    ∷ (delete_plan Unversioned Current true false (counts 5 2 4611686018427387904), Ok (Remove Null))
-    ∷ (delete_plan Enabled Current false false (counts 5 2 9), Ok (Marker (Numbered 5) 9 false (counts 6 2 10)))
-    ∷ (delete_plan Enabled Current true false (counts 5 2 9), Ok (Marker (Numbered 5) 9 false (counts 6 2 10)))
-    ∷ (delete_plan Suspended Current false false (counts 5 2 9), Ok (Marker Null 9 false (counts 5 2 10)))
-    ∷ (delete_plan Suspended Current true false (counts 5 2 9), Ok (Marker Null 9 true (counts 5 2 10)))
-    ∷ (delete_plan Enabled Current false false (counts 4611686018427387904 1 1), Err CounterExhausted)
-    ∷ (delete_plan Suspended Current true false (counts 1 1 4611686018427387904), Err CounterExhausted)
-    ∷ (delete_plan Enabled (Named (Numbered 3)) false true (counts 5 2 9), Ok (Remove (Numbered 3)))
-    ∷ (delete_plan Enabled (Named (Numbered 3)) true false (counts 5 2 9), Ok Nothing)
-    ∷ (delete_plan Enabled (Named Null) true true (counts 5 2 9), Ok (Remove Null))
-    ∷ (delete_plan Suspended (Named Null) false false (counts 5 2 9), Ok Nothing)
-    ∷ (delete_plan Suspended (Named (Numbered 3)) true true (counts 4611686018427387904 1 4611686018427387904), Ok (Remove (Numbered 3)))
-    ∷ (delete_plan Enabled (Named (Numbered 3)) false false (counts 4611686018427387904 1 4611686018427387904), Ok Nothing)
-    ∷ (delete_plan Enabled Unknown true true (counts 5 2 9), Ok Nothing)
-    ∷ (delete_plan Unversioned Unknown true false (counts 4611686018427387904 1 4611686018427387904), Ok Nothing)
+    (delete Unversioned Current (version Null ∷ []), [])
+    ∷ (delete Unversioned Current [], [])
+    ∷ (delete Unversioned Current (marker Null ∷ []), marker Null ∷ [])
+    ∷ (delete Enabled Current [], marker (Numbered 5) ∷ [])
+    ∷ (delete Enabled Current (version Null ∷ []), marker (Numbered 5) ∷ version Null ∷ [])
+    ∷ (delete Suspended Current (version (Numbered 4) ∷ []), marker Null ∷ version (Numbered 4) ∷ [])
+    ∷ (delete Suspended Current (version (Numbered 4) ∷ version Null ∷ []), marker Null ∷ version (Numbered 4) ∷ [])
+    ∷ (delete Enabled (Named (Numbered 3)) (version (Numbered 4) ∷ version (Numbered 3) ∷ []), version (Numbered 4) ∷ [])
+    ∷ (delete Enabled (Named (Numbered 3)) (version Null ∷ []), version Null ∷ [])
+    ∷ (delete Enabled (Named Null) (version (Numbered 4) ∷ version Null ∷ []), version (Numbered 4) ∷ [])
+    ∷ (delete Suspended (Named Null) (version (Numbered 4) ∷ []), version (Numbered 4) ∷ [])
+    ∷ (delete Suspended (Named (Numbered 3)) (marker Null ∷ version (Numbered 3) ∷ []), marker Null ∷ [])
+    ∷ (delete Enabled Unknown (version Null ∷ []), version Null ∷ [])
+    ∷ (delete Unversioned Unknown (version Null ∷ []), version Null ∷ [])
     ∷ [])
 deletes = refl
 
--- Which version is wanted, and the entries of a key, newest first: the place, from 0
+-- the next numbers of versions, of uploads and of entries, of which one may be at its end, 2^62
+abbrev counts : ℕ → ℕ → ℕ → Counts
+counts version upload entry = record { version = version; upload = upload; entry = entry }
+
+numbers_after_puts : Holds (
+    (after_entry Unversioned (counts 5 2 9), Ok (counts 5 2 10))
+    ∷ (after_entry Enabled (counts 5 2 9), Ok (counts 6 2 10))
+    ∷ (after_entry Suspended (counts 5 2 9), Ok (counts 5 2 10))
+    ∷ (after_entry Enabled (counts 4611686018427387903 1 4611686018427387903), Ok (counts 4611686018427387904 1 4611686018427387904))
+    ∷ (after_entry Enabled (counts 4611686018427387904 1 1), Err CounterExhausted)
+    ∷ (after_entry Enabled (counts 1 1 4611686018427387904), Err CounterExhausted)
+    ∷ (after_entry Suspended (counts 4611686018427387904 1 1), Ok (counts 4611686018427387904 1 2))
+    ∷ (after_entry Unversioned (counts 1 1 4611686018427387904), Err CounterExhausted)
+    ∷ [])
+numbers_after_puts = refl
+
+numbers_after_deletes : Holds (
+    (after_delete Unversioned Current (counts 5 2 9), Ok (counts 5 2 9))
+    ∷ (after_delete Unversioned Current (counts 5 2 4611686018427387904), Ok (counts 5 2 4611686018427387904))
+    ∷ (after_delete Enabled Current (counts 5 2 9), Ok (counts 6 2 10))
+    ∷ (after_delete Suspended Current (counts 5 2 9), Ok (counts 5 2 10))
+    ∷ (after_delete Enabled Current (counts 4611686018427387904 1 1), Err CounterExhausted)
+    ∷ (after_delete Suspended Current (counts 1 1 4611686018427387904), Err CounterExhausted)
+    ∷ (after_delete Enabled (Named (Numbered 3)) (counts 5 2 9), Ok (counts 5 2 9))
+    ∷ (after_delete Suspended (Named Null) (counts 4611686018427387904 1 4611686018427387904), Ok (counts 4611686018427387904 1 4611686018427387904))
+    ∷ (after_delete Unversioned Unknown (counts 4611686018427387904 1 4611686018427387904), Ok (counts 4611686018427387904 1 4611686018427387904))
+    ∷ [])
+numbers_after_deletes = refl
+
+-- the version of an id
+abbrev found : VersionId → Result Version LookupFault
+found id = Ok (record { id = id; moment = 0; bytes = codes "v"; checksum = [] })
+
+-- a refusal, and whether a delete marker was met
+abbrev fault : Refusal → Bool → Result Version LookupFault
+fault refusal met = Err (record { refusal = refusal; marker = met })
+
 lookups : Holds (
-    (place Current [], fault NoSuchKey false)
-    ∷ (place Current (version (Numbered 2) ∷ version (Numbered 1) ∷ []), Ok 0)
-    ∷ (place Current (marker (Numbered 2) ∷ version (Numbered 1) ∷ []), fault NoSuchKey true)
-    ∷ (place (Named (Numbered 1)) (marker (Numbered 2) ∷ version (Numbered 1) ∷ []), Ok 1)
-    ∷ (place (Named (Numbered 2)) (marker (Numbered 2) ∷ version (Numbered 1) ∷ []), fault MethodNotAllowed true)
-    ∷ (place (Named (Numbered 3)) (marker (Numbered 2) ∷ version (Numbered 1) ∷ []), fault NoSuchVersion false)
-    ∷ (place (Named Null) (version (Numbered 2) ∷ version Null ∷ version (Numbered 1) ∷ []), Ok 1)
-    ∷ (place (Named Null) (version (Numbered 2) ∷ marker Null ∷ version (Numbered 1) ∷ []), fault MethodNotAllowed true)
-    ∷ (place (Named Null) (version (Numbered 2) ∷ version (Numbered 1) ∷ []), fault NoSuchVersion false)
-    ∷ (place (Named (Numbered 1)) (version (Numbered 3) ∷ version (Numbered 2) ∷ version (Numbered 1) ∷ []), Ok 2)
-    ∷ (place Unknown (version (Numbered 2) ∷ version (Numbered 1) ∷ []), fault NoSuchVersion false)
-    ∷ (place (Named (Numbered 1)) [], fault NoSuchVersion false)
+    (lookup Current [], fault NoSuchKey false)
+    ∷ (lookup Current (version (Numbered 2) ∷ version (Numbered 1) ∷ []), found (Numbered 2))
+    ∷ (lookup Current (marker (Numbered 2) ∷ version (Numbered 1) ∷ []), fault NoSuchKey true)
+    ∷ (lookup (Named (Numbered 1)) (marker (Numbered 2) ∷ version (Numbered 1) ∷ []), found (Numbered 1))
+    ∷ (lookup (Named (Numbered 2)) (marker (Numbered 2) ∷ version (Numbered 1) ∷ []), fault MethodNotAllowed true)
+    ∷ (lookup (Named (Numbered 3)) (marker (Numbered 2) ∷ version (Numbered 1) ∷ []), fault NoSuchVersion false)
+    ∷ (lookup (Named Null) (version (Numbered 2) ∷ version Null ∷ version (Numbered 1) ∷ []), found Null)
+    ∷ (lookup (Named Null) (version (Numbered 2) ∷ marker Null ∷ version (Numbered 1) ∷ []), fault MethodNotAllowed true)
+    ∷ (lookup (Named Null) (version (Numbered 2) ∷ version (Numbered 1) ∷ []), fault NoSuchVersion false)
+    ∷ (lookup (Named (Numbered 1)) (version (Numbered 3) ∷ version (Numbered 2) ∷ version (Numbered 1) ∷ []), found (Numbered 1))
+    ∷ (lookup Unknown (version (Numbered 2) ∷ version (Numbered 1) ∷ []), fault NoSuchVersion false)
+    ∷ (lookup (Named (Numbered 1)) [], fault NoSuchVersion false)
     ∷ [])
 lookups = refl

@@ -2,19 +2,17 @@
 -- delete marker was met; numbers and refusals.
 use Rattle.std.proofs.Common.{◌≡◌, ℕ, Bool, true, false, List, [], ◌∷◌, length, codes, Result, Ok, Err, refl, nat_eq, arith}
 use Rattle.examples.proofs.Rows.{Holds}
-use Rattle.bh_types.specs.Counts.{Counts, AreCounters}
+use Rattle.bh_types.specs.Counts.{AreCounters}
 use Rattle.bh_types.specs.BucketStates.{state_number}
 use Rattle.bh_types.specs.Refusals.{row, row_of}
 use Rattle.bh_types.specs.declared.id.VersionId.TheVariants.{Null, Numbered}
 use Rattle.bh_types.specs.declared.bucket_state.BucketState.TheVariants.{Unversioned, Enabled, Suspended}
 use Rattle.bh_types.specs.declared.wanted.Wanted.TheVariants.{Current, Named, Unknown}
 use Rattle.bh_types.specs.declared.refusal.Refusal.{Refusal}
-use Rattle.bh_types.specs.declared.refusal.Refusal.TheVariants.{BadRequest, InvalidUri, KeyTooLong, MethodNotAllowed, ServiceUnavailable, NoSuchTenant, NoSuchKey, NoSuchVersion, CounterExhausted}
+use Rattle.bh_types.specs.declared.refusal.Refusal.TheVariants.{BadRequest, InvalidUri, KeyTooLong, MethodNotAllowed, ServiceUnavailable, NoSuchTenant, NoSuchKey, NoSuchVersion}
 use Rattle.bh_types.specs.declared.bucket_state.BucketState.{BucketState}
-use Rattle.bh_model.specs.declared.entries.LookupFault.{LookupFault}
 use Rattle.bh_model.specs.State.{Content, Content.Body, Entry}
-use Rattle.bh_model.specs.Entries.{Version, added, deleted, lookup}
-use Rattle.bh_model.specs.Counting.{after_entry}
+use Rattle.bh_model.specs.Entries.{Version, LookupFault, added, deleted, lookup}
 
 abbrev shown : Result Version LookupFault → Result (List ℕ) LookupFault
 shown (Ok version) = Ok version.bytes
@@ -77,19 +75,6 @@ counts_of_entries : Holds (
     ∷ (length (deleted Unversioned Current 1 30 replaced), 0)
     ∷ [])
 counts_of_entries = refl
-
--- the next numbers of versions, of uploads and of entries
-abbrev counts : ℕ → ℕ → ℕ → Counts
-counts version upload entry = record { version = version; upload = upload; entry = entry }
-
--- Those before a new entry and after it, or the refusal where one is at its end, 2^62.
-counters : Holds (
-    (after_entry Enabled (counts 4611686018427387903 1 4611686018427387903), Ok (counts 4611686018427387904 1 4611686018427387904))
-    ∷ (after_entry Enabled (counts 4611686018427387904 1 4611686018427387903), Err CounterExhausted)
-    ∷ (after_entry Suspended (counts 4611686018427387904 1 4611686018427387903), Ok (counts 4611686018427387904 1 4611686018427387904))
-    ∷ (after_entry Unversioned (counts 1 1 4611686018427387904), Err CounterExhausted)
-    ∷ [])
-counters = refl
 
 -- A refusal's number, the status of its response, and its code.
 refusals : Holds (

@@ -1,5 +1,6 @@
+use Rattle.std.proofs.Common.{inl, inr}
 use Rattle.sqlite.specs.Held.{state}
-use Rattle.bh_dispatch.proofs.Storing.{by_any}
+use Rattle.bh_dispatch.proofs.Storing.{by_any, stores_none}
 use Rattle.bh_dispatch.proofs.Steps.{tells_use}
 use Rattle.bh_dispatch.proofs.operations.operate.Goals as goal
 
@@ -25,3 +26,47 @@ returns-in-Usage-clause-working g c = by_any g.D.Digester.digest_of (state g.S.S
 
 pub returns-in-Usage-clause-carries : goal.returns-in-Usage-clause-carries
 returns-in-Usage-clause-carries g c clean = rw (c.in-Usage.is, tells_use c.args.limits.now c.args.at c.args.body.now) (c.usage.ensures.carries clean)
+
+pub returns-in-ListBuckets-clause-blocks : goal.returns-in-ListBuckets-clause-blocks
+returns-in-ListBuckets-clause-blocks g c =
+    let none = stores_none g.D.Digester.digest_of c.args.block_size c.args.body.now (state g.S.Store c.args.connection.now) (state g.S.Store c.operate_bucket.new.connection) c.operate_bucket.result c.args.operation.now in
+    elim c.in-ListBuckets.is [
+      | inl is ↦ none _ is (λ clean. tt)
+      | inr others ↦ elim others [
+        | inl is ↦ none _ is.1 (λ clean. tt)
+        | inr others ↦ elim others [
+          | inl is ↦ none _ is.1 (λ clean. tt)
+          | inr others ↦ elim others [
+            | inl is ↦ none _ is.1 (λ clean. tt)
+            | inr others ↦ elim others [
+              | inl is ↦ none _ is.3 (λ clean. tt)
+              | inr others ↦ elim others [
+                | inl is ↦ none _ is.3 (λ clean. tt)
+                | inr others ↦ elim others [
+                  | inl is ↦ none _ is.3 (λ clean. tt)
+                  | inr others ↦ elim others [
+                    | inl is ↦ none _ is.1 (λ clean. tt)
+                    | inr is ↦ none _ is.1 (λ clean. tt)
+                  ]
+                ]
+              ]
+            ]
+          ]
+        ]
+      ]
+    ]
+
+pub returns-in-GetLifecycle-clause-blocks : goal.returns-in-GetLifecycle-clause-blocks
+returns-in-GetLifecycle-clause-blocks g c =
+    let none = stores_none g.D.Digester.digest_of c.args.block_size c.args.body.now (state g.S.Store c.args.connection.now) (state g.S.Store c.operate_lifecycle.new.connection) c.operate_lifecycle.result c.args.operation.now in
+    elim c.in-GetLifecycle.is [
+      | inl is ↦ none _ is.1 (λ clean. tt)
+      | inr others ↦ elim others [
+        | inl is ↦ none _ is.1 (λ clean. tt)
+        | inr is ↦ none _ is.1 (λ clean. tt)
+      ]
+    ]
+
+pub returns-in-Usage-clause-blocks : goal.returns-in-Usage-clause-blocks
+returns-in-Usage-clause-blocks g c =
+    stores_none g.D.Digester.digest_of c.args.block_size c.args.body.now (state g.S.Store c.args.connection.now) (state g.S.Store c.usage.new.connection) c.usage.result c.args.operation.now _ c.in-Usage.is (λ clean. tt)

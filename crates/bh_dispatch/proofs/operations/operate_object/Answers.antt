@@ -1,6 +1,6 @@
 use Rattle.std.proofs.Common.{sym}
 use Rattle.sqlite.specs.Held.{state}
-use Rattle.bh_dispatch.proofs.Storing.{by_any}
+use Rattle.bh_dispatch.proofs.Storing.{by_any, stores_its, stores_none}
 use Rattle.bh_dispatch.proofs.Steps.{puts_object, copies_object, gets_object, heads_object, deletes_object}
 use Rattle.bh_dispatch.proofs.operations.operate_object.Goals as goal
 
@@ -35,3 +35,18 @@ returns-in-DeleteObject-clause-working g c = by_any g.D.Digester.digest_of (stat
 pub returns-in-DeleteObject-clause-carries : goal.returns-in-DeleteObject-clause-carries
 returns-in-DeleteObject-clause-carries g c limits clean =
     rw (c.in-DeleteObject.is, deletes_object limits c.args.at c.args.body.now c.in-DeleteObject.object c.in-DeleteObject.version) (c.delete_object.ensures.carries clean)
+
+pub returns-in-PutObject-clause-blocks : goal.returns-in-PutObject-clause-blocks
+returns-in-PutObject-clause-blocks g c = stores_its g.D.Digester.digest_of c.args.block_size c.args.body.now (state g.S.Store c.args.connection.now) (state g.S.Store c.put_object.new.connection) c.put_object.result c.args.operation.now _ c.in-PutObject.is c.put_object.ensures.blocks
+
+pub returns-in-CopyObject-clause-blocks : goal.returns-in-CopyObject-clause-blocks
+returns-in-CopyObject-clause-blocks g c = stores_none g.D.Digester.digest_of c.args.block_size c.args.body.now (state g.S.Store c.args.connection.now) (state g.S.Store c.copy_object.new.connection) c.copy_object.result c.args.operation.now _ c.in-CopyObject.is (λ clean. tt)
+
+pub returns-in-GetObject-clause-blocks : goal.returns-in-GetObject-clause-blocks
+returns-in-GetObject-clause-blocks g c = stores_none g.D.Digester.digest_of c.args.block_size c.args.body.now (state g.S.Store c.args.connection.now) (state g.S.Store c.get_object.new.connection) c.get_object.result c.args.operation.now _ c.in-GetObject.is (λ clean. tt)
+
+pub returns-in-HeadObject-clause-blocks : goal.returns-in-HeadObject-clause-blocks
+returns-in-HeadObject-clause-blocks g c = stores_none g.D.Digester.digest_of c.args.block_size c.args.body.now (state g.S.Store c.args.connection.now) (state g.S.Store c.head_object.new.connection) c.head_object.result c.args.operation.now _ c.in-HeadObject.is (λ clean. tt)
+
+pub returns-in-DeleteObject-clause-blocks : goal.returns-in-DeleteObject-clause-blocks
+returns-in-DeleteObject-clause-blocks g c = stores_none g.D.Digester.digest_of c.args.block_size c.args.body.now (state g.S.Store c.args.connection.now) (state g.S.Store c.delete_object.new.connection) c.delete_object.result c.args.operation.now _ c.in-DeleteObject.is (λ clean. tt)

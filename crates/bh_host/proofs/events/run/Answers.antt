@@ -1,4 +1,4 @@
-use Rattle.std.proofs.Common.{[], map, rules, subst, sym, ◌∙◌}
+use Rattle.std.proofs.Common.{[], map, rules, subst, sym, ◌∙◌, inl, inr}
 use Rattle.bh_host.specs.Answers.{told}
 use Rattle.bh_host.specs.Runs.{RanOn}
 use Rattle.bh_host.proofs.Running.{ran_alone, ran_more, ran_none}
@@ -12,6 +12,7 @@ loop-event-init g c =
       opened = λ intact opened. opened;
       ready = c.requires;
       limits = search rules;
+      leaves = λ _ x leaves. inl leaves;
       count = search rules;
       room = search rules;
       ran = λ intact. subst (λ dones. RanOn g.H.Storage.IsOpen g.H.Storage.seen g.H.Storage.left [] (map told dones) host host)
@@ -27,6 +28,10 @@ loop-event-preserved g c =
       opened = λ intact opened. so_far.opened (done.intact intact) (done.opened intact opened);
       ready = done.ready;
       limits = done.limits ∙ so_far.limits;
+      leaves = λ intact x leaves. elim (done.leaves intact x leaves) [
+        | inl before ↦ so_far.leaves (done.intact intact) x before
+        | inr sound ↦ inr sound
+      ];
       count = search rules;
       room = search rules;
       ran = λ intact. ran_more g.H.Storage.IsOpen g.H.Storage.seen g.H.Storage.left _ _ c.event-item.result _ _ c.apply-done.result _ _ _ c.loop-event-test.true c.event-item.is c.push_reserved.ensures.items

@@ -27,7 +27,7 @@ done g c clean =
     let clean_old = c.in_ok-bucket_state.ensures.within.follows.clean clean_first in
     let one = c.in_ok-bucket_state.ensures.decides clean_first in
     let is = rw (c.as_str.ensures.value, c.as_str-2.ensures.value) at (on_ok _ c.in_ok-or_trouble.ensures.ok c.set_state.ensures.holds clean).is in
-    sets_versioning (tables_at old) (tables_at (state g.S.Store c.set_state.new.connection)) t b _ one.0 c.args.state c.requires.kept (c.requires.working clean_old).sound
+    sets_versioning (tables_at old) (tables_at (state g.S.Store c.set_state.new.connection)) t b _ one.0 c.args.state (c.requires.working clean_old).sound
     (is ∙ ap (λ (x : Tables). record x { buckets = update_where (is_bucket t b) (λ r. record r { state = state_number c.args.state }) x.buckets }) one.1)
 
 pub returns-clause-working : goal.returns-clause-working

@@ -11,7 +11,7 @@ use Rattle.bh_storage.specs.Answers.{stored_answer}
 use Rattle.bh_schema.specs.Layer.{IsStateClean}
 use Rattle.bh_schema.specs.Working.{tables_at}
 use Rattle.bh_view.specs.Blocks.{AreDigests}
-use Rattle.bh_view.specs.Bodies.{HasBodies}
+use Rattle.bh_view.specs.Bodies.{HasBodies, StoresPieces}
 use Rattle.bh_objects.specs.Found.{mode_in, replaced_in, entry_numbers_in}
 use Rattle.bh_objects.specs.Writes.{object_written}
 use Rattle.bh_objects.specs.declared.quotas.NewEntry.{NewEntry}
@@ -27,6 +27,7 @@ done : (g : given.Over) (c : goal.After-told_id g) → IsStateClean (state g.S.S
     → Puts c.args.object.now.tenant.now c.args.object.now.bucket.now c.args.object.now.key.now c.args.object.now.at c.args.object.now.bytes.now (option_copied c.args.given) c.in_ok-mode.mode c.in_ok-entry.entry.numbers.before
     (tables_at (state g.S.Store c.args.connection.now)) (tables_at (state g.S.Store c.write_object.new.connection))
     × HasBodies (tables_at (state g.S.Store c.write_object.new.connection)) × AreDigests g.D.Digester.digest_of (tables_at (state g.S.Store c.write_object.new.connection)).blocks
+    × StoresPieces g.D.Digester.digest_of c.args.block_size c.args.object.now.bytes.now (tables_at (state g.S.Store c.args.connection.now)) (tables_at (state g.S.Store c.write_object.new.connection))
 done g c clean =
     let first = state g.S.Store c.args.connection.now in
     let old = tables_at first in
@@ -58,6 +59,9 @@ returns-clause-carries g c clean =
     let mode = c.in_ok-mode.mode in
     let told : c.told_id.result ≡ id_told mode (new_id mode c.in_ok-entry.entry.numbers.before.version) = c.told_id.ensures ∙ ap (id_told mode) (c.new_id.ensures ∙ ap (λ (n : Numbers). new_id mode n.before.version) c.numbers.view_is) in
     rw (told, c.in_ok-checksum.ensures.text) (done g c clean).0.0
+
+pub returns-clause-blocks : goal.returns-clause-blocks
+returns-clause-blocks g c clean = (done g c clean).3
 
 pub returns-in_err-mode-clause-working : goal.returns-in_err-mode-clause-working
 returns-in_err-mode-clause-working g c =

@@ -18,7 +18,7 @@ use Rattle.bh_uploads.proofs.parts.put_part.Given as given
 use Rattle.bh_uploads.proofs.parts.put_part.Goals as goal
 
 done : (g : given.Over) (c : goal.In_ok-write_part g) → IsStateClean (state g.S.Store c.write_part.new.connection)
-    → PutsPart g.D.Digester.digest_of c.args.part.now.upload.tenant.now c.args.part.now.upload.bucket.now c.args.part.now.upload.key.now c.args.part.now.upload.upload c.args.part.now.number c.args.part.now.at c.args.part.now.bytes.now (option_copied c.args.given)
+    → PutsPart g.D.Digester.digest_of c.args.block_size c.args.part.now.upload.tenant.now c.args.part.now.upload.bucket.now c.args.part.now.upload.key.now c.args.part.now.upload.upload c.args.part.now.number c.args.part.now.at c.args.part.now.bytes.now (option_copied c.args.given)
     (tables_at (state g.S.Store c.args.connection.now)) (tables_at (state g.S.Store c.write_part.new.connection))
 done g c clean =
     let first = state g.S.Store c.args.connection.now in
@@ -46,6 +46,9 @@ returns-clause-working g c clean =
 
 pub returns-clause-carries : goal.returns-clause-carries
 returns-clause-carries g c clean = rw c.in_ok-checksum.ensures.text (done g c clean).step
+
+pub returns-clause-blocks : goal.returns-clause-blocks
+returns-clause-blocks g c clean = (done g c clean).blocks
 
 pub returns-in_err-found-clause-working : goal.returns-in_err-found-clause-working
 returns-in_err-found-clause-working g c =

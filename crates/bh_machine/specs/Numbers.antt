@@ -1,0 +1,20 @@
+-- The numbers that a tenant's counters give.
+use Rattle.std.specs.Prelude.{ℕ, List, Option}
+use Rattle.bh_model.specs.Ids.{IsNumbered}
+use Rattle.bh_model.specs.Laws.{Rises}
+use Rattle.bh_model.specs.Runs.{solo_state}
+use Rattle.bh_model.specs.State.{State, absent}
+use Rattle.bh_types.specs.Limits.{HostLimits}
+use Rattle.bh_machine.specs.Machine.{Act, step}
+
+-- no step, whatever its act is, makes a counter go down or a tenant go away
+abbrev pub StepsRise : Type 0
+StepsRise = (limits : HostLimits) (now : ℕ) (act : Act) (s : Option State) → Rises s (step limits now act s).1
+
+-- nor does any give an entry the id of another one of its key
+abbrev pub StepsKeepIds : Type 0
+StepsKeepIds = (limits : HostLimits) (now : ℕ) (act : Act) (s : Option State) → IsNumbered s → IsNumbered (step limits now act s).1
+
+-- so no run does that begins before the tenant was added
+abbrev pub RunsKeepIds : Type 0
+RunsKeepIds = (limits : HostLimits) (acts : List (ℕ × Act)) → IsNumbered (solo_state (step limits) absent acts)
