@@ -16,13 +16,13 @@ _bucketd() {
             mapfile -t COMPREPLY < <(compgen -f -- "$word")
             return
             ;;
-        --at | --block-size | --cache-blocks | --clock-leap | --count | --limit | --max-body | --min-part | --name | --port | --quota | --secret | --tenant | --timeout)
+        --at | --block-size | --cache-blocks | --clock-leap | --count | --digest | --limit | --max-body | --min-part | --name | --port | --quota | --secret | --tenant | --timeout)
             return
             ;;
         esac
         case ${COMP_WORDS[1]} in
-        script) words=" --block-size --min-part --max-body --cache-blocks --help " ;;
-        init) words=" --file --min-part --max-body --help " ;;
+        script) words=" --block-size --min-part --max-body --cache-blocks --digest --help " ;;
+        init) words=" --file --min-part --max-body --digest --help " ;;
         tenant-add) words=" --file --tenant --quota --at --clock-leap --force --help " ;;
         quota) words=" --file --tenant --quota --at --clock-leap --force --help " ;;
         key-add) words=" --file --tenant --name --secret --at --clock-leap --force --help " ;;

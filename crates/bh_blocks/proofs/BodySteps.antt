@@ -1,7 +1,7 @@
 -- A body stored piece by piece, and given the blocks that rows of references name.
 use Rattle.std.proofs.Common.{◌≡◌, ◌≢◌, ◌==◌, true, false, true≢false, append_assoc, append-nil, ℕ, zero, suc, ◌+◌, ◌≤◌, ◌<◌, List, [], ◌∷◌, ◌++◌, map, flat_map, take, drop, length, length-drop, get_or, refl, sym, ap, ap₂, ◌∙◌, arith}
 use Rattle.std.proofs.lemmas.Bool.{ne_eqb}
-use Rattle.std.proofs.lemmas.List.{map-append}
+use Rattle.std.proofs.lemmas.List.{map-append, take_all, drop_all}
 use Rattle.sqlite.specs.Order.{Row}
 use Rattle.bh_tables.specs.Schema.{Octets}
 use Rattle.bh_tables.specs.Typed.{RefRow, Tables, rebodied}
@@ -47,6 +47,13 @@ next_piece digest body place size rest piece more old new low some front back no
 
 pub not_nil : (xs : Octets) → (length xs == 0) ≡ false → xs ≢ []
 not_nil xs h e = true≢false (sym (ap (λ (l : Octets). length l == 0) e) ∙ h)
+
+-- bytes that fit are one piece
+pub one_piece : (size : ℕ) (xs : Octets) → (length xs == 0) ≡ false → length xs ≤ size → pieces size xs ≡ xs ∷ []
+one_piece size [] some fits = absurd (true≢false some)
+one_piece size (x ∷ xs) some fits =
+    pieces_next size (x ∷ xs) (omega (arith, fits)) (not_nil (x ∷ xs) some)
+    ∙ ap₂ (λ p m. p ∷ pieces size m) (take_all size (x ∷ xs) fits) (drop_all size (x ∷ xs) fits)
 
 pub shorter : (place size : ℕ) (rest more : Octets) (all : ℕ) → 1 ≤ size → rest ≢ [] → more ≡ drop size rest → place + length rest ≤ all → place + 1 + length more ≤ all
 shorter place size rest more all low some is h =

@@ -6,3 +6,4 @@ pub mod Storing
 pub mod Keeping
 pub mod Removing
 pub mod WindowSteps
+mod Vectors

@@ -1,5 +1,6 @@
 ghost use Rattle.std.specs.Prelude.{◌≡◌, ◌++◌, ◌∷◌, [], ◌<◌, ◌^◌, List, length, true, map, option_map, IfSome, IfOk, IfErr, OnOk};
 ghost use Rattle.bh_rows.specs.Means.{is_trouble};
+ghost use Rattle.bh_tables.specs.Schema.{Octets};
 ghost use Rattle.bh_tables.specs.Typed.{BlockRow, rebodied};
 ghost use Rattle.bh_tables.specs.Shown.{shown_ord};
 ghost use Rattle.bh_view.specs.Blocks.{least, free_ord as the_free, copy_in};
@@ -116,10 +117,31 @@ fn store_new<S: Alter>(
 }
 
 /// Stores one piece of a body at its place: a reference to the block of its bytes, which is added unless one holds
-/// equal bytes.
+/// equal bytes. The bytes have this digest.
 ///
 /// A new block gets the least ordinal that no block of its digest has, and is written with its count of uses. After an
 /// error the transaction is to be taken back.
+pub fn store_named<S: Alter>(
+    connection: &mut Connection<S>,
+    at: &Place<'_>,
+    digest: &[u8; 32],
+    bytes: &[u8],
+) -> Result<(), Error>
+    requires inside { InTransaction S.Store connection.old }
+    requires body { at.now.body < 2 ^ 63 }
+    requires place { at.now.place < 2 ^ 63 }
+    ensures within { StaysWithin S.Store connection.old connection.new }
+    ensures opens { OnOk result (StaysOpen S.Store connection.old connection.new) }
+    ensures stored { (digest_of : Octets → Octets) → digest.now ≡ digest_of bytes.now → OnOk result (Becomes S.Store connection.old connection.new
+        (body_stored digest_of (body_at at.now) at.now.place (bytes.now ∷ []))) }
+{
+    match find_copy(connection, digest, bytes)? {
+        Some(ord) => refer(connection, at, digest, ord, bytes.len() as u64),
+        None => store_new(connection, at, digest, bytes),
+    }
+}
+
+/// The same, of any bytes.
 pub fn store_piece<S: Alter, D: Digester>(
     connection: &mut Connection<S>,
     digester: &D,
@@ -135,8 +157,5 @@ pub fn store_piece<S: Alter, D: Digester>(
         (body_stored D.digest_of (body_at at.now) at.now.place (bytes.now ∷ []))) }
 {
     let digest = digester.digest(bytes);
-    match find_copy(connection, &digest, bytes)? {
-        Some(ord) => refer(connection, at, &digest, ord, bytes.len() as u64),
-        None => store_new(connection, at, &digest, bytes),
-    }
+    store_named(connection, at, &digest, bytes)
 }

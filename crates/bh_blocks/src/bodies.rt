@@ -1,6 +1,7 @@
 //! Bodies as lists of references to blocks: stored, copied, joined, and dropped.
 
-ghost use Rattle.std.specs.Prelude.{◌≡◌, ◌<◌, ◌≤◌, ◌^◌, ◌++◌, ◌∷◌, [], List, map, flat_map, take, drop, IfOk, IfErr, OnOk};
+ghost use Rattle.std.specs.Prelude.{◌≡◌, ◌<◌, ◌≤◌, ◌^◌, ◌++◌, ◌∷◌, [], true, List, map, flat_map, take, drop, IfOk, IfErr, OnOk};
+ghost use Rattle.sha2.specs.Sha256.{sha256};
 ghost use Rattle.bh_tables.specs.Schema.{Octets};
 ghost use Rattle.bh_tables.specs.Typed.{RefRow, counted, lowered, lowered_by};
 ghost use Rattle.bh_tables.specs.Bodies.{placed};
@@ -12,7 +13,7 @@ ghost use Rattle.bh_blocks.specs.Named.{body_at};
 ghost use Rattle.bh_blocks.specs.Added.{IsNewBody, bytes_in};
 ghost use Rattle.bh_blocks.specs.Uses.{IsUsed, AreUsed};
 
-use crate::blocks::store_piece;
+use crate::blocks::{store_named, store_piece};
 use crate::refs::{Place, delete_refs, read_ref, ref_rows, refer};
 use crate::rows::in_range;
 use crate::uses::lower_uses;
@@ -32,7 +33,7 @@ fn cut_off(bytes: &[u8], size: u64) -> (&[u8], &[u8])
 /// Stores a body, cut into blocks of a size.
 ///
 /// No reference of a body of this name is to be there yet. After an error the transaction is to be taken back.
-pub fn store_body<S: Alter, D: Digester>(
+fn store_pieces<S: Alter, D: Digester>(
     connection: &mut Connection<S>,
     digester: &D,
     block_size: u64,
@@ -47,9 +48,6 @@ pub fn store_body<S: Alter, D: Digester>(
     ensures opens { OnOk result (StaysOpen S.Store connection.old connection.new) }
     ensures stored { OnOk result (Becomes S.Store connection.old connection.new
         (body_stored D.digest_of (tenant.now, body) 0 (pieces block_size bytes.now))) }
-    ensures adds { OnOk result (IsClean S.Store connection.new → AreDigests D.digest_of (tables S.Store connection.old).blocks
-        → IsNewBody (tenant.now, body) (tables S.Store connection.old)
-        → AddsBody D.digest_of (tenant.now, body) bytes.now (tables S.Store connection.old) (tables S.Store connection.new)) }
 {
     let mut rest = bytes;
     let mut place: u64 = 0;
@@ -65,6 +63,73 @@ pub fn store_body<S: Alter, D: Digester>(
         rest = more;
     }
     Ok(())
+}
+
+/// Whether bytes are one piece of a size.
+fn is_one_piece(bytes: &[u8], size: u64) -> bool
+    ensures { result ≡ true → pieces size bytes.now ≡ bytes.now ∷ [] }
+{
+    if bytes.is_empty() {
+        return false;
+    }
+    bytes.len() as u64 <= size
+}
+
+/// Stores a body as one block. Its SHA-256 digest (FIPS 180-4) is known.
+fn store_whole<S: Alter, D: Digester>(
+    connection: &mut Connection<S>,
+    digester: &D,
+    tenant: &str,
+    body: u64,
+    bytes: &[u8],
+    checksum: &[u8; 32],
+) -> Result<(), Error>
+    requires inside { InTransaction S.Store connection.old }
+    requires small { body < 2 ^ 63 }
+    requires known { checksum.now ≡ sha256 bytes.now }
+    ensures within { StaysWithin S.Store connection.old connection.new }
+    ensures opens { OnOk result (StaysOpen S.Store connection.old connection.new) }
+    ensures stored { OnOk result (Becomes S.Store connection.old connection.new
+        (body_stored D.digest_of (tenant.now, body) 0 (bytes.now ∷ []))) }
+{
+    let digest = digester.digest_known(bytes, checksum);
+    let at = Place {
+        tenant,
+        body,
+        place: 0,
+    };
+    store_named(connection, &at, &digest, bytes)
+}
+
+/// Stores a body, cut into blocks of a size. Its SHA-256 digest (FIPS 180-4) is known, so a body of one block is not
+/// read for it again.
+///
+/// No reference of a body of this name is to be there yet. After an error the transaction is to be taken back.
+pub fn store_body<S: Alter, D: Digester>(
+    connection: &mut Connection<S>,
+    digester: &D,
+    block_size: u64,
+    tenant: &str,
+    body: u64,
+    bytes: &[u8],
+    checksum: &[u8; 32],
+) -> Result<(), Error>
+    requires inside { InTransaction S.Store connection.old }
+    requires size { 1 ≤ block_size }
+    requires small { body < 2 ^ 63 }
+    requires known { checksum.now ≡ sha256 bytes.now }
+    ensures within { StaysWithin S.Store connection.old connection.new }
+    ensures opens { OnOk result (StaysOpen S.Store connection.old connection.new) }
+    ensures stored { OnOk result (Becomes S.Store connection.old connection.new
+        (body_stored D.digest_of (tenant.now, body) 0 (pieces block_size bytes.now))) }
+    ensures adds { OnOk result (IsClean S.Store connection.new → AreDigests D.digest_of (tables S.Store connection.old).blocks
+        → IsNewBody (tenant.now, body) (tables S.Store connection.old)
+        → AddsBody D.digest_of (tenant.now, body) bytes.now (tables S.Store connection.old) (tables S.Store connection.new)) }
+{
+    if is_one_piece(bytes, block_size) {
+        return store_whole(connection, digester, tenant, body, bytes, checksum);
+    }
+    store_pieces(connection, digester, block_size, tenant, body, bytes)
 }
 
 /// Refers to the block that a row of references names once more.

@@ -9,4 +9,5 @@ pub mod reading;
 mod refs;
 pub mod removal;
 mod rows;
+mod siphash;
 mod uses;

@@ -1,5 +1,5 @@
 -- What files held when they were opened, and that empty ones hold no host.
-use Rattle.std.proofs.Common.{◌≡◌, ◌≢◌, ◌⊎◌, [], refl, ap, sym, subst, arith, inl, inr, filter}
+use Rattle.std.proofs.Common.{◌≡◌, ◌≢◌, ◌⊎◌, ◌∙◌, [], refl, ap, sym, subst, arith, inl, inr, filter}
 use Rattle.std.specs.List.{AllZip}
 use Rattle.sqlite_wal.specs.Recovery.{Image}
 use Rattle.sqlite_trees.specs.Tree.{Trees}
@@ -9,16 +9,21 @@ use Rattle.sqlite.specs.Effect.{Database, IsDatabase}
 use Rattle.sqlite.specs.Files.{AreFoundIn}
 use Rattle.sqlite.specs.Schema.{Schema}
 use Rattle.sqlite.specs.State.{State}
-use Rattle.sha2.specs.Sha256.{sha256}
+use Rattle.bh_types.specs.BlockDigests.{digest_number}
 use Rattle.bh_types.specs.Limits.{HostLimits}
+use Rattle.bh_types.specs.declared.block_digest.BlockDigest.{BlockDigest}
+use Rattle.bh_types.specs.declared.block_digest.BlockDigest.TheVariants.{Sha256, Fast}
 use Rattle.bh_tables.specs.Hosts.{tables_shown}
-use Rattle.bh_tables.specs.Schema.{host_schema}
+use Rattle.bh_tables.specs.Schema.{Octets, host_schema}
+use Rattle.bh_tables.specs.Typed.{Tables}
 use Rattle.bh_view.specs.Bodies.{IsSoundHost}
 use Rattle.bh_schema.specs.Layer.{Standing, standing, IsIntact, IsOpen, IsStateClean, KeepsDisk}
 use Rattle.bh_schema.specs.Storage.{seen_in}
+use Rattle.bh_blocks.specs.Digests.{digest_by}
+use Rattle.bh_open.specs.Opening.{digest_in}
 use Rattle.bh_file.specs.Opened.{IsOpenedOn}
 use Rattle.bh_commands.specs.Files.{AreTablesIn, HoldsSoundHost, HoldsFor}
-use Rattle.bh_commands.specs.Subcommands.{IsSoundIn, IsReadyFor}
+use Rattle.bh_commands.specs.Subcommands.{IsSoundByItsRow, IsSoundIn, IsReadyFor}
 use Rattle.bh_commands.specs.declared.asked.Asked.{Asked}
 use Rattle.bh_commands.specs.declared.asked.Asked.TheVariants.{Init, Host}
 
@@ -58,13 +63,31 @@ sound_opened image s sound start clean schema =
     })
 
 pub ready_opened : (asked : Asked) (image : Image) (s : State) → HoldsFor asked image → IsOpenedOn image s → IsReadyFor asked s
-ready_opened (Init limits) image s holds start = tt
+ready_opened (Init limits digest) image s holds start = tt
 ready_opened (Host clock work) image s holds start = sound_opened image s holds start
 
 -- ---- the tables of a host that was opened
 
+-- no two functions have one number
+sound_by : (tables : Tables) (digest : BlockDigest) → IsSoundByItsRow tables → digest_number digest ≡ digest_in tables → IsSoundHost (digest_by digest) tables
+sound_by tables digest it row = subst (λ d. IsSoundHost (digest_by d) tables) (same it.digest digest (it.row ∙ sym row)) it.sound
+  where
+    same : (a b : BlockDigest) → digest_number a ≡ digest_number b → a ≡ b
+    same Sha256 Sha256 e = refl
+    same Sha256 Fast e = absurd (cc)
+    same Fast Sha256 e = absurd (cc)
+    same Fast Fast e = refl
+
 module _ (limits : HostLimits) (old new : State) (sound : IsSoundIn old) (schema : (standing old).now.schema ≡ host_schema)
     (same : IsStateClean new → standing new ≡ standing old) (follows : KeepsDisk old new) where
-  pub sound_seen : IsStateClean new → IsSoundHost sha256 (seen_in limits new).now
+  sound_row : IsStateClean new → IsSoundByItsRow (seen_in limits new).now
   unfolding seen_in
-  sound_seen clean = subst (λ (x : Standing). IsSoundHost sha256 (tables_shown x.now)) (sym (same clean)) (sound (follows.clean clean) schema)
+  sound_row clean = subst (λ (x : Standing). IsSoundByItsRow (tables_shown x.now)) (sym (same clean)) (sound (follows.clean clean) schema)
+
+  module _ (digest : BlockDigest)
+      (row : (named : Octets → Octets) → IsStateClean new → IsSoundHost named (seen_in limits new).now → digest_number digest ≡ digest_in (seen_in limits new).now) where
+    pub row_seen : IsStateClean new → digest_number digest ≡ digest_in (seen_in limits new).now
+    row_seen clean = let it = sound_row clean in row (digest_by it.digest) clean it.sound
+
+    pub sound_seen : IsStateClean new → IsSoundHost (digest_by digest) (seen_in limits new).now
+    sound_seen clean = sound_by (seen_in limits new).now digest (sound_row clean) (row_seen clean)

@@ -7,16 +7,14 @@ use Rattle.sqlite_store.specs.declared.store.FileStore.{FileStore}
 use Rattle.sqlite.specs.Effect.{Database, IsDatabase}
 use Rattle.sqlite.specs.Files.{AreFoundIn, file_state, over_files}
 use Rattle.sqlite.specs.Held.{Held}
-use Rattle.sha2.specs.Sha256.{sha256}
 use Rattle.bh_types.specs.declared.refusal.Refusal.TheVariants.{NotAHostFile}
 use Rattle.bh_tables.specs.Hosts.{tables_shown}
 use Rattle.bh_tables.specs.Schema.{host_schema}
 use Rattle.bh_tables.specs.Typed.{Tables}
-use Rattle.bh_view.specs.Bodies.{IsSoundHost}
 use Rattle.bh_file.specs.Opened.{IsOpenedOn}
 use Rattle.bh_commands.specs.Commands.{IsRefusal}
 use Rattle.bh_commands.specs.Endings.{AreClosed}
-use Rattle.bh_commands.specs.Subcommands.{CarriesOut}
+use Rattle.bh_commands.specs.Subcommands.{IsSoundByItsRow, CarriesOut}
 use Rattle.bh_commands.specs.declared.asked.Asked.{Asked}
 use Rattle.bh_commands.specs.declared.asked.Asked.TheVariants.{Init, Host}
 use Rattle.bh_commands.specs.declared.printed.Printed.{Printed}
@@ -29,13 +27,13 @@ pub record AreTablesIn (image : Image) (tables : Tables) : Type 0 where
   pub schema : db.schema ≡ host_schema
   pub shown : tables ≡ tables_shown db
 
--- what they hold of a host is sound, its blocks named by SHA-256
+-- what they hold of a host is sound, its blocks named by the function that its row tells
 abbrev pub HoldsSoundHost : Image → Type 0
-HoldsSoundHost image = (tables : Tables) → AreTablesIn image tables → IsSoundHost sha256 tables
+HoldsSoundHost image = (tables : Tables) → AreTablesIn image tables → IsSoundByItsRow tables
 
 -- a new host needs nothing of them
 abbrev pub HoldsFor : Asked → Image → Type 0
-HoldsFor (Init limits) image = Unit {0}
+HoldsFor (Init limits digest) image = Unit {0}
 HoldsFor (Host clock work) image = HoldsSoundHost image
 
 -- what was asked was done on a connection, and its files were closed

@@ -3,20 +3,24 @@ use Rattle.std.specs.Prelude.{◌≡◌, ◌⊎◌, ℕ, Bool, true, false, IfSo
 use Rattle.sqlite_trees.specs.declared.store.Store.{Ghosts}
 use Rattle.sqlite.specs.Held.{Held, state}
 use Rattle.sqlite.specs.State.{State}
-use Rattle.sha2.specs.Sha256.{sha256}
+use Rattle.bh_types.specs.BlockDigests.{digest_number}
 use Rattle.bh_types.specs.Limits.{HostLimits}
+use Rattle.bh_types.specs.declared.block_digest.BlockDigest.{BlockDigest}
 use Rattle.bh_types.specs.declared.refusal.Refusal.{Refusal}
 use Rattle.bh_types.specs.declared.refusal.Refusal.TheVariants.{NotAHostFile, Unavailable}
 use Rattle.bh_tables.specs.Hosts.{tables_shown}
-use Rattle.bh_tables.specs.Schema.{host_schema}
+use Rattle.bh_tables.specs.Schema.{Octets, host_schema}
+use Rattle.bh_tables.specs.Typed.{Tables}
 use Rattle.bh_view.specs.Bodies.{IsSoundHost}
 use Rattle.bh_view.specs.View.{latest_of}
 use Rattle.bh_storage.specs.Calls.{IsAtRest}
 use Rattle.bh_schema.specs.Layer.{standing, IsOpen, IsStateClean, KeepsDisk, LeavesNothingNew, Unwinds}
+use Rattle.bh_schema.specs.Storage.{seen_in}
 use Rattle.bh_schema.specs.Storage as storage
 use Rattle.bh_create.specs.Creation.{IsEmpty, IsNewHost}
-use Rattle.bh_open.specs.Opening.{IsHostOf}
-use Rattle.bh_blocks.specs.declared.digester.Sha256Digester.{Sha256Digester}
+use Rattle.bh_open.specs.Opening.{digest_in, IsHostOf}
+use Rattle.bh_open.specs.declared.open.Opened.{Opened}
+use Rattle.bh_blocks.specs.Digests.{digest_by, digester_of, the_digester}
 use Rattle.bh_dispatch.specs.declared.storage.HostStorage.{HostStorage}
 use Rattle.bh_words.specs.declared.lines.ClockGiven.{ClockGiven}
 use Rattle.bh_commands.specs.Clocks.{leaps}
@@ -28,13 +32,19 @@ use Rattle.bh_commands.specs.declared.asked.Work.{Work}
 use Rattle.bh_commands.specs.declared.ending.Left.{Left}
 use Rattle.bh_commands.specs.declared.printed.Printed.{Printed}
 
--- the host that a database is, if it is one, is sound, its blocks named by SHA-256
+-- a sound host's tables, its blocks named by the function that its row tells
+pub record IsSoundByItsRow (tables : Tables) : Type 0 where
+  pub digest : BlockDigest
+  pub row : digest_number digest ≡ digest_in tables
+  pub sound : IsSoundHost (digest_by digest) tables
+
+-- so are those of the host that a database is, if it is one
 abbrev pub IsSoundIn : State → Type 0
-IsSoundIn s = IsStateClean s → (standing s).now.schema ≡ host_schema → IsSoundHost sha256 (tables_shown (standing s).now)
+IsSoundIn s = IsStateClean s → (standing s).now.schema ≡ host_schema → IsSoundByItsRow (tables_shown (standing s).now)
 
 -- a new host needs nothing of it
 abbrev pub IsReadyFor : Asked → State → Type 0
-IsReadyFor (Init limits) s = Unit {0}
+IsReadyFor (Init limits digest) s = Unit {0}
 IsReadyFor (Host clock work) s = IsSoundIn s
 
 -- a refusal alone, of what is no host's file or for want of memory or the store. What stands is what stood, and no more than
@@ -57,67 +67,77 @@ pub record IsNotMade (old new : State) (printed : Printed) : Type 0 where
   pub alone : IsLeftAlone old new printed
   pub not_empty : alone.refusal ≡ NotAHostFile → ¬ IsEmpty old
 
--- a host with these limits is made in it
-pub record IsMade (limits : HostLimits) (old new : State) (printed : Printed) : Type 0 where
+-- a host with these limits is made in it, which keeps that this function is to name its blocks
+pub record IsMade (limits : HostLimits) (digest : BlockDigest) (old new : State) (printed : Printed) : Type 0 where
   pub was_empty : IsEmpty old
   pub follows : KeepsDisk old new
-  pub made : IsStateClean new → IsNewHost limits new
+  pub made : IsStateClean new → IsNewHost limits digest new
   pub line : IsLine (codes "host") printed
 
-abbrev pub Makes : HostLimits → State → State → Printed → Type 0
-Makes limits old new printed = IsNotMade old new printed ⊎ IsMade limits old new printed
+abbrev pub Makes : HostLimits → BlockDigest → State → State → Printed → Type 0
+Makes limits digest old new printed = IsNotMade old new printed ⊎ IsMade limits digest old new printed
 
 module _ {S : Type 0} (g : Ghosts S) where
-  -- a host in the database of a connection, its blocks named by SHA-256
-  abbrev pub Stored : Type 0
-  Stored = HostStorage S Sha256Digester
+  -- the host of a database that was opened, by a digester, and by that of a function
+  abbrev pub host_with : {D : Type 0} → Opened S → D → HostStorage S D
+  host_with opened digester = record { host = record { connection = opened.connection; digester = digester; limits = opened.limits; tuning = opened.tuning } }
+
+  abbrev pub host_by : (digest : BlockDigest) → Opened S → HostStorage S (digester_of digest)
+  host_by digest opened = host_with opened (the_digester digest)
+
+  -- it is at rest, with blocks named by a function, and its last stamp is the one that was read
+  pub record IsReadyBy (digest : Octets → Octets) (opened : Opened S) : Type 0 where
+    pub rest : IsStateClean (state g opened.connection) → IsAtRest (IsSoundHost digest) (seen_in opened.limits (state g opened.connection))
+    pub latest : IsStateClean (state g opened.connection) → opened.latest ≡ latest_of (seen_in opened.limits (state g opened.connection)).now
 
   -- a connection was opened as a host, which shows what stood and is at rest
-  pub record IsFound (old : Held S) (host : Stored) : Type 0 where
+  pub record IsFound {D : Type 0} (digest : Octets → Octets) (old : Held S) (host : HostStorage S D) : Type 0 where
     pub schema : (standing (state g old)).now.schema ≡ host_schema
     pub same : IsStateClean (state g host.host.connection) → standing (state g host.host.connection) ≡ standing (state g old)
-    pub rest : storage.IsClean g host.host → IsAtRest (IsSoundHost sha256) (storage.seen g host.host)
+    pub rest : storage.IsClean g host.host → IsAtRest (IsSoundHost digest) (storage.seen g host.host)
     pub follows : KeepsDisk (state g old) (state g host.host.connection)
     pub survives : IsOpen (state g old) → LeavesNothingNew (state g old) (state g host.host.connection)
 
   -- what is asked of it at a reading was done, all of it, and its connection is left
-  pub record IsWorkedOn (work : Work) (reading : ℕ) (host : Stored) (new : Held S) (printed : Printed) : Type 0 where
-    pub last : Stored
-    pub stays : StaysReady (λ h. storage.IsIntact g h.host) (λ h. storage.IsOpen g h.host) (IsSoundHost sha256) (λ h. storage.seen g h.host) host last
+  pub record IsWorkedOn {D : Type 0} (digest : Octets → Octets) (work : Work) (reading : ℕ) (host : HostStorage S D) (new : Held S) (printed : Printed) : Type 0 where
+    pub last : HostStorage S D
+    pub stays : StaysReady (λ h. storage.IsIntact g h.host) (λ h. storage.IsOpen g h.host) (IsSoundHost digest) (λ h. storage.seen g h.host) host last
     pub done : HasDone (λ h. storage.IsIntact g h.host) (λ h. storage.IsOpen g h.host) (λ h. storage.seen g h.host) (λ h. storage.left g h.host) work reading host last printed
     pub left : new ≡ last.host.connection
 
   -- the clock, at the reading that was given or else at some reading, is further ahead of its last stamp than it may be, or not
-  pub record Reads (clock : ClockGiven) (host : Stored) (reading : ℕ) (is_leap : Bool) : Type 0 where
+  pub record Reads {D : Type 0} (clock : ClockGiven) (host : HostStorage S D) (reading : ℕ) (is_leap : Bool) : Type 0 where
     pub given : IfSome clock.at (λ r. reading ≡ r)
     pub leap : storage.IsClean g host.host → leaps clock.leap (latest_of (storage.seen g host.host).now) reading ≡ is_leap
 
   -- it is: that alone is told, and what stood stands
-  pub record IsHeldBack (clock : ClockGiven) (host : Stored) (new : Held S) (printed : Printed) : Type 0 where
+  pub record IsHeldBack {D : Type 0} (clock : ClockGiven) (host : HostStorage S D) (new : Held S) (printed : Printed) : Type 0 where
     pub reading : ℕ
     pub reads : Reads clock host reading true
     pub left : new ≡ host.host.connection
     pub line : IsFault printed
 
   -- it isn't, and what is asked was done at that reading
-  pub record IsDone (clock : ClockGiven) (work : Work) (host : Stored) (new : Held S) (printed : Printed) : Type 0 where
+  pub record IsDone {D : Type 0} (digest : Octets → Octets) (clock : ClockGiven) (work : Work) (host : HostStorage S D) (new : Held S) (printed : Printed) : Type 0 where
     pub reading : ℕ
     pub reads : Reads clock host reading false
-    pub worked : IsWorkedOn work reading host new printed
+    pub worked : IsWorkedOn digest work reading host new printed
 
-  abbrev pub IsWorkedInTime : ClockGiven → Work → Stored → Held S → Printed → Type 0
-  IsWorkedInTime clock work host new printed = IsHeldBack clock host new printed ⊎ IsDone clock work host new printed
+  abbrev pub IsWorkedInTime : {D : Type 0} → (Octets → Octets) → ClockGiven → Work → HostStorage S D → Held S → Printed → Type 0
+  IsWorkedInTime digest clock work host new printed = IsHeldBack clock host new printed ⊎ IsDone digest clock work host new printed
 
+  -- the host was opened by the digester of the function that its row tells
   pub record HasWorked (clock : ClockGiven) (work : Work) (old new : Held S) (printed : Printed) : Type 0 where
-    pub host : Stored
-    pub found : IsFound old host
-    pub worked : IsWorkedInTime clock work host new printed
+    pub opened : Opened S
+    pub row : IsStateClean (state g opened.connection) → digest_number opened.digest ≡ digest_in (seen_in opened.limits (state g opened.connection)).now
+    pub found : IsFound (digest_by opened.digest) old (host_by opened.digest opened)
+    pub worked : IsWorkedInTime (digest_by opened.digest) clock work (host_by opened.digest opened) new printed
 
   abbrev pub Works : ClockGiven → Work → Held S → Held S → Printed → Type 0
   Works clock work old new printed = IsNotFound (state g old) (state g new) printed ⊎ HasWorked clock work old new printed
 
   abbrev pub CarriesOut : Asked → Held S → Held S → Printed → Type 0
-  CarriesOut (Init limits) old new printed = Makes limits (state g old) (state g new) printed
+  CarriesOut (Init limits digest) old new printed = Makes limits digest (state g old) (state g new) printed
   CarriesOut (Host clock work) old new printed = Works clock work old new printed
 
   -- it is done, and this is printed and left of the connection

@@ -1,5 +1,6 @@
 use crate::task::Task;
 use bh_connection::Manner;
+use bh_types::block_digest::BlockDigest;
 use bh_types::limits::Limits;
 use bh_words::ClockGiven;
 
@@ -30,8 +31,8 @@ impl Work {
 /// What is asked of a file.
 #[derive(Drop)]
 pub enum Asked {
-    /// A new host with these limits.
-    Init(Limits),
+    /// A new host with these limits, with blocks named by this function.
+    Init { limits: Limits, digest: BlockDigest },
     /// Something of the host that it holds, unless the clock is too far ahead of its last stamp.
     Host { clock: ClockGiven, work: Work },
 }

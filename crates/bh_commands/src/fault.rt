@@ -14,6 +14,8 @@ pub enum Fault {
     System(io::Error),
     /// Standard input has more bytes than a script may have.
     LongInput,
+    /// No digest function has the name that was given.
+    UnknownDigest,
     /// A write of a script's answers failed, or took none of some bytes.
     Output,
 }
@@ -56,6 +58,7 @@ impl fmt::Display for Fault {
             Fault::Unopened { path, reason } => write!(f, "unable to open {path}: {reason}"),
             Fault::System(error) => write!(f, "{error}"),
             Fault::LongInput => f.write_str("standard input is too long"),
+            Fault::UnknownDigest => f.write_str("--digest is sha256 or fast"),
             Fault::Output => f.write_str("standard output can't be written"),
         }
     }

@@ -17,6 +17,7 @@ use crate::hosts::on_connection;
 use crate::printed::Printed;
 use crate::remarks::{Remark, tell};
 use bh_file::{FileConnection, OpenFault};
+use bh_types::block_digest::BlockDigest;
 use bh_types::limits::{Limits, Tuning};
 use bh_types::refusal::Refusal;
 use bh_words::ClockGiven;
@@ -102,11 +103,13 @@ pub fn init_file<S: Start>(
     path: &str,
     start: S,
     limits: Limits,
+    digest: BlockDigest,
 ) -> Result<Ended<FileFrom<S>>, Fault>
     ensures { IfOk result (λ ended.
-        IsAnswered ⟦<FileFrom<S> as Disk>⟧ (image_at S.Start) (the_file.Init limits) ended.printed ended.files) }
+        IsAnswered ⟦<FileFrom<S> as Disk>⟧ (image_at S.Start) (the_file.Init limits digest) ended.printed ended.files) }
 {
-    let ended = in_files(rt, path, start, Tuning::default(), Asked::Init(limits))?;
+    let asked = Asked::Init { limits, digest };
+    let ended = in_files(rt, path, start, Tuning::default(), asked)?;
     Ok(ended)
 }
 

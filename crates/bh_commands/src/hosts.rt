@@ -2,14 +2,14 @@
 
 ghost use Rattle.std.specs.Prelude.{◌≡◌, IfOk};
 ghost use Rattle.sqlite.specs.Held.{state};
-ghost use Rattle.sha2.specs.Sha256.{sha256};
+ghost use Rattle.bh_blocks.specs.Digests.{digest_by};
 ghost use Rattle.bh_view.specs.Bodies.{IsSoundHost};
 ghost use Rattle.bh_view.specs.View.{latest_of};
 ghost use Rattle.bh_schema.specs.Storage.{IsClean, seen};
 ghost use Rattle.bh_storage.specs.Calls.{IsAtRest};
 ghost use Rattle.bh_commands.specs.Commands.{IsFault, IsRefusal};
 ghost use Rattle.bh_commands.specs.Endings.{IsLeft};
-ghost use Rattle.bh_commands.specs.Subcommands.{IsSoundIn, IsReadyFor, Makes, IsWorkedOn, IsWorkedInTime, Works, CarriesOut, LeavesDone};
+ghost use Rattle.bh_commands.specs.Subcommands.{IsSoundIn, IsReadyFor, IsReadyBy, host_with, host_by, Makes, IsWorkedOn, IsWorkedInTime, Works, CarriesOut, LeavesDone};
 
 use crate::asked::{Asked, Work};
 use crate::clocks::{leaps, reading_of};
@@ -18,10 +18,12 @@ use crate::ending::{Done, Left, leave};
 use crate::fault::Fault;
 use crate::printed::Printed;
 use crate::remarks::{Ahead, Remark, tell};
-use bh_blocks::digester::Sha256Digester;
+use bh_blocks::digester::{FastDigester, Sha256Digester};
 use bh_create::create;
 use bh_dispatch::storage::HostStorage;
 use bh_open::{NoHost, Opened, is_hosts, open_host};
+use bh_schema::host::{Digester, Host};
+use bh_types::block_digest::BlockDigest;
 use bh_types::limits::{Limits, Tuning};
 use bh_types::refusal::Refusal;
 use bh_words::ClockGiven;
@@ -73,12 +75,20 @@ fn make<S: Alter + Drop>(
     path: &str,
     connection: Connection<S>,
     limits: Limits,
+    digest: BlockDigest,
 ) -> Result<Done<S>, AllocError>
-    ensures { IfOk result (λ done. Makes limits (state S.Store connection) (state S.Store done.connection) done.printed) }
+    ensures { IfOk result (λ done. Makes limits digest (state S.Store connection) (state S.Store done.connection) done.printed) }
 {
     let alloc = rt.alloc();
     let printed = Printed::line(alloc, b"host")?;
-    match create(connection, Sha256Digester, limits, Tuning::default()) {
+    // No block is named yet, so it doesn't matter who would.
+    match create(
+        connection,
+        Sha256Digester,
+        digest,
+        limits,
+        Tuning::default(),
+    ) {
         Ok(host) => Ok(Done {
             printed,
             connection: host.into_connection(),
@@ -95,14 +105,14 @@ fn make<S: Alter + Drop>(
 }
 
 /// Does what is asked of a host at a reading of the clock.
-fn work_on<S: Alter + Drop>(
+fn work_on<S: Alter + Drop, D: Digester + Drop>(
     rt: &HostRuntime,
-    storage: HostStorage<S, Sha256Digester>,
+    storage: HostStorage<S, D>,
     reading: u64,
     asked: Work,
 ) -> Result<Done<S>, Fault>
-    requires { IsClean S.Store storage.host → IsAtRest (IsSoundHost sha256) (seen S.Store storage.host) }
-    ensures { IfOk result (λ done. IsWorkedOn S.Store asked reading storage done.connection done.printed) }
+    requires { IsClean S.Store storage.host → IsAtRest (IsSoundHost D.digest_of) (seen S.Store storage.host) }
+    ensures { IfOk result (λ done. IsWorkedOn S.Store D.digest_of asked reading storage done.connection done.printed) }
 {
     let mut storage = storage;
     let printed = do_work(rt, &mut storage, reading, asked)?;
@@ -137,18 +147,18 @@ fn tell_stamp(rt: &HostRuntime, path: &str, asked: &Work, latest: u64) {
 }
 
 /// Does what is asked of a host whose last stamp this is, if the clock isn't too far ahead.
-fn work_in_time<S: Alter + Drop>(
+fn work_in_time<S: Alter + Drop, D: Digester + Drop>(
     rt: &HostRuntime,
     path: &str,
-    opened: Opened<S, Sha256Digester>,
+    host: Host<S, D>,
+    latest: u64,
     clock: ClockGiven,
     asked: Work,
 ) -> Result<Done<S>, Fault>
-    requires rest { IsClean S.Store opened.host → IsAtRest (IsSoundHost sha256) (seen S.Store opened.host) }
-    requires latest { IsClean S.Store opened.host → opened.latest ≡ latest_of (seen S.Store opened.host).now }
-    ensures { IfOk result (λ done. IsWorkedInTime S.Store clock asked (record { host = opened.host }) done.connection done.printed) }
+    requires rest { IsClean S.Store host → IsAtRest (IsSoundHost D.digest_of) (seen S.Store host) }
+    requires latest { IsClean S.Store host → latest ≡ latest_of (seen S.Store host).now }
+    ensures { IfOk result (λ done. IsWorkedInTime S.Store D.digest_of clock asked (record { host = host }) done.connection done.printed) }
 {
-    let Opened { host, latest } = opened;
     let reading = reading_of(rt, clock.at)?;
     if leaps(clock.leap, latest, reading) {
         let ahead = Ahead { latest, reading };
@@ -156,6 +166,41 @@ fn work_in_time<S: Alter + Drop>(
     }
     tell_stamp(rt, path, &asked, latest);
     Ok(work_on(rt, HostStorage { host }, reading, asked)?)
+}
+
+/// The same of a database that was opened, by a digester of the function that names its blocks.
+fn work_by<S: Alter + Drop, D: Digester + Drop>(
+    rt: &HostRuntime,
+    path: &str,
+    opened: Opened<S>,
+    digester: D,
+    clock: ClockGiven,
+    asked: Work,
+) -> Result<Done<S>, Fault>
+    requires { IsReadyBy S.Store D.digest_of opened }
+    ensures { IfOk result (λ done. IsWorkedInTime S.Store D.digest_of clock asked (host_with S.Store opened digester)
+        done.connection done.printed) }
+{
+    let latest = opened.latest;
+    work_in_time(rt, path, opened.into_host(digester), latest, clock, asked)
+}
+
+/// The same, by the digester of the function that its row tells.
+fn work_by_digest<S: Alter + Drop>(
+    rt: &HostRuntime,
+    path: &str,
+    opened: Opened<S>,
+    clock: ClockGiven,
+    asked: Work,
+) -> Result<Done<S>, Fault>
+    requires { IsReadyBy S.Store (digest_by opened.digest) opened }
+    ensures { IfOk result (λ done. IsWorkedInTime S.Store (digest_by opened.digest) clock asked (host_by S.Store opened.digest opened)
+        done.connection done.printed) }
+{
+    match opened.digest {
+        BlockDigest::Sha256 => work_by(rt, path, opened, Sha256Digester, clock, asked),
+        BlockDigest::Fast => work_by(rt, path, opened, FastDigester, clock, asked),
+    }
 }
 
 /// Opens the host of a database, and does what is asked of it.
@@ -170,8 +215,8 @@ fn find<S: Alter + Drop>(
     requires { IsSoundIn (state S.Store connection) }
     ensures { IfOk result (λ done. Works S.Store clock asked connection done.connection done.printed) }
 {
-    match open_host(rt.alloc(), connection, Sha256Digester, tuning) {
-        Ok(opened) => Ok(work_in_time(rt, path, opened, clock, asked)?),
+    match open_host(rt.alloc(), connection, tuning) {
+        Ok(opened) => Ok(work_by_digest(rt, path, opened, clock, asked)?),
         Err(error) => {
             tell(rt, path, &why_not_found(error.why, error.cause));
             Ok(refused(rt.alloc(), error.connection, error.refusal)?)
@@ -190,7 +235,7 @@ fn carry_out<S: Alter + Drop>(
     ensures { IfOk result (λ done. CarriesOut S.Store asked connection done.connection done.printed) }
 {
     match asked {
-        Asked::Init(limits) => Ok(make(rt, path, connection, limits)?),
+        Asked::Init { limits, digest } => Ok(make(rt, path, connection, limits, digest)?),
         Asked::Host { clock, work } => Ok(find(rt, path, connection, tuning, clock, work)?),
     }
 }

@@ -6,9 +6,12 @@ ghost use Rattle.bh_commands.specs.Input as spec;
 
 use crate::fault::Fault;
 use crate::printed::Printed;
+use bh_blocks::digester::{FastDigester, Sha256Digester};
 use bh_link::link::Link;
+use bh_schema::host::Digester;
 use bh_script::input::{BadLine, read_all};
 use bh_script::script::answer_script;
+use bh_types::block_digest::BlockDigest;
 use bh_types::limits::{Limits, Tuning};
 use bh_words::SecretGiven;
 use std::alloc::{AllocError, Global};
@@ -33,15 +36,25 @@ fn tell_bad_line(rt: &impl Eprint, bad_line: Option<BadLine>) -> io::Result<u8> 
 }
 
 /// Writes the answers to a script on standard output. What a failure leaves in the buffer goes out as that is dropped.
-fn answer_bytes(
+fn answer_bytes<D: Digester + Drop>(
     rt: &(impl Print + AllocGlobal),
     bytes: &[u8],
+    digester: D,
+    digest: BlockDigest,
     limits: Limits,
     tuning: Tuning,
 ) -> Result<Option<BadLine>, Fault> {
     let output = BufWriter::new(rt.alloc(), io::writer(rt))?;
     let mut writer = Link::new(output);
-    let bad_line = answer_script(rt.alloc(), bytes, limits, tuning, &mut writer)?;
+    let bad_line = answer_script(
+        rt.alloc(),
+        bytes,
+        digester,
+        digest,
+        limits,
+        tuning,
+        &mut writer,
+    )?;
     writer.into_inner().flush()?;
     Ok(bad_line)
 }
@@ -49,11 +62,16 @@ fn answer_bytes(
 /// Answers the script of standard input on standard output. Nothing is left to print.
 pub fn answer_input(
     rt: &(impl Input + Print + Eprint + AllocGlobal),
+    digest: BlockDigest,
     limits: Limits,
     tuning: Tuning,
 ) -> Result<Printed, Fault> {
     let bytes = read_input(rt)?;
-    let bad_line = answer_bytes(rt, bytes.as_slice(), limits, tuning)?;
+    let bytes = bytes.as_slice();
+    let bad_line = match digest {
+        BlockDigest::Sha256 => answer_bytes(rt, bytes, Sha256Digester, digest, limits, tuning)?,
+        BlockDigest::Fast => answer_bytes(rt, bytes, FastDigester, digest, limits, tuning)?,
+    };
     let status = tell_bad_line(rt, bad_line)?;
     Ok(Printed {
         text: Vec::new(rt.alloc()),

@@ -6,6 +6,7 @@ use crate::printed::Printed;
 use crate::task::Task;
 use bh_connection::Manner;
 use bh_event::event::Command;
+use bh_types::block_digest::BlockDigest;
 use bh_types::limits::{Limits, Tuning};
 use bh_words::{ClockGiven, Line, SecretGiven};
 use sqlite::Wary;
@@ -16,8 +17,16 @@ use sqlite::Wary;
 /// NotAHostFile`; of `init`: it holds something), the clock can't be read or is too far ahead, the event is refused.
 pub fn carry_out(rt: &HostRuntime, line: Line) -> Result<Printed, Fault> {
     let (file, clock, task) = match line {
-        Line::Script { limits, tuning } => return answer_input(rt, limits, tuning),
-        Line::Init { file, limits } => return make_in(rt, file.as_str(), limits),
+        Line::Script {
+            limits,
+            tuning,
+            digest,
+        } => return answer_input(rt, known(digest)?, limits, tuning),
+        Line::Init {
+            file,
+            limits,
+            digest,
+        } => return make_in(rt, file.as_str(), limits, known(digest)?),
         Line::Serve {
             file,
             port,
@@ -84,6 +93,14 @@ pub fn carry_out(rt: &HostRuntime, line: Line) -> Result<Printed, Fault> {
     )
 }
 
+/// The digest function whose name was given.
+fn known(digest: Option<BlockDigest>) -> Result<BlockDigest, Fault> {
+    match digest {
+        Some(digest) => Ok(digest),
+        None => Err(Fault::UnknownDigest),
+    }
+}
+
 /// A new access key. Its secret is read before a file is opened, so that no other process waits for it.
 fn key_add(
     rt: &HostRuntime,
@@ -100,8 +117,13 @@ fn key_add(
 }
 
 /// Makes a host in a file. A crash may have left anything in what was being written.
-fn make_in(rt: &HostRuntime, path: &str, limits: Limits) -> Result<Printed, Fault> {
-    Ok(init_file(rt, path, Wary, limits)?.into_printed())
+fn make_in(
+    rt: &HostRuntime,
+    path: &str,
+    limits: Limits,
+    digest: BlockDigest,
+) -> Result<Printed, Fault> {
+    Ok(init_file(rt, path, Wary, limits, digest)?.into_printed())
 }
 
 /// Does what is asked of the host of a file, of whose contents nothing is said.

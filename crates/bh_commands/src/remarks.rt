@@ -76,6 +76,10 @@ fn write_no_host<W: fmt::Write>(why: NoHost, f: &mut fmt::Formatter<W>) -> fmt::
             f,
             "this is a host of version {version}, made by a later bucketd"
         ),
+        NoHost::OtherDigest(number) => write!(
+            f,
+            "the blocks of this host are named by function {number}, which a later bucketd knows"
+        ),
         NoHost::NoRow => f.write_str("there is no host in its tables"),
     }
 }

@@ -1,7 +1,9 @@
 -- The calls that make a host, one after another.
-use Rattle.std.proofs.Common.{◌≡◌, inl, inr, ℕ, List, [], ◌∷◌, ◌++◌, IsTrue, true, None, Ok, Err, Result, OnOk, OnErr, IfErr, refl, sym, ap, ◌∙◌, subst}
+use Rattle.std.proofs.Common.{◌≡◌, ◌≤◌, inl, inr, ℕ, List, [], ◌∷◌, ◌++◌, IsTrue, true, None, Ok, Err, Result, OnOk, OnErr, IfErr, refl, sym, ap, ◌∙◌, subst}
 use Rattle.sqlite.specs.Tree.{Trees}
+use Rattle.bh_types.specs.BlockDigests.{digest_number}
 use Rattle.bh_types.specs.Limits.{HostLimits, AreLimits}
+use Rattle.bh_types.specs.declared.block_digest.BlockDigest.{BlockDigest}
 use Rattle.bh_model.specs.QuotaLaws.{IsBounded}
 use Rattle.bh_model.specs.State.{Octets}
 use Rattle.bh_tables.specs.Schema.{no_schema, host_schema}
@@ -116,36 +118,36 @@ pub made_inside : (s : State) → IsMaking with_uses_by_count s → IsInside (st
 made_inside s making = (made_host s making).0
 
 -- the host's row is added
-pub filled : (old new : State) (min_part max_body : ℕ) → IsMaking with_uses_by_count old
-    → Holds (record (tables_in (standing old).now) { host = (tables_in (standing old).now).host ++ record { version = 1; latest = 0; min_part = min_part; max_body = max_body; digest = 0 } ∷ [] }) (standing new)
-    → Holds (new_host min_part max_body) (standing new)
-filled old new min_part max_body making it =
-    record { within = it.within; is = it.is ∙ ap (λ (t : Tables). record t { host = t.host ++ record { version = 1; latest = 0; min_part = min_part; max_body = max_body; digest = 0 } ∷ [] }) (made_host old making).1 }
+pub filled : (old new : State) (min_part max_body digest : ℕ) → IsMaking with_uses_by_count old
+    → Holds (record (tables_in (standing old).now) { host = (tables_in (standing old).now).host ++ record { version = 1; latest = 0; min_part = min_part; max_body = max_body; digest = digest } ∷ [] }) (standing new)
+    → Holds (new_host min_part max_body digest) (standing new)
+filled old new min_part max_body digest making it =
+    record { within = it.within; is = it.is ∙ ap (λ (t : Tables). record t { host = t.host ++ record { version = 1; latest = 0; min_part = min_part; max_body = max_body; digest = digest } ∷ [] }) (made_host old making).1 }
 
 -- it has no body, and no tenant
-new_sound : (digest : Octets → Octets) (tables : Tables) (min_part max_body : ℕ) → tables ≡ new_host min_part max_body → IsSound tables → ((t : Octets) → view tables t ≡ None) → IsSoundHost digest tables
-new_sound digest tables min_part max_body is sound vacant =
+new_sound : (digest : Octets → Octets) (tables : Tables) (min_part max_body number : ℕ) → tables ≡ new_host min_part max_body number → IsSound tables → ((t : Octets) → view tables t ≡ None) → IsSoundHost digest tables
+new_sound digest tables min_part max_body number is sound vacant =
     let P : Tables → Type 0 = λ x. HasBodies x × AreDigests digest x.blocks in
-    let none : P (new_host min_part max_body) = (record { placed = λ body. refl; owned = λ body away. refl; measured = tt }, tt) in
+    let none : P (new_host min_part max_body number) = (record { placed = λ body. refl; owned = λ body away. refl; measured = tt }, tt) in
     let it = subst P (sym is) none in
     record { sound = sound; bodies = it.0; digests = it.1; bounded = λ t. subst IsBounded (sym (vacant t)) tt }
 
 -- and committed
-pub stands : (old new : State) (min_part max_body : ℕ) → AreLimits min_part max_body → Holds (new_host min_part max_body) (standing old) → standing new ≡ committed (standing old)
-    → ((db : Trees) → Leaves new db → db ≡ (standing new).kept.trees) → IsNewHost (record { min_part = min_part; max_body = max_body }) new
+pub stands : (old new : State) (min_part max_body number : ℕ) (named : BlockDigest) → AreLimits min_part max_body → number ≤ 1 → number ≡ digest_number named → Holds (new_host min_part max_body number) (standing old) → standing new ≡ committed (standing old)
+    → ((db : Trees) → Leaves new db → db ≡ (standing new).kept.trees) → IsNewHost (record { min_part = min_part; max_body = max_body }) named new
 unfolding seen_in left_in
-stands old new min_part max_body good it is settled =
+stands old new min_part max_body number named good known same it is settled =
     let limits : HostLimits = record { min_part = min_part; max_body = max_body } in
     let trees = (standing old).now.trees in
     let host = ap (λ (s : Schema). tables_shown (record { schema = s; trees = trees })) (sym it.within.host.schema) in
     let shows = host_shows (standing old).now it.within.host ∙ it.is in
-    let now : (seen_in limits new).now ≡ new_host min_part max_body = ap (λ (x : Standing). tables_shown x.now) is ∙ shows in
-    let kept : (seen_in limits new).kept ≡ new_host min_part max_body = ap (λ (x : Standing). tables_shown x.kept) is ∙ shows in
-    let made = host_created (seen_in limits new).now min_part max_body good now in
+    let now : (seen_in limits new).now ≡ new_host min_part max_body number = ap (λ (x : Standing). tables_shown x.now) is ∙ shows in
+    let kept : (seen_in limits new).kept ≡ new_host min_part max_body number = ap (λ (x : Standing). tables_shown x.kept) is ∙ shows in
+    let made = host_created (seen_in limits new).now min_part max_body number good known now in
     record {
-      rest = λ digest. record { outside = ap (λ (x : Standing). x.inside) is; committed = kept ∙ sym now; sound = new_sound digest _ min_part max_body now made.0 made.2; limits = made.3 };
-      tables = now;
+      rest = λ digest. record { outside = ap (λ (x : Standing). x.inside) is; committed = kept ∙ sym now; sound = new_sound digest _ min_part max_body number now made.0 made.2; limits = made.3 };
+      tables = now ∙ ap (new_host min_part max_body) same;
       latest = made.1;
       vacant = made.2;
-      left = λ x its. its.2 ∙ ap (λ (t : Trees). tables_shown (record { schema = host_schema; trees = t })) (settled its.0 its.1 ∙ ap (λ (y : Standing). y.kept.trees) is) ∙ host ∙ shows;
+      left = λ x its. its.2 ∙ ap (λ (t : Trees). tables_shown (record { schema = host_schema; trees = t })) (settled its.0 its.1 ∙ ap (λ (y : Standing). y.kept.trees) is) ∙ host ∙ shows ∙ ap (new_host min_part max_body) same;
     }

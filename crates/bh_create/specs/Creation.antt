@@ -2,7 +2,9 @@
 use Rattle.std.specs.Prelude.{◌≡◌, true, None, Result, OnOk}
 use Rattle.sqlite.specs.Schema.{Schema}
 use Rattle.sqlite.specs.State.{State}
+use Rattle.bh_types.specs.BlockDigests.{digest_number}
 use Rattle.bh_types.specs.Limits.{HostLimits}
+use Rattle.bh_types.specs.declared.block_digest.BlockDigest.{BlockDigest}
 use Rattle.bh_model.specs.State.{Octets}
 use Rattle.bh_rows.specs.Means.{IsBlank}
 use Rattle.bh_tables.specs.Schema.{no_schema}
@@ -18,15 +20,16 @@ use Rattle.bh_schema.specs.Storage.{seen_in, left_in}
 abbrev pub IsEmpty : State → Type 0
 IsEmpty s = s.now.schema ≡ no_schema
 
--- a host with these limits was committed. It has no tenant, and has read no clock
-pub record IsNewHost (limits : HostLimits) (s : State) : Type 0 where
+-- a host with these limits was committed, which keeps that this function is to name its blocks. It has no tenant, and has
+-- read no clock
+pub record IsNewHost (limits : HostLimits) (named : BlockDigest) (s : State) : Type 0 where
   -- however blocks are named
   pub rest : (digest : Octets → Octets) → IsAtRest (IsSoundHost digest) (seen_in limits s)
-  pub tables : (seen_in limits s).now ≡ new_host limits.min_part limits.max_body
+  pub tables : (seen_in limits s).now ≡ new_host limits.min_part limits.max_body (digest_number named)
   pub latest : latest_of (seen_in limits s).now ≡ 0
   pub vacant : (tenant : Octets) → view (seen_in limits s).now tenant ≡ None
   -- a crash leaves it
-  pub left : (x : Tables) → left_in s x → x ≡ new_host limits.min_part limits.max_body
+  pub left : (x : Tables) → left_in s x → x ≡ new_host limits.min_part limits.max_body (digest_number named)
 
 -- ---- the calls that make it
 

@@ -1,4 +1,4 @@
-ghost use Rattle.std.specs.Prelude.{◌≡◌, true, false, None, IfErr, OnOk, OnErr};
+ghost use Rattle.std.specs.Prelude.{◌≡◌, ◌≤◌, true, false, None, IfErr, OnOk, OnErr};
 ghost use Rattle.sqlite.specs.Held.{state};
 ghost use Rattle.bh_rows.specs.Means.{is_trouble};
 ghost use Rattle.bh_types.specs.Limits.{AreLimits};
@@ -10,6 +10,7 @@ ghost use Rattle.bh_create.specs.Creation.{IsEmpty, IsNewHost, IsMaking, Keeps};
 use crate::tables::create_tables;
 use bh_schema::rows::host::insert_host;
 use bh_schema::rows::transactions::{begin, commit, take_back};
+use bh_types::block_digest::BlockDigest;
 use bh_types::limits::Limits;
 use sqlite::{Alter, Connection, Error};
 
@@ -17,23 +18,29 @@ fn fill<S: Alter>(
     connection: &mut Connection<S>,
     min_part: u64,
     max_body: u64,
+    digest: u64,
 ) -> Result<usize, Error>
     requires limits { AreLimits min_part max_body }
+    requires digest { digest ≤ 1 }
     requires making { IsStateClean (state S.Store connection.old) → IsMaking no_schema (state S.Store connection.old) }
     ensures keeps { Keeps (state S.Store connection.old) (state S.Store connection.new) }
     ensures holds { OnOk result (IsStateClean (state S.Store connection.new)
-        → Holds (new_host min_part max_body) (standing (state S.Store connection.new))) }
+        → Holds (new_host min_part max_body digest) (standing (state S.Store connection.new))) }
     ensures trouble { IfErr result (λ e. IsIntact (state S.Store connection.new)
         → (standing (state S.Store connection.old)).limit ≡ None → is_trouble e ≡ true) }
 {
     create_tables(connection)?;
-    insert_host(connection, min_part, max_body)
+    insert_host(connection, min_part, max_body, digest)
 }
 
-fn commit_new<S: Alter>(connection: &mut Connection<S>, limits: Limits) -> Result<usize, Error>
+fn commit_new<S: Alter>(
+    connection: &mut Connection<S>,
+    limits: Limits,
+    digest: BlockDigest,
+) -> Result<usize, Error>
     requires { IsStateClean (state S.Store connection.old) → IsEmpty (state S.Store connection.old) }
     ensures follows { KeepsDisk (state S.Store connection.old) (state S.Store connection.new) }
-    ensures made { OnOk result (IsStateClean (state S.Store connection.new) → IsNewHost limits (state S.Store connection.new)) }
+    ensures made { OnOk result (IsStateClean (state S.Store connection.new) → IsNewHost limits digest (state S.Store connection.new)) }
     ensures kept { OnErr result (IsStateClean (state S.Store connection.new)
         → (standing (state S.Store connection.new)).kept ≡ (standing (state S.Store connection.old)).kept) }
     ensures trouble { IfErr result (λ e. IsIntact (state S.Store connection.new)
@@ -41,22 +48,31 @@ fn commit_new<S: Alter>(connection: &mut Connection<S>, limits: Limits) -> Resul
         → (IsStateClean (state S.Store connection.old) → (standing (state S.Store connection.old)).inside ≡ false) → is_trouble e ≡ true) }
 {
     begin(connection)?;
-    fill(connection, limits.min_part, limits.max_body)?;
+    fill(
+        connection,
+        limits.min_part,
+        limits.max_body,
+        digest.number(),
+    )?;
     commit(connection)
 }
 
 /// Makes a host in an empty database and commits it. After an error nothing of it stands.
-pub fn make<S: Alter>(connection: &mut Connection<S>, limits: Limits) -> Result<(), Error>
+pub fn make<S: Alter>(
+    connection: &mut Connection<S>,
+    limits: Limits,
+    digest: BlockDigest,
+) -> Result<(), Error>
     requires { IsStateClean (state S.Store connection.old) → IsEmpty (state S.Store connection.old) }
     ensures follows { KeepsDisk (state S.Store connection.old) (state S.Store connection.new) }
-    ensures made { OnOk result (IsStateClean (state S.Store connection.new) → IsNewHost limits (state S.Store connection.new)) }
+    ensures made { OnOk result (IsStateClean (state S.Store connection.new) → IsNewHost limits digest (state S.Store connection.new)) }
     ensures back { OnErr result (IsStateClean (state S.Store connection.new)
         → standing (state S.Store connection.new) ≡ taken_back (standing (state S.Store connection.old))) }
     ensures trouble { IfErr result (λ e. IsIntact (state S.Store connection.new)
         → (standing (state S.Store connection.old)).limit ≡ None
         → (IsStateClean (state S.Store connection.old) → (standing (state S.Store connection.old)).inside ≡ false) → is_trouble e ≡ true) }
 {
-    match commit_new(connection, limits) {
+    match commit_new(connection, limits, digest) {
         Ok(_) => Ok(()),
         Err(error) => {
             take_back(connection);

@@ -8,6 +8,7 @@ ghost use Rattle.bh_create.specs.Creation.{IsEmpty, IsNewHost};
 
 use crate::fill::make;
 use bh_schema::host::{Digester, Host};
+use bh_types::block_digest::BlockDigest;
 use bh_types::limits::{Limits, Tuning};
 use bh_types::refusal::Refusal;
 use sqlite::{Alter, Connection, Error};
@@ -32,8 +33,8 @@ fn is_empty(schema: &Schema) -> bool
     schema.tables.is_empty() && schema.indexes.is_empty() && schema.views.is_empty()
 }
 
-/// A new host in an empty database: it has these limits and no tenant, its last stamp is 0 (seconds since
-/// 1970), and it is committed, so that a crash leaves it.
+/// A new host in an empty database: it has these limits and no tenant, keeps which function names its blocks, its last
+/// stamp is 0 (seconds since 1970), and it is committed, so that a crash leaves it.
 ///
 /// `NotAHostFile` where the database has a table, an index or a view, and then the connection is as it was.
 /// `Unavailable` where memory or the store was wanting, or a transaction was open, or a limit on the steps of a
@@ -41,6 +42,7 @@ fn is_empty(schema: &Schema) -> bool
 pub fn create<S: Alter + Drop, D: Digester + Drop>(
     connection: Connection<S>,
     digester: D,
+    digest: BlockDigest,
     limits: Limits,
     tuning: Tuning,
 ) -> Result<Host<S, D>, CreateError<S, D>>
@@ -48,7 +50,7 @@ pub fn create<S: Alter + Drop, D: Digester + Drop>(
     ensures empty { IfOk result (λ host. IsEmpty (state S.Store connection)) }
     ensures follows { IfOk result (λ host. KeepsDisk (state S.Store connection) (state S.Store host.connection)) }
     ensures made { IfOk result (λ host. IsStateClean (state S.Store host.connection)
-        → IsNewHost limits (state S.Store host.connection)) }
+        → IsNewHost limits digest (state S.Store host.connection)) }
     ensures back { IfErr result (λ e. e.digester ≡ digester) }
     ensures refused { IfErr result (λ e. e.refusal ≡ refusal.NotAHostFile
         → (e.connection ≡ connection) × ¬ IsEmpty (state S.Store connection)) }
@@ -70,7 +72,7 @@ pub fn create<S: Alter + Drop, D: Digester + Drop>(
         });
     }
     let mut connection = connection;
-    match make(&mut connection, limits) {
+    match make(&mut connection, limits, digest) {
         Ok(()) => Ok(Host {
             connection,
             digester,

@@ -1,6 +1,7 @@
 ghost use Rattle.std.specs.Prelude.{◌≡◌, ◌≤◌, IfOk, OnOk};
 ghost use Rattle.std.specs.Option.{option_copied};
 ghost use Rattle.std.specs.String.{string_bytes};
+ghost use Rattle.sha2.specs.Sha256.{sha256};
 ghost use Rattle.bh_types.specs.Checksums.{checksum_text};
 ghost use Rattle.bh_model.specs.Operations as machine;
 ghost use Rattle.bh_storage.specs.Answers.{stored_answer};
@@ -20,25 +21,44 @@ use bh_model::entries::new_id;
 use bh_schema::host::Digester;
 use bh_storage::answer::StoredVersion;
 use bh_storage::error::StepError;
-use bh_types::checksum::checksum_of;
+use bh_types::checksum::{checksum_of_digest, digest_of};
 use bh_types::refusal::Refusal;
 use sqlite::{Alter, Connection};
-use std::alloc::Global;
+use std::alloc::{AllocError, Global};
 
-/// The text of the checksum of an object's bytes: BadDigest where another is given.
+/// The checksum of some bytes.
+#[derive(Drop)]
+pub struct Checksum {
+    /// Their SHA-256 digest (FIPS 180-4).
+    pub digest: [u8; 32],
+    /// Its base64 (RFC 4648).
+    pub text: String,
+}
+
+fn sum_of(alloc: Global, bytes: &[u8]) -> Result<Checksum, AllocError>
+    ensures digest { IfOk result (λ sum. sum.digest ≡ sha256 bytes.now) }
+    ensures text { IfOk result (λ sum. string_bytes sum.text ≡ checksum_text bytes.now) }
+{
+    let digest = digest_of(bytes);
+    let text = checksum_of_digest(alloc, &digest)?;
+    Ok(Checksum { digest, text })
+}
+
+/// The checksum of an object's bytes: BadDigest where another text is given.
 pub fn checked_sum(
     alloc: Global,
     bytes: &[u8],
     given: Option<&[u8]>,
-) -> Result<String, StepError<Refusal>>
-    ensures answers { Answers string_bytes (sum_given (option_copied given.entry) bytes.now) result }
-    ensures text { IfOk result (λ text. string_bytes text ≡ checksum_text bytes.now) }
+) -> Result<Checksum, StepError<Refusal>>
+    ensures answers { Answers (λ sum. string_bytes sum.text) (sum_given (option_copied given.entry) bytes.now) result }
+    ensures digest { IfOk result (λ sum. sum.digest ≡ sha256 bytes.now) }
+    ensures text { IfOk result (λ sum. string_bytes sum.text ≡ checksum_text bytes.now) }
 {
-    let checksum = checksum_of(alloc, bytes)?;
+    let checksum = sum_of(alloc, bytes)?;
     let Some(text) = given else {
         return Ok(checksum);
     };
-    if text == checksum.as_str().as_bytes() {
+    if text == checksum.text.as_str().as_bytes() {
         Ok(checksum)
     } else {
         Err(StepError::Refused(Refusal::BadDigest))
@@ -82,16 +102,10 @@ pub fn put_object<S: Alter, D: Digester>(
     )?;
     let NewEntry { numbers, .. } = entry;
     write_object(
-        connection,
-        digester,
-        block_size,
-        object,
-        mode,
-        entry,
-        checksum.as_str(),
+        connection, digester, block_size, object, mode, entry, &checksum,
     )?;
     Ok(StoredVersion {
         id: told_id(mode, new_id(mode, numbers.before.version)),
-        checksum,
+        checksum: checksum.text,
     })
 }

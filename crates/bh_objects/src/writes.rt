@@ -1,4 +1,6 @@
 ghost use Rattle.std.specs.Prelude.{◌≡◌, ◌≤◌, ◌<◌, ◌^◌, OnOk};
+ghost use Rattle.std.specs.String.{string_bytes};
+ghost use Rattle.sha2.specs.Sha256.{sha256};
 ghost use Rattle.sqlite_keyed.specs.Lists.{update_where};
 ghost use Rattle.bh_types.specs.Checksums.{checksum_text};
 ghost use Rattle.bh_model.specs.State.{Content.Marker, Content.Body};
@@ -11,6 +13,7 @@ ghost use Rattle.bh_objects.specs.Writes.{object_written, marker_written};
 
 use crate::heads::{is_marker, numbered_head};
 use crate::ids::row_number;
+use crate::objects::Checksum;
 use crate::quotas::{NewEntry, Replaced, as_replaced};
 use crate::reads::Numbers;
 use bh_blocks::bodies::{drop_body, store_body};
@@ -314,8 +317,8 @@ fn add_object<S: Alter>(
     add_version(connection, &version, mode, numbers)
 }
 
-/// Puts an object into a bucket of this state, as a new entry, with the text of its checksum: its body, in blocks of
-/// at most this size, before what it replaces goes, and then its row with the counters.
+/// Puts an object into a bucket of this state, as a new entry, with its checksum: its body, in blocks of at most this
+/// size, before what it replaces goes, and then its row with the counters.
 pub fn write_object<S: Alter, D: Digester>(
     connection: &mut Connection<S>,
     digester: &D,
@@ -323,11 +326,12 @@ pub fn write_object<S: Alter, D: Digester>(
     object: &NewObject<'_>,
     mode: BucketState,
     entry: NewEntry,
-    checksum: &str,
+    checksum: &Checksum,
 ) -> Result<(), Trouble>
     requires inside { InTransaction S.Store connection.old }
     requires positive { 1 ≤ block_size }
-    requires checksum { checksum.now ≡ checksum_text object.now.bytes.now }
+    requires digest { checksum.now.digest ≡ sha256 object.now.bytes.now }
+    requires checksum { string_bytes checksum.now.text ≡ checksum_text object.now.bytes.now }
     requires held { IsClean S.Store connection.old
         → IsHeld object.now.tenant.now object.now.bucket.now object.now.key.now entry.replaced (tables S.Store connection.old) }
     ensures within { StaysWithin S.Store connection.old connection.new }
@@ -345,6 +349,7 @@ pub fn write_object<S: Alter, D: Digester>(
         object.tenant.as_str(),
         numbers.before.entry,
         object.bytes,
+        &checksum.digest,
     ))?;
     drop_replaced(
         connection,
@@ -353,7 +358,7 @@ pub fn write_object<S: Alter, D: Digester>(
         object.key,
         replaced,
     )?;
-    add_object(connection, object, mode, numbers, checksum)
+    add_object(connection, object, mode, numbers, checksum.text.as_str())
 }
 
 fn add_marker<S: Alter>(

@@ -1,10 +1,12 @@
 -- When a row is the one of a host of this version and these limits.
 use Rattle.std.proofs.Common.{arith, ◌≡◌, ◌≢◌, ℕ, List, [], ◌∷◌, length, map, slice_get, Some, refl, sym, ap, ◌∙◌, subst}
 use Rattle.sqlite.specs.Order.{Row}
+use Rattle.bh_types.specs.BlockDigests.{digest_number}
 use Rattle.bh_types.specs.Limits.{HostLimits, AreLimits}
+use Rattle.bh_types.specs.declared.block_digest.BlockDigest.{BlockDigest}
 use Rattle.bh_tables.specs.Typed.{HostRow, Tables}
 use Rattle.bh_view.specs.View.{latest_of, limits_in}
-use Rattle.bh_open.specs.Opening.{IsRowOf, Tells, shown_row}
+use Rattle.bh_open.specs.Opening.{digest_in, IsRowOf, Tells, shown_row}
 
 same_row : (limits : HostLimits) (h : HostRow) → (it : IsRowOf limits (h ∷ [])) → it.row ≡ h
 same_row limits h it = let e = it.alone in cc
@@ -15,9 +17,12 @@ other_version h other limits it = other (ap (λ (r : HostRow). r.version) (sym (
 pub out_of_range : (h : HostRow) → ¬ AreLimits h.min_part h.max_body → (limits : HostLimits) → ¬ IsRowOf limits (h ∷ [])
 out_of_range h out limits it = out (subst (λ (r : HostRow). AreLimits r.min_part r.max_body) (same_row limits h it) it.range)
 
-pub in_range : (h : HostRow) (limits : HostLimits) (latest : ℕ) → h.version ≡ 1 → h.latest ≡ latest → AreLimits h.min_part h.max_body
-    → limits ≡ record { min_part = h.min_part; max_body = h.max_body } → Tells (h ∷ []) (record { limits = limits; latest = latest })
-in_range h limits latest version same range are = (record { row = h; alone = refl; version = version; range = range; limits_are = are }, sym same)
+pub other_digest : (h : HostRow) → ((digest : BlockDigest) → digest_number digest ≢ h.digest) → (limits : HostLimits) → ¬ IsRowOf limits (h ∷ [])
+other_digest h other limits it = other it.named (it.number ∙ ap (λ (r : HostRow). r.digest) (same_row limits h it))
+
+pub in_range : (h : HostRow) (limits : HostLimits) (latest : ℕ) (named : BlockDigest) → h.version ≡ 1 → h.latest ≡ latest → AreLimits h.min_part h.max_body
+    → limits ≡ record { min_part = h.min_part; max_body = h.max_body } → digest_number named ≡ h.digest → Tells (h ∷ []) (record { limits = limits; digest = named; latest = latest })
+in_range h limits latest named version same range are number = (record { row = h; alone = refl; version = version; range = range; limits_are = are; named = named; number = number }, sym same, number)
 
 pub limits_kept : (tables : Tables) (limits : HostLimits) → IsRowOf limits tables.host → limits_in tables ≡ limits
 unfolding limits_in
@@ -26,6 +31,10 @@ limits_kept tables limits it = ap (λ l. limits_in (record tables { host = l }))
 pub latest_kept : (tables : Tables) (limits : HostLimits) → (it : IsRowOf limits tables.host) → it.row.latest ≡ latest_of tables
 unfolding latest_of
 latest_kept tables limits it = ap (λ l. latest_of (record tables { host = l })) (sym it.alone)
+
+pub digest_kept : (tables : Tables) (limits : HostLimits) → (it : IsRowOf limits tables.host) → it.row.digest ≡ digest_in tables
+unfolding digest_in
+digest_kept tables limits it = ap (λ l. digest_in (record tables { host = l })) (sym it.alone)
 
 -- ---- the rows that are read
 

@@ -17,14 +17,14 @@ use Rattle.bh_schema.specs.Layer.{standing, IsStateClean, IsIntact, IsOpen}
 use Rattle.bh_open.specs.Opening.{shown_row}
 
 abbrev pub row_text : List ℕ
-row_text = codes "SELECT version, latest, min_part, max_body FROM host ORDER BY rowid"
+row_text = codes "SELECT version, latest, min_part, max_body, digest FROM host ORDER BY rowid"
 
 row_shown : SelectText host_form host_schema 0 row_text [] (λ _. true) shown_row no_limit
 unfolding understood everything
 row_shown = record {
   test = [];
-  show = col 1 2 ∷ col 1 3 ∷ col 1 4 ∷ col 1 5 ∷ [];
-  names = codes "version" ∷ codes "latest" ∷ codes "min_part" ∷ codes "max_body" ∷ [];
+  show = col 1 2 ∷ col 1 3 ∷ col 1 4 ∷ col 1 5 ∷ col 1 6 ∷ [];
+  names = codes "version" ∷ codes "latest" ∷ codes "min_part" ∷ codes "max_body" ∷ codes "digest" ∷ [];
   means = record { is = refl; plain = (refl, refl); unlisted = refl; whole = refl; given = refl };
   low = refl;
   accepts = refl;

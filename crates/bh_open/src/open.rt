@@ -1,9 +1,10 @@
 ghost use Rattle.std.specs.Prelude.{◌≡◌, ◌≢◌, ◌↔◌, true, false, None, IsTrue, IsOk, IsSome, IfSome, IfOk, IfErr};
 ghost use Rattle.sqlite.specs.Held.{state};
+ghost use Rattle.bh_types.specs.BlockDigests.{digest_number};
 ghost use Rattle.bh_types.specs.Limits.{HostLimits};
 ghost use Rattle.bh_types.specs.declared.refusal.Refusal.TheVariants as refusal;
 ghost use Rattle.bh_rows.specs.Means.{is_trouble};
-ghost use Rattle.bh_tables.specs.Schema.{host_schema};
+ghost use Rattle.bh_tables.specs.Schema.{Octets, host_schema};
 ghost use Rattle.bh_tables.specs.Typed.{IsHost};
 ghost use Rattle.bh_view.specs.Bodies.{IsSoundHost};
 ghost use Rattle.bh_view.specs.View.{latest_of};
@@ -11,21 +12,22 @@ ghost use Rattle.bh_storage.specs.Calls.{IsAtRest};
 ghost use Rattle.bh_schema.specs.Connections.{IsIntact, IsOpen, IsClean, stands, tables};
 ghost use Rattle.bh_schema.specs.Layer.{taken_back, KeepsDisk, LeavesNothingNew};
 ghost use Rattle.bh_schema.specs.Storage.{seen_in};
-ghost use Rattle.bh_open.specs.Opening.{IsHostOf, IsSettled, IsKept, Reads};
+ghost use Rattle.bh_open.specs.Opening.{digest_in, IsHostOf, IsSettled, IsKept, Reads};
 
 use crate::found::{FoundHost, NoHost};
 use crate::row::{found_in, host_rows};
 use crate::tables::{is_hosts, why_none};
 use bh_schema::host::{Digester, Host};
 use bh_schema::rows::transactions::{begin, take_back};
-use bh_types::limits::Tuning;
+use bh_types::block_digest::BlockDigest;
+use bh_types::limits::{Limits, Tuning};
 use bh_types::refusal::Refusal;
 use sqlite::{Alter, Connection, Error, ErrorCode};
 use std::alloc::Global;
 
 /// Why no host was opened, with what was given for it.
 #[derive(Drop)]
-pub struct OpenError<S: Alter + Drop, D: Digester + Drop> {
+pub struct OpenError<S: Alter + Drop> {
     /// `NotAHostFile` or `Unavailable`.
     pub refusal: Refusal,
     /// Why it is no host's, where the refusal is `NotAHostFile`.
@@ -34,16 +36,47 @@ pub struct OpenError<S: Alter + Drop, D: Digester + Drop> {
     pub cause: Option<Error>,
     /// The database.
     pub connection: Connection<S>,
-    /// What was to name blocks of bytes.
-    pub digester: D,
 }
 
-/// A host that was opened.
+/// A host's database that was opened.
 #[derive(Drop)]
-pub struct Opened<S: Alter + Drop, D: Digester + Drop> {
-    pub host: Host<S, D>,
+pub struct Opened<S: Alter + Drop> {
+    /// The database.
+    pub connection: Connection<S>,
+    /// What the host was made with.
+    pub limits: Limits,
+    /// What this process is set to.
+    pub tuning: Tuning,
+    /// Which function names its blocks.
+    pub digest: BlockDigest,
     /// Its last stamp, in seconds since 1970; 0 where there was none.
     pub latest: u64,
+}
+
+impl<S: Alter + Drop> Opened<S> {
+    /// The host. The digester is to be of the function that names its blocks.
+    pub fn into_host<D: Digester + Drop>(self, digester: D) -> Host<S, D>
+        ensures { result ≡ record {
+          connection = self.connection;
+          digester = digester;
+          limits = self.limits;
+          tuning = self.tuning;
+        } }
+    {
+        let Opened {
+            connection,
+            limits,
+            tuning,
+            digest: _,
+            latest: _,
+        } = self;
+        Host {
+            connection,
+            digester,
+            limits,
+            tuning,
+        }
+    }
 }
 
 /// What the host's row tells, in a database that has a host's tables. A transaction is open afterwards, or was taken back.
@@ -85,30 +118,31 @@ fn find_host<S: Alter>(
 /// The host that a database holds, which is as it was.
 ///
 /// `NotAHostFile` where the database has other tables than a host's, an empty one too, or no row of a host of
-/// this version with limits in their ranges. `Unavailable` where memory or the store was wanting, a row can't be
-/// read, a transaction was open, or a limit on the steps of a statement is set: an open transaction is taken
-/// back.
-pub fn open_host<S: Alter + Drop, D: Digester + Drop>(
+/// this version with limits in their ranges and a digest function that is known. `Unavailable` where memory or the
+/// store was wanting, a row can't be read, a transaction was open, or a limit on the steps of a statement is set: an
+/// open transaction is taken back.
+pub fn open_host<S: Alter + Drop>(
     alloc: Global,
     connection: Connection<S>,
-    digester: D,
     tuning: Tuning,
-) -> Result<Opened<S, D>, OpenError<S, D>>
-    ensures given { IfOk result (λ opened. (opened.host.tuning ≡ tuning) × (opened.host.digester ≡ digester)) }
+) -> Result<Opened<S>, OpenError<S>>
+    ensures given { IfOk result (λ opened. opened.tuning ≡ tuning) }
     ensures schema { IfOk result (λ opened. (stands S.Store connection).now.schema ≡ host_schema) }
-    ensures same { IfOk result (λ opened. IsClean S.Store opened.host.connection → stands S.Store opened.host.connection ≡ stands S.Store connection) }
-    ensures opened { IfOk result (λ opened. IsClean S.Store opened.host.connection → IsHost (stands S.Store connection).now
-        → IsHostOf opened.host.limits (stands S.Store connection).now) }
-    ensures rest { IfOk result (λ opened. IsClean S.Store opened.host.connection
-        → IsSoundHost D.digest_of (seen_in opened.host.limits (state S.Store opened.host.connection)).now
-        → IsAtRest (IsSoundHost D.digest_of) (seen_in opened.host.limits (state S.Store opened.host.connection))) }
-    ensures latest { IfOk result (λ opened. IsClean S.Store opened.host.connection
-        → IsSoundHost D.digest_of (seen_in opened.host.limits (state S.Store opened.host.connection)).now
-        → opened.latest ≡ latest_of (seen_in opened.host.limits (state S.Store opened.host.connection)).now) }
-    ensures follows { IfOk result (λ opened. KeepsDisk (state S.Store connection) (state S.Store opened.host.connection)) }
+    ensures same { IfOk result (λ opened. IsClean S.Store opened.connection → stands S.Store opened.connection ≡ stands S.Store connection) }
+    ensures opened { IfOk result (λ opened. IsClean S.Store opened.connection → IsHost (stands S.Store connection).now
+        → IsHostOf opened.limits (stands S.Store connection).now) }
+    ensures rest { (digest : Octets → Octets) → IfOk result (λ opened. IsClean S.Store opened.connection
+        → IsSoundHost digest (seen_in opened.limits (state S.Store opened.connection)).now
+        → IsAtRest (IsSoundHost digest) (seen_in opened.limits (state S.Store opened.connection))) }
+    ensures latest { (digest : Octets → Octets) → IfOk result (λ opened. IsClean S.Store opened.connection
+        → IsSoundHost digest (seen_in opened.limits (state S.Store opened.connection)).now
+        → opened.latest ≡ latest_of (seen_in opened.limits (state S.Store opened.connection)).now) }
+    ensures named { (digest : Octets → Octets) → IfOk result (λ opened. IsClean S.Store opened.connection
+        → IsSoundHost digest (seen_in opened.limits (state S.Store opened.connection)).now
+        → digest_number opened.digest ≡ digest_in (seen_in opened.limits (state S.Store opened.connection)).now) }
+    ensures follows { IfOk result (λ opened. KeepsDisk (state S.Store connection) (state S.Store opened.connection)) }
     ensures survives { IfOk result (λ opened. IsOpen S.Store connection
-        → LeavesNothingNew (state S.Store connection) (state S.Store opened.host.connection)) }
-    ensures back { IfErr result (λ e. e.digester ≡ digester) }
+        → LeavesNothingNew (state S.Store connection) (state S.Store opened.connection)) }
     ensures refused { IfErr result (λ e. e.refusal ≡ refusal.NotAHostFile → IsClean S.Store e.connection
         → (stands S.Store e.connection ≡ stands S.Store connection)
         × ((limits : HostLimits) → ¬ IsHostOf limits (stands S.Store connection).now)) }
@@ -128,12 +162,10 @@ pub fn open_host<S: Alter + Drop, D: Digester + Drop>(
     match found {
         Ok(found) => match found {
             Ok(found) => Ok(Opened {
-                host: Host {
-                    connection,
-                    digester,
-                    limits: found.limits,
-                    tuning,
-                },
+                connection,
+                limits: found.limits,
+                tuning,
+                digest: found.digest,
                 latest: found.latest,
             }),
             Err(why) => Err(OpenError {
@@ -141,7 +173,6 @@ pub fn open_host<S: Alter + Drop, D: Digester + Drop>(
                 why: Some(why),
                 cause: None,
                 connection,
-                digester,
             }),
         },
         Err(error) => Err(OpenError {
@@ -149,7 +180,6 @@ pub fn open_host<S: Alter + Drop, D: Digester + Drop>(
             why: None,
             cause: Some(error),
             connection,
-            digester,
         }),
     }
 }

@@ -7,30 +7,50 @@ ghost use Rattle.bh_schema.specs.Connections.{IsClean, stands, tables, StaysWith
 ghost use Rattle.bh_open.specs.Opening.{shown_row, Reads};
 
 use crate::found::{FoundHost, NoHost};
+use bh_types::block_digest::BlockDigest;
 use bh_types::limits::Limits;
 use sqlite::{Alter, Connection, Error, Row};
 
-#[tactic(auto, using(crate::proofs::Rows::other_version, crate::proofs::Rows::out_of_range))]
-/// What is told, if the version is this one and the limits are in their ranges.
-fn found_of(version: u64, latest: u64, min_part: u64, max_body: u64) -> Result<FoundHost, NoHost>
+#[tactic(auto, using(crate::proofs::Rows::other_version, crate::proofs::Rows::out_of_range, crate::proofs::Rows::other_digest))]
+/// What is told, if the version is this one, the limits are in their ranges and the digest function has that number.
+fn found_of(
+    version: u64,
+    latest: u64,
+    min_part: u64,
+    max_body: u64,
+    digest: u64,
+) -> Result<FoundHost, NoHost>
     ensures { (h : Stored) → h.version ≡ version → h.latest ≡ latest → h.min_part ≡ min_part → h.max_body ≡ max_body
-        → Reads (h ∷ []) result }
+        → h.digest ≡ digest → Reads (h ∷ []) result }
 {
     if version != 1 {
         return Err(NoHost::OtherVersion(version));
     }
-    match Limits::new(min_part, max_body) {
-        Some(limits) => Ok(FoundHost { limits, latest }),
-        None => Err(NoHost::NoRow),
+    let Some(limits) = Limits::new(min_part, max_body) else {
+        return Err(NoHost::NoRow);
+    };
+    match BlockDigest::from_number(digest) {
+        Some(named) => Ok(FoundHost {
+            limits,
+            digest: named,
+            latest,
+        }),
+        None => Err(NoHost::OtherDigest(digest)),
     }
 }
 
-/// What the host's row tells, if it is of this version and its limits are in their ranges.
+/// What the host's row tells, if it is of this version, its limits are in their ranges and its digest function is known.
 fn read_row(row: &Row) -> Result<Result<FoundHost, NoHost>, Error>
     ensures read { IfOk result (λ found. (h : Stored) → row.now ≡ shown_row h → Reads (h ∷ []) found) }
     ensures trouble { IfErr result (λ e. (h : Stored) → row.now ≡ shown_row h → is_trouble e ≡ true) }
 {
-    Ok(found_of(row.get(0)?, row.get(1)?, row.get(2)?, row.get(3)?))
+    Ok(found_of(
+        row.get(0)?,
+        row.get(1)?,
+        row.get(2)?,
+        row.get(3)?,
+        row.get(4)?,
+    ))
 }
 
 #[tactic(auto, using(crate::proofs::Rows::not_sole))]
@@ -60,7 +80,7 @@ pub fn host_rows<S: Alter>(connection: &mut Connection<S>) -> Result<Vec<Row>, E
     ensures trouble { IfErr result (IsTrouble S.Store connection.old connection.new) }
 {
     connection.query_all(
-        "SELECT version, latest, min_part, max_body FROM host ORDER BY rowid",
+        "SELECT version, latest, min_part, max_body, digest FROM host ORDER BY rowid",
         &[],
     )
 }

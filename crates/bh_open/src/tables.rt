@@ -7,6 +7,7 @@ ghost use Rattle.bh_tables.specs.Schema.{host_schema};
 use crate::found::NoHost;
 use bh_compare::same_schema;
 use bh_create::make;
+use bh_types::block_digest::BlockDigest;
 use bh_types::limits::Limits;
 use sqlite::{Connection, Error, MemStore};
 use sqlite_schema::schema::Schema;
@@ -18,7 +19,7 @@ fn new_tables(alloc: Global) -> Result<Connection<MemStore>, Error>
     ensures trouble { IfErr result (λ e. is_trouble e ≡ true) }
 {
     let mut connection = Connection::open_in_memory(alloc)?;
-    make(&mut connection, Limits::default())?;
+    make(&mut connection, Limits::default(), BlockDigest::Sha256)?;
     Ok(connection)
 }
 

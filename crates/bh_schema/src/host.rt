@@ -1,4 +1,5 @@
 ghost use Rattle.std.specs.Prelude.{◌≡◌, ℕ, List};
+ghost use Rattle.sha2.specs.Sha256.{sha256};
 
 use bh_types::limits::{Limits, Tuning};
 use sqlite::{Alter, Connection};
@@ -9,6 +10,11 @@ pub trait Digester {
     ghost digest_of: { List ℕ → List ℕ };
 
     fn digest(&self, bytes: &[u8]) -> [u8; 32]
+        ensures { result ≡ digest_of bytes.now };
+
+    /// The same, of bytes whose SHA-256 digest (FIPS 180-4) is known: SHA-256 itself needn't read them again.
+    fn digest_known(&self, bytes: &[u8], checksum: &[u8; 32]) -> [u8; 32]
+        requires { checksum.now ≡ sha256 bytes.now }
         ensures { result ≡ digest_of bytes.now };
 }
 

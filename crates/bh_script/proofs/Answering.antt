@@ -11,7 +11,9 @@ use Rattle.std.proofs.Math.Seq.{take-append_seam, take-append-add}
 use Rattle.bh_event.specs.Events.{Arrival}
 use Rattle.bh_event.specs.Flaws.{flaw_of}
 use Rattle.bh_event.specs.Lines.{told_by}
+use Rattle.bh_types.specs.BlockDigests.{digest_number}
 use Rattle.bh_types.specs.Limits.{HostLimits}
+use Rattle.bh_types.specs.declared.block_digest.BlockDigest.{BlockDigest}
 use Rattle.bh_tables.specs.Typed.{Tables}
 use Rattle.bh_view.specs.Laws.{new_host}
 use Rattle.bh_view.specs.View.{limits_in}
@@ -227,24 +229,25 @@ module _ (all : List (List ℕ)) (number : ℕ) (first before : Tables) (old mid
 -- ---- a script
 
 -- the limits that a host was made with are in its tables
-pub made_first : (limits given : HostLimits) (made : Tables) → made ≡ new_host limits.min_part limits.max_body → limits ≡ given → made ≡ first_tables given
-made_first limits given made is same = is ∙ ap (λ (l : HostLimits). new_host l.min_part l.max_body) same
+pub made_first : (limits given : HostLimits) (digest : BlockDigest) (made : Tables) → made ≡ new_host limits.min_part limits.max_body (digest_number digest) → limits ≡ given → made ≡ first_tables given digest
+made_first limits given digest made is same = is ∙ ap (λ (l : HostLimits). new_host l.min_part l.max_body (digest_number digest)) same
 
 -- whatever became of it, lines that were answered by a new host are a script that was
-pub by_new_host : {X E : Type 0} (limits : HostLimits) (input : List ℕ) (first end : Tables) (result : Result X E) (old new : Option (List ℕ)) → first ≡ first_tables limits
-    → WritesLines 1 (lines input) first end result old new → WritesScript limits input result old new
-by_new_host limits input first end result old new is (text, (dones, ran, told), out) =
+pub by_new_host : {X E : Type 0} (limits : HostLimits) (digest : BlockDigest) (input : List ℕ) (first end : Tables) (result : Result X E) (old new : Option (List ℕ)) → first ≡ first_tables limits digest
+    → WritesLines 1 (lines input) first end result old new → WritesScript limits digest input result old new
+by_new_host limits digest input first end result old new is (text, (dones, ran, told), out) =
     (text, (dones, (end, subst (λ t. Ran (events_of input) dones t end) is ran), told), out)
 
-first_limits : (limits : HostLimits) → limits_in (first_tables limits) ≡ limits
+first_limits : (limits : HostLimits) (digest : BlockDigest) → limits_in (first_tables limits digest) ≡ limits
 unfolding limits_in
-first_limits limits = refl
+first_limits limits digest = refl
 
 -- each tenant was alone in it
-pub script_alone : {X E : Type 0} (limits : HostLimits) (input : List ℕ) (result : Result X E) (old new : Option (List ℕ))
-    → WritesScript limits input result old new → WritesScriptAlone limits input result old new
-script_alone limits input result old new (text, (dones, (end, ran), told), out) =
-    let alone = each_is_alone (events_of input) dones (first_tables limits) end ran in
-    let has_run : HasRun limits (events_of input) dones alone.0 (first_tables limits) end =
-    subst (λ l. HasRun l (events_of input) dones alone.0 (first_tables limits) end) (first_limits limits) alone.1 in
+pub script_alone : {X E : Type 0} (limits : HostLimits) (digest : BlockDigest) (input : List ℕ) (result : Result X E) (old new : Option (List ℕ))
+    → WritesScript limits digest input result old new → WritesScriptAlone limits digest input result old new
+script_alone limits digest input result old new (text, (dones, (end, ran), told), out) =
+    let first = first_tables limits digest in
+    let alone = each_is_alone (events_of input) dones first end ran in
+    let has_run : HasRun limits (events_of input) dones alone.0 first end =
+    subst (λ l. HasRun l (events_of input) dones alone.0 first end) (first_limits limits digest) alone.1 in
     (text, (dones, (end, ran, (alone.0, has_run)), told), out)

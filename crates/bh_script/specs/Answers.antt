@@ -5,20 +5,22 @@ use Rattle.std.specs.List.{flat_map}
 use Rattle.bh_event.specs.Events.{Arrival}
 use Rattle.bh_host.specs.Runs.{Told, Turn, Ran, HasRun}
 use Rattle.bh_tables.specs.Typed.{Tables}
+use Rattle.bh_types.specs.BlockDigests.{digest_number}
 use Rattle.bh_types.specs.Limits.{HostLimits}
+use Rattle.bh_types.specs.declared.block_digest.BlockDigest.{BlockDigest}
 use Rattle.bh_view.specs.Laws.{new_host}
 use Rattle.bh_script.specs.Lines.{events_in, events_of, bad_line_from, bad_line_of}
 use Rattle.bh_script.specs.declared.input.BadLine.{BadLine}
 use Rattle.bh_script.specs.declared.error.ScriptError.{ScriptError}
 use Rattle.bh_script.specs.declared.error.ScriptError.TheVariants as fault
 
--- the tables of a new host with these limits
-abbrev pub first_tables : HostLimits → Tables
-first_tables limits = new_host limits.min_part limits.max_body
+-- the tables of a new host with these limits, with blocks named by this function
+abbrev pub first_tables : HostLimits → BlockDigest → Tables
+first_tables limits digest = new_host limits.min_part limits.max_body (digest_number digest)
 
--- a new host with these limits, given these events one after another, gave these answers
-abbrev pub AnewRan : HostLimits → List Arrival → List Told → Type 0
-AnewRan limits events dones = (end : Tables) × Ran events dones (first_tables limits) end
+-- such a host, given these events one after another, gave these answers
+abbrev pub AnewRan : HostLimits → BlockDigest → List Arrival → List Told → Type 0
+AnewRan limits digest events dones = (end : Tables) × Ran events dones (first_tables limits digest) end
 
 -- a reply, and a line feed
 abbrev pub reply_line : Told → List ℕ
@@ -39,17 +41,18 @@ end_text (Some bad) = bad_line_text bad.number
 abbrev pub answer_text : List Told → Option BadLine → List ℕ
 answer_text dones bad = replies_text dones ++ end_text bad
 
--- a text tells what a new host with these limits answered the events of an input, each on a line, and then the input's
+-- a text tells what such a host answered the events of an input, each on a line, and then the input's
 -- bad line
-abbrev pub AnswersScript : HostLimits → List ℕ → List ℕ → Type 0
-AnswersScript limits input text = (dones : List Told) × AnewRan limits (events_of input) dones × (text ≡ answer_text dones (bad_line_of input))
+abbrev pub AnswersScript : HostLimits → BlockDigest → List ℕ → List ℕ → Type 0
+AnswersScript limits digest input text = (dones : List Told) × AnewRan limits digest (events_of input) dones × (text ≡ answer_text dones (bad_line_of input))
 
 -- the same, and each tenant is alone in it
-abbrev pub AnewAlone : HostLimits → List Arrival → List Told → Type 0
-AnewAlone limits events dones = (end : Tables) × Ran events dones (first_tables limits) end × ((turns : List Turn) × HasRun limits events dones turns (first_tables limits) end)
+abbrev pub AnewAlone : HostLimits → BlockDigest → List Arrival → List Told → Type 0
+AnewAlone limits digest events dones =
+    (end : Tables) × Ran events dones (first_tables limits digest) end × ((turns : List Turn) × HasRun limits events dones turns (first_tables limits digest) end)
 
-abbrev pub AnswersScriptAlone : HostLimits → List ℕ → List ℕ → Type 0
-AnswersScriptAlone limits input text = (dones : List Told) × AnewAlone limits (events_of input) dones × (text ≡ answer_text dones (bad_line_of input))
+abbrev pub AnswersScriptAlone : HostLimits → BlockDigest → List ℕ → List ℕ → Type 0
+AnswersScriptAlone limits digest input text = (dones : List Told) × AnewAlone limits digest (events_of input) dones × (text ≡ answer_text dones (bad_line_of input))
 
 -- the same of lines that are counted from a number on, by a host whose tables are `first` before them and `end` after
 abbrev pub AnswersLines : ℕ → List (List ℕ) → Tables → Tables → List ℕ → Type 0
@@ -75,12 +78,12 @@ abbrev pub WritesLines : {X E : Type 0} → ℕ → List (List ℕ) → Tables �
 WritesLines number lines first end result old new = (text : List ℕ) × AnswersLines number lines first end text × Writes text result old new
 
 -- a text that answers a script was appended: whole on Ok, and on Err a front of it
-abbrev pub WritesScript : {X E : Type 0} → HostLimits → List ℕ → Result X E → Option (List ℕ) → Option (List ℕ) → Type 0
-WritesScript limits input result old new = (text : List ℕ) × AnswersScript limits input text × Writes text result old new
+abbrev pub WritesScript : {X E : Type 0} → HostLimits → BlockDigest → List ℕ → Result X E → Option (List ℕ) → Option (List ℕ) → Type 0
+WritesScript limits digest input result old new = (text : List ℕ) × AnswersScript limits digest input text × Writes text result old new
 
 -- the same of a text in which each tenant is alone
-abbrev pub WritesScriptAlone : {X E : Type 0} → HostLimits → List ℕ → Result X E → Option (List ℕ) → Option (List ℕ) → Type 0
-WritesScriptAlone limits input result old new = (text : List ℕ) × AnswersScriptAlone limits input text × Writes text result old new
+abbrev pub WritesScriptAlone : {X E : Type 0} → HostLimits → BlockDigest → List ℕ → Result X E → Option (List ℕ) → Option (List ℕ) → Type 0
+WritesScriptAlone limits digest input result old new = (text : List ℕ) × AnswersScriptAlone limits digest input text × Writes text result old new
 
 -- whether it is the writer that failed
 abbrev pub is_write : ScriptError → Bool

@@ -8,49 +8,56 @@ ghost use Rattle.bh_script.specs.Answers.{WritesScript, WritesScriptAlone, is_wr
 use crate::answers::answer_lines;
 use crate::error::ScriptError;
 use crate::input::BadLine;
-use bh_blocks::digester::Sha256Digester;
 use bh_create::create;
 use bh_dispatch::storage::HostStorage;
 use bh_link::link::Link;
+use bh_schema::host::Digester;
 use bh_storage::error::Trouble;
+use bh_types::block_digest::BlockDigest;
 use bh_types::limits::{Limits, Tuning};
 use sqlite::{Connection, MemStore};
 use std::alloc::Global;
 use std::io::Write;
 
-/// A host in memory.
-type MemoryHost = HostStorage<MemStore, Sha256Digester>;
-
-/// Applies the events of a script, up to the first line that tells none, to a new host in memory with these limits.
-/// Each reply and a line's end are written before the next line is read, and then, for a line that tells no event,
-/// `bad line` and its number. Gives that line, if there is one.
+/// Applies the events of a script, up to the first line that tells none, to a new host in memory with these limits,
+/// whose blocks the digester names and which keeps that this function does. Each reply and a line's end are written
+/// before the next line is read, and then, for a line that tells no event, `bad line` and its number. Gives that line,
+/// if there is one.
 ///
 /// Of a line, its event and its reply nothing is held once the reply is written.
-pub fn answer_script<W: Write>(
+pub fn answer_script<W: Write, D: Digester + Drop>(
     alloc: Global,
     bytes: &[u8],
+    digester: D,
+    digest: BlockDigest,
     limits: Limits,
     tuning: Tuning,
     writer: &mut Link<W>,
 ) -> Result<Option<BadLine>, ScriptError>
     requires { writer.old.failed ≡ false }
-    ensures answers { WritesScript limits bytes.now result (W.contents writer.old.inner) (W.contents writer.new.inner) }
-    ensures alone { WritesScriptAlone limits bytes.now result (W.contents writer.old.inner) (W.contents writer.new.inner) }
+    ensures answers { WritesScript limits digest bytes.now result (W.contents writer.old.inner) (W.contents writer.new.inner) }
+    ensures alone { WritesScriptAlone limits digest bytes.now result (W.contents writer.old.inner) (W.contents writer.new.inner) }
     ensures bad_line { IfOk result (λ bad_line. bad_line ≡ bad_line_of bytes.now) }
     ensures going { OnOk result (writer.new.failed ≡ false) }
     ensures failed { IfErr result (λ e. writer.new.failed ≡ is_write e) }
 {
-    let mut storage = new_host(alloc, limits, tuning)?;
+    let mut storage = new_host(alloc, digester, digest, limits, tuning)?;
     answer_lines(alloc, &mut storage, bytes, writer)
 }
 
 /// A new host in memory.
-fn new_host(alloc: Global, limits: Limits, tuning: Tuning) -> Result<MemoryHost, Trouble>
+fn new_host<D: Digester + Drop>(
+    alloc: Global,
+    digester: D,
+    digest: BlockDigest,
+    limits: Limits,
+    tuning: Tuning,
+) -> Result<HostStorage<MemStore, D>, Trouble>
     ensures limits { IfOk result (λ storage. storage.host.limits ≡ limits) }
-    ensures made { IfOk result (λ storage. IsNewHost storage.host.limits (state over_memory storage.host.connection)) }
+    ensures made { IfOk result (λ storage. IsNewHost storage.host.limits digest (state over_memory storage.host.connection)) }
 {
     let connection = Connection::open_in_memory(alloc)?;
-    match create(connection, Sha256Digester, limits, tuning) {
+    match create(connection, digester, digest, limits, tuning) {
         Ok(host) => Ok(HostStorage { host }),
         Err(_) => Err(Trouble::Store),
     }

@@ -60,12 +60,12 @@ pub latest_may : (n : ℕ) → MayChange host_form host_schema (at 0 host_table)
 unfolding everything
 latest_may n = record { suits = λ id h found was. record { typed = refl; present = refl; checked = host_checked_still id h n was.checked }; unwatched = λ id h found. refl }
 
--- of version 1, whose blocks are named by SHA-256
-pub host_inserted : (min_part max_body : ℕ) → InsertText host_form host_schema 0 (at 0 host_table) (codes "INSERT INTO host (version, latest, min_part, max_body, digest) VALUES (1, 0, ?1, ?2, 0)") (number min_part ∷ number max_body ∷ [])
-    (record { version = 1; latest = 0; min_part = min_part; max_body = max_body; digest = 0 })
+-- of version 1
+pub host_inserted : (min_part max_body digest : ℕ) → InsertText host_form host_schema 0 (at 0 host_table) (codes "INSERT INTO host (version, latest, min_part, max_body, digest) VALUES (1, 0, ?1, ?2, ?3)") (number min_part ∷ number max_body ∷ number digest ∷ [])
+    (record { version = 1; latest = 0; min_part = min_part; max_body = max_body; digest = digest })
 unfolding understood everything
-host_inserted min_part max_body = record {
-  terms = lit Null ∷ lit Null ∷ lit (Int (pos 1)) ∷ lit (Int (pos 0)) ∷ col 0 0 ∷ col 0 1 ∷ lit (Int (pos 0)) ∷ [];
+host_inserted min_part max_body digest = record {
+  terms = lit Null ∷ lit Null ∷ lit (Int (pos 1)) ∷ lit (Int (pos 0)) ∷ col 0 0 ∷ col 0 1 ∷ col 0 2 ∷ [];
   width = 7;
   means = record { is = refl; plain = (refl, refl); unlisted = refl; whole = refl; given = refl };
   gives = refl;

@@ -1,4 +1,5 @@
 pub mod AccessKeys
+pub mod BlockDigests
 pub mod Checksums
 pub mod Counts
 pub mod Digits

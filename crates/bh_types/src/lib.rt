@@ -2,6 +2,7 @@
 #![tactic(auto)]
 
 pub mod access_key;
+pub mod block_digest;
 pub mod bucket;
 pub mod bucket_state;
 mod bytes;

@@ -1,6 +1,7 @@
 ghost use Rattle.std.specs.Prelude.{◌≡◌, ◌≤◌, ◌<◌, ◌^◌, ◌+◌, OnOk};
 ghost use Rattle.std.specs.Option.{option_copied};
 ghost use Rattle.std.specs.String.{string_bytes};
+ghost use Rattle.sha2.specs.Sha256.{sha256};
 ghost use Rattle.bh_types.specs.Checksums.{checksum_text};
 ghost use Rattle.bh_model.specs.Operations.{PartStored};
 ghost use Rattle.bh_model.specs.Uploads as machine;
@@ -21,7 +22,7 @@ use crate::rows::kept::place_part;
 use crate::rows::parts::PartRecord;
 use crate::writes::drop_entry_body;
 use bh_blocks::bodies::store_body;
-use bh_objects::objects::checked_sum;
+use bh_objects::objects::{Checksum, checked_sum};
 use bh_schema::host::Digester;
 use bh_schema::trouble::or_trouble;
 use bh_storage::error::{StepError, Trouble};
@@ -102,8 +103,8 @@ fn add_part<S: Alter>(
     or_trouble(place_part(connection, &row, taken.entry + 1, taken.bytes))
 }
 
-/// Puts a part into an upload under the tenant's next entry number, with the text of its checksum: its body, in
-/// blocks of at most this size, and its row, before the body of the part that it replaces goes.
+/// Puts a part into an upload under the tenant's next entry number, with its checksum: its body, in blocks of at most
+/// this size, and its row, before the body of the part that it replaces goes.
 fn write_part<S: Alter, D: Digester>(
     connection: &mut Connection<S>,
     digester: &D,
@@ -111,13 +112,14 @@ fn write_part<S: Alter, D: Digester>(
     part: &NewPart<'_>,
     upload: u64,
     taken: PartEntry,
-    checksum: &str,
+    checksum: &Checksum,
 ) -> Result<(), Trouble>
     requires inside { InTransaction S.Store connection.old }
     requires positive { 1 ≤ block_size }
     requires upload { upload < 2 ^ 62 }
     requires entry { taken.entry < 2 ^ 62 }
-    requires checksum { checksum.now ≡ checksum_text part.now.bytes.now }
+    requires digest { checksum.now.digest ≡ sha256 part.now.bytes.now }
+    requires checksum { string_bytes checksum.now.text ≡ checksum_text part.now.bytes.now }
     requires held { IsClean S.Store connection.old
         → part_bytes_in part.now.upload.tenant.now upload part.now.number (tables S.Store connection.old) ≡ taken.bytes }
     requires replaced { IsClean S.Store connection.old
@@ -142,8 +144,9 @@ fn write_part<S: Alter, D: Digester>(
         tenant.as_str(),
         taken.entry,
         part.bytes,
+        &checksum.digest,
     ))?;
-    add_part(connection, part, upload, taken, checksum)?;
+    add_part(connection, part, upload, taken, checksum.text.as_str())?;
     drop_old(connection, tenant, taken.replaced)
 }
 
@@ -190,7 +193,7 @@ pub fn put_part<S: Alter, D: Digester>(
         part,
         found.number,
         taken,
-        checksum.as_str(),
+        &checksum,
     )?;
-    Ok(checksum)
+    Ok(checksum.text)
 }

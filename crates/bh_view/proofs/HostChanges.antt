@@ -65,13 +65,13 @@ stamped_again tables sound =
     ap (λ l. record tables { host = l }) rows
 
 -- a new host: no tenant is there, and the limits are those that it was made with
-pub created : (tables : Tables) (min_part max_body : ℕ) → AreLimits min_part max_body → tables ≡ new_host min_part max_body
+pub created : (tables : Tables) (min_part max_body digest : ℕ) → AreLimits min_part max_body → digest ≤ 1 → tables ≡ new_host min_part max_body digest
     → IsSound tables × (latest_of tables ≡ 0) × ((t : Octets) → view tables t ≡ None) × (limits_in tables ≡ record { min_part = min_part; max_body = max_body })
-created tables min_part max_body limits e =
-    let row : HostRow = record { version = 1; latest = 0; min_part = min_part; max_body = max_body; digest = 0 } in
+created tables min_part max_body digest limits known e =
+    let row : HostRow = record { version = 1; latest = 0; min_part = min_part; max_body = max_body; digest = digest } in
     subst (λ (x : Tables). IsSound x × (latest_of x ≡ 0) × ((t : Octets) → view x t ≡ None) × (limits_in x ≡ record { min_part = min_part; max_body = max_body })) (sym e) (
       record {
-        host = record { row = row; alone = refl; good = record { version = refl; digest = refl; latest = omega arith; limits = limits } };
+        host = record { row = row; alone = refl; good = record { version = refl; digest = known; latest = omega arith; limits = limits } };
         tenants = λ t. record {
           tenants = record { each = tt; one = omega arith };
           keys = record { each = tt; one = λ q. omega arith; owned = λ gone. refl };
@@ -82,7 +82,7 @@ created tables min_part max_body limits e =
         };
         stored = record { one = λ q. omega arith; once = λ q. omega arith; named = λ q gone. refl };
       },
-      latest_is (new_host min_part max_body) row refl,
-      λ t. view_is (new_host min_part max_body) t,
-      limits_are (new_host min_part max_body) row refl,
+      latest_is (new_host min_part max_body digest) row refl,
+      λ t. view_is (new_host min_part max_body digest) t,
+      limits_are (new_host min_part max_body digest) row refl,
     )

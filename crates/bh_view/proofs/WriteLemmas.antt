@@ -1,5 +1,5 @@
 -- Tables in the midst of a write: a body is there before its version, other rows come, and all bodies are whole at the end.
-use Rattle.std.proofs.Common.{◌≡◌, ℕ, Bool, false, not, ◌||◌, List, [], ◌∷◌, ◌++◌, map, filter, Option, refl, sym, ap, ◌∙◌, subst}
+use Rattle.std.proofs.Common.{◌≡◌, ℕ, ◌≤◌, Bool, false, not, ◌||◌, List, [], ◌∷◌, ◌++◌, map, filter, Option, refl, sym, ap, ◌∙◌, subst}
 use Rattle.std.specs.List.{list_any}
 use Rattle.std.proofs.lemmas.List.{map-append}
 use Rattle.sqlite_keyed.specs.Lists.{delete_where}
@@ -50,8 +50,8 @@ module _ (old new : Tables) (versions : new.versions ≡ old.versions) (parts : 
   same_host digest sound bounded h = record { sound = sound; bodies = same_bodies h.bodies; digests = subst (AreDigests digest) (sym blocks) h.digests; bounded = bounded }
 
 -- a new host's
-pub created_host : (digest : Octets → Octets) (tables : Tables) (min_part max_body : ℕ) → AreLimits min_part max_body → tables ≡ new_host min_part max_body → IsSoundHost digest tables
-created_host digest tables min_part max_body limits e = let made = created (new_host min_part max_body) min_part max_body limits refl in subst (IsSoundHost digest) (sym e) (record {
+pub created_host : (digest : Octets → Octets) (tables : Tables) (min_part max_body number : ℕ) → AreLimits min_part max_body → number ≤ 1 → tables ≡ new_host min_part max_body number → IsSoundHost digest tables
+created_host digest tables min_part max_body number limits known e = let made = created (new_host min_part max_body number) min_part max_body number limits known refl in subst (IsSoundHost digest) (sym e) (record {
   sound = made.0;
   bodies = record { placed = λ body. refl; owned = λ body none. refl; measured = tt };
   digests = tt;

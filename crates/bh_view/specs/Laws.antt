@@ -1,7 +1,7 @@
 -- What shows that the definitions are the intended ones: a tenant's state is of its own rows, a new host is sound, a block
 -- takes the least ordinal that is free, a body adds one block for each distinct piece that had none, and a complete sweep
 -- leaves what is needed.
-use Rattle.std.specs.Prelude.{◌≡◌, ℕ, true, ◌&&◌, List, [], ◌∷◌, ◌++◌, length, filter, None}
+use Rattle.std.specs.Prelude.{◌≡◌, ℕ, ◌≤◌, true, ◌&&◌, List, [], ◌∷◌, ◌++◌, length, filter, None}
 use Rattle.std.specs.List.{AllByRecursion, list_any}
 use Rattle.sqlite_typed.specs.Tests.{bytes_eq}
 use Rattle.bh_types.specs.Limits.{AreLimits}
@@ -24,10 +24,10 @@ ViewsStandAlone = (t : Octets) (old new : Tables) → rows_of t new ≡ rows_of 
 abbrev pub ViewsAreNumbered : Type 0
 ViewsAreNumbered = (tables : Tables) (t : Octets) → IsSound tables → IsNumbered (view tables t)
 
--- the tables of a new host
-abbrev pub new_host : ℕ → ℕ → Tables
-new_host min_part max_body = record {
-  host = record { version = 1; latest = 0; min_part = min_part; max_body = max_body; digest = 0 } ∷ [];
+-- the tables of a new host, with blocks named by the function of this number
+abbrev pub new_host : ℕ → ℕ → ℕ → Tables
+new_host min_part max_body digest = record {
+  host = record { version = 1; latest = 0; min_part = min_part; max_body = max_body; digest = digest } ∷ [];
   tenants = [];
   keys = [];
   buckets = [];
@@ -40,9 +40,10 @@ new_host min_part max_body = record {
 
 -- a new host is sound; no tenant is there, and the limits are those that it was made with
 abbrev pub NewHostIsSound : Type 0
-NewHostIsSound = (min_part max_body : ℕ) → AreLimits min_part max_body
-    → IsSound (new_host min_part max_body) × (latest_of (new_host min_part max_body) ≡ 0) × ((t : Octets) → view (new_host min_part max_body) t ≡ None)
-    × (limits_in (new_host min_part max_body) ≡ record { min_part = min_part; max_body = max_body })
+NewHostIsSound = (min_part max_body digest : ℕ) → AreLimits min_part max_body → digest ≤ 1
+    → IsSound (new_host min_part max_body digest) × (latest_of (new_host min_part max_body digest) ≡ 0)
+    × ((t : Octets) → view (new_host min_part max_body digest) t ≡ None)
+    × (limits_in (new_host min_part max_body digest) ≡ record { min_part = min_part; max_body = max_body })
 
 -- where no two blocks have one name, no block has the ordinal that a new one of the digest takes, and each less one is
 -- some block's

@@ -25,8 +25,8 @@ abbrev pub rows_of_words : Subcommand → List Text → List Row
 rows_of_words s words = rows_after (leaf s).rules [] words
 
 pub leaf-fine : (s : Subcommand) → IsLeaf (leaf s)
-leaf-fine subcommand.Script = record { fine = ((refl, inl (refl, refl), tt), ((refl, inl (refl, refl), tt), ((refl, inl (refl, refl), tt), ((refl, inl (refl, refl), tt), ((refl, inr (inr refl), tt), tt))))); once = refl; negates = refl }
-leaf-fine subcommand.Init = record { fine = ((refl, inl (refl, refl), tt), ((refl, inl (refl, refl), tt), ((refl, inl (refl, refl), tt), ((refl, inr (inr refl), tt), tt)))); once = refl; negates = refl }
+leaf-fine subcommand.Script = record { fine = ((refl, inl (refl, refl), tt), ((refl, inl (refl, refl), tt), ((refl, inl (refl, refl), tt), ((refl, inl (refl, refl), tt), ((refl, inl (refl, refl), tt), ((refl, inr (inr refl), tt), tt)))))); once = refl; negates = refl }
+leaf-fine subcommand.Init = record { fine = ((refl, inl (refl, refl), tt), ((refl, inl (refl, refl), tt), ((refl, inl (refl, refl), tt), ((refl, inl (refl, refl), tt), ((refl, inr (inr refl), tt), tt))))); once = refl; negates = refl }
 leaf-fine subcommand.TenantAdd = record { fine = ((refl, inl (refl, refl), tt), ((refl, inl (refl, refl), tt), ((refl, inl (refl, refl), tt), ((refl, inl (refl, refl), tt), ((refl, inl (refl, refl), tt), ((refl, inr (inl (refl, refl, refl)), tt), ((refl, inr (inr refl), tt), tt))))))); once = refl; negates = refl }
 leaf-fine subcommand.Quota = record { fine = ((refl, inl (refl, refl), tt), ((refl, inl (refl, refl), tt), ((refl, inl (refl, refl), tt), ((refl, inl (refl, refl), tt), ((refl, inl (refl, refl), tt), ((refl, inr (inl (refl, refl, refl)), tt), ((refl, inr (inr refl), tt), tt))))))); once = refl; negates = refl }
 leaf-fine subcommand.KeyAdd = record { fine = ((refl, inl (refl, refl), tt), ((refl, inl (refl, refl), tt), ((refl, inl (refl, refl), tt), ((refl, inl (refl, refl), tt), ((refl, inl (refl, refl), tt), ((refl, inl (refl, refl), tt), ((refl, inr (inl (refl, refl, refl)), tt), ((refl, inr (inr refl), tt), tt)))))))); once = refl; negates = refl }
@@ -71,7 +71,8 @@ leaf-told subcommand.Script words e =
     let cache_blocks_n = number_in 64 0 65_536 cache_blocks.0 (omega arith) cache_blocks.2 in
     let limits = limits-given (rows_of_words subcommand.Script words) _ _ _ _ min_part.1 min_part_n.1 max_body.1 max_body_n.1 min_part_n.3 max_body_n.2 max_body_n.3 in
     let tuning = tuning-given (rows_of_words subcommand.Script words) _ _ _ _ block_size.1 block_size_n.1 cache_blocks.1 cache_blocks_n.1 block_size_n.2 block_size_n.3 cache_blocks_n.3 in
-    rw (limits, tuning) refl
+    let digest = default-value s words (codes "digest") _ fine e refl refl in
+    rw (limits, tuning, digest.1) refl
 leaf-told subcommand.Init words e =
     let fine = leaf-fine subcommand.Init in
     let s = leaf subcommand.Init in
@@ -81,7 +82,8 @@ leaf-told subcommand.Init words e =
     let max_body = default-value s words (codes "max-body") _ fine e refl refl in
     let max_body_n = number_in 64 1 (2 ^ 30) max_body.0 (omega arith) max_body.2 in
     let limits = limits-given (rows_of_words subcommand.Init words) _ _ _ _ min_part.1 min_part_n.1 max_body.1 max_body_n.1 min_part_n.3 max_body_n.2 max_body_n.3 in
-    rw (file.1, limits) refl
+    let digest = default-value s words (codes "digest") _ fine e refl refl in
+    rw (file.1, limits, digest.1) refl
 leaf-told subcommand.TenantAdd words e =
     let fine = leaf-fine subcommand.TenantAdd in
     let s = leaf subcommand.TenantAdd in

@@ -4,7 +4,7 @@ use Rattle.clap.specs.Words.{App, Shape, Text, with_rule, with_subcommand}
 use Rattle.clap.specs.Simple.{new_shape}
 use Rattle.bh_words.specs.Options.{rule}
 use Rattle.bh_words.specs.declared.options.OptionName.{OptionName}
-use Rattle.bh_words.specs.declared.options.OptionName.TheVariants.{File, Tenant, Name, Secret, Quota, At, ClockLeap, Force, Limit, Port, Count, Log, Timeout, MinPart, MaxBody, BlockSize, CacheBlocks}
+use Rattle.bh_words.specs.declared.options.OptionName.TheVariants.{File, Tenant, Name, Secret, Quota, At, ClockLeap, Force, Limit, Port, Count, Log, Timeout, MinPart, MaxBody, BlockSize, CacheBlocks, Digest}
 use Rattle.bh_words.specs.declared.subcommands.Subcommand.{Subcommand}
 use Rattle.bh_words.specs.declared.subcommands.Subcommand.TheVariants as subcommand
 
@@ -22,8 +22,8 @@ word subcommand.Serve = codes "serve"
 
 -- each subcommand's options
 abbrev pub options : Subcommand → List OptionName
-options subcommand.Script = BlockSize ∷ MinPart ∷ MaxBody ∷ CacheBlocks ∷ []
-options subcommand.Init = File ∷ MinPart ∷ MaxBody ∷ []
+options subcommand.Script = BlockSize ∷ MinPart ∷ MaxBody ∷ CacheBlocks ∷ Digest ∷ []
+options subcommand.Init = File ∷ MinPart ∷ MaxBody ∷ Digest ∷ []
 options subcommand.TenantAdd = File ∷ Tenant ∷ Quota ∷ At ∷ ClockLeap ∷ Force ∷ []
 options subcommand.Quota = File ∷ Tenant ∷ Quota ∷ At ∷ ClockLeap ∷ Force ∷ []
 options subcommand.KeyAdd = File ∷ Tenant ∷ Name ∷ Secret ∷ At ∷ ClockLeap ∷ Force ∷ []

@@ -2,6 +2,7 @@
 use Rattle.std.specs.Prelude.{ℕ, Bool, List, Option}
 use Rattle.std.specs.String.{string_bytes}
 use Rattle.bh_types.specs.Limits.{HostLimits, HostTuning}
+use Rattle.bh_types.specs.declared.block_digest.BlockDigest.{BlockDigest}
 use Rattle.bh_words.specs.declared.lines.ClockGiven.{ClockGiven}
 use Rattle.bh_words.specs.declared.lines.Leap.{Leap}
 use Rattle.bh_words.specs.declared.lines.Line.{Line}
@@ -17,10 +18,11 @@ pub data Secret : Type 0 where
   Written : (secret : Octets) → Secret
   FromInput : Secret
 
--- a subcommand with its values; `count` is how many connections are served, where one was given
+-- a subcommand with its values; `count` is how many connections are served, where one was given, and `digest` is none where
+-- the word is that of no function
 pub data CommandLine : Type 0 where
-  Script : (limits : HostLimits) (tuning : HostTuning) → CommandLine
-  Init : (file : Octets) (limits : HostLimits) → CommandLine
+  Script : (limits : HostLimits) (tuning : HostTuning) (digest : Option BlockDigest) → CommandLine
+  Init : (file : Octets) (limits : HostLimits) (digest : Option BlockDigest) → CommandLine
   TenantAdd : (file : Octets) (tenant : Octets) (quota : ℕ) (clock : ClockGiven) → CommandLine
   Quota : (file : Octets) (tenant : Octets) (quota : ℕ) (clock : ClockGiven) → CommandLine
   KeyAdd : (file : Octets) (tenant : Octets) (name : Octets) (secret : Secret) (clock : ClockGiven) → CommandLine
@@ -35,8 +37,8 @@ secret (given.Word text) = Written (string_bytes text)
 secret given.StandardInput = FromInput
 
 abbrev pub command_line : Line → CommandLine
-command_line (line.Script limits tuning) = Script limits tuning
-command_line (line.Init file limits) = Init (string_bytes file) limits
+command_line (line.Script limits tuning digest) = Script limits tuning digest
+command_line (line.Init file limits digest) = Init (string_bytes file) limits digest
 command_line (line.TenantAdd file tenant quota clock) = TenantAdd (string_bytes file) (string_bytes tenant) quota clock
 command_line (line.Quota file tenant quota clock) = Quota (string_bytes file) (string_bytes tenant) quota clock
 command_line (line.KeyAdd file tenant name s clock) = KeyAdd (string_bytes file) (string_bytes tenant) (string_bytes name) (secret s) clock

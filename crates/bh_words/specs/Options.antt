@@ -5,7 +5,7 @@ use Rattle.clap.specs.declared.builder.action.ArgAction.TheVariants.{SetTrue}
 use Rattle.clap.specs.declared.builder.value_parser.ValueParser.TheVariants.{Unsigned}
 use Rattle.bh_types.specs.Limits.{default_limits, default_tuning}
 use Rattle.bh_words.specs.declared.options.OptionName.{OptionName}
-use Rattle.bh_words.specs.declared.options.OptionName.TheVariants.{File, Tenant, Name, Secret, Quota, At, ClockLeap, Force, Limit, Port, Count, Log, Timeout, MinPart, MaxBody, BlockSize, CacheBlocks}
+use Rattle.bh_words.specs.declared.options.OptionName.TheVariants.{File, Tenant, Name, Secret, Quota, At, ClockLeap, Force, Limit, Port, Count, Log, Timeout, MinPart, MaxBody, BlockSize, CacheBlocks, Digest}
 
 -- an option is written `--word value` or `--word=value`
 abbrev pub word : OptionName → Text
@@ -26,6 +26,7 @@ word MinPart = codes "min-part"
 word MaxBody = codes "max-body"
 word BlockSize = codes "block-size"
 word CacheBlocks = codes "cache-blocks"
+word Digest = codes "digest"
 
 abbrev pub described : OptionName → Rule
 described o = record (new_rule (word o)) { long = Some (word o) }
@@ -50,6 +51,10 @@ flag o = record (described o) { action = Some SetTrue }
 abbrev pub preset : ℕ → Rule → Rule
 preset value a = record a { defaults = decimal value ∷ [] }
 
+-- so has one whose value is any text
+abbrev pub worded : Text → Rule → Rule
+worded value a = record a { defaults = value ∷ [] }
+
 -- the greatest number of 64 bits
 abbrev pub greatest : ℕ
 greatest = 2 ^ 64 - 1
@@ -72,3 +77,4 @@ rule MinPart = preset default_limits.min_part (number MinPart 0 (2 ^ 30))
 rule MaxBody = preset default_limits.max_body (number MaxBody 1 (2 ^ 30))
 rule BlockSize = preset default_tuning.block_size (number BlockSize 1 1_048_576)
 rule CacheBlocks = preset default_tuning.cache_blocks (number CacheBlocks 0 65_536)
+rule Digest = worded (codes "sha256") (described Digest)

@@ -7,6 +7,8 @@ use Rattle.clap.specs.Words.{Kinds, Row, Text, fault_of, first_of, found_of, row
 use Rattle.clap.specs.ValueTests.{is_numeral}
 use Rattle.clap.specs.declared.parser.matches.ArgMatches.{ArgMatches}
 use Rattle.bh_types.specs.Limits.{HostLimits, HostTuning}
+use Rattle.bh_types.specs.declared.block_digest.BlockDigest.{BlockDigest}
+use Rattle.bh_types.specs.declared.block_digest.BlockDigest.TheVariants.{Sha256, Fast}
 use Rattle.bh_words.specs.Commands.{subcommands, the_command}
 use Rattle.bh_words.specs.Commands as commands
 use Rattle.bh_words.specs.Lines.{Secret, Written, FromInput, CommandLine}
@@ -103,19 +105,30 @@ tuning_at rows = do
   cache_blocks ← number_at 64 option.CacheBlocks rows
   tuning_of block_size cache_blocks
 
+-- the digest function of this word
+abbrev pub digest_of : Text → Option BlockDigest
+digest_of text = if bytes_eq text (codes "sha256") then Some Sha256 else (if bytes_eq text (codes "fast") then Some Fast else None)
+
+abbrev pub digest_at : List Row → Option (Option BlockDigest)
+digest_at rows = do
+  text ← text_at option.Digest rows
+  Some (digest_of text)
+
 -- ---- the subcommands
 
 abbrev pub script : List Row → Option CommandLine
 script rows = do
   limits ← limits_at rows
   tuning ← tuning_at rows
-  Some (line.Script limits tuning)
+  digest ← digest_at rows
+  Some (line.Script limits tuning digest)
 
 abbrev pub init : List Row → Option CommandLine
 init rows = do
   file ← text_at option.File rows
   limits ← limits_at rows
-  Some (line.Init file limits)
+  digest ← digest_at rows
+  Some (line.Init file limits digest)
 
 abbrev pub tenant_add : List Row → Option CommandLine
 tenant_add rows = do

@@ -7,6 +7,7 @@ ghost use Rattle.bh_words.specs.declared.options.OptionName.TheVariants as optio
 
 use crate::lines::{ClockGiven, Leap, SecretGiven};
 use crate::options::OptionName;
+use bh_types::block_digest::BlockDigest;
 use bh_types::limits::{Limits, Tuning};
 use clap::ArgMatches;
 use std::alloc::{AllocError, Global};
@@ -197,6 +198,28 @@ fn tuning_of(block_size: u64, cache_blocks: u64) -> Option<Tuning>
     ensures { result ≡ spec.tuning_of block_size cache_blocks }
 {
     Tuning::new(block_size, cache_blocks)
+}
+
+/// The digest function of a new host, or none where the word is that of none.
+pub(crate) fn digest(given: &ArgMatches<'_>) -> Option<Option<BlockDigest>>
+    ensures { result ≡ spec.digest_at (spec.rows_in given.now) }
+{
+    match written(given, OptionName::Digest) {
+        Some(text) => Some(digest_of(text)),
+        None => None,
+    }
+}
+
+fn digest_of(text: &str) -> Option<BlockDigest>
+    ensures { result ≡ spec.digest_of text.now }
+{
+    if text == "sha256" {
+        return Some(BlockDigest::Sha256);
+    }
+    if text == "fast" {
+        return Some(BlockDigest::Fast);
+    }
+    None
 }
 
 /// The value, or that there is none.

@@ -1,3 +1,4 @@
+use bh_types::block_digest::BlockDigest;
 use bh_types::limits::{Limits, Tuning};
 
 /// Where an access key's secret is.
@@ -29,18 +30,20 @@ pub struct ClockGiven {
 /// What a command line asks for: a subcommand and its options.
 ///
 /// Names, secrets and quotas are as they were given: whether they are in their ranges is the host's
-/// to say.
+/// to say. Of a digest function it is `None` where the word is that of none.
 #[derive(Drop)]
 pub enum Line {
     /// Events from standard input, applied to a new host in memory.
     Script {
         limits: Limits,
         tuning: Tuning,
+        digest: Option<BlockDigest>,
     },
     /// A new host in a file.
     Init {
         file: String,
         limits: Limits,
+        digest: Option<BlockDigest>,
     },
     /// A tenant with a quota in bytes.
     TenantAdd {

@@ -27,6 +27,7 @@ pub(crate) enum OptionName {
     MaxBody,
     BlockSize,
     CacheBlocks,
+    Digest,
 }
 
 impl OptionName {
@@ -52,6 +53,7 @@ impl OptionName {
             OptionName::MaxBody => "max-body",
             OptionName::BlockSize => "block-size",
             OptionName::CacheBlocks => "cache-blocks",
+            OptionName::Digest => "digest",
         }
     }
 
@@ -80,6 +82,8 @@ impl OptionName {
             OptionName::BlockSize => "The bytes of a block: 1 to 1,048,576",
             OptionName::CacheBlocks =>
                 "How many blocks are to stay in memory (no effect yet): 0 to 65,536",
+            OptionName::Digest =>
+                "Which function names blocks, as long as the host is there: sha256 or fast",
         }
     }
 
@@ -105,6 +109,7 @@ impl OptionName {
             OptionName::MaxBody => self.number(alloc, 1, 1 << 30).default_value("16777216"),
             OptionName::BlockSize => self.number(alloc, 1, 1_048_576).default_value("65536"),
             OptionName::CacheBlocks => self.number(alloc, 0, 65_536).default_value("0"),
+            OptionName::Digest => self.described(alloc).default_value("sha256"),
         }
     }
 

@@ -3,8 +3,8 @@ ghost use Rattle.bh_words.specs.Lines.{command_line};
 ghost use Rattle.bh_words.specs.Readings as spec;
 
 use crate::given::{
-    GivenError, clock, is_given, leap, limits, needed, number, port, secret, small_number, text,
-    tuning,
+    GivenError, clock, digest, is_given, leap, limits, needed, number, port, secret, small_number,
+    text, tuning,
 };
 use crate::lines::Line;
 use crate::options::OptionName;
@@ -46,7 +46,12 @@ fn script(given: &ArgMatches<'_>) -> Result<Line, GivenError>
 {
     let limits = needed(limits(given))?;
     let tuning = needed(tuning(given))?;
-    Ok(Line::Script { limits, tuning })
+    let digest = needed(digest(given))?;
+    Ok(Line::Script {
+        limits,
+        tuning,
+        digest,
+    })
 }
 
 fn init(alloc: Global, given: &ArgMatches<'_>) -> Result<Line, GivenError>
@@ -54,7 +59,12 @@ fn init(alloc: Global, given: &ArgMatches<'_>) -> Result<Line, GivenError>
 {
     let file = text(alloc, given, OptionName::File)?;
     let limits = needed(limits(given))?;
-    Ok(Line::Init { file, limits })
+    let digest = needed(digest(given))?;
+    Ok(Line::Init {
+        file,
+        limits,
+        digest,
+    })
 }
 
 fn tenant_add(alloc: Global, given: &ArgMatches<'_>) -> Result<Line, GivenError>

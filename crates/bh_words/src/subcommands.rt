@@ -20,14 +20,20 @@ pub(crate) enum Subcommand {
     Serve,
 }
 
-static SCRIPT: [OptionName; 4] = [
+static SCRIPT: [OptionName; 5] = [
     OptionName::BlockSize,
     OptionName::MinPart,
     OptionName::MaxBody,
     OptionName::CacheBlocks,
+    OptionName::Digest,
 ];
 
-static INIT: [OptionName; 3] = [OptionName::File, OptionName::MinPart, OptionName::MaxBody];
+static INIT: [OptionName; 4] = [
+    OptionName::File,
+    OptionName::MinPart,
+    OptionName::MaxBody,
+    OptionName::Digest,
+];
 
 static TENANT_QUOTA: [OptionName; 6] = [
     OptionName::File,

@@ -4,7 +4,7 @@ use crate::answer::{Answer, Fault};
 use crate::digest_runs::answers;
 use crate::digesters::{Constant, Parity};
 use crate::words::number;
-use bh_blocks::digester::Sha256Digester;
+use bh_blocks::digester::{FastDigester, Sha256Digester};
 use bh_schema::host::Digester;
 use bh_script::input::read_script;
 use sqlite::{Alter, Connection};
@@ -19,7 +19,7 @@ const BLOCKS: &str =
     "SELECT ord || ' ' || CAST(bytes AS TEXT) || ',' FROM blocks ORDER BY ord, bytes";
 
 /// `DIGEST: STEP; STEP..`: what sweeps and reports are answered, then the blocks, each with its ordinal. DIGEST is `constant`,
-/// `parity` (of the number of bytes) or `sha256`.
+/// `parity` (of the number of bytes), `sha256` or `fast`.
 pub fn answer(alloc: Global, input: &str) -> Answer {
     let (digest, steps) = input.split_once(": ").ok_or(Fault::Form)?;
     let script = script_of(alloc, steps)?;
@@ -27,6 +27,7 @@ pub fn answer(alloc: Global, input: &str) -> Answer {
         "constant" => shown(alloc, Constant, script.as_str()),
         "parity" => shown(alloc, Parity, script.as_str()),
         "sha256" => shown(alloc, Sha256Digester, script.as_str()),
+        "fast" => shown(alloc, FastDigester, script.as_str()),
         _ => Err(Fault::Form),
     }
 }

@@ -14,6 +14,7 @@ use bh_host::apply;
 use bh_link::link::Link;
 use bh_script::input::read_script;
 use bh_storage::storage::Storage;
+use bh_types::block_digest::BlockDigest;
 use bh_types::limits::{Limits, Tuning};
 use sqlite::Connection;
 use std::alloc::{AllocError, Global};
@@ -154,6 +155,7 @@ fn answered(alloc: Global, events: &[Event], cuts: &str) -> io::Result<Vec<u8>> 
     match create(
         connection,
         Sha256Digester,
+        BlockDigest::Sha256,
         Limits::default(),
         Tuning::default(),
     ) {

@@ -24,7 +24,7 @@ use std::{env, io};
 const USAGE: &str = "usage: examples WORD..
 
   tables NAME..     compares each row of tables/NAME.txt: a call, its input and what it is to give
-  any-digest NAME..  compares the answers to scripts/NAME.in of hosts of SHA-256, of a constant digest and of one with two values
+  any-digest NAME..  compares the answers to scripts/NAME.in of hosts of SHA-256, of SipHash, of a constant digest and of one with two values
   connections NAME..  compares the answers to scripts/NAME.in with scripts/NAME.out: the operator's commands come first, then
                     the requests, over connections in memory, cut as the lines of scripts/NAME.cuts say, if it is there
   retried           answers the script of standard input, asking an event that found no memory once more

@@ -13,6 +13,7 @@ use bh_event::event::Event;
 use bh_host::{Told, apply};
 use bh_script::input::{read_all, read_script};
 use bh_storage::storage::Storage;
+use bh_types::block_digest::BlockDigest;
 use bh_types::limits::{Limits, Tuning};
 use sqlite::Connection;
 use std::alloc::Global;
@@ -55,6 +56,7 @@ pub fn retry(rt: &(impl Input + Print + AllocGlobal)) -> io::Result<bool> {
     match create(
         connection,
         Sha256Digester,
+        BlockDigest::Sha256,
         Limits::default(),
         Tuning::default(),
     ) {

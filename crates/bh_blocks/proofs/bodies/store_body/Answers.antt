@@ -1,44 +1,24 @@
-use Rattle.std.proofs.Common.{sym, ◌∙◌, length, subst}
+use Rattle.std.proofs.Common.{◌≡◌, ◌∷◌, [], List, ap, sym, ◌∙◌}
+use Rattle.std.proofs.lemmas.Result.{on_ok_weaker}
 use Rattle.sqlite.specs.Held.{state}
-use Rattle.bh_tables.specs.Bodies.{Name}
-use Rattle.bh_view.specs.Bodies.{AddsBody, pieces, body_stored}
-use Rattle.bh_view.proofs.BodyChanges.{body_stores}
+use Rattle.bh_tables.specs.Schema.{Octets}
+use Rattle.bh_view.specs.Bodies.{pieces, body_stored}
 use Rattle.bh_schema.specs.Working.{tables_at}
-use Rattle.bh_schema.proofs.Storing.{within_then}
-use Rattle.bh_blocks.proofs.BodySteps.{next_piece, shorter, not_nil, stored_all}
-use Rattle.bh_blocks.proofs.Keeping.{own_at, resolved_at}
+use Rattle.bh_blocks.proofs.Keeping.{stored_adds}
 use Rattle.bh_blocks.proofs.bodies.store_body.Goals as goal
 
-pub pieces-preserved : goal.pieces-preserved
-pieces-preserved g c =
-    let some = not_nil c.pieces.rest.now (sym c.pieces-test.ensures) in
-    let step = c.in_ok-store_piece.ensures in
-    let inv = c.pieces.invariant in
+pub returns-then-is_one_piece-clause-stored : goal.returns-then-is_one_piece-clause-stored
+returns-then-is_one_piece-clause-stored g c = on_ok_weaker c.store_whole.result (λ holds clean.
     record {
-      within = within_then _ _ _ inv.opens inv.within step.within;
-      opens = λ intact up. step.opens intact (inv.opens (step.within.follows.intact intact) up);
-      inside = λ clean. (step.stored clean).within;
-      places = shorter c.pieces.place c.args.block_size c.pieces.rest.now c.cut_off.result.1.now (length c.args.bytes.now) c.requires.size some c.cut_off.ensures.back inv.places;
-      stored = λ clean. next_piece g.D.Digester.digest_of (c.args.tenant.now, c.args.body) c.pieces.place c.args.block_size c.pieces.rest.now c.cut_off.result.0.now c.cut_off.result.1.now
-          (tables_at (state g.S.Store c.pieces.connection)) (tables_at (state g.S.Store c.store_piece.new.connection)) c.requires.size some c.cut_off.ensures.front c.cut_off.ensures.back (step.stored clean).is ∙ inv.stored (step.within.follows.clean clean);
-    }
+      within = (holds clean).within;
+      is = (holds clean).is ∙ ap (λ (cs : List Octets). body_stored g.D.Digester.digest_of (c.args.tenant.now, c.args.body) 0 cs (tables_at (state g.S.Store c.args.connection.now))) (sym (c.is_one_piece.ensures c.if-is_one_piece.true));
+    }) c.store_whole.ensures.stored
 
-pub returns-clause-stored : goal.returns-clause-stored
-returns-clause-stored g c clean =
-    let s = state g.S.Store c.pieces.connection in
-    record {
-      within = c.pieces.invariant.inside clean;
-      is = stored_all g.D.Digester.digest_of (c.args.tenant.now, c.args.body) c.pieces.place c.args.block_size c.pieces.rest.now (tables_at s)
-          (body_stored g.D.Digester.digest_of (c.args.tenant.now, c.args.body) 0 (pieces c.args.block_size c.args.bytes.now) (tables_at (state g.S.Store c.args.connection.now)))
-          (own_at s) (sym c.pieces-test.ensures) (c.pieces.invariant.stored clean);
-    }
+pub returns-then-is_one_piece-clause-adds : goal.returns-then-is_one_piece-clause-adds
+returns-then-is_one_piece-clause-adds g c = on_ok_weaker c.store_whole.result (λ holds clean digests fresh.
+    stored_adds g.D.Digester.digest_of (c.args.tenant.now, c.args.body) c.args.block_size c.args.bytes.now (state g.S.Store c.args.connection.now) (state g.S.Store c.store_whole.new.connection) c.requires.size digests fresh
+    ((holds clean).is ∙ ap (λ (cs : List Octets). body_stored g.D.Digester.digest_of (c.args.tenant.now, c.args.body) 0 cs (tables_at (state g.S.Store c.args.connection.now))) (sym (c.is_one_piece.ensures c.if-is_one_piece.true)))) c.store_whole.ensures.stored
 
 pub returns-clause-adds : goal.returns-clause-adds
-returns-clause-adds g c clean digests fresh =
-    let before = state g.S.Store c.args.connection.now in
-    let s = state g.S.Store c.pieces.connection in
-    let at : Name = (c.args.tenant.now, c.args.body) in
-    let digest = g.D.Digester.digest_of in
-    subst (AddsBody digest at c.args.bytes.now (tables_at before))
-    (sym (stored_all digest at c.pieces.place c.args.block_size c.pieces.rest.now (tables_at s) (body_stored digest at 0 (pieces c.args.block_size c.args.bytes.now) (tables_at before)) (own_at s) (sym c.pieces-test.ensures) (c.pieces.invariant.stored clean)))
-    (body_stores (tables_at before) at (resolved_at before) fresh.stored fresh.bodies fresh.unnamed digest c.args.block_size c.args.bytes.now c.requires.size digests)
+returns-clause-adds g c = on_ok_weaker c.store_pieces.result (λ holds clean digests fresh.
+    stored_adds g.D.Digester.digest_of (c.args.tenant.now, c.args.body) c.args.block_size c.args.bytes.now (state g.S.Store c.args.connection.now) (state g.S.Store c.store_pieces.new.connection) c.requires.size digests fresh (holds clean).is) c.store_pieces.ensures.stored

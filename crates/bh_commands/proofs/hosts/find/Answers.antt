@@ -1,29 +1,32 @@
 use Rattle.std.proofs.Common.{inl, inr}
-use Rattle.bh_commands.proofs.Found.{is_clean, sound_seen}
+use Rattle.bh_commands.proofs.Found.{is_clean, row_seen, sound_seen}
 use Rattle.bh_commands.proofs.Refused.{not_found}
 use Rattle.bh_commands.proofs.hosts.find.Goals as goal
 
-pub work_in_time-requires : goal.work_in_time-requires
-work_in_time-requires g c =
+pub work_by_digest-requires : goal.work_by_digest-requires
+work_by_digest-requires g c =
     let it = c.in-Ok.ensures in
+    let opened = c.in-Ok.opened in
     record {
-      rest = λ clean. it.rest (is_clean clean) (sound_seen _ _ _ c.requires it.schema it.same it.follows (is_clean clean));
-      latest = λ clean. it.latest (is_clean clean) (sound_seen _ _ _ c.requires it.schema it.same it.follows (is_clean clean));
+      rest = λ clean. it.rest _ clean (sound_seen opened.limits _ _ c.requires it.schema it.same it.follows opened.digest it.named clean);
+      latest = λ clean. it.latest _ clean (sound_seen opened.limits _ _ c.requires it.schema it.same it.follows opened.digest it.named clean);
     }
 
-pub returns-in_ok-work_in_time-in-Ok : goal.returns-in_ok-work_in_time-in-Ok
-returns-in_ok-work_in_time-in-Ok g c =
+pub returns-in_ok-work_by_digest-in-Ok : goal.returns-in_ok-work_by_digest-in-Ok
+returns-in_ok-work_by_digest-in-Ok g c =
     let it = c.in-Ok.ensures in
+    let opened = c.in-Ok.opened in
     inr (record {
-      host = record { host = c.in-Ok.opened.host };
+      opened = opened;
+      row = row_seen opened.limits _ _ c.requires it.schema it.same it.follows opened.digest it.named;
       found = record {
         schema = it.schema;
         same = it.same;
-        rest = λ clean. it.rest (is_clean clean) (sound_seen _ _ _ c.requires it.schema it.same it.follows (is_clean clean));
+        rest = λ clean. it.rest _ (is_clean clean) (sound_seen opened.limits _ _ c.requires it.schema it.same it.follows opened.digest it.named (is_clean clean));
         follows = it.follows;
         survives = it.survives;
       };
-      worked = c.in_ok-work_in_time-in-Ok.ensures;
+      worked = c.in_ok-work_by_digest-in-Ok.ensures;
     })
 
 pub returns-in_ok-refused-in-Err : goal.returns-in_ok-refused-in-Err

@@ -41,7 +41,7 @@ done g c clean =
     let one = c.in_ok-mode.ensures.decides clean_first in
     let two = c.in_ok-entry.ensures.decides clean_middle in
     puts_pieces old (tables_at (state g.S.Store c.write_object.new.connection)) object.tenant.now object.bucket.now object.key.now object.at object.bytes.now (option_copied c.args.given) after (host_at first (c.requires.working clean_old)) (c.requires.early clean_old) c.in_ok-write_object.ensures.key
-    (sum_right (option_copied c.args.given) object.bytes.now (string_bytes c.in_ok-checksum.checksum) c.in_ok-checksum.ensures.answers)
+    (sum_right (option_copied c.args.given) object.bytes.now (string_bytes c.in_ok-checksum.checksum.text) c.in_ok-checksum.ensures.answers)
     g.D.Digester.digest_of c.args.block_size c.requires.positive (c.requires.digests clean_old)
     mode before one.0 (ap (λ (x : Tables). entry_numbers_in mode object.bucket.now object.key.now (length object.bytes.now) (view x object.tenant.now)) (sym one.1) ∙ two.0)
     ((c.in_ok-write_object.ensures.holds clean).is
@@ -95,7 +95,7 @@ returns-in_err-entry-clause-carries g c clean =
     let one = c.in_ok-mode.ensures.decides (c.in_err-entry.ensures.within.follows.clean clean) in
     rw (p.1, p.2) (put_failed (λ (entry : NewEntry). (entry.numbers.before, entry.numbers.after)) stored_answer object.tenant.now object.at object.bucket.now object.key.now object.bytes.now (option_copied c.args.given)
     (tables_at (state g.S.Store c.args.connection.now)) (tables_at (state g.S.Store c.bucket_state.new.connection)) (tables_at (state g.S.Store c.new_entry.new.connection)) c.in_ok-mode.mode one.0
-    (sum_right (option_copied c.args.given) object.bytes.now (string_bytes c.in_ok-checksum.checksum) c.in_ok-checksum.ensures.answers) one.1 c.in_err-entry.field-0.0 (c.in_err-entry.ensures.decides clean))
+    (sum_right (option_copied c.args.given) object.bytes.now (string_bytes c.in_ok-checksum.checksum.text) c.in_ok-checksum.ensures.answers) one.1 c.in_err-entry.field-0.0 (c.in_err-entry.ensures.decides clean))
 
 pub write_object-requires-clause-held : goal.write_object-requires-clause-held
 write_object-requires-clause-held g c clean r is =

@@ -13,4 +13,4 @@ returns-in_err-make-clause-trouble c = handed_on _ _ _ c.from_residual-in_err-ma
     ap is_trouble same ∙ c.in_err-make.ensures.trouble (is_intact c.make.new.connection) (unlimited c.in_ok-connection.connection fresh) (λ _. outside c.in_ok-connection.connection fresh))
 
 pub returns-clause-schema : goal.returns-clause-schema
-returns-clause-schema c = made_schema _ (state over_memory c.make.new.connection) (c.in_ok-make.ensures.made (is_clean c.make.new.connection))
+returns-clause-schema c = made_schema _ _ (state over_memory c.make.new.connection) (c.in_ok-make.ensures.made (is_clean c.make.new.connection))

@@ -32,7 +32,7 @@ done g c clean =
     let two = c.in_ok-taken.ensures.decides clean_middle in
     puts old (tables_at (state g.S.Store c.write_part.new.connection)) (host_at first (c.requires.working clean_old)) part.upload.tenant.now part.upload.bucket.now part.upload.key.now part.upload.upload c.in_ok-found.found.mode c.in_ok-found.found.number one.0
     part.number part.at part.bytes.now (option_copied c.args.given) c.in_ok-write_part.ensures.least c.in_ok-write_part.ensures.most (c.requires.early clean_old)
-    (sum_right (option_copied c.args.given) part.bytes.now (string_bytes c.in_ok-checksum.checksum) c.in_ok-checksum.ensures.answers)
+    (sum_right (option_copied c.args.given) part.bytes.now (string_bytes c.in_ok-checksum.checksum.text) c.in_ok-checksum.ensures.answers)
     g.D.Digester.digest_of c.args.block_size c.requires.positive (c.requires.digests clean_old)
     c.in_ok-taken.taken.entry (ap (λ (x : Tables). part_entry_in (part_bytes_in part.upload.tenant.now c.in_ok-found.found.number part.number x) (length part.bytes.now) (view x part.upload.tenant.now)) (sym one.1) ∙ two.0)
     ((c.in_ok-write_part.ensures.holds clean).is
@@ -90,4 +90,4 @@ returns-in_err-taken-clause-carries g c clean =
     rw (p.1, p.2) (part_failed (λ (taken : PartEntry). taken.entry) (λ (checksum : String (Rattle.std.specs.contracts.alloc.Global.the_row).Denot). PartStored (string_bytes checksum)) (tables_at first) (tables_at (state g.S.Store c.found_upload.new.connection)) (tables_at (state g.S.Store c.part_entry.new.connection))
     (c.requires.working (c.in_ok-found.ensures.within.follows.clean clean_first)).sound part.upload.tenant.now part.upload.bucket.now part.upload.key.now part.upload.upload c.in_ok-found.found.mode c.in_ok-found.found.number
     part.number part.at part.bytes.now (option_copied c.args.given)
-    (sum_right (option_copied c.args.given) part.bytes.now (string_bytes c.in_ok-checksum.checksum) c.in_ok-checksum.ensures.answers) one.0 one.1 c.in_err-taken.field-0.0 (c.in_err-taken.ensures.decides clean))
+    (sum_right (option_copied c.args.given) part.bytes.now (string_bytes c.in_ok-checksum.checksum.text) c.in_ok-checksum.ensures.answers) one.0 one.1 c.in_err-taken.field-0.0 (c.in_err-taken.ensures.decides clean))

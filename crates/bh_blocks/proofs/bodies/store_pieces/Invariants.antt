@@ -3,7 +3,7 @@ use Rattle.sqlite.specs.Held.{state}
 use Rattle.bh_view.specs.Bodies.{pieces, body_stored}
 use Rattle.bh_schema.specs.Layer.{standing, IsIntact, IsOpen, IsStateClean, IsInside, StateWithin}
 use Rattle.bh_schema.specs.Working.{tables_at}
-use Rattle.bh_blocks.proofs.bodies.store_body.Given as goal
+use Rattle.bh_blocks.proofs.bodies.store_pieces.Given as goal
 
 -- what is stored so far, and then the rest, is all
 abbrev pub invariant-pieces : goal.invariant-pieces
