@@ -147,19 +147,6 @@ version_deleted tenant bucket okey version = record {
   tests = λ id v. then_term (at_texts false Eq v.tenant tenant) (then_term (at_texts false Eq v.bucket bucket) (then_term (at_blobs false Eq v.okey okey) (last_term (at_ints false Eq (pos v.id) (pos version)))));
 }
 
-pub versions_summed : (tenant : Octets) → SumText version_form host_schema 7 (codes "SELECT coalesce(sum(size), 0) FROM versions WHERE tenant = ?1") (Text tenant ∷ []) (λ v. is_version_of tenant (bare v)) (λ v. v.size)
-unfolding understood everything
-versions_summed tenant = record {
-  test = is 1 0 ∷ [];
-  argument = col 1 8;
-  names = codes "coalesce(sum(size), 0)" ∷ [];
-  means = record { is = refl; plain = (refl, refl); unlisted = refl; whole = refl; given = refl };
-  low = refl;
-  accepts = refl;
-  tests = λ id v. last_term (at_texts false Eq v.tenant tenant);
-  reads = λ id v. refl;
-}
-
 -- 1 for each row
 pub entries_counted : (tenant : Octets) (marker : ℕ)
     → SumText version_form host_schema 7 (codes "SELECT coalesce(sum(1), 0) FROM versions WHERE tenant = ?1 AND marker = ?2") (Text tenant ∷ number marker ∷ []) (λ v. has_marker tenant marker (bare v)) (λ _. 1)

@@ -2,12 +2,14 @@
 
 use bh_types::error::RequestError;
 use bh_types::refusal::Refusal;
-use std::alloc::{AllocError, Global};
+use sqlite::Error;
+use std::alloc::{AllocError, AllocFailed, Global};
+use std::io;
 
 /// Why a row has no answer.
 #[derive(Clone, Copy, Debug, PartialEq, Eq)]
 pub enum Fault {
-    /// Memory was wanting.
+    /// Memory or a store was wanting.
     Memory,
     /// There is no such call, or its input is not of its form.
     Form,
@@ -15,6 +17,24 @@ pub enum Fault {
 
 impl From<AllocError> for Fault {
     fn from(_error: AllocError) -> Fault {
+        Fault::Memory
+    }
+}
+
+impl<T: Drop> From<AllocFailed<T>> for Fault {
+    fn from(_error: AllocFailed<T>) -> Fault {
+        Fault::Memory
+    }
+}
+
+impl From<Error> for Fault {
+    fn from(_error: Error) -> Fault {
+        Fault::Memory
+    }
+}
+
+impl From<io::Error> for Fault {
+    fn from(_error: io::Error) -> Fault {
         Fault::Memory
     }
 }

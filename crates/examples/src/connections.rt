@@ -33,7 +33,7 @@ fn request<'a>(alloc: Global, event: &'a Event, cut: &str) -> Option<Request<'a>
         Event::Http { reading, bytes } => Some(Arrival {
             reading: *reading,
             reader: Link::new(reader(bytes.as_slice(), cut.reads)),
-            writer: Link::new(Narrow::new(alloc, cut.writes)),
+            writer: Link::new(Narrow::new(alloc, cut)),
         }),
         Event::Operator { .. } | Event::Sweep { .. } | Event::Report { .. } => None,
     }

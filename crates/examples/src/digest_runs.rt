@@ -17,15 +17,19 @@ use std::alloc::Global;
 use std::rt::Files;
 use std::{fs, io};
 
-/// What events are answered by a new host whose blocks, and parts but for the last, have 4 bytes, and its tables afterwards;
-/// none where no host was made.
+/// Blocks of 4 bytes, and parts of no fewer but for the last.
+pub fn settings() -> Option<(Limits, Tuning)> {
+    Some((Limits::new(4, DEFAULT_MAX_BODY)?, Tuning::new(4, 0)?))
+}
+
+/// What events are answered by a new host of these settings, and its tables afterwards; none where no host was made.
 pub fn answers<D: Digester + Drop>(
     alloc: Global,
     digester: D,
     events: &[Event],
 ) -> Result<Option<(Vec<Told>, Connection<MemStore>)>, Trouble> {
     let connection = Connection::open_in_memory(alloc)?;
-    let (Some(limits), Some(tuning)) = (Limits::new(4, DEFAULT_MAX_BODY), Tuning::new(4, 0)) else {
+    let Some((limits, tuning)) = settings() else {
         return Ok(None);
     };
     // No event tells which function the host's row names.

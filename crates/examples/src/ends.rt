@@ -4,19 +4,25 @@ use std::alloc::Global;
 use std::io;
 use std::io::{Chain, ErrorKind, Read, Write};
 
-/// Where a connection is cut: how many bytes its reader gives before it fails, and how many its writer takes.
+/// Where a connection is cut: how many bytes its reader gives before it fails, and how many its writer takes before it takes none,
+/// or fails.
 #[derive(Clone, Copy)]
 pub struct Cut {
     pub reads: Option<usize>,
     pub writes: usize,
+    pub fails: bool,
 }
+
+/// No cut.
+pub const WHOLE: Cut = Cut {
+    reads: None,
+    writes: usize::MAX,
+    fails: false,
+};
 
 /// `read 70` or `write 10`; anything else cuts nothing.
 pub fn cut_of(line: &str) -> Cut {
-    let mut cut = Cut {
-        reads: None,
-        writes: usize::MAX,
-    };
+    let mut cut = WHOLE;
     match line.split_once(' ') {
         Some(("read", count)) => cut.reads = count.parse::<usize>().ok(),
         Some(("write", count)) => cut.writes = count.parse::<usize>().unwrap_or(0),
@@ -48,24 +54,29 @@ pub fn reader(bytes: &[u8], reads: Option<usize>) -> Chain<&[u8], Last> {
     }
 }
 
-/// Takes so many bytes, and then none.
+/// Takes so many bytes, and then none, or fails.
 #[derive(Drop)]
 pub struct Narrow {
     pub held: Vec<u8>,
     room: usize,
+    fails: bool,
 }
 
 impl Narrow {
-    pub fn new(alloc: Global, room: usize) -> Narrow {
+    pub fn new(alloc: Global, cut: Cut) -> Narrow {
         Narrow {
             held: Vec::new(alloc),
-            room,
+            room: cut.writes,
+            fails: cut.fails,
         }
     }
 }
 
 impl Write for Narrow {
     fn write(&mut self, buf: &[u8]) -> io::Result<usize> {
+        if self.fails && self.room == 0 {
+            return Err(io::Error::from(ErrorKind::BrokenPipe));
+        }
         let count = buf.len().min(self.room);
         self.held.extend_from_slice(&buf[..count])?;
         self.room -= count;

@@ -1,11 +1,14 @@
 //! Runs stored examples and compares what they give with what is expected.
 #![tactic(auto)]
 
+mod ample;
 mod answer;
 mod blocks;
+mod breaks;
 mod connections;
 mod digest_runs;
 mod digesters;
+mod disks;
 mod documents;
 mod ends;
 mod escapes;
@@ -13,7 +16,11 @@ mod operations;
 mod plain;
 mod requests;
 mod retried;
+mod dump;
+mod series;
+mod served;
 mod shown;
+mod stops;
 mod table;
 mod words;
 
@@ -27,10 +34,14 @@ const USAGE: &str = "usage: examples WORD..
   any-digest NAME..  compares the answers to scripts/NAME.in of hosts of SHA-256, of SipHash, of a constant digest and of one with two values
   connections NAME..  compares the answers to scripts/NAME.in with scripts/NAME.out: the operator's commands come first, then
                     the requests, over connections in memory, cut as the lines of scripts/NAME.cuts say, if it is there
+  stops NAME..      stops the log, and then the database file, of a host in memory at each call of scripts/NAME.in, and looks whether
+                    what is left is opened as it stood before an event or after it
+  breaks NAME..     breaks the connection of each request of scripts/NAME.in at each byte that is read, and at each that goes out
+  ample NAME..      draws 500 events from the lines of events/NAME.txt, applies them, and serves them: they are answered alike
   retried           answers the script of standard input, asking an event that found no memory once more
   help              prints this
 
-Tables and scripts lie below the folder in which it runs.
+Tables, scripts and events lie below the folder in which it runs.
 ";
 
 /// What the names among the words are names of.
@@ -39,6 +50,9 @@ enum Kind {
     Table,
     AnyDigest,
     Connections,
+    Stops,
+    Breaks,
+    Ample,
 }
 
 fn check(rt: &(impl Runtime + AllocGlobal), kind: Kind, name: &str) -> io::Result<bool> {
@@ -46,6 +60,9 @@ fn check(rt: &(impl Runtime + AllocGlobal), kind: Kind, name: &str) -> io::Resul
         Kind::Table => table::check_table(rt, name),
         Kind::AnyDigest => digest_runs::check(rt, name),
         Kind::Connections => connections::check(rt, name),
+        Kind::Stops => stops::check(rt, name),
+        Kind::Breaks => breaks::check(rt, name),
+        Kind::Ample => ample::check(rt, name),
     }
 }
 
@@ -58,6 +75,9 @@ fn run(rt: &(impl Runtime + AllocGlobal), words: &[String]) -> io::Result<bool> 
             "tables" => kind = Kind::Table,
             "any-digest" => kind = Kind::AnyDigest,
             "connections" => kind = Kind::Connections,
+            "stops" => kind = Kind::Stops,
+            "breaks" => kind = Kind::Breaks,
+            "ample" => kind = Kind::Ample,
             "help" => print!(rt; "{USAGE}")?,
             "retried" => is_well = retried::retry(rt)? && is_well,
             name => is_well = check(rt, kind, name)? && is_well,

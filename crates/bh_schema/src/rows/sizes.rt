@@ -1,7 +1,7 @@
 ghost use Rattle.std.specs.Prelude.{◌≡◌, ◌∷◌, [], ℕ, ◌<◌, ◌^◌, true, filter, IfOk, IfErr, OnOk};
 ghost use Rattle.std.specs.List.{sum_by};
 ghost use Rattle.bh_tables.specs.Typed.{number as stored};
-ghost use Rattle.bh_tables.specs.Shown.{is_version_of, is_part_used};
+ghost use Rattle.bh_tables.specs.Shown.{is_part_used};
 ghost use Rattle.bh_rows.specs.Means.{is_trouble};
 ghost use Rattle.bh_schema.specs.Connections.{IsClean, tables, InTransaction, StaysWithin, WasOpen, ChangesNothing, IsTroubleIf};
 
@@ -17,25 +17,6 @@ pub fn read_total(rows: &[Row]) -> Result<u64, Error>
         None => Ok(0),
         Some(row) => Ok(row.get(0)?),
     }
-}
-
-fn version_total_rows<S: Alter>(
-    connection: &mut Connection<S>,
-    tenant: &str,
-) -> Result<Vec<Row>, Error>
-    requires inside { InTransaction S.Store connection.old }
-    ensures within { StaysWithin S.Store connection.old connection.new }
-    ensures opens { OnOk result (WasOpen S.Store connection.old connection.new) }
-    ensures same { OnOk result (ChangesNothing S.Store connection.old connection.new) }
-    ensures rows { IfOk result (λ rows. IsClean S.Store connection.new
-        → rows.items ≡ (stored (sum_by (λ v. v.size) (filter (is_version_of tenant.now) (tables S.Store connection.old).versions)) ∷ []) ∷ []) }
-    ensures trouble { IfErr result (IsTroubleIf S.Store connection.old connection.new
-        (sum_by (λ v. v.size) (filter (is_version_of tenant.now) (tables S.Store connection.old).versions) < 2 ^ 63)) }
-{
-    connection.query_all(
-        "SELECT coalesce(sum(size), 0) FROM versions WHERE tenant = ?1",
-        &[tenant.to_sql()],
-    )
 }
 
 fn part_total_rows<S: Alter>(
@@ -55,21 +36,6 @@ fn part_total_rows<S: Alter>(
         "SELECT coalesce(sum(size), 0) FROM parts WHERE tenant = ?1",
         &[tenant.to_sql()],
     )
-}
-
-/// The bytes of all versions of a tenant. The store refuses a sum of 2^63 or more.
-pub fn version_total<S: Alter>(connection: &mut Connection<S>, tenant: &str) -> Result<u64, Error>
-    requires inside { InTransaction S.Store connection.old }
-    ensures within { StaysWithin S.Store connection.old connection.new }
-    ensures opens { OnOk result (WasOpen S.Store connection.old connection.new) }
-    ensures same { OnOk result (ChangesNothing S.Store connection.old connection.new) }
-    ensures total { IfOk result (λ n. IsClean S.Store connection.new
-        → n ≡ sum_by (λ v. v.size) (filter (is_version_of tenant.now) (tables S.Store connection.old).versions)) }
-    ensures trouble { IfErr result (IsTroubleIf S.Store connection.old connection.new
-        (sum_by (λ v. v.size) (filter (is_version_of tenant.now) (tables S.Store connection.old).versions) < 2 ^ 63)) }
-{
-    let rows = version_total_rows(connection, tenant)?;
-    read_total(&rows)
 }
 
 /// The bytes of all parts of a tenant's uploads. The store refuses a sum of 2^63 or more.

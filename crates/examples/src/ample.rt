@@ -1,0 +1,179 @@
+//! Events that are drawn from a table: each is answered with the same bytes where it is applied, and where it comes over a
+//! connection in memory, and none is told of trouble.
+
+ghost use Rattle.bh_storage.specs.Calls.{Clean, IsAtRest};
+
+use crate::answer::Fault;
+use crate::digest_runs::{answers, settings};
+use crate::ends::WHOLE;
+use crate::dump::rows_of;
+use crate::series::{Count, is_told, tell};
+use crate::served::{Asked, Passed, serve};
+use bh_blocks::digester::Sha256Digester;
+use bh_connection::End;
+use bh_create::create;
+use bh_dispatch::storage::HostStorage;
+use bh_event::event::Event;
+use bh_event::line::read_line;
+use bh_host::{Told, apply};
+use bh_storage::storage::Storage;
+use sqlite::Connection;
+use std::alloc::{AllocError, Global};
+use std::rt::Files;
+use std::{fs, io};
+
+/// So many events are drawn.
+const DRAWS: usize = 500;
+
+/// So many seconds lie between two: in 144 a day passes.
+const STEP: u64 = 600;
+
+/// The number after this one (S. K. Park, K. W. Miller and P. K. Stockmeyer, "Technical Correspondence", Communications of the
+/// ACM 36, 1993).
+fn next(number: u64) -> u64 {
+    48_271u64.wrapping_mul(number) % 2_147_483_647
+}
+
+fn lines_of(alloc: Global, table: &str) -> Result<Vec<&str>, AllocError> {
+    let mut lines = Vec::new(alloc);
+    for line in table.lines() {
+        if !line.is_empty() && !line.starts_with('#') {
+            lines.push(line)?;
+        }
+    }
+    Ok(lines)
+}
+
+/// Adds the event of a line, which comes after the others.
+fn add(alloc: Global, events: &mut Vec<Event>, line: &str) -> Result<(), Fault> {
+    let event = read_line(alloc, line.as_bytes())?.ok_or(Fault::Form)?;
+    let later = STEP.saturating_mul(events.len() as u64);
+    events.push(at(event, later))?;
+    Ok(())
+}
+
+/// The event at another reading of the clock.
+fn at(event: Event, reading: u64) -> Event {
+    match event {
+        Event::Http { reading: _, bytes } => Event::Http { reading, bytes },
+        Event::Operator {
+            reading: _,
+            command,
+        } => Event::Operator { reading, command },
+        Event::Sweep { reading: _, limit } => Event::Sweep { reading, limit },
+        Event::Report { reading: _ } => Event::Report { reading },
+    }
+}
+
+/// Adds the events of these lines.
+fn add_all(alloc: Global, events: &mut Vec<Event>, lines: &[&str]) -> Result<(), Fault> {
+    for line in lines {
+        add(alloc, events, line)?;
+    }
+    Ok(())
+}
+
+/// Adds events that are drawn from these lines.
+fn add_drawn(alloc: Global, events: &mut Vec<Event>, lines: &[&str]) -> Result<(), Fault> {
+    let mut number = 1u64;
+    for _ in 0..DRAWS {
+        let place = number.checked_rem(lines.len() as u64).ok_or(Fault::Form)?;
+        let line = lines.get(place as usize).ok_or(Fault::Form)?;
+        add(alloc, events, line)?;
+        number = next(number);
+    }
+    Ok(())
+}
+
+/// The events of the lines up to the first empty one, and those that are drawn from the others.
+fn drawn(alloc: Global, table: &str) -> Result<Vec<Event>, Fault> {
+    let (first, others) = table.split_once("\n\n").ok_or(Fault::Form)?;
+    let mut events = Vec::new(alloc);
+    let first = lines_of(alloc, first)?;
+    add_all(alloc, &mut events, first.as_slice())?;
+    let others = lines_of(alloc, others)?;
+    add_drawn(alloc, &mut events, others.as_slice())?;
+    Ok(events)
+}
+
+fn is_whole(passed: &Passed, told: &Told) -> bool {
+    passed.served.ended == End::Whole && is_told(passed.served.stamp, passed.out.as_slice(), told)
+}
+
+/// Whether an event is answered as told, over a connection if it is a request.
+fn is_alike<H: Storage>(alloc: Global, host: &mut H, event: &Event, told: &Told) -> bool
+    requires { Clean H.IsIntact H.IsOpen host.old → IsAtRest H.IsSound (H.seen host.old) }
+    ensures { Clean H.IsIntact H.IsOpen host.new → IsAtRest H.IsSound (H.seen host.new) }
+{
+    let Event::Http { reading, bytes } = event else {
+        let found = apply(alloc, host, event);
+        return is_told(found.stamp, found.reply.bytes(), told);
+    };
+    let asked = Asked {
+        reading: *reading,
+        bytes: bytes.as_slice(),
+    };
+    let passed = serve(alloc, host, asked, WHOLE);
+    is_whole(&passed, told)
+}
+
+/// How many events are answered as told, up to the first that isn't.
+fn all_alike<H: Storage>(alloc: Global, host: &mut H, events: &[Event], told: &[Told]) -> Count
+    requires { Clean H.IsIntact H.IsOpen host.old → IsAtRest H.IsSound (H.seen host.old) }
+{
+    let mut runs = 0u64;
+    let mut answers = told.iter();
+    for event in events {
+        let Some(told) = answers.next() else {
+            break;
+        };
+        if !is_alike(alloc, host, event, told) {
+            break;
+        }
+        runs = runs.saturating_add(1);
+    }
+    let is_well = runs == events.len() as u64;
+    Count { runs, is_well }
+}
+
+/// How many events a new host answers as told, up to the first that it doesn't, and the rows of its tables afterwards.
+fn served(alloc: Global, events: &[Event], told: &[Told]) -> Result<(Count, String), Fault> {
+    let connection = Connection::open_in_memory(alloc)?;
+    let (limits, tuning) = settings().ok_or(Fault::Form)?;
+    match create(connection, Sha256Digester, limits, tuning) {
+        Ok(host) => {
+            let mut storage = HostStorage { host };
+            let count = all_alike(alloc, &mut storage, events, told);
+            let rows = rows_of(alloc, &mut storage.host.connection)?;
+            Ok((count, rows))
+        }
+        Err(_) => Err(Fault::Memory),
+    }
+}
+
+/// Applies the events that are drawn from a table, and serves them.
+fn both_ways(alloc: Global, table: &str) -> Result<Count, Fault> {
+    let events = drawn(alloc, table)?;
+    let Ok(Some((told, mut connection))) = answers(alloc, Sha256Digester, events.as_slice()) else {
+        return Err(Fault::Memory);
+    };
+    let rows = rows_of(alloc, &mut connection)?;
+    let (count, others) = served(alloc, events.as_slice(), told.as_slice())?;
+    Ok(Count {
+        runs: count.runs,
+        is_well: count.is_well && rows.as_str() == others.as_str(),
+    })
+}
+
+/// Whether events that are drawn from a table are answered alike, applied and served.
+pub fn check(rt: &(impl Files + Print + Eprint + AllocGlobal), name: &str) -> io::Result<bool> {
+    let alloc = rt.alloc();
+    let table = fs::read_to_string(rt, format!(in alloc; "events/{name}.txt")?)?;
+    match both_ways(alloc, table.as_str()) {
+        Ok(count) => tell(rt, name, "served as applied", count),
+        Err(fault) => {
+            println!(rt; "{name} served as applied: {fault:?}")?;
+            Ok(false)
+        }
+    }
+}

@@ -1,0 +1,39 @@
+//! What a series of runs counts, and the events of a stored script.
+
+use bh_event::event::Event;
+use bh_host::Told;
+use bh_script::input::read_script;
+use bh_types::moment::Moment;
+use std::rt::Files;
+use std::{fs, io};
+
+/// How many runs were as they should be, and whether all were: the first that wasn't ends a series.
+#[derive(Clone, Copy, PartialEq, Eq)]
+pub struct Count {
+    pub runs: u64,
+    pub is_well: bool,
+}
+
+/// Whether an event's stamp and the bytes of its answer are as told: it was applied.
+pub fn is_told(stamp: Option<Moment>, bytes: &[u8], told: &Told) -> bool {
+    stamp.is_some() && stamp == told.stamp && bytes == told.reply.bytes()
+}
+
+/// The events of a stored script.
+pub fn events_of(rt: &(impl Files + AllocGlobal), name: &str) -> io::Result<Vec<Event>> {
+    let alloc = rt.alloc();
+    let text = fs::read_to_string(rt, format!(in alloc; "scripts/{name}.in")?)?;
+    Ok(read_script(alloc, text.as_bytes())?.events)
+}
+
+/// Tells whether the runs on a script were as they should be, and on standard error how many there were.
+pub fn tell(rt: &(impl Print + Eprint), name: &str, runs: &str, count: Count) -> io::Result<bool> {
+    let Count {
+        runs: number,
+        is_well,
+    } = count;
+    eprintln!(rt; "{name} {runs}: {number} times")?;
+    let told = if is_well { "as expected" } else { "otherwise" };
+    println!(rt; "{name} {runs}: {told}")?;
+    Ok(is_well)
+}

@@ -1,0 +1,39 @@
+//! One request over a connection in memory.
+
+ghost use Rattle.bh_storage.specs.Calls.{Clean, IsAtRest};
+
+use crate::ends::{Cut, Narrow, reader};
+use bh_connection::{Served, serve_connection};
+use bh_link::link::Link;
+use bh_storage::storage::Storage;
+use std::alloc::Global;
+
+/// The bytes of a request, at a reading of the clock.
+#[derive(Clone, Copy)]
+pub struct Asked<'a> {
+    pub reading: u64,
+    pub bytes: &'a [u8],
+}
+
+/// How a connection was served, what went out, and how many bytes stayed unread.
+#[derive(Drop)]
+pub struct Passed {
+    pub served: Served,
+    pub out: Vec<u8>,
+    pub unread: usize,
+}
+
+/// Serves a request over a connection that is cut so.
+pub fn serve<H: Storage>(alloc: Global, host: &mut H, asked: Asked<'_>, cut: Cut) -> Passed
+    requires { Clean H.IsIntact H.IsOpen host.old → IsAtRest H.IsSound (H.seen host.old) }
+    ensures { Clean H.IsIntact H.IsOpen host.new → IsAtRest H.IsSound (H.seen host.new) }
+{
+    let mut input = Link::new(reader(asked.bytes, cut.reads));
+    let mut output = Link::new(Narrow::new(alloc, cut));
+    let served = serve_connection(alloc, host, asked.reading, &mut input, &mut output);
+    Passed {
+        served,
+        out: output.into_inner().held,
+        unread: input.into_inner().into_inner().0.len(),
+    }
+}

@@ -1,0 +1,252 @@
+//! Stored scripts on a host in files of which one stops: at some call, and at each one after. Opened anew, the files show what
+//! stood before an event or after it, never between, and each event that was answered.
+
+ghost use Rattle.bh_storage.specs.Calls.{Clean, IsAtRest};
+
+use crate::answer::Fault;
+use crate::digest_runs::{answers, settings};
+use crate::disks::{Fused, fuse, images, is_blown, memory, options};
+use crate::dump::{rows_after, rows_of};
+use crate::series::{Count, events_of, is_told, tell};
+use bh_blocks::digester::Sha256Digester;
+use bh_create::create;
+use bh_dispatch::storage::HostStorage;
+use bh_event::event::Event;
+use bh_host::{Told, apply};
+use bh_open::{NoHost, open_host};
+use bh_storage::storage::Storage;
+use sqlite::{Connection, FileStore, Files};
+use sqlite_disk::{Fuse, Memory};
+use std::alloc::Global;
+use std::io;
+use std::rt::Files as System;
+
+/// The most calls after which a file is stopped.
+const MOST: u64 = 100_000;
+
+/// What events are answered, and the rows of the host's tables after none of them, one, and so on.
+#[derive(Drop)]
+struct Expected<'a> {
+    events: &'a [Event],
+    answers: Vec<Told>,
+    rows: Vec<String>,
+}
+
+/// How many events were answered, or none where there is no host, and what the files are left with.
+#[derive(Drop)]
+struct Stopped {
+    answered: Option<usize>,
+    files: Fused,
+}
+
+fn expect(alloc: Global, events: &[Event]) -> Result<Expected<'_>, Fault> {
+    let mut rows = Vec::new(alloc);
+    for count in 0..events.len() {
+        rows.push(rows_after(alloc, &events[..count])?)?;
+    }
+    rows.push(rows_after(alloc, events)?)?;
+    match answers(alloc, Sha256Digester, events) {
+        Ok(Some((answers, _))) => Ok(Expected {
+            events,
+            answers,
+            rows,
+        }),
+        _ => Err(Fault::Memory),
+    }
+}
+
+/// How many events are answered before the first that is told of trouble, if each is answered as expected.
+fn answered<H: Storage>(
+    alloc: Global,
+    host: &mut H,
+    expected: &Expected<'_>,
+) -> Result<usize, Fault>
+    requires { Clean H.IsIntact H.IsOpen host.old → IsAtRest H.IsSound (H.seen host.old) }
+{
+    let mut count = 0usize;
+    for event in expected.events {
+        let found = apply(alloc, host, event);
+        if found.reply.trouble().is_some() {
+            return Ok(count);
+        }
+        let told = expected.answers.get(count).ok_or(Fault::Form)?;
+        if !is_told(found.stamp, found.reply.bytes(), told) {
+            return Err(Fault::Form);
+        }
+        count = count.saturating_add(1);
+    }
+    Ok(count)
+}
+
+/// Makes a host, and applies the events until there is trouble.
+fn run_on(
+    alloc: Global,
+    connection: Connection<FileStore<Fuse<Memory>>>,
+    expected: &Expected<'_>,
+) -> Result<Stopped, Fault> {
+    let (limits, tuning) = settings().ok_or(Fault::Form)?;
+    match create(connection, Sha256Digester, limits, tuning) {
+        Ok(host) => {
+            let mut storage = HostStorage { host };
+            let answered = Some(answered(alloc, &mut storage, expected)?);
+            let files = storage.host.into_connection().into_store().close();
+            Ok(Stopped { answered, files })
+        }
+        Err(error) => {
+            let files = error.connection.into_store().close();
+            Ok(Stopped {
+                answered: None,
+                files,
+            })
+        }
+    }
+}
+
+/// A run on new files that stop after so many calls each.
+fn run_until(alloc: Global, expected: &Expected<'_>, log: u64, db: u64) -> Result<Stopped, Fault> {
+    let files = Files {
+        log: fuse(alloc, log),
+        db: fuse(alloc, db),
+    };
+    match Connection::open_files_with(alloc, files, options(), true) {
+        Ok(connection) => run_on(alloc, connection, expected),
+        Err((_, left)) => {
+            let files = left.into_files();
+            Ok(Stopped {
+                answered: None,
+                files,
+            })
+        }
+    }
+}
+
+/// The rows of the host that files hold; none where they hold no table.
+fn found(alloc: Global, log: &[u8], db: &[u8]) -> Result<Option<String>, Fault> {
+    let files = Files {
+        log: memory(alloc, log)?,
+        db: memory(alloc, db)?,
+    };
+    match Connection::open_files_with(alloc, files, options(), true) {
+        Ok(connection) => rows_found(alloc, connection),
+        Err(_) => Err(Fault::Form),
+    }
+}
+
+fn rows_found(
+    alloc: Global,
+    connection: Connection<FileStore<Memory>>,
+) -> Result<Option<String>, Fault> {
+    let (_, tuning) = settings().ok_or(Fault::Form)?;
+    match open_host(alloc, connection, Sha256Digester, tuning) {
+        Ok(opened) => {
+            let mut connection = opened.host.into_connection();
+            Ok(Some(rows_of(alloc, &mut connection)?))
+        }
+        Err(error) => match error.why {
+            Some(NoHost::NoTable) => Ok(None),
+            _ => Err(Fault::Form),
+        },
+    }
+}
+
+fn is_at(rows: &[String], count: usize, found: &str) -> bool {
+    match rows.get(count) {
+        Some(rows) => rows.as_str() == found,
+        None => false,
+    }
+}
+
+/// Whether what is found stood after the events that were answered, or after one more; before and after a host was made.
+fn is_left(found: Option<&str>, answered: Option<usize>, rows: &[String]) -> bool {
+    match (found, answered) {
+        (Some(found), Some(count)) => {
+            is_at(rows, count, found) || is_at(rows, count.saturating_add(1), found)
+        }
+        (Some(found), None) => is_at(rows, 0, found),
+        (None, answered) => answered.is_none(),
+    }
+}
+
+/// Whether the host is found as it should be in this log with each of these database files.
+fn is_found(
+    alloc: Global,
+    log: &[u8],
+    dbs: &[Vec<u8>],
+    answered: Option<usize>,
+    rows: &[String],
+) -> Result<bool, Fault> {
+    for db in dbs {
+        let found = found(alloc, log, db.as_slice())?;
+        if !is_left(found.as_deref(), answered, rows) {
+            return Ok(false);
+        }
+    }
+    Ok(true)
+}
+
+/// Whether the host is found as it should be in whatever the files may be left with.
+fn comes_back(alloc: Global, stopped: Stopped, rows: &[String]) -> Result<bool, Fault> {
+    let Stopped {
+        answered,
+        mut files,
+    } = stopped;
+    let logs = images(alloc, &mut files.log)?;
+    let dbs = images(alloc, &mut files.db)?;
+    for log in logs.iter() {
+        if !is_found(alloc, log.as_slice(), dbs.as_slice(), answered, rows)? {
+            return Ok(false);
+        }
+    }
+    Ok(true)
+}
+
+/// A run on files that stop after so many calls each: whether one has stopped, and whether all is as it should be.
+fn stop(alloc: Global, expected: &Expected<'_>, log: u64, db: u64) -> Result<(bool, bool), Fault> {
+    let mut stopped = run_until(alloc, expected, log, db)?;
+    let is_stopped = is_blown(&mut stopped.files.log) || is_blown(&mut stopped.files.db);
+    let is_done = stopped.answered == Some(expected.events.len());
+    let is_well = comes_back(alloc, stopped, expected.rows.as_slice())?;
+    Ok((is_stopped, is_well && (is_stopped || is_done)))
+}
+
+/// Stops the log, or the database file, at each call of a run.
+fn stops(alloc: Global, expected: &Expected<'_>, is_log: bool) -> Result<Count, Fault> {
+    for runs in 0..MOST {
+        let (log, db) = if is_log {
+            (runs, u64::MAX)
+        } else {
+            (u64::MAX, runs)
+        };
+        let (is_stopped, is_well) = stop(alloc, expected, log, db)?;
+        if !is_stopped || !is_well {
+            return Ok(Count { runs, is_well });
+        }
+    }
+    Err(Fault::Form)
+}
+
+/// Stops the log at each call of a run, and then the database file.
+fn all_stops(alloc: Global, events: &[Event]) -> Result<Count, Fault> {
+    let expected = expect(alloc, events)?;
+    let log = stops(alloc, &expected, true)?;
+    if !log.is_well {
+        return Ok(log);
+    }
+    let db = stops(alloc, &expected, false)?;
+    Ok(Count {
+        runs: log.runs.saturating_add(db.runs),
+        is_well: db.is_well,
+    })
+}
+
+/// Whether a stored script leaves what it should wherever one of its host's files stops.
+pub fn check(rt: &(impl System + Print + Eprint + AllocGlobal), name: &str) -> io::Result<bool> {
+    let events = events_of(rt, name)?;
+    match all_stops(rt.alloc(), events.as_slice()) {
+        Ok(count) => tell(rt, name, "stopped at each call", count),
+        Err(fault) => {
+            println!(rt; "{name} stopped at each call: {fault:?}")?;
+            Ok(false)
+        }
+    }
+}
