@@ -5,8 +5,8 @@ ghost use Rattle.bh_storage.specs.Calls.{Clean, IsAtRest};
 
 use crate::answer::Fault;
 use crate::digest_runs::{answers, settings};
-use crate::ends::WHOLE;
 use crate::dump::rows_of;
+use crate::ends::WHOLE;
 use crate::series::{Count, is_told, tell};
 use crate::served::{Asked, Passed, serve};
 use bh_blocks::digester::Sha256Digester;

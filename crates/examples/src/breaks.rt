@@ -4,8 +4,8 @@ ghost use Rattle.bh_storage.specs.Calls.{Clean, IsAtRest};
 
 use crate::answer::Fault;
 use crate::digest_runs::settings;
-use crate::ends::{Cut, WHOLE};
 use crate::dump::{rows_after, rows_of};
+use crate::ends::{Cut, WHOLE};
 use crate::series::{Count, events_of, tell};
 use crate::served::{Asked, Passed, serve};
 use bh_blocks::digester::Sha256Digester;
