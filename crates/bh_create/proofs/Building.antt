@@ -6,7 +6,7 @@ use Rattle.bh_types.specs.Limits.{HostLimits, AreLimits}
 use Rattle.bh_types.specs.declared.block_digest.BlockDigest.{BlockDigest}
 use Rattle.bh_model.specs.QuotaLaws.{IsBounded}
 use Rattle.bh_model.specs.State.{Octets}
-use Rattle.bh_tables.specs.Schema.{no_schema, host_schema}
+use Rattle.bh_tables.specs.Schema.{no_schema}
 use Rattle.bh_tables.specs.Made.{with_uses_by_count}
 use Rattle.bh_tables.specs.Typed.{Tables, no_rows, tables_in}
 use Rattle.bh_tables.specs.Hosts.{tables_shown}
@@ -20,6 +20,7 @@ use Rattle.bh_view.specs.Sound.{IsSound}
 use Rattle.bh_view.specs.View.{view}
 use Rattle.bh_view.proofs.HostChanges.{created as host_created}
 use Rattle.sqlite.specs.Schema.{Schema}
+use Rattle.sqlite.specs.Effect.{IsDatabase}
 use Rattle.sqlite.specs.Table.{Table}
 use Rattle.sqlite.specs.Change.{created, indexed}
 use Rattle.sqlite.specs.State.{State, HasCleanDisk, Survives, Executes, CommitsBy}
@@ -34,6 +35,7 @@ use Rattle.sqlite_schema.specs.declared.schema.Index.{Index}
 use Rattle.bh_schema.specs.Layer.{Standing, standing, IsIntact, IsOpen, IsStateClean, Leaves, IsInside, Holds, begun, committed}
 use Rattle.bh_schema.specs.Storage.{seen_in, left_in}
 use Rattle.bh_schema.proofs.Storing.{follows_then}
+use Rattle.bh_schema.proofs.Committing.{same_database}
 use Rattle.bh_schema.proofs.TurnLemmas.{follows}
 use Rattle.bh_create.specs.Creation.{IsEmpty, IsNewHost, IsMaking, Keeps, Makes}
 
@@ -133,13 +135,11 @@ new_sound digest tables min_part max_body number is sound vacant =
     record { sound = sound; bodies = it.0; digests = it.1; bounded = λ t. subst IsBounded (sym (vacant t)) tt }
 
 -- and committed
-pub stands : (old new : State) (min_part max_body number : ℕ) (named : BlockDigest) → AreLimits min_part max_body → number ≤ 1 → number ≡ digest_number named → Holds (new_host min_part max_body number) (standing old) → standing new ≡ committed (standing old)
-    → ((db : Trees) → Leaves new db → db ≡ (standing new).kept.trees) → IsNewHost (record { min_part = min_part; max_body = max_body }) named new
+pub stands : (old new : State) (min_part max_body number : ℕ) (named : BlockDigest) → AreLimits min_part max_body → number ≤ 1 → number ≡ digest_number named → Holds (new_host min_part max_body number) (standing old) → IsDatabase (standing old).now
+    → standing new ≡ committed (standing old) → ((db : Trees) → Leaves new db → db ≡ (standing new).kept.trees) → IsNewHost (record { min_part = min_part; max_body = max_body }) named new
 unfolding seen_in left_in
-stands old new min_part max_body number named good known same it is settled =
+stands old new min_part max_body number named good known same it stood is settled =
     let limits : HostLimits = record { min_part = min_part; max_body = max_body } in
-    let trees = (standing old).now.trees in
-    let host = ap (λ (s : Schema). tables_shown (record { schema = s; trees = trees })) (sym it.within.host.schema) in
     let shows = host_shows (standing old).now it.within.host ∙ it.is in
     let now : (seen_in limits new).now ≡ new_host min_part max_body number = ap (λ (x : Standing). tables_shown x.now) is ∙ shows in
     let kept : (seen_in limits new).kept ≡ new_host min_part max_body number = ap (λ (x : Standing). tables_shown x.kept) is ∙ shows in
@@ -149,5 +149,5 @@ stands old new min_part max_body number named good known same it is settled =
       tables = now ∙ ap (new_host min_part max_body) same;
       latest = made.1;
       vacant = made.2;
-      left = λ x its. its.2 ∙ ap (λ (t : Trees). tables_shown (record { schema = host_schema; trees = t })) (settled its.0 its.1 ∙ ap (λ (y : Standing). y.kept.trees) is) ∙ host ∙ shows ∙ ap (new_host min_part max_body) same;
+      left = λ x its. its.3 ∙ ap tables_shown (same_database its.0 (standing old).now its.2 stood (settled its.0.trees its.1 ∙ ap (λ (y : Standing). y.kept.trees) is)) ∙ shows ∙ ap (new_host min_part max_body) same;
     }

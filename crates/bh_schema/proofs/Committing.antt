@@ -1,22 +1,23 @@
 -- BEGIN, COMMIT and ROLLBACK, in the words of a host's storage.
 use Rattle.std.proofs.Common.{◌≡◌, ◌⊎◌, inl, inr, Result, Ok, Err, OnErr, IsTrue, refl, sym, ap, ◌∙◌, subst}
 use Rattle.std.specs.Result.{IsErrAnd}
-use Rattle.sqlite.specs.Schema.{Schema}
 use Rattle.sqlite.specs.Tree.{Trees}
-use Rattle.sqlite.specs.Effect.{Database}
+use Rattle.sqlite.specs.Effect.{Database, IsDatabase}
 use Rattle.sqlite.specs.Held.{Held, state}
 use Rattle.sqlite.specs.State.{State}
+use Rattle.sqlite_trees.specs.Objects.{catalog_tree}
 use Rattle.sqlite_trees.specs.declared.store.Store.{Ghosts}
+use Rattle.sqlite_catalog.specs.Listing.{Lists}
+use Rattle.sqlite_catalog.proofs.ReadLemmas.{lists_once}
 use Rattle.bh_types.specs.Limits.{HostLimits}
 use Rattle.bh_model.specs.State.{Octets}
-use Rattle.bh_tables.specs.Schema.{host_schema}
-use Rattle.bh_tables.specs.Typed.{Tables, IsHost}
+use Rattle.bh_tables.specs.Typed.{Tables}
 use Rattle.bh_tables.specs.Hosts.{tables_shown}
 use Rattle.bh_view.specs.Bodies.{IsSoundHost}
 use Rattle.bh_storage.specs.Calls.{IsAtRest, IsWorking, Commits, TakesBack}
 use Rattle.bh_schema.specs.Layer.{Standing, standing, IsOpen, Leaves, begun, committed, taken_back, Unwinds}
 use Rattle.bh_schema.specs.Storage.{shown, seen_in, left_in}
-use Rattle.bh_schema.proofs.Storing.{sound_host, left_kept}
+use Rattle.bh_schema.proofs.Storing.{left_kept}
 
 -- what a `?` hands on after an error
 pub fails_on : {X E : Type 0} (r : Result X E) (P : Type 0) → P → OnErr r P
@@ -53,26 +54,28 @@ module _ (l : HostLimits) (old new : State) where
 
 -- ---- crashes
 
--- the trees of a host's database show its tables
-trees_show : (db : Database) → IsHost db → tables_shown (record { schema = host_schema; trees = db.trees }) ≡ tables_shown db
-trees_show db host = ap (λ (s : Schema). tables_shown (record { schema = s; trees = db.trees })) (sym host.schema)
+-- a database's trees list its schema, so that they are no other's
+pub same_database : (a b : Database) → IsDatabase a → IsDatabase b → a.trees ≡ b.trees → a ≡ b
+same_database a b one two same =
+    let lists : Lists (a.trees catalog_tree) b.schema = subst (λ (t : Trees). Lists (t catalog_tree) b.schema) (sym same) two.lists in
+    let schema : a.schema ≡ b.schema = lists_once (a.trees catalog_tree) a.schema b.schema one.lists lists in
+    λ i. record { schema = schema i; trees = same i }
 
--- what the trees show that a crash leaves
-left_shows : {digest : Octets → Octets} (l : HostLimits) (s : State) → IsWorking (IsSoundHost digest) (seen_in l s) → (db : Trees) → db ≡ (standing s).now.trees → tables_shown (record { schema = host_schema; trees = db }) ≡ (seen_in l s).now
+-- of these trees a crash leaves the tables of the database that stood
+left_shows : (l : HostLimits) (s : State) (x : Tables) (db : Database) → IsDatabase (standing s).now → IsDatabase db → x ≡ tables_shown db → db.trees ≡ (standing s).now.trees → x ≡ (seen_in l s).now
 unfolding seen_in
-left_shows l s working db is =
-    ap (λ (t : Trees). tables_shown (record { schema = host_schema; trees = t })) is ∙ trees_show (standing s).now (sound_host (standing s).now working.sound.sound)
+left_shows l s x db stood is shows same = shows ∙ ap tables_shown (same_database db (standing s).now is stood same)
 
-pub commit_stands : {S : Type 0} {digest : Octets → Octets} (g : Ghosts S) (settles : (s : S) (db : Trees) → IsTrue (g.view s).is_open → g.recovers s db → db ≡ (g.view s).committed) (l : HostLimits)
-    (old new : Held S) → IsOpen (state g new) → IsWorking (IsSoundHost digest) (seen_in l (state g old)) → standing (state g new) ≡ committed (standing (state g old)) → (x : Tables) → left_in (state g new) x → x ≡ (seen_in l (state g old)).now
+pub commit_stands : {S : Type 0} (g : Ghosts S) (settles : (s : S) (db : Trees) → IsTrue (g.view s).is_open → g.recovers s db → db ≡ (g.view s).committed) (l : HostLimits)
+    (old new : Held S) → IsOpen (state g new) → IsDatabase (standing (state g old)).now → standing (state g new) ≡ committed (standing (state g old)) → (x : Tables) → left_in (state g new) x → x ≡ (seen_in l (state g old)).now
 unfolding left_in
-commit_stands g settles l old new up working is x it =
-    it.2 ∙ left_shows _ (state g old) working it.0 (left_kept g settles new up it.0 it.1 ∙ ap (λ (y : Standing). y.kept.trees) is)
+commit_stands g settles l old new up stood is x it =
+    left_shows l (state g old) x it.0 stood it.2 it.3 (left_kept g settles new up it.0.trees it.1 ∙ ap (λ (y : Standing). y.kept.trees) is)
 
-pub commit_crashes : {digest : Octets → Octets} (l : HostLimits) (old new : State) → IsWorking (IsSoundHost digest) (seen_in l old) → ((db : Trees) → Leaves new db → Leaves old db ⊎ (db ≡ (standing old).now.trees))
+pub commit_crashes : (l : HostLimits) (old new : State) → IsDatabase (standing old).now → ((db : Trees) → Leaves new db → Leaves old db ⊎ (db ≡ (standing old).now.trees))
     → (x : Tables) → left_in new x → left_in old x ⊎ (x ≡ (seen_in l old).now)
 unfolding left_in
-commit_crashes l old new working leaves x it = elim (leaves it.0 it.1) [
-  | inl was ↦ inl (it.0, was, it.2)
-  | inr is ↦ inr (it.2 ∙ left_shows _ old working it.0 is)
+commit_crashes l old new stood leaves x it = elim (leaves it.0.trees it.1) [
+  | inl was ↦ inl (it.0, was, it.2, it.3)
+  | inr same ↦ inr (left_shows l old x it.0 stood it.2 it.3 same)
 ]

@@ -101,7 +101,7 @@ left_kept g settles h up db left = settles h.store db up left
 
 pub left_less : (old new : State) → ((db : Trees) → Leaves new db → Leaves old db) → (x : Tables) → left_in new x → left_in old x
 unfolding left_in
-left_less old new leaves x it = (it.0, leaves it.0 it.1, it.2)
+left_less old new leaves x it = (it.0, leaves it.0.trees it.1, it.2, it.3)
 
 kept_seen : (l m : HostLimits) (old new : State) → (standing new).kept ≡ (standing old).kept → (seen_in l new).kept ≡ (seen_in m old).kept
 unfolding seen_in

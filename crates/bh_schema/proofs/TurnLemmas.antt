@@ -2,10 +2,10 @@
 use Rattle.std.proofs.Common.{◌≡◌, ◌⊎◌, inl, inr, ℕ, List, [], Bool, true, false, IsTrue, Ok, Err, Result, OnOk, OnErr, IfErr, refl, sym, ap, ◌∙◌, true≢false, subst, not}
 use Rattle.std.proofs.lemmas.Bool.{cases_Bool}
 use Rattle.sqlite.specs.Tree.{Trees}
-use Rattle.sqlite.specs.Effect.{Database}
+use Rattle.sqlite.specs.Effect.{Database, IsDatabase}
 use Rattle.sqlite.specs.Command.{Command}
 use Rattle.sqlite.specs.Command.TheVariants.{Begin, Commit, Rollback}
-use Rattle.sqlite.specs.State.{State, HasCleanDisk, IsUnchanged, IsRolledBack, Survives, Executes, CommitsBy, Shows}
+use Rattle.sqlite.specs.State.{State, HasCleanDisk, IsLive, IsUnchanged, IsRolledBack, Survives, Executes, CommitsBy, Shows}
 use Rattle.sqlite.specs.declared.error.Error.{Error}
 use Rattle.sqlite.proofs.Callers.{runs_as}
 use Rattle.bh_rows.specs.Means.{Means, is_trouble, IsUndone}
@@ -13,6 +13,13 @@ use Rattle.bh_rows.proofs.CallLemmas.{clean_before, executes_undone}
 use Rattle.bh_rows.proofs.CrashLemmas.{turn_leaves as commits_nothing}
 use Rattle.bh_rows.proofs.TransactionLemmas.{turn_undone, turn_up, begin_trouble, commit_trouble, rollback_fails, commits_now}
 use Rattle.bh_schema.specs.Layer.{Standing, standing, IsIntact, IsOpen, IsStateClean, Leaves, begun, committed, taken_back, KeepsDisk, LeavesNothingNew, IsStandingSettled, StateWithin, Unwinds}
+
+-- ---- an open connection
+
+-- what stands lists its own schema
+pub stood : (s : State) → IsLive s → IsOpen s → IsDatabase (standing s).now
+unfolding standing IsOpen
+stood s live up = (live up).0
 
 -- ---- any call
 

@@ -1,12 +1,11 @@
 -- A host's connection, in the words of a host's storage.
 use Rattle.std.specs.Prelude.{◌≡◌}
-use Rattle.sqlite.specs.Tree.{Trees}
 use Rattle.sqlite_trees.specs.declared.store.Store.{Ghosts}
+use Rattle.sqlite.specs.Effect.{Database, IsDatabase}
 use Rattle.sqlite.specs.Held.{state}
 use Rattle.sqlite.specs.State.{State}
 use Rattle.bh_types.specs.Limits.{HostLimits}
 use Rattle.bh_model.specs.State.{Octets}
-use Rattle.bh_tables.specs.Schema.{host_schema}
 use Rattle.bh_tables.specs.Typed.{Tables}
 use Rattle.bh_tables.specs.Hosts.{tables_shown}
 use Rattle.bh_view.specs.Bodies.{IsSoundHost}
@@ -22,9 +21,9 @@ shown limits x = record { now = tables_shown x.now; kept = tables_shown x.kept; 
 unfoldable pub seen_in : HostLimits → State → Seen
 seen_in limits s = shown limits (standing s)
 
--- the tables that a crash may leave
+-- the tables that a crash may leave: those of a database whose trees list its schema, so that no other has these trees
 unfoldable pub left_in : State → Tables → Type 0
-left_in s x = (db : Trees) × Leaves s db × (x ≡ tables_shown (record { schema = host_schema; trees = db }))
+left_in s x = (db : Database) × Leaves s db.trees × IsDatabase db × (x ≡ tables_shown db)
 
 -- ---- a host, as its connection shows it
 

@@ -1,8 +1,9 @@
 ghost use Rattle.std.specs.Prelude.{◌≡◌, ◌⊎◌, true, false, IfErr, OnOk, OnErr};
+ghost use Rattle.sqlite.specs.Effect.{IsDatabase};
 ghost use Rattle.sqlite.specs.Tree.{Trees};
 ghost use Rattle.sqlite.specs.Held.{state};
 ghost use Rattle.bh_rows.specs.Means.{is_trouble};
-ghost use Rattle.bh_schema.specs.Connections.{IsIntact, IsClean, stands, StaysWithin, WasOpen};
+ghost use Rattle.bh_schema.specs.Connections.{IsIntact, IsOpen, IsClean, stands, StaysWithin, WasOpen};
 ghost use Rattle.bh_schema.specs.Layer.{Leaves, begun, committed, taken_back, KeepsDisk, LeavesNothingNew, Unwinds};
 
 use sqlite::{Alter, Connection, Error};
@@ -34,7 +35,10 @@ pub fn commit<S: Alter>(connection: &mut Connection<S>) -> Result<usize, Error>
         → Leaves (state S.Store connection.old) db ⊎ (db ≡ (stands S.Store connection.old).now.trees) }
     ensures trouble { IfErr result (λ e. IsIntact S.Store connection.new
         → (IsClean S.Store connection.old → (stands S.Store connection.old).inside ≡ true) → is_trouble e ≡ true) }
+    ensures live { IsOpen S.Store connection.old → IsDatabase (stands S.Store connection.old).now }
 {
+    // Asked for what it ensures: what stands is a database, whose trees list its schema.
+    let _schema = connection.schema();
     connection.execute("COMMIT", &[])
 }
 

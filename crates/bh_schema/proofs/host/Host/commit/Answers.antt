@@ -10,7 +10,7 @@ pub returns-clause-survives : goal.returns-clause-survives
 returns-clause-survives g c intact =
     let opens = on_ok _ c.in_ok-or_trouble.ensures.ok c.commit.ensures.opens intact in
     commit_stands g.S.Store g.met.S.Store.settled _ c.args.self.now.connection c.commit.new.connection opens.1
-    (c.requires (c.commit.ensures.follows.intact intact, opens.0)) (on_ok _ c.in_ok-or_trouble.ensures.ok c.commit.ensures.commits intact)
+    (c.commit.ensures.live opens.0) (on_ok _ c.in_ok-or_trouble.ensures.ok c.commit.ensures.commits intact)
 
 pub returns-clause-done : goal.returns-clause-done
 returns-clause-done g c intact = commit_shows _ (state g.S.Store c.args.self.now.connection) (state g.S.Store c.commit.new.connection) (on_ok _ c.in_ok-or_trouble.ensures.ok c.commit.ensures.commits intact)
@@ -28,7 +28,7 @@ pub returns-in_err-or_trouble-clause-crash : goal.returns-in_err-or_trouble-clau
 returns-in_err-or_trouble-clause-crash g c = fails_on c.from_residual.result _ (λ up intact.
     let old = state g.S.Store c.args.self.now.connection in
     let working = c.requires (c.commit.ensures.follows.intact intact, up) in
-    commit_crashes _ old (state g.S.Store c.commit.new.connection) working (c.commit.ensures.survives intact (inside_of _ old working).inside))
+    commit_crashes _ old (state g.S.Store c.commit.new.connection) (c.commit.ensures.live up) (c.commit.ensures.survives intact (inside_of _ old working).inside))
 
 pub returns-in_err-or_trouble-clause-kept : goal.returns-in_err-or_trouble-clause-kept
 returns-in_err-or_trouble-clause-kept g c = fails_on c.from_residual.result _ (λ clean.

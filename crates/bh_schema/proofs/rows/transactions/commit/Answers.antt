@@ -1,6 +1,6 @@
 use Rattle.sqlite.specs.Held.{state}
 use Rattle.bh_tables.proofs.Transactions.{commit_means}
-use Rattle.bh_schema.proofs.TurnLemmas.{commit_opens, commit_commits, commit_fails, commit_leaves, turn_follows, turn_fails}
+use Rattle.bh_schema.proofs.TurnLemmas.{commit_opens, commit_commits, commit_fails, commit_leaves, turn_follows, turn_fails, stood}
 use Rattle.bh_schema.proofs.rows.transactions.commit.Goals as goal
 
 pub returns-clause-opens : goal.returns-clause-opens
@@ -26,3 +26,6 @@ pub returns-clause-trouble : goal.returns-clause-trouble
 returns-clause-trouble g c =
     let old = state g.S.Store c.args.connection.now in
     commit_fails _ old (state g.S.Store c.execute.new.self) c.execute.result c.execute.ensures.runs c.execute.ensures.survives (commit_means old.now.schema)
+
+pub returns-clause-live : goal.returns-clause-live
+returns-clause-live g c = stood (state g.S.Store c.args.connection.now) c.schema.ensures.live
