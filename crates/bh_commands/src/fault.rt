@@ -21,6 +21,11 @@ pub enum Fault {
 }
 
 impl Fault {
+    /// Whether the words are at fault, as those that the command line refuses are.
+    pub fn is_in_words(&self) -> bool {
+        matches!(self, Fault::UnknownDigest)
+    }
+
     /// That the file of a path isn't opened.
     pub(crate) fn unopened(alloc: Global, path: &str, reason: OpenFault) -> Fault {
         match String::from_str(alloc, path) {
@@ -58,7 +63,9 @@ impl fmt::Display for Fault {
             Fault::Unopened { path, reason } => write!(f, "unable to open {path}: {reason}"),
             Fault::System(error) => write!(f, "{error}"),
             Fault::LongInput => f.write_str("standard input is too long"),
-            Fault::UnknownDigest => f.write_str("--digest is sha256 or fast"),
+            Fault::UnknownDigest => f.write_str(
+                "error: invalid value for '--digest <digest>'\n  [possible values: sha256, fast]\n\nFor more information, try '--help'.\n",
+            ),
             Fault::Output => f.write_str("standard output can't be written"),
         }
     }

@@ -5,11 +5,17 @@ use bh_commands::{Fault, Printed, carry_out};
 use bh_words::read_words;
 use std::io::Write;
 use std::process::ExitCode;
-use std::{env, io};
+use std::{env, fmt, io};
 
 fn end(rt: &impl Print, printed: &Printed) -> io::Result<ExitCode> {
     io::writer(rt).write_all(printed.text.as_slice())?;
     Ok(ExitCode::from(printed.status))
+}
+
+/// Ends with status 2, as words do that can't be read.
+fn end_misread(rt: &impl Print, fault: &impl fmt::Display) -> io::Result<ExitCode> {
+    print!(rt; "{fault}")?;
+    Ok(ExitCode::from(2))
 }
 
 /// Ends with status 1, and says why on standard error.
@@ -24,14 +30,15 @@ fn main(rt: HostRuntime) -> io::Result<ExitCode> {
     let line = match read_words(rt.alloc(), words.as_slice()) {
         Ok(line) => line,
         Err(fault) if fault.is_memory() => return end_fault(&rt, &Fault::Memory),
-        Err(fault) => {
-            print!(rt; "{fault}")?;
-            let status = if fault.is_version() { 0 } else { 2 };
-            return Ok(ExitCode::from(status));
+        Err(version) if version.is_version() => {
+            print!(rt; "{version}")?;
+            return Ok(ExitCode::SUCCESS);
         }
+        Err(fault) => return end_misread(&rt, &fault),
     };
     match carry_out(&rt, line) {
         Ok(printed) => end(&rt, &printed),
+        Err(fault) if fault.is_in_words() => end_misread(&rt, &fault),
         Err(fault) => end_fault(&rt, &fault),
     }
 }

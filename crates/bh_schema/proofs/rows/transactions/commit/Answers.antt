@@ -28,4 +28,4 @@ returns-clause-trouble g c =
     commit_fails _ old (state g.S.Store c.execute.new.self) c.execute.result c.execute.ensures.runs c.execute.ensures.survives (commit_means old.now.schema)
 
 pub returns-clause-live : goal.returns-clause-live
-returns-clause-live g c = stood (state g.S.Store c.args.connection.now) c.schema.ensures.live
+returns-clause-live g c = stood (state g.S.Store c.args.connection.now) c.schema-schema.ensures.live
