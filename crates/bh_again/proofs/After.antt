@@ -36,9 +36,10 @@ module _ {D G : Type 0} {g : Ghosts D} (digest : Octets → Octets) (event : Arr
 
     leaves : (stamp : Option ℕ) → HasApplied digest event stamp reply old new → IsLeftBy event stamp reply old new (seen_again opened).now
     leaves None applied =
-        let Before : Tables → Type 0 = λ x. left over_files old x ⊎ (IsOpen over_files old × WouldApply event (seen over_files old).now x) in
-        (λ up. (open_again applied up).tables ∙ (applied.applied (again.intact clean) up).1,
-        ∥∥₁_map (again.merely clean) (λ it. subst Before (sym it.2.tables) (applied.crash (again.intact clean) it.0 it.1)))
+        let Before : Tables → Type 0 = λ x. left over_files old x ⊎ (IsOpen over_files old × WouldApply event (seen over_files old).now x) in (
+          λ up. (open_again applied up).tables ∙ (applied.applied (again.intact clean) up).1,
+          ∥∥₁_map (again.merely clean) (λ it. subst Before (sym it.2.tables) (applied.crash (again.intact clean) it.0 it.1)),
+        )
     leaves (Some m) applied =
         let did = applied.applied (again.intact clean) in
         subst (λ (x : Tables). Applied event (seen over_files old).now x (Some m) reply) (sym (open_again applied did.1).tables) did.2

@@ -94,11 +94,13 @@ hosts_database digest db sound =
     let host = sound_host db sound.sound in
     let it = sound.sound.host in
     let there : (tables_in db).host ≡ it.row ∷ [] = ap (λ (t : Tables). t.host) (sym (host_shows db host)) ∙ it.alone in
-    let by = named_by it.row.digest it.good.digest in
-    (record { min_part = it.row.min_part; max_body = it.row.max_body }, record {
-      host = host;
-      row = record { row = it.row; alone = there; version = it.good.version; range = it.good.limits; limits_are = refl; named = by.0; number = by.1 };
-    })
+    let by = named_by it.row.digest it.good.digest in (
+      record { min_part = it.row.min_part; max_body = it.row.max_body },
+      record {
+        host = host;
+        row = record { row = it.row; alone = there; version = it.good.version; range = it.good.limits; limits_are = refl; named = by.0; number = by.1 };
+      },
+    )
 
 -- so they aren't refused as none
 pub never_none : (digest : Octets → Octets) (old mid : State) → ∥ old.may_leave mid.committed.trees ∥₁ → Opens mid × IsLive mid → ((x : Tables) → left_in old x → IsSoundHost digest x)
