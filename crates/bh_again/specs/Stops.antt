@@ -1,5 +1,5 @@
 -- What a stop leaves to the next open, and what an event leaves over a stop.
-use Rattle.std.specs.Prelude.{◌≡◌, ◌≢◌, ◌⊎◌, ℕ, List, Option, Some, None, IfNone}
+use Rattle.std.specs.Prelude.{◌≡◌, ◌≢◌, ◌⊎◌, Some, None}
 use Rattle.sqlite_disk.specs.declared.Disk.{Ghosts}
 use Rattle.sqlite_store.specs.declared.store.FileStore.{FileStore}
 use Rattle.sqlite.specs.Files.{over_files, file_state}
@@ -16,7 +16,9 @@ use Rattle.bh_schema.specs.declared.host.Host.{Host}
 use Rattle.bh_schema.specs.Storage.{seen_in, IsIntact, IsOpen, IsClean, seen, left}
 use Rattle.bh_open.specs.Opening.{digest_in}
 use Rattle.bh_open.specs.declared.open.Opened.{Opened}
-use Rattle.bh_host.specs.Turns.{Applied, AppliedTo, WouldApply}
+use Rattle.bh_host.specs.Runs.{Told}
+use Rattle.bh_host.specs.Turns.{Applied, WouldApply}
+use Rattle.bh_connection.specs.Connections.{IsApplied}
 use Rattle.bh_again.specs.declared.hosts.ReopenError.{ReopenError}
 use Rattle.bh_again.specs.declared.hosts.ReopenError.TheVariants as reopen
 
@@ -54,36 +56,38 @@ module _ {D : Type 0} {g : Ghosts D} where
       pub came_back : IsCleanAgain opened → IsOpen over_files host → CameBack (seen over_files host).kept opened
       pub merely : IsCleanAgain opened → ∥ ((x : Tables) × left over_files host x × CameBack x opened) ∥₁
 
-    -- what `bh_host::apply` promises of an event, as far as it is spoken of here
-    pub record HasApplied (digest : Octets → Octets) (event : Arrival) (stamp : Option ℕ) (reply : List ℕ) (old new : Host (FileStore D g) G) : Type 0 where
-      pub ready : IsClean over_files new → IsAtRest (IsSoundHost digest) (seen over_files new)
-      pub applied : IsIntact over_files new → AppliedTo (IsOpen over_files) (seen over_files) event old new stamp reply
-      pub crash : IfNone stamp (IsIntact over_files new → (x : Tables) → left over_files new x
-          → left over_files old x ⊎ (IsOpen over_files old × WouldApply event (seen over_files old).now x))
-      pub leaves : IsIntact over_files new → LeavesSound (IsSoundHost digest) (left over_files) old new
+    -- ---- an event before it
 
-    -- ---- an event, a stop and an open
+    -- an event was applied: what `bh_host::apply` promises of it, and of one that came over a connection `serve_connection`
+    abbrev pub HasApplied : Arrival → Told → Host (FileStore D g) G → Host (FileStore D g) G → Type 0
+    HasApplied = IsApplied (IsIntact over_files) (IsOpen over_files) (seen over_files) (left over_files)
 
-    -- with a stamp: what the event did. Without: what stood before it, where no fault has shut the store, and else what a
-    -- crash might have left before, or what the commit would have given
-    abbrev pub IsLeftBy : Arrival → Option ℕ → List ℕ → Host (FileStore D g) G → Host (FileStore D g) G → Tables → Type 0
-    IsLeftBy event None reply old new x =
+    abbrev pub IsReady : (Octets → Octets) → Host (FileStore D g) G → Type 0
+    IsReady digest host = IsClean over_files host → IsAtRest (IsSoundHost digest) (seen over_files host)
+
+    abbrev pub AddsSound : (Octets → Octets) → Host (FileStore D g) G → Host (FileStore D g) G → Type 0
+    AddsSound digest old new = IsIntact over_files new → LeavesSound (IsSoundHost digest) (left over_files) old new
+
+    -- the tables that a host has after an event, a stop and an open. With a stamp: what the event did. Without: what stood
+    -- before it, where no fault has shut the store, and else what a crash might have left before, or the commit would have given
+    abbrev pub IsLeftBy : Arrival → Told → Host (FileStore D g) G → Host (FileStore D g) G → Tables → Type 0
+    IsLeftBy event (None, reply) old new x =
         (IsOpen over_files new → x ≡ (seen over_files old).now)
         × ∥ (left over_files old x ⊎ (IsOpen over_files old × WouldApply event (seen over_files old).now x)) ∥₁
-    IsLeftBy event (Some m) reply old new x = Applied event (seen over_files old).now x (Some m) reply
+    IsLeftBy event (Some m, reply) old new x = Applied event (seen over_files old).now x (Some m) reply
 
-    pub record Survives (digest : Octets → Octets) (event : Arrival) (stamp : Option ℕ) (reply : List ℕ) (old new : Host (FileStore D g) G) (opened : Opened (FileStore D g)) : Type 0 where
-      pub tables : IsLeftBy event stamp reply old new (seen_again opened).now
+    pub record Survives (digest : Octets → Octets) (event : Arrival) (told : Told) (old new : Host (FileStore D g) G) (opened : Opened (FileStore D g)) : Type 0 where
+      pub tables : IsLeftBy event told old new (seen_again opened).now
       -- it is at rest: outright, where no fault has shut the store
       pub rest : IsOpen over_files new → IsAtRest (IsSoundHost digest) (seen_again opened)
-      pub merely : AllLeft (IsSoundHost digest) old → ∥ IsAtRest (IsSoundHost digest) (seen_again opened) ∥₁
+      pub merely : AddsSound digest old new → AllLeft (IsSoundHost digest) old → ∥ IsAtRest (IsSoundHost digest) (seen_again opened) ∥₁
 
 -- a host comes back over a stop after an event with what stood before the event or after it
 abbrev pub AfterStop : {D : Type 0} → Ghosts D → Type 0 → (Octets → Octets) → Type 0
-AfterStop {D} g G digest = (event : Arrival) (stamp : Option ℕ) (reply : List ℕ) (old new : Host (FileStore D g) G) (opened : Opened (FileStore D g))
-    → HasApplied digest event stamp reply old new → IsReopened new opened → IsCleanAgain opened → Survives digest event stamp reply old new opened
+AfterStop {D} g G digest = (event : Arrival) (told : Told) (old new : Host (FileStore D g) G) (opened : Opened (FileStore D g))
+    → HasApplied event told old new → IsReady digest new → IsReopened new opened → IsCleanAgain opened → Survives digest event told old new opened
 
--- an event leaves none but sound tables to a crash, where a crash before it would have left none but sound ones
+-- where a crash before an event would have left none but sound tables, so does one after it
 abbrev pub StaysSound : {D : Type 0} → Ghosts D → Type 0 → (Octets → Octets) → Type 0
-StaysSound {D} g G digest = (event : Arrival) (stamp : Option ℕ) (reply : List ℕ) (old new : Host (FileStore D g) G)
-    → HasApplied digest event stamp reply old new → AllLeft (IsSoundHost digest) old → IsIntact over_files new → AllLeft (IsSoundHost digest) new
+StaysSound {D} g G digest = (old new : Host (FileStore D g) G)
+    → AddsSound digest old new → AllLeft (IsSoundHost digest) old → IsIntact over_files new → AllLeft (IsSoundHost digest) new

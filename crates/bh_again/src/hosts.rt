@@ -6,7 +6,7 @@ ghost use Rattle.sqlite.specs.Tree.{Trees};
 ghost use Rattle.bh_model.specs.State.{Octets};
 ghost use Rattle.bh_tables.specs.Typed.{Tables};
 ghost use Rattle.bh_view.specs.Bodies.{IsSoundHost};
-ghost use Rattle.bh_schema.specs.Connections as connection;
+ghost use Rattle.bh_schema.specs.Layer as layer;
 ghost use Rattle.bh_schema.specs.Layer.{standing, Leaves};
 ghost use Rattle.bh_schema.specs.Storage.{IsIntact, IsOpen, seen, left};
 ghost use Rattle.bh_again.specs.Stops.{IsCleanAgain, CameBack, IsNotNone, AllLeft};
@@ -31,7 +31,7 @@ pub enum ReopenError<D: Crash + Drop> {
 /// While no fault has shut a connection, its databases list their schemas, and a crash leaves what was committed.
 fn look<S: Alter>(connection: &Connection<S>)
     ensures live { IsLive (state S.Store connection.now) }
-    ensures settled { connection.IsOpen S.Store connection.now → (db : Trees) → Leaves (state S.Store connection.now) db
+    ensures settled { layer.IsOpen (state S.Store connection.now) → (db : Trees) → Leaves (state S.Store connection.now) db
         → db ≡ (standing (state S.Store connection.now)).kept.trees }
 {
     let _schema = connection.schema();

@@ -2,4 +2,4 @@ use Rattle.bh_again.proofs.After.{stays_sound}
 use Rattle.bh_again.proofs.laws.stays_sound.Goals as goal
 
 pub returns : goal.returns
-returns g c event stamp reply old new applied were = stays_sound g.G.Digester.digest_of event reply old new stamp applied were
+returns g c = stays_sound g.G.Digester.digest_of
