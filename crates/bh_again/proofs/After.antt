@@ -1,5 +1,5 @@
 -- From what an event does to what an open after a stop finds.
-use Rattle.std.proofs.Common.{◌≡◌, ◌⊎◌, inl, inr, Some, None, sym, subst, ◌∙◌}
+use Rattle.std.proofs.Common.{◌⊎◌, inl, inr, Some, None, sym, subst, ◌∙◌}
 use Rattle.std.proofs.Math.Logic.{∥∥₁_map}
 use Rattle.sqlite_disk.specs.declared.Disk.{Ghosts}
 use Rattle.sqlite_store.specs.declared.store.FileStore.{FileStore}
@@ -36,9 +36,10 @@ module _ {D G : Type 0} {g : Ghosts D} (digest : Octets → Octets) (event : Arr
 
   leaves : (told : Told) → HasApplied event told old new → IsLeftBy event told old new (seen_again opened).now
   leaves (None, reply) applied =
-      let Before : Tables → Type 0 = λ x. left over_files old x ⊎ (IsOpen over_files old × WouldApply event (seen over_files old).now x) in
-      (λ up. (came_back up).tables ∙ (applied.applied (again.intact clean) up).1,
-      ∥∥₁_map (again.merely clean) (λ it. subst Before (sym it.2.tables) (applied.crash (again.intact clean) it.0 it.1)))
+      let Before : Tables → Type 0 = λ x. left over_files old x ⊎ (IsOpen over_files old × WouldApply event (seen over_files old).now x) in (
+        λ up. (came_back up).tables ∙ (applied.applied (again.intact clean) up).1,
+        ∥∥₁_map (again.merely clean) (λ it. subst Before (sym it.2.tables) (applied.crash (again.intact clean) it.0 it.1)),
+      )
   leaves (Some m, reply) applied =
       let did = applied.applied (again.intact clean) in
       subst (λ (x : Tables). Applied event (seen over_files old).now x (Some m) reply) (sym (came_back did.1).tables) did.2

@@ -6,8 +6,6 @@ use Rattle.sqlite_disk.specs.declared.Disk.{Ghosts}
 use Rattle.sqlite_store.specs.declared.store.FileStore.{FileStore}
 use Rattle.sqlite.specs.Effect.{Database, IsDatabase}
 use Rattle.sqlite.specs.Tree.{Trees}
-use Rattle.sqlite.specs.Held.{Held}
-use Rattle.sqlite.specs.Files.{over_files, file_state}
 use Rattle.sqlite.specs.State.{State, Opens, IsLive, HasCleanDisk}
 use Rattle.bh_types.specs.BlockDigests.{digest_number}
 use Rattle.bh_types.specs.Limits.{HostLimits}
@@ -20,7 +18,6 @@ use Rattle.bh_tables.proofs.HostTests.{host_shows}
 use Rattle.bh_view.specs.Bodies.{IsSoundHost}
 use Rattle.bh_view.specs.View.{latest_of}
 use Rattle.bh_storage.specs.Calls.{IsAtRest}
-use Rattle.bh_schema.specs.Connections as connection
 use Rattle.bh_schema.specs.Layer.{Standing, standing, IsIntact, IsOpen, IsStateClean, Leaves, KeepsDisk}
 use Rattle.bh_schema.specs.Storage.{seen_in, left_in}
 use Rattle.bh_schema.proofs.Storing.{sound_host}
