@@ -65,9 +65,9 @@ pub fn take_request<R: Source>(
         Took limits.now (R.remaining reader.old.inner) (R.remaining reader.new.inner) bytes.items) }
     ensures given { IfOk result (λ bytes. Gives (R.transfers reader.old.inner) (R.transfers reader.new.inner) bytes.items false) }
     ensures going { OnOk result (reader.new.failed ≡ false) }
-    ensures within { IfErr result (λ e. (taken : List ℕ)
+    ensures within { IfErr result (λ _. (taken : List ℕ)
         × TookAtMost limits.now (R.remaining reader.old.inner) (R.remaining reader.new.inner) taken
-        × Gives (R.transfers reader.old.inner) (R.transfers reader.new.inner) taken (is_fault e)) }
+        × Gives (R.transfers reader.old.inner) (R.transfers reader.new.inner) taken reader.new.failed) }
     ensures failed { IfErr result (λ e. reader.new.failed ≡ is_fault e) }
 {
     let mut opening = take_head(alloc, limits, reader)?;
@@ -87,9 +87,9 @@ fn take_head<R: Source>(
     ensures given { IfOk result (λ opening.
         Gives (R.transfers reader.old.inner) (R.transfers reader.new.inner) opening.bytes.items false) }
     ensures going { OnOk result (reader.new.failed ≡ false) }
-    ensures within { IfErr result (λ e. (taken : List ℕ)
+    ensures within { IfErr result (λ _. (taken : List ℕ)
         × TookAtMost limits.now (R.remaining reader.old.inner) (R.remaining reader.new.inner) taken
-        × Gives (R.transfers reader.old.inner) (R.transfers reader.new.inner) taken (is_fault e)) }
+        × Gives (R.transfers reader.old.inner) (R.transfers reader.new.inner) taken reader.new.failed) }
     ensures failed { IfErr result (λ e. reader.new.failed ≡ is_fault e) }
 {
     let mut bytes = Vec::new(alloc);
@@ -156,8 +156,8 @@ fn take_body<R: Source>(reader: &mut Link<R>, opening: Opening) -> Result<Vec<u8
     ensures within { (limits : HostLimits) (start : Option (List ℕ)) (begun : Option (List Transfer))
         → Opens limits start (R.remaining reader.old.inner) opening.bytes.items opening.body
         → Gives begun (R.transfers reader.old.inner) opening.bytes.items false
-        → IfErr result (λ e. (taken : List ℕ) × TookAtMost limits start (R.remaining reader.new.inner) taken
-        × Gives begun (R.transfers reader.new.inner) taken (is_fault e)) }
+        → IfErr result (λ _. (taken : List ℕ) × TookAtMost limits start (R.remaining reader.new.inner) taken
+        × Gives begun (R.transfers reader.new.inner) taken reader.new.failed) }
     ensures failed { IfErr result (λ e. reader.new.failed ≡ is_fault e) }
 {
     let mut bytes = opening.bytes;
@@ -186,9 +186,9 @@ fn take_piece<R: Source>(
         × Gives (R.transfers reader.old.inner) (R.transfers reader.new.inner) piece false
         × (bytes.new.items ≡ bytes.old.items ++ piece)))) }
     ensures going { OnOk result (reader.new.failed ≡ false) }
-    ensures within { IfErr result (λ e. (piece : List ℕ) × (length piece ≤ most)
+    ensures within { IfErr result (λ _. (piece : List ℕ) × (length piece ≤ most)
         × Consumes (R.remaining reader.old.inner) (R.remaining reader.new.inner) piece
-        × Gives (R.transfers reader.old.inner) (R.transfers reader.new.inner) piece (is_fault e)) }
+        × Gives (R.transfers reader.old.inner) (R.transfers reader.new.inner) piece reader.new.failed) }
     ensures failed { IfErr result (λ e. reader.new.failed ≡ is_fault e) }
 {
     let mut room = [0u8; PIECE];
