@@ -1,11 +1,11 @@
 -- What moved so far, and one call more.
-use Rattle.std.proofs.Common.{◌≡◌, ℕ, Bool, true, false, List, [], ◌∷◌, ◌++◌, map, take, refl, sym, ap, subst, ◌∙◌, Option, Some, None, inl, inr, ◌⊎◌, append_assoc, append-nil}
+use Rattle.std.proofs.Common.{◌≡◌, ℕ, Bool, true, false, List, [], ◌∷◌, ◌++◌, map, take, refl, sym, ap, subst, ◌∙◌, Option, Some, None, Ok, inl, inr, ◌⊎◌, append_assoc, append-nil}
 use Rattle.std.specs.Prelude.{IsTrue}
 use Rattle.std.specs.Io.KnownBytes.{Appends}
 use Rattle.std.specs.List.{concat}
 use Rattle.std.proofs.lemmas.List.{map-append}
 use Rattle.std.proofs.lemmas.List.Folds.{concat-append}
-use Rattle.bh_link.specs.Transfers.{Transfer, Moved, Failed, Logs, MovesThen, Gives, Takes}
+use Rattle.bh_link.specs.Transfers.{Transfer, Moved, Failed, byte_transfer, Logs, MovesThen, Gives, Takes}
 
 pub logs_nothing : {A : Type 0} (a : Option (List A)) → Logs a a []
 logs_nothing None = tt
@@ -53,10 +53,13 @@ pub gives_fault : (a b c : Option (List Transfer)) (x : List ℕ) (failed : Bool
 gives_fault a b c x failed is p told = let P : Bool → Type 0 = λ f. Gives a c x f in subst P (sym is) (moves_last a b c x (Failed ∷ []) p told)
 
 -- it told its end
-pub gives_end : (a b c : Option (List Transfer)) (x : List ℕ) → Gives a b x false → Logs b c (Moved [] ∷ []) → Gives a c x false
+gives_end : (a b c : Option (List Transfer)) (x : List ℕ) → Gives a b x false → Logs b c (Moved [] ∷ []) → Gives a c x false
 gives_end a b c x p told =
     let P : List ℕ → Type 0 = λ l. Gives a c l false in
     subst P (append-nil x) (gives_then a b c x [] false p (gives_piece b c [] told))
+
+pub gives_byte_end : (a b c : Option (List Transfer)) (x : List ℕ) (byte : Option ℕ) → byte ≡ None → Gives a b x false → Logs b c (byte_transfer {Unit {0}} (Ok byte) ∷ []) → Gives a c x false
+gives_byte_end a b c x byte none p told = gives_end a b c x p (subst (λ o. Logs b c (byte_transfer {Unit {0}} (Ok o) ∷ [])) none told)
 
 pub gives_pushed : (a b c : Option (List Transfer)) (x next : List ℕ) (byte : ℕ) → next ≡ x ++ byte ∷ [] → Gives a b x false → Logs b c (Moved (byte ∷ []) ∷ []) → Gives a c next false
 gives_pushed a b c x next byte same p told =
@@ -77,5 +80,9 @@ takes_then a b c x y z same p told = let P : List ℕ → Type 0 = λ l. Gives a
 pub takes_fault : (a b c : Option (List Transfer)) (x : List ℕ) → Takes a b x false → Logs b c (Failed ∷ []) → Takes a c x true
 takes_fault a b c x p told = inl (moves_last a b c x (Failed ∷ []) p told)
 
-pub takes_no_more : (a b c : Option (List Transfer)) (x : List ℕ) → Takes a b x false → Logs b c (Moved [] ∷ []) → Takes a c x true
-takes_no_more a b c x p told = inr (moves_last a b c x (Moved [] ∷ []) p told)
+none_taken : (y : List ℕ) (n : ℕ) → n ≡ 0 → take n y ≡ []
+none_taken [] n zero = ap (λ k. take k []) zero
+none_taken (b ∷ y) n zero = ap (λ k. take k (b ∷ y)) zero
+
+pub takes_no_more : (a b c : Option (List Transfer)) (x y : List ℕ) (n : ℕ) → n ≡ 0 → Takes a b x false → Logs b c (Moved (take n y) ∷ []) → Takes a c x true
+takes_no_more a b c x y n zero p told = inr (moves_last a b c x (Moved [] ∷ []) p (subst (λ t. Logs b c (Moved t ∷ [])) (none_taken y n zero) told))

@@ -7,7 +7,7 @@ use Rattle.bh_http.specs.declared.arriving.Arriving.TheVariants.{Body, Refused, 
 use Rattle.bh_http.specs.Arriving.{is_text, ends_blank, Says}
 use Rattle.bh_http.proofs.ArrivingLemmas.{no_head_of_none}
 use Rattle.bh_link.proofs.TakingLemmas.{consumes_none, consumes_kept, consumes_pushed, part_none, part_pushed, opens_pushed, opens_never, opens_limit, started_pushed, none_pushed, if_err}
-use Rattle.bh_link.proofs.TransferLemmas.{gives_none, gives_pushed, gives_end, gives_fault, gives_going}
+use Rattle.bh_link.proofs.TransferLemmas.{gives_none, gives_pushed, gives_byte_end, gives_fault, gives_going}
 use Rattle.bh_link.proofs.request.take_head.Goals as goal
 use Rattle.bh_link.proofs.request.take_head.Goals.{then-may_end+in-NotYet, else-may_end}
 
@@ -71,6 +71,9 @@ returns-in-Body-clause-opens g c =
     let said = subst P c.as_slice-then-may_end.ensures.value (rw c.in-Body.is at c.search.ensures) in
     opens_pushed c.args.limits.now _ _ bytes next byte c.in-Body.body c.in_ok-push.ensures consumed
     (room bytes next byte c.loop-count.count so_far.count c.loop-count-test.true c.in_ok-push.ensures) so_far.none said
+
+pub returns-in_default-clause-given : goal.returns-in_default-clause-given
+returns-in_default-clause-given g c = gives_byte_end _ _ _ _ c.in_ok-byte.field-0 (search rules) c.loop-count.invariant.given c.in_ok-byte.ensures.transfer
 
 pub returns-in-Body-clause-given : goal.returns-in-Body-clause-given
 returns-in-Body-clause-given g c = gives_pushed _ _ _ _ _ _ c.in_ok-push.ensures c.loop-count.invariant.given (rw c.in-Some.is at c.in_ok-byte.ensures.transfer)
