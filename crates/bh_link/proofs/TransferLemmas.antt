@@ -58,8 +58,8 @@ gives_end a b c x p told =
     let P : List ℕ → Type 0 = λ l. Gives a c l false in
     subst P (append-nil x) (gives_then a b c x [] false p (gives_piece b c [] told))
 
-pub gives_byte_end : (a b c : Option (List Transfer)) (x : List ℕ) (byte : Option ℕ) → byte ≡ None → Gives a b x false → Logs b c (byte_transfer {Unit {0}} (Ok byte) ∷ []) → Gives a c x false
-gives_byte_end a b c x byte none p told = gives_end a b c x p (subst (λ o. Logs b c (byte_transfer {Unit {0}} (Ok o) ∷ [])) none told)
+pub gives_byte_end : (E : Type 0) (a b c : Option (List Transfer)) (x : List ℕ) (byte : Option ℕ) → byte ≡ None → Gives a b x false → Logs b c (byte_transfer {E = E} (Ok byte) ∷ []) → Gives a c x false
+gives_byte_end E a b c x byte none p told = gives_end a b c x p (subst (λ o. Logs b c (byte_transfer {E = E} (Ok o) ∷ [])) none told)
 
 pub gives_pushed : (a b c : Option (List Transfer)) (x next : List ℕ) (byte : ℕ) → next ≡ x ++ byte ∷ [] → Gives a b x false → Logs b c (Moved (byte ∷ []) ∷ []) → Gives a c next false
 gives_pushed a b c x next byte same p told =

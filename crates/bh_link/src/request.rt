@@ -197,7 +197,29 @@ fn take_piece<R: Source>(
     } else {
         PIECE
     };
-    let count = reader.next_bytes(&mut room[..size])?;
+    take_into(reader, &mut room[..size], bytes)
+}
+
+/// Takes some bytes, at most as many as the room holds, to the end of those that are there; 0 at the end.
+fn take_into<R: Source>(
+    reader: &mut Link<R>,
+    room: &mut [u8],
+    bytes: &mut Vec<u8>,
+) -> Result<u64, TakeError>
+    requires going { reader.old.failed ≡ false }
+    requires room { 0 < length room.old }
+    ensures added { IfOk result (λ n. (n ≤ length room.new) × ((n ≡ 0 → IsAtEnd (R.remaining reader.new.inner))
+        × ((piece : List ℕ) × (length piece ≡ n)
+        × Consumes (R.remaining reader.old.inner) (R.remaining reader.new.inner) piece
+        × Gives (R.transfers reader.old.inner) (R.transfers reader.new.inner) piece false
+        × (bytes.new.items ≡ bytes.old.items ++ piece)))) }
+    ensures going { OnOk result (reader.new.failed ≡ false) }
+    ensures within { IfErr result (λ _. (piece : List ℕ) × (length piece ≤ length room.new)
+        × Consumes (R.remaining reader.old.inner) (R.remaining reader.new.inner) piece
+        × Gives (R.transfers reader.old.inner) (R.transfers reader.new.inner) piece reader.new.failed) }
+    ensures failed { IfErr result (λ e. reader.new.failed ≡ is_fault e) }
+{
+    let count = reader.next_bytes(room)?;
     bytes.extend_from_slice(&room[..count])?;
     Ok(count as u64)
 }

@@ -6,6 +6,7 @@ use Rattle.bh_http.specs.Reading.{HasNoHead}
 use Rattle.bh_http.specs.declared.arriving.Arriving.TheVariants.{Body, Refused, NotYet}
 use Rattle.bh_http.specs.Arriving.{is_text, ends_blank, Says}
 use Rattle.bh_http.proofs.ArrivingLemmas.{no_head_of_none}
+use Rattle.bh_link.specs.declared.link.ReadFault.{ReadFault}
 use Rattle.bh_link.proofs.TakingLemmas.{consumes_none, consumes_kept, consumes_pushed, part_none, part_pushed, opens_pushed, opens_never, opens_limit, started_pushed, none_pushed, if_err}
 use Rattle.bh_link.proofs.TransferLemmas.{gives_none, gives_pushed, gives_byte_end, gives_fault, gives_going}
 use Rattle.bh_link.proofs.request.take_head.Goals as goal
@@ -73,7 +74,7 @@ returns-in-Body-clause-opens g c =
     (room bytes next byte c.loop-count.count so_far.count c.loop-count-test.true c.in_ok-push.ensures) so_far.none said
 
 pub returns-in_default-clause-given : goal.returns-in_default-clause-given
-returns-in_default-clause-given g c = gives_byte_end _ _ _ _ c.in_ok-byte.field-0 (search rules) c.loop-count.invariant.given c.in_ok-byte.ensures.transfer
+returns-in_default-clause-given g c = gives_byte_end ReadFault _ _ _ _ c.in_ok-byte.field-0 (search rules) c.loop-count.invariant.given c.in_ok-byte.ensures.transfer
 
 pub returns-in-Body-clause-given : goal.returns-in-Body-clause-given
 returns-in-Body-clause-given g c = gives_pushed _ _ _ _ _ _ c.in_ok-push.ensures c.loop-count.invariant.given (rw c.in-Some.is at c.in_ok-byte.ensures.transfer)
