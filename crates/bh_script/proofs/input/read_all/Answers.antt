@@ -10,6 +10,6 @@ consumed_more a b c before after piece same p q = let P : List ℕ → Type 0 = 
 
 pub loop-pieces-init : goal.loop-pieces-init
 loop-pieces-init g c =
-    let none = c.new.ensures.items in
+    let none = c.new-bytes.ensures.items in
     let P : List ℕ → Type 0 = λ t. Consumes (g.R.Read.remaining c.args.reader.now) (g.R.Read.remaining c.args.reader.now) t in
     record { consumed = subst P (sym none) (consumes_none _); count = omega arith; most = omega (arith, ap length none) }
