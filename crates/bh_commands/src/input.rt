@@ -7,6 +7,7 @@ ghost use Rattle.bh_commands.specs.Input as spec;
 use crate::fault::Fault;
 use crate::printed::Printed;
 use bh_blocks::digester::{FastDigester, Sha256Digester};
+use bh_link::ends::Untold;
 use bh_link::link::Link;
 use bh_schema::host::Digester;
 use bh_script::input::{BadLine, read_all};
@@ -45,7 +46,7 @@ fn answer_bytes<D: Digester + Drop>(
     tuning: Tuning,
 ) -> Result<Option<BadLine>, Fault> {
     let output = BufWriter::new(rt.alloc(), io::writer(rt))?;
-    let mut writer = Link::new(output);
+    let mut writer = Link::new(Untold(output));
     let bad_line = answer_script(
         rt.alloc(),
         bytes,
@@ -55,7 +56,7 @@ fn answer_bytes<D: Digester + Drop>(
         tuning,
         &mut writer,
     )?;
-    writer.into_inner().flush()?;
+    writer.into_inner().0.flush()?;
     Ok(bad_line)
 }
 

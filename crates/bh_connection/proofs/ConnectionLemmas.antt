@@ -13,7 +13,9 @@ use Rattle.bh_tables.specs.Typed.{Tables}
 use Rattle.bh_view.specs.View.{limits_in}
 use Rattle.bh_storage.specs.Calls.{Seen, Clean, IsAtRest}
 use Rattle.bh_link.specs.Taking.{all_of, Took, TookAtMost}
+use Rattle.bh_link.specs.Transfers.{Logs, Gives, Takes}
 use Rattle.bh_link.proofs.TakingLemmas.{consumes_none}
+use Rattle.bh_link.proofs.TransferLemmas.{logs_nothing}
 use Rattle.bh_host.specs.Replies.{clock_text, wanting_text}
 use Rattle.bh_host.specs.Runs.{Told}
 use Rattle.bh_host.specs.Turns.{Applied, WouldApply, fixed}
@@ -29,6 +31,10 @@ applied_all : (limits : HostLimits) (reading : ℕ) (given rest : Option (List �
 applied_all limits reading given rest taken old new m reply same took (stamp, latest, (act, (answer, reads, is), turned)) =
     let P : HostLimits → Type 0 = λ l. (a : Result Taken Refusal) → Reads l taken a → Reads l (all_of given taken) a in
     (stamp, latest, (act, (answer, subst P (sym same) took.decided answer reads, is), turned))
+
+-- as its link says whether it failed
+gives_as : (before after : Ends) (taken : List ℕ) (failed : Bool) → after.reader_failed ≡ failed → Gives before.gave after.gave taken after.reader_failed → Gives before.gave after.gave taken failed
+gives_as before after taken failed is given = let P : Bool → Type 0 = λ f. Gives before.gave after.gave taken f in subst P is given
 
 module _ {H : Type 0} (IsIntact IsOpen : H → Type 0) (seen : H → Seen) (left : H → Tables → Type 0) where
   is_applied_all : {IsSound : Tables → Type 0} (reading : ℕ) (given rest : Option (List ℕ)) (taken : List ℕ) (stamp : Option ℕ) (reply : List ℕ) (old new : H)
@@ -57,11 +63,12 @@ module _ {H : Type 0} (IsIntact IsOpen : H → Type 0) (seen : H → Seen) (left
   -- an event was applied
   pub answered : {IsSound : Tables → Type 0} (limits : HostLimits) (before after : Ends) (served : Served) (taken reply : List ℕ) (stamp : Option ℕ) (old new : H)
       → (Clean IsIntact IsOpen old → IsAtRest IsSound (seen old)) → (IsIntact new → IsIntact old) → limits ≡ (seen old).limits
-      → Took limits before.left after.left taken → after.reader_failed ≡ false
+      → Took limits before.left after.left taken → Gives before.gave after.gave taken false → after.reader_failed ≡ false
       → IsApplied IsIntact IsOpen seen left (request_at before.reading taken) (stamp, reply) old new
-      → served.stamp ≡ stamp → Appends before.held after.held (take served.sent reply) → EndsAs served.ended served.sent reply after.writer_failed
+      → served.stamp ≡ stamp → Appends before.held after.held (take served.sent reply) → Takes before.took after.took (take served.sent reply) after.writer_failed
+      → EndsAs served.ended served.sent reply after.writer_failed
       → CameTo IsIntact IsOpen seen left before after served old new
-  answered limits before after served taken reply stamp old new ready still same was going did is out ended =
+  answered limits before after served taken reply stamp old new ready still same was gave going did is out took_out ended =
       let took : Took (seen old).limits before.left after.left taken = subst (λ l. Took l before.left after.left taken) same was in
       record {
         outcome = Some (all_of before.left taken, (stamp, reply));
@@ -74,6 +81,8 @@ module _ {H : Type 0} (IsIntact IsOpen : H → Type 0) (seen : H → Seen) (left
           stamp = sym is;
           out = out;
           ended = ended;
+          gave = gave;
+          took = took_out;
           reader = going;
         };
         did = is_applied_all before.reading before.left after.left taken stamp reply old new ready still took did;
@@ -85,10 +94,12 @@ module _ {H : Type 0} (IsIntact IsOpen : H → Type 0) (seen : H → Seen) (left
 
   -- nothing was applied, and the fixed text was sent
   pub answered_fixed : (limits : HostLimits) (before after : Ends) (served : Served) (taken reply : List ℕ) (old new : H) → limits ≡ (seen old).limits
-      → TookAtMost limits before.left after.left taken → after.reader_failed ≡ false → new ≡ old → reply ≡ fixed (request_at before.reading [])
-      → served.stamp ≡ None → Appends before.held after.held (take served.sent reply) → EndsAs served.ended served.sent reply after.writer_failed
+      → TookAtMost limits before.left after.left taken → Gives before.gave after.gave taken after.reader_failed → after.reader_failed ≡ false → new ≡ old → reply ≡ fixed (request_at before.reading [])
+      → served.stamp ≡ None → Appends before.held after.held (take served.sent reply) → Takes before.took after.took (take served.sent reply) after.writer_failed
+      → EndsAs served.ended served.sent reply after.writer_failed
       → CameTo IsIntact IsOpen seen left before after served old new
-  answered_fixed limits before after served taken reply old new same was going stays told is out ended =
+  answered_fixed limits before after served taken reply old new same was given going stays told is out took_out ended =
+      let gave : Gives before.gave after.gave taken false = gives_as before after taken false going given in
       let took : TookAtMost (seen old).limits before.left after.left taken = subst (λ l. TookAtMost l before.left after.left taken) same was in
       let all = all_of before.left taken in
       let W : Option ℕ → Type 0 = λ s. IfSome s (λ _. (n : ℕ) → HasExtent (seen old).limits all n → length taken ≡ n) in
@@ -105,6 +116,8 @@ module _ {H : Type 0} (IsIntact IsOpen : H → Type 0) (seen : H → Seen) (left
           stamp = sym is;
           out = out;
           ended = ended;
+          gave = gave;
+          took = took_out;
           reader = going;
         };
         did = subst D (sym stays) none;
@@ -112,10 +125,12 @@ module _ {H : Type 0} (IsIntact IsOpen : H → Type 0) (seen : H → Seen) (left
 
   -- the reader failed
   pub broken : (limits : HostLimits) (before after : Ends) (served : Served) (taken : List ℕ) (old new : H) → limits ≡ (seen old).limits
-      → TookAtMost limits before.left after.left taken → after.reader_failed ≡ true → after.writer_failed ≡ false → after.held ≡ before.held → new ≡ old
+      → TookAtMost limits before.left after.left taken → Gives before.gave after.gave taken after.reader_failed → after.reader_failed ≡ true
+      → after.writer_failed ≡ false → after.held ≡ before.held → after.took ≡ before.took → new ≡ old
       → served.ended ≡ ReadFailed → served.stamp ≡ None → served.sent ≡ 0
       → CameTo IsIntact IsOpen seen left before after served old new
-  broken limits before after served taken old new same was failed going kept stays ended stamp sent =
+  broken limits before after served taken old new same was given failed going kept untaken stays ended stamp sent =
+      let gave : Gives before.gave after.gave taken true = gives_as before after taken true failed given in
       let took : TookAtMost (seen old).limits before.left after.left taken = subst (λ l. TookAtMost l before.left after.left taken) same was in
       let K : Option (List ℕ) → Type 0 = λ h. Keeps before.held h in
       record {
@@ -128,6 +143,8 @@ module _ {H : Type 0} (IsIntact IsOpen : H → Type 0) (seen : H → Seen) (left
           stamp = stamp;
           sent = sent;
           out = subst K (sym kept) (keeps_same before.held);
+          gave = gave;
+          took = subst (λ t. Logs before.took t []) (sym untaken) (logs_nothing before.took);
           reader = failed;
           writer = going;
         };

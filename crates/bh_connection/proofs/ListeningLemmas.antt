@@ -1,5 +1,5 @@
 -- Connections after connections.
-use Rattle.std.proofs.Common.{◌≡◌, List, [], ◌∷◌, ◌++◌, sym, ap, subst, ◌∙◌, Option, Some, None, Result, Ok, Err, append-nil, append_assoc}
+use Rattle.std.proofs.Common.{◌≡◌, List, [], ◌∷◌, ◌++◌, sym, ap, subst, ◌∙◌, Option, Result, Ok, Err, append-nil}
 use Rattle.std.specs.Prelude.{IsErr, MatchResult, filter_map}
 use Rattle.std.proofs.lemmas.Bool.{false≢true}
 use Rattle.std.specs.List.{flat_map}
@@ -9,21 +9,13 @@ use Rattle.bh_event.specs.Events.{Arrival as Event}
 use Rattle.bh_tables.specs.Typed.{Tables}
 use Rattle.bh_storage.specs.Calls.{Seen}
 use Rattle.bh_host.specs.Runs.{Told, RanOn}
+use Rattle.bh_link.specs.Transfers.{Logs}
+use Rattle.bh_link.proofs.TransferLemmas.{logs_then}
 use Rattle.bh_host.proofs.Running as running
 use Rattle.bh_connection.specs.Connections.{Came, Did}
 use Rattle.bh_connection.specs.Each.{Row, EachCame, event_of, told_of}
-use Rattle.bh_connection.specs.Listening.{Call, Logs, calls_of, HasServedRows}
+use Rattle.bh_connection.specs.Listening.{Call, calls_of, HasServedRows}
 use Rattle.bh_connection.proofs.EachLemmas.{each-append, ran_with, run_alone}
-
-pub logs_nothing : (a : Option (List Call)) → Logs a a []
-logs_nothing None = tt
-logs_nothing (Some xs) = sym (append-nil xs)
-
-pub logs_then : (a b c : Option (List Call)) (x y : List Call) → Logs a b x → Logs b c y → Logs a c (x ++ y)
-logs_then None b c x y p q = tt
-logs_then (Some xs) None c x y p q = absurd p
-logs_then (Some xs) (Some ys) None x y p q = absurd q
-logs_then (Some xs) (Some ys) (Some zs) x y p q = q ∙ ap (λ l. l ++ y) p ∙ append_assoc xs x y
 
 -- one connection more
 pub logs_more : (a b c : Option (List Call)) (rows : List Row) (row : Row) → Logs a b (flat_map calls_of rows) → Logs b c (calls_of row)

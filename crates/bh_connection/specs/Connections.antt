@@ -1,5 +1,5 @@
 -- What becomes of a connection, and of the host by it.
-use Rattle.std.specs.Prelude.{◌≡◌, ◌⊎◌, ◌≤◌, ◌<◌, ℕ, Bool, true, false, List, length, take, Option, Some, None, IfSome, IfNone}
+use Rattle.std.specs.Prelude.{◌≡◌, ◌⊎◌, ◌≤◌, ◌<◌, ℕ, Bool, true, false, List, [], length, take, Option, Some, None, IfSome, IfNone}
 use Rattle.std.specs.Io.KnownBytes.{Appends, Consumes, Keeps}
 use Rattle.bh_types.specs.Limits.{HostLimits}
 use Rattle.bh_event.specs.Events.{Arrival as Event, Requested}
@@ -9,6 +9,7 @@ use Rattle.bh_storage.specs.Calls.{Seen}
 use Rattle.bh_host.specs.Runs.{Told}
 use Rattle.bh_host.specs.Turns.{AppliedTo, IsToldApart, WouldApply}
 use Rattle.bh_link.specs.Taking.{all_of}
+use Rattle.bh_link.specs.Transfers.{Transfer, Logs, Gives, Takes}
 use Rattle.bh_link.specs.declared.link.Link.{Link}
 use Rattle.bh_connection.specs.declared.served.End.{End}
 use Rattle.bh_connection.specs.declared.served.End.TheVariants.{Whole, ReadFailed, WriteFailed}
@@ -20,19 +21,23 @@ request_at reading bytes = record { reading = reading; message = Requested bytes
 
 -- ---- its ends
 
--- its reading, what is left of the reader's bytes, what the writer holds, and whether they failed
+-- its reading, what is left of the reader's bytes, what the writer holds, what their calls moved, and whether they failed
 pub record Ends : Type 0 where
   pub reading : ℕ
   pub left : Option (List ℕ)
   pub held : Option (List ℕ)
+  pub gave : Option (List Transfer)
+  pub took : Option (List Transfer)
   pub reader_failed : Bool
   pub writer_failed : Bool
 
-abbrev pub ends_of : {R W : Type 0} → (R → Option (List ℕ)) → (W → Option (List ℕ)) → ℕ → Link R → Link W → Ends
-ends_of remaining contents reading reader writer = record {
+abbrev pub ends_of : {R W : Type 0} → (R → Option (List ℕ)) → (R → Option (List Transfer)) → (W → Option (List ℕ)) → (W → Option (List Transfer)) → ℕ → Link R → Link W → Ends
+ends_of remaining given contents taken reading reader writer = record {
   reading = reading;
   left = remaining reader.inner;
   held = contents writer.inner;
+  gave = given reader.inner;
+  took = taken writer.inner;
   reader_failed = reader.failed;
   writer_failed = writer.failed;
 }
@@ -47,7 +52,7 @@ EndsAs ReadFailed sent reply failed = ⊥
 abbrev pub Outcome : Type 0
 Outcome = Option (List ℕ × Told)
 
--- the reader failed: nothing is answered, and no byte after head and body of a request that is accepted was taken
+-- the reader failed, at its last call: nothing is answered, and no byte after head and body of a request that is accepted was taken
 pub record IsBroken (limits : HostLimits) (before after : Ends) (served : Served) : Type 0 where
   pub taken : List ℕ
   pub consumed : Consumes before.left after.left taken
@@ -56,10 +61,13 @@ pub record IsBroken (limits : HostLimits) (before after : Ends) (served : Served
   pub stamp : served.stamp ≡ None
   pub sent : served.sent ≡ 0
   pub out : Keeps before.held after.held
+  pub gave : Gives before.gave after.gave taken true
+  pub took : Logs before.took after.took []
   pub reader : after.reader_failed ≡ true
   pub writer : after.writer_failed ≡ false
 
--- the request is all the bytes that the reader would give; the bytes out are the first ones of its reply
+-- no call of the reader failed, and the request is all the bytes that it would give; the bytes out are the first ones of its reply,
+-- and all of them unless a call of the writer failed or took none of some bytes
 pub record IsAnswered (limits : HostLimits) (before after : Ends) (served : Served) (request : List ℕ) (told : Told) : Type 0 where
   pub taken : List ℕ
   pub consumed : Consumes before.left after.left taken
@@ -70,6 +78,8 @@ pub record IsAnswered (limits : HostLimits) (before after : Ends) (served : Serv
   pub stamp : told.0 ≡ served.stamp
   pub out : Appends before.held after.held (take served.sent told.1)
   pub ended : EndsAs served.ended served.sent told.1 after.writer_failed
+  pub gave : Gives before.gave after.gave taken false
+  pub took : Takes before.took after.took (take served.sent told.1) after.writer_failed
   pub reader : after.reader_failed ≡ false
 
 abbrev pub Came : HostLimits → Ends → Ends → Served → Outcome → Type 0

@@ -5,6 +5,7 @@ use Rattle.bh_event.specs.Events.{Arrival as Event}
 use Rattle.bh_tables.specs.Typed.{Tables}
 use Rattle.bh_storage.specs.Calls.{Seen}
 use Rattle.bh_host.specs.Runs.{Told, RanOn, HasRunOn}
+use Rattle.bh_link.specs.Transfers.{Transfer}
 use Rattle.bh_connection.specs.Connections.{request_at, Ends, ends_of, Outcome, Came}
 use Rattle.bh_connection.specs.declared.each.Arrival.{Arrival}
 use Rattle.bh_connection.specs.declared.served.Served.{Served}
@@ -13,8 +14,8 @@ use Rattle.bh_connection.specs.declared.served.Served.{Served}
 abbrev pub IsGoing : {R W : Type 0} → Arrival R W → Type 0
 IsGoing arrival = (arrival.reader.failed ≡ false) × (arrival.writer.failed ≡ false)
 
-abbrev pub ends : {R W : Type 0} → (R → Option (List ℕ)) → (W → Option (List ℕ)) → Arrival R W → Ends
-ends remaining contents arrival = ends_of remaining contents arrival.reading arrival.reader arrival.writer
+abbrev pub ends : {R W : Type 0} → (R → Option (List ℕ)) → (R → Option (List Transfer)) → (W → Option (List ℕ)) → (W → Option (List Transfer)) → Arrival R W → Ends
+ends remaining given contents taken arrival = ends_of remaining given contents taken arrival.reading arrival.reader arrival.writer
 
 -- one connection: its ends before and after, what became of it, and the request that it brought, if it did
 pub record Row : Type 0 where

@@ -1,9 +1,10 @@
 -- Connections that an acceptor gave, and the calls by which they came.
-use Rattle.std.specs.Prelude.{◌≡◌, ◌⊎◌, ◌<◌, ℕ, List, [], ◌∷◌, ◌++◌, length, filter_map, ⊤, Option, Some, None, Result, MatchResult}
+use Rattle.std.specs.Prelude.{◌≡◌, ◌⊎◌, ◌<◌, ℕ, List, [], ◌∷◌, ◌++◌, length, filter_map, Option, Result, MatchResult}
 use Rattle.std.specs.List.{flat_map}
 use Rattle.bh_tables.specs.Typed.{Tables}
 use Rattle.bh_storage.specs.Calls.{Seen}
 use Rattle.bh_host.specs.Runs.{RanOn, HasRunOn}
+use Rattle.bh_link.specs.Transfers.{Logs}
 use Rattle.bh_connection.specs.Connections.{Ends, Came, Did}
 use Rattle.bh_connection.specs.Each.{Row, EachCame, event_of, told_of}
 use Rattle.bh_connection.specs.declared.served.Served.{Served}
@@ -17,12 +18,6 @@ pub data Call : Type 0 where
   ToldNone : Call
   Opened : (ends : Ends) → Call
   Closed : (ends : Ends) (served : Served) → Call
-
--- these calls were added, where an acceptor tells its calls
-abbrev pub Logs : Option (List Call) → Option (List Call) → List Call → Type 0
-Logs None new calls = ⊤
-Logs (Some xs) None calls = ⊥
-Logs (Some xs) (Some ys) calls = ys ≡ xs ++ calls
 
 -- the calls of a connection that was served: the clock is asked once it was accepted, and what the clock told is its reading
 abbrev pub calls_of : Row → List Call

@@ -1,20 +1,21 @@
 ghost use Rattle.std.specs.Prelude.{◌≡◌, ◌∷◌, ℕ, List, [], Option, None, MatchResult};
+ghost use Rattle.bh_link.specs.Transfers.{Logs};
 ghost use Rattle.bh_connection.specs.Each.{IsGoing, ends};
-ghost use Rattle.bh_connection.specs.Listening.{Call, Logs, Accepted, NotAccepted, ToldReading, ToldNone, Opened, Closed};
+ghost use Rattle.bh_connection.specs.Listening.{Call, Accepted, NotAccepted, ToldReading, ToldNone, Opened, Closed};
 
 use crate::each::Arrival;
 use crate::served::Served;
+use bh_link::ends::{Sink, Source};
 use std::io;
-use std::io::{Read, Write};
 
 /// Where connections come from, one after another, and the clock by which they are served.
 ///
 /// What a socket or a clock gives no contract can say. An acceptor that tells its calls, and what they gave, tells by
 /// them what whoever serves its connections did.
 pub trait Acceptor {
-    type Reader: Read + Drop;
+    type Reader: Source + Drop;
 
-    type Writer: Write + Drop;
+    type Writer: Sink + Drop;
 
     /// Its calls and what they gave, oldest first, if it tells them.
     ghost calls: { Self → Option (List Call) } = { λ _. None };
@@ -32,12 +33,14 @@ pub trait Acceptor {
     /// The two ends of its connection, at a reading of the clock.
     fn open(&mut self, reading: u64) -> Arrival<Self::Reader, Self::Writer>
         ensures calls { Logs (calls self.old) (calls self.new)
-            (Opened (ends Self.Reader.Read.remaining Self.Writer.Write.contents result) ∷ []) }
+            (Opened (ends Self.Reader.Source.remaining Self.Reader.Source.transfers
+            Self.Writer.Sink.contents Self.Writer.Sink.transfers result) ∷ []) }
         ensures going { IsGoing result }
         ensures reading { result.reading ≡ reading };
 
     /// Closes its connection, of which this became.
     fn close(&mut self, arrival: Arrival<Self::Reader, Self::Writer>, served: Served)
         ensures { Logs (calls self.old) (calls self.new)
-            (Closed (ends Self.Reader.Read.remaining Self.Writer.Write.contents arrival) served ∷ []) };
+            (Closed (ends Self.Reader.Source.remaining Self.Reader.Source.transfers
+            Self.Writer.Sink.contents Self.Writer.Sink.transfers arrival) served ∷ []) };
 }

@@ -1,3 +1,4 @@
+ghost use Rattle.std.specs.Prelude.{◌≡◌};
 ghost use Rattle.std.specs.Io.{ReadsAtMost, WritesAtMost};
 
 use crate::clock::Clock;
@@ -9,22 +10,26 @@ use std::net::TcpStream;
 /// The stream of the connection that is served, while one is.
 pub(crate) type Current = RefCell<Option<TcpStream>>;
 
-/// One way of a connection, which has so many seconds from its first call on: a call that begins later fails. A call
-/// that waits is ended by the stream's own timeouts.
+/// That stream, whose bytes no contract can name.
 #[derive(Clone, Copy, Drop)]
-pub(crate) struct Bounded<'a, C> {
-    current: &'a Current,
+pub(crate) struct Peer<'a>(pub(crate) &'a Current);
+
+/// A reader or a writer that has so many seconds from its first call on: a call that begins later fails. A call that waits
+/// isn't ended.
+#[derive(Clone, Copy, Drop)]
+pub(crate) struct Bounded<T, C> {
+    inner: T,
     clock: C,
     timeout: u64,
     /// The last reading of the clock at which a call begins, once the first has begun.
     last: Option<u64>,
 }
 
-impl<'a, C: Clock> Bounded<'a, C> {
+impl<T, C: Clock> Bounded<T, C> {
     /// With the seconds that it has.
-    pub(crate) fn new(current: &'a Current, clock: C, timeout: u64) -> Bounded<'a, C> {
+    pub(crate) fn new(inner: T, clock: C, timeout: u64) -> Bounded<T, C> {
         Bounded {
-            current,
+            inner,
             clock,
             timeout,
             last: None,
@@ -32,16 +37,19 @@ impl<'a, C: Clock> Bounded<'a, C> {
     }
 
     /// Whose time is over: each call fails.
-    pub(crate) fn over(current: &'a Current, clock: C) -> Bounded<'a, C> {
+    pub(crate) fn over(inner: T, clock: C) -> Bounded<T, C> {
         Bounded {
-            current,
+            inner,
             clock,
             timeout: 0,
             last: Some(0),
         }
     }
 
-    fn check(&mut self) -> io::Result<()> {
+    /// Fails where its time is over.
+    fn check(&mut self) -> io::Result<()>
+        ensures { self.new.inner ≡ self.old.inner }
+    {
         let now = self.clock.seconds()?;
         let last = match self.last {
             Some(last) => last,
@@ -55,10 +63,31 @@ impl<'a, C: Clock> Bounded<'a, C> {
     }
 }
 
-impl<C: Clock> Read for Bounded<'_, C> {
+impl<R: Read, C: Clock> Read for Bounded<R, C> {
+    ghost remaining = { λ it. R.remaining it.inner };
+
     fn read(&mut self, buf: &mut [u8]) -> io::Result<usize> {
         self.check()?;
-        let current = self.current.try_borrow()?;
+        self.inner.read(buf)
+    }
+}
+
+impl<W: Write, C: Clock> Write for Bounded<W, C> {
+    ghost contents = { λ it. W.contents it.inner };
+
+    fn write(&mut self, buf: &[u8]) -> io::Result<usize> {
+        self.check()?;
+        self.inner.write(buf)
+    }
+
+    fn flush(&mut self) -> io::Result<()> {
+        self.inner.flush()
+    }
+}
+
+impl Read for Peer<'_> {
+    fn read(&mut self, buf: &mut [u8]) -> io::Result<usize> {
+        let current = self.0.try_borrow()?;
         match &*current {
             Some(stream) => read_from(stream, buf),
             None => Err(io::Error::from(ErrorKind::NotConnected)),
@@ -66,10 +95,9 @@ impl<C: Clock> Read for Bounded<'_, C> {
     }
 }
 
-impl<C: Clock> Write for Bounded<'_, C> {
+impl Write for Peer<'_> {
     fn write(&mut self, buf: &[u8]) -> io::Result<usize> {
-        self.check()?;
-        let current = self.current.try_borrow()?;
+        let current = self.0.try_borrow()?;
         match &*current {
             Some(stream) => write_to(stream, buf),
             None => Err(io::Error::from(ErrorKind::NotConnected)),

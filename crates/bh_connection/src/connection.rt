@@ -3,6 +3,7 @@ ghost use Rattle.std.specs.Io.KnownBytes.{Appends};
 ghost use Rattle.bh_model.specs.Runs.{last_reading};
 ghost use Rattle.bh_storage.specs.Calls.{Clean, IsAtRest};
 ghost use Rattle.bh_tables.specs.Typed.{Tables};
+ghost use Rattle.bh_link.specs.Transfers.{Takes};
 ghost use Rattle.bh_host.specs.Replies.{reply_bytes, reply_trouble, clock_text};
 ghost use Rattle.bh_host.specs.declared.reply.Caller.TheVariants.{Request};
 ghost use Rattle.bh_connection.specs.Connections.{ends_of, EndsAs, CameTo};
@@ -10,20 +11,20 @@ ghost use Rattle.bh_connection.specs.Connections.{ends_of, EndsAs, CameTo};
 use crate::served::{End, Served};
 use bh_event::event::Event;
 use bh_host::{Caller, Reply, Told, apply};
+use bh_link::ends::{Sink, Source};
 use bh_link::link::Link;
 use bh_link::request::{TakeError, take_request};
 use bh_storage::error::Trouble;
 use bh_storage::storage::Storage;
 use bh_types::moment::LAST_READING;
 use std::alloc::Global;
-use std::io::{Read, Write};
 
 /// Serves one connection: takes its request, applies it, and writes the response.
 ///
 /// A reading above 250,000,000,000 seconds is answered ClockOutOfRange, and nothing is read. Otherwise the head is read
 /// a byte at a time, and no byte after the body of a request that is accepted. What is done and answered is what
 /// [`apply`] does and answers at all the bytes that the reader would give.
-pub fn serve_connection<H: Storage, R: Read, W: Write>(
+pub fn serve_connection<H: Storage, R: Source, W: Sink>(
     alloc: Global,
     host: &mut H,
     reading: u64,
@@ -38,8 +39,8 @@ pub fn serve_connection<H: Storage, R: Read, W: Write>(
     ensures ready { Clean H.IsIntact H.IsOpen host.new → IsAtRest H.IsSound (H.seen host.new) }
     ensures limits { (H.seen host.new).limits ≡ (H.seen host.old).limits }
     ensures came_to { CameTo H.IsIntact H.IsOpen H.seen H.left
-        (ends_of R.remaining W.contents reading reader.old writer.old)
-        (ends_of R.remaining W.contents reading reader.new writer.new) result host.old host.new }
+        (ends_of R.remaining R.transfers W.contents W.transfers reading reader.old writer.old)
+        (ends_of R.remaining R.transfers W.contents W.transfers reading reader.new writer.new) result host.old host.new }
     ensures untouched { result.ended ≡ End.ReadFailed → host.new ≡ host.old }
     ensures clock { last_reading < reading
         → (result.stamp ≡ None) × (host.new ≡ host.old) × (reader.new ≡ reader.old)
@@ -78,10 +79,12 @@ fn left_out(reply: Reply) -> Told
 }
 
 /// Writes a reply.
-fn answer<W: Write>(writer: &mut Link<W>, told: Told) -> Served
+fn answer<W: Sink>(writer: &mut Link<W>, told: Told) -> Served
     requires { writer.old.failed ≡ false }
     ensures stamp { result.stamp ≡ told.stamp }
     ensures out { Appends (W.contents writer.old.inner) (W.contents writer.new.inner) (take result.sent (reply_bytes told.reply)) }
+    ensures took { Takes (W.transfers writer.old.inner) (W.transfers writer.new.inner)
+        (take result.sent (reply_bytes told.reply)) writer.new.failed }
     ensures ended { EndsAs result.ended result.sent (reply_bytes told.reply) writer.new.failed }
     ensures trouble { result.trouble ≡ reply_trouble told.reply }
 {

@@ -5,10 +5,10 @@ ghost use Rattle.bh_connection.specs.Each.{IsGoing, HasServed, HasServedAlone, e
 
 use crate::connection::serve_connection;
 use crate::served::Served;
+use bh_link::ends::{Sink, Source};
 use bh_link::link::Link;
 use bh_storage::storage::Storage;
 use std::alloc::{AllocError, Global};
-use std::io::{Read, Write};
 
 /// A connection at a reading of the clock, in seconds since 1970.
 #[derive(Drop)]
@@ -20,7 +20,7 @@ pub struct Arrival<R, W> {
 
 /// Serves connections in turn. To each tenant the answers are those of a machine that it has to itself, wherever any
 /// connection breaks. Its vector is taken first: where memory is wanting for it, nothing is read or applied.
-pub fn serve_each<H: Storage, R: Read, W: Write>(
+pub fn serve_each<H: Storage, R: Source, W: Sink>(
     alloc: Global,
     host: &mut H,
     arrivals: &mut [Arrival<R, W>],
@@ -32,10 +32,12 @@ pub fn serve_each<H: Storage, R: Read, W: Write>(
     ensures ready { Clean H.IsIntact H.IsOpen host.new → IsAtRest H.IsSound (H.seen host.new) }
     ensures limits { (H.seen host.new).limits ≡ (H.seen host.old).limits }
     ensures served { IfOk result (λ serveds. HasServed H.IsIntact H.IsOpen H.seen H.left
-        (map (ends R.remaining W.contents) arrivals.old) (map (ends R.remaining W.contents) arrivals.new)
+        (map (ends R.remaining R.transfers W.contents W.transfers) arrivals.old)
+        (map (ends R.remaining R.transfers W.contents W.transfers) arrivals.new)
         serveds.items host.old host.new) }
     ensures alone { IfOk result (λ serveds. H.IsIntact host.new → HasServedAlone H.IsIntact H.IsOpen H.seen H.left
-        (map (ends R.remaining W.contents) arrivals.old) (map (ends R.remaining W.contents) arrivals.new)
+        (map (ends R.remaining R.transfers W.contents W.transfers) arrivals.old)
+        (map (ends R.remaining R.transfers W.contents W.transfers) arrivals.new)
         serveds.items host.old host.new) }
     ensures count { IfOk result (λ serveds. length serveds.items ≡ length arrivals.old) }
     ensures err { OnErr result ((host.new ≡ host.old) × (arrivals.new ≡ arrivals.old)) }
@@ -49,7 +51,7 @@ pub fn serve_each<H: Storage, R: Read, W: Write>(
 }
 
 /// Serves one connection.
-pub(crate) fn serve_arrival<H: Storage, R: Read, W: Write>(
+pub(crate) fn serve_arrival<H: Storage, R: Source, W: Sink>(
     alloc: Global,
     host: &mut H,
     arrival: &mut Arrival<R, W>,
@@ -61,7 +63,8 @@ pub(crate) fn serve_arrival<H: Storage, R: Read, W: Write>(
     ensures ready { Clean H.IsIntact H.IsOpen host.new → IsAtRest H.IsSound (H.seen host.new) }
     ensures limits { (H.seen host.new).limits ≡ (H.seen host.old).limits }
     ensures came_to { CameTo H.IsIntact H.IsOpen H.seen H.left
-        (ends R.remaining W.contents arrival.old) (ends R.remaining W.contents arrival.new) result host.old host.new }
+        (ends R.remaining R.transfers W.contents W.transfers arrival.old)
+        (ends R.remaining R.transfers W.contents W.transfers arrival.new) result host.old host.new }
 {
     let reading = arrival.reading;
     serve_connection(

@@ -1,13 +1,14 @@
 ghost use Rattle.std.specs.Prelude.{⊤};
 
 use crate::acceptor::Acceptor;
-use crate::bounded::{Bounded, Current};
+use crate::bounded::{Bounded, Current, Peer};
 use crate::clock::Clock;
 use crate::each::Arrival;
 use crate::log::{Entry, line_of};
 use crate::noted::Noted;
 use crate::served::{End, Served};
 use bh_http::arriving::MAX_HEAD;
+use bh_link::ends::Untold;
 use bh_link::link::Link;
 use bh_storage::error::Trouble;
 use either::Either;
@@ -52,7 +53,7 @@ pub struct Manner {
 }
 
 /// One way of a connection, by the clock of its listener.
-type Way<'a, C> = Bounded<'a, &'a C>;
+type Way<'a, C> = Bounded<Peer<'a>, &'a C>;
 
 /// The bytes that come, read ahead into a buffer; where memory for it is wanting, without one.
 type Ahead<'a, C> = Either<BufReader<Way<'a, C>>, Way<'a, C>>;
@@ -72,9 +73,9 @@ pub(crate) struct Sockets<'a, C, E> {
 }
 
 impl<'a, C: Clock, E: Eprint> Acceptor for Sockets<'a, C, E> {
-    type Reader = Noted<Ahead<'a, C>>;
+    type Reader = Noted<Untold<Ahead<'a, C>>>;
 
-    type Writer = Noted<Way<'a, C>>;
+    type Writer = Noted<Untold<Way<'a, C>>>;
 
     fn accept(&mut self) -> io::Result<()> {
         let stream = accepted(self.listener, self.clock)?;
@@ -91,17 +92,17 @@ impl<'a, C: Clock, E: Eprint> Acceptor for Sockets<'a, C, E> {
         self.clock.seconds()
     }
 
-    fn open(&mut self, reading: u64) -> Arrival<Noted<Ahead<'a, C>>, Noted<Way<'a, C>>> {
+    fn open(&mut self, reading: u64) -> Arrival<Self::Reader, Self::Writer> {
         let way = self.way();
         let (request, response) = self.noted();
         Arrival {
             reading,
-            reader: Link::new(Noted::new(self.alloc, read_ahead(self.alloc, way), request)),
-            writer: Link::new(Noted::new(self.alloc, way, response)),
+            reader: Link::new(Noted::new(self.alloc, Untold(read_ahead(self.alloc, way)), request)),
+            writer: Link::new(Noted::new(self.alloc, Untold(way), response)),
         }
     }
 
-    fn close(&mut self, arrival: Arrival<Noted<Ahead<'a, C>>, Noted<Way<'a, C>>>, served: Served)
+    fn close(&mut self, arrival: Arrival<Self::Reader, Self::Writer>, served: Served)
         ensures { ⊤ }
     {
         let reader = arrival.reader.into_inner();
@@ -110,7 +111,7 @@ impl<'a, C: Clock, E: Eprint> Acceptor for Sockets<'a, C, E> {
             self.tell(arrival.reading, &reader, &writer, served.trouble);
         }
         if served.ended == End::Whole {
-            see_off(self.current, writer.into_inner());
+            see_off(self.current, writer.into_inner().0);
         }
         let _ = self.current.try_replace(None);
     }
@@ -124,8 +125,8 @@ impl<'a, C: Clock, E: Eprint> Sockets<'a, C, E> {
     /// One way of the connection. A stream that has no timeouts might be waited for without end: its time is over.
     fn way(&self) -> Way<'a, C> {
         match set_timeouts(self.current, self.manner.timeout) {
-            Ok(()) => Bounded::new(self.current, self.clock, self.manner.timeout),
-            Err(_) => Bounded::over(self.current, self.clock),
+            Ok(()) => Bounded::new(Peer(self.current), self.clock, self.manner.timeout),
+            Err(_) => Bounded::over(Peer(self.current), self.clock),
         }
     }
 

@@ -3,13 +3,14 @@ ghost use Rattle.std.specs.Io.KnownBytes.{Consumes, IsAtEnd};
 ghost use Rattle.bh_types.specs.Limits.{HostLimits};
 ghost use Rattle.bh_http.specs.Arriving.{is_text as is_text_byte, ends_blank as is_blank_at_end};
 ghost use Rattle.bh_link.specs.Taking.{Took, TookAtMost, Opens, is_fault};
+ghost use Rattle.bh_link.specs.Transfers.{Transfer, Gives};
 ghost use Rattle.bh_link.specs.declared.request.TakeError.TheVariants.{OutOfMemory};
 
+use crate::ends::Source;
 use crate::link::{Link, ReadFault};
 use bh_http::arriving::{Arriving, MAX_HEAD, ends_blank, search};
 use bh_types::limits::Limits;
 use std::alloc::{AllocError, Global};
-use std::io::Read;
 
 /// How many bytes of a body are asked of a reader at once.
 const PIECE: usize = 16384;
@@ -17,7 +18,7 @@ const PIECE: usize = 16384;
 /// Why no request was taken.
 #[derive(Clone, Copy, PartialEq, Eq)]
 pub enum TakeError {
-    /// The reader failed.
+    /// The source failed.
     ReadFailed,
     /// A growth of memory was refused.
     OutOfMemory,
@@ -54,7 +55,7 @@ struct Opening {
 
 /// Takes the bytes of a request: its head, a byte at a time, and its body. Where they are no request that is accepted,
 /// it takes as many as show so: up to the end of a head, 16,384 bytes, or all.
-pub fn take_request<R: Read>(
+pub fn take_request<R: Source>(
     alloc: Global,
     limits: &Limits,
     reader: &mut Link<R>,
@@ -62,9 +63,11 @@ pub fn take_request<R: Read>(
     requires { reader.old.failed ≡ false }
     ensures took { IfOk result (λ bytes.
         Took limits.now (R.remaining reader.old.inner) (R.remaining reader.new.inner) bytes.items) }
+    ensures given { IfOk result (λ bytes. Gives (R.transfers reader.old.inner) (R.transfers reader.new.inner) bytes.items false) }
     ensures going { OnOk result (reader.new.failed ≡ false) }
     ensures within { IfErr result (λ _. (taken : List ℕ)
-        × TookAtMost limits.now (R.remaining reader.old.inner) (R.remaining reader.new.inner) taken) }
+        × TookAtMost limits.now (R.remaining reader.old.inner) (R.remaining reader.new.inner) taken
+        × Gives (R.transfers reader.old.inner) (R.transfers reader.new.inner) taken reader.new.failed) }
     ensures failed { IfErr result (λ e. reader.new.failed ≡ is_fault e) }
 {
     let mut opening = take_head(alloc, limits, reader)?;
@@ -73,7 +76,7 @@ pub fn take_request<R: Read>(
 }
 
 /// Takes the bytes up to the end of a head.
-fn take_head<R: Read>(
+fn take_head<R: Source>(
     alloc: Global,
     limits: &Limits,
     reader: &mut Link<R>,
@@ -81,9 +84,12 @@ fn take_head<R: Read>(
     requires { reader.old.failed ≡ false }
     ensures opens { IfOk result (λ opening.
         Opens limits.now (R.remaining reader.old.inner) (R.remaining reader.new.inner) opening.bytes.items opening.body) }
+    ensures given { IfOk result (λ opening.
+        Gives (R.transfers reader.old.inner) (R.transfers reader.new.inner) opening.bytes.items false) }
     ensures going { OnOk result (reader.new.failed ≡ false) }
     ensures within { IfErr result (λ _. (taken : List ℕ)
-        × TookAtMost limits.now (R.remaining reader.old.inner) (R.remaining reader.new.inner) taken) }
+        × TookAtMost limits.now (R.remaining reader.old.inner) (R.remaining reader.new.inner) taken
+        × Gives (R.transfers reader.old.inner) (R.transfers reader.new.inner) taken reader.new.failed) }
     ensures failed { IfErr result (λ e. reader.new.failed ≡ is_fault e) }
 {
     let mut bytes = Vec::new(alloc);
@@ -139,15 +145,19 @@ fn make_room(opening: &mut Opening) -> Result<(), TakeError>
 }
 
 /// Takes the body after a head. Where no body is to be taken, nothing is.
-fn take_body<R: Read>(reader: &mut Link<R>, opening: Opening) -> Result<Vec<u8>, TakeError>
+fn take_body<R: Source>(reader: &mut Link<R>, opening: Opening) -> Result<Vec<u8>, TakeError>
     requires { reader.old.failed ≡ false }
     ensures took { (limits : HostLimits) (start : Option (List ℕ))
         → Opens limits start (R.remaining reader.old.inner) opening.bytes.items opening.body
         → IfOk result (λ bytes. Took limits start (R.remaining reader.new.inner) bytes.items) }
+    ensures given { (start : Option (List Transfer)) → Gives start (R.transfers reader.old.inner) opening.bytes.items false
+        → IfOk result (λ bytes. Gives start (R.transfers reader.new.inner) bytes.items false) }
     ensures going { OnOk result (reader.new.failed ≡ false) }
-    ensures within { (limits : HostLimits) (start : Option (List ℕ))
+    ensures within { (limits : HostLimits) (start : Option (List ℕ)) (begun : Option (List Transfer))
         → Opens limits start (R.remaining reader.old.inner) opening.bytes.items opening.body
-        → IfErr result (λ _. (taken : List ℕ) × TookAtMost limits start (R.remaining reader.new.inner) taken) }
+        → Gives begun (R.transfers reader.old.inner) opening.bytes.items false
+        → IfErr result (λ _. (taken : List ℕ) × TookAtMost limits start (R.remaining reader.new.inner) taken
+        × Gives begun (R.transfers reader.new.inner) taken reader.new.failed) }
     ensures failed { IfErr result (λ e. reader.new.failed ≡ is_fault e) }
 {
     let mut bytes = opening.bytes;
@@ -163,7 +173,7 @@ fn take_body<R: Read>(reader: &mut Link<R>, opening: Opening) -> Result<Vec<u8>,
 }
 
 /// Takes some bytes, at most so many, to the end of those that are there; 0 at the end.
-fn take_piece<R: Read>(
+fn take_piece<R: Source>(
     reader: &mut Link<R>,
     bytes: &mut Vec<u8>,
     most: u64,
@@ -173,10 +183,12 @@ fn take_piece<R: Read>(
     ensures added { IfOk result (λ n. (n ≤ most) × ((n ≡ 0 → IsAtEnd (R.remaining reader.new.inner))
         × ((piece : List ℕ) × (length piece ≡ n)
         × Consumes (R.remaining reader.old.inner) (R.remaining reader.new.inner) piece
+        × Gives (R.transfers reader.old.inner) (R.transfers reader.new.inner) piece false
         × (bytes.new.items ≡ bytes.old.items ++ piece)))) }
     ensures going { OnOk result (reader.new.failed ≡ false) }
     ensures within { IfErr result (λ _. (piece : List ℕ) × (length piece ≤ most)
-        × Consumes (R.remaining reader.old.inner) (R.remaining reader.new.inner) piece) }
+        × Consumes (R.remaining reader.old.inner) (R.remaining reader.new.inner) piece
+        × Gives (R.transfers reader.old.inner) (R.transfers reader.new.inner) piece reader.new.failed) }
     ensures failed { IfErr result (λ e. reader.new.failed ≡ is_fault e) }
 {
     let mut room = [0u8; PIECE];
@@ -185,7 +197,29 @@ fn take_piece<R: Read>(
     } else {
         PIECE
     };
-    let count = reader.next_bytes(&mut room[..size])?;
+    take_into(reader, &mut room[..size], bytes)
+}
+
+/// Takes some bytes, at most as many as the room holds, to the end of those that are there; 0 at the end.
+fn take_into<R: Source>(
+    reader: &mut Link<R>,
+    room: &mut [u8],
+    bytes: &mut Vec<u8>,
+) -> Result<u64, TakeError>
+    requires going { reader.old.failed ≡ false }
+    requires room { 0 < length room.old }
+    ensures added { IfOk result (λ n. (n ≤ length room.new) × ((n ≡ 0 → IsAtEnd (R.remaining reader.new.inner))
+        × ((piece : List ℕ) × (length piece ≡ n)
+        × Consumes (R.remaining reader.old.inner) (R.remaining reader.new.inner) piece
+        × Gives (R.transfers reader.old.inner) (R.transfers reader.new.inner) piece false
+        × (bytes.new.items ≡ bytes.old.items ++ piece)))) }
+    ensures going { OnOk result (reader.new.failed ≡ false) }
+    ensures within { IfErr result (λ _. (piece : List ℕ) × (length piece ≤ length room.new)
+        × Consumes (R.remaining reader.old.inner) (R.remaining reader.new.inner) piece
+        × Gives (R.transfers reader.old.inner) (R.transfers reader.new.inner) piece reader.new.failed) }
+    ensures failed { IfErr result (λ e. reader.new.failed ≡ is_fault e) }
+{
+    let count = reader.next_bytes(room)?;
     bytes.extend_from_slice(&room[..count])?;
     Ok(count as u64)
 }

@@ -11,18 +11,18 @@ use bh_event::event::Event;
 use bh_event::flaw::flaw_of;
 use bh_event::line::read_line;
 use bh_host::{Reply, apply};
+use bh_link::ends::Sink;
 use bh_link::link::Link;
 use bh_storage::storage::Storage;
 use memchr::memchr;
 use std::alloc::Global;
-use std::io::Write;
 
 /// Applies the events that lines tell, up to the first line that tells none, to a host that no fault shuts. Each reply
 /// and a line's end are written before the next line is read, and then, for a line that tells no event, `bad line` and
 /// its number. Gives that line, if there is one.
 ///
 /// Of a line, its event and its reply nothing is held once the reply is written.
-pub(crate) fn answer_lines<H: Storage, W: Write>(
+pub(crate) fn answer_lines<H: Storage, W: Sink>(
     alloc: Global,
     storage: &mut H,
     bytes: &[u8],
@@ -62,7 +62,7 @@ fn cut_line(bytes: &[u8]) -> (&[u8], Option<&[u8]>)
 }
 
 /// Answers one line; an empty line with nothing.
-fn answer_line<H: Storage, W: Write>(
+fn answer_line<H: Storage, W: Sink>(
     alloc: Global,
     storage: &mut H,
     number: usize,
@@ -96,7 +96,7 @@ fn answer_line<H: Storage, W: Write>(
 }
 
 /// Applies an event, and writes its reply and a line feed.
-fn answer_event<H: Storage, W: Write>(
+fn answer_event<H: Storage, W: Sink>(
     alloc: Global,
     storage: &mut H,
     event: &Event,
@@ -115,7 +115,7 @@ fn answer_event<H: Storage, W: Write>(
     send_reply(&told.reply, writer)
 }
 
-fn send_reply<W: Write>(reply: &Reply, writer: &mut Link<W>) -> Result<(), ScriptError>
+fn send_reply<W: Sink>(reply: &Reply, writer: &mut Link<W>) -> Result<(), ScriptError>
     requires { writer.old.failed ≡ false }
     ensures writes { Writes (reply_bytes reply.now ++ 10 ∷ []) result (W.contents writer.old.inner) (W.contents writer.new.inner) }
     ensures going { OnOk result (writer.new.failed ≡ false) }
@@ -125,7 +125,7 @@ fn send_reply<W: Write>(reply: &Reply, writer: &mut Link<W>) -> Result<(), Scrip
     send(b"\n", writer)
 }
 
-fn send_bad_line<W: Write>(
+fn send_bad_line<W: Sink>(
     alloc: Global,
     number: usize,
     writer: &mut Link<W>,
@@ -139,7 +139,7 @@ fn send_bad_line<W: Write>(
     send(line.as_bytes(), writer)
 }
 
-fn send<W: Write>(bytes: &[u8], writer: &mut Link<W>) -> Result<(), ScriptError>
+fn send<W: Sink>(bytes: &[u8], writer: &mut Link<W>) -> Result<(), ScriptError>
     requires { writer.old.failed ≡ false }
     ensures writes { Writes bytes.now result (W.contents writer.old.inner) (W.contents writer.new.inner) }
     ensures going { OnOk result (writer.new.failed ≡ false) }

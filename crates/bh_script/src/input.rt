@@ -1,5 +1,8 @@
-ghost use Rattle.std.specs.Prelude.{◌≡◌, map, IfOk};
+ghost use Rattle.std.specs.Prelude.{◌≡◌, ◌++◌, ℕ, List, length, map, vec_items, IfOk};
+ghost use Rattle.std.specs.Option.{option_map};
+ghost use Rattle.std.specs.Io.KnownBytes.{Consumes, IsAtEnd};
 ghost use Rattle.bh_event.specs.Events.{arrival};
+ghost use Rattle.bh_script.specs.Input.{ReadsAll};
 ghost use Rattle.bh_script.specs.Lines.{events_of, bad_line_of};
 
 use bh_event::event::Event;
@@ -27,20 +30,31 @@ pub struct Script {
 }
 
 /// All bytes of a reader, or none where they are more than a script may have.
-pub fn read_all<R: Read>(alloc: Global, reader: &mut R) -> io::Result<Option<Vec<u8>>> {
+pub fn read_all<R: Read>(alloc: Global, reader: &mut R) -> io::Result<Option<Vec<u8>>>
+    ensures { IfOk result (λ read. ReadsAll (R.remaining reader.old) (R.remaining reader.new) (option_map vec_items read)) }
+{
     let mut bytes = Vec::new(alloc);
-    let mut piece = [0u8; 16384];
-    for _ in 0..u64::MAX {
-        let count = reader.read(&mut piece)?;
-        if count == 0 {
-            break;
+    for pieces in 0..u64::MAX {
+        if read_piece(reader, &mut bytes)? == 0 {
+            return Ok(Some(bytes));
         }
-        bytes.extend_from_slice(&piece[..count])?;
         if bytes.len() > GREATEST_SCRIPT {
             return Ok(None);
         }
     }
-    Ok(Some(bytes))
+    Ok(None)
+}
+
+/// Reads some bytes to the end of those that are there; 0 at the end.
+fn read_piece<R: Read>(reader: &mut R, bytes: &mut Vec<u8>) -> io::Result<usize>
+    ensures { IfOk result (λ n. (n ≡ 0 → IsAtEnd (R.remaining reader.new)) × ((piece : List ℕ) × (length piece ≡ n)
+        × Consumes (R.remaining reader.old) (R.remaining reader.new) piece
+        × (bytes.new.items ≡ bytes.old.items ++ piece))) }
+{
+    let mut room = [0u8; 16384];
+    let count = reader.read(&mut room)?;
+    bytes.extend_from_slice(&room[..count])?;
+    Ok(count)
 }
 
 /// The script whose lines these bytes are; an empty line is skipped.

@@ -10,6 +10,7 @@ use crate::error::ScriptError;
 use crate::input::BadLine;
 use bh_create::create;
 use bh_dispatch::storage::HostStorage;
+use bh_link::ends::Sink;
 use bh_link::link::Link;
 use bh_schema::host::Digester;
 use bh_storage::error::Trouble;
@@ -17,7 +18,6 @@ use bh_types::block_digest::BlockDigest;
 use bh_types::limits::{Limits, Tuning};
 use sqlite::{Connection, MemStore};
 use std::alloc::Global;
-use std::io::Write;
 
 /// Applies the events of a script, up to the first line that tells none, to a new host in memory with these limits,
 /// whose blocks the digester names and which keeps that this function does. Each reply and a line's end are written
@@ -25,7 +25,7 @@ use std::io::Write;
 /// if there is one.
 ///
 /// Of a line, its event and its reply nothing is held once the reply is written.
-pub fn answer_script<W: Write, D: Digester + Drop>(
+pub fn answer_script<W: Sink, D: Digester + Drop>(
     alloc: Global,
     bytes: &[u8],
     digester: D,

@@ -17,6 +17,7 @@ use bh_event::event::Event;
 use bh_event::line::read_line;
 use bh_host::{Told, apply};
 use bh_storage::storage::Storage;
+use bh_types::block_digest::BlockDigest;
 use sqlite::Connection;
 use std::alloc::{AllocError, Global};
 use std::rt::Files;
@@ -140,7 +141,13 @@ fn all_alike<H: Storage>(alloc: Global, host: &mut H, events: &[Event], told: &[
 fn served(alloc: Global, events: &[Event], told: &[Told]) -> Result<(Count, String), Fault> {
     let connection = Connection::open_in_memory(alloc)?;
     let (limits, tuning) = settings().ok_or(Fault::Form)?;
-    match create(connection, Sha256Digester, limits, tuning) {
+    match create(
+        connection,
+        Sha256Digester,
+        BlockDigest::Sha256,
+        limits,
+        tuning,
+    ) {
         Ok(host) => {
             let mut storage = HostStorage { host };
             let count = all_alike(alloc, &mut storage, events, told);

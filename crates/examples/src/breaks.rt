@@ -15,6 +15,7 @@ use bh_dispatch::storage::HostStorage;
 use bh_event::event::Event;
 use bh_host::run;
 use bh_storage::storage::Storage;
+use bh_types::block_digest::BlockDigest;
 use sqlite::Connection;
 use std::alloc::{AllocError, Global};
 use std::io;
@@ -52,7 +53,13 @@ fn ending_of(alloc: Global, turn: Turn<'_>, cut: Cut) -> Result<Ending, Fault> {
     let Some((limits, tuning)) = settings() else {
         return Err(Fault::Form);
     };
-    match create(connection, Sha256Digester, limits, tuning) {
+    match create(
+        connection,
+        Sha256Digester,
+        BlockDigest::Sha256,
+        limits,
+        tuning,
+    ) {
         Ok(host) => {
             let mut storage = HostStorage { host };
             let passed = pass(alloc, &mut storage, turn, cut)?;

@@ -11,6 +11,7 @@ use bh_create::create;
 use bh_dispatch::storage::HostStorage;
 use bh_event::event::Event;
 use bh_host::apply;
+use bh_link::ends::Untold;
 use bh_link::link::Link;
 use bh_script::input::read_script;
 use bh_storage::storage::Storage;
@@ -22,7 +23,7 @@ use std::io::{Chain, ErrorKind, Write};
 use std::rt::Files;
 use std::{fs, io};
 
-type Request<'a> = Arrival<Chain<&'a [u8], Last>, Narrow>;
+type Request<'a> = Arrival<Untold<Chain<&'a [u8], Last>>, Untold<Narrow>>;
 
 /// The connection that brings an event, if it is a request.
 fn request<'a>(alloc: Global, event: &'a Event, cut: &str) -> Option<Request<'a>>
@@ -32,8 +33,8 @@ fn request<'a>(alloc: Global, event: &'a Event, cut: &str) -> Option<Request<'a>
     match event {
         Event::Http { reading, bytes } => Some(Arrival {
             reading: *reading,
-            reader: Link::new(reader(bytes.as_slice(), cut.reads)),
-            writer: Link::new(Narrow::new(alloc, cut)),
+            reader: Link::new(Untold(reader(bytes.as_slice(), cut.reads))),
+            writer: Link::new(Untold(Narrow::new(alloc, cut))),
         }),
         Event::Operator { .. } | Event::Sweep { .. } | Event::Report { .. } => None,
     }
@@ -108,8 +109,8 @@ fn order<H: Storage>(
 
 /// The bytes that went out, how the connection ended where it was cut off, and how many bytes stayed unread.
 fn tell(alloc: Global, served: Served, arrival: Request<'_>, text: &mut Vec<u8>) -> io::Result<()> {
-    let unread = arrival.reader.into_inner().into_inner().0.len();
-    text.extend_from_slice(arrival.writer.into_inner().held.as_slice())?;
+    let unread = arrival.reader.into_inner().0.into_inner().0.len();
+    text.extend_from_slice(arrival.writer.into_inner().0.held.as_slice())?;
     if served.ended != End::Whole {
         text.write_all(format!(in alloc;
             "[{:?}, {} sent]",

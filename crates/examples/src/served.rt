@@ -4,6 +4,7 @@ ghost use Rattle.bh_storage.specs.Calls.{Clean, IsAtRest};
 
 use crate::ends::{Cut, Narrow, reader};
 use bh_connection::{Served, serve_connection};
+use bh_link::ends::Untold;
 use bh_link::link::Link;
 use bh_storage::storage::Storage;
 use std::alloc::Global;
@@ -28,12 +29,12 @@ pub fn serve<H: Storage>(alloc: Global, host: &mut H, asked: Asked<'_>, cut: Cut
     requires { Clean H.IsIntact H.IsOpen host.old → IsAtRest H.IsSound (H.seen host.old) }
     ensures { Clean H.IsIntact H.IsOpen host.new → IsAtRest H.IsSound (H.seen host.new) }
 {
-    let mut input = Link::new(reader(asked.bytes, cut.reads));
-    let mut output = Link::new(Narrow::new(alloc, cut));
+    let mut input = Link::new(Untold(reader(asked.bytes, cut.reads)));
+    let mut output = Link::new(Untold(Narrow::new(alloc, cut)));
     let served = serve_connection(alloc, host, asked.reading, &mut input, &mut output);
     Passed {
         served,
-        out: output.into_inner().held,
-        unread: input.into_inner().into_inner().0.len(),
+        out: output.into_inner().0.held,
+        unread: input.into_inner().0.into_inner().0.len(),
     }
 }

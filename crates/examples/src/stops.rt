@@ -15,6 +15,7 @@ use bh_event::event::Event;
 use bh_host::{Told, apply};
 use bh_open::{NoHost, open_host};
 use bh_storage::storage::Storage;
+use bh_types::block_digest::BlockDigest;
 use sqlite::{Connection, FileStore, Files};
 use sqlite_disk::{Fuse, Memory};
 use std::alloc::Global;
@@ -85,7 +86,13 @@ fn run_on(
     expected: &Expected<'_>,
 ) -> Result<Stopped, Fault> {
     let (limits, tuning) = settings().ok_or(Fault::Form)?;
-    match create(connection, Sha256Digester, limits, tuning) {
+    match create(
+        connection,
+        Sha256Digester,
+        BlockDigest::Sha256,
+        limits,
+        tuning,
+    ) {
         Ok(host) => {
             let mut storage = HostStorage { host };
             let answered = Some(answered(alloc, &mut storage, expected)?);
@@ -137,9 +144,9 @@ fn rows_found(
     connection: Connection<FileStore<Memory>>,
 ) -> Result<Option<String>, Fault> {
     let (_, tuning) = settings().ok_or(Fault::Form)?;
-    match open_host(alloc, connection, Sha256Digester, tuning) {
+    match open_host(alloc, connection, tuning) {
         Ok(opened) => {
-            let mut connection = opened.host.into_connection();
+            let mut connection = opened.connection;
             Ok(Some(rows_of(alloc, &mut connection)?))
         }
         Err(error) => match error.why {

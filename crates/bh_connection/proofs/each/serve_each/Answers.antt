@@ -47,12 +47,12 @@ loop-index-preserved g c =
       count = search rules;
       room = search rules;
       rest = rest_next nows firsts i c.serve_arrival-served.new.arrival so_far.rest;
-      served = served_next g.H.Storage.IsIntact g.H.Storage.IsOpen g.H.Storage.seen g.H.Storage.left (ends g.R.Read.remaining g.W.Write.contents) firsts nows _ i d _ c.serve_arrival-served.new.arrival _ _ c.serve_arrival-served.result _ _ _
+      served = served_next g.H.Storage.IsIntact g.H.Storage.IsOpen g.H.Storage.seen g.H.Storage.left (ends g.R.Source.remaining g.R.Source.transfers g.W.Sink.contents g.W.Sink.transfers) firsts nows _ i d _ c.serve_arrival-served.new.arrival _ _ c.serve_arrival-served.result _ _ _
           lt lt2 (same_at nows firsts i d so_far.rest) refl c.push_reserved.ensures.items one.intact so_far.limits so_far.served one.came_to;
     }
 
 pub returns-clause-alone : goal.returns-clause-alone
 returns-clause-alone g c = λ intact.
-    served_alone_all g.H.Storage.IsIntact g.H.Storage.IsOpen g.H.Storage.seen g.H.Storage.left (ends g.R.Read.remaining g.W.Write.contents) c.args.arrivals.now c.loop-index.arrivals c.loop-index.index
+    served_alone_all g.H.Storage.IsIntact g.H.Storage.IsOpen g.H.Storage.seen g.H.Storage.left (ends g.R.Source.remaining g.R.Source.transfers g.W.Sink.contents g.W.Sink.transfers) c.args.arrivals.now c.loop-index.arrivals c.loop-index.index
     c.loop-index.serveds.items c.args.host.now c.loop-index.host
     (omega (arith, c.loop-index-test.false, c.loop-index.auto.arrivals)) (omega (arith, c.loop-index-test.false, c.loop-index.auto.arrivals)) intact c.loop-index.invariant.served

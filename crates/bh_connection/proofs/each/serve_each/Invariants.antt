@@ -14,6 +14,6 @@ invariant-loop-index g l = record {
   room : vec_capacity l.serveds ≡ length l.fn.arrivals;
   rest : drop l.index l.arrivals ≡ drop l.index l.fn.arrivals;
   served : HasServed g.H.Storage.IsIntact g.H.Storage.IsOpen g.H.Storage.seen g.H.Storage.left
-      (map (ends g.R.Read.remaining g.W.Write.contents) (take l.index l.fn.arrivals)) (map (ends g.R.Read.remaining g.W.Write.contents) (take l.index l.arrivals))
+      (map (ends g.R.Source.remaining g.R.Source.transfers g.W.Sink.contents g.W.Sink.transfers) (take l.index l.fn.arrivals)) (map (ends g.R.Source.remaining g.R.Source.transfers g.W.Sink.contents g.W.Sink.transfers) (take l.index l.arrivals))
       l.serveds.items l.fn.host l.host;
 }

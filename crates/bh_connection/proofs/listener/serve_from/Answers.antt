@@ -1,8 +1,9 @@
 use Rattle.std.proofs.Common.{[], ◌∷◌, ◌++◌, refl, sym, subst, ◌∙◌, arith, length-append}
 use Rattle.std.specs.List.{flat_map}
+use Rattle.bh_link.proofs.TransferLemmas.{logs_nothing, logs_then}
 use Rattle.bh_connection.specs.Listening.{calls_of, HasServedRows}
 use Rattle.bh_connection.proofs.EachLemmas.{ran_no_request, ran_request}
-use Rattle.bh_connection.proofs.ListeningLemmas.{logs_nothing, logs_then, logs_more, nothing_came, rows_more, at_err}
+use Rattle.bh_connection.proofs.ListeningLemmas.{logs_more, nothing_came, rows_more, at_err}
 use Rattle.bh_connection.proofs.listener.serve_from.Goals as goal
 
 pub loop-served-init : goal.loop-served-init

@@ -1,8 +1,9 @@
 use Rattle.std.proofs.Common.{◌≡◌, List, length}
 use Rattle.std.specs.List.{flat_map}
 use Rattle.bh_storage.specs.Calls.{Clean, IsAtRest}
+use Rattle.bh_link.specs.Transfers.{Logs}
 use Rattle.bh_connection.specs.Each.{RanSome, Row}
-use Rattle.bh_connection.specs.Listening.{Logs, calls_of, HasServedRows}
+use Rattle.bh_connection.specs.Listening.{calls_of, HasServedRows}
 use Rattle.bh_connection.proofs.listener.serve_from.Given as goal
 
 abbrev pub invariant-loop-served : goal.invariant-loop-served

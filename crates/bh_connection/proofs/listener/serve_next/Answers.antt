@@ -1,8 +1,10 @@
 use Rattle.std.proofs.Common.{[], ◌∷◌, refl, sym, subst, inr}
+use Rattle.bh_link.specs.Transfers.{Logs}
+use Rattle.bh_link.proofs.TransferLemmas.{logs_then}
 use Rattle.bh_connection.specs.Each.{ends}
-use Rattle.bh_connection.specs.Listening.{Logs, Accepted, ToldReading, ToldNone, Opened, Closed}
+use Rattle.bh_connection.specs.Listening.{Accepted, ToldReading, ToldNone, Opened, Closed}
 use Rattle.bh_connection.proofs.EachLemmas.{no_connection}
-use Rattle.bh_connection.proofs.ListeningLemmas.{logs_then, at_err}
+use Rattle.bh_connection.proofs.ListeningLemmas.{at_err}
 use Rattle.bh_connection.proofs.listener.serve_next.Goals as goal
 
 pub returns-in_err-accept-clause-did : goal.returns-in_err-accept-clause-did
@@ -25,8 +27,8 @@ returns-in_err-reading-clause-comes g c =
 pub returns-clause-comes : goal.returns-clause-comes
 returns-clause-comes g c =
     let came_to = c.serve_arrival-served.ensures.came_to in
-    let before = ends g.A.Reader.Read.remaining g.A.Writer.Write.contents c.open-arrival.result in
-    let after = ends g.A.Reader.Read.remaining g.A.Writer.Write.contents c.serve_arrival-served.new.arrival in
+    let before = ends g.A.Reader.Source.remaining g.A.Reader.Source.transfers g.A.Writer.Sink.contents g.A.Writer.Sink.transfers c.open-arrival.result in
+    let after = ends g.A.Reader.Source.remaining g.A.Reader.Source.transfers g.A.Writer.Sink.contents g.A.Writer.Sink.transfers c.serve_arrival-served.new.arrival in
     let told : Logs (g.A.Acceptor.calls c.accept.new.self) (g.A.Acceptor.calls c.seconds.new.self) (ToldReading before.reading ∷ []) =
     subst (λ r. Logs (g.A.Acceptor.calls c.accept.new.self) (g.A.Acceptor.calls c.seconds.new.self) (ToldReading r ∷ [])) (sym c.open-arrival.ensures.reading) c.in_ok-reading.ensures in (
       record { before = before; after = after; served = c.serve_arrival-served.result; outcome = came_to.outcome },

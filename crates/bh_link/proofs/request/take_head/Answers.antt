@@ -6,7 +6,9 @@ use Rattle.bh_http.specs.Reading.{HasNoHead}
 use Rattle.bh_http.specs.declared.arriving.Arriving.TheVariants.{Body, Refused, NotYet}
 use Rattle.bh_http.specs.Arriving.{is_text, ends_blank, Says}
 use Rattle.bh_http.proofs.ArrivingLemmas.{no_head_of_none}
+use Rattle.bh_link.specs.declared.link.ReadFault.{ReadFault}
 use Rattle.bh_link.proofs.TakingLemmas.{consumes_none, consumes_kept, consumes_pushed, part_none, part_pushed, opens_pushed, opens_never, opens_limit, started_pushed, none_pushed, if_err}
+use Rattle.bh_link.proofs.TransferLemmas.{gives_none, gives_pushed, gives_byte_end, gives_fault, gives_going}
 use Rattle.bh_link.proofs.request.take_head.Goals as goal
 use Rattle.bh_link.proofs.request.take_head.Goals.{then-may_end+in-NotYet, else-may_end}
 
@@ -29,6 +31,7 @@ loop-count-init g c =
       going = c.requires;
       count = ap length none;
       consumed = none_consumed _ _ none;
+      given = gives_none _ _ none;
       none = no_head _ none;
       started = ap (list_any is_text) (sym none);
     }
@@ -40,6 +43,7 @@ returns-in_err-byte-clause-within g c =
       c.loop-count.bytes.items,
       part_none c.args.limits.now _ _ _ (consumes_kept _ _ _ _ so_far.consumed c.in_err-byte.ensures.fault)
           (omega (arith, so_far.count, c.loop-count-test.true)) so_far.none,
+      gives_fault _ _ _ _ _ (c.in_err-byte.ensures.failed.1 refl) so_far.given c.in_err-byte.ensures.transfer,
     )
 
 pub returns-in_err-push-clause-within : goal.returns-in_err-push-clause-within
@@ -53,6 +57,7 @@ returns-in_err-push-clause-within g c =
       bytes ++ byte ∷ [],
       part_pushed c.args.limits.now _ _ bytes (bytes ++ byte ∷ []) byte refl consumed
           (omega (arith, so_far.count, c.loop-count-test.true, length-append bytes (byte ∷ []))) so_far.none,
+      gives_going _ _ _ _ (search rules) (gives_pushed _ _ _ bytes (bytes ++ byte ∷ []) byte refl so_far.given (rw c.in-Some.is at c.in_ok-byte.ensures.transfer)),
     )
 
 pub returns-in-Body-clause-opens : goal.returns-in-Body-clause-opens
@@ -67,6 +72,15 @@ returns-in-Body-clause-opens g c =
     let said = subst P c.as_slice-then-may_end.ensures.value (rw c.in-Body.is at c.search.ensures) in
     opens_pushed c.args.limits.now _ _ bytes next byte c.in-Body.body c.in_ok-push.ensures consumed
     (room bytes next byte c.loop-count.count so_far.count c.loop-count-test.true c.in_ok-push.ensures) so_far.none said
+
+pub returns-in_default-clause-given : goal.returns-in_default-clause-given
+returns-in_default-clause-given g c = gives_byte_end ReadFault _ _ _ _ c.in_ok-byte.field-0 (search rules) c.loop-count.invariant.given c.in_ok-byte.ensures.transfer
+
+pub returns-in-Body-clause-given : goal.returns-in-Body-clause-given
+returns-in-Body-clause-given g c = gives_pushed _ _ _ _ _ _ c.in_ok-push.ensures c.loop-count.invariant.given (rw c.in-Some.is at c.in_ok-byte.ensures.transfer)
+
+pub returns-in-Refused-clause-given : goal.returns-in-Refused-clause-given
+returns-in-Refused-clause-given g c = gives_pushed _ _ _ _ _ _ c.in_ok-push.ensures c.loop-count.invariant.given (rw c.in-Some.is at c.in_ok-byte.ensures.transfer)
 
 pub returns-in-Refused-clause-opens : goal.returns-in-Refused-clause-opens
 returns-in-Refused-clause-opens g c =
@@ -100,6 +114,7 @@ loop-count-preserved g c =
       going = search rules;
       count = ap length same ∙ length-append bytes (byte ∷ []) ∙ ap (λ n. n + 1) so_far.count;
       consumed = consumes_pushed _ _ _ bytes next byte same so_far.consumed taken;
+      given = gives_pushed _ _ _ bytes next byte same so_far.given (rw c.in-Some.is at c.in_ok-byte.ensures.transfer);
       none = none;
       started = started;
     }

@@ -7,15 +7,15 @@ use Rattle.bh_script.proofs.answers.answer_line.Goals as goal
 
 pub returns-in_err-event-clause-answers : goal.returns-in_err-event-clause-answers
 returns-in_err-event-clause-answers g c =
-    let old = g.W.Write.contents c.args.writer.now.inner in
+    let old = g.W.Sink.contents c.args.writer.now.inner in
     let text = failing_text c.args.number (c.args.line.now ∷ []) in
     (text, answers_failing c.args.number (c.args.line.now ∷ []) (g.H.Storage.seen c.args.storage.now).now, fails c.from_residual.result old old text c.from_residual.ensures.0 (nothing_sent old text))
 
 pub returns-in_err-answer_event-in-Some-clause-answers :
     goal.returns-in_err-answer_event-in-Some-clause-answers
 returns-in_err-answer_event-in-Some-clause-answers g c =
-    let old = g.W.Write.contents c.args.writer.now.inner in
-    let new = g.W.Write.contents c.answer_event.new.writer.inner in
+    let old = g.W.Sink.contents c.args.writer.now.inner in
+    let new = g.W.Sink.contents c.answer_event.new.writer.inner in
     let before = (g.H.Storage.seen c.args.storage.now).now in
     let after = (g.H.Storage.seen c.answer_event.new.storage).now in
     let told = sym (ap (option_map arrival) c.in-Some.is) ∙ c.in_ok-event.ensures in
@@ -28,7 +28,7 @@ returns-in_err-answer_event-in-Some-clause-answers g c =
 
 pub returns-in_err-flaw-in-None-clause-answers : goal.returns-in_err-flaw-in-None-clause-answers
 returns-in_err-flaw-in-None-clause-answers g c =
-    let old = g.W.Write.contents c.args.writer.now.inner in
+    let old = g.W.Sink.contents c.args.writer.now.inner in
     let text = failing_text c.args.number (c.args.line.now ∷ []) in (
       text,
       answers_failing c.args.number (c.args.line.now ∷ []) (g.H.Storage.seen c.args.storage.now).now,

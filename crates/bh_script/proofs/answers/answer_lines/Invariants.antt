@@ -12,7 +12,7 @@ invariant-loop-next g l = record {
   going : l.writer.failed ≡ false;
   counted : l.number + length (lines_left l.next) ≡ length (lines l.bytes) + 1;
   answered : HasAnswered (lines l.bytes) (lines_left l.next) l.number (g.H.Storage.seen l.fn.storage).now (g.H.Storage.seen l.storage).now
-      (g.W.Write.contents l.fn.writer.inner) (g.W.Write.contents l.writer.inner);
+      (g.W.Sink.contents l.fn.writer.inner) (g.W.Sink.contents l.writer.inner);
 }
 
 abbrev pub decreases-loop-next : goal.decreases-loop-next

@@ -13,7 +13,7 @@ answer_lines-requires-clause-rest g c = c.in_ok-storage.ensures.made.rest _
 
 pub returns-in_err-storage-clause-answers : goal.returns-in_err-storage-clause-answers
 returns-in_err-storage-clause-answers g c =
-    let old = g.W.Write.contents c.args.writer.now.inner in
+    let old = g.W.Sink.contents c.args.writer.now.inner in
     let first = first_tables c.args.limits c.args.digest in
     let text = failing_text 1 (lines c.args.bytes.now) in
     by_new_host c.args.limits c.args.digest c.args.bytes.now first first c.from_residual.result old old refl
@@ -22,12 +22,12 @@ returns-in_err-storage-clause-answers g c =
 pub returns-clause-answers : goal.returns-clause-answers
 returns-clause-answers g c =
     let made = c.in_ok-storage.ensures in
-    by_new_host c.args.limits c.args.digest c.args.bytes.now _ _ c.answer_lines.result (g.W.Write.contents c.args.writer.now.inner) (g.W.Write.contents c.answer_lines.new.writer.inner)
+    by_new_host c.args.limits c.args.digest c.args.bytes.now _ _ c.answer_lines.result (g.W.Sink.contents c.args.writer.now.inner) (g.W.Sink.contents c.answer_lines.new.writer.inner)
     (made_first _ c.args.limits c.args.digest _ made.made.tables made.limits) c.answer_lines.ensures.answers
 
 pub returns-in_err-storage-clause-alone : goal.returns-in_err-storage-clause-alone
 returns-in_err-storage-clause-alone g c =
-    let old = g.W.Write.contents c.args.writer.now.inner in
+    let old = g.W.Sink.contents c.args.writer.now.inner in
     let first = first_tables c.args.limits c.args.digest in
     let text = failing_text 1 (lines c.args.bytes.now) in
     script_alone c.args.limits c.args.digest c.args.bytes.now c.from_residual.result old old
@@ -37,7 +37,7 @@ returns-in_err-storage-clause-alone g c =
 pub returns-clause-alone : goal.returns-clause-alone
 returns-clause-alone g c =
     let made = c.in_ok-storage.ensures in
-    let old = g.W.Write.contents c.args.writer.now.inner in
-    let new = g.W.Write.contents c.answer_lines.new.writer.inner in
+    let old = g.W.Sink.contents c.args.writer.now.inner in
+    let new = g.W.Sink.contents c.answer_lines.new.writer.inner in
     script_alone c.args.limits c.args.digest c.args.bytes.now c.answer_lines.result old new
     (by_new_host c.args.limits c.args.digest c.args.bytes.now _ _ c.answer_lines.result old new (made_first _ c.args.limits c.args.digest _ made.made.tables made.limits) c.answer_lines.ensures.answers)

@@ -1,0 +1,3 @@
+mod Restart
+mod Back
+mod After

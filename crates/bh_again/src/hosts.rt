@@ -1,0 +1,71 @@
+ghost use Rattle.std.specs.Prelude.{◌≡◌, IfOk, IfErr};
+ghost use Rattle.sqlite.specs.Files.{over_files};
+ghost use Rattle.sqlite.specs.Held.{state};
+ghost use Rattle.sqlite.specs.State.{IsLive};
+ghost use Rattle.sqlite.specs.Tree.{Trees};
+ghost use Rattle.bh_model.specs.State.{Octets};
+ghost use Rattle.bh_tables.specs.Typed.{Tables};
+ghost use Rattle.bh_view.specs.Bodies.{IsSoundHost};
+ghost use Rattle.bh_schema.specs.Layer as layer;
+ghost use Rattle.bh_schema.specs.Layer.{standing, Leaves};
+ghost use Rattle.bh_schema.specs.Storage.{IsIntact, IsOpen, seen, left};
+ghost use Rattle.bh_again.specs.Stops.{IsCleanAgain, CameBack, IsNotNone, AllLeft};
+
+use crate::files::stop_and_open;
+use bh_open::{OpenError, Opened, open_host};
+use bh_schema::host::{Digester, Host};
+use bh_types::limits::Tuning;
+use sqlite::{Alter, Connection, Error, FileStore, Options};
+use sqlite_disk::Crash;
+use std::alloc::Global;
+
+/// Why no host was opened again.
+#[derive(Drop)]
+pub enum ReopenError<D: Crash + Drop> {
+    /// The files gave no database: memory or a disk was wanting.
+    Files(Error),
+    /// The database gave no host.
+    Host(OpenError<FileStore<D>>),
+}
+
+/// While no fault has shut a connection, its databases list their schemas, and a crash leaves what was committed.
+fn look<S: Alter>(connection: &Connection<S>)
+    ensures live { IsLive (state S.Store connection.now) }
+    ensures settled { layer.IsOpen (state S.Store connection.now) → (db : Trees) → Leaves (state S.Store connection.now) db
+        → db ≡ (standing (state S.Store connection.now)).kept.trees }
+{
+    let _schema = connection.schema();
+}
+
+/// Stops the machine under a host, whatever it was at, and opens its files again. The digester is to be of the function that
+/// names its blocks: it isn't known but by what was opened.
+///
+/// Of a host that no fault has shut, what was committed comes back; of another one, some tables that a crash may leave. Where
+/// all that it may leave is sound, the host that comes back is at rest, and `NotAHostFile` is not among the errors.
+pub fn stop_and_open_host<D: Crash + Drop, G: Digester + Drop>(
+    alloc: Global,
+    host: Host<FileStore<D>, G>,
+    options: Options,
+    tuning: Tuning,
+) -> Result<Opened<FileStore<D>>, ReopenError<D>>
+    ensures given { IfOk result (λ opened. opened.tuning ≡ tuning) }
+    ensures settled { IsOpen over_files host → AllLeft (λ x. x ≡ (seen over_files host).kept) host }
+    ensures intact { IfOk result (λ opened. IsCleanAgain opened → IsIntact over_files host) }
+    ensures came_back { IfOk result (λ opened. IsCleanAgain opened → IsOpen over_files host
+        → CameBack (seen over_files host).kept opened) }
+    ensures merely { IfOk result (λ opened. IsCleanAgain opened
+        → ∥ ((x : Tables) × left over_files host x × CameBack x opened) ∥₁) }
+    ensures never { (digest : Octets → Octets) → (IsIntact over_files host → AllLeft (IsSoundHost digest) host)
+        → IfErr result IsNotNone }
+{
+    let connection = host.into_connection();
+    look(&connection);
+    let connection = match stop_and_open(alloc, connection, options) {
+        Ok(connection) => connection,
+        Err(error) => return Err(ReopenError::Files(error)),
+    };
+    match open_host(alloc, connection, tuning) {
+        Ok(opened) => Ok(opened),
+        Err(error) => Err(ReopenError::Host(error)),
+    }
+}
