@@ -33,7 +33,7 @@ class Nginx(Asked):
         self.process.wait()
 
     def put(self, key, body):
-        return self.ask(b"PUT", key, body, status=b"201 Created")[0]
+        return self.ask(b"PUT", key, body, status=b"201 Created", headers=b"connection: close\r\n")[0]
 
 
 def spent(process):
