@@ -38,6 +38,12 @@ type body struct {
 
 var buffers = sync.Pool{New: func() any { return &bytes.Buffer{} }}
 
+// Empties a buffer, and makes room in it.
+func setRoom(b *bytes.Buffer, size int64) {
+	b.Reset()
+	b.Grow(int(size) + bytes.MinRead)
+}
+
 // A body that is freed when the call ends.
 func (c *call) newBody(size int64) *body {
 	if size <= greatestInMemory {
@@ -47,8 +53,7 @@ func (c *call) newBody(size int64) *body {
 			buffers.Put(memory)
 		})
 		if c.server.inMemory.Add(size) <= allInMemory {
-			memory.Reset()
-			memory.Grow(int(size) + bytes.MinRead)
+			setRoom(memory, size)
 			return &body{Writer: memory, memory: memory, size: size}
 		}
 	}

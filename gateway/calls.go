@@ -136,7 +136,7 @@ func (c *call) deleteObjects() {
 			told["Code"], told["Message"] = e.code, e.message
 			failed = append(failed, told)
 		} else if !v.Quiet {
-			if r.head.Get("x-amz-delete-marker") != "" {
+			if r.Header.Get("x-amz-delete-marker") != "" {
 				told["DeleteMarker"], told["DeleteMarkerVersionId"] = true, r.version()
 			}
 			deleted = append(deleted, told)
@@ -145,9 +145,16 @@ func (c *call) deleteObjects() {
 	c.sendDocument("DeleteResult", document{"Deleted": deleted, "Error": failed})
 }
 
+// Tells fields of bucketd's head as they are.
+func (c *call) pass(r *hostResponse, names ...string) {
+	for _, name := range names {
+		c.tell(name, r.Header.Get(name))
+	}
+}
+
 // Tells the version that was answered, and the ETag of a checksum where there is one.
 func (c *call) tellVersion(r *hostResponse, checksum string) {
-	c.tell("x-amz-version-id", r.head.Get("x-amz-version-id"), "x-amz-delete-marker", r.head.Get("x-amz-delete-marker"))
+	c.pass(r, "x-amz-version-id", "x-amz-delete-marker")
 	if checksum != "" {
 		c.tell("ETag", etag(checksum))
 	}
@@ -202,7 +209,7 @@ func (c *call) completion(upload string, parts []part) *hostRequest {
 
 func (c *call) beginUpload() {
 	meta, r := metadata(c.r.Header), c.need(c.request("POST", "uploads", ""))
-	if at, err := time.Parse(time.RFC3339, r.head.Get("x-amz-abort-date")); err == nil {
+	if at, err := time.Parse(time.RFC3339, r.Header.Get("x-amz-abort-date")); err == nil {
 		c.tell("x-amz-abort-date", at.Format(http.TimeFormat), "x-amz-abort-rule-id", uploadsRule)
 	}
 	members := c.translated(r)
@@ -253,32 +260,32 @@ func (c *call) source() object {
 }
 
 // Looks at the source of a copy, and at the conditions on it.
-func (c *call) lookAtSource(o object) (f *found) {
-	if e := try(func() { f = c.look(o, o.request("HEAD"), false) }); e != nil {
+func (c *call) lookAtSource(o object) (d *details, r *hostResponse) {
+	if e := try(func() { d, r = c.look(o, o.request("HEAD"), false) }); e != nil {
 		refuseIf(e.code == "MethodNotAllowed", "InvalidRequest", "the source is a delete marker")
 		panic(e)
 	}
-	c.checkConditions("X-Amz-Copy-Source-", f.details, "PreconditionFailed")
-	return f
+	c.checkConditions("X-Amz-Copy-Source-", d, "PreconditionFailed")
+	return d, r
 }
 
 func (c *call) copyObject() {
 	o, meta := c.source(), metadata(c.r.Header)
 	defer c.hold(c.key)()
 	c.checkWrite()
-	f := c.lookAtSource(o)
+	d, _ := c.lookAtSource(o)
 	if !strings.EqualFold(c.r.Header.Get("x-amz-metadata-directive"), "REPLACE") {
-		meta = f.metadata()
+		meta = d.metadata()
 	}
 	from := o.path()
 	if o.version != "" {
-		from += "?versionId=" + percentEncode(o.version, false)
+		from += "?versionId=" + percentEncode(o.version)
 		c.tell("x-amz-copy-source-version-id", o.version)
 	}
 	q := c.request("PUT")
 	q.fields = []string{"x-amz-copy-source: " + from}
 	r := c.need(q)
-	refuseIf(r.document().ChecksumSHA256 != f.checksum, "SlowDown", "the source was overwritten meanwhile")
+	refuseIf(r.document().ChecksumSHA256 != d.checksum, "SlowDown", "the source was overwritten meanwhile")
 	c.keepVersion(r, meta)
 	c.sendDocument("CopyObjectResult", c.translated(r))
 }
@@ -288,13 +295,13 @@ func (c *call) copyPart() {
 	o, wanted := c.source(), c.r.Header.Get("x-amz-copy-source-range")
 	first, last, isRanged := parseRange(wanted)
 	refuseIf(wanted != "" && (!isRanged || first < 0 || last == math.MaxInt64), "InvalidArgument", "x-amz-copy-source-range is not bytes=FIRST-LAST")
-	f := c.lookAtSource(o)
-	first, last = rangeOf(first, last, f.size, isRanged)
+	_, r := c.lookAtSource(o)
+	first, last = rangeOf(first, last, r.size(), isRanged)
 	refuseIf(last-first >= c.server.piece, "EntityTooLarge", "a part that is copied has more bytes than bucketd takes at once")
 	b := c.newBody(last - first + 1)
-	next := c.pieces(o, f, first, last)
+	next := c.pieces(o, r, first, last)
 	writePieces(b, next(), next)
-	r := c.need(c.partOf(b))
+	r = c.need(c.partOf(b))
 	c.sendDocument("CopyPartResult", document{"LastModified": time.Now().UTC().Format(time.RFC3339), "ChecksumSHA256": r.checksum()})
 }
 

@@ -24,7 +24,6 @@ import (
 // host asks 'bucketd serve', which answers one connection after another, one request each. A few requests are sent ahead, so that
 // it needn't wait for the gateway; of a tenant no more than so many wait among those of all, so that tenants take turns.
 type host struct {
-	ahead   int
 	turn    chan struct{}
 	address atomic.Value // a string
 	mu      sync.Mutex
@@ -32,7 +31,7 @@ type host struct {
 }
 
 func newHost(address string, ahead int) *host {
-	h := &host{ahead: ahead, turn: make(chan struct{}, ahead), tenants: map[string]*tenant{}}
+	h := &host{turn: make(chan struct{}, ahead), tenants: map[string]*tenant{}}
 	h.address.Store(address)
 	return h
 }
@@ -42,7 +41,7 @@ func (h *host) tenant(name string) *tenant {
 	defer h.mu.Unlock()
 	t := h.tenants[name]
 	if t == nil {
-		t = &tenant{turn: make(chan struct{}, h.ahead)}
+		t = &tenant{turn: make(chan struct{}, cap(h.turn)), known: map[object]*details{}}
 		h.tenants[name] = t
 	}
 	t.most.Store(mostKnown / int64(len(h.tenants)))
@@ -62,7 +61,7 @@ func (o object) path() string {
 	if o.key == "" {
 		return "/" + o.bucket
 	}
-	return "/" + o.bucket + "/" + percentEncode(o.key, true)
+	return "/" + o.bucket + "/" + percentEncode(o.key)
 }
 
 // hostRequest is all that a request to bucketd is made of.
@@ -72,13 +71,13 @@ type hostRequest struct {
 	query    url.Values
 	fields   []string
 	body     *body
-	from, to int64  // the bytes of the body
-	buffer   []byte // for the answer's body, where it fits
+	from, to int64         // the bytes of the body
+	buffer   *bytes.Buffer // for the answer's body
 }
 
 // A request about an object, a bucket or all buckets, with parameters by name and value.
 func (o object) request(method string, pairs ...string) *hostRequest {
-	q := &hostRequest{object: o, method: method, query: url.Values{}}
+	q := &hostRequest{object: o, method: method, query: url.Values{}, buffer: &bytes.Buffer{}}
 	if o.version != "" {
 		q.query.Set("versionId", o.version)
 	}
@@ -92,7 +91,7 @@ func (o object) request(method string, pairs ...string) *hostRequest {
 func (q *hostRequest) sending(b *body) *hostRequest {
 	q.body, q.to = b, b.size
 	if b.sha256 != "" {
-		q.fields = append(q.fields, "x-amz-checksum-sha256: "+b.sha256)
+		q.fields = append(q.fields, sha256Field+": "+b.sha256)
 	}
 	return q
 }
@@ -117,17 +116,22 @@ func (q *hostRequest) head(id, secret string) string {
 
 // hostResponse is bucketd's answer; refusal is 0 where it is none.
 type hostResponse struct {
-	status  int
-	head    http.Header
-	body    []byte
+	*http.Response
+	body    *bytes.Buffer
 	refusal int
 	code    string // of the refusal
 }
 
-func (r *hostResponse) checksum() string { return r.head.Get("x-amz-checksum-sha256") }
+func (r *hostResponse) checksum() string { return r.Header.Get(sha256Field) }
 
 // The id of the version that was answered: a bucket without versions tells none.
-func (r *hostResponse) version() string { return or(r.head.Get("x-amz-version-id"), nullVersion) }
+func (r *hostResponse) version() string { return or(r.Header.Get("x-amz-version-id"), nullVersion) }
+
+// The size of the object, also where a range of it was answered.
+func (r *hostResponse) size() int64 {
+	_, total, _ := strings.Cut(r.Header.Get("content-range"), "/")
+	return number(or(total, r.Header.Get("content-length")))
+}
 
 // hostDocument has those members of bucketd's documents that are read; others are only translated.
 type hostDocument struct {
@@ -138,36 +142,42 @@ type hostDocument struct {
 type hostVersion struct{ ChecksumSHA256, Key, LastModified, VersionId string }
 
 func (r *hostResponse) document() (d hostDocument) {
-	must(0, json.Unmarshal(r.body, &d))
+	must(0, json.Unmarshal(r.body.Bytes(), &d))
 	return d
 }
 
 // How long a request waits for a bucketd that isn't there.
 const hostPatience = 4 * time.Second
 
-// Asks bucketd. A connection that is refused is tried again for a while, and so is a read that got no answer: of a write that got
-// none it isn't known whether it was made.
-func (h *host) ask(t *tenant, id, secret string, q *hostRequest) (*hostResponse, error) {
-	begun, isRead := time.Now(), q.method == "GET" || q.method == "HEAD"
-	t.turn <- struct{}{}
-	defer func() { <-t.turn }()
+// Asks bucketd; a refusal is an answer. A connection that is refused is tried again for a while, and so is a read that got no
+// answer: of a write that got none it isn't known whether it was made.
+func (c *call) ask(q *hostRequest) *hostResponse {
+	begun, isRead, h := time.Now(), q.method == "GET" || q.method == "HEAD", c.server.host
+	c.own.turn <- struct{}{}
+	defer func() { <-c.own.turn }()
 	h.turn <- struct{}{}
 	defer func() { <-h.turn }()
 	for wait := 20 * time.Millisecond; ; wait *= 2 {
-		var r *hostResponse
 		conn, err := h.dial()
 		isTaken := err == nil
 		if isTaken {
-			r, err = exchange(conn, q, q.head(id, secret))
+			r := &hostResponse{}
+			if err = r.exchange(conn, q, q.head(c.id, c.secret)); err == nil {
+				return r
+			}
 		}
-		if err == nil || isTaken && !isRead || time.Since(begun)+wait > hostPatience {
-			return r, err
+		if isTaken && !isRead || time.Since(begun)+wait > hostPatience {
+			log.Printf("%s: no answer of bucketd: %v", c.tenant, err)
+			panic(newError("SlowDown", "the host doesn't answer"))
 		}
 		time.Sleep(wait)
 	}
 }
 
-func exchange(conn net.Conn, q *hostRequest, head string) (*hostResponse, error) {
+// Asks bucketd, and takes a refusal for an error.
+func (c *call) need(q *hostRequest) *hostResponse { return c.accepted(c.ask(q)) }
+
+func (r *hostResponse) exchange(conn net.Conn, q *hostRequest, head string) error {
 	// (nobody waits for the end of a connection)
 	defer func() { go conn.Close() }()
 	conn.SetDeadline(time.Now().Add(5 * time.Minute))
@@ -182,20 +192,17 @@ func exchange(conn net.Conn, q *hostRequest, head string) (*hostResponse, error)
 	// (an answer may have come before the body was taken)
 	answer, failed := http.ReadResponse(bufio.NewReader(conn), &http.Request{Method: q.method})
 	if failed != nil {
-		return nil, fmt.Errorf("%v (%v)", failed, err)
+		return fmt.Errorf("%v (%v)", failed, err)
 	}
-	r := &hostResponse{status: answer.StatusCode, head: answer.Header}
-	if err = nil; r.status >= 300 {
-		_, err = fmt.Sscan(r.head.Get("x-refusal"), &r.refusal, &r.code)
+	if r.Response, err = answer, nil; r.StatusCode >= 300 {
+		_, err = fmt.Sscan(r.Header.Get("x-refusal"), &r.refusal, &r.code)
 	}
-	if length := answer.ContentLength; err == nil && q.method != "HEAD" && length > 0 {
-		if r.body = q.buffer; int64(cap(r.body)) < length {
-			r.body = make([]byte, length)
-		}
-		r.body = r.body[:length]
-		_, err = io.ReadFull(answer.Body, r.body)
+	r.body = q.buffer
+	if r.body.Reset(); err == nil && q.method != "HEAD" && r.ContentLength > 0 {
+		setRoom(r.body, r.ContentLength)
+		_, err = io.CopyN(r.body, r.Body, r.ContentLength)
 	}
-	return r, err
+	return err
 }
 
 // Runs 'bucketd serve' on a host's file until the context is done, again whenever it ends. Returns when it listens, or with why it

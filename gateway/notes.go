@@ -68,7 +68,7 @@ func noteOf(o object) object {
 func (c *call) note(o object) (n note) {
 	if c.server.meta {
 		if r := c.ask(noteOf(o).request("GET")); r.refusal == 0 {
-			json.Unmarshal(r.body, &n)
+			json.Unmarshal(r.body.Bytes(), &n)
 		}
 	}
 	return n
@@ -215,7 +215,7 @@ func (t *tenant) remember(o object, d *details, writes int64) {
 	if t.lockOf(o).writes.Load() != writes || len(fmt.Sprint(o, d.note)) > greatestKnown {
 		return
 	}
-	if t.known == nil || int64(len(t.known)) >= t.most.Load() {
+	if int64(len(t.known)) >= t.most.Load() {
 		t.known = map[object]*details{}
 	}
 	t.known[o] = d

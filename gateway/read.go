@@ -1,6 +1,7 @@
 package main
 
 import (
+	"bytes"
 	"encoding/base64"
 	"encoding/hex"
 	"fmt"
@@ -31,12 +32,12 @@ func min[T int | int64](a, b T) T {
 	return b
 }
 
-// The first of two texts that isn't empty.
-func or(a, b string) string {
-	if a != "" {
-		return a
+// The first of two values, unless it is zero or empty.
+func or[T comparable](a, b T) T {
+	if zero := *new(T); a == zero {
+		return b
 	}
-	return b
+	return a
 }
 
 // The number that a text is, from 0 on; -1 where it is none.
@@ -128,16 +129,9 @@ func (c *call) checkWrite() {
 	}
 }
 
-// found is an object as it was at one moment.
-type found struct {
-	*details
-	answer *hostResponse
-	size   int64
-}
-
 // Asks for an object, and then when it was put and what is kept of it, where that isn't known: again where it was overwritten in
 // between.
-func (c *call) look(o object, ask *hostRequest, isRanged bool) *found {
+func (c *call) look(o object, ask *hostRequest, isRanged bool) (*details, *hostResponse) {
 	for turn := 0; turn < 4; turn++ {
 		d, writes := c.own.recall(o)
 		r := c.ask(ask)
@@ -147,16 +141,14 @@ func (c *call) look(o object, ask *hostRequest, isRanged bool) *found {
 		if c.accepted(r); d == nil || c.server.lastModified && d.modified.IsZero() {
 			d = c.find(o, r, d)
 		}
-		if d.checksum != r.checksum() || d.version != r.version() {
-			c.own.forget(o)
-			continue
+		if d.checksum == r.checksum() && d.version == r.version() {
+			isFixed := d.version != nullVersion && (d.note.Checksum != "" || !c.server.meta)
+			if writes%2 == 0 && (isFixed || c.server.alone) {
+				c.own.remember(o, d, writes)
+			}
+			return d, r
 		}
-		isFixed := d.version != nullVersion && (d.note.Checksum != "" || !c.server.meta)
-		if writes%2 == 0 && (isFixed || c.server.alone) {
-			c.own.remember(o, d, writes)
-		}
-		_, total, _ := strings.Cut(r.head.Get("content-range"), "/")
-		return &found{d, r, number(or(total, r.head.Get("content-length")))}
+		c.own.forget(o)
 	}
 	panic(newError("SlowDown", "the object is overwritten all the time"))
 }
@@ -217,46 +209,46 @@ func (c *call) getObject() {
 	if !isHead && first >= 0 && isPlain {
 		ask = o.piece(first, min(last-first, c.server.pieceSize()-1))
 	}
-	f := c.look(o, ask, isRanged)
-	c.tell("ETag", etag(f.checksum))
-	c.checkConditions("", f.details, "NotModified")
-	if only := h.Get("If-Range"); only != "" && !hasTag(only, f.checksum) && only != f.modified.UTC().Format(http.TimeFormat) {
+	d, r := c.look(o, ask, isRanged)
+	c.tell("ETag", etag(d.checksum))
+	c.checkConditions("", d, "NotModified")
+	if only := h.Get("If-Range"); only != "" && !hasTag(only, d.checksum) && only != d.modified.UTC().Format(http.TimeFormat) {
 		first, last, isRanged = parseRange("")
 	}
 	if isRanged {
-		c.tell("Content-Range", fmt.Sprint("bytes */", f.size))
+		c.tell("Content-Range", fmt.Sprint("bytes */", r.size()))
 	}
-	first, last = rangeOf(first, last, f.size, isRanged)
-	if f.version != nullVersion {
-		o.version = f.version // the version that was begun, as its id stays its own
+	first, last = rangeOf(first, last, r.size(), isRanged)
+	if d.version != nullVersion {
+		o.version = d.version // the version that was begun, as its id stays its own
 	}
-	var bytes []byte
-	next := c.pieces(o, f, first, last)
+	var piece []byte
+	next := c.pieces(o, r, first, last)
 	if !isHead {
-		bytes = next() // (what fails is told, before the head is)
+		piece = next() // (what fails is told, before the head is)
 	}
-	c.tellObject(f, isRanged)
+	c.pass(r, "x-amz-version-id", "x-amz-delete-marker")
+	c.tellObject(d, isRanged)
 	c.tell("Content-Length", fmt.Sprint(last-first+1))
+	status := 200
 	if isRanged {
-		c.tell("Content-Range", fmt.Sprintf("bytes %d-%d/%d", first, last, f.size))
-		c.begin(206)
-	} else {
-		c.begin(200)
+		c.tell("Content-Range", fmt.Sprintf("bytes %d-%d/%d", first, last, r.size()))
+		status = 206
 	}
+	c.begin(status)
 	// Where the object is overwritten from here on, the client sees a broken answer, never one of two versions.
-	if try(func() { writePieces(c, bytes, next) }) != nil {
+	if try(func() { writePieces(c, piece, next) }) != nil {
 		panic(http.ErrAbortHandler)
 	}
 }
 
 // Tells what the head of an answer has of an object.
-func (c *call) tellObject(f *found, isRanged bool) {
-	c.tellVersion(f.answer, f.checksum)
+func (c *call) tellObject(d *details, isRanged bool) {
 	c.tell("Accept-Ranges", "bytes", "Content-Type", contentType(c.key))
-	if !f.modified.IsZero() {
-		c.tell("Last-Modified", f.modified.UTC().Format(http.TimeFormat))
+	if !d.modified.IsZero() {
+		c.tell("Last-Modified", d.modified.UTC().Format(http.TimeFormat))
 	}
-	for name, value := range f.metadata() {
+	for name, value := range d.metadata() {
 		c.tell(name, value)
 	}
 	for name := range keptFields {
@@ -264,8 +256,8 @@ func (c *call) tellObject(f *found, isRanged bool) {
 	}
 	// (of a range bucketd tells the whole object's, which clients would compare with the range)
 	if c.r.Header.Get("x-amz-checksum-mode") != "" && !isRanged {
-		c.tell(sha256Field, f.checksum, "x-amz-checksum-type", "FULL_OBJECT")
-		if strings.Contains(f.checksum, "-") {
+		c.tell(sha256Field, d.checksum, "x-amz-checksum-type", "FULL_OBJECT")
+		if strings.Contains(d.checksum, "-") {
 			c.tell("x-amz-checksum-type", "COMPOSITE")
 		}
 	}
@@ -275,44 +267,47 @@ func (c *call) tellObject(f *found, isRanged bool) {
 func (o object) piece(first, more int64) *hostRequest {
 	q := o.request("GET")
 	q.fields = []string{fmt.Sprintf("range: bytes=%d-%d", first, first+more)}
+	q.buffer = buffers.Get().(*bytes.Buffer)
 	return q
 }
 
 // Gives the bytes of an object piece by piece, each until the next is asked for, and nil at their end; the first may have come with
 // its answer. An error where the object was overwritten or deleted since then. While one is waited for, another has been asked for,
 // so that bucketd needn't wait for the gateway.
-func (c *call) pieces(o object, f *found, first, last int64) func() []byte {
-	var asked []chan *hostResponse
-	var given []byte
-	if f.answer.body != nil {
-		asked = append(asked, make(chan *hostResponse, 1))
-		asked[0] <- f.answer
-		first += int64(len(f.answer.body))
+func (c *call) pieces(o object, known *hostResponse, first, last int64) func() []byte {
+	var asked []chan *bytes.Buffer
+	if come := known.body.Len(); come > 0 {
+		asked = append(asked, make(chan *bytes.Buffer, 1))
+		asked[0] <- known.body
+		first += int64(come)
 	}
+	var given *bytes.Buffer
 	return func() []byte {
-		for ; first <= last && len(asked) < 2; given = nil {
-			more, answer := min(last-first, c.server.pieceSize()-1), make(chan *hostResponse, 1)
+		if given != nil {
+			buffers.Put(given)
+		}
+		for first <= last && len(asked) < 2 {
+			more, answer := min(last-first, c.server.pieceSize()-1), make(chan *bytes.Buffer, 1)
 			q := o.piece(first, more)
-			q.buffer, first, asked = given, first+more+1, append(asked, answer)
+			first, asked = first+more+1, append(asked, answer)
 			go try(func() {
 				defer close(answer)
-				if r := c.ask(q); r.refusal == 0 && r.checksum() == f.checksum && int64(len(r.body)) == more+1 {
-					answer <- r
+				if r := c.ask(q); r.refusal == 0 && r.checksum() == known.checksum() && int64(r.body.Len()) == more+1 {
+					answer <- r.body
 				}
 			})
 		}
-		if len(asked) == 0 {
+		if given = nil; len(asked) == 0 {
 			return nil
 		}
-		r := <-asked[0]
-		refuseIf(r == nil, "SlowDown", "the object was overwritten meanwhile")
-		given, asked = r.body, asked[1:]
-		return given
+		given, asked = <-asked[0], asked[1:]
+		refuseIf(given == nil, "SlowDown", "the object was overwritten meanwhile")
+		return given.Bytes()
 	}
 }
 
-func writePieces(w io.Writer, bytes []byte, next func() []byte) {
-	for ; bytes != nil; bytes = next() {
-		must(w.Write(bytes))
+func writePieces(w io.Writer, piece []byte, next func() []byte) {
+	for ; piece != nil; piece = next() {
+		must(w.Write(piece))
 	}
 }

@@ -193,8 +193,8 @@ var unset = map[string]string{
 }
 
 // Beginnings of fields whose being passed over would be taken for a promise.
-var unknownFields = strings.Fields("X-Amz-Bucket-Object-Lock- X-Amz-Object-Lock- X-Amz-Server-Side-Encryption X-Amz-Grant- X-Amz-Tagging " +
-	"X-Amz-Website-Redirect-Location X-Amz-Write-Offset-Bytes X-Amz-Copy-Source-Server-Side-Encryption X-Amz-If-Match- X-Amz-Rename-Source")
+var unknownFields = regexp.MustCompile("^X-Amz-(Bucket-Object-Lock-|Object-Lock-|Server-Side-Encryption|Grant-|Tagging|If-Match-|" +
+	"Website-Redirect-Location|Write-Offset-Bytes|Copy-Source-Server-Side-Encryption|Rename-Source)")
 
 // Refuses what no call here does.
 func (c *call) refuseUnknown() {
@@ -205,16 +205,14 @@ func (c *call) refuseUnknown() {
 	for name := range c.query {
 		code, isUnset := unset[name]
 		isThere := name == "tagging" && c.key != "" && isRead || name == "partNumber" && c.query.Has("uploadId")
-		if isUnset && !isThere && code != "" && isRead {
+		if isUnset && !isThere {
+			refuseIf(code == "" || !isRead, "NotImplemented", name+" is not there")
 			panic(&apiError{code, http.StatusNotFound, "nothing is set"})
 		}
-		refuseIf(isUnset && !isThere, "NotImplemented", name+" is not there")
 	}
 	for field := range c.r.Header {
-		for _, name := range unknownFields {
-			if strings.HasPrefix(field, name) && field != "X-Amz-Tagging-Directive" {
-				panic(newError("NotImplemented", field+" is not there"))
-			}
+		if unknownFields.MatchString(field) && field != "X-Amz-Tagging-Directive" {
+			panic(newError("NotImplemented", field+" is not there"))
 		}
 	}
 	list := c.r.Header.Get("x-amz-acl")
@@ -225,19 +223,6 @@ var bucketNames = regexp.MustCompile("^[a-z0-9.-]{3,63}$")
 
 // Whether it is a bucket's name that clients may use: the hidden bucket's is none.
 func isBucketName(name string) bool { return bucketNames.MatchString(name) && name != hiddenBucket }
-
-// Asks bucketd; a refusal is an answer.
-func (c *call) ask(q *hostRequest) *hostResponse {
-	r, err := c.server.host.ask(c.own, c.id, c.secret, q)
-	if err != nil {
-		log.Printf("%s: no answer of bucketd: %v", c.tenant, err)
-		panic(newError("SlowDown", "the host doesn't answer"))
-	}
-	return r
-}
-
-// Asks bucketd, and takes a refusal for an error.
-func (c *call) need(q *hostRequest) *hostResponse { return c.accepted(c.ask(q)) }
 
 // Sets fields of the response's head, by name and value; what is empty is left out.
 func (c *call) tell(pairs ...string) {

@@ -30,14 +30,10 @@ const (
 
 var clock = time.Now
 
-// Encodes all bytes but those that RFC 3986 calls unreserved; of a path also not the slash.
-func percentEncode(text string, isPath bool) string {
-	text = strings.ReplaceAll(url.QueryEscape(text), "+", "%20")
-	if isPath {
-		text = strings.ReplaceAll(text, "%2F", "/")
-	}
-	return text
-}
+var pathEscapes = strings.NewReplacer("+", "%20", "%2F", "/")
+
+// Encodes all bytes but those that RFC 3986 calls unreserved, and the slash.
+func percentEncode(path string) string { return pathEscapes.Replace(url.QueryEscape(path)) }
 
 func hmacSHA256(key []byte, text string) []byte {
 	h := hmac.New(sha256.New, key)
@@ -45,10 +41,7 @@ func hmacSHA256(key []byte, text string) []byte {
 	return h.Sum(nil)
 }
 
-func hexSHA256(text string) string {
-	sum := sha256.Sum256([]byte(text))
-	return hex.EncodeToString(sum[:])
-}
+func hexSHA256(text string) string { return fmt.Sprintf("%x", sha256.Sum256([]byte(text))) }
 
 // caller is who asks, by a signature that was right.
 type caller struct {
@@ -149,7 +142,7 @@ func (g *signedRequest) canonical() string {
 	g.Header["Host"], g.Header["Transfer-Encoding"] = []string{g.Host}, g.TransferEncoding
 	g.query.Del("X-Amz-Signature")
 	query := strings.ReplaceAll(g.query.Encode(), "+", "%20")
-	text, isSigned := g.Method+"\n"+percentEncode(g.URL.Path, true)+"\n"+query+"\n", map[string]bool{"x-amz-content-sha256": true}
+	text, isSigned := g.Method+"\n"+percentEncode(g.URL.Path)+"\n"+query+"\n", map[string]bool{"x-amz-content-sha256": true}
 	for _, name := range strings.Split(g.words["SignedHeaders"], ";") {
 		isSigned[name] = true
 		text += name + ":" + strings.Join(strings.Fields(strings.Join(g.Header.Values(name), ",")), " ") + "\n"
