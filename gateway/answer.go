@@ -197,10 +197,14 @@ func (c *call) readDocument(into any) {
 // The documents of requests (Amazon S3 API Reference).
 type completeDocument struct {
 	XMLName xml.Name `xml:"CompleteMultipartUpload"`
-	Parts   []struct {
-		PartNumber           int
-		ETag, ChecksumSHA256 string
-	} `xml:"Part"`
+	Parts   []part   `xml:"Part"`
+}
+
+// part is one that an upload is completed with; its ETag is S3's alone.
+type part struct {
+	ChecksumSHA256 string
+	PartNumber     int
+	ETag           string `json:"-"`
 }
 
 type deleteDocument struct {
