@@ -5,6 +5,7 @@ import (
 	"bytes"
 	"context"
 	"encoding/json"
+	"errors"
 	"fmt"
 	"io"
 	"log"
@@ -50,7 +51,12 @@ func (h *host) tenant(name string) *tenant {
 
 // (a connection has one request, so nothing keeps it alive)
 func (h *host) dial() (net.Conn, error) {
-	return (&net.Dialer{KeepAlive: -1}).Dial("tcp", h.address.Load().(string))
+	conn, err := (&net.Dialer{KeepAlive: -1}).Dial("tcp", h.address.Load().(string))
+	if err == nil {
+		// (else each connection's window grows from little: a piece wants it at once)
+		conn.(*net.TCPConn).SetReadBuffer(greatestPiece)
+	}
+	return conn, err
 }
 
 // object names an object, or a version of one; a bucket where it has no key.
@@ -205,45 +211,39 @@ func (r *hostResponse) exchange(conn net.Conn, q *hostRequest, head string) erro
 	return err
 }
 
-// Runs 'bucketd serve' on a host's file until the context is done, again whenever it ends. Returns when it listens, or with why it
-// doesn't; the channel is closed when it has ended. Each change is on the disk before it is answered, so it may be killed.
-func serveHost(ctx context.Context, program, file string, h *host) (<-chan struct{}, error) {
+// Runs 'bucketd serve' on a host's file until the context is done, again whenever it ends. Returns when it listens; the channel is
+// closed when it has ended. Each change is on the disk before it is answered, so it may be killed.
+func (h *host) serve(ctx context.Context, program, file string) <-chan struct{} {
+	var listens atomic.Bool
+	over := make(chan struct{})
 	h.address.Store("")
-	ended, over := make(chan error, 1), make(chan struct{})
 	go func() {
 		defer close(over)
 		// The kernel ends the child with the thread that made it, so also where the gateway is killed.
 		runtime.LockOSThread()
-		for ctx.Err() == nil {
-			err := runHost(ctx, program, file, h)
-			select {
-			case ended <- err:
-			default:
-			}
-			if ctx.Err() == nil {
-				log.Printf("%v; it is started again", err)
-				time.Sleep(250 * time.Millisecond)
-			}
+		try(func() { h.serveOnce(ctx, program, file) })
+		for listens.Load() && ctx.Err() == nil {
+			time.Sleep(250 * time.Millisecond)
+			try(func() { h.serveOnce(ctx, program, file) })
 		}
 	}()
-	for {
+	for !listens.Load() {
 		select {
-		case err := <-ended:
-			return over, err
+		case <-over:
+			panic(errors.New("bucketd doesn't serve"))
 		case <-time.After(20 * time.Millisecond): // (it may have a log to read first)
 			if conn, err := h.dial(); err == nil {
-				return over, conn.Close()
+				listens.Store(true)
+				conn.Close()
 			}
 		}
 	}
+	return over
 }
 
-// Runs bucketd once, on a free port, to its end.
-func runHost(ctx context.Context, program, file string, h *host) error {
-	free, err := net.Listen("tcp", "127.0.0.1:0")
-	if err != nil {
-		return err
-	}
+// Runs bucketd to its end, on a free port.
+func (h *host) serveOnce(ctx context.Context, program, file string) {
+	free := must(net.Listen("tcp", "127.0.0.1:0"))
 	_, port, _ := net.SplitHostPort(free.Addr().String())
 	free.Close()
 	h.address.Store("127.0.0.1:" + port)
@@ -251,5 +251,5 @@ func runHost(ctx context.Context, program, file string, h *host) error {
 	child := exec.CommandContext(ctx, program, "serve", "--file", file, "--port", port, "--clock-leap", "366")
 	child.Stdout, child.Stderr = os.Stderr, os.Stderr
 	child.SysProcAttr = &syscall.SysProcAttr{Pdeathsig: syscall.SIGKILL, Setpgid: true}
-	return fmt.Errorf("bucketd serve --file %s ended: %v", file, child.Run())
+	log.Printf("bucketd serve --file %s ended: %v", file, child.Run())
 }

@@ -92,9 +92,9 @@ func run(ctx context.Context, o options) {
 	}
 	if o.serve != "" {
 		hostCtx, endHost := context.WithCancel(context.Background())
-		over, err := serveHost(hostCtx, o.program, o.serve, server.host)
+		defer endHost()
+		over := server.host.serve(hostCtx, o.program, o.serve)
 		defer func() { endHost(); <-over }()
-		must(over, err)
 	}
 	log.Printf("listening on %s://%s", scheme, listener.Addr())
 	web, ended := server.web(), make(chan error, 1)

@@ -22,7 +22,7 @@ import (
 // Objects are read in pieces, so that neither a great one nor a slow client holds bucketd. Each reader has two pieces in memory.
 const (
 	readMemory    = 12 << 20 // of all readers, but for leastPiece of each
-	greatestPiece = 2 << 20
+	greatestPiece = 4 << 20
 	leastPiece    = 64 << 10
 )
 
@@ -515,7 +515,8 @@ func (t *tenant) recall(o object) (*details, int64) {
 func (t *tenant) remember(o object, d *details, writes int64) {
 	t.mu.Lock()
 	defer t.mu.Unlock()
-	if t.lockOf(o).writes.Load() != writes || len(fmt.Sprint(o, d.note)) > greatestKnown {
+	isGreat := len(o.key) > greatestKnown || len(d.note.Metadata) > 0 && len(fmt.Sprint(o, d.note)) > greatestKnown
+	if isGreat || t.lockOf(o).writes.Load() != writes {
 		return
 	}
 	if int64(len(t.known)) >= t.most.Load() {
