@@ -83,7 +83,10 @@ func (s *server) ServeHTTP(w http.ResponseWriter, r *http.Request) {
 			try(act)
 		}
 	}()
-	if e := try(c.serve); e != nil {
+	if e := try(c.serve); e != nil && c.status != 0 {
+		// (an object that is overwritten while it is sent: the client sees a broken answer, never one of two versions)
+		panic(http.ErrAbortHandler)
+	} else if e != nil {
 		code = e.code
 		c.refuse(e)
 	}
@@ -543,8 +546,7 @@ func (c *call) copyPart() {
 	first, last = rangeOf(first, last, r.size(), isRanged)
 	refuseIf(last-first >= c.server.piece, "EntityTooLarge", "a part that is copied has more bytes than bucketd takes at once")
 	b := c.newBody(last - first + 1)
-	next := c.pieces(o, r, first, last)
-	writePieces(b, next(), next)
+	c.writePieces(b, o, r, first, last, func() {})
 	r = c.need(c.partOf(b))
 	c.sendDocument("CopyPartResult", document{"LastModified": time.Now().UTC().Format(time.RFC3339), "ChecksumSHA256": r.checksum()})
 }

@@ -226,23 +226,21 @@ func (c *call) getObject() {
 	if d.version != nullVersion {
 		o.version = d.version // the version that was begun, as its id stays its own
 	}
-	var piece []byte
-	next := c.pieces(o, r, first, last)
-	if !isHead {
-		piece = next() // (what fails is told, before the head is)
-	}
-	c.pass(r, "x-amz-version-id", "x-amz-delete-marker")
-	c.tellObject(d, isRanged)
-	c.tell("Content-Length", fmt.Sprint(last-first+1))
 	status := 200
-	if isRanged {
-		c.tell("Content-Range", fmt.Sprintf("bytes %d-%d/%d", first, last, r.size()))
-		status = 206
+	begin := func() {
+		c.tellObject(d, isRanged)
+		c.pass(r, "x-amz-version-id", "x-amz-delete-marker")
+		c.tell("Content-Length", fmt.Sprint(last-first+1))
+		if isRanged {
+			c.tell("Content-Range", fmt.Sprintf("bytes %d-%d/%d", first, last, r.size()))
+			status = 206
+		}
+		c.begin(status)
 	}
-	c.begin(status)
-	// Where the object is overwritten from here on, the client sees a broken answer, never one of two versions.
-	if try(func() { writePieces(c, piece, next) }) != nil {
-		panic(http.ErrAbortHandler)
+	if isHead || first > last {
+		begin()
+	} else {
+		c.writePieces(c, o, r, first, last, begin)
 	}
 }
 
@@ -275,21 +273,17 @@ func (o object) piece(first, more int64) *hostRequest {
 	return q
 }
 
-// Gives the bytes of an object piece by piece, each until the next is asked for, and nil at their end; the first may have come with
-// its answer. An error where the object was overwritten or deleted since then. While one is waited for, another has been asked for,
-// so that bucketd needn't wait for the gateway.
-func (c *call) pieces(o object, known *hostResponse, first, last int64) func() []byte {
+// Writes bytes of an object piece by piece, after `begin` where the first is there; that may have come with the object's answer.
+// An error where the object was overwritten or deleted since then. While one is waited for, another has been asked for, so that
+// bucketd needn't wait for the gateway.
+func (c *call) writePieces(w io.Writer, o object, known *hostResponse, first, last int64, begin func()) {
 	var asked []chan *bytes.Buffer
 	if come := known.body.Len(); come > 0 {
 		asked = append(asked, make(chan *bytes.Buffer, 1))
 		asked[0] <- known.body
 		first += int64(come)
 	}
-	var given *bytes.Buffer
-	return func() []byte {
-		if given != nil {
-			buffers.Put(given)
-		}
+	for isBegun := false; first <= last || len(asked) > 0; isBegun = true {
 		for first <= last && len(asked) < 2 {
 			more, answer := min(last-first, c.server.pieceSize()-1), make(chan *bytes.Buffer, 1)
 			q := o.piece(first, more)
@@ -301,18 +295,13 @@ func (c *call) pieces(o object, known *hostResponse, first, last int64) func() [
 				}
 			})
 		}
-		if given = nil; len(asked) == 0 {
-			return nil
+		piece := <-asked[0]
+		asked = asked[1:]
+		if refuseIf(piece == nil, "SlowDown", "the object was overwritten meanwhile"); !isBegun {
+			begin()
 		}
-		given, asked = <-asked[0], asked[1:]
-		refuseIf(given == nil, "SlowDown", "the object was overwritten meanwhile")
-		return given.Bytes()
-	}
-}
-
-func writePieces(w io.Writer, piece []byte, next func() []byte) {
-	for ; piece != nil; piece = next() {
-		must(w.Write(piece))
+		must(w.Write(piece.Bytes()))
+		buffers.Put(piece)
 	}
 }
 
