@@ -22,7 +22,7 @@ import (
 // Objects are read in pieces, so that neither a great one nor a slow client holds bucketd. Each reader has two pieces in memory.
 const (
 	readMemory    = 12 << 20 // of all readers, but for leastPiece of each
-	greatestPiece = 4 << 20
+	greatestPiece = 2 << 20
 	leastPiece    = 64 << 10
 )
 
@@ -301,7 +301,9 @@ func (c *call) writePieces(w io.Writer, o object, known *hostResponse, first, la
 			begin()
 		}
 		must(w.Write(piece.Bytes()))
-		buffers.Put(piece)
+		if int64(piece.Cap()) <= 2*c.server.pieceSize() { // (where there are more readers by now, pieces are smaller)
+			buffers.Put(piece)
+		}
 	}
 }
 

@@ -277,10 +277,12 @@ type body struct {
 
 var buffers = sync.Pool{New: func() any { return &bytes.Buffer{} }}
 
-// Empties a buffer, and makes room in it.
+// Empties a buffer, and makes room in it: no more than that, where Grow would double what was there.
 func setRoom(b *bytes.Buffer, size int64) {
+	if room := int(size) + bytes.MinRead; b.Cap() < room {
+		*b = *bytes.NewBuffer(make([]byte, 0, room))
+	}
 	b.Reset()
-	b.Grow(int(size) + bytes.MinRead)
 }
 
 // A body that is freed when the call ends.
