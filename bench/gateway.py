@@ -8,7 +8,7 @@ then what the first get of an object is elsewhere: three requests to the host); 
 PROGRAM: crates/bucketd/out/bucketd. Lists, with commas, leave out other columns (but bucketd and gateway), sizes, numbers of clients, and
 tables: rates, silence, memory, added. The last, which isn't made unasked, has what the gateway adds to a request of one client, and
 other builds of it (--beside PATH,..): all are before the same bucketd and asked in turns, so that a busy machine's good and bad moments
-fall on all. Where PROGRAM is `stand-in`, only this table is made, before the stand-in of gateway/'s tests.
+fall on all. In the table of rates other builds have columns, too, each with a host of its own. Where PROGRAM is `stand-in`, only this table is made, before the stand-in of gateway/'s tests.
 It needs Debian's golang-go and openssl, and for what it is measured beside radosgw, ceph-mon, ceph-osd and ceph-common, and
 nginx-light: what isn't there is left out. All servers keep their files in one new folder in the current one (FOLDER in the
 environment names another place). The load is TestLoad of gateway/. Tables of Markdown come on standard output.
@@ -249,6 +249,7 @@ def main():
     seconds, only, tables = float(told["--seconds"]), [it for it in told["--only"].split(",") if it], told["--tables"].split(",")
     sizes = [it for it in SIZES if not told["--sizes"] or str(it[0]) in told["--sizes"].split(",")]
     counts = [it for it in CLIENTS if not told["--clients"] or str(it) in told["--clients"].split(",")]
+    beside = [os.path.abspath(it) for it in told["--beside"].split(",") if it]
     program = words[0] if words else os.path.join(TOP, "crates/bucketd/out/bucketd")
     if program == "stand-in":
         tables = ["added"]
@@ -269,7 +270,7 @@ def main():
             make_host(program, ours, {"green": 1 << 40})
         print(f"load before: {' '.join(open('/proc/loadavg').read().split()[:3])}\n")
         if "added" in tables:
-            added(tests, [build] + [os.path.abspath(it) for it in told["--beside"].split(",") if it], folder, program, sizes, seconds)
+            added(tests, [build, *beside], folder, program, sizes, seconds)
         if tables == ["added"]:
             print(f"\nload after (with this run): {' '.join(open('/proc/loadavg').read().split()[:3])}")
             return
@@ -279,6 +280,8 @@ def main():
             servers.append(Server("bucketd", bare, port, mode="bare"))
             tls = ["--cert", os.path.join(folder, "tls.pem"), "--cert-key", os.path.join(folder, "tls.key")]
             servers.append(start_gateway("gateway", build, folder, *serving(program, folder, "gateway-host")))
+            for it in beside:
+                servers.append(start_gateway(os.path.basename(it), it, folder, *serving(program, folder, f"host-of-{os.path.basename(it)}")))
             if not only or "no notes" in only:
                 servers.append(start_gateway("no notes", build, folder, *serving(program, folder, "bare-host"), "--meta=false"))
             if not only or "TLS" in only:

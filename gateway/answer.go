@@ -28,10 +28,7 @@ var statuses = map[string]int{"NotModified": 304, "AccessDenied": 403, "InvalidA
 	"InternalError": 500, "NotImplemented": 501, "SlowDown": 503}
 
 func newError(code, message string) *apiError {
-	if status, ok := statuses[code]; ok {
-		return &apiError{code, status, message}
-	}
-	return &apiError{code, http.StatusBadRequest, message}
+	return &apiError{code, or(statuses[code], http.StatusBadRequest), message}
 }
 
 // refuseIf ends a call that is at fault.
@@ -82,13 +79,11 @@ func (c *call) accepted(r *hostResponse) *hostResponse {
 	if r.refusal == 0 {
 		return r
 	}
-	e := &apiError{or(renamed[r.refusal], r.code), r.status, fmt.Sprintf("the host's refusal %d %s", r.refusal, r.code)}
+	e := &apiError{or(renamed[r.refusal], r.code), r.StatusCode, fmt.Sprintf("the host's refusal %d %s", r.refusal, r.code)}
 	if e.code == "BadDigest" {
 		e.code = c.badDigest(sha256Field)
 	}
-	for _, name := range []string{"x-amz-delete-marker", "x-amz-version-id", "content-range", "allow"} {
-		c.tell(name, r.head.Get(name))
-	}
+	c.pass(r, "x-amz-delete-marker", "x-amz-version-id", "content-range", "allow")
 	panic(e)
 }
 
@@ -126,7 +121,7 @@ func (c *call) write(x *bytes.Buffer, name string, value any) {
 			text = strings.TrimSuffix(text, "Z") + ".000Z" // (bucketd's have whole seconds)
 		case "Key", "Prefix", "NextKeyMarker", "NextMarker", "Delimiter", "KeyMarker", "Marker", "StartAfter":
 			if c.query.Get("encoding-type") == "url" {
-				text = percentEncode(text, true)
+				text = percentEncode(text)
 			}
 		default:
 			if text == "" {
@@ -176,7 +171,7 @@ var echoed = strings.Fields("delimiter key-marker marker start-after continuatio
 
 // bucketd's document, with what the request says of itself beside it.
 func (c *call) translated(r *hostResponse) (members document) {
-	decoder := json.NewDecoder(bytes.NewReader(r.body))
+	decoder := json.NewDecoder(bytes.NewReader(r.body.Bytes()))
 	decoder.UseNumber()
 	must(0, decoder.Decode(&members))
 	for _, name := range echoed {
@@ -202,10 +197,14 @@ func (c *call) readDocument(into any) {
 // The documents of requests (Amazon S3 API Reference).
 type completeDocument struct {
 	XMLName xml.Name `xml:"CompleteMultipartUpload"`
-	Parts   []struct {
-		PartNumber           int
-		ETag, ChecksumSHA256 string
-	} `xml:"Part"`
+	Parts   []part   `xml:"Part"`
+}
+
+// part is one that an upload is completed with; its ETag is S3's alone.
+type part struct {
+	ChecksumSHA256 string
+	PartNumber     int
+	ETag           string `json:"-"`
 }
 
 type deleteDocument struct {

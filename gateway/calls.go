@@ -1,15 +1,269 @@
 package main
 
 import (
+	"bytes"
 	"encoding/hex"
+	"encoding/xml"
+	"log"
 	"math"
+	"net"
 	"net/http"
 	"net/url"
+	"regexp"
 	"strconv"
 	"strings"
+	"sync/atomic"
 	"time"
 	"unicode/utf8"
 )
+
+const (
+	hiddenBucket = "bucketd.meta"
+	longestKey   = 1024
+	greatestXML  = 2 << 20
+	writeSlice   = 128 << 10 // how many bytes a client has to take within the time that it may be silent
+)
+
+// server answers S3 calls. What it has beside its options is no state: what waits, what is known, and how much memory is taken.
+type server struct {
+	options
+	keys     *keyFile
+	host     *host
+	inMemory atomic.Int64 // bytes of bodies
+	readers  atomic.Int64 // GETs
+}
+
+// call is one S3 call: its body is read and its answer written through it, and it breaks off where its client is silent for a while.
+type call struct {
+	*caller
+	server *server
+	conn   net.Conn
+	w      http.ResponseWriter
+	r      *http.Request
+	query  url.Values
+	object
+	own    *tenant
+	was    *details // of the key that is held, before
+	status int
+	ends   []func()
+}
+
+func (c *call) beginWaiting() {
+	c.conn.SetReadDeadline(time.Now().Add(c.server.silence))
+	c.conn.SetWriteDeadline(time.Now().Add(2 * c.server.silence)) // (before it answers, http.Server waits for the body's rest)
+}
+
+func (c *call) Read(b []byte) (int, error) {
+	c.beginWaiting()
+	return c.r.Body.Read(b)
+}
+
+func (c *call) Write(b []byte) (written int, err error) {
+	for len(b) > written && err == nil {
+		var n int
+		c.beginWaiting()
+		n, err = c.w.Write(b[written:min(len(b), written+writeSlice)])
+		written += n
+	}
+	return written, err
+}
+
+// Runs something when the call has been answered.
+func (c *call) atEnd(act func()) { c.ends = append(c.ends, act) }
+
+func (s *server) ServeHTTP(w http.ResponseWriter, r *http.Request) {
+	c := &call{caller: &caller{}, server: s, w: w, r: r, conn: r.Context().Value(connKey{}).(net.Conn)}
+	c.beginWaiting()
+	// (made of the request alone: a counter would tell one tenant of the others' requests)
+	w.Header().Set("x-amz-request-id", strings.ToUpper(hexSHA256(r.Header.Get("Authorization") + r.URL.RawQuery)[:16]))
+	w.Header().Set("Server", "bucketd-gateway")
+	begun, code := time.Now(), ""
+	defer func() {
+		for _, act := range c.ends {
+			try(act)
+		}
+	}()
+	if e := try(c.serve); e != nil && c.status != 0 {
+		// (an object that is overwritten while it is sent: the client sees a broken answer, never one of two versions)
+		panic(http.ErrAbortHandler)
+	} else if e != nil {
+		code = e.code
+		c.refuse(e)
+	}
+	if s.log {
+		log.Printf("%s %s %q %d %s %s", c.tenant, r.Method, r.URL.Path, c.status, code, time.Since(begun).Round(time.Microsecond))
+	}
+}
+
+func (c *call) serve() {
+	query, err := url.ParseQuery(c.r.URL.RawQuery)
+	c.query = query
+	isWell := err == nil && utf8.ValidString(c.r.URL.Path) && strings.HasPrefix(c.r.URL.Path, "/")
+	refuseIf(!isWell, "InvalidURI", "the target is no percent-encoded UTF-8")
+	for name, values := range c.query {
+		refuseIf(len(values) > 1, "InvalidArgument", "a parameter stands twice: "+name)
+	}
+	path, escaped := c.r.URL.Path, c.r.URL.EscapedPath()
+	name, _, _ := strings.Cut(c.r.Host, ":")
+	if bucket := strings.TrimSuffix(name, "."+c.server.domain); c.server.domain != "" && bucket != name {
+		path, escaped = "/"+bucket+path, "/"+bucket+escaped
+	}
+	c.bucket, c.key, _ = strings.Cut(path[1:], "/")
+	c.caller = c.server.authenticate(c.r, c.query, escaped)
+	c.own = c.server.host.tenant(c.tenant)
+	c.refuseUnknown()
+	act := calls[c.kind()]
+	refuseIf(act == nil, "MethodNotAllowed", "there is no such call")
+	act(c)
+}
+
+// The calls of an object, of a bucket and of all buckets, by method and sub-resource; COPY is a PUT that names a source.
+var calls = map[string]func(c *call){
+	"object GET acl":          (*call).getACL,
+	"object PUT acl":          notThere("an acl but private"),
+	"object GET tagging":      func(c *call) { c.sendDocument("Tagging", document{"TagSet": document{}}) },
+	"object POST uploads":     (*call).beginUpload,
+	"object PUT uploadId":     func(c *call) { c.done(200, c.partOf(c.readBody(c.server.piece, c.server.piece))) },
+	"object COPY uploadId":    (*call).copyPart,
+	"object POST uploadId":    (*call).completeUpload,
+	"object GET uploadId":     (*call).listParts,
+	"object DELETE uploadId":  func(c *call) { c.done(204, c.request("DELETE", "uploadId", c.upload())) },
+	"object PUT":              (*call).putObject,
+	"object COPY":             (*call).copyObject,
+	"object GET":              (*call).getObject,
+	"object HEAD":             (*call).getObject,
+	"object DELETE":           (*call).deleteObject,
+	"bucket GET acl":          (*call).getACL,
+	"bucket PUT acl":          notThere("an acl but private"),
+	"bucket GET versioning":   func(c *call) { c.sendListing("VersioningConfiguration", "versioning") },
+	"bucket PUT versioning":   (*call).putVersioning,
+	"bucket GET lifecycle":    func(c *call) { c.sendListing("LifecycleConfiguration", "lifecycle") },
+	"bucket PUT lifecycle":    (*call).putLifecycle,
+	"bucket DELETE lifecycle": func(c *call) { c.done(204, c.request("DELETE", "lifecycle", "")) },
+	"bucket GET location":     (*call).getLocation,
+	"bucket GET uploads":      func(c *call) { c.sendListing("ListMultipartUploadsResult", "uploads") },
+	"bucket GET versions":     func(c *call) { c.sendListing("ListVersionsResult", "versions") },
+	"bucket GET":              (*call).listObjects,
+	"bucket POST delete":      (*call).deleteObjects,
+	"bucket POST":             notThere("an upload by a form"),
+	"bucket PUT":              (*call).createBucket,
+	"bucket HEAD":             (*call).headBucket,
+	"bucket DELETE":           (*call).deleteBucket,
+	"GET":                     (*call).listBuckets,
+}
+
+func notThere(what string) func(*call) {
+	return func(*call) { panic(newError("NotImplemented", what+" is not there")) }
+}
+
+var subresources = strings.Fields("acl tagging versioning lifecycle uploadId uploads location versions delete")
+
+// The name that the call has in the table.
+func (c *call) kind() string {
+	name := c.r.Method
+	if c.key != "" && name == "PUT" && c.r.Header.Get("x-amz-copy-source") != "" {
+		name = "object COPY"
+	} else if c.key != "" {
+		name = "object " + name
+	} else if c.bucket != "" {
+		name = "bucket " + name
+	}
+	for _, it := range subresources {
+		if c.query.Has(it) {
+			return name + " " + it
+		}
+	}
+	return name
+}
+
+// Sub-resources that nothing here has, and S3's codes for what is not set, which a GET is answered.
+var unset = map[string]string{
+	"policy": "NoSuchBucketPolicy", "cors": "NoSuchCORSConfiguration", "website": "NoSuchWebsiteConfiguration", "tagging": "NoSuchTagSet",
+	"encryption": "ServerSideEncryptionConfigurationNotFoundError", "replication": "ReplicationConfigurationNotFoundError",
+	"publicAccessBlock": "NoSuchPublicAccessBlockConfiguration", "ownershipControls": "OwnershipControlsNotFoundError",
+	"object-lock": "ObjectLockConfigurationNotFoundError", "accelerate": "", "analytics": "", "append": "", "attributes": "",
+	"intelligent-tiering": "", "inventory": "", "legal-hold": "", "logging": "", "metrics": "", "notification": "", "partNumber": "",
+	"policyStatus": "", "requestPayment": "", "restore": "", "retention": "", "select": "", "torrent": "",
+}
+
+// Beginnings of fields whose being passed over would be taken for a promise.
+var unknownFields = regexp.MustCompile("^X-Amz-(Bucket-Object-Lock-|Object-Lock-|Server-Side-Encryption|Grant-|Tagging|If-Match-|" +
+	"Website-Redirect-Location|Write-Offset-Bytes|Copy-Source-Server-Side-Encryption|Rename-Source)")
+
+// Refuses what no call here does.
+func (c *call) refuseUnknown() {
+	refuseIf(c.bucket != "" && !isBucketName(c.bucket), "InvalidBucketName", "there is no such name of a bucket")
+	refuseIf(len(c.key) > longestKey, "KeyTooLongError", "a key has at most 1024 bytes")
+	owner, isRead := c.r.Header.Get("x-amz-expected-bucket-owner"), c.r.Method == "GET"
+	refuseIf(owner != "" && owner != c.tenant, "AccessDenied", "the bucket has another owner")
+	for name := range c.query {
+		code, isUnset := unset[name]
+		isThere := name == "tagging" && c.key != "" && isRead || name == "partNumber" && c.query.Has("uploadId")
+		if isUnset && !isThere {
+			refuseIf(code == "" || !isRead, "NotImplemented", name+" is not there")
+			panic(&apiError{code, http.StatusNotFound, "nothing is set"})
+		}
+	}
+	for field := range c.r.Header {
+		if unknownFields.MatchString(field) && field != "X-Amz-Tagging-Directive" {
+			panic(newError("NotImplemented", field+" is not there"))
+		}
+	}
+	list := c.r.Header.Get("x-amz-acl")
+	refuseIf(list != "" && list != "private" && !strings.HasPrefix(list, "bucket-owner-"), "NotImplemented", "an acl but private is not there")
+}
+
+var bucketNames = regexp.MustCompile("^[a-z0-9.-]{3,63}$")
+
+// Whether it is a bucket's name that clients may use: the hidden bucket's is none.
+func isBucketName(name string) bool { return bucketNames.MatchString(name) && name != hiddenBucket }
+
+// Sets fields of the response's head, by name and value; what is empty is left out.
+func (c *call) tell(pairs ...string) {
+	for i := 0; i < len(pairs); i += 2 {
+		if name, value := pairs[i], pairs[i+1]; strings.HasPrefix(name, metaField) || name == "ETag" {
+			c.w.Header()[name] = []string{value} // (in these letters: some clients want them, or make names of them)
+		} else if value != "" {
+			c.w.Header().Set(name, value)
+		}
+	}
+}
+
+func (c *call) begin(status int) {
+	c.beginWaiting()
+	c.status = status
+	c.w.WriteHeader(status)
+}
+
+// Sends a document, or nothing, as the whole answer.
+func (c *call) send(status int, text []byte) {
+	if text != nil {
+		c.tell("Content-Type", "application/xml")
+	}
+	if status != 204 && status != 304 {
+		c.tell("Content-Length", strconv.Itoa(len(text)))
+	}
+	c.begin(status)
+	if c.r.Method != "HEAD" {
+		c.Write(text)
+	}
+}
+
+func (c *call) refuse(e *apiError) {
+	var x bytes.Buffer
+	if e.status != 304 {
+		told := document{"Code": e.code, "Message": e.message, "Resource": c.r.URL.Path, "RequestId": c.w.Header().Get("x-amz-request-id")}
+		if strings.HasPrefix(e.code, "Authorization") {
+			told["Region"] = c.server.region
+		}
+		x.WriteString(xml.Header)
+		c.write(&x, "Error", told)
+	}
+	if e.status >= 500 || e.code == "IncompleteBody" || e.code == "EntityTooLarge" {
+		c.tell("Connection", "close")
+	}
+	c.send(e.status, x.Bytes())
+}
 
 // The name of a bucket's rule for uploads that are left unfinished, as bucketd's has none.
 const uploadsRule = "uploads"
@@ -44,11 +298,11 @@ func (c *call) deleteBucket() {
 
 func (c *call) getLocation() {
 	c.need(c.request("HEAD"))
-	if c.server.region == "us-east-1" { // S3's first region has no name there
-		c.sendDocument("LocationConstraint", document{})
-	} else {
-		c.sendDocument("LocationConstraint", c.server.region)
+	var name any = c.server.region
+	if name == "us-east-1" { // S3's first region has no name there
+		name = document{}
 	}
+	c.sendDocument("LocationConstraint", name)
 }
 
 func (c *call) listBuckets() {
@@ -136,7 +390,7 @@ func (c *call) deleteObjects() {
 			told["Code"], told["Message"] = e.code, e.message
 			failed = append(failed, told)
 		} else if !v.Quiet {
-			if r.head.Get("x-amz-delete-marker") != "" {
+			if r.Header.Get("x-amz-delete-marker") != "" {
 				told["DeleteMarker"], told["DeleteMarkerVersionId"] = true, r.version()
 			}
 			deleted = append(deleted, told)
@@ -145,9 +399,16 @@ func (c *call) deleteObjects() {
 	c.sendDocument("DeleteResult", document{"Deleted": deleted, "Error": failed})
 }
 
+// Tells fields of bucketd's head as they are.
+func (c *call) pass(r *hostResponse, names ...string) {
+	for _, name := range names {
+		c.tell(name, r.Header.Get(name))
+	}
+}
+
 // Tells the version that was answered, and the ETag of a checksum where there is one.
 func (c *call) tellVersion(r *hostResponse, checksum string) {
-	c.tell("x-amz-version-id", r.head.Get("x-amz-version-id"), "x-amz-delete-marker", r.head.Get("x-amz-delete-marker"))
+	c.pass(r, "x-amz-version-id", "x-amz-delete-marker")
 	if checksum != "" {
 		c.tell("ETag", etag(checksum))
 	}
@@ -185,15 +446,9 @@ func (c *call) putPieces(b *body) *hostRequest {
 		number := len(parts) + 1
 		q := c.request("PUT", "uploadId", upload, "partNumber", strconv.Itoa(number)).sending(b)
 		q.from, q.to = at, min(b.size, at+c.server.piece)
-		parts = append(parts, part{c.need(q).checksum(), number})
+		parts = append(parts, part{ChecksumSHA256: c.need(q).checksum(), PartNumber: number})
 	}
 	return c.completion(upload, parts)
-}
-
-// part is one that an upload is completed with.
-type part struct {
-	ChecksumSHA256 string
-	PartNumber     int
 }
 
 func (c *call) completion(upload string, parts []part) *hostRequest {
@@ -202,7 +457,7 @@ func (c *call) completion(upload string, parts []part) *hostRequest {
 
 func (c *call) beginUpload() {
 	meta, r := metadata(c.r.Header), c.need(c.request("POST", "uploads", ""))
-	if at, err := time.Parse(time.RFC3339, r.head.Get("x-amz-abort-date")); err == nil {
+	if at, err := time.Parse(time.RFC3339, r.Header.Get("x-amz-abort-date")); err == nil {
 		c.tell("x-amz-abort-date", at.Format(http.TimeFormat), "x-amz-abort-rule-id", uploadsRule)
 	}
 	members := c.translated(r)
@@ -226,16 +481,15 @@ func (c *call) completeUpload() {
 	var v completeDocument
 	c.readDocument(&v)
 	refuseIf(len(v.Parts) == 0, "MalformedXML", "no part is named")
-	var parts []part
-	for _, it := range v.Parts {
+	for i, it := range v.Parts {
 		checksum := checksumOf(it.ETag)
 		isOther := checksum == "" || it.ChecksumSHA256 != "" && it.ChecksumSHA256 != checksum
 		refuseIf(isOther, "InvalidPart", "an ETag or checksum is that of no part here")
-		parts = append(parts, part{checksum, it.PartNumber})
+		v.Parts[i].ChecksumSHA256 = checksum
 	}
 	defer c.hold(c.key)()
 	c.checkWrite()
-	r := c.need(c.completion(c.upload(), parts))
+	r := c.need(c.completion(c.upload(), v.Parts))
 	c.keepVersion(r, metadataOf(c.query.Get("uploadId")))
 	members := c.translated(r)
 	members["Location"] = c.path()
@@ -253,32 +507,32 @@ func (c *call) source() object {
 }
 
 // Looks at the source of a copy, and at the conditions on it.
-func (c *call) lookAtSource(o object) (f *found) {
-	if e := try(func() { f = c.look(o, o.request("HEAD"), false) }); e != nil {
+func (c *call) lookAtSource(o object) (d *details, r *hostResponse) {
+	if e := try(func() { d, r = c.look(o, o.request("HEAD"), false) }); e != nil {
 		refuseIf(e.code == "MethodNotAllowed", "InvalidRequest", "the source is a delete marker")
 		panic(e)
 	}
-	c.checkConditions("X-Amz-Copy-Source-", f.details, "PreconditionFailed")
-	return f
+	c.checkConditions("X-Amz-Copy-Source-", d, "PreconditionFailed")
+	return d, r
 }
 
 func (c *call) copyObject() {
 	o, meta := c.source(), metadata(c.r.Header)
 	defer c.hold(c.key)()
 	c.checkWrite()
-	f := c.lookAtSource(o)
+	d, _ := c.lookAtSource(o)
 	if !strings.EqualFold(c.r.Header.Get("x-amz-metadata-directive"), "REPLACE") {
-		meta = f.metadata()
+		meta = d.metadata()
 	}
 	from := o.path()
 	if o.version != "" {
-		from += "?versionId=" + percentEncode(o.version, false)
+		from += "?versionId=" + percentEncode(o.version)
 		c.tell("x-amz-copy-source-version-id", o.version)
 	}
 	q := c.request("PUT")
 	q.fields = []string{"x-amz-copy-source: " + from}
 	r := c.need(q)
-	refuseIf(r.document().ChecksumSHA256 != f.checksum, "SlowDown", "the source was overwritten meanwhile")
+	refuseIf(r.document().ChecksumSHA256 != d.checksum, "SlowDown", "the source was overwritten meanwhile")
 	c.keepVersion(r, meta)
 	c.sendDocument("CopyObjectResult", c.translated(r))
 }
@@ -288,13 +542,12 @@ func (c *call) copyPart() {
 	o, wanted := c.source(), c.r.Header.Get("x-amz-copy-source-range")
 	first, last, isRanged := parseRange(wanted)
 	refuseIf(wanted != "" && (!isRanged || first < 0 || last == math.MaxInt64), "InvalidArgument", "x-amz-copy-source-range is not bytes=FIRST-LAST")
-	f := c.lookAtSource(o)
-	first, last = rangeOf(first, last, f.size, isRanged)
+	_, r := c.lookAtSource(o)
+	first, last = rangeOf(first, last, r.size(), isRanged)
 	refuseIf(last-first >= c.server.piece, "EntityTooLarge", "a part that is copied has more bytes than bucketd takes at once")
 	b := c.newBody(last - first + 1)
-	next := c.pieces(o, f, first, last)
-	writePieces(b, next(), next)
-	r := c.need(c.partOf(b))
+	c.writePieces(b, o, r, first, last, func() {})
+	r = c.need(c.partOf(b))
 	c.sendDocument("CopyPartResult", document{"LastModified": time.Now().UTC().Format(time.RFC3339), "ChecksumSHA256": r.checksum()})
 }
 

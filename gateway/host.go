@@ -5,6 +5,7 @@ import (
 	"bytes"
 	"context"
 	"encoding/json"
+	"errors"
 	"fmt"
 	"io"
 	"log"
@@ -24,7 +25,6 @@ import (
 // host asks 'bucketd serve', which answers one connection after another, one request each. A few requests are sent ahead, so that
 // it needn't wait for the gateway; of a tenant no more than so many wait among those of all, so that tenants take turns.
 type host struct {
-	ahead   int
 	turn    chan struct{}
 	address atomic.Value // a string
 	mu      sync.Mutex
@@ -32,7 +32,7 @@ type host struct {
 }
 
 func newHost(address string, ahead int) *host {
-	h := &host{ahead: ahead, turn: make(chan struct{}, ahead), tenants: map[string]*tenant{}}
+	h := &host{turn: make(chan struct{}, ahead), tenants: map[string]*tenant{}}
 	h.address.Store(address)
 	return h
 }
@@ -42,7 +42,7 @@ func (h *host) tenant(name string) *tenant {
 	defer h.mu.Unlock()
 	t := h.tenants[name]
 	if t == nil {
-		t = &tenant{turn: make(chan struct{}, h.ahead)}
+		t = &tenant{turn: make(chan struct{}, cap(h.turn)), known: map[object]*details{}}
 		h.tenants[name] = t
 	}
 	t.most.Store(mostKnown / int64(len(h.tenants)))
@@ -51,7 +51,12 @@ func (h *host) tenant(name string) *tenant {
 
 // (a connection has one request, so nothing keeps it alive)
 func (h *host) dial() (net.Conn, error) {
-	return (&net.Dialer{KeepAlive: -1}).Dial("tcp", h.address.Load().(string))
+	conn, err := (&net.Dialer{KeepAlive: -1}).Dial("tcp", h.address.Load().(string))
+	if err == nil {
+		// (else each connection's window grows from little: a piece wants it at once)
+		conn.(*net.TCPConn).SetReadBuffer(greatestPiece)
+	}
+	return conn, err
 }
 
 // object names an object, or a version of one; a bucket where it has no key.
@@ -62,7 +67,7 @@ func (o object) path() string {
 	if o.key == "" {
 		return "/" + o.bucket
 	}
-	return "/" + o.bucket + "/" + percentEncode(o.key, true)
+	return "/" + o.bucket + "/" + percentEncode(o.key)
 }
 
 // hostRequest is all that a request to bucketd is made of.
@@ -72,13 +77,13 @@ type hostRequest struct {
 	query    url.Values
 	fields   []string
 	body     *body
-	from, to int64  // the bytes of the body
-	buffer   []byte // for the answer's body, where it fits
+	from, to int64         // the bytes of the body
+	buffer   *bytes.Buffer // for the answer's body
 }
 
 // A request about an object, a bucket or all buckets, with parameters by name and value.
 func (o object) request(method string, pairs ...string) *hostRequest {
-	q := &hostRequest{object: o, method: method, query: url.Values{}}
+	q := &hostRequest{object: o, method: method, query: url.Values{}, buffer: &bytes.Buffer{}}
 	if o.version != "" {
 		q.query.Set("versionId", o.version)
 	}
@@ -92,7 +97,7 @@ func (o object) request(method string, pairs ...string) *hostRequest {
 func (q *hostRequest) sending(b *body) *hostRequest {
 	q.body, q.to = b, b.size
 	if b.sha256 != "" {
-		q.fields = append(q.fields, "x-amz-checksum-sha256: "+b.sha256)
+		q.fields = append(q.fields, sha256Field+": "+b.sha256)
 	}
 	return q
 }
@@ -117,17 +122,22 @@ func (q *hostRequest) head(id, secret string) string {
 
 // hostResponse is bucketd's answer; refusal is 0 where it is none.
 type hostResponse struct {
-	status  int
-	head    http.Header
-	body    []byte
+	*http.Response
+	body    *bytes.Buffer
 	refusal int
 	code    string // of the refusal
 }
 
-func (r *hostResponse) checksum() string { return r.head.Get("x-amz-checksum-sha256") }
+func (r *hostResponse) checksum() string { return r.Header.Get(sha256Field) }
 
 // The id of the version that was answered: a bucket without versions tells none.
-func (r *hostResponse) version() string { return or(r.head.Get("x-amz-version-id"), nullVersion) }
+func (r *hostResponse) version() string { return or(r.Header.Get("x-amz-version-id"), nullVersion) }
+
+// The size of the object, also where a range of it was answered.
+func (r *hostResponse) size() int64 {
+	_, total, _ := strings.Cut(r.Header.Get("content-range"), "/")
+	return number(or(total, r.Header.Get("content-length")))
+}
 
 // hostDocument has those members of bucketd's documents that are read; others are only translated.
 type hostDocument struct {
@@ -138,36 +148,42 @@ type hostDocument struct {
 type hostVersion struct{ ChecksumSHA256, Key, LastModified, VersionId string }
 
 func (r *hostResponse) document() (d hostDocument) {
-	must(0, json.Unmarshal(r.body, &d))
+	must(0, json.Unmarshal(r.body.Bytes(), &d))
 	return d
 }
 
 // How long a request waits for a bucketd that isn't there.
 const hostPatience = 4 * time.Second
 
-// Asks bucketd. A connection that is refused is tried again for a while, and so is a read that got no answer: of a write that got
-// none it isn't known whether it was made.
-func (h *host) ask(t *tenant, id, secret string, q *hostRequest) (*hostResponse, error) {
-	begun, isRead := time.Now(), q.method == "GET" || q.method == "HEAD"
-	t.turn <- struct{}{}
-	defer func() { <-t.turn }()
+// Asks bucketd; a refusal is an answer. A connection that is refused is tried again for a while, and so is a read that got no
+// answer: of a write that got none it isn't known whether it was made.
+func (c *call) ask(q *hostRequest) *hostResponse {
+	begun, isRead, h := time.Now(), q.method == "GET" || q.method == "HEAD", c.server.host
+	c.own.turn <- struct{}{}
+	defer func() { <-c.own.turn }()
 	h.turn <- struct{}{}
 	defer func() { <-h.turn }()
 	for wait := 20 * time.Millisecond; ; wait *= 2 {
-		var r *hostResponse
 		conn, err := h.dial()
 		isTaken := err == nil
 		if isTaken {
-			r, err = exchange(conn, q, q.head(id, secret))
+			r := &hostResponse{}
+			if err = r.exchange(conn, q, q.head(c.id, c.secret)); err == nil {
+				return r
+			}
 		}
-		if err == nil || isTaken && !isRead || time.Since(begun)+wait > hostPatience {
-			return r, err
+		if isTaken && !isRead || time.Since(begun)+wait > hostPatience {
+			log.Printf("%s: no answer of bucketd: %v", c.tenant, err)
+			panic(newError("SlowDown", "the host doesn't answer"))
 		}
 		time.Sleep(wait)
 	}
 }
 
-func exchange(conn net.Conn, q *hostRequest, head string) (*hostResponse, error) {
+// Asks bucketd, and takes a refusal for an error.
+func (c *call) need(q *hostRequest) *hostResponse { return c.accepted(c.ask(q)) }
+
+func (r *hostResponse) exchange(conn net.Conn, q *hostRequest, head string) error {
 	// (nobody waits for the end of a connection)
 	defer func() { go conn.Close() }()
 	conn.SetDeadline(time.Now().Add(5 * time.Minute))
@@ -182,61 +198,52 @@ func exchange(conn net.Conn, q *hostRequest, head string) (*hostResponse, error)
 	// (an answer may have come before the body was taken)
 	answer, failed := http.ReadResponse(bufio.NewReader(conn), &http.Request{Method: q.method})
 	if failed != nil {
-		return nil, fmt.Errorf("%v (%v)", failed, err)
+		return fmt.Errorf("%v (%v)", failed, err)
 	}
-	r := &hostResponse{status: answer.StatusCode, head: answer.Header}
-	if err = nil; r.status >= 300 {
-		_, err = fmt.Sscan(r.head.Get("x-refusal"), &r.refusal, &r.code)
+	if r.Response, err = answer, nil; r.StatusCode >= 300 {
+		_, err = fmt.Sscan(r.Header.Get("x-refusal"), &r.refusal, &r.code)
 	}
-	if length := answer.ContentLength; err == nil && q.method != "HEAD" && length > 0 {
-		if r.body = q.buffer; int64(cap(r.body)) < length {
-			r.body = make([]byte, length)
-		}
-		r.body = r.body[:length]
-		_, err = io.ReadFull(answer.Body, r.body)
+	r.body = q.buffer
+	if r.body.Reset(); err == nil && q.method != "HEAD" && r.ContentLength > 0 {
+		setRoom(r.body, r.ContentLength)
+		_, err = io.CopyN(r.body, r.Body, r.ContentLength)
 	}
-	return r, err
+	return err
 }
 
-// Runs 'bucketd serve' on a host's file until the context is done, again whenever it ends. Returns when it listens, or with why it
-// doesn't; the channel is closed when it has ended. Each change is on the disk before it is answered, so it may be killed.
-func serveHost(ctx context.Context, program, file string, h *host) (<-chan struct{}, error) {
+// Runs 'bucketd serve' on a host's file until the context is done, again whenever it ends. Returns when it listens; the channel is
+// closed when it has ended. Each change is on the disk before it is answered, so it may be killed.
+func (h *host) serve(ctx context.Context, program, file string) <-chan struct{} {
+	var listens atomic.Bool
+	over := make(chan struct{})
 	h.address.Store("")
-	ended, over := make(chan error, 1), make(chan struct{})
 	go func() {
 		defer close(over)
 		// The kernel ends the child with the thread that made it, so also where the gateway is killed.
 		runtime.LockOSThread()
-		for ctx.Err() == nil {
-			err := runHost(ctx, program, file, h)
-			select {
-			case ended <- err:
-			default:
-			}
-			if ctx.Err() == nil {
-				log.Printf("%v; it is started again", err)
-				time.Sleep(250 * time.Millisecond)
-			}
+		try(func() { h.serveOnce(ctx, program, file) })
+		for listens.Load() && ctx.Err() == nil {
+			time.Sleep(250 * time.Millisecond)
+			try(func() { h.serveOnce(ctx, program, file) })
 		}
 	}()
-	for {
+	for !listens.Load() {
 		select {
-		case err := <-ended:
-			return over, err
+		case <-over:
+			panic(errors.New("bucketd doesn't serve"))
 		case <-time.After(20 * time.Millisecond): // (it may have a log to read first)
 			if conn, err := h.dial(); err == nil {
-				return over, conn.Close()
+				listens.Store(true)
+				conn.Close()
 			}
 		}
 	}
+	return over
 }
 
-// Runs bucketd once, on a free port, to its end.
-func runHost(ctx context.Context, program, file string, h *host) error {
-	free, err := net.Listen("tcp", "127.0.0.1:0")
-	if err != nil {
-		return err
-	}
+// Runs bucketd to its end, on a free port.
+func (h *host) serveOnce(ctx context.Context, program, file string) {
+	free := must(net.Listen("tcp", "127.0.0.1:0"))
 	_, port, _ := net.SplitHostPort(free.Addr().String())
 	free.Close()
 	h.address.Store("127.0.0.1:" + port)
@@ -244,5 +251,5 @@ func runHost(ctx context.Context, program, file string, h *host) error {
 	child := exec.CommandContext(ctx, program, "serve", "--file", file, "--port", port, "--clock-leap", "366")
 	child.Stdout, child.Stderr = os.Stderr, os.Stderr
 	child.SysProcAttr = &syscall.SysProcAttr{Pdeathsig: syscall.SIGKILL, Setpgid: true}
-	return fmt.Errorf("bucketd serve --file %s ended: %v", file, child.Run())
+	log.Printf("bucketd serve --file %s ended: %v", file, child.Run())
 }

@@ -92,9 +92,9 @@ func run(ctx context.Context, o options) {
 	}
 	if o.serve != "" {
 		hostCtx, endHost := context.WithCancel(context.Background())
-		over, err := serveHost(hostCtx, o.program, o.serve, server.host)
+		defer endHost()
+		over := server.host.serve(hostCtx, o.program, o.serve)
 		defer func() { endHost(); <-over }()
-		must(over, err)
 	}
 	log.Printf("listening on %s://%s", scheme, listener.Addr())
 	web, ended := server.web(), make(chan error, 1)
@@ -109,10 +109,16 @@ func run(ctx context.Context, o options) {
 	}
 }
 
+// connKey is where a call finds its connection.
+type connKey struct{}
+
 // What serves the connections of clients, so many at once; one that has no place holds up those behind it.
 func (s *server) web() *http.Server {
 	places := make(chan struct{}, s.connections)
-	return &http.Server{Handler: s, ReadHeaderTimeout: 20 * time.Second, IdleTimeout: time.Minute, MaxHeaderBytes: 32 << 10, ConnContext: withConn,
+	return &http.Server{Handler: s, ReadHeaderTimeout: 20 * time.Second, IdleTimeout: time.Minute, MaxHeaderBytes: 32 << 10,
+		ConnContext: func(ctx context.Context, conn net.Conn) context.Context {
+			return context.WithValue(ctx, connKey{}, conn)
+		},
 		ConnState: func(_ net.Conn, state http.ConnState) {
 			if state == http.StateNew {
 				places <- struct{}{}
