@@ -1,7 +1,7 @@
 ghost use Rattle.std.specs.Prelude.{◌≡◌, ◌<◌, take, false, None, IfSome};
 ghost use Rattle.std.specs.Io.KnownBytes.{Appends};
 ghost use Rattle.bh_model.specs.Runs.{last_reading};
-ghost use Rattle.bh_storage.specs.Calls.{Clean, IsAtRest};
+ghost use Rattle.bh_storage.specs.Calls.{Clean, LeavesSound, IsAtRest};
 ghost use Rattle.bh_tables.specs.Typed.{Tables};
 ghost use Rattle.bh_link.specs.Transfers.{Takes};
 ghost use Rattle.bh_host.specs.Replies.{reply_bytes, reply_trouble, clock_text};
@@ -38,6 +38,7 @@ pub fn serve_connection<H: Storage, R: Source, W: Sink>(
     ensures opened { H.IsIntact host.new → H.IsOpen host.new → H.IsOpen host.old }
     ensures ready { Clean H.IsIntact H.IsOpen host.new → IsAtRest H.IsSound (H.seen host.new) }
     ensures limits { (H.seen host.new).limits ≡ (H.seen host.old).limits }
+    ensures leaves { H.IsIntact host.new → LeavesSound H.IsSound H.left host.old host.new }
     ensures came_to { CameTo H.IsIntact H.IsOpen H.seen H.left
         (ends_of R.remaining R.transfers W.contents W.transfers reading reader.old writer.old)
         (ends_of R.remaining R.transfers W.contents W.transfers reading reader.new writer.new) result host.old host.new }

@@ -1,5 +1,5 @@
 ghost use Rattle.std.specs.Prelude.{◌≡◌};
-ghost use Rattle.bh_storage.specs.Calls.{Clean, IsAtRest};
+ghost use Rattle.bh_storage.specs.Calls.{Clean, LeavesSound, IsAtRest};
 ghost use Rattle.bh_connection.specs.Connections.{DidSome};
 ghost use Rattle.bh_connection.specs.Each.{RanSome};
 ghost use Rattle.bh_connection.specs.Listening.{ComesOne, HasListened};
@@ -27,6 +27,7 @@ pub fn serve_port<
     ensures opened { H.IsIntact host.new → H.IsOpen host.new → H.IsOpen host.old }
     ensures ready { Clean H.IsIntact H.IsOpen host.new → IsAtRest H.IsSound (H.seen host.new) }
     ensures limits { (H.seen host.new).limits ≡ (H.seen host.old).limits }
+    ensures leaves { H.IsIntact host.new → LeavesSound H.IsSound H.left host.old host.new }
     ensures ran { H.IsIntact host.new → RanSome H.IsOpen H.seen H.left host.old host.new }
 {
     let listener = bound(net, port)?;
@@ -77,6 +78,7 @@ pub fn serve_listener<E: Eprint + AllocGlobal, H: Storage, C: Clock>(
     ensures opened { H.IsIntact host.new → H.IsOpen host.new → H.IsOpen host.old }
     ensures ready { Clean H.IsIntact H.IsOpen host.new → IsAtRest H.IsSound (H.seen host.new) }
     ensures limits { (H.seen host.new).limits ≡ (H.seen host.old).limits }
+    ensures leaves { H.IsIntact host.new → LeavesSound H.IsSound H.left host.old host.new }
     ensures ran { H.IsIntact host.new → RanSome H.IsOpen H.seen H.left host.old host.new }
 {
     let current: Current = RefCell::new(None);
@@ -106,6 +108,7 @@ pub fn serve_from<H: Storage, A: Acceptor>(
     ensures opened { H.IsIntact host.new → H.IsOpen host.new → H.IsOpen host.old }
     ensures ready { Clean H.IsIntact H.IsOpen host.new → IsAtRest H.IsSound (H.seen host.new) }
     ensures limits { (H.seen host.new).limits ≡ (H.seen host.old).limits }
+    ensures leaves { H.IsIntact host.new → LeavesSound H.IsSound H.left host.old host.new }
     ensures ran { H.IsIntact host.new → RanSome H.IsOpen H.seen H.left host.old host.new }
     ensures listened { HasListened H.IsIntact H.IsOpen H.seen H.left (A.calls acceptor.old) (A.calls acceptor.new) count result
         host.old host.new }
@@ -127,6 +130,7 @@ fn serve_next<H: Storage, A: Acceptor>(
     ensures opened { H.IsIntact host.new → H.IsOpen host.new → H.IsOpen host.old }
     ensures ready { Clean H.IsIntact H.IsOpen host.new → IsAtRest H.IsSound (H.seen host.new) }
     ensures limits { (H.seen host.new).limits ≡ (H.seen host.old).limits }
+    ensures leaves { H.IsIntact host.new → LeavesSound H.IsSound H.left host.old host.new }
     ensures did { DidSome H.IsIntact H.IsOpen H.seen H.left host.old host.new }
     ensures comes { ComesOne H.IsIntact H.IsOpen H.seen H.left (A.calls acceptor.old) (A.calls acceptor.new) result host.old host.new }
 {

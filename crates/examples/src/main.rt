@@ -15,6 +15,7 @@ mod ends;
 mod escapes;
 mod operations;
 mod plain;
+mod reopened;
 mod requests;
 mod retried;
 mod series;
@@ -36,6 +37,8 @@ const USAGE: &str = "usage: examples WORD..
                     the requests, over connections in memory, cut as the lines of scripts/NAME.cuts say, if it is there
   stops NAME..      stops the log, and then the database file, of a host in memory at each call of scripts/NAME.in, and looks whether
                     what is left is opened as it stood before an event or after it
+  reopened NAME..   stops the machine of a host in files in memory after each event of scripts/NAME.in, opens its files again, and
+                    looks whether the host is as it was
   breaks NAME..     breaks the connection of each request of scripts/NAME.in at each byte that is read, and at each that goes out
   ample NAME..      draws 500 events from the lines of events/NAME.txt, applies them, and serves them: they are answered alike
   retried           answers the script of standard input, asking an event that found no memory once more
@@ -51,6 +54,7 @@ enum Kind {
     AnyDigest,
     Connections,
     Stops,
+    Reopened,
     Breaks,
     Ample,
 }
@@ -61,6 +65,7 @@ fn check(rt: &(impl Runtime + AllocGlobal), kind: Kind, name: &str) -> io::Resul
         Kind::AnyDigest => digest_runs::check(rt, name),
         Kind::Connections => connections::check(rt, name),
         Kind::Stops => stops::check(rt, name),
+        Kind::Reopened => reopened::check(rt, name),
         Kind::Breaks => breaks::check(rt, name),
         Kind::Ample => ample::check(rt, name),
     }
@@ -76,6 +81,7 @@ fn run(rt: &(impl Runtime + AllocGlobal), words: &[String]) -> io::Result<bool> 
             "any-digest" => kind = Kind::AnyDigest,
             "connections" => kind = Kind::Connections,
             "stops" => kind = Kind::Stops,
+            "reopened" => kind = Kind::Reopened,
             "breaks" => kind = Kind::Breaks,
             "ample" => kind = Kind::Ample,
             "help" => print!(rt; "{USAGE}")?,

@@ -27,10 +27,10 @@ const MOST: u64 = 100_000;
 
 /// What events are answered, and the rows of the host's tables after none of them, one, and so on.
 #[derive(Drop)]
-struct Expected<'a> {
-    events: &'a [Event],
-    answers: Vec<Told>,
-    rows: Vec<String>,
+pub struct Expected<'a> {
+    pub events: &'a [Event],
+    pub answers: Vec<Told>,
+    pub rows: Vec<String>,
 }
 
 /// How many events were answered, or none where there is no host, and what the files are left with.
@@ -40,7 +40,8 @@ struct Stopped {
     files: Fused,
 }
 
-fn expect(alloc: Global, events: &[Event]) -> Result<Expected<'_>, Fault> {
+/// What events are to be answered, and to leave.
+pub fn expect(alloc: Global, events: &[Event]) -> Result<Expected<'_>, Fault> {
     let mut rows = Vec::new(alloc);
     for count in 0..events.len() {
         rows.push(rows_after(alloc, &events[..count])?)?;
@@ -56,21 +57,22 @@ fn expect(alloc: Global, events: &[Event]) -> Result<Expected<'_>, Fault> {
     }
 }
 
-/// How many events are answered before the first that is told of trouble, if each is answered as expected.
-fn answered<H: Storage>(
+/// How many events are answered before the first that is told of trouble, if each is answered as these are told.
+pub fn answered<H: Storage>(
     alloc: Global,
     host: &mut H,
-    expected: &Expected<'_>,
+    events: &[Event],
+    answers: &[Told],
 ) -> Result<usize, Fault>
     requires { Clean H.IsIntact H.IsOpen host.old → IsAtRest H.IsSound (H.seen host.old) }
 {
     let mut count = 0usize;
-    for event in expected.events {
+    for event in events {
         let found = apply(alloc, host, event);
         if found.reply.trouble().is_some() {
             return Ok(count);
         }
-        let told = expected.answers.get(count).ok_or(Fault::Form)?;
+        let told = answers.get(count).ok_or(Fault::Form)?;
         if !is_told(found.stamp, found.reply.bytes(), told) {
             return Err(Fault::Form);
         }
@@ -95,7 +97,8 @@ fn run_on(
     ) {
         Ok(host) => {
             let mut storage = HostStorage { host };
-            let answered = Some(answered(alloc, &mut storage, expected)?);
+            let answers = expected.answers.as_slice();
+            let answered = Some(answered(alloc, &mut storage, expected.events, answers)?);
             let files = storage.host.into_connection().into_store().close();
             Ok(Stopped { answered, files })
         }
@@ -156,7 +159,8 @@ fn rows_found(
     }
 }
 
-fn is_at(rows: &[String], count: usize, found: &str) -> bool {
+/// Whether these rows stood after so many events.
+pub fn is_at(rows: &[String], count: usize, found: &str) -> bool {
     match rows.get(count) {
         Some(rows) => rows.as_str() == found,
         None => false,

@@ -1,8 +1,8 @@
-use Rattle.std.proofs.Common.{◌<◌, List, [], length, refl, sym, subst, arith, rules, ◌∙◌}
+use Rattle.std.proofs.Common.{◌<◌, List, [], length, refl, sym, subst, arith, rules, inl, ◌∙◌}
 use Rattle.std.proofs.lemmas.List.Elements.{All-get_or}
 use Rattle.bh_connection.specs.Each.{IsGoing, HasServed, ends}
 use Rattle.bh_connection.specs.declared.served.Served.{Served}
-use Rattle.bh_connection.proofs.EachLemmas.{served_none, served_next, served_alone_all, same_at, rest_next}
+use Rattle.bh_connection.proofs.EachLemmas.{leaves_then, served_none, served_next, served_alone_all, same_at, rest_next}
 use Rattle.bh_connection.proofs.each.serve_each.Goals as goal
 
 pub loop-index-init : goal.loop-index-init
@@ -14,6 +14,7 @@ loop-index-init g c =
       opened = λ h k. k;
       ready = c.requires.rest;
       limits = refl;
+      leaves = λ _ x leaves. inl leaves;
       count = search rules;
       room = search rules;
       rest = refl;
@@ -44,6 +45,7 @@ loop-index-preserved g c =
       opened = λ intact opened. so_far.opened (one.intact intact) (one.opened intact opened);
       ready = one.ready;
       limits = one.limits ∙ so_far.limits;
+      leaves = λ intact. leaves_then g.H.Storage.IsSound g.H.Storage.left _ _ _ (so_far.leaves (one.intact intact)) (one.leaves intact);
       count = search rules;
       room = search rules;
       rest = rest_next nows firsts i c.serve_arrival-served.new.arrival so_far.rest;

@@ -1,8 +1,8 @@
-use Rattle.std.proofs.Common.{[], ◌∷◌, ◌++◌, refl, sym, subst, ◌∙◌, arith, length-append}
+use Rattle.std.proofs.Common.{[], ◌∷◌, ◌++◌, refl, sym, subst, inl, ◌∙◌, arith, length-append}
 use Rattle.std.specs.List.{flat_map}
 use Rattle.bh_link.proofs.TransferLemmas.{logs_nothing, logs_then}
 use Rattle.bh_connection.specs.Listening.{calls_of, HasServedRows}
-use Rattle.bh_connection.proofs.EachLemmas.{ran_no_request, ran_request}
+use Rattle.bh_connection.proofs.EachLemmas.{leaves_then, ran_no_request, ran_request}
 use Rattle.bh_connection.proofs.ListeningLemmas.{logs_more, nothing_came, rows_more, at_err}
 use Rattle.bh_connection.proofs.listener.serve_from.Goals as goal
 
@@ -12,6 +12,7 @@ loop-served-init g c = record {
   opened = λ h k. k;
   ready = c.requires;
   limits = refl;
+  leaves = λ _ x leaves. inl leaves;
   ran = λ h. ran_no_request g.H.Storage.IsIntact g.H.Storage.IsOpen g.H.Storage.seen g.H.Storage.left c.args.host.now;
   listened = ([], refl, logs_nothing _, nothing_came g.H.Storage.IsIntact g.H.Storage.IsOpen g.H.Storage.seen g.H.Storage.left c.args.host.now);
 }
@@ -27,6 +28,7 @@ loop-served-preserved g c =
       opened = λ intact opened. so_far.opened (one.intact intact) (one.opened intact opened);
       ready = one.ready;
       limits = one.limits ∙ so_far.limits;
+      leaves = λ intact. leaves_then g.H.Storage.IsSound g.H.Storage.left _ _ _ (so_far.leaves (one.intact intact)) (one.leaves intact);
       ran = λ intact. ran_request g.H.Storage.IsIntact g.H.Storage.IsOpen g.H.Storage.seen g.H.Storage.left _ _ _ intact (so_far.ran (one.intact intact)) one.did;
       listened = (
         rows ++ row ∷ [],
@@ -54,3 +56,8 @@ pub returns-clause-listened : goal.returns-clause-listened
 returns-clause-listened g c =
     let (rows, count, log, served) = c.loop-served.invariant.listened in
     (rows, served, (omega (arith, count, c.loop-served-test.false, c.loop-served.auto.served-end), log))
+
+pub returns-in_err-serve_next-clause-leaves : goal.returns-in_err-serve_next-clause-leaves
+returns-in_err-serve_next-clause-leaves g c = λ intact.
+    let one = c.serve_next.ensures in
+    leaves_then g.H.Storage.IsSound g.H.Storage.left _ _ _ (c.loop-served.invariant.leaves (one.intact intact)) (one.leaves intact)

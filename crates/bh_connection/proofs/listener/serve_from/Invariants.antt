@@ -1,6 +1,6 @@
 use Rattle.std.proofs.Common.{◌≡◌, List, length}
 use Rattle.std.specs.List.{flat_map}
-use Rattle.bh_storage.specs.Calls.{Clean, IsAtRest}
+use Rattle.bh_storage.specs.Calls.{Clean, LeavesSound, IsAtRest}
 use Rattle.bh_link.specs.Transfers.{Logs}
 use Rattle.bh_connection.specs.Each.{RanSome, Row}
 use Rattle.bh_connection.specs.Listening.{calls_of, HasServedRows}
@@ -12,6 +12,7 @@ invariant-loop-served g l = record {
   opened : g.H.Storage.IsIntact l.host → g.H.Storage.IsOpen l.host → g.H.Storage.IsOpen l.fn.host;
   ready : Clean g.H.Storage.IsIntact g.H.Storage.IsOpen l.host → IsAtRest g.H.Storage.IsSound (g.H.Storage.seen l.host);
   limits : (g.H.Storage.seen l.host).limits ≡ (g.H.Storage.seen l.fn.host).limits;
+  leaves : g.H.Storage.IsIntact l.host → LeavesSound g.H.Storage.IsSound g.H.Storage.left l.fn.host l.host;
   ran : g.H.Storage.IsIntact l.host → RanSome g.H.Storage.IsOpen g.H.Storage.seen g.H.Storage.left l.fn.host l.host;
   listened : (rows : List Row) × (length rows ≡ l.served) × Logs (g.A.Acceptor.calls l.fn.acceptor) (g.A.Acceptor.calls l.acceptor) (flat_map calls_of rows)
       × HasServedRows g.H.Storage.IsIntact g.H.Storage.IsOpen g.H.Storage.seen g.H.Storage.left rows l.fn.host l.host;
