@@ -1,0 +1,93 @@
+//! Stored scripts on a host in files whose machine stops after each event: opened again, the host has what stood after it.
+
+use crate::answer::Fault;
+use crate::digest_runs::settings;
+use crate::disks::{memory, options};
+use crate::dump::rows_of;
+use crate::series::{Count, events_of, tell};
+use crate::stops::{Expected, answered, expect, is_at};
+use bh_again::stop_and_open_host;
+use bh_blocks::digester::Sha256Digester;
+use bh_create::create;
+use bh_dispatch::storage::HostStorage;
+use bh_open::Opened;
+use bh_types::block_digest::BlockDigest;
+use sqlite::{Connection, FileStore, Files};
+use sqlite_disk::Memory;
+use std::alloc::Global;
+use std::io;
+use std::rt::Files as System;
+
+/// A database in new files.
+fn new_database(alloc: Global) -> Result<Connection<FileStore<Memory>>, Fault> {
+    let files = Files {
+        log: memory(alloc, &[])?,
+        db: memory(alloc, &[])?,
+    };
+    match Connection::open_files_with(alloc, files, options(), true) {
+        Ok(connection) => Ok(connection),
+        Err(_) => Err(Fault::Memory),
+    }
+}
+
+/// Makes a host, applies the first events to it, stops its machine, and opens its files again.
+fn reopen(
+    alloc: Global,
+    connection: Connection<FileStore<Memory>>,
+    expected: &Expected<'_>,
+    count: usize,
+) -> Result<Opened<FileStore<Memory>>, Fault> {
+    let (limits, tuning) = settings().ok_or(Fault::Form)?;
+    let digest = BlockDigest::Sha256;
+    let Ok(host) = create(connection, Sha256Digester, digest, limits, tuning) else {
+        return Err(Fault::Memory);
+    };
+    let mut storage = HostStorage { host };
+    let events = &expected.events[..count];
+    if answered(alloc, &mut storage, events, expected.answers.as_slice())? != count {
+        return Err(Fault::Form);
+    }
+    match stop_and_open_host(alloc, storage.host, options(), tuning) {
+        Ok(opened) => Ok(opened),
+        Err(_) => Err(Fault::Form),
+    }
+}
+
+/// Whether the host that is opened after the first events has what stood after them.
+fn comes_back(alloc: Global, expected: &Expected<'_>, count: usize) -> Result<bool, Fault> {
+    let opened = reopen(alloc, new_database(alloc)?, expected, count)?;
+    let mut connection = opened.connection;
+    let rows = rows_of(alloc, &mut connection)?;
+    Ok(is_at(expected.rows.as_slice(), count, rows.as_str()))
+}
+
+/// Stops the machine after no event, after one, and so on.
+fn all_come_back(alloc: Global, expected: &Expected<'_>) -> Result<Count, Fault> {
+    let mut runs = 0u64;
+    for count in 0..=expected.events.len() {
+        if !comes_back(alloc, expected, count)? {
+            return Ok(Count {
+                runs,
+                is_well: false,
+            });
+        }
+        runs = runs.saturating_add(1);
+    }
+    Ok(Count {
+        runs,
+        is_well: true,
+    })
+}
+
+/// Whether a stored script's host is as it was, whichever event its machine stops after.
+pub fn check(rt: &(impl System + Print + Eprint + AllocGlobal), name: &str) -> io::Result<bool> {
+    let events = events_of(rt, name)?;
+    let expected = expect(rt.alloc(), events.as_slice());
+    match expected.and_then(|expected| all_come_back(rt.alloc(), &expected)) {
+        Ok(count) => tell(rt, name, "opened again after each event", count),
+        Err(fault) => {
+            println!(rt; "{name} opened again after each event: {fault:?}")?;
+            Ok(false)
+        }
+    }
+}
