@@ -57,10 +57,10 @@ def serving(program, file, texts):
     return words, lambda: [send(port, text) for text in texts]
 
 
-def filled(program, folder, first):
-    """A host with a tenant and its bucket, which a server has answered these."""
+def filled(program, folder, first, *options):
+    """A host, made with these options, with a tenant and its bucket, which a server has answered these."""
     file = os.path.join(folder, "host")
-    for words in (["init"], ["tenant-add", "--tenant", "green", "--quota", str(1 << 50)], ["key-add", "--tenant", "green", "--name", "k1", "--secret", "greensecret"]):
+    for words in (["init", *options], ["tenant-add", "--tenant", "green", "--quota", str(1 << 50)], ["key-add", "--tenant", "green", "--name", "k1", "--secret", "greensecret"]):
         subprocess.run([program, words[0], "--file", file] + words[1:], check=True, stdout=subprocess.DEVNULL)
     words, drive = serving(program, file, [request("PUT", *KEY, "/plans", "")] + first)
     child = subprocess.Popen(words, stderr=subprocess.DEVNULL)

@@ -1,16 +1,18 @@
 #!/usr/bin/env python3
 """Counts the instructions of a put and of a get, and the functions that take most of them, by valgrind's callgrind.
 
-    bench/profile.py [PROGRAM [SIZE..]]        PROGRAM: crates/bucketd/out/bucketd; SIZE in bytes: 1024, 65536 and 16777216
+    bench/profile.py [--digest NAME] [PROGRAM [SIZE..]]
+                    PROGRAM: crates/bucketd/out/bucketd; SIZE in bytes: 1024, 65536 and 16777216; NAME: that of `init --digest`
 
 Below the ten functions that take most stands what each part of the program takes, and of puts how many times the
-instructions of SHA-256 all are. Two runs of each kind differ by so many requests; a request's instructions are the
+instructions of SHA-256, and of SHA-256 and the store, all are. Two runs of each kind differ by so many requests; a request's instructions are the
 difference over their number. So what the program does once (its start, the tenant, the first statements' texts) doesn't
 count. `script` answers a script of standard input on a host in memory; `serve` answers over loopback on a file in
 /dev/shm, and puts new blocks and known ones. Counts are those of one processor's program alone: they don't change with
 what runs beside it, and say nothing of the kernel. Each byte that the C library fills by `rep stosb` or copies by
 `rep movsb` (a `memset` of 4 KiB, a `memcpy` of 64 KiB) counts as an instruction.
 """
+import argparse
 import os
 import sys
 import tempfile
@@ -60,11 +62,12 @@ def told(kind, size, few, many, requests):
         parts[part_of(name)] = parts.get(part_of(name), 0) + count
     print("  " + "; ".join(f"{part} {100 * count / total:.1f} %" for part, count in sorted(parts.items(), key=lambda one: -one[1])))
     if parts.get("SHA-256", 0) > total / 10:
-        print(f"  {total / parts['SHA-256']:.2f} times what SHA-256 takes")
+        both = parts["SHA-256"] + parts.get("the store", 0)
+        print(f"  {total / parts['SHA-256']:.2f} times what SHA-256 takes, {total / both:.2f} times what it and the store take")
     sys.stdout.flush()
 
 
-def profiled(program, size):
+def profiled(program, size, options):
     few, more = FEW[size], MORE[size]
     puts = [request("PUT", *KEY, f"/plans/k{n}", body(size, n)) for n in range(few + more)]
     gets = [request("GET", *KEY, "/plans/k0")] * (few + more)
@@ -72,11 +75,11 @@ def profiled(program, size):
 
     def script(requests):
         with tempfile.TemporaryDirectory(dir=FOLDER) as folder:
-            return counted(folder, [program, "script"], text=script_of(requests))
+            return counted(folder, [program, "script", *options], text=script_of(requests))
 
     def serve(first, last):
         with tempfile.TemporaryDirectory(dir=FOLDER) as folder:
-            return served(program, filled(program, folder, first), last)
+            return served(program, filled(program, folder, first, *options), last)
 
     if size * (few + more) < 1 << 25:
         told("script, put", size, script(puts[:few]), script(puts), more)
@@ -87,11 +90,16 @@ def profiled(program, size):
 
 
 def main():
-    program = os.path.abspath(sys.argv[1] if len(sys.argv) > 1 else "crates/bucketd/out/bucketd")
+    parser = argparse.ArgumentParser(usage=__doc__)
+    parser.add_argument("--digest", default="sha256")
+    parser.add_argument("program", nargs="?", default="crates/bucketd/out/bucketd")
+    parser.add_argument("sizes", nargs="*", type=int, default=sorted(FEW))
+    options = parser.parse_args()
+    program = os.path.abspath(options.program)
     if not os.path.exists(program):
         sys.exit(f"{program} isn't there: 'make build' makes it")
-    for size in map(int, sys.argv[2:]) if len(sys.argv) > 2 else sorted(FEW):
-        profiled(program, size)
+    for size in options.sizes:
+        profiled(program, size, ["--digest", options.digest])
 
 
 main()
