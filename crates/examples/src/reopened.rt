@@ -10,6 +10,8 @@ use bh_again::stop_and_open_host;
 use bh_blocks::digester::Sha256Digester;
 use bh_create::create;
 use bh_dispatch::storage::HostStorage;
+use bh_event::event::Event;
+use bh_host::Told;
 use bh_open::Opened;
 use bh_types::block_digest::BlockDigest;
 use sqlite::{Connection, FileStore, Files};
@@ -30,12 +32,12 @@ fn new_database(alloc: Global) -> Result<Connection<FileStore<Memory>>, Fault> {
     }
 }
 
-/// Makes a host, applies the first events to it, stops its machine, and opens its files again.
+/// Makes a host, applies events to it, which are to be answered as these are told, stops its machine, and opens its files again.
 fn reopen(
     alloc: Global,
     connection: Connection<FileStore<Memory>>,
-    expected: &Expected<'_>,
-    count: usize,
+    events: &[Event],
+    answers: &[Told],
 ) -> Result<Opened<FileStore<Memory>>, Fault> {
     let (limits, tuning) = settings().ok_or(Fault::Form)?;
     let digest = BlockDigest::Sha256;
@@ -43,8 +45,7 @@ fn reopen(
         return Err(Fault::Memory);
     };
     let mut storage = HostStorage { host };
-    let events = &expected.events[..count];
-    if answered(alloc, &mut storage, events, expected.answers.as_slice())? != count {
+    if answered(alloc, &mut storage, events, answers)? != events.len() {
         return Err(Fault::Form);
     }
     match stop_and_open_host(alloc, storage.host, options(), tuning) {
@@ -55,7 +56,9 @@ fn reopen(
 
 /// Whether the host that is opened after the first events has what stood after them.
 fn comes_back(alloc: Global, expected: &Expected<'_>, count: usize) -> Result<bool, Fault> {
-    let opened = reopen(alloc, new_database(alloc)?, expected, count)?;
+    let events = expected.events.get(..count).ok_or(Fault::Form)?;
+    let answers = expected.answers.as_slice();
+    let opened = reopen(alloc, new_database(alloc)?, events, answers)?;
     let mut connection = opened.connection;
     let rows = rows_of(alloc, &mut connection)?;
     Ok(is_at(expected.rows.as_slice(), count, rows.as_str()))
