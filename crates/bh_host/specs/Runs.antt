@@ -46,30 +46,31 @@ pub record RanOn {H : Type 0} (IsOpen : H → Type 0) (seen : H → Seen) (left 
 
 -- ---- whose events they were, and what each tenant is told
 
--- the first turn is of this message, and others are left; a sweep and a report are nobody's, and no turn
-abbrev pub ShowsAct : HostLimits → Message → ℕ → List ℕ → (List Turn → Type 0) → List Turn → Type 0
-ShowsAct limits message m reply rest turns =
-    (act : Act) × (others : List Turn) × Acted limits message act
-    × (turns ≡ record { act = act; stamp = m; reply = reply } ∷ others) × rest others
+-- a request or a command is one turn; a sweep and a report are nobody's, and none
+abbrev pub IsOneTurn : HostLimits → Message → ℕ → List ℕ → List Turn → Type 0
+IsOneTurn limits message m reply turns =
+    (act : Act) × Acted limits message act × (turns ≡ record { act = act; stamp = m; reply = reply } ∷ [])
 
-abbrev pub ShowsTurn : HostLimits → Message → ℕ → List ℕ → (List Turn → Type 0) → List Turn → Type 0
-ShowsTurn limits (Requested bytes) m reply rest turns = ShowsAct limits (Requested bytes) m reply rest turns
-ShowsTurn limits (Ordered order) m reply rest turns = ShowsAct limits (Ordered order) m reply rest turns
-ShowsTurn limits (SweepOrdered limit) m reply rest turns = rest turns
-ShowsTurn limits ReportOrdered m reply rest turns = rest turns
+abbrev pub AreTurnsOf : HostLimits → Message → ℕ → List ℕ → List Turn → Type 0
+AreTurnsOf limits (Requested bytes) m reply turns = IsOneTurn limits (Requested bytes) m reply turns
+AreTurnsOf limits (Ordered order) m reply turns = IsOneTurn limits (Ordered order) m reply turns
+AreTurnsOf limits (SweepOrdered limit) m reply turns = turns ≡ []
+AreTurnsOf limits ReportOrdered m reply turns = turns ≡ []
 
--- from one last stamp to another, these are the turns of the requests and commands with a stamp; what has no stamp got the
--- fixed reply
-abbrev pub ShowsFirst : HostLimits → Arrival → Told → (List Turn → ℕ → Type 0) → List Turn → ℕ → Type 0
-ShowsFirst limits event (None, reply) rest turns from = (reply ≡ fixed event) × rest turns from
-ShowsFirst limits event (Some m, reply) rest turns from =
-    (stamp_of event.reading from ≡ Ok m) × ShowsTurn limits event.message m reply (λ others. rest others m) turns
+-- an event with a stamp is its turns, and its stamp the last one from then on; one without got the fixed reply, and is none
+abbrev pub IsShown : HostLimits → Arrival → Told → List Turn → ℕ → ℕ → Type 0
+IsShown limits event (None, reply) turns last next = (reply ≡ fixed event) × (turns ≡ []) × (next ≡ last)
+IsShown limits event (Some m, reply) turns last next =
+    (stamp_of event.reading last ≡ Ok m) × AreTurnsOf limits event.message m reply turns × (next ≡ m)
 
+-- from one last stamp to another, the turns of all events are the first one's, and then the others'
 abbrev pub Shows : HostLimits → ℕ → List Arrival → List Told → List Turn → ℕ → Type 0
 Shows limits to [] [] turns from = (turns ≡ []) × (to ≡ from)
 Shows limits to [] (done ∷ dones) turns from = ⊥
 Shows limits to (event ∷ events) [] turns from = ⊥
-Shows limits to (event ∷ events) (done ∷ dones) turns from = ShowsFirst limits event done (λ others m. Shows limits to events dones others m) turns from
+Shows limits to (event ∷ events) (done ∷ dones) turns from =
+    (first : List Turn) × (others : List Turn) × (next : ℕ)
+    × IsShown limits event done first from next × (turns ≡ first ++ others) × Shows limits to events dones others next
 
 -- a tenant's own acts with their stamps, and what it was told
 abbrev pub own : Octets → List Turn → List (ℕ × Act)
@@ -122,6 +123,6 @@ HasOneTelling = (limits : HostLimits) (to : ℕ) (events : List Arrival) (dones 
     → Shows limits to events dones turns from → Shows limits to events dones turns2 from → turns ≡ turns2
 
 -- a run and then a run is a run of all
-abbrev pub GoesOn : Type 0
-GoesOn = (events more : List Arrival) (dones others : List Told) (old mid new : Tables)
+abbrev pub RunsJoin : Type 0
+RunsJoin = (events more : List Arrival) (dones others : List Told) (old mid new : Tables)
     → Ran events dones old mid → Ran more others mid new → Ran (events ++ more) (dones ++ others) old new

@@ -1,6 +1,6 @@
 //! What follows for those who are served.
 
-ghost use Rattle.bh_host.specs.Runs.{EachIsAlone, AnswersAlike, HasOneTelling, GoesOn};
+ghost use Rattle.bh_host.specs.Runs.{EachIsAlone, AnswersAlike, HasOneTelling, RunsJoin};
 
 /// Whatever was run, each tenant was answered as a machine that it has to itself answers it.
 pub fn each_is_alone()
@@ -21,6 +21,6 @@ pub fn has_one_telling()
 {}
 
 /// A run, and then a run from where it ended, are a run of all the events.
-pub fn goes_on()
-    ensures { GoesOn }
+pub fn runs_join()
+    ensures { RunsJoin }
 {}
