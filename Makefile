@@ -9,6 +9,7 @@
 # great bodies, new and known, and their memory; blocks: the time of a block among 1,000 and 100,000; uploads: that of a part
 # among 1,000 and 10,000; pages: that of pages of a listing; quotas: what a quota and rules for uploads cost; sweeps: a
 # sweep among 10,000 and 100,000 blocks in use; totals: what needn't be added up (PROGRAM=.. BEFORE=..: two programs in one run);
+# telling: an operator's lines beside clients, and what that port costs;
 # shards: one, two and four hosts behind one nginx, each tenant on one of them;
 # profile: the instructions of a put and of a get, and the functions that take
 # most (all bench/README.md).
@@ -18,7 +19,7 @@
 # turn. others: drawn scripts of two tenants, each of whom is answered as where the other's events, sweeps and reports are left
 # out. front: nginx before the program, as deploy/nginx.conf has it, and slow clients. hostile: what is made to break the program,
 # at its full size; edits: ten minutes of edited requests, by a script and over a socket.
-.PHONY: demo try build test gate times wrong-bodies stamps lint bench lookups versions serving digests bodies blocks uploads pages quotas sweeps totals shards profile memory others stops breaks ample opening front hostile edits
+.PHONY: demo try build test gate times wrong-bodies stamps lint bench lookups versions serving digests bodies blocks uploads pages quotas sweeps totals telling shards profile memory others stops breaks ample opening front hostile edits
 
 demo:
 	@tools/bucketd <crates/bucketd/stdin
@@ -58,6 +59,9 @@ versions:
 
 serving:
 	@bench/serving.py
+
+telling:
+	@bench/telling.py $(PROGRAM)
 
 digests:
 	@bench/digests.py $(PROGRAM)

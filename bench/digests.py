@@ -1,15 +1,18 @@
 #!/usr/bin/env python3
-"""Times puts on hosts of both digest functions, beside nginx's DAV and a pass of OpenSSL's SHA-256, over loopback.
+"""Times puts on hosts of both digest functions, beside nginx's DAV, a pass of OpenSSL's SHA-256, and SQLite's own commit of
+the same blocks, over loopback.
 
     bench/digests.py [PROGRAM]        PROGRAM: crates/bucketd/out/bucketd
 
 It needs Debian's nginx-light. The servers keep their files in one new folder in the current one (FOLDER in the environment
 names another place), and are asked in turns, a connection a request: bodies that no block of the host has yet, and each of them
-once more under another key. Times are medians; the processor's are those of the server's process.
+once more under another key. Times are medians; the processor's are those of the server's process. SQLite writes each body in
+blocks of 65,536 bytes, one transaction a body, with a log that is synced (`journal_mode=wal`, `synchronous=full`).
 """
 import hashlib
 import os
 import shutil
+import sqlite3
 import statistics
 import sys
 import tempfile
@@ -19,6 +22,7 @@ from server import Asked, Server
 from serving import start_nginx
 
 SIZES = [(1 << 10, 200), (1 << 16, 100), (1 << 20, 30), (1 << 24, 8)]
+BLOCK = 65536
 TICKS = os.sysconf("SC_CLK_TCK")
 
 
@@ -62,6 +66,23 @@ def passes(bodies):
     return statistics.median(took)
 
 
+def commits(folder, bodies):
+    """The median milliseconds of SQLite's own commit of a body's blocks."""
+    took = []
+    with sqlite3.connect(os.path.join(folder, f"commits-{len(bodies[0])}"), isolation_level=None) as connection:
+        connection.execute("PRAGMA journal_mode=wal")
+        connection.execute("PRAGMA synchronous=full")
+        connection.execute("CREATE TABLE blocks (name INTEGER PRIMARY KEY, bytes BLOB NOT NULL)")
+        for body in bodies:
+            before = time.perf_counter()
+            connection.execute("BEGIN")
+            for start in range(0, len(body), BLOCK):
+                connection.execute("INSERT INTO blocks (bytes) VALUES (?)", (body[start : start + BLOCK],))
+            connection.execute("COMMIT")
+            took.append(1000 * (time.perf_counter() - before))
+    return statistics.median(took)
+
+
 def main():
     program = os.path.abspath(sys.argv[1] if len(sys.argv) > 1 else "crates/bucketd/out/bucketd")
     if not os.path.exists(program):
@@ -74,14 +95,15 @@ def main():
             os.makedirs(place)
         with Server(program, places["sha256"]) as ours, Server(program, places["fast"], digest="fast") as fast, Nginx(places["nginx"]) as nginx:
             servers = {"sha256": ours, "fast": fast, "nginx": nginx}
-            print(f"{'bodies':>6} {'bytes':>9} {'sha256 ms':>10} {'cpu':>7} {'fast ms':>8} {'cpu':>7} {'nginx ms':>9} {'to nginx':>12} {'OpenSSL ms':>11}")
+            print(f"{'bodies':>6} {'bytes':>9} {'sha256 ms':>10} {'cpu':>7} {'fast ms':>8} {'cpu':>7} {'nginx ms':>9} {'to nginx':>12} {'OpenSSL ms':>11} {'SQLite ms':>10}")
             for size, count in SIZES:
                 bodies = [os.urandom(size) for _ in range(count)]
+                commit = commits(folder, bodies)
                 for kind in ("new", "known"):
                     told = put_all(servers, size, count, kind, bodies)
                     (one, one_spent), (two, two_spent), (three, _) = (told[name] for name in servers)
                     ratios = f"{one / three:.2f} {two / three:.2f}"
-                    print(f"{kind:>6} {size:>9} {one:>10.3f} {one_spent:>7.2f} {two:>8.3f} {two_spent:>7.2f} {three:>9.3f} {ratios:>12} {passes(bodies):>11.3f}", flush=True)
+                    print(f"{kind:>6} {size:>9} {one:>10.3f} {one_spent:>7.2f} {two:>8.3f} {two_spent:>7.2f} {three:>9.3f} {ratios:>12} {passes(bodies):>11.3f} {commit:>10.3f}", flush=True)
 
 
 main()
