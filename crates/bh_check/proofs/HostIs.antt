@@ -1,0 +1,76 @@
+-- A database whose rows were checked is a host's.
+use Rattle.std.proofs.Common.{◌≡◌, ℕ, pos, ◌+◌, sum_by, filter, Bool, true, false, ◌&&◌, List, [], ◌∷◌, map, refl, sym, ap, ap₂, ◌∙◌}
+use Rattle.std.specs.List.{AllByRecursion}
+use Rattle.std.specs.Ordering.{int_eq}
+use Rattle.sqlite.specs.Effect.{Database}
+use Rattle.sqlite.specs.Order.{Row, column}
+use Rattle.sqlite.specs.Tree.{Trees}
+use Rattle.sqlite_keyed.proofs.ListLemmas.{all_from_test, all_both, all_map}
+use Rattle.sqlite_typed.specs.Columns.{bytes_of, int_of}
+use Rattle.sqlite_typed.specs.Tests.{bytes_eq}
+use Rattle.bh_rows.specs.Form.{AreRows, typed}
+use Rattle.bh_tables.specs.Schema.{Octets, host_schema}
+use Rattle.bh_tables.specs.Bodies.{resolved, resolved_part, same_name}
+use Rattle.bh_tables.specs.Typed.{Totals, totals_of, tables_in, raw, AreHeld, IsHost, TenantColumns, UploadColumns, VersionRow, PartRow, tenant_columns, upload_columns, tenant_form, stored_tenant_form, upload_form, stored_upload_form, block_form, ref_form, version_of, part_of, bytes_used, bytes_kept}
+use Rattle.bh_tables.proofs.StoredLemmas.{Uses, Keeps, held_shown}
+use Rattle.bh_stored.specs.Cells.{is_fit}
+use Rattle.bh_check.specs.Checked.{IsChecked}
+use Rattle.bh_stored.specs.Fits.{tenant_kinds, upload_kinds, use_kinds}
+use Rattle.bh_check.specs.Holds.{owner, first_two, number_at, version_bytes, part_bytes, upload_bytes, block_refs, Holds}
+use Rattle.bh_check.specs.declared.rows.Table.TheVariants as table
+use Rattle.bh_stored.proofs.Fitted.{hosts_are, tenants_are, keys_are, buckets_are, versions_are, blocks_are, refs_are, uploads_are, parts_are, uses_are, used_is, kept_is}
+use Rattle.bh_check.proofs.CountsAre.{counts_are, refs_counted}
+use Rattle.bh_check.proofs.TotalIs.{total_twice}
+
+pub and_true : (b : Bool) → b ≡ (b && true)
+and_true true = refl
+and_true false = refl
+
+module _ (digest : Octets → Octets) (d : Trees) (c : IsChecked digest d) where
+  abbrev db : Database
+  db = record { schema = host_schema; trees = d }
+
+  abbrev sums : Totals
+  sums = totals_of (tables_in db)
+
+  -- the bytes that a tenant's rows have
+  versions_sum : (t : Octets) → sum_by (λ (v : VersionRow). v.size) (filter (λ v. bytes_eq v.tenant t) (tables_in db).versions) ≡ version_bytes d (t, 0)
+  versions_sum t = total_twice version_of (resolved (typed ref_form (d 12)) (typed block_form (d 10))) (λ v. bytes_eq v.tenant t) (λ (v : VersionRow). v.size) owner (number_at 8) (t, 0) (λ r. and_true (bytes_eq (bytes_of (column r 1)) t)) (λ r. refl) (d 7)
+
+  parts_sum : (t : Octets) → sum_by (λ (p : PartRow). p.size) (filter (λ p. bytes_eq p.tenant t) (tables_in db).parts) ≡ part_bytes d (t, 0)
+  parts_sum t = total_twice part_of (resolved_part (typed ref_form (d 12)) (typed block_form (d 10))) (λ p. bytes_eq p.tenant t) (λ (p : PartRow). p.size) owner (number_at 4) (t, 0) (λ r. and_true (bytes_eq (bytes_of (column r 1)) t)) (λ r. refl) (d 18)
+
+  pub used_sum : (t : Octets) → bytes_used (tables_in db).versions (tables_in db).parts t ≡ version_bytes d (t, 0) + part_bytes d (t, 0)
+  used_sum t = ap₂ ◌+◌ (versions_sum t) (parts_sum t)
+
+  pub kept_sum : (t : Octets) (n : ℕ) → bytes_kept (tables_in db).parts t n ≡ upload_bytes d (t, n)
+  kept_sum t n = total_twice part_of (resolved_part (typed ref_form (d 12)) (typed block_form (d 10))) (λ p. bytes_eq p.tenant t && int_eq (pos p.upload) (pos n)) (λ (p : PartRow). p.size) first_two (number_at 4) (t, n) (λ r. refl) (λ r. refl) (d 18)
+
+  -- each row keeps what the others have
+  uses : AllByRecursion (Uses sums) (typed stored_tenant_form (d 1))
+  uses = all_map (Uses sums) stored_tenant_form.decode (d 1)
+      (all_both (λ r. is_fit tenant_kinds r ≡ true) (Holds d c.latest table.Tenants) (λ r. Uses sums (stored_tenant_form.decode r))
+      (λ r fit h. used_is r fit ∙ ap pos (h.used ∙ sym (used_sum (bytes_of (column r 1))))) (d 1) (all_from_test (is_fit tenant_kinds) (d 1) c.fits.tenants.fit) c.rows.tenants)
+
+  keeps : AllByRecursion (Keeps sums) (typed stored_upload_form (d 16))
+  keeps = all_map (Keeps sums) stored_upload_form.decode (d 16)
+      (all_both (λ r. is_fit upload_kinds r ≡ true) (Holds d c.latest table.Uploads) (λ r. Keeps sums (stored_upload_form.decode r))
+      (λ r fit h. kept_is r fit ∙ ap pos (h.kept ∙ sym (kept_sum (bytes_of (column r 1)) (number_at 2 r)))) (d 16) (all_from_test (is_fit upload_kinds) (d 16) c.fits.uploads.fit) c.rows.uploads)
+
+  pub host_is : IsHost db
+  host_is = record {
+    schema = refl;
+    held = record {
+      host = hosts_are (d 0) c.fits.host;
+      tenants = held_shown (tenant_form sums) stored_tenant_form (λ (x : TenantColumns). x.row) (Uses sums) (λ r. refl) (λ x k. ap (λ n. tenant_columns n x.row) k) (λ r h. ap (λ x. int_of (column x 6)) h) (d 1) (tenants_are (d 1) c.fits.tenants) uses;
+      keys = keys_are (d 3) c.fits.keys;
+      buckets = buckets_are (d 5) c.fits.buckets;
+      versions = versions_are (d 7) c.fits.versions;
+      blocks = blocks_are (d 10) c.fits.blocks;
+      refs = refs_are (d 12) c.fits.refs;
+      uploads = held_shown (upload_form sums) stored_upload_form (λ (x : UploadColumns). x.row) (Keeps sums) (λ r. refl) (λ x k. ap (λ n. upload_columns n x.row) k) (λ r h. ap (λ x. int_of (column x 6)) h) (d 16) (uploads_are (d 16) c.fits.uploads) keeps;
+      parts = parts_are (d 18) c.fits.parts;
+      uses = uses_are (d 23) c.fits.uses;
+      counts = counts_are (block_refs d) (typed ref_form (d 12)) (refs_counted d) (d 23) (d 10) (all_from_test (is_fit use_kinds) (d 23) c.fits.uses.fit) c.counts;
+    };
+  }

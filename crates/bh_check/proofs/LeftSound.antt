@@ -1,0 +1,56 @@
+-- What a check of the store that a connection leaves says of the connection's tables.
+use Rattle.std.proofs.Common.{arith, ◌≡◌, ◌≤◌, ℕ, true, IsTrue, Result, Ok, Err, IfOk, refl, sym, ap, ◌∙◌, subst}
+use Rattle.sqlite.specs.Effect.{Database, IsDatabase}
+use Rattle.sqlite.specs.Held.{Held, state}
+use Rattle.sqlite.specs.State.{IsLive}
+use Rattle.sqlite.specs.Tree.{Trees}
+use Rattle.sqlite_schema.specs.declared.schema.Schema.{Schema}
+use Rattle.sqlite_trees.specs.View.{IsClean, IsRolledBack, doubt}
+use Rattle.sqlite_trees.specs.declared.store.Store.{Ghosts}
+use Rattle.bh_tables.specs.Hosts.{tables_shown}
+use Rattle.bh_tables.specs.Schema.{Octets, host_schema}
+use Rattle.bh_view.specs.Bodies.{IsSoundHost}
+use Rattle.bh_schema.specs.Layer.{IsStateClean, IsIntact, IsOpen}
+use Rattle.bh_stored.specs.Stores.{KeepsTrees}
+use Rattle.bh_check.specs.Checked.{IsChecked}
+use Rattle.bh_check.proofs.Sound.{makes_sound}
+
+-- what follows from two facts on a value that is there
+pub ok_both : {T E : Type 0} (r : Result T E) (P Q R : T → Type 0) → ((x : T) → P x → Q x → R x) → IfOk r P → IfOk r Q → IfOk r R
+ok_both (Ok x) P Q R f p q = f x p q
+ok_both (Err e) P Q R f p q = tt
+
+module _ {S : Type 0} (g : Ghosts S) (connection : Held S) (bare last : S) (digest : Octets → Octets) (schema : IsStateClean (state g connection) → (state g connection).now.schema ≡ host_schema) (live : IsLive (state g connection))
+    (settled : IsTrue (state g connection).is_open → (state g connection).now ≡ (state g connection).committed) (undone : IsRolledBack (g.view connection.store) (g.view bare))
+    (less : doubt (g.view connection.store).is_clean ≤ doubt (g.view bare).is_clean) (keeps : KeepsTrees (g.view bare) (g.view last)) (checked : IsClean (g.view last) → IsChecked digest (g.view bare).trees)
+    (clean : IsClean (g.view last)) (opened : IsTrue (g.view last).is_open) where
+  bare_clean : IsClean (g.view bare)
+  bare_clean = keeps.clean clean
+
+  bare_open : IsTrue (g.view bare).is_open
+  bare_open = subst IsTrue (keeps.opened clean) opened
+
+  was_open : IsTrue (g.view connection.store).is_open
+  was_open = (undone.kept bare_clean).was_open bare_open
+
+  was_clean : IsClean (g.view connection.store)
+  was_clean = omega (arith, less, bare_clean)
+
+  state_clean : IsStateClean (state g connection)
+  unfolding IsIntact IsOpen
+  state_clean = record { intact = was_clean; is_open = was_open }
+
+  abbrev trees : Trees
+  trees = (g.view connection.store).trees
+
+  same_trees : (g.view bare).trees ≡ trees
+  same_trees = (undone.undone bare_open).0 ∙ sym (ap (λ (db : Database). db.trees) (settled was_open))
+
+  database : IsDatabase (record { schema = host_schema; trees = trees })
+  database = subst (λ (s : Schema). IsDatabase (record { schema = s; trees = trees })) (schema state_clean) (live was_open).0
+
+  sound_tables : IsSoundHost digest (tables_shown (record { schema = host_schema; trees = trees }))
+  sound_tables = makes_sound digest trees database (subst (IsChecked digest) same_trees (checked clean))
+
+  pub sound_left : IsStateClean (state g connection) × IsSoundHost digest (tables_shown (state g connection).now)
+  sound_left = (state_clean, subst (λ (s : Schema). IsSoundHost digest (tables_shown (record { schema = s; trees = trees }))) (sym (schema state_clean)) sound_tables)

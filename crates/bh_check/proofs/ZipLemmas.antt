@@ -1,0 +1,25 @@
+-- A walk over two lists of one length.
+use Rattle.std.proofs.Common.{arith, ◌≡◌, ℕ, zero, suc, ◌+◌, ◌<◌, List, [], ◌∷◌, length, take, get_or, refl, sym, ap, ◌∙◌, subst, subst₂}
+use Rattle.std.specs.List.{AllZip}
+
+module _ {A B : Type 0} (R : A → B → Type 0) where
+  pub zip_more : (xs : List A) (ys : List B) (i : ℕ) (x : A) (y : B) → i < length xs → i < length ys → x ≡ get_or xs i x → y ≡ get_or ys i y → AllZip R (take i xs) (take i ys) → R x y → AllZip R (take (i + 1) xs) (take (i + 1) ys)
+  zip_more xs ys i x y low below is its so_far holds = subst (λ n. AllZip R (take n xs) (take n ys)) (one i) (go xs ys i low below is its so_far)
+    where
+      one : (n : ℕ) → suc n ≡ n + 1
+      one n = omega arith
+
+      go : (xs : List A) (ys : List B) (i : ℕ) → i < length xs → i < length ys → x ≡ get_or xs i x → y ≡ get_or ys i y → AllZip R (take i xs) (take i ys) → AllZip R (take (suc i) xs) (take (suc i) ys)
+      go [] ys i low below is its h = absurd (omega (arith, low))
+      go (a ∷ xs) [] i low below is its h = absurd (omega (arith, below))
+      go (a ∷ xs) (b ∷ ys) zero low below is its h = (subst₂ R is its holds, tt)
+      go (a ∷ xs) (b ∷ ys) (suc i) low below is its h = (h.0, go xs ys i (omega (arith, low)) (omega (arith, below)) is its h.1)
+
+  pub zip_end : (xs : List A) (ys : List B) (i : ℕ) → (i < length xs → ⊥) → (i < length ys → ⊥) → AllZip R (take i xs) (take i ys) → AllZip R xs ys
+  zip_end [] [] i high past h = tt
+  zip_end [] (b ∷ ys) zero high past h = absurd (past (omega arith))
+  zip_end [] (b ∷ ys) (suc i) high past h = absurd h
+  zip_end (a ∷ xs) [] zero high past h = absurd (high (omega arith))
+  zip_end (a ∷ xs) [] (suc i) high past h = absurd h
+  zip_end (a ∷ xs) (b ∷ ys) zero high past h = absurd (high (omega arith))
+  zip_end (a ∷ xs) (b ∷ ys) (suc i) high past h = (h.0, zip_end xs ys i (λ low. high (omega (arith, low))) (λ low. past (omega (arith, low))) h.1)

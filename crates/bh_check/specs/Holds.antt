@@ -1,0 +1,185 @@
+-- What is asked of each stored row, in numbers that are summed over the other tables.
+use Rattle.std.specs.Prelude.{◌≡◌, ℕ, ◌+◌, ◌<◌, ◌≤◌, ◌^◌, List, [], ◌∷◌, length, IsTrue, take, get_or}
+use Rattle.std.specs.List.{AllByRecursion}
+use Rattle.std.specs.Str.{IsUtf8}
+use Rattle.sqlite.specs.Order.{Row, column}
+use Rattle.sqlite.specs.Tree.{Trees}
+use Rattle.sqlite_typed.specs.Columns.{bytes_of}
+use Rattle.bh_types.specs.Checksums.{checksum_text}
+use Rattle.bh_types.specs.Names.{is_object_key}
+use Rattle.bh_tables.specs.Typed.{column_number, host_of, tenant_of, key_of, bucket_of, version_of, upload_of, part_of, ref_of, ref_form, block_form}
+use Rattle.bh_tables.specs.Bodies.{Name, whole}
+use Rattle.bh_view.specs.Sound.{IsHostRow, IsTenantRow, IsKeyRow, IsBucketRow}
+use Rattle.bh_rows.specs.Form.{typed}
+use Rattle.bh_check.specs.Sums.{total, Keeps}
+use Rattle.bh_check.specs.declared.measures.Measures.{Measures}
+use Rattle.bh_check.specs.declared.rows.PartTotals.{PartTotals}
+use Rattle.bh_check.specs.declared.rows.VersionTotals.{VersionTotals}
+use Rattle.bh_check.specs.declared.rows.Table.{Table}
+use Rattle.bh_check.specs.declared.rows.Table.TheVariants as table
+use Rattle.bh_check.specs.declared.totals.Totals.{Totals}
+use Rattle.bh_check.specs.declared.totals.TenantTotals.{TenantTotals}
+use Rattle.bh_check.specs.declared.totals.BodyTotals.{BodyTotals}
+
+-- ---- the names of rows
+
+-- a tenant
+abbrev pub owner : Row → Name
+owner r = (bytes_of (column r 1), 0)
+
+-- a version or an upload of a tenant, a reference's or a block's first two columns
+abbrev pub first_two : Row → Name
+first_two r = (bytes_of (column r 1), column_number (column r 2))
+
+-- the body of a part
+abbrev pub part_body : Row → Name
+part_body r = (bytes_of (column r 1), column_number (column r 7))
+
+-- the block of a reference
+abbrev pub ref_block : Row → Name
+ref_block r = (bytes_of (column r 4), column_number (column r 5))
+
+abbrev pub number_at : ℕ → Row → ℕ
+number_at at r = column_number (column r at)
+
+abbrev pub one : Row → ℕ
+one r = 1
+
+abbrev pub block_length : Row → ℕ
+block_length r = length (bytes_of (column r 3))
+
+-- ---- the sums over the rows of a database
+
+module _ (d : Trees) where
+  -- of a tenant: its next numbers, and the bytes of its versions and of its parts
+  abbrev pub next_version : Name → ℕ
+  next_version = total owner (number_at 3) (d 1)
+
+  abbrev pub next_upload : Name → ℕ
+  next_upload = total owner (number_at 4) (d 1)
+
+  abbrev pub next_entry : Name → ℕ
+  next_entry = total owner (number_at 5) (d 1)
+
+  abbrev pub version_bytes : Name → ℕ
+  version_bytes = total owner (number_at 8) (d 7)
+
+  abbrev pub part_bytes : Name → ℕ
+  part_bytes = total owner (number_at 4) (d 18)
+
+  -- of an upload: the bytes of its parts
+  abbrev pub upload_bytes : Name → ℕ
+  upload_bytes = total first_two (number_at 4) (d 18)
+
+  -- of a body: the bytes and the number of its references, and how many versions and parts have it
+  abbrev pub body_bytes : Name → ℕ
+  body_bytes = total first_two (number_at 6) (d 12)
+
+  abbrev pub body_refs : Name → ℕ
+  body_refs = total first_two one (d 12)
+
+  abbrev pub body_versions : Name → ℕ
+  body_versions = total first_two one (d 7)
+
+  abbrev pub body_parts : Name → ℕ
+  body_parts = total part_body one (d 18)
+
+  -- of a block: how many references name it, and its length in bytes
+  abbrev pub block_refs : Name → ℕ
+  block_refs = total ref_block one (d 12)
+
+  abbrev pub block_bytes : Name → ℕ
+  block_bytes = total first_two block_length (d 10)
+
+-- ---- they are what was summed
+
+pub record AreTenantTotals (d : Trees) (t : TenantTotals) : Type 0 where
+  pub next_version_is : Keeps (next_version d) t.next_version
+  pub next_upload_is : Keeps (next_upload d) t.next_upload
+  pub next_entry_is : Keeps (next_entry d) t.next_entry
+  pub version_bytes_is : Keeps (version_bytes d) t.version_bytes
+  pub part_bytes_is : Keeps (part_bytes d) t.part_bytes
+
+pub record AreBodyTotals (d : Trees) (t : BodyTotals) : Type 0 where
+  pub bytes_is : Keeps (body_bytes d) t.bytes
+  pub refs_is : Keeps (body_refs d) t.refs
+  pub versions_is : Keeps (body_versions d) t.versions
+  pub parts_is : Keeps (body_parts d) t.parts
+
+pub record AreTotals (d : Trees) (t : Totals) : Type 0 where
+  pub tenants_are : AreTenantTotals d t.tenants
+  pub bodies_are : AreBodyTotals d t.bodies
+  pub upload_bytes_is : Keeps (upload_bytes d) t.upload_bytes
+  pub block_refs_is : Keeps (block_refs d) t.block_refs
+  pub block_bytes_is : Keeps (block_bytes d) t.block_bytes
+
+-- ---- what is asked of one row
+
+-- of a tenant, whose versions and parts have so many bytes: `used` is their sum
+pub record IsTenantBy (versions parts : ℕ) (r : Row) : Type 0 where
+  pub good : IsTenantRow (tenant_of r)
+  pub used : number_at 6 r ≡ versions + parts
+  pub bounded : number_at 6 r ≤ 2 ^ 60
+
+-- of a version, whose tenant's next numbers these are, and whose body has so many bytes, in so many references
+pub record IsVersionBy (latest next_entry next_version bytes refs : ℕ) (r : Row) : Type 0 where
+  pub key : IsTrue (is_object_key (bytes_of (column r 4)))
+  pub text : IsUtf8 (bytes_of (column r 4))
+  pub marker : number_at 6 r ≤ 1
+  pub bare : number_at 6 r ≡ 1 → (refs ≡ 0) × (bytes_of (column r 9) ≡ [])
+  pub stamp : number_at 7 r ≤ latest
+  pub size : number_at 8 r ≡ bytes
+  pub seq : number_at 2 r < next_entry
+  pub id : number_at 5 r < next_version
+
+-- of a reference, whose body so many versions and parts have, and whose block has so many bytes
+pub record IsRefBy (versions parts bytes : ℕ) (r : Row) : Type 0 where
+  pub owned : 0 < versions + parts
+  pub measured : number_at 6 r ≡ bytes
+
+-- of an upload, whose parts have so many bytes: `bytes_kept` is that
+pub record IsUploadBy (latest next_upload bytes : ℕ) (r : Row) : Type 0 where
+  pub key : IsTrue (is_object_key (bytes_of (column r 4)))
+  pub text : IsUtf8 (bytes_of (column r 4))
+  pub begun : number_at 5 r ≤ latest
+  pub given : number_at 2 r < next_upload
+  pub kept : number_at 6 r ≡ bytes
+
+-- of a part, whose body has so many bytes, and is that of so many versions
+pub record IsPartBy (latest next_entry bytes versions : ℕ) (r : Row) : Type 0 where
+  pub least : 1 ≤ number_at 3 r
+  pub most : number_at 3 r ≤ 10000
+  pub stamp : number_at 6 r ≤ latest
+  pub given : number_at 7 r < next_entry
+  pub size : number_at 4 r ≡ bytes
+  pub apart : versions ≡ 0
+
+-- ---- by the rows of a database
+
+module _ (d : Trees) (latest : ℕ) where
+  abbrev pub Holds : Table → Row → Type 0
+  Holds table.Tenants r = IsTenantBy (version_bytes d (owner r)) (part_bytes d (owner r)) r
+  Holds table.Keys r = IsKeyRow (key_of r)
+  Holds table.Buckets r = IsBucketRow latest (bucket_of r)
+  Holds table.Versions r = IsVersionBy latest (next_entry d (owner r)) (next_version d (owner r)) (body_bytes d (first_two r)) (body_refs d (first_two r)) r
+  Holds table.Refs r = IsRefBy (body_versions d (first_two r)) (body_parts d (first_two r)) (block_bytes d (ref_block r)) r
+  Holds table.Uploads r = IsUploadBy latest (next_upload d (owner r)) (upload_bytes d (first_two r)) r
+  Holds table.Parts r = IsPartBy latest (next_entry d (owner r)) (body_bytes d (part_body r)) (body_versions d (part_body r)) r
+
+-- ---- what was looked up
+
+abbrev pub AreMeasures : Trees → Measures → Type 0
+AreMeasures d m = AreTotals d m.totals
+
+pub record IsVersionMeasured (d : Trees) (latest : ℕ) (r : Row) (by : VersionTotals) : Type 0 where
+  pub latest_is : by.latest ≡ latest
+  pub entry_is : by.next_entry ≡ next_entry d (owner r)
+  pub version_is : by.next_version ≡ next_version d (owner r)
+  pub bytes_is : by.bytes ≡ body_bytes d (first_two r)
+  pub refs_is : by.refs ≡ body_refs d (first_two r)
+
+pub record IsPartMeasured (d : Trees) (latest : ℕ) (r : Row) (by : PartTotals) : Type 0 where
+  pub latest_is : by.latest ≡ latest
+  pub entry_is : by.next_entry ≡ next_entry d (owner r)
+  pub bytes_is : by.bytes ≡ body_bytes d (part_body r)
+  pub versions_is : by.versions ≡ body_versions d (part_body r)

@@ -1,0 +1,5 @@
+pub mod Sums
+pub mod Holds
+pub mod Blocks
+pub mod Placed
+pub mod Checked

@@ -1,0 +1,60 @@
+-- Sums over rows, by name.
+use Rattle.std.specs.Prelude.{◌≡◌, ℕ, ◌+◌, if◌then◌else◌, List, length, sum_by, unwrap_or, Option, Some, None}
+use Rattle.std.specs.declared.cmp.Ordering.{Ordering}
+use Rattle.std.specs.Ordering.{nat_cmp, ordering_then}
+use Rattle.std.specs.Cmp.Lexicographic.{slice_cmp}
+use Rattle.std.specs.BTreeMap.{get}
+use Rattle.std.specs.Prelude.{Vec}
+use Rattle.std.specs.declared.alloc.Global.{Global}
+use Rattle.sqlite.specs.Order.{Row, column}
+use Rattle.sqlite_typed.specs.Columns.{bytes_of}
+use Rattle.bh_tables.specs.Typed.{column_number}
+use Rattle.bh_tables.specs.Bodies.{Name, same_name}
+use Rattle.bh_check.specs.declared.sums.Amount.{Amount}
+use Rattle.bh_check.specs.declared.sums.Amount.TheVariants.{One, Number, Length}
+use Rattle.bh_check.specs.declared.sums.Grouping.{Grouping}
+use Rattle.bh_check.specs.declared.sums.Sums.{Sums}
+
+-- the sum of what the rows of a name add
+abbrev pub total : {T : Type 0} → (T → Name) → (T → ℕ) → List T → Name → ℕ
+total name amount rows q = sum_by (λ r. if same_name (name r) q then amount r else 0) rows
+
+-- ---- rows in groups
+
+abbrev pub number_or_none : Row → Option ℕ → ℕ
+number_or_none r None = 0
+number_or_none r (Some at) = column_number (column r at)
+
+abbrev pub name_in : Grouping → Row → Name
+name_in by r = (bytes_of (column r by.text), number_or_none r by.number)
+
+abbrev pub adds : Row → Amount → ℕ
+adds r One = 1
+adds r (Number at) = column_number (column r at)
+adds r (Length at) = length (bytes_of (column r at))
+
+-- what a row adds
+abbrev pub amount_in : Grouping → Row → ℕ
+amount_in by r = adds r by.amount
+
+-- ---- what is kept
+
+abbrev pub Key : Type 0
+Key = Vec ℕ Global × ℕ
+
+abbrev pub key_name : Key → Name
+key_name k = (k.0.items, k.1)
+
+abbrev pub key_cmp : Key → Key → Ordering
+key_cmp a b = ordering_then (slice_cmp nat_cmp a.0.items b.0.items) (nat_cmp a.1 b.1)
+
+unfoldable pub kept_at : Sums → Key → ℕ
+kept_at s k = unwrap_or (get key_cmp s.totals k) 0
+
+-- each name has this number
+pub record Keeps (of : Name → ℕ) (s : Sums) : Type 0 where
+  pub each : (k : Key) → kept_at s k ≡ of (key_name k)
+
+-- that of what the rows of the name add
+abbrev pub IsSumOf : {T : Type 0} → (T → Name) → (T → ℕ) → List T → Sums → Type 0
+IsSumOf name amount rows s = Keeps (total name amount rows) s

@@ -1,0 +1,209 @@
+//! The check of a host's tables.
+
+ghost use Rattle.std.specs.Prelude.{◌≡◌, None, OnOk, IfOk, IsTrue};
+ghost use Rattle.std.specs.List.{AllByRecursion};
+ghost use Rattle.sqlite.specs.Tree.{Trees};
+ghost use Rattle.sqlite.specs.Held.{state};
+ghost use Rattle.sqlite_trees.specs.View.{IsClean};
+ghost use Rattle.bh_tables.specs.Hosts.{tables_shown};
+ghost use Rattle.bh_tables.specs.Schema.{Octets, host_schema};
+ghost use Rattle.bh_view.specs.Bodies.{IsSoundHost};
+ghost use Rattle.bh_schema.specs.Layer.{IsStateClean};
+ghost use Rattle.bh_stored.specs.Fits.{AreAllFit};
+ghost use Rattle.bh_stored.specs.Stored.{AreStoredIn};
+ghost use Rattle.bh_stored.specs.Stores.{KeepsTrees};
+ghost use Rattle.bh_check.specs.Blocks.{HasDigest, AreOnce, AreUses};
+ghost use Rattle.bh_check.specs.Checked.{IsHostRowIn, AreRowsHeld, AreBodiesHeld, AreBytesHeld, IsChecked};
+ghost use Rattle.bh_check.specs.Holds.{block_refs, AreMeasures, AreTotals, Holds};
+
+use crate::blocks::{first_again, first_misnamed};
+use crate::checksums::{Places, first_missummed};
+use crate::flaw::{Flaw, Stop};
+use crate::measures::Measures;
+use crate::placed::first_misplaced;
+use crate::rows::{Table, is_host};
+use crate::totals::Totals;
+use crate::uses::first_miscounted;
+use crate::watch::{Stage, Watch};
+use bh_schema::host::Digester;
+use bh_stored::cells::number_in;
+use bh_stored::stored::Stored;
+use sqlite::{Alter, Connection};
+use sqlite_trees::error::StoreError;
+use sqlite_trees::store::Store;
+use sqlite_value::row::Row;
+use std::alloc::Global;
+
+/// The last stamp, of the one row of the host.
+fn check_host_row(rows: &[Row]) -> Result<u64, Stop>
+    ensures { IfOk result (IsHostRowIn rows.now) }
+{
+    match rows {
+        [row] if is_host(row) => Ok(number_in(row, 3)),
+        _ => Err(Stop::Flaw(Flaw::Host)),
+    }
+}
+
+fn check_table(alloc: Global, measures: &Measures, table: Table, rows: &[Row]) -> Result<(), Stop>
+    ensures { OnOk result ((d : Trees) → AreMeasures d measures.now → AllByRecursion (Holds d measures.now.latest table) rows.now) }
+{
+    match measures.first_unsound(alloc, table, rows)? {
+        None => Ok(()),
+        Some(row) => Err(Stop::Flaw(Flaw::Row(table, row))),
+    }
+}
+
+/// Each row by itself, and with the sums over the others.
+fn check_tables(alloc: Global, measures: &Measures, stored: &Stored) -> Result<(), Stop>
+    ensures { OnOk result ((d : Trees) → AreStoredIn d stored.now → AreMeasures d measures.now → AreRowsHeld d measures.now.latest) }
+{
+    check_table(alloc, measures, Table::Tenants, &stored.tenants)?;
+    check_table(alloc, measures, Table::Keys, &stored.keys)?;
+    check_table(alloc, measures, Table::Buckets, &stored.buckets)?;
+    check_table(alloc, measures, Table::Versions, &stored.versions)?;
+    check_table(alloc, measures, Table::Refs, &stored.refs)?;
+    check_table(alloc, measures, Table::Uploads, &stored.uploads)?;
+    check_table(alloc, measures, Table::Parts, &stored.parts)
+}
+
+/// The places of references, and the checksums of parts.
+fn check_bodies(alloc: Global, stored: &Stored, totals: &Totals) -> Result<(), Stop>
+    ensures { OnOk result ((d : Trees) → AreStoredIn d stored.now → AreTotals d totals.now → AreBodiesHeld d) }
+{
+    if let Some(row) = first_misplaced(alloc, &stored.refs)? {
+        return Err(Stop::Flaw(Flaw::Place(row)));
+    }
+    let places = Places::of(alloc, stored)?;
+    match first_missummed(alloc, stored, totals, &places)? {
+        None => Ok(()),
+        Some(row) => Err(Stop::Flaw(Flaw::Checksum(row))),
+    }
+}
+
+/// How many references name each block.
+fn check_uses(alloc: Global, stored: &Stored, totals: &Totals) -> Result<(), Stop>
+    ensures { OnOk result ((d : Trees) → AreStoredIn d stored.now → AreTotals d totals.now → AreUses (block_refs d) (d 23) (d 10)) }
+{
+    if stored.uses.len() != stored.blocks.len() {
+        return Err(Stop::Flaw(Flaw::OtherUses));
+    }
+    match first_miscounted(alloc, &stored.uses, &stored.blocks, &totals.block_refs)? {
+        None => Ok(()),
+        Some(row) => Err(Stop::Flaw(Flaw::Uses(row))),
+    }
+}
+
+fn check_digests<D: Digester>(digester: &D, blocks: &[Row]) -> Result<(), Stop>
+    ensures { OnOk result (AllByRecursion (HasDigest D.digest_of) blocks.now) }
+{
+    match first_misnamed(digester, blocks) {
+        None => Ok(()),
+        Some(row) => Err(Stop::Flaw(Flaw::Digest(row))),
+    }
+}
+
+/// That no two blocks hold equal bytes, where each has the digest of its bytes.
+fn check_once(alloc: Global, blocks: &[Row]) -> Result<(), Stop>
+    ensures { OnOk result ((digest : Octets → Octets) → AllByRecursion (HasDigest digest) blocks.now → AreOnce blocks.now) }
+{
+    match first_again(alloc, blocks)? {
+        None => Ok(()),
+        Some(row) => Err(Stop::Flaw(Flaw::Again(row))),
+    }
+}
+
+/// The digests of blocks, and that no two hold equal bytes.
+fn check_bytes<D: Digester>(alloc: Global, digester: &D, blocks: &[Row]) -> Result<(), Stop>
+    ensures { OnOk result (AreBytesHeld D.digest_of blocks.now) }
+{
+    check_digests(digester, blocks)?;
+    check_once(alloc, blocks)?;
+    Ok(())
+}
+
+/// What rows are measured by.
+fn measures_of(alloc: Global, stored: &Stored) -> Result<Measures, Stop>
+    ensures host { IfOk result (λ m. IsHostRowIn stored.now.host.items m.latest) }
+    ensures totals { IfOk result (λ m. (d : Trees) → AreStoredIn d stored.now → AreMeasures d m) }
+{
+    let latest = check_host_row(&stored.host)?;
+    Ok(Measures {
+        totals: Totals::of(alloc, stored)?,
+        latest,
+    })
+}
+
+/// All rows that were read.
+fn check_stored<D: Digester, W: Watch>(
+    alloc: Global,
+    stored: &Stored,
+    digester: &D,
+    watch: &mut W,
+) -> Result<(), Stop>
+    ensures { OnOk result ((d : Trees) → AreStoredIn d stored.now → AreAllFit d → IsChecked D.digest_of d) }
+{
+    let measures = measures_of(alloc, stored)?;
+    check_tables(alloc, &measures, stored)?;
+    check_bodies(alloc, stored, &measures.totals)?;
+    check_uses(alloc, stored, &measures.totals)?;
+    watch.at(Stage::Blocks(stored.blocks.len()));
+    check_bytes(alloc, digester, &stored.blocks)?;
+    Ok(())
+}
+
+/// All rows of a store.
+fn check_rows<S: Store, D: Digester, W: Watch>(
+    alloc: Global,
+    store: &mut S,
+    digester: &D,
+    watch: &mut W,
+) -> Result<(), Stop>
+    ensures keeps { OnOk result (KeepsTrees (S.view store.old) (S.view store.new)) }
+    ensures checked { OnOk result (IsClean (S.view store.new) → IsChecked D.digest_of (S.view store.old).trees) }
+{
+    let stored = Stored::read(alloc, store)?;
+    watch.at(Stage::Rows(stored.refs.len()));
+    check_stored(alloc, &stored, digester, watch)?;
+    Ok(())
+}
+
+/// The first thing that isn't sound in a store that is a host's database, if there is one. The digester is to be of the
+/// function that names the host's blocks. An error says that the store failed, or memory ran out.
+pub fn check_store<S: Store, D: Digester, W: Watch>(
+    alloc: Global,
+    store: &mut S,
+    digester: &D,
+    watch: &mut W,
+) -> Result<Option<Flaw>, StoreError>
+    ensures keeps { IfOk result (λ found. found ≡ None → KeepsTrees (S.view store.old) (S.view store.new)) }
+    ensures checked { IfOk result (λ found. found ≡ None → IsClean (S.view store.new) → IsChecked D.digest_of (S.view store.old).trees) }
+{
+    match check_rows(alloc, store, digester, watch) {
+        Ok(()) => Ok(None),
+        Err(Stop::Flaw(flaw)) => Ok(Some(flaw)),
+        Err(Stop::Store(error)) => Err(error),
+    }
+}
+
+/// The same of the database of a connection, of which the store is left, without what wasn't committed. A transaction that
+/// is open is an error.
+pub fn check_connection<S: Alter + Drop, D: Digester, W: Watch>(
+    alloc: Global,
+    connection: Connection<S>,
+    digester: &D,
+    watch: &mut W,
+) -> (Result<Option<Flaw>, StoreError>, S)
+    requires schema { IsStateClean (state S.Store connection) → (state S.Store connection).now.schema ≡ host_schema }
+    ensures sound { IfOk result.0 (λ found. found ≡ None → IsClean (S.Store.view result.1) → IsTrue (S.Store.view result.1).is_open
+        → IsStateClean (state S.Store connection) × IsSoundHost D.digest_of (tables_shown (state S.Store connection).now)) }
+{
+    let tables = connection.schema().tables.len();
+    let is_settled = connection.is_autocommit();
+    let mut store = connection.into_store();
+    if !is_settled {
+        return (Err(StoreError::Broken), store);
+    }
+    watch.at(Stage::Reading(tables));
+    let found = check_store(alloc, &mut store, digester, watch);
+    (found, store)
+}

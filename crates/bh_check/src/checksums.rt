@@ -1,0 +1,193 @@
+//! The checksums of parts.
+
+ghost use Rattle.std.specs.Prelude.{◌≡◌, ◌++◌, ℕ, List, true, IsTrue, IfOk, IfSome};
+ghost use Rattle.std.specs.List.{AllByRecursion, list_all};
+ghost use Rattle.sqlite.specs.Tree.{Trees};
+ghost use Rattle.bh_rows.specs.Form.{typed};
+ghost use Rattle.bh_types.specs.Checksums.{checksum_text};
+ghost use Rattle.bh_tables.specs.Bodies.{same_name, block_at};
+ghost use Rattle.bh_tables.specs.Typed.{block_form};
+ghost use Rattle.bh_stored.specs.Stored.{AreStoredIn};
+ghost use Rattle.bh_check.specs.Blocks.{block_octets, AreNamed, refs_of, named_octets, HasChecksum};
+ghost use Rattle.bh_check.specs.Holds.{first_two, part_body, ref_block, one, AreBodyTotals};
+ghost use Rattle.bh_check.specs.Sums.{total};
+
+use crate::sums::{Amount, Grouping, Sums, first_places};
+use crate::totals::Totals;
+use bh_stored::cells::{bytes_in, number_in};
+use bh_stored::failure::Failure;
+use bh_stored::stored::Stored;
+use bh_types::checksum::checksum_of;
+use sqlite_value::row::Row;
+use std::alloc::{AllocError, Global};
+
+/// The first row of each name, counted from 1. It is a hint: what stands there is looked at again.
+#[derive(Drop)]
+pub struct Places {
+    /// Of references, by their body.
+    pub refs: Sums,
+    pub blocks: Sums,
+}
+
+impl Places {
+    pub fn of(alloc: Global, stored: &Stored) -> Result<Places, Failure> {
+        let by = Grouping {
+            text: 1,
+            number: Some(2),
+            amount: Amount::One,
+        };
+        Ok(Places {
+            refs: first_places(alloc, &stored.refs, by)?,
+            blocks: first_places(alloc, &stored.blocks, by)?,
+        })
+    }
+}
+
+/// Whether a row's first two columns are these.
+fn is_of(row: &Row, text: &[u8], number: u64) -> bool
+    ensures { result ≡ same_name (first_two row.now) (text.now, number) }
+{
+    bytes_in(row, 1) == text && number_in(row, 2) == number
+}
+
+/// The bytes of a block, if it is the one at this place, counted from 1.
+fn block_with<'a>(blocks: &'a [Row], place: u64, digest: &[u8], ord: u64) -> Option<&'a [u8]>
+    ensures { IfSome result (λ bytes. AreNamed blocks.now → bytes.now ≡ block_at (typed block_form blocks.now) (digest.now, ord)) }
+{
+    let row = blocks.get(place.saturating_sub(1) as usize)?;
+    if is_of(row, digest, ord) {
+        Some(bytes_in(row, 3))
+    } else {
+        None
+    }
+}
+
+/// Appends the bytes of the block that a reference names, if it is there.
+fn append_named(
+    alloc: Global,
+    bytes: &mut Vec<u8>,
+    refer: &Row,
+    blocks: &[Row],
+    places: &Sums,
+) -> Result<bool, AllocError>
+    ensures { IfOk result (λ found. IsTrue found → AreNamed blocks.now
+        → bytes.new.items ≡ bytes.old.items ++ block_at (typed block_form blocks.now) (ref_block refer.now)) }
+{
+    let digest = bytes_in(refer, 4);
+    let ord = number_in(refer, 5);
+    let place = places.at(alloc, digest, ord)?;
+    let Some(more) = block_with(blocks, place, digest, ord) else {
+        return Ok(false);
+    };
+    bytes.extend_from_slice(more)?;
+    Ok(true)
+}
+
+/// The bytes of the blocks that references name, if all of them are there.
+fn bytes_named(
+    alloc: Global,
+    refs: &[Row],
+    blocks: &[Row],
+    places: &Sums,
+) -> Result<Option<Vec<u8>>, AllocError>
+    ensures { IfOk result (λ found. IfSome found (λ bytes. AreNamed blocks.now → bytes.items ≡ named_octets blocks.now refs.now)) }
+{
+    let mut bytes = Vec::new(alloc);
+    for row in refs {
+        if !append_named(alloc, &mut bytes, row, blocks, places)? {
+            return Ok(None);
+        }
+    }
+    Ok(Some(bytes))
+}
+
+/// Whether all references are of this body.
+fn are_of(refs: &[Row], tenant: &[u8], body: u64) -> bool
+    ensures { result ≡ list_all (λ r. same_name (first_two r) (tenant.now, body)) refs.now }
+{
+    refs.iter().all(|row| is_of(row, tenant, body))
+}
+
+/// The references of a body, if they are those from this place on, counted from 1, and so many.
+fn refs_from<'a>(
+    refs: &'a [Row],
+    place: u64,
+    count: u64,
+    tenant: &[u8],
+    body: u64,
+) -> Option<&'a [Row]>
+    ensures { IfSome result (λ found. count ≡ total first_two one refs.now (tenant.now, body)
+        → found.now ≡ refs_of refs.now (tenant.now, body)) }
+{
+    let (_, rest) = refs.split_at_checked(place.saturating_sub(1) as usize)?;
+    let (found, _) = rest.split_at_checked(count as usize)?;
+    if are_of(found, tenant, body) {
+        Some(found)
+    } else {
+        None
+    }
+}
+
+/// The references of a part's body, where they stand one after another.
+fn part_refs<'a>(
+    alloc: Global,
+    part: &Row,
+    stored: &'a Stored,
+    totals: &Totals,
+    places: &Places,
+) -> Result<Option<&'a [Row]>, AllocError>
+    ensures { IfOk result (λ found. IfSome found (λ refs. (d : Trees) → AreStoredIn d stored.now → AreBodyTotals d totals.now.bodies
+        → refs.now ≡ refs_of (d 12) (part_body part.now))) }
+{
+    let tenant = bytes_in(part, 1);
+    let body = number_in(part, 7);
+    let count = totals.bodies.refs.at(alloc, tenant, body)?;
+    let place = places.refs.at(alloc, tenant, body)?;
+    Ok(refs_from(&stored.refs, place, count, tenant, body))
+}
+
+/// Whether a checksum is that of some bytes.
+fn is_checksum(alloc: Global, text: &[u8], bytes: &[u8]) -> Result<bool, AllocError>
+    ensures { IfOk result (λ b. IsTrue b → text.now ≡ checksum_text bytes.now) }
+{
+    let sum = checksum_of(alloc, bytes)?;
+    Ok(text == sum.as_str().as_bytes())
+}
+
+/// Whether a part's checksum is that of the bytes of its body.
+fn has_checksum(
+    alloc: Global,
+    part: &Row,
+    stored: &Stored,
+    totals: &Totals,
+    places: &Places,
+) -> Result<bool, AllocError>
+    ensures { IfOk result (λ b. IsTrue b → (d : Trees) → AreStoredIn d stored.now → AreBodyTotals d totals.now.bodies
+        → AreNamed (d 10) → HasChecksum (d 12) (d 10) part.now) }
+{
+    let Some(refs) = part_refs(alloc, part, stored, totals, places)? else {
+        return Ok(false);
+    };
+    match bytes_named(alloc, refs, &stored.blocks, &places.blocks)? {
+        Some(bytes) => is_checksum(alloc, bytes_in(part, 5), &bytes),
+        None => Ok(false),
+    }
+}
+
+/// The number of the first part that has another checksum than that of the bytes of its body.
+pub fn first_missummed(
+    alloc: Global,
+    stored: &Stored,
+    totals: &Totals,
+    places: &Places,
+) -> Result<Option<u64>, AllocError>
+    ensures { IfOk result (λ found. found ≡ None → (d : Trees) → AreStoredIn d stored.now → AreBodyTotals d totals.now.bodies
+        → AreNamed (d 10) → AllByRecursion (HasChecksum (d 12) (d 10)) (d 18)) }
+{
+    for part in &stored.parts {
+        if !has_checksum(alloc, part, stored, totals, places)? {
+            return Ok(Some(number_in(part, 0)));
+        }
+    }
+    Ok(None)
+}

@@ -1,0 +1,119 @@
+use crate::rows::Table;
+use bh_stored::failure::Failure;
+use sqlite_trees::error::StoreError;
+use std::alloc::AllocError;
+use std::fmt;
+
+/// The first thing that isn't as a sound host's is. A row is told by its number, which SQL calls `rowid`.
+#[derive(Clone, Copy, PartialEq, Eq)]
+pub enum Flaw {
+    /// In the tree of this number the row has other columns than its table.
+    Columns(u32, u64),
+    /// There isn't one row of the host, of this version and in its ranges.
+    Host,
+    /// A row isn't as its table's rows are to be, by itself and with what it counts or measures.
+    Row(Table, u64),
+    /// A reference isn't at the place after those of its body that are stored before it.
+    Place(u64),
+    /// A part has another checksum than its bytes.
+    Checksum(u64),
+    /// A block has another digest than its bytes.
+    Digest(u64),
+    /// A block has the bytes of one before it.
+    Again(u64),
+    /// A block's uses aren't counted, or not rightly.
+    Uses(u64),
+    /// There isn't one count of uses for each block.
+    OtherUses,
+    /// A sum passes 2^64 - 1.
+    TooMuch,
+}
+
+/// Why a check ends before its end.
+#[derive(Clone, Copy, PartialEq, Eq)]
+pub enum Stop {
+    /// Something isn't sound.
+    Flaw(Flaw),
+    /// The store failed, or memory ran out.
+    Store(StoreError),
+}
+
+impl From<AllocError> for Stop {
+    fn from(_: AllocError) -> Stop {
+        Stop::Store(StoreError::OutOfMemory)
+    }
+}
+
+impl From<Failure> for Stop {
+    fn from(failure: Failure) -> Stop {
+        match failure {
+            Failure::Store(error) => Stop::Store(error),
+            Failure::Misfit(tree, row) => Stop::Flaw(Flaw::Columns(tree, row)),
+            Failure::TooMuch => Stop::Flaw(Flaw::TooMuch),
+        }
+    }
+}
+
+/// The table in a tree of a host's database.
+fn table_in<'a>(tree: u32) -> &'a str {
+    match tree {
+        0 => "host",
+        1 => "tenants",
+        3 => "keys",
+        5 => "buckets",
+        7 => "versions",
+        10 => "blocks",
+        12 => "refs",
+        16 => "uploads",
+        18 => "parts",
+        _ => "uses",
+    }
+}
+
+/// What a row of a table is to be, as an operator is told it.
+fn demand_of<'a>(table: Table) -> &'a str {
+    match table {
+        Table::Tenants =>
+            "tenants: name, quota or numbers are out of range, or `used` is not what its versions and parts have",
+        Table::Keys => "keys: name or secret is out of range",
+        Table::Buckets => "buckets: name, moment, state or days are out of range",
+        Table::Versions =>
+            "versions: key, moment, number or marker is out of range, or its size is not that of its blocks",
+        Table::Refs =>
+            "refs: no version or part has its body, or its size is not that of its block",
+        Table::Uploads =>
+            "uploads: key, moment or number is out of range, or `bytes_kept` is not what its parts have",
+        Table::Parts =>
+            "parts: number, moment or body is out of range or a version's, or its size is not that of its blocks",
+    }
+}
+
+impl fmt::Display for Flaw {
+    fn fmt<W: fmt::Write>(&self, f: &mut fmt::Formatter<W>) -> fmt::Result {
+        match self {
+            Flaw::Columns(tree, row) => write!(
+                f,
+                "{}: other columns than a host's, row {row}",
+                table_in(*tree)
+            ),
+            Flaw::Host => f.write_str("host: not one row of this version, with values in range"),
+            Flaw::Row(table, row) => write!(f, "{}, row {row}", demand_of(*table)),
+            Flaw::Place(row) => write!(f, "refs: not at the next place of its body, row {row}"),
+            Flaw::Checksum(row) => write!(
+                f,
+                "parts: another checksum than that of its bytes, row {row}"
+            ),
+            Flaw::Digest(row) => write!(
+                f,
+                "blocks: another digest than that of its bytes, row {row}"
+            ),
+            Flaw::Again(row) => write!(f, "blocks: the bytes of another block, row {row}"),
+            Flaw::Uses(row) => write!(
+                f,
+                "uses: not how many references there are to the block, row {row} of blocks"
+            ),
+            Flaw::OtherUses => f.write_str("uses: not as many rows as blocks"),
+            Flaw::TooMuch => f.write_str("sizes: a sum passes 2^64 - 1"),
+        }
+    }
+}

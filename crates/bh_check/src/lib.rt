@@ -1,0 +1,15 @@
+//! Whether a host's tables are sound, found by reading every row and every block.
+#![tactic(auto)]
+
+pub mod blocks;
+pub mod check;
+pub mod checksums;
+pub mod flaw;
+pub mod laws;
+pub mod measures;
+pub mod placed;
+pub mod rows;
+pub mod sums;
+pub mod totals;
+pub mod uses;
+pub mod watch;

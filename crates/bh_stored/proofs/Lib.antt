@@ -1,0 +1,3 @@
+mod Suited
+pub mod Fitted
+mod Reading

@@ -1,0 +1,57 @@
+-- Rows whose columns are of the kinds that a host's tables have.
+use Rattle.std.specs.Prelude.{◌≡◌, true, List, [], ◌∷◌}
+use Rattle.std.specs.List.{list_all}
+use Rattle.sqlite.specs.Order.{Row}
+use Rattle.sqlite.specs.Tree.{Trees, IsTable}
+use Rattle.bh_stored.specs.Cells.{is_fit}
+use Rattle.bh_stored.specs.declared.cells.Kind.{Kind}
+use Rattle.bh_stored.specs.declared.cells.Kind.TheVariants as kind
+
+-- ---- the columns of each table
+
+abbrev pub host_kinds : List Kind
+host_kinds = kind.Key ∷ kind.Number ∷ kind.Number ∷ kind.Number ∷ kind.Number ∷ kind.Number ∷ []
+
+abbrev pub tenant_kinds : List Kind
+tenant_kinds = kind.Text ∷ kind.Number ∷ kind.Number ∷ kind.Number ∷ kind.Number ∷ kind.Number ∷ []
+
+abbrev pub key_kinds : List Kind
+key_kinds = kind.Text ∷ kind.Text ∷ kind.Text ∷ []
+
+abbrev pub bucket_kinds : List Kind
+bucket_kinds = kind.Text ∷ kind.Text ∷ kind.Number ∷ kind.Number ∷ kind.MaybeNumber ∷ []
+
+abbrev pub version_kinds : List Kind
+version_kinds = kind.Text ∷ kind.Number ∷ kind.Text ∷ kind.Blob ∷ kind.Number ∷ kind.Number ∷ kind.Number ∷ kind.Number ∷ kind.Text ∷ []
+
+abbrev pub block_kinds : List Kind
+block_kinds = kind.Blob ∷ kind.Number ∷ kind.Blob ∷ []
+
+abbrev pub ref_kinds : List Kind
+ref_kinds = kind.Text ∷ kind.Number ∷ kind.Number ∷ kind.Blob ∷ kind.Number ∷ kind.Number ∷ []
+
+abbrev pub upload_kinds : List Kind
+upload_kinds = kind.Text ∷ kind.Number ∷ kind.Text ∷ kind.Blob ∷ kind.Number ∷ kind.Number ∷ []
+
+abbrev pub part_kinds : List Kind
+part_kinds = kind.Text ∷ kind.Number ∷ kind.Number ∷ kind.Number ∷ kind.Text ∷ kind.Number ∷ kind.Number ∷ []
+
+abbrev pub use_kinds : List Kind
+use_kinds = kind.Blob ∷ kind.Number ∷ kind.Number ∷ []
+
+-- rows of these kinds, whose numbers rise
+pub record AreFit (kinds : List Kind) (rows : List Row) : Type 0 where
+  pub fit : list_all (is_fit kinds) rows ≡ true
+  pub rises : IsTable rows
+
+pub record AreAllFit (d : Trees) : Type 0 where
+  pub host : AreFit host_kinds (d 0)
+  pub tenants : AreFit tenant_kinds (d 1)
+  pub keys : AreFit key_kinds (d 3)
+  pub buckets : AreFit bucket_kinds (d 5)
+  pub versions : AreFit version_kinds (d 7)
+  pub blocks : AreFit block_kinds (d 10)
+  pub refs : AreFit ref_kinds (d 12)
+  pub uploads : AreFit upload_kinds (d 16)
+  pub parts : AreFit part_kinds (d 18)
+  pub uses : AreFit use_kinds (d 23)

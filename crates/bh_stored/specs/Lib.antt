@@ -1,0 +1,4 @@
+pub mod Cells
+pub mod Fits
+pub mod Stored
+pub mod Stores

@@ -1,0 +1,17 @@
+-- The rows that were read.
+use Rattle.std.specs.Prelude.{◌≡◌}
+use Rattle.sqlite.specs.Tree.{Trees}
+use Rattle.bh_stored.specs.declared.stored.Stored.{Stored}
+
+-- they are those of a database
+pub record AreStoredIn (d : Trees) (s : Stored) : Type 0 where
+  pub host_is : s.host.items ≡ d 0
+  pub tenants_is : s.tenants.items ≡ d 1
+  pub keys_is : s.keys.items ≡ d 3
+  pub buckets_is : s.buckets.items ≡ d 5
+  pub versions_is : s.versions.items ≡ d 7
+  pub blocks_is : s.blocks.items ≡ d 10
+  pub refs_is : s.refs.items ≡ d 12
+  pub uploads_is : s.uploads.items ≡ d 16
+  pub parts_is : s.parts.items ≡ d 18
+  pub uses_is : s.uses.items ≡ d 23

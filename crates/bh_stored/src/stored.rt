@@ -1,0 +1,155 @@
+//! The rows of a host's tables.
+
+ghost use Rattle.std.specs.Prelude.{◌≡◌, true, None, IfOk, OnOk};
+ghost use Rattle.std.specs.List.{list_all};
+ghost use Rattle.sqlite_trees.specs.View.{IsClean};
+ghost use Rattle.bh_stored.specs.Cells.{is_fit};
+ghost use Rattle.bh_stored.specs.Fits.{AreFit, AreAllFit};
+ghost use Rattle.bh_stored.specs.Stored.{AreStoredIn};
+ghost use Rattle.bh_stored.specs.Stores.{KeepsTrees};
+
+use crate::cells::{Kind, is_fit, number_in};
+use crate::failure::Failure;
+use crate::trees::table_rows;
+use sqlite_trees::store::Store;
+use sqlite_value::row::Row;
+use std::alloc::Global;
+
+const HOST: [Kind; 6] = [
+    Kind::Key,
+    Kind::Number,
+    Kind::Number,
+    Kind::Number,
+    Kind::Number,
+    Kind::Number,
+];
+
+const TENANTS: [Kind; 6] = [
+    Kind::Text,
+    Kind::Number,
+    Kind::Number,
+    Kind::Number,
+    Kind::Number,
+    Kind::Number,
+];
+
+const KEYS: [Kind; 3] = [Kind::Text, Kind::Text, Kind::Text];
+
+const BUCKETS: [Kind; 5] = [
+    Kind::Text,
+    Kind::Text,
+    Kind::Number,
+    Kind::Number,
+    Kind::MaybeNumber,
+];
+
+const VERSIONS: [Kind; 9] = [
+    Kind::Text,
+    Kind::Number,
+    Kind::Text,
+    Kind::Blob,
+    Kind::Number,
+    Kind::Number,
+    Kind::Number,
+    Kind::Number,
+    Kind::Text,
+];
+
+const BLOCKS: [Kind; 3] = [Kind::Blob, Kind::Number, Kind::Blob];
+
+const REFS: [Kind; 6] = [
+    Kind::Text,
+    Kind::Number,
+    Kind::Number,
+    Kind::Blob,
+    Kind::Number,
+    Kind::Number,
+];
+
+const UPLOADS: [Kind; 6] = [
+    Kind::Text,
+    Kind::Number,
+    Kind::Text,
+    Kind::Blob,
+    Kind::Number,
+    Kind::Number,
+];
+
+const PARTS: [Kind; 7] = [
+    Kind::Text,
+    Kind::Number,
+    Kind::Number,
+    Kind::Number,
+    Kind::Text,
+    Kind::Number,
+    Kind::Number,
+];
+
+const USES: [Kind; 3] = [Kind::Blob, Kind::Number, Kind::Number];
+
+/// As they are stored.
+#[derive(Drop)]
+pub struct Stored {
+    pub host: Vec<Row>,
+    pub tenants: Vec<Row>,
+    pub keys: Vec<Row>,
+    pub buckets: Vec<Row>,
+    pub versions: Vec<Row>,
+    pub blocks: Vec<Row>,
+    pub refs: Vec<Row>,
+    pub uploads: Vec<Row>,
+    pub parts: Vec<Row>,
+    pub uses: Vec<Row>,
+}
+
+/// The number of the first row that has other columns than of these kinds.
+fn first_misfit(kinds: &[Kind], rows: &[Row]) -> Option<u64>
+    ensures { result ≡ None → list_all (is_fit kinds.now) rows.now ≡ true }
+{
+    for row in rows {
+        if !is_fit(kinds, row) {
+            return Some(number_in(row, 0));
+        }
+    }
+    None
+}
+
+/// The rows of a table, which have columns of these kinds.
+fn fit_rows<S: Store>(
+    alloc: Global,
+    store: &mut S,
+    tree: u32,
+    kinds: &[Kind],
+) -> Result<Vec<Row>, Failure>
+    ensures keeps { OnOk result (KeepsTrees (S.view store.old) (S.view store.new)) }
+    ensures rows { IfOk result (λ rows. IsClean (S.view store.new) → rows.items ≡ (S.view store.old).trees tree) }
+    ensures fit { OnOk result (IsClean (S.view store.new) → AreFit kinds.now ((S.view store.old).trees tree)) }
+{
+    let rows = table_rows(alloc, store, tree)?;
+    match first_misfit(kinds, &rows) {
+        Some(row) => Err(Failure::Misfit(tree, row)),
+        None => Ok(rows),
+    }
+}
+
+impl Stored {
+    /// All rows of the store of a host's database.
+    pub fn read<S: Store>(alloc: Global, store: &mut S) -> Result<Stored, Failure>
+        ensures keeps { OnOk result (KeepsTrees (S.view store.old) (S.view store.new)) }
+        ensures stored { IfOk result (λ it. IsClean (S.view store.new) → AreStoredIn (S.view store.old).trees it) }
+        ensures fit { OnOk result (IsClean (S.view store.new) → AreAllFit (S.view store.old).trees) }
+    {
+        Ok(Stored {
+            host: fit_rows(alloc, store, 0, &HOST)?,
+            tenants: fit_rows(alloc, store, 1, &TENANTS)?,
+            keys: fit_rows(alloc, store, 3, &KEYS)?,
+            buckets: fit_rows(alloc, store, 5, &BUCKETS)?,
+            versions: fit_rows(alloc, store, 7, &VERSIONS)?,
+            blocks: fit_rows(alloc, store, 10, &BLOCKS)?,
+            refs: fit_rows(alloc, store, 12, &REFS)?,
+            uploads: fit_rows(alloc, store, 16, &UPLOADS)?,
+            parts: fit_rows(alloc, store, 18, &PARTS)?,
+            uses: fit_rows(alloc, store, 23, &USES)?,
+        })
+    }
+}
