@@ -1,5 +1,5 @@
-// Preloaded into a program under test: counts its calls that write, sync or cut a regular file, from 1, and at the
-// CALL_NUMBER-th does what CALL_DOES says:
+// Preloaded into a program under test: counts its calls that write, sync or cut a regular file, or change a name, from 1, and at
+// the CALL_NUMBER-th does what CALL_DOES says:
 //   refuse       this call alone fails, with the number CALL_ERROR of errno.h
 //   refuse-on    this call fails, and so does each later one
 //   half         a write takes the first half of its bytes, as it may; another call is made
@@ -126,9 +126,8 @@ static void stop(void) {
     _exit(3);
 }
 
-// Counts a call on a file, and says whether it is refused.
-static int is_refused(int file) {
-    if (!is_regular(file)) return 0;
+// Counts a call, and says whether it is refused.
+static int is_refused_now(void) {
     count += 1;
     if (count == number && is("stop")) stop();
     if (count == number && (is("lose") || is("tear"))) {
@@ -141,6 +140,8 @@ static int is_refused(int file) {
     }
     return 0;
 }
+
+static int is_refused(int file) { return is_regular(file) && is_refused_now(); }
 
 static int notes(int file) { return (is("lose") || is("tear")) && is_regular(file); }
 
@@ -214,3 +215,15 @@ int ftruncate(int file, off_t length) {
 }
 
 int ftruncate64(int file, off_t length) { return ftruncate(file, length); }
+
+int rename(const char *from, const char *to) {
+    static int (*of)(const char *, const char *);
+    if (!of) of = next("rename");
+    return is_refused_now() ? -1 : of(from, to);
+}
+
+int unlink(const char *name) {
+    static int (*of)(const char *);
+    if (!of) of = next("unlink");
+    return is_refused_now() ? -1 : of(name);
+}

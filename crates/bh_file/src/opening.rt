@@ -37,6 +37,19 @@ fn files_at<S: Start>(
     }
 }
 
+/// The two files of a database, or new ones, as `open_file` takes them. They are locked, and not read yet.
+pub fn open_files<S: Start>(
+    rt: &HostRuntime,
+    path: &str,
+    start: S,
+) -> Result<Files<FileFrom<S>>, OpenFault>
+    ensures usable { IfOk result (λ files. IsTrue (file_is_usable S.Start files.log) × IsTrue (file_is_usable S.Start files.db)) }
+    ensures fresh { IfOk result (λ files. IsFresh true files.log × IsFresh false files.db) }
+{
+    look(rt, path)?;
+    files_at(rt, path, start)
+}
+
 fn options(rt: &HostRuntime) -> io::Result<Options> {
     let seed = RandomState::new(rt)?.hash_one(&0u8);
     let mut options = Options::new(seed);
@@ -57,8 +70,7 @@ pub fn open_file<S: Start>(
 ) -> Result<FileConnection<S>, OpenFault>
     ensures { IfOk result (λ connection. IsOpenedOn (image_at S.Start) (file_state connection)) }
 {
-    look(rt, path)?;
-    let files = files_at(rt, path, start)?;
+    let files = open_files(rt, path, start)?;
     let options = options(rt)?;
     match Connection::open_files_with(rt.alloc(), files, options, true) {
         Ok(mut connection) => {
