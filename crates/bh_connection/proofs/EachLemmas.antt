@@ -19,14 +19,19 @@ each-append limits [] row all came = (came, tt)
 each-append limits (r ∷ rows) row (first, rest) came = (first, each-append limits rows row rest came)
 
 module _ {H : Type 0} (IsIntact IsOpen : H → Type 0) (seen : H → Seen) (left : H → Tables → Type 0) where
+  -- a run, and nothing more
+  pub ran_stays : (events : List Event) (tolds : List Told) (old mid new : H) → RanOn IsOpen seen left events tolds old mid → new ≡ mid
+      → RanOn IsOpen seen left (events ++ []) (tolds ++ []) old new
+  ran_stays events tolds old mid new ran same =
+      let P : List Event → List Told → Type 0 = λ es ts. RanOn IsOpen seen left es ts old new in
+      let stays : RanOn IsOpen seen left events tolds old new = subst (λ x. RanOn IsOpen seen left events tolds old x) (sym same) ran in
+      subst (λ es. P es (tolds ++ [])) (sym (append-nil events)) (subst (P events) (sym (append-nil tolds)) stays)
+
   -- a run, and one connection more
   pub ran_with : (events : List Event) (tolds : List Told) (reading : ℕ) (outcome : Outcome) (old mid new : H) → IsIntact new → RanOn IsOpen seen left events tolds old mid
       → Did IsIntact IsOpen seen left reading outcome mid new
       → RanOn IsOpen seen left (events ++ cons_option (option_map (λ o. request_at reading o.0) outcome) []) (tolds ++ cons_option (option_map (λ o. o.1) outcome) []) old new
-  ran_with events tolds reading None old mid new intact ran same =
-      let P : List Event → List Told → Type 0 = λ es ts. RanOn IsOpen seen left es ts old new in
-      let stays : RanOn IsOpen seen left events tolds old new = subst (λ x. RanOn IsOpen seen left events tolds old x) (sym same) ran in
-      subst (λ es. P es (tolds ++ [])) (sym (append-nil events)) (subst (P events) (sym (append-nil tolds)) stays)
+  ran_with events tolds reading None old mid new intact ran same = ran_stays events tolds old mid new ran same
   ran_with events tolds reading (Some (request, (stamp, reply))) old mid new intact ran did =
       running.ran_one IsOpen seen left events tolds (request_at reading request) stamp reply old mid new ran (did.applied intact) (did.told_apart intact) (IsIntact new) intact did.acknowledged did.crash
 

@@ -1,3 +1,4 @@
 pub mod ConnectionLemmas
 pub mod EachLemmas
 pub mod ListeningLemmas
+pub mod OperatorLemmas

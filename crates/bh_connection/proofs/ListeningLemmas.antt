@@ -1,10 +1,11 @@
--- Connections after connections.
-use Rattle.std.proofs.Common.{◌≡◌, List, [], ◌∷◌, ◌++◌, sym, ap, subst, ◌∙◌, Option, Result, Ok, Err, append-nil}
+-- Visits after visits.
+use Rattle.std.proofs.Common.{◌≡◌, ℕ, Bool, true, false, List, [], ◌∷◌, ◌++◌, refl, sym, ap, subst, ◌∙◌, Option, Some, None, Result, Ok, Err, append-nil}
 use Rattle.std.specs.Prelude.{IsErr, MatchResult, filter_map}
+use Rattle.std.specs.List.{flat_map, cons_option}
 use Rattle.std.proofs.lemmas.Bool.{false≢true}
-use Rattle.std.specs.List.{flat_map}
 use Rattle.std.proofs.lemmas.List.Elements.{filter_map-append}
 use Rattle.std.proofs.lemmas.Grind.{flat_map-append}
+use Rattle.bh_types.specs.Limits.{HostLimits}
 use Rattle.bh_event.specs.Events.{Arrival as Event}
 use Rattle.bh_tables.specs.Typed.{Tables}
 use Rattle.bh_storage.specs.Calls.{Seen}
@@ -12,41 +13,107 @@ use Rattle.bh_host.specs.Runs.{Told, RanOn}
 use Rattle.bh_link.specs.Transfers.{Logs}
 use Rattle.bh_link.proofs.TransferLemmas.{logs_then}
 use Rattle.bh_host.proofs.Running as running
-use Rattle.bh_connection.specs.Connections.{Came, Did}
-use Rattle.bh_connection.specs.Each.{Row, EachCame, event_of, told_of}
-use Rattle.bh_connection.specs.Listening.{Call, calls_of, HasServedRows}
-use Rattle.bh_connection.proofs.EachLemmas.{each-append, ran_with, run_alone}
+use Rattle.bh_host.specs.declared.reply.Caller.{Caller}
+use Rattle.bh_host.specs.declared.reply.Caller.TheVariants.{Request, Operator}
+use Rattle.bh_connection.specs.Connections.{Ends}
+use Rattle.bh_connection.specs.declared.served.End.TheVariants.{ReadFailed}
+use Rattle.bh_connection.specs.declared.served.Served.{Served}
+use Rattle.bh_connection.specs.Operators.{Heard, CutOff, NotHeard, NoOrder, Obeyed, Obeys}
+use Rattle.bh_connection.specs.Visits.{Visit, OfClient, OfOperator, CameBy, AllCame, DidBy, DidFor, IsAdmitted, RanFor, event_of, told_of, event_heard, told_heard}
+use Rattle.bh_connection.specs.Listening.{Call, calls_for, calls_of, HasServedAll, IsServed, VisitedAs}
+use Rattle.bh_connection.proofs.EachLemmas.{ran_stays, ran_with, run_alone, ran_no_request, ran_request}
 
 -- one connection more
-pub logs_more : (a b c : Option (List Call)) (rows : List Row) (row : Row) → Logs a b (flat_map calls_of rows) → Logs b c (calls_of row)
-    → Logs a c (flat_map calls_of (rows ++ row ∷ []))
-logs_more a b c rows row p q =
-    let all : flat_map calls_of (rows ++ row ∷ []) ≡ flat_map calls_of rows ++ calls_of row =
-    flat_map-append calls_of rows (row ∷ []) ∙ ap (λ l. flat_map calls_of rows ++ l) (append-nil (calls_of row)) in
-    subst (Logs a c) (sym all) (logs_then a b c (flat_map calls_of rows) (calls_of row) p q)
+pub logs_more : (a b c : Option (List Call)) (visits : List Visit) (visit : Visit) → Logs a b (flat_map calls_of visits) → Logs b c (calls_of visit)
+    → Logs a c (flat_map calls_of (visits ++ visit ∷ []))
+logs_more a b c visits visit p q =
+    let all : flat_map calls_of (visits ++ visit ∷ []) ≡ flat_map calls_of visits ++ calls_of visit =
+    flat_map-append calls_of visits (visit ∷ []) ∙ ap (λ l. flat_map calls_of visits ++ l) (append-nil (calls_of visit)) in
+    subst (Logs a c) (sym all) (logs_then a b c (flat_map calls_of visits) (calls_of visit) p q)
+
+all_came-append : (secret : Option (List ℕ)) (limits : HostLimits) (visits : List Visit) (visit : Visit)
+    → AllCame secret limits visits → CameBy secret limits visit → AllCame secret limits (visits ++ visit ∷ [])
+all_came-append secret limits [] visit all came = (came, tt)
+all_came-append secret limits (v ∷ visits) visit (first, rest) came = (first, all_came-append secret limits visits visit rest came)
+
+-- ---- runs
 
 module _ {H : Type 0} (IsIntact IsOpen : H → Type 0) (seen : H → Seen) (left : H → Tables → Type 0) where
-  has_served : (rows : List Row) (old new : H) → EachCame (seen old).limits rows → (IsIntact new → RanOn IsOpen seen left (filter_map event_of rows) (filter_map told_of rows) old new)
-      → HasServedRows IsIntact IsOpen seen left rows old new
-  has_served rows old new each ran = record {
-    each = each;
-    ran = ran;
-    alone = λ intact. run_alone IsIntact IsOpen seen left (filter_map event_of rows) (filter_map told_of rows) old new (ran intact);
-  }
+  -- a run, and an operator's visit more
+  ran_heard : (events : List Event) (tolds : List Told) (heard : Heard) (old mid new : H) → IsIntact new → RanOn IsOpen seen left events tolds old mid
+      → Obeys IsIntact IsOpen seen left heard mid new
+      → RanOn IsOpen seen left (events ++ cons_option (event_heard heard) []) (tolds ++ cons_option (told_heard heard) []) old new
+  ran_heard events tolds CutOff old mid new intact ran same = ran_stays IsIntact IsOpen seen left events tolds old mid new ran same
+  ran_heard events tolds NotHeard old mid new intact ran same = ran_stays IsIntact IsOpen seen left events tolds old mid new ran same
+  ran_heard events tolds NoOrder old mid new intact ran same = ran_stays IsIntact IsOpen seen left events tolds old mid new ran same
+  ran_heard events tolds (Obeyed event (stamp, reply)) old mid new intact ran did =
+      running.ran_one IsOpen seen left events tolds event stamp reply old mid new ran (did.applied intact) (did.told_apart intact) (IsIntact new) intact did.acknowledged did.crash
 
-  pub nothing_came : (old : H) → HasServedRows IsIntact IsOpen seen left [] old old
-  nothing_came old = has_served [] old old tt (λ _. running.ran_none IsOpen seen left old)
+  -- a run, and a visit more
+  ran_visit : (events : List Event) (tolds : List Told) (visit : Visit) (old mid new : H) → IsIntact new → RanOn IsOpen seen left events tolds old mid
+      → DidBy IsIntact IsOpen seen left visit mid new
+      → RanOn IsOpen seen left (events ++ cons_option (event_of visit) []) (tolds ++ cons_option (told_of visit) []) old new
+  ran_visit events tolds (OfClient row) old mid new intact ran did = ran_with IsIntact IsOpen seen left events tolds row.before.reading row.outcome old mid new intact ran did
+  ran_visit events tolds (OfOperator row) old mid new intact ran did = ran_heard events tolds row.heard old mid new intact ran did
 
-  pub rows_more : (rows : List Row) (row : Row) (old mid new : H) → (IsIntact new → IsIntact mid) → (seen mid).limits ≡ (seen old).limits
-      → HasServedRows IsIntact IsOpen seen left rows old mid → Came (seen mid).limits row.before row.after row.served row.outcome
-      → Did IsIntact IsOpen seen left row.before.reading row.outcome mid new → HasServedRows IsIntact IsOpen seen left (rows ++ row ∷ []) old new
-  rows_more rows row old mid new still limits so_far came did =
-      let P : List Event → List Told → Type 0 = λ es ts. RanOn IsOpen seen left es ts old new in
-      has_served (rows ++ row ∷ []) old new
-      (each-append (seen old).limits rows row so_far.each (subst (λ l. Came l row.before row.after row.served row.outcome) limits came))
-      (λ intact. subst (λ es. P es (filter_map told_of (rows ++ row ∷ []))) (sym (filter_map-append event_of rows (row ∷ [])))
-      (subst (P (filter_map event_of rows ++ filter_map event_of (row ∷ []))) (sym (filter_map-append told_of rows (row ∷ [])))
-      (ran_with IsIntact IsOpen seen left (filter_map event_of rows) (filter_map told_of rows) row.before.reading row.outcome old mid new intact (so_far.ran (still intact)) did)))
+  pub ran_nothing : (operated : Bool) (old : H) → RanFor operated IsOpen seen left old old
+  ran_nothing false old = ran_no_request IsIntact IsOpen seen left old
+  ran_nothing true old = ([], [], running.ran_none IsOpen seen left old)
+
+  pub ran_more : (operated : Bool) (old mid new : H) → IsIntact new → RanFor operated IsOpen seen left old mid → DidFor IsIntact IsOpen seen left operated mid new
+      → RanFor operated IsOpen seen left old new
+  ran_more false old mid new intact ran (OfClient row, admitted, did) = ran_request IsIntact IsOpen seen left old mid new intact ran (row.before.reading, row.outcome, did)
+  ran_more false old mid new intact ran (OfOperator row, admitted, did) = absurd (false≢true admitted)
+  ran_more true old mid new intact (events, tolds, ran) (visit, admitted, did) =
+      (events ++ cons_option (event_of visit) [], tolds ++ cons_option (told_of visit) [], ran_visit events tolds visit old mid new intact ran did)
+
+  -- ---- one visit
+
+  pub did_none : (operated : Bool) (old : H) → DidFor IsIntact IsOpen seen left operated old old
+  did_none operated old =
+      let none : Ends = record { reading = 0; left = None; held = None; gave = None; took = None; reader_failed = false; writer_failed = false } in
+      let served : Served = record { stamp = None; sent = 0; ended = ReadFailed; trouble = None } in
+      (OfClient (record { before = none; after = none; served = served; outcome = None }), tt, refl)
+
+  pub did_as : (secret : Option (List ℕ)) (operated : Bool) (caller : Caller) (before after : Ends) (served : Served) (old new : H)
+      → (caller ≡ Operator → operated ≡ true) → VisitedAs IsIntact IsOpen seen left secret caller before after served old new → DidFor IsIntact IsOpen seen left operated old new
+  did_as secret operated Request before after served old new admitted came =
+      (OfClient (record { before = before; after = after; served = served; outcome = came.outcome }), tt, came.did)
+  did_as secret operated Operator before after served old new admitted came =
+      (OfOperator (record { before = before; after = after; served = served; heard = came.heard }), admitted refl, came.obeys)
+
+  pub visited_as : (secret : Option (List ℕ)) (a b : Option (List Call)) (caller : Caller) (before after : Ends) (served : Served) (old new : H)
+      → Logs a b (calls_for caller before after served) → VisitedAs IsIntact IsOpen seen left secret caller before after served old new
+      → (visit : Visit) × IsServed IsIntact IsOpen seen left secret a b old new visit
+  visited_as secret a b Request before after served old new calls came =
+      (OfClient (record { before = before; after = after; served = served; outcome = came.outcome }), record { calls = calls; came = came.came; did = came.did })
+  visited_as secret a b Operator before after served old new calls came =
+      (OfOperator (record { before = before; after = after; served = served; heard = came.heard }), record { calls = calls; came = came.hears; did = came.obeys })
+
+  -- ---- and what each tenant is told in them
+
+  module _ (secret : Option (List ℕ)) where
+    has_served : (visits : List Visit) (old new : H) → AllCame secret (seen old).limits visits → (IsIntact new → RanOn IsOpen seen left (filter_map event_of visits) (filter_map told_of visits) old new)
+        → HasServedAll IsIntact IsOpen seen left secret visits old new
+    has_served visits old new each ran = record {
+      each = each;
+      ran = ran;
+      alone = λ intact. run_alone IsIntact IsOpen seen left (filter_map event_of visits) (filter_map told_of visits) old new (ran intact);
+    }
+
+    pub nothing_came : (old : H) → HasServedAll IsIntact IsOpen seen left secret [] old old
+    nothing_came old = has_served [] old old tt (λ _. running.ran_none IsOpen seen left old)
+
+    pub visits_more : (visits : List Visit) (visit : Visit) (old mid new : H) → (IsIntact new → IsIntact mid) → (seen mid).limits ≡ (seen old).limits
+        → HasServedAll IsIntact IsOpen seen left secret visits old mid → CameBy secret (seen mid).limits visit → DidBy IsIntact IsOpen seen left visit mid new
+        → HasServedAll IsIntact IsOpen seen left secret (visits ++ visit ∷ []) old new
+    visits_more visits visit old mid new still limits so_far came did =
+        let P : List Event → List Told → Type 0 = λ es ts. RanOn IsOpen seen left es ts old new in
+        has_served (visits ++ visit ∷ []) old new
+        (all_came-append secret (seen old).limits visits visit so_far.each (subst (λ l. CameBy secret l visit) limits came))
+        (λ intact. subst (λ es. P es (filter_map told_of (visits ++ visit ∷ []))) (sym (filter_map-append event_of visits (visit ∷ [])))
+        (subst (P (filter_map event_of visits ++ filter_map event_of (visit ∷ []))) (sym (filter_map-append told_of visits (visit ∷ [])))
+        (ran_visit (filter_map event_of visits) (filter_map told_of visits) visit old mid new intact (so_far.ran (still intact)) did)))
 
 pub at_err : {X E : Type 0} (result : Result X E) (Q : Type 0) {P : Type 0} → IsErr result → P → MatchResult result (λ _. Q) (λ _. P)
 at_err (Ok x) Q failed p = absurd (false≢true failed)

@@ -1,18 +1,22 @@
--- Connections that an acceptor gave, and the calls by which they came.
-use Rattle.std.specs.Prelude.{◌≡◌, ◌⊎◌, ◌<◌, ℕ, List, [], ◌∷◌, ◌++◌, length, filter_map, Option, Result, MatchResult}
+-- Visits that an acceptor gave, and the calls by which they came.
+use Rattle.std.specs.Prelude.{◌≡◌, ◌⊎◌, ◌<◌, ℕ, List, [], ◌∷◌, ◌++◌, length, filter_map, Option, Result, MatchResult, option_map, option_and_then}
 use Rattle.std.specs.List.{flat_map}
 use Rattle.bh_tables.specs.Typed.{Tables}
 use Rattle.bh_storage.specs.Calls.{Seen}
 use Rattle.bh_host.specs.Runs.{RanOn, HasRunOn}
+use Rattle.bh_host.specs.declared.reply.Caller.{Caller}
+use Rattle.bh_host.specs.declared.reply.Caller.TheVariants.{Request, Operator}
 use Rattle.bh_link.specs.Transfers.{Logs}
-use Rattle.bh_connection.specs.Connections.{Ends, Came, Did}
-use Rattle.bh_connection.specs.Each.{Row, EachCame, event_of, told_of}
+use Rattle.bh_connection.specs.Connections.{Ends, CameTo}
+use Rattle.bh_connection.specs.Operators.{WasOrdered}
+use Rattle.bh_connection.specs.Visits.{Visit, OfClient, OfOperator, CameBy, AllCame, DidBy, event_of, told_of}
+use Rattle.bh_connection.specs.declared.listener.Ports.{Ports}
 use Rattle.bh_connection.specs.declared.served.Served.{Served}
 
 -- ---- the calls of an acceptor, and what each gave
 
 pub data Call : Type 0 where
-  Accepted : Call
+  Accepted : (caller : Caller) → Call
   NotAccepted : Call
   ToldReading : (reading : ℕ) → Call
   ToldNone : Call
@@ -20,21 +24,31 @@ pub data Call : Type 0 where
   Closed : (ends : Ends) (served : Served) → Call
 
 -- the calls of a connection that was served: the clock is asked once it was accepted, and what the clock told is its reading
-abbrev pub calls_of : Row → List Call
-calls_of row = Accepted ∷ ToldReading row.before.reading ∷ Opened row.before ∷ Closed row.after row.served ∷ []
+abbrev pub calls_for : Caller → Ends → Ends → Served → List Call
+calls_for caller before after served = Accepted caller ∷ ToldReading before.reading ∷ Opened before ∷ Closed after served ∷ []
+
+-- a client's is served as a client's, and an operator's as an operator's
+abbrev pub calls_of : Visit → List Call
+calls_of (OfClient row) = calls_for Request row.before row.after row.served
+calls_of (OfOperator row) = calls_for Operator row.before row.after row.served
 
 -- the calls that end all: an accept failed, or the clock told nothing after one
 abbrev pub IsFault : List Call → Type 0
-IsFault calls = (calls ≡ NotAccepted ∷ []) ⊎ (calls ≡ Accepted ∷ ToldNone ∷ [])
+IsFault calls = (calls ≡ NotAccepted ∷ []) ⊎ ((caller : Caller) × (calls ≡ Accepted caller ∷ ToldNone ∷ []))
 
 -- ---- one connection
 
-module _ {H : Type 0} (IsIntact IsOpen : H → Type 0) (seen : H → Seen) (left : H → Tables → Type 0) where
+module _ {H : Type 0} (IsIntact IsOpen : H → Type 0) (seen : H → Seen) (left : H → Tables → Type 0) (secret : Option (List ℕ)) where
+  -- one was served as its caller's
+  abbrev pub VisitedAs : Caller → Ends → Ends → Served → H → H → Type 0
+  VisitedAs Request before after served old new = CameTo IsIntact IsOpen seen left before after served old new
+  VisitedAs Operator before after served old new = WasOrdered IsIntact IsOpen seen left secret before after served old new
+
   -- one was accepted and served
-  pub record IsServed (before after : Option (List Call)) (old new : H) (row : Row) : Type 0 where
-    pub calls : Logs before after (calls_of row)
-    pub came : Came (seen old).limits row.before row.after row.served row.outcome
-    pub did : Did IsIntact IsOpen seen left row.before.reading row.outcome old new
+  pub record IsServed (before after : Option (List Call)) (old new : H) (visit : Visit) : Type 0 where
+    pub calls : Logs before after (calls_of visit)
+    pub came : CameBy secret (seen old).limits visit
+    pub did : DidBy IsIntact IsOpen seen left visit old new
 
   -- nothing is done after a fault
   pub record HasFailed (before after : Option (List Call)) (old new : H) (fault : List Call) : Type 0 where
@@ -44,18 +58,26 @@ module _ {H : Type 0} (IsIntact IsOpen : H → Type 0) (seen : H → Seen) (left
 
   abbrev pub ComesOne : {X E : Type 0} → Option (List Call) → Option (List Call) → Result X E → H → H → Type 0
   ComesOne before after result old new =
-      MatchResult result (λ _. (row : Row) × IsServed before after old new row) (λ _. (fault : List Call) × HasFailed before after old new fault)
+      MatchResult result (λ _. (visit : Visit) × IsServed before after old new visit) (λ _. (fault : List Call) × HasFailed before after old new fault)
 
   -- ---- connections in turn
 
-  -- those whose reader didn't fail are the events of a run, and each tenant is alone in it
-  pub record HasServedRows (rows : List Row) (old new : H) : Type 0 where
-    pub each : EachCame (seen old).limits rows
-    pub ran : IsIntact new → RanOn IsOpen seen left (filter_map event_of rows) (filter_map told_of rows) old new
-    pub alone : IsIntact new → HasRunOn IsOpen seen (filter_map event_of rows) (filter_map told_of rows) old new
+  -- those that brought a request or an order are the events of a run, and each tenant is alone in it
+  pub record HasServedAll (visits : List Visit) (old new : H) : Type 0 where
+    pub each : AllCame secret (seen old).limits visits
+    pub ran : IsIntact new → RanOn IsOpen seen left (filter_map event_of visits) (filter_map told_of visits) old new
+    pub alone : IsIntact new → HasRunOn IsOpen seen (filter_map event_of visits) (filter_map told_of visits) old new
+
+  -- some were served
+  abbrev pub WasVisited : H → H → Type 0
+  WasVisited old new = (visits : List Visit) × HasServedAll visits old new
 
   -- so many were served, each that was accepted, or fewer and then a fault ended all; no other call was made
   abbrev pub HasListened : {X E : Type 0} → Option (List Call) → Option (List Call) → ℕ → Result X E → H → H → Type 0
-  HasListened before after count result old new = (rows : List Row) × HasServedRows rows old new × MatchResult result
-      (λ _. (length rows ≡ count) × Logs before after (flat_map calls_of rows))
-      (λ _. (length rows < count) × ((fault : List Call) × IsFault fault × Logs before after (flat_map calls_of rows ++ fault)))
+  HasListened before after count result old new = (visits : List Visit) × HasServedAll visits old new × MatchResult result
+      (λ _. (length visits ≡ count) × Logs before after (flat_map calls_of visits))
+      (λ _. (length visits < count) × ((fault : List Call) × IsFault fault × Logs before after (flat_map calls_of visits ++ fault)))
+
+-- the secret of the operators of a port, if there is one
+abbrev pub secret_of : Ports → Option (List ℕ)
+secret_of ports = option_and_then (λ o. option_map (λ s. s.now) o.secret) ports.operator

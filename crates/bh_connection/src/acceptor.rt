@@ -1,10 +1,12 @@
-ghost use Rattle.std.specs.Prelude.{◌≡◌, ◌∷◌, ℕ, List, [], Option, None, MatchResult};
+ghost use Rattle.std.specs.Prelude.{◌≡◌, ◌∷◌, ℕ, Bool, true, List, [], Option, None, IfOk, MatchResult};
 ghost use Rattle.bh_link.specs.Transfers.{Logs};
 ghost use Rattle.bh_connection.specs.Each.{IsGoing, ends};
+ghost use Rattle.bh_host.specs.declared.reply.Caller.TheVariants.{Operator};
 ghost use Rattle.bh_connection.specs.Listening.{Call, Accepted, NotAccepted, ToldReading, ToldNone, Opened, Closed};
 
 use crate::each::Arrival;
 use crate::served::Served;
+use bh_host::Caller;
 use bh_link::ends::{Sink, Source};
 use std::io;
 
@@ -20,15 +22,21 @@ pub trait Acceptor {
     /// Its calls and what they gave, oldest first, if it tells them.
     ghost calls: { Self → Option (List Call) } = { λ _. None };
 
-    /// Waits for the next connection, which is then its own.
-    fn accept(&mut self) -> io::Result<()>
-        ensures { MatchResult result (λ _. Logs (calls self.old) (calls self.new) (Accepted ∷ []))
-            (λ _. Logs (calls self.old) (calls self.new) (NotAccepted ∷ [])) };
+    /// Whether operators may come, beside clients.
+    ghost operated: { Self → Bool } = { λ _. true };
+
+    /// Waits for the next connection, which is then its own, and says whose it is.
+    fn accept(&mut self) -> io::Result<Caller>
+        ensures calls { MatchResult result (λ caller. Logs (calls self.old) (calls self.new) (Accepted caller ∷ []))
+            (λ _. Logs (calls self.old) (calls self.new) (NotAccepted ∷ [])) }
+        ensures admitted { IfOk result (λ caller. caller ≡ Operator → operated self.old ≡ true) }
+        ensures operated { operated self.new ≡ operated self.old };
 
     /// The clock's reading: whole seconds since 1970.
     fn seconds(&mut self) -> io::Result<u64>
-        ensures { MatchResult result (λ reading. Logs (calls self.old) (calls self.new) (ToldReading reading ∷ []))
-            (λ _. Logs (calls self.old) (calls self.new) (ToldNone ∷ [])) };
+        ensures calls { MatchResult result (λ reading. Logs (calls self.old) (calls self.new) (ToldReading reading ∷ []))
+            (λ _. Logs (calls self.old) (calls self.new) (ToldNone ∷ [])) }
+        ensures operated { operated self.new ≡ operated self.old };
 
     /// The two ends of its connection, at a reading of the clock.
     fn open(&mut self, reading: u64) -> Arrival<Self::Reader, Self::Writer>
@@ -36,11 +44,13 @@ pub trait Acceptor {
             (Opened (ends Self.Reader.Source.remaining Self.Reader.Source.transfers
             Self.Writer.Sink.contents Self.Writer.Sink.transfers result) ∷ []) }
         ensures going { IsGoing result }
-        ensures reading { result.reading ≡ reading };
+        ensures reading { result.reading ≡ reading }
+        ensures operated { operated self.new ≡ operated self.old };
 
     /// Closes its connection, of which this became.
     fn close(&mut self, arrival: Arrival<Self::Reader, Self::Writer>, served: Served)
-        ensures { Logs (calls self.old) (calls self.new)
+        ensures calls { Logs (calls self.old) (calls self.new)
             (Closed (ends Self.Reader.Source.remaining Self.Reader.Source.transfers
-            Self.Writer.Sink.contents Self.Writer.Sink.transfers arrival) served ∷ []) };
+            Self.Writer.Sink.contents Self.Writer.Sink.transfers arrival) served ∷ []) }
+        ensures operated { operated self.new ≡ operated self.old };
 }

@@ -1,21 +1,25 @@
-//! Connections on a host: each brings one request, and is answered as an event is.
+//! Connections on a host: each brings one request, or one line of an operator, and is answered as an event is.
 #![tactic(auto)]
 
 mod acceptor;
 mod bounded;
 mod clock;
 mod connection;
+mod doors;
 mod each;
 mod listener;
 mod log;
 mod noted;
+mod operator;
 mod served;
 mod sockets;
 
 pub use acceptor::Acceptor;
 pub use clock::{Clock, MachineClock};
 pub use connection::serve_connection;
+pub use doors::{Doors, Operators};
 pub use each::{Arrival, serve_each};
-pub use listener::{serve_from, serve_listener, serve_port};
+pub use listener::{OperatorPort, Ports, serve_from, serve_listener, serve_port};
+pub use operator::serve_line;
 pub use served::{End, Served};
 pub use sockets::Manner;

@@ -1,38 +1,80 @@
-ghost use Rattle.std.specs.Prelude.{◌≡◌};
+ghost use Rattle.std.specs.Prelude.{◌≡◌, is_some, option_map};
 ghost use Rattle.bh_storage.specs.Calls.{Clean, LeavesSound, IsAtRest};
-ghost use Rattle.bh_connection.specs.Connections.{DidSome};
-ghost use Rattle.bh_connection.specs.Each.{RanSome};
-ghost use Rattle.bh_connection.specs.Listening.{ComesOne, HasListened};
+ghost use Rattle.bh_connection.specs.Each.{IsGoing, ends};
+ghost use Rattle.bh_connection.specs.Listening.{ComesOne, HasListened, VisitedAs, WasVisited, secret_of};
+ghost use Rattle.bh_connection.specs.Visits.{DidFor, RanFor, secret_at};
 
 use crate::acceptor::Acceptor;
 use crate::bounded::Current;
 use crate::clock::Clock;
-use crate::each::serve_arrival;
+use crate::doors::{Doors, Operators};
+use crate::each::{Arrival, serve_arrival};
+use crate::operator::serve_line;
+use crate::served::Served;
 use crate::sockets::{Manner, Sockets};
+use bh_host::Caller;
+use bh_link::ends::{Sink, Source};
 use bh_storage::storage::Storage;
 use std::alloc::Global;
 use std::cell::RefCell;
 use std::io;
 use std::net::{Ipv4Addr, Net, TcpListener, TcpStream};
 
-/// Serves so many connections on a port of 127.0.0.1, as [`serve_listener`] does; where the port is 0, on one that the
-/// system chooses. Once it listens it says so on standard error, with the port.
+/// Where operators come to a port of 127.0.0.1.
+#[derive(Clone, Copy)]
+pub struct OperatorPort<'a> {
+    /// 0: one that the system chooses.
+    pub port: u16,
+    /// What their lines begin with, before a space, if whoever comes there isn't an operator.
+    pub secret: Option<&'a [u8]>,
+}
+
+/// The ports of 127.0.0.1 on which a host is served; 0: one that the system chooses.
+#[derive(Clone, Copy)]
+pub struct Ports<'a> {
+    pub port: u16,
+    pub operator: Option<OperatorPort<'a>>,
+}
+
+/// Serves so many connections on ports of 127.0.0.1, as [`serve_listener`] does. Once it listens it says so on standard
+/// error, with each port.
 pub fn serve_port<
     N: Net<Stream = TcpStream, Listener = TcpListener> + AllocGlobal + Eprint,
     H: Storage,
     C: Clock,
->(net: &N, host: &mut H, clock: &C, port: u16, manner: Manner, count: u64) -> io::Result<()>
+>(net: &N, host: &mut H, clock: &C, ports: Ports<'_>, manner: Manner, count: u64) -> io::Result<()>
     requires { Clean H.IsIntact H.IsOpen host.old → IsAtRest H.IsSound (H.seen host.old) }
     ensures intact { H.IsIntact host.new → H.IsIntact host.old }
     ensures opened { H.IsIntact host.new → H.IsOpen host.new → H.IsOpen host.old }
     ensures ready { Clean H.IsIntact H.IsOpen host.new → IsAtRest H.IsSound (H.seen host.new) }
     ensures limits { (H.seen host.new).limits ≡ (H.seen host.old).limits }
     ensures leaves { H.IsIntact host.new → LeavesSound H.IsSound H.left host.old host.new }
-    ensures ran { H.IsIntact host.new → RanSome H.IsOpen H.seen H.left host.old host.new }
+    ensures ran { H.IsIntact host.new → RanFor (is_some ports.entry.operator) H.IsOpen H.seen H.left host.old host.new }
+    ensures visited { WasVisited H.IsIntact H.IsOpen H.seen H.left (secret_of ports.entry) host.old host.new }
 {
-    let listener = bound(net, port)?;
-    tell_address(net, &listener);
-    serve_listener(net, host, &listener, clock, manner, count)
+    let clients = bound(net, ports.port)?;
+    tell_address(net, "listening", &clients);
+    match ports.operator {
+        None => {
+            let doors = Doors {
+                clients: &clients,
+                operators: None,
+            };
+            serve_listener(net, host, doors, clock, manner, count)
+        }
+        Some(operator) => {
+            let listener = bound(net, operator.port)?;
+            tell_address(net, "operators", &listener);
+            let doors = Doors {
+                clients: &clients,
+                operators: Some(Operators {
+                    listener: &listener,
+                    secret: operator.secret,
+                }),
+            };
+            serve_listener(net, host, doors, clock, manner, count)
+        }
+    }
 }
 
 /// A listener on a port of 127.0.0.1.
@@ -54,21 +96,21 @@ fn not_bound(alloc: Global, port: u16, error: io::Error) -> io::Error {
     }
 }
 
-/// Says on standard error where a listener listens. What standard error doesn't take is lost.
-fn tell_address<E: Eprint>(errors: &E, listener: &TcpListener) {
+/// Says on standard error who is listened to, and where. What standard error doesn't take is lost.
+fn tell_address<E: Eprint>(errors: &E, what: &str, listener: &TcpListener) {
     if let Ok(address) = listener.local_addr() {
-        let _ = eprintln!(errors; "listening on {address}");
+        let _ = eprintln!(errors; "{what} on {address}");
     }
 }
 
-/// Serves so many connections of a listener, one after another, as [`serve_from`] does. One that breaks, or that isn't
-/// read in time or written in time, counts, and serving goes on; a fault of the listener that doesn't pass, or of the
-/// clock, ends it. Whatever the sockets gave, only requests were applied, and to each tenant the replies are those of a
-/// machine that it has to itself.
+/// Serves so many connections, one after another, as [`serve_from`] does. One that breaks, or that isn't read in time or
+/// written in time, counts, and serving goes on; a fault of a listener that doesn't pass, or of the clock, ends it. Whatever
+/// the sockets gave, only requests were applied, and orders where operators may come, and to each tenant the replies are
+/// those of a machine that it has to itself.
 pub fn serve_listener<E: Eprint + AllocGlobal, H: Storage, C: Clock>(
     errors: &E,
     host: &mut H,
-    listener: &TcpListener,
+    doors: Doors<'_>,
     clock: &C,
     manner: Manner,
     count: u64,
@@ -79,28 +121,32 @@ pub fn serve_listener<E: Eprint + AllocGlobal, H: Storage, C: Clock>(
     ensures ready { Clean H.IsIntact H.IsOpen host.new → IsAtRest H.IsSound (H.seen host.new) }
     ensures limits { (H.seen host.new).limits ≡ (H.seen host.old).limits }
     ensures leaves { H.IsIntact host.new → LeavesSound H.IsSound H.left host.old host.new }
-    ensures ran { H.IsIntact host.new → RanSome H.IsOpen H.seen H.left host.old host.new }
+    ensures ran { H.IsIntact host.new → RanFor (is_some doors.entry.operators) H.IsOpen H.seen H.left host.old host.new }
+    ensures visited { WasVisited H.IsIntact H.IsOpen H.seen H.left (secret_at doors.entry.operators) host.old host.new }
 {
+    doors.make_ready()?;
     let current: Current = RefCell::new(None);
     let mut sockets = Sockets {
         alloc: errors.alloc(),
-        listener,
+        doors,
         current: &current,
         clock,
         errors,
         manner,
         since: 0,
+        last: Caller::Operator,
     };
-    serve_from(errors.alloc(), host, &mut sockets, count)
+    serve_from(errors.alloc(), host, &mut sockets, doors.secret(), count)
 }
 
 /// Serves so many connections of an acceptor, one after another: each that is accepted, at the reading that the clock gives
-/// after that, and each is closed before the next is waited for. A fault of an accept or of the clock ends it, and
-/// nothing is done after it.
+/// after that, a client's as a request and an operator's as a line, under a secret if there is one; and each is closed
+/// before the next is waited for. A fault of an accept or of the clock ends it, and nothing is done after it.
 pub fn serve_from<H: Storage, A: Acceptor>(
     alloc: Global,
     host: &mut H,
     acceptor: &mut A,
+    secret: Option<&[u8]>,
     count: u64,
 ) -> io::Result<()>
     requires { Clean H.IsIntact H.IsOpen host.old → IsAtRest H.IsSound (H.seen host.old) }
@@ -109,12 +155,12 @@ pub fn serve_from<H: Storage, A: Acceptor>(
     ensures ready { Clean H.IsIntact H.IsOpen host.new → IsAtRest H.IsSound (H.seen host.new) }
     ensures limits { (H.seen host.new).limits ≡ (H.seen host.old).limits }
     ensures leaves { H.IsIntact host.new → LeavesSound H.IsSound H.left host.old host.new }
-    ensures ran { H.IsIntact host.new → RanSome H.IsOpen H.seen H.left host.old host.new }
-    ensures listened { HasListened H.IsIntact H.IsOpen H.seen H.left (A.calls acceptor.old) (A.calls acceptor.new) count result
-        host.old host.new }
+    ensures ran { H.IsIntact host.new → RanFor (A.operated acceptor.old) H.IsOpen H.seen H.left host.old host.new }
+    ensures listened { HasListened H.IsIntact H.IsOpen H.seen H.left (option_map (λ s. s.now) secret.entry)
+        (A.calls acceptor.old) (A.calls acceptor.new) count result host.old host.new }
 {
     for served in 0..count {
-        serve_next(alloc, host, acceptor)?;
+        serve_next(alloc, host, acceptor, secret)?;
     }
     Ok(())
 }
@@ -124,6 +170,7 @@ fn serve_next<H: Storage, A: Acceptor>(
     alloc: Global,
     host: &mut H,
     acceptor: &mut A,
+    secret: Option<&[u8]>,
 ) -> io::Result<()>
     requires { Clean H.IsIntact H.IsOpen host.old → IsAtRest H.IsSound (H.seen host.old) }
     ensures intact { H.IsIntact host.new → H.IsIntact host.old }
@@ -131,13 +178,50 @@ fn serve_next<H: Storage, A: Acceptor>(
     ensures ready { Clean H.IsIntact H.IsOpen host.new → IsAtRest H.IsSound (H.seen host.new) }
     ensures limits { (H.seen host.new).limits ≡ (H.seen host.old).limits }
     ensures leaves { H.IsIntact host.new → LeavesSound H.IsSound H.left host.old host.new }
-    ensures did { DidSome H.IsIntact H.IsOpen H.seen H.left host.old host.new }
-    ensures comes { ComesOne H.IsIntact H.IsOpen H.seen H.left (A.calls acceptor.old) (A.calls acceptor.new) result host.old host.new }
+    ensures operated { A.operated acceptor.new ≡ A.operated acceptor.old }
+    ensures did { DidFor H.IsIntact H.IsOpen H.seen H.left (A.operated acceptor.old) host.old host.new }
+    ensures comes { ComesOne H.IsIntact H.IsOpen H.seen H.left (option_map (λ s. s.now) secret.entry)
+        (A.calls acceptor.old) (A.calls acceptor.new) result host.old host.new }
 {
-    acceptor.accept()?;
+    let caller = acceptor.accept()?;
     let reading = acceptor.seconds()?;
     let mut arrival = acceptor.open(reading);
-    let served = serve_arrival(alloc, host, &mut arrival);
+    let served = serve_visit(alloc, host, secret, caller, &mut arrival);
     acceptor.close(arrival, served);
     Ok(())
+}
+
+/// Serves one connection, as its caller's.
+fn serve_visit<H: Storage, R: Source, W: Sink>(
+    alloc: Global,
+    host: &mut H,
+    secret: Option<&[u8]>,
+    caller: Caller,
+    arrival: &mut Arrival<R, W>,
+) -> Served
+    requires rest { Clean H.IsIntact H.IsOpen host.old → IsAtRest H.IsSound (H.seen host.old) }
+    requires going { IsGoing arrival.old }
+    ensures intact { H.IsIntact host.new → H.IsIntact host.old }
+    ensures opened { H.IsIntact host.new → H.IsOpen host.new → H.IsOpen host.old }
+    ensures ready { Clean H.IsIntact H.IsOpen host.new → IsAtRest H.IsSound (H.seen host.new) }
+    ensures limits { (H.seen host.new).limits ≡ (H.seen host.old).limits }
+    ensures leaves { H.IsIntact host.new → LeavesSound H.IsSound H.left host.old host.new }
+    ensures visited { VisitedAs H.IsIntact H.IsOpen H.seen H.left (option_map (λ s. s.now) secret.entry) caller
+        (ends R.remaining R.transfers W.contents W.transfers arrival.old)
+        (ends R.remaining R.transfers W.contents W.transfers arrival.new) result host.old host.new }
+{
+    match caller {
+        Caller::Request => serve_arrival(alloc, host, arrival),
+        Caller::Operator => {
+            let reading = arrival.reading;
+            serve_line(
+                alloc,
+                host,
+                secret,
+                reading,
+                &mut arrival.reader,
+                &mut arrival.writer,
+            )
+        }
+    }
 }

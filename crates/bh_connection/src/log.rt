@@ -1,5 +1,7 @@
-//! What the log tells of a request. No field of it is told but the tenant of its access key.
+//! What the log tells of a connection. No field of a request is told but the tenant of its access key, and nothing of an
+//! operator's line.
 
+use bh_host::Caller;
 use bh_http::request::MAX_FIELDS;
 use bh_storage::error::Trouble;
 use bh_types::access_key::AccessKeyId;
@@ -13,9 +15,11 @@ const MOST: usize = 200;
 /// More fields than a response has.
 const RESPONSE_FIELDS: usize = 16;
 
-/// A request that was served.
+/// A request, or an operator's line, that was served.
 #[derive(Drop)]
 pub(crate) struct Entry<'a> {
+    /// Whose it was.
+    pub(crate) caller: Caller,
     /// The clock's reading, in seconds since 1970.
     pub(crate) reading: u64,
     /// The bytes that came, those of its head at least.
@@ -32,12 +36,18 @@ pub(crate) struct Entry<'a> {
 }
 
 /// The line that tells of it: the time (RFC 3339, UTC), the tenant, the method, the target, the status, the refusal, the
-/// bytes that came and went, and the milliseconds; `-` stands for what there isn't. Where memory or the store was wanting,
-/// the trouble follows.
+/// bytes that came and went, and the milliseconds; `-` stands for what there isn't, and `operator` for the method of an
+/// operator's line. Where memory or the store was wanting, the trouble follows.
 pub(crate) fn line_of(alloc: Global, entry: &Entry<'_>) -> Result<String, AllocError> {
     let time = time_text(alloc, entry.reading)?;
-    let asked = asked_text(alloc, entry.request)?;
-    let answered = answered_text(alloc, entry.response)?;
+    let asked = match entry.caller {
+        Caller::Request => asked_text(alloc, entry.request)?,
+        Caller::Operator => String::from_str(alloc, "- operator -")?,
+    };
+    let answered = match entry.caller {
+        Caller::Request => answered_text(alloc, entry.response)?,
+        Caller::Operator => replied_text(alloc, entry.response)?,
+    };
     let Entry {
         taken,
         sent,
@@ -130,10 +140,25 @@ fn answered_text(alloc: Global, bytes: &[u8]) -> Result<String, AllocError> {
     }
 }
 
+/// No status, and the refusal or `bad_line`.
+fn replied_text(alloc: Global, reply: &[u8]) -> Result<String, AllocError> {
+    let line = reply.strip_suffix(b"\n").unwrap_or(reply);
+    match line.first() {
+        Some(b'0'..=b'9') => joined(String::from_str(alloc, "- ")?, line),
+        _ if line == b"bad line".as_slice() => joined(String::from_str(alloc, "- ")?, line),
+        _ => String::from_str(alloc, "- -"),
+    }
+}
+
 /// A refusal's number and code stand in one word.
 fn refused_text(alloc: Global, status: u16, refusal: &[u8]) -> Result<String, AllocError> {
-    let mut text = format!(in alloc; "{status} ")?;
-    for byte in refusal {
+    joined(format!(in alloc; "{status} ")?, refusal)
+}
+
+/// A text, and words in one after it.
+fn joined(start: String, words: &[u8]) -> Result<String, AllocError> {
+    let mut text = start;
+    for byte in words {
         let c = if *byte == b' ' {
             '_'
         } else {

@@ -1,12 +1,15 @@
-ghost use Rattle.std.specs.Prelude.{⊤};
+ghost use Rattle.std.specs.Prelude.{◌≡◌, ⊤, true, is_some, IfOk};
+ghost use Rattle.bh_host.specs.declared.reply.Caller.TheVariants.{Operator};
 
 use crate::acceptor::Acceptor;
 use crate::bounded::{Bounded, Current, Peer};
 use crate::clock::Clock;
+use crate::doors::{Doors, next_caller};
 use crate::each::Arrival;
 use crate::log::{Entry, line_of};
 use crate::noted::Noted;
 use crate::served::{End, Served};
+use bh_host::Caller;
 use bh_http::arriving::MAX_HEAD;
 use bh_link::ends::Untold;
 use bh_link::link::Link;
@@ -30,8 +33,10 @@ const RESPONSE_HEAD: usize = 1024;
 /// How long a listener for which the system has no file or memory is left alone, in milliseconds.
 const PAUSE: u64 = 100;
 
-// Errors of accept(2) that pass. Of the first two the next connection may come at once.
+// Errors of accept(2) that pass. Of the first three the next connection may come at once.
 const EINTR: i32 = 4;
+
+const EAGAIN: i32 = 11;
 
 const ECONNABORTED: i32 = 103;
 
@@ -58,11 +63,13 @@ type Way<'a, C> = Bounded<Peer<'a>, &'a C>;
 /// The bytes that come, read ahead into a buffer; where memory for it is wanting, without one.
 type Ahead<'a, C> = Either<BufReader<Way<'a, C>>, Way<'a, C>>;
 
-/// The connections of a listener of TCP.
+/// The connections of a listener of TCP, and of one of operators, where they may come.
 #[derive(Drop)]
 pub(crate) struct Sockets<'a, C, E> {
     pub(crate) alloc: Global,
-    pub(crate) listener: &'a TcpListener,
+    pub(crate) doors: Doors<'a>,
+    /// Whose the last connection was.
+    pub(crate) last: Caller,
     pub(crate) current: &'a Current,
     pub(crate) clock: &'a C,
     /// Standard error.
@@ -77,15 +84,15 @@ impl<'a, C: Clock, E: Eprint> Acceptor for Sockets<'a, C, E> {
 
     type Writer = Noted<Untold<Way<'a, C>>>;
 
-    fn accept(&mut self) -> io::Result<()> {
-        let stream = accepted(self.listener, self.clock)?;
+    ghost operated = { λ it. is_some it.doors.operators };
+
+    fn accept(&mut self) -> io::Result<Caller> {
+        let caller = self.take_next()?;
+        self.last = caller;
         if self.manner.is_logged {
             self.since = self.milliseconds();
         }
-        match self.current.try_replace(Some(stream)) {
-            Ok(_) => Ok(()),
-            Err(_) => Err(io::Error::from(ErrorKind::ResourceBusy)),
-        }
+        Ok(caller)
     }
 
     fn seconds(&mut self) -> io::Result<u64> {
@@ -103,7 +110,8 @@ impl<'a, C: Clock, E: Eprint> Acceptor for Sockets<'a, C, E> {
     }
 
     fn close(&mut self, arrival: Arrival<Self::Reader, Self::Writer>, served: Served)
-        ensures { ⊤ }
+        ensures calls { ⊤ }
+        ensures operated { is_some self.new.doors.operators ≡ is_some self.old.doors.operators }
     {
         let reader = arrival.reader.into_inner();
         let writer = arrival.writer.into_inner();
@@ -118,6 +126,55 @@ impl<'a, C: Clock, E: Eprint> Acceptor for Sockets<'a, C, E> {
 }
 
 impl<'a, C: Clock, E: Eprint> Sockets<'a, C, E> {
+    /// Takes the next connection, and says whose it is.
+    fn take_next(&self) -> io::Result<Caller>
+        ensures { IfOk result (λ caller. caller ≡ Operator → is_some self.now.doors.operators ≡ true) }
+    {
+        match self.doors.operators {
+            None => {
+                keep(self.current, accepted(self.doors.clients, self.clock)?)?;
+                Ok(Caller::Request)
+            }
+            Some(operators) => {
+                let (caller, stream) = self.next_of_both(operators.listener)?;
+                keep(self.current, stream)?;
+                Ok(caller)
+            }
+        }
+    }
+
+    /// The next connection of either listener. Where an accept finds none after all, both are asked again.
+    fn next_of_both(&self, operators: &TcpListener) -> io::Result<(Caller, TcpStream)> {
+        for tried in 0..u64::MAX {
+            let Some(caller) = next_caller(self.doors.clients, operators, self.last)? else {
+                continue;
+            };
+            if let Some(stream) = self.accepted_of(operators, caller)? {
+                return Ok((caller, stream));
+            }
+        }
+        Err(io::Error::from(ErrorKind::TimedOut))
+    }
+
+    /// A connection of this caller's, if there is one.
+    fn accepted_of(
+        &self,
+        operators: &TcpListener,
+        caller: Caller,
+    ) -> io::Result<Option<TcpStream>> {
+        let listener = match caller {
+            Caller::Request => self.doors.clients,
+            Caller::Operator => operators,
+        };
+        match listener.accept() {
+            Ok((stream, _)) => Ok(Some(stream)),
+            Err(e) => {
+                wait_out(self.clock, e)?;
+                Ok(None)
+            }
+        }
+    }
+
     fn milliseconds(&self) -> u64 {
         self.clock.milliseconds().unwrap_or(0)
     }
@@ -131,15 +188,16 @@ impl<'a, C: Clock, E: Eprint> Sockets<'a, C, E> {
     }
 
     /// How many bytes of a request and of its response are noted for the log.
+    /// Of an operator's line nothing is: a secret may stand there.
     fn noted(&self) -> (usize, usize) {
-        if self.manner.is_logged {
-            (MAX_HEAD, RESPONSE_HEAD)
-        } else {
-            (0, 0)
+        match (self.manner.is_logged, self.last) {
+            (true, Caller::Request) => (MAX_HEAD, RESPONSE_HEAD),
+            (true, Caller::Operator) => (0, RESPONSE_HEAD),
+            (false, _) => (0, 0),
         }
     }
 
-    /// Writes the line of a request. One that can't be written is lost.
+    /// Writes the line of a connection. One that can't be written is lost.
     fn tell<R, W>(
         &self,
         reading: u64,
@@ -148,6 +206,7 @@ impl<'a, C: Clock, E: Eprint> Sockets<'a, C, E> {
         trouble: Option<Trouble>,
     ) {
         let entry = Entry {
+            caller: self.last,
             reading,
             request: reader.first(),
             response: writer.first(),
@@ -159,6 +218,14 @@ impl<'a, C: Clock, E: Eprint> Sockets<'a, C, E> {
         if let Ok(line) = line_of(self.alloc, &entry) {
             let _ = eprintln!(self.errors; "{line}");
         }
+    }
+}
+
+/// Makes a stream that of the connection.
+fn keep(current: &Current, stream: TcpStream) -> io::Result<()> {
+    match current.try_replace(Some(stream)) {
+        Ok(_) => Ok(()),
+        Err(_) => Err(io::Error::from(ErrorKind::ResourceBusy)),
     }
 }
 
@@ -176,7 +243,7 @@ fn accepted<C: Clock>(listener: &TcpListener, clock: &C) -> io::Result<TcpStream
 /// Waits until an error of an accept may have passed; one that doesn't pass is given back.
 fn wait_out<C: Clock>(clock: &C, error: io::Error) -> io::Result<()> {
     match error.raw_os_error() {
-        Some(EINTR | ECONNABORTED) => Ok(()),
+        Some(EINTR | EAGAIN | ECONNABORTED) => Ok(()),
         Some(ENOMEM | ENFILE | EMFILE | ENOBUFS) => {
             clock.wait(Duration::from_millis(PAUSE));
             Ok(())

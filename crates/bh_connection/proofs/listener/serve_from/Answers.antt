@@ -1,9 +1,10 @@
-use Rattle.std.proofs.Common.{[], ◌∷◌, ◌++◌, refl, sym, subst, inl, ◌∙◌, arith, length-append}
+use Rattle.std.proofs.Common.{[], ◌∷◌, ◌++◌, refl, sym, subst, inl, ◌∙◌, arith, length-append, option_map}
 use Rattle.std.specs.List.{flat_map}
 use Rattle.bh_link.proofs.TransferLemmas.{logs_nothing, logs_then}
-use Rattle.bh_connection.specs.Listening.{calls_of, HasServedRows}
-use Rattle.bh_connection.proofs.EachLemmas.{leaves_then, ran_no_request, ran_request}
-use Rattle.bh_connection.proofs.ListeningLemmas.{logs_more, nothing_came, rows_more, at_err}
+use Rattle.bh_connection.specs.Listening.{calls_of, HasServedAll}
+use Rattle.bh_connection.specs.Visits.{DidFor}
+use Rattle.bh_connection.proofs.EachLemmas.{leaves_then}
+use Rattle.bh_connection.proofs.ListeningLemmas.{logs_more, nothing_came, visits_more, ran_nothing, ran_more, at_err}
 use Rattle.bh_connection.proofs.listener.serve_from.Goals as goal
 
 pub loop-served-init : goal.loop-served-init
@@ -13,49 +14,54 @@ loop-served-init g c = record {
   ready = c.requires;
   limits = refl;
   leaves = λ _ x leaves. inl leaves;
-  ran = λ h. ran_no_request g.H.Storage.IsIntact g.H.Storage.IsOpen g.H.Storage.seen g.H.Storage.left c.args.host.now;
-  listened = ([], refl, logs_nothing _, nothing_came g.H.Storage.IsIntact g.H.Storage.IsOpen g.H.Storage.seen g.H.Storage.left c.args.host.now);
+  operated = refl;
+  ran = λ h. ran_nothing g.H.Storage.IsIntact g.H.Storage.IsOpen g.H.Storage.seen g.H.Storage.left _ c.args.host.now;
+  listened = ([], refl, logs_nothing _, nothing_came g.H.Storage.IsIntact g.H.Storage.IsOpen g.H.Storage.seen g.H.Storage.left _ c.args.host.now);
 }
 
 pub loop-served-preserved : goal.loop-served-preserved
 loop-served-preserved g c =
     let so_far = c.loop-served.invariant in
     let one = c.serve_next.ensures in
-    let (rows, count, log, served) = so_far.listened in
-    let (row, is) = c.in_ok-serve_next.ensures.comes in
+    let (visits, count, log, served) = so_far.listened in
+    let (visit, is) = c.in_ok-serve_next.ensures.comes in
     record {
       intact = λ intact. so_far.intact (one.intact intact);
       opened = λ intact opened. so_far.opened (one.intact intact) (one.opened intact opened);
       ready = one.ready;
       limits = one.limits ∙ so_far.limits;
       leaves = λ intact. leaves_then g.H.Storage.IsSound g.H.Storage.left _ _ _ (so_far.leaves (one.intact intact)) (one.leaves intact);
-      ran = λ intact. ran_request g.H.Storage.IsIntact g.H.Storage.IsOpen g.H.Storage.seen g.H.Storage.left _ _ _ intact (so_far.ran (one.intact intact)) one.did;
+      operated = one.operated ∙ so_far.operated;
+      ran = λ intact. ran_more g.H.Storage.IsIntact g.H.Storage.IsOpen g.H.Storage.seen g.H.Storage.left _ _ _ _ intact (so_far.ran (one.intact intact))
+          (subst (λ b. DidFor g.H.Storage.IsIntact g.H.Storage.IsOpen g.H.Storage.seen g.H.Storage.left b c.loop-served.host c.serve_next.new.host) so_far.operated one.did);
       listened = (
-        rows ++ row ∷ [],
-        omega (arith, count, length-append rows (row ∷ [])),
-        logs_more _ _ _ rows row log is.calls,
-        rows_more g.H.Storage.IsIntact g.H.Storage.IsOpen g.H.Storage.seen g.H.Storage.left rows row _ _ _ one.intact so_far.limits served is.came is.did,
+        visits ++ visit ∷ [],
+        omega (arith, count, length-append visits (visit ∷ [])),
+        logs_more _ _ _ visits visit log is.calls,
+        visits_more g.H.Storage.IsIntact g.H.Storage.IsOpen g.H.Storage.seen g.H.Storage.left _ visits visit _ _ _ one.intact so_far.limits served is.came is.did,
       );
     }
 
 pub returns-in_err-serve_next-clause-ran : goal.returns-in_err-serve_next-clause-ran
 returns-in_err-serve_next-clause-ran g c = λ intact.
+    let so_far = c.loop-served.invariant in
     let one = c.serve_next.ensures in
-    ran_request g.H.Storage.IsIntact g.H.Storage.IsOpen g.H.Storage.seen g.H.Storage.left _ _ _ intact (c.loop-served.invariant.ran (one.intact intact)) one.did
+    ran_more g.H.Storage.IsIntact g.H.Storage.IsOpen g.H.Storage.seen g.H.Storage.left _ _ _ _ intact (so_far.ran (one.intact intact))
+    (subst (λ b. DidFor g.H.Storage.IsIntact g.H.Storage.IsOpen g.H.Storage.seen g.H.Storage.left b c.loop-served.host c.serve_next.new.host) so_far.operated one.did)
 
 pub returns-in_err-serve_next-clause-listened : goal.returns-in_err-serve_next-clause-listened
 returns-in_err-serve_next-clause-listened g c =
-    let (rows, count, log, served) = c.loop-served.invariant.listened in
+    let (visits, count, log, served) = c.loop-served.invariant.listened in
     let (fault, is) = c.in_err-serve_next.ensures.comes in (
-      rows,
-      subst (λ x. HasServedRows g.H.Storage.IsIntact g.H.Storage.IsOpen g.H.Storage.seen g.H.Storage.left rows c.args.host.now x) (sym is.same) served,
-      at_err c.from_residual.result _ c.from_residual.ensures.0 (omega (arith, count, c.loop-served-test.true), (fault, is.which, logs_then _ _ _ (flat_map calls_of rows) fault log is.calls)),
+      visits,
+      subst (λ x. HasServedAll g.H.Storage.IsIntact g.H.Storage.IsOpen g.H.Storage.seen g.H.Storage.left (option_map (λ s. s.now) c.args.secret) visits c.args.host.now x) (sym is.same) served,
+      at_err c.from_residual.result _ c.from_residual.ensures.0 (omega (arith, count, c.loop-served-test.true), (fault, is.which, logs_then _ _ _ (flat_map calls_of visits) fault log is.calls)),
     )
 
 pub returns-clause-listened : goal.returns-clause-listened
 returns-clause-listened g c =
-    let (rows, count, log, served) = c.loop-served.invariant.listened in
-    (rows, served, (omega (arith, count, c.loop-served-test.false, c.loop-served.auto.served-end), log))
+    let (visits, count, log, served) = c.loop-served.invariant.listened in
+    (visits, served, (omega (arith, count, c.loop-served-test.false, c.loop-served.auto.served-end), log))
 
 pub returns-in_err-serve_next-clause-leaves : goal.returns-in_err-serve_next-clause-leaves
 returns-in_err-serve_next-clause-leaves g c = λ intact.

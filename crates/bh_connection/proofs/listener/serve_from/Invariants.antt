@@ -1,9 +1,9 @@
-use Rattle.std.proofs.Common.{◌≡◌, List, length}
+use Rattle.std.proofs.Common.{◌≡◌, List, length, option_map}
 use Rattle.std.specs.List.{flat_map}
 use Rattle.bh_storage.specs.Calls.{Clean, LeavesSound, IsAtRest}
 use Rattle.bh_link.specs.Transfers.{Logs}
-use Rattle.bh_connection.specs.Each.{RanSome, Row}
-use Rattle.bh_connection.specs.Listening.{calls_of, HasServedRows}
+use Rattle.bh_connection.specs.Visits.{RanFor, Visit}
+use Rattle.bh_connection.specs.Listening.{calls_of, HasServedAll}
 use Rattle.bh_connection.proofs.listener.serve_from.Given as goal
 
 abbrev pub invariant-loop-served : goal.invariant-loop-served
@@ -13,7 +13,8 @@ invariant-loop-served g l = record {
   ready : Clean g.H.Storage.IsIntact g.H.Storage.IsOpen l.host → IsAtRest g.H.Storage.IsSound (g.H.Storage.seen l.host);
   limits : (g.H.Storage.seen l.host).limits ≡ (g.H.Storage.seen l.fn.host).limits;
   leaves : g.H.Storage.IsIntact l.host → LeavesSound g.H.Storage.IsSound g.H.Storage.left l.fn.host l.host;
-  ran : g.H.Storage.IsIntact l.host → RanSome g.H.Storage.IsOpen g.H.Storage.seen g.H.Storage.left l.fn.host l.host;
-  listened : (rows : List Row) × (length rows ≡ l.served) × Logs (g.A.Acceptor.calls l.fn.acceptor) (g.A.Acceptor.calls l.acceptor) (flat_map calls_of rows)
-      × HasServedRows g.H.Storage.IsIntact g.H.Storage.IsOpen g.H.Storage.seen g.H.Storage.left rows l.fn.host l.host;
+  operated : g.A.Acceptor.operated l.acceptor ≡ g.A.Acceptor.operated l.fn.acceptor;
+  ran : g.H.Storage.IsIntact l.host → RanFor (g.A.Acceptor.operated l.fn.acceptor) g.H.Storage.IsOpen g.H.Storage.seen g.H.Storage.left l.fn.host l.host;
+  listened : (visits : List Visit) × (length visits ≡ l.served) × Logs (g.A.Acceptor.calls l.fn.acceptor) (g.A.Acceptor.calls l.acceptor) (flat_map calls_of visits)
+      × HasServedAll g.H.Storage.IsIntact g.H.Storage.IsOpen g.H.Storage.seen g.H.Storage.left (option_map (λ s. s.now) l.fn.secret) visits l.fn.host l.host;
 }

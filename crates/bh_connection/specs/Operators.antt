@@ -1,0 +1,85 @@
+-- What becomes of an operator's connection, and of the host by it.
+use Rattle.std.specs.Prelude.{◌≡◌, ◌≤◌, ℕ, true, false, List, [], ◌∷◌, ◌++◌, codes, length, take, Option, Some, None}
+use Rattle.std.specs.Io.KnownBytes.{Appends, Consumes, Keeps}
+use Rattle.bh_event.specs.Events.{Arrival as Event}
+use Rattle.bh_tables.specs.Typed.{Tables}
+use Rattle.bh_storage.specs.Calls.{Seen}
+use Rattle.bh_host.specs.Replies.{wanting_text}
+use Rattle.bh_host.specs.Runs.{Told}
+use Rattle.bh_host.specs.declared.reply.Caller.TheVariants.{Operator}
+use Rattle.bh_link.specs.Taking.{all_of}
+use Rattle.bh_link.specs.Transfers.{Logs, Gives, Takes}
+use Rattle.bh_operator.specs.Orders.{ordered_by}
+use Rattle.bh_connection.specs.Connections.{Ends, EndsAs, IsApplied}
+use Rattle.bh_connection.specs.declared.served.End.TheVariants.{ReadFailed}
+use Rattle.bh_connection.specs.declared.served.Served.{Served}
+
+-- the reply to a line that orders nothing
+abbrev pub bad_line : List ℕ
+bad_line = codes "bad line"
+
+-- a reply is sent with a line feed
+abbrev pub line_text : List ℕ → List ℕ
+line_text reply = reply ++ 10 ∷ []
+
+-- what an operator's line came to: its reader failed; memory was wanting before it was known what it orders; it orders
+-- nothing; or what it orders was applied
+pub data Heard : Type 0 where
+  CutOff : Heard
+  NotHeard : Heard
+  NoOrder : Heard
+  Obeyed : (event : Event) (told : Told) → Heard
+
+-- ---- its ends
+
+-- the reader failed, at its last call: nothing is answered
+pub record IsCutOff (before after : Ends) (served : Served) : Type 0 where
+  pub taken : List ℕ
+  pub consumed : Consumes before.left after.left taken
+  pub short : length taken ≤ 16384
+  pub ended : served.ended ≡ ReadFailed
+  pub stamp : served.stamp ≡ None
+  pub sent : served.sent ≡ 0
+  pub out : Keeps before.held after.held
+  pub gave : Gives before.gave after.gave taken true
+  pub took : Logs before.took after.took []
+  pub reader : after.reader_failed ≡ true
+  pub writer : after.writer_failed ≡ false
+
+-- no call of the reader failed, and these bytes were taken; the bytes out are the first ones of the reply's line, and all of
+-- them unless a call of the writer failed or took none of some bytes
+pub record IsReplied (before after : Ends) (served : Served) (taken : List ℕ) (told : Told) : Type 0 where
+  pub consumed : Consumes before.left after.left taken
+  pub short : length taken ≤ 16384
+  pub stamp : served.stamp ≡ told.0
+  pub out : Appends before.held after.held (take served.sent (line_text told.1))
+  pub ended : EndsAs served.ended served.sent (line_text told.1) after.writer_failed
+  pub gave : Gives before.gave after.gave taken false
+  pub took : Takes before.took after.took (take served.sent (line_text told.1)) after.writer_failed
+  pub reader : after.reader_failed ≡ false
+
+-- all the bytes that its reader would give order this, or nothing, under the secret if there is one
+pub record IsHeard (secret : Option (List ℕ)) (before after : Ends) (served : Served) (order : Option Event) (told : Told) : Type 0 where
+  pub taken : List ℕ
+  pub replied : IsReplied before after served taken told
+  pub is : order ≡ ordered_by secret before.reading (all_of before.left taken)
+
+abbrev pub Hears : Option (List ℕ) → Ends → Ends → Served → Heard → Type 0
+Hears secret before after served CutOff = IsCutOff before after served
+Hears secret before after served NotHeard = (taken : List ℕ) × IsReplied before after served taken (None, wanting_text Operator)
+Hears secret before after served NoOrder = IsHeard secret before after served None (None, bad_line)
+Hears secret before after served (Obeyed event told) = IsHeard secret before after served (Some event) told
+
+-- ---- its host
+
+-- it stays unless a line orders something, and then that is applied
+abbrev pub Obeys : {H : Type 0} → (H → Type 0) → (H → Type 0) → (H → Seen) → (H → Tables → Type 0) → Heard → H → H → Type 0
+Obeys IsIntact IsOpen seen left CutOff old new = new ≡ old
+Obeys IsIntact IsOpen seen left NotHeard old new = new ≡ old
+Obeys IsIntact IsOpen seen left NoOrder old new = new ≡ old
+Obeys IsIntact IsOpen seen left (Obeyed event told) old new = IsApplied IsIntact IsOpen seen left event told old new
+
+pub record WasOrdered {H : Type 0} (IsIntact IsOpen : H → Type 0) (seen : H → Seen) (left : H → Tables → Type 0) (secret : Option (List ℕ)) (before after : Ends) (served : Served) (old new : H) : Type 0 where
+  pub heard : Heard
+  pub hears : Hears secret before after served heard
+  pub obeys : Obeys IsIntact IsOpen seen left heard old new

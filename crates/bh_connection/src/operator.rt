@@ -1,0 +1,112 @@
+ghost use Rattle.std.specs.Prelude.{◌≡◌, ◌≤◌, ◌<◌, ◌+◌, ◌↔◌, length, take, false, option_map, IfSome, IsTrue};
+ghost use Rattle.std.specs.Io.KnownBytes.{Appends};
+ghost use Rattle.bh_storage.specs.Calls.{Clean, LeavesSound, IsAtRest};
+ghost use Rattle.bh_tables.specs.Typed.{Tables};
+ghost use Rattle.bh_link.specs.Transfers.{Takes};
+ghost use Rattle.bh_connection.specs.Connections.{ends_of, EndsAs};
+ghost use Rattle.bh_connection.specs.Operators.{line_text, WasOrdered};
+
+use crate::served::{End, Served};
+use bh_host::{Caller, Reply, apply};
+use bh_link::ends::{Sink, Source};
+use bh_link::link::Link;
+use bh_link::request::TakeError;
+use bh_operator::order::take_order;
+use bh_storage::error::Trouble;
+use bh_storage::storage::Storage;
+use bh_types::moment::Moment;
+use std::alloc::Global;
+
+/// What is answered to a line that orders nothing.
+const BAD_LINE: &[u8] = b"bad line";
+
+/// Serves one connection of an operator: takes its line, applies what it orders, and writes the reply and a line feed.
+///
+/// The line is read a byte at a time, and no byte after its line feed. What it orders, under the secret if there is one, is
+/// what [`bh_operator::order::order_of_line`] says, at the reading; one that orders nothing changes nothing and is answered
+/// `bad line`. What is done and answered of an order is what [`apply`] does and answers.
+pub fn serve_line<H: Storage, R: Source, W: Sink>(
+    alloc: Global,
+    host: &mut H,
+    secret: Option<&[u8]>,
+    reading: u64,
+    reader: &mut Link<R>,
+    writer: &mut Link<W>,
+) -> Served
+    requires rest { Clean H.IsIntact H.IsOpen host.old → IsAtRest H.IsSound (H.seen host.old) }
+    requires reads { reader.old.failed ≡ false }
+    requires writes { writer.old.failed ≡ false }
+    ensures intact { H.IsIntact host.new → H.IsIntact host.old }
+    ensures opened { H.IsIntact host.new → H.IsOpen host.new → H.IsOpen host.old }
+    ensures ready { Clean H.IsIntact H.IsOpen host.new → IsAtRest H.IsSound (H.seen host.new) }
+    ensures limits { (H.seen host.new).limits ≡ (H.seen host.old).limits }
+    ensures leaves { H.IsIntact host.new → LeavesSound H.IsSound H.left host.old host.new }
+    ensures ordered { WasOrdered H.IsIntact H.IsOpen H.seen H.left (option_map (λ s. s.now) secret.entry)
+        (ends_of R.remaining R.transfers W.contents W.transfers reading reader.old writer.old)
+        (ends_of R.remaining R.transfers W.contents W.transfers reading reader.new writer.new) result host.old host.new }
+    ensures untouched { result.ended ≡ End.ReadFailed → host.new ≡ host.old }
+    ensures acknowledged { IfSome result.stamp (λ _. H.IsIntact host.new
+        → (x : Tables) → H.left host.new x → x ≡ (H.seen host.new).now) }
+{
+    match take_order(alloc, secret, reading, reader) {
+        Ok(Some(event)) => {
+            let told = apply(alloc, host, &event);
+            answer_line(writer, told.stamp, told.reply.bytes(), told.reply.trouble())
+        }
+        Ok(None) => answer_line(writer, None, BAD_LINE, None),
+        Err(TakeError::OutOfMemory) => {
+            let reply = Reply::Wanting(Caller::Operator, Trouble::Memory);
+            answer_line(writer, None, reply.bytes(), reply.trouble())
+        }
+        Err(TakeError::ReadFailed) => Served {
+            stamp: None,
+            sent: 0,
+            ended: End::ReadFailed,
+            trouble: None,
+        },
+    }
+}
+
+/// Writes a reply and a line feed.
+fn answer_line<W: Sink>(
+    writer: &mut Link<W>,
+    stamp: Option<Moment>,
+    reply: &[u8],
+    trouble: Option<Trouble>,
+) -> Served
+    requires { writer.old.failed ≡ false }
+    ensures stamp { result.stamp ≡ stamp }
+    ensures out { Appends (W.contents writer.old.inner) (W.contents writer.new.inner) (take result.sent (line_text reply.now)) }
+    ensures took { Takes (W.transfers writer.old.inner) (W.transfers writer.new.inner)
+        (take result.sent (line_text reply.now)) writer.new.failed }
+    ensures ended { EndsAs result.ended result.sent (line_text reply.now) writer.new.failed }
+{
+    let sent = send_line(writer, reply);
+    let ended = if writer.failed() {
+        End::WriteFailed
+    } else {
+        End::Whole
+    };
+    Served {
+        stamp,
+        sent,
+        ended,
+        trouble,
+    }
+}
+
+/// Writes a reply and a line feed, and says how many bytes went out before the sink failed or took none.
+fn send_line<W: Sink>(writer: &mut Link<W>, reply: &[u8]) -> u64
+    requires { writer.old.failed ≡ false }
+    ensures within { result ≤ length reply.now + 1 }
+    ensures out { Appends (W.contents writer.old.inner) (W.contents writer.new.inner) (take result (line_text reply.now)) }
+    ensures took { Takes (W.transfers writer.old.inner) (W.transfers writer.new.inner)
+        (take result (line_text reply.now)) writer.new.failed }
+    ensures failed { IsTrue writer.new.failed ↔ (result < length reply.now + 1) }
+{
+    let sent = writer.send(reply);
+    if sent < reply.len() {
+        return sent as u64;
+    }
+    sent as u64 + writer.send(b"\n") as u64
+}

@@ -1,0 +1,5 @@
+//! The line that an operator sends to a host that serves, and what it orders.
+#![tactic(auto)]
+
+pub mod line;
+pub mod order;

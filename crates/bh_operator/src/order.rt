@@ -1,0 +1,142 @@
+//! What a line orders.
+ghost use Rattle.std.specs.Prelude.{◌≡◌, ◌<◌, ◌==◌, ◌++◌, ℕ, List, codes, false, length, position, vec_items, IfOk, IfErr, IfSome, OnOk, option_map, option_and_then};
+ghost use Rattle.bh_event.specs.Events.{arrival};
+ghost use Rattle.bh_link.specs.Taking.{is_fault};
+ghost use Rattle.bh_link.specs.Transfers.{Gives};
+ghost use Rattle.bh_operator.specs.Lines.{TookPart};
+ghost use Rattle.bh_operator.specs.Orders as spec;
+
+use crate::line::take_line;
+use bh_event::event::Event;
+use bh_event::line::read_line;
+use bh_link::ends::Source;
+use bh_link::link::Link;
+use bh_link::request::TakeError;
+use std::alloc::{AllocError, Global};
+
+/// The `at` that is put into an object that has none. It doesn't count.
+const AT: &[u8] = b"\"at\":0,";
+
+/// Takes a line, as [`take_line`] does, and gives the event that it orders at a reading of the clock, as [`order_of_line`]
+/// says; none where no line comes.
+pub fn take_order<R: Source>(
+    alloc: Global,
+    secret: Option<&[u8]>,
+    reading: u64,
+    reader: &mut Link<R>,
+) -> Result<Option<Event>, TakeError>
+    requires { reader.old.failed ≡ false }
+    ensures took { IfOk result (λ order. (taken : List ℕ)
+        × spec.TookOrder (option_map (λ s. s.now) secret.entry) reading (R.remaining reader.old.inner) (R.remaining reader.new.inner)
+        taken (option_map arrival order)
+        × Gives (R.transfers reader.old.inner) (R.transfers reader.new.inner) taken false) }
+    ensures going { OnOk result (reader.new.failed ≡ false) }
+    ensures within { IfErr result (λ _. (taken : List ℕ)
+        × TookPart (R.remaining reader.old.inner) (R.remaining reader.new.inner) taken
+        × Gives (R.transfers reader.old.inner) (R.transfers reader.new.inner) taken reader.new.failed) }
+    ensures failed { IfErr result (λ e. reader.new.failed ≡ is_fault e) }
+{
+    match take_line(alloc, reader)? {
+        Some(line) => Ok(order_of_line(alloc, secret, reading, line.as_slice())?),
+        None => Ok(None),
+    }
+}
+
+/// The event that a line orders at a reading of the clock, in seconds since 1970; none where it isn't an order. Where there
+/// is a secret the line begins with it and a space. Then comes a JSON object (RFC 8259) as a line of a script has: its `at`
+/// may be missing and doesn't count, and it is no request.
+pub fn order_of_line(
+    alloc: Global,
+    secret: Option<&[u8]>,
+    reading: u64,
+    line: &[u8],
+) -> Result<Option<Event>, AllocError>
+    ensures { IfOk result (λ found. option_map arrival found
+        ≡ option_and_then (spec.order_told reading) (spec.admitted (option_map (λ s. s.now) secret.entry) line.now)) }
+{
+    let Some(object) = admitted(secret, line) else {
+        return Ok(None);
+    };
+    match told_with_at(alloc, object)? {
+        Some(event) => Ok(order_at(reading, event)),
+        None => Ok(None),
+    }
+}
+
+/// What follows the secret, if there is one.
+fn admitted<'a>(secret: Option<&[u8]>, line: &'a [u8]) -> Option<&'a [u8]>
+    ensures { option_map (λ s. s.now) result ≡ spec.admitted (option_map (λ s. s.now) secret.entry) line.now }
+{
+    match secret {
+        Some(secret) => after_word(secret, line),
+        None => Some(line),
+    }
+}
+
+/// What follows a word and a space.
+fn after_word<'a>(word: &[u8], line: &'a [u8]) -> Option<&'a [u8]>
+    ensures { option_map (λ s. s.now) result ≡ spec.after_word word.now line.now }
+{
+    after(b" ", after(word, line)?)
+}
+
+/// What follows a text at the front of a line.
+fn after<'a>(text: &[u8], line: &'a [u8]) -> Option<&'a [u8]>
+    ensures { option_map (λ s. s.now) result ≡ spec.after text.now line.now }
+{
+    line.strip_prefix(text)
+}
+
+/// The event that a line tells, with its `at` or with one put there.
+fn told_with_at(alloc: Global, line: &[u8]) -> Result<Option<Event>, AllocError>
+    ensures { IfOk result (λ found. option_map arrival found ≡ spec.told_with_at line.now) }
+{
+    if let Some(event) = read_line(alloc, line)? {
+        return Ok(Some(event));
+    }
+    match with_at(alloc, line)? {
+        Some(text) => read_line(alloc, text.as_slice()),
+        None => Ok(None),
+    }
+}
+
+/// A line with an `at` put after its first brace, if it has one.
+fn with_at(alloc: Global, line: &[u8]) -> Result<Option<Vec<u8>>, AllocError>
+    ensures { IfOk result (λ text. option_map vec_items text ≡ spec.with_at line.now) }
+{
+    let Some(brace) = brace_in(line) else {
+        return Ok(None);
+    };
+    let text = put_at(alloc, &line[..brace + 1], &line[brace + 1..])?;
+    Ok(Some(text))
+}
+
+/// Where the first brace stands.
+fn brace_in(line: &[u8]) -> Option<usize>
+    ensures place { result ≡ position (λ b. b == 123) line.now }
+    ensures within { IfSome result (λ at. at < length line.now) }
+{
+    line.iter().position(|b| *b == b'{')
+}
+
+/// An `at` between two texts.
+fn put_at(alloc: Global, before: &[u8], rest: &[u8]) -> Result<Vec<u8>, AllocError>
+    ensures { IfOk result (λ text. text.items ≡ before.now ++ (codes "\"at\":0," ++ rest.now)) }
+{
+    let mut text = Vec::from_slice(alloc, before)?;
+    text.extend_from_slice(AT)?;
+    text.extend_from_slice(rest)?;
+    Ok(text)
+}
+
+/// An event at another reading, unless it is a request.
+fn order_at(reading: u64, told: Event) -> Option<Event>
+    ensures { option_map arrival result ≡ spec.order_at reading (arrival told) }
+{
+    match told {
+        Event::Http { .. } => None,
+        Event::Operator { command, .. } => Some(Event::Operator { reading, command }),
+        Event::Sweep { limit, .. } => Some(Event::Sweep { reading, limit }),
+        Event::Report { .. } => Some(Event::Report { reading }),
+    }
+}
