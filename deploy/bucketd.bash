@@ -11,12 +11,12 @@ _bucketd() {
     fi
     if [ "$COMP_CWORD" -gt 1 ]; then
         case $before in
-        --file)
+        --file | --to | --operator-secret-file | --secret-file)
             compopt -o filenames 2>/dev/null
             mapfile -t COMPREPLY < <(compgen -f -- "$word")
             return
             ;;
-        --at | --block-size | --cache-blocks | --clock-leap | --count | --digest | --limit | --max-body | --min-part | --name | --port | --quota | --secret | --tenant | --timeout)
+        --at | --block-size | --cache-blocks | --clock-leap | --count | --digest | --limit | --max-body | --min-part | --name | --operator-port | --port | --quota | --secret | --tenant | --timeout)
             return
             ;;
         esac
@@ -29,16 +29,19 @@ _bucketd() {
         key-remove) words=" --file --tenant --name --at --clock-leap --force --help " ;;
         usage) words=" --file --tenant --at --clock-leap --force --help " ;;
         report) words=" --file --at --clock-leap --force --help " ;;
+        check) words=" --file --help " ;;
         sweep) words=" --file --limit --at --clock-leap --force --help " ;;
-        serve) words=" --file --port --count --log --timeout --clock-leap --force --block-size --cache-blocks --help " ;;
-        help) [ "$COMP_CWORD" -gt 2 ] || words=" script init tenant-add quota key-add key-remove usage report sweep serve " ;;
+        backup) words=" --file --to --help " ;;
+        serve) words=" --file --port --count --log --timeout --clock-leap --force --block-size --cache-blocks --operator-port --operator-secret-file --help " ;;
+        tell) words=" --port --secret-file --help " ;;
+        help) [ "$COMP_CWORD" -gt 2 ] || words=" script init tenant-add quota key-add key-remove usage report check sweep backup serve tell " ;;
         esac
         # No option comes twice.
         for option in "${COMP_WORDS[@]:2:COMP_CWORD - 2}"; do
             words=${words/ $option / }
         done
     else
-        words=" script init tenant-add quota key-add key-remove usage report sweep serve help --help --version "
+        words=" script init tenant-add quota key-add key-remove usage report check sweep backup serve tell help --help --version "
     fi
     mapfile -t COMPREPLY < <(compgen -W "$words" -- "$word")
 }

@@ -2,3 +2,5 @@ mod Endings
 mod Found
 mod Printing
 mod Refused
+mod Saved
+mod Verdicts

@@ -1,16 +1,18 @@
 -- What is done on a host, and what is printed of it.
-use Rattle.std.specs.Prelude.{◌≡◌, ℕ, List, [], codes}
+use Rattle.std.specs.Prelude.{◌≡◌, ℕ, List, [], Option, is_some, option_and_then, codes}
 use Rattle.bh_types.specs.declared.refusal.Refusal.{Refusal}
 use Rattle.bh_event.specs.Events.{Arrival, Message, Ordered, SweepOrdered, ReportOrdered, order_of}
 use Rattle.bh_tables.specs.Typed.{Tables}
 use Rattle.bh_storage.specs.Calls.{Seen, Clean, IsAtRest}
 use Rattle.bh_host.specs.Runs.{Told}
 use Rattle.bh_connection.specs.Connections.{IsApplied}
-use Rattle.bh_connection.specs.Each.{RanSome}
-use Rattle.bh_commands.specs.Printing.{line_of, status_of, refused_line}
+use Rattle.bh_connection.specs.Listening.{WasVisited}
+use Rattle.bh_connection.specs.Visits.{RanFor}
+use Rattle.bh_commands.specs.Printing.{line_of, status_of, status_told, refused_line}
 use Rattle.bh_commands.specs.declared.printed.Printed.{Printed}
 use Rattle.bh_commands.specs.declared.task.Task.{Task}
 use Rattle.bh_commands.specs.declared.task.Task.TheVariants as task
+use Rattle.bh_commands.specs.declared.asked.Serving.{Serving}
 use Rattle.bh_commands.specs.declared.asked.Work.{Work}
 use Rattle.bh_commands.specs.declared.asked.Work.TheVariants as work
 
@@ -40,10 +42,19 @@ pub record IsFault (printed : Printed) : Type 0 where
   pub text : printed.text.items ≡ line_of (codes "fault")
   pub status : printed.status ≡ 1
 
+-- a host's reply to a line that was sent to it, and status 1 where it is a refusal or `bad line`
+pub record IsReply (reply : List ℕ) (printed : Printed) : Type 0 where
+  pub text : printed.text.items ≡ line_of reply
+  pub status : printed.status ≡ status_told reply
+
 -- no byte, and status 0
 pub record IsNothing (printed : Printed) : Type 0 where
   pub text : printed.text.items ≡ []
   pub status : printed.status ≡ 0
+
+-- the secret of operators, if they come and have one
+abbrev pub secret_in : Serving → Option (List ℕ)
+secret_in serving = option_and_then (λ o. o.secret) serving.operator
 
 -- ---- what is done on a storage
 
@@ -63,12 +74,13 @@ module _ {H : Type 0} (IsIntact IsOpen : H → Type 0) (seen : H → Seen) (left
     pub line : IsLine told.1 printed
     pub kept : printed.status ≡ 0 → IsIntact new → (x : Tables) → left new x → x ≡ (seen new).now
 
-  -- some requests came in turn, and no other event; nothing is printed
-  pub record HasServed (old new : H) (printed : Printed) : Type 0 where
-    pub ran : IsIntact new → RanSome IsOpen seen left old new
+  -- some requests came in turn, and where operators may come their orders, and no other event; nothing is printed
+  pub record HasServed (serving : Serving) (old new : H) (printed : Printed) : Type 0 where
+    pub ran : IsIntact new → RanFor (is_some serving.operator) IsOpen seen left old new
+    pub visited : WasVisited IsIntact IsOpen seen left (secret_in serving) old new
     pub printed_is : IsNothing printed
 
   -- what was asked at a reading was done; connections have the machine's clock
   abbrev pub HasDone : Work → ℕ → H → H → Printed → Type 0
   HasDone (work.Command task) reading old new printed = IsTold (ordered_at reading (message_of task)) old new printed
-  HasDone (work.Serve serving) reading old new printed = HasServed old new printed
+  HasDone (work.Serve serving) reading old new printed = HasServed serving old new printed

@@ -1,3 +1,4 @@
+pub mod Backups
 pub mod Clocks
 pub mod Commands
 pub mod Endings
@@ -5,3 +6,4 @@ pub mod Files
 pub mod Input
 pub mod Printing
 pub mod Subcommands
+pub mod Checks

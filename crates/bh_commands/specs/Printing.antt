@@ -1,5 +1,6 @@
 -- What a subcommand prints, and its status.
-use Rattle.std.specs.Prelude.{ℕ, Bool, false, nat_le, ◌&&◌, List, [], ◌∷◌, ◌++◌, if◌then◌else◌}
+use Rattle.std.specs.Prelude.{ℕ, Bool, false, nat_le, ◌&&◌, List, [], ◌∷◌, ◌++◌, codes, if◌then◌else◌}
+use Rattle.std.specs.Str.{bytes_eq}
 use Rattle.bh_types.specs.declared.refusal.Refusal.{Refusal}
 use Rattle.bh_http.specs.Responses.{refusal_text}
 
@@ -15,6 +16,10 @@ is_refusal (b ∷ text) = nat_le 48 b && nat_le b 57
 -- 1 where the reply is a refusal
 abbrev pub status_of : List ℕ → ℕ
 status_of text = if is_refusal text then 1 else 0
+
+-- so for a line that a host that serves didn't take
+abbrev pub status_told : List ℕ → ℕ
+status_told text = if bytes_eq text (codes "bad line") then 1 else status_of text
 
 -- what a refusal prints
 abbrev pub refused_line : Refusal → List ℕ

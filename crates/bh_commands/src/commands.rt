@@ -30,17 +30,17 @@ pub fn apply_command<H: Storage>(
     Ok(printed)
 }
 
-/// Serves connections by the machine's clock, and prints nothing.
+/// Serves connections, and operators' lines where they are taken, by the machine's clock, and prints nothing.
 fn serve<H: Storage>(rt: &HostRuntime, host: &mut H, serving: Serving) -> Result<Printed, Fault>
     requires { Clean H.IsIntact H.IsOpen host.old → IsAtRest H.IsSound (H.seen host.old) }
     ensures stays { StaysReady H.IsIntact H.IsOpen H.IsSound H.seen host.old host.new }
-    ensures done { IfOk result (HasServed H.IsIntact H.IsOpen H.seen H.left host.old host.new) }
+    ensures done { IfOk result (HasServed H.IsIntact H.IsOpen H.seen H.left serving host.old host.new) }
 {
     serve_port(
         rt,
         host,
         &MachineClock(rt),
-        serving.port,
+        serving.ports(),
         serving.manner,
         serving.count.unwrap_or(u64::MAX),
     )?;

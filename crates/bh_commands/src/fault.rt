@@ -1,3 +1,5 @@
+use crate::secrets::SecretFault;
+use bh_backup::BackupFault;
 use bh_file::OpenFault;
 use bh_script::error::ScriptError;
 use std::alloc::{AllocError, Global};
@@ -10,6 +12,8 @@ pub enum Fault {
     Memory,
     /// The file of this path isn't opened as a database.
     Unopened { path: String, reason: OpenFault },
+    /// No backup is made under this path.
+    Unsaved { path: String, reason: BackupFault },
     /// The clock or standard input can't be read, or standard output not be written.
     System(io::Error),
     /// Standard input has more bytes than a script may have.
@@ -18,18 +22,40 @@ pub enum Fault {
     UnknownDigest,
     /// A write of a script's answers failed, or took none of some bytes.
     Output,
+    /// The file of this path gives no operator's secret.
+    Secret { path: String, reason: SecretFault },
+    /// A file of an operator's secret was named, and no port for operators.
+    NoOperatorPort,
+    /// A host that was told a line closed the connection before it had answered.
+    NoReply,
 }
 
 impl Fault {
     /// Whether the words are at fault, as those that the command line refuses are.
     pub fn is_in_words(&self) -> bool {
-        matches!(self, Fault::UnknownDigest)
+        matches!(self, Fault::UnknownDigest | Fault::NoOperatorPort)
     }
 
     /// That the file of a path isn't opened.
     pub(crate) fn unopened(alloc: Global, path: &str, reason: OpenFault) -> Fault {
         match String::from_str(alloc, path) {
             Ok(path) => Fault::Unopened { path, reason },
+            Err(_) => Fault::Memory,
+        }
+    }
+
+    /// That no backup is made under a path.
+    pub(crate) fn unsaved(alloc: Global, path: &str, reason: BackupFault) -> Fault {
+        match String::from_str(alloc, path) {
+            Ok(path) => Fault::Unsaved { path, reason },
+            Err(_) => Fault::Memory,
+        }
+    }
+
+    /// That the file of a path gives no secret.
+    pub(crate) fn secret(alloc: Global, path: &str, reason: SecretFault) -> Fault {
+        match String::from_str(alloc, path) {
+            Ok(path) => Fault::Secret { path, reason },
             Err(_) => Fault::Memory,
         }
     }
@@ -61,12 +87,18 @@ impl fmt::Display for Fault {
         match self {
             Fault::Memory => f.write_str("out of memory"),
             Fault::Unopened { path, reason } => write!(f, "unable to open {path}: {reason}"),
+            Fault::Unsaved { path, reason } => write!(f, "no backup in {path}: {reason}"),
             Fault::System(error) => write!(f, "{error}"),
             Fault::LongInput => f.write_str("standard input is too long"),
             Fault::UnknownDigest => f.write_str(
                 "error: invalid value for '--digest <digest>'\n  [possible values: sha256, fast]\n\nFor more information, try '--help'.\n",
             ),
             Fault::Output => f.write_str("standard output can't be written"),
+            Fault::Secret { path, reason } => write!(f, "no secret in {path}: {reason}"),
+            Fault::NoOperatorPort => f.write_str(
+                "error: '--operator-secret-file <operator-secret-file>' needs '--operator-port <operator-port>'\n\nFor more information, try '--help'.\n",
+            ),
+            Fault::NoReply => f.write_str("the host closed the connection without a reply"),
         }
     }
 }

@@ -28,7 +28,7 @@ use std::io::ErrorKind;
 use std::{fs, io};
 
 /// Whether a path names nothing, or a file of no bytes. Such a file holds no host, and stays as it is.
-fn is_blank(rt: &HostRuntime, path: &str) -> io::Result<bool> {
+pub(crate) fn is_blank(rt: &HostRuntime, path: &str) -> io::Result<bool> {
     match fs::metadata(rt, path) {
         Ok(data) if data.is_file() && data.len() == 0 => {
             tell(rt, path, &Remark::EmptyFile);
@@ -44,7 +44,7 @@ fn is_blank(rt: &HostRuntime, path: &str) -> io::Result<bool> {
 }
 
 /// What is printed where there is no host.
-fn without_files<D: Disk + Drop>(alloc: Global) -> Result<Ended<D>, AllocError>
+pub(crate) fn without_files<D: Disk + Drop>(alloc: Global) -> Result<Ended<D>, AllocError>
     ensures { IfOk result (λ ended. (ended.files ≡ None) × IsRefusal refusal.NotAHostFile ended.printed) }
 {
     Ok(Ended {
@@ -69,7 +69,11 @@ fn on_files<D: Disk + Drop>(
 }
 
 /// Opens files, or makes them. A fault names the path.
-fn open<S: Start>(rt: &HostRuntime, path: &str, start: S) -> Result<FileConnection<S>, Fault>
+pub(crate) fn open<S: Start>(
+    rt: &HostRuntime,
+    path: &str,
+    start: S,
+) -> Result<FileConnection<S>, Fault>
     ensures { IfOk result (λ connection. IsOpenedOn (image_at S.Start) (file_state connection)) }
 {
     match bh_file::open_file(rt, path, start) {

@@ -31,7 +31,7 @@ use sqlite::{Alter, Connection, Error};
 use std::alloc::{AllocError, Global};
 
 /// A refusal of what the connection shows, which stays.
-fn refused<S: Alter + Drop>(
+pub(crate) fn refused<S: Alter + Drop>(
     alloc: Global,
     connection: Connection<S>,
     refusal: Refusal,
@@ -62,7 +62,7 @@ fn why_not_made<S: Alter>(
 }
 
 /// Why no host was found in a database.
-fn why_not_found(why: Option<NoHost>, cause: Option<Error>) -> Remark {
+pub(crate) fn why_not_found(why: Option<NoHost>, cause: Option<Error>) -> Remark {
     match cause {
         Some(error) => Remark::Trouble(error),
         None => Remark::NoHost(why.unwrap_or(NoHost::NoRow)),

@@ -93,7 +93,7 @@ fn first_line(alloc: Global, bytes: &[u8]) -> Result<Vec<u8>, AllocError>
 
 /// The secret that some bytes tell: their first line. Of one that isn't UTF-8 (RFC 3629) it is empty, which is no
 /// secret.
-fn secret_in(alloc: Global, bytes: &[u8]) -> Result<String, AllocError>
+pub(crate) fn secret_in(alloc: Global, bytes: &[u8]) -> Result<String, AllocError>
     ensures { IfOk result (λ secret. spec.IsSecretIn bytes.now (string_bytes secret)) }
 {
     match String::from_utf8(first_line(alloc, bytes)?) {

@@ -1,9 +1,13 @@
-use crate::asked::{Serving, Work};
+use crate::asked::{OperatorServing, Serving, Work};
+use crate::backups::backup_file;
+use crate::checks::check_file;
 use crate::fault::Fault;
 use crate::files::{init_file, work_in_file};
 use crate::input::{answer_input, secret_of};
 use crate::printed::Printed;
+use crate::secrets::operator_secret;
 use crate::task::Task;
+use crate::telling::tell;
 use bh_connection::Manner;
 use bh_event::event::Command;
 use bh_types::block_digest::BlockDigest;
@@ -35,9 +39,12 @@ pub fn carry_out(rt: &HostRuntime, line: Line) -> Result<Printed, Fault> {
             timeout,
             leap,
             tuning,
+            operator_port,
+            operator_secret_file,
         } => {
             let work = Work::Serve(Serving {
                 port,
+                operator: operator_of(rt, operator_port, operator_secret_file)?,
                 count,
                 manner: Manner {
                     timeout,
@@ -47,6 +54,12 @@ pub fn carry_out(rt: &HostRuntime, line: Line) -> Result<Printed, Fault> {
             let clock = ClockGiven { at: None, leap };
             return work_in(rt, file.as_str(), tuning, clock, work);
         }
+        Line::Backup { file, to } => return back_up_in(rt, file.as_str(), to.as_str()),
+        Line::Tell {
+            port,
+            secret_file,
+            order,
+        } => return tell(rt, port, secret_file, order),
         Line::TenantAdd {
             file,
             tenant,
@@ -83,6 +96,7 @@ pub fn carry_out(rt: &HostRuntime, line: Line) -> Result<Printed, Fault> {
         } => (file, clock, Task::from(Command::Usage { tenant })),
         Line::Sweep { file, limit, clock } => (file, clock, Task::Sweep { limit }),
         Line::Report { file, clock } => (file, clock, Task::Report),
+        Line::Check { file } => return check_in(rt, file.as_str()),
     };
     work_in(
         rt,
@@ -98,6 +112,23 @@ fn known(digest: Option<BlockDigest>) -> Result<BlockDigest, Fault> {
     match digest {
         Some(digest) => Ok(digest),
         None => Err(Fault::UnknownDigest),
+    }
+}
+
+/// Where operators come. A secret is read before a file is opened, so that no other process waits for it.
+fn operator_of(
+    rt: &HostRuntime,
+    port: Option<u16>,
+    secret_file: Option<String>,
+) -> Result<Option<OperatorServing>, Fault> {
+    match (port, secret_file) {
+        (None, None) => Ok(None),
+        (None, Some(_)) => Err(Fault::NoOperatorPort),
+        (Some(port), None) => Ok(Some(OperatorServing { port, secret: None })),
+        (Some(port), Some(path)) => {
+            let secret = Some(operator_secret(rt, path.as_str())?);
+            Ok(Some(OperatorServing { port, secret }))
+        }
     }
 }
 
@@ -124,6 +155,16 @@ fn make_in(
     digest: BlockDigest,
 ) -> Result<Printed, Fault> {
     Ok(init_file(rt, path, Wary, limits, digest)?.into_printed())
+}
+
+/// Copies the host of a file to a new one. Of the contents of neither is anything said.
+fn back_up_in(rt: &HostRuntime, path: &str, to: &str) -> Result<Printed, Fault> {
+    Ok(backup_file(rt, path, Wary, to, Wary)?.into_printed())
+}
+
+/// Checks the host of a file, of whose contents nothing is said.
+fn check_in(rt: &HostRuntime, path: &str) -> Result<Printed, Fault> {
+    Ok(check_file(rt, path, Wary)?.into_printed())
 }
 
 /// Does what is asked of the host of a file, of whose contents nothing is said.

@@ -1,6 +1,6 @@
 ghost use Rattle.std.specs.Prelude.{◌≡◌, IfOk};
 ghost use Rattle.bh_host.specs.Replies.{reply_bytes};
-ghost use Rattle.bh_commands.specs.Commands.{IsFault, IsLine, IsNothing, IsRefusal};
+ghost use Rattle.bh_commands.specs.Commands.{IsFault, IsLine, IsNothing, IsRefusal, IsReply};
 ghost use Rattle.bh_commands.specs.Printing as spec;
 
 use bh_host::Reply;
@@ -61,6 +61,17 @@ impl Printed {
         let mut printed = Printed::line(alloc, b"fault")?;
         printed.status = 1;
         Ok(printed)
+    }
+
+    /// A reply of a host that serves to a line.
+    pub fn told(alloc: Global, reply: &[u8]) -> Result<Printed, AllocError>
+        ensures { IfOk result (IsReply reply.now) }
+    {
+        let Printed { text, status } = Printed::line(alloc, reply)?;
+        if reply == b"bad line".as_slice() {
+            return Ok(Printed { text, status: 1 });
+        }
+        Ok(Printed { text, status })
     }
 
     /// A reply to an operator.

@@ -1,9 +1,11 @@
 //! What an operator is told on standard error, beside the line that is printed.
 
 use crate::clocks::DAY;
+use bh_check::watch::Stage;
 use bh_open::NoHost;
 use jiff::Timestamp;
 use sqlite::Error;
+use sqlite_trees::error::StoreError;
 use std::fmt;
 
 /// A second since 1970, as RFC 3339 (section 5.6) writes it in UTC.
@@ -61,6 +63,10 @@ pub(crate) enum Remark {
     Leaps(Ahead),
     /// The last stamp, in seconds since 1970; 0 where there was none.
     LastStamp(u64),
+    /// A check has come so far.
+    Checking(Stage),
+    /// Its rows can't be read.
+    Unread(StoreError),
 }
 
 fn write_no_host<W: fmt::Write>(why: NoHost, f: &mut fmt::Formatter<W>) -> fmt::Result {
@@ -96,6 +102,8 @@ impl fmt::Display for Remark {
             Remark::Leaps(ahead) => write!(f, "{ahead}"),
             Remark::LastStamp(0) => f.write_str("the host has no stamp yet"),
             Remark::LastStamp(latest) => write!(f, "the host's last stamp is {}", Second(*latest)),
+            Remark::Checking(stage) => write!(f, "{stage}"),
+            Remark::Unread(error) => write!(f, "{error}"),
         }
     }
 }

@@ -33,8 +33,11 @@ leaf-fine subcommand.KeyAdd = record { fine = ((refl, inl (refl, refl), tt), ((r
 leaf-fine subcommand.KeyRemove = record { fine = ((refl, inl (refl, refl), tt), ((refl, inl (refl, refl), tt), ((refl, inl (refl, refl), tt), ((refl, inl (refl, refl), tt), ((refl, inl (refl, refl), tt), ((refl, inr (inl (refl, refl, refl)), tt), ((refl, inr (inr refl), tt), tt))))))); once = refl; negates = refl }
 leaf-fine subcommand.Usage = record { fine = ((refl, inl (refl, refl), tt), ((refl, inl (refl, refl), tt), ((refl, inl (refl, refl), tt), ((refl, inl (refl, refl), tt), ((refl, inr (inl (refl, refl, refl)), tt), ((refl, inr (inr refl), tt), tt)))))); once = refl; negates = refl }
 leaf-fine subcommand.Report = record { fine = ((refl, inl (refl, refl), tt), ((refl, inl (refl, refl), tt), ((refl, inl (refl, refl), tt), ((refl, inr (inl (refl, refl, refl)), tt), ((refl, inr (inr refl), tt), tt))))); once = refl; negates = refl }
+leaf-fine subcommand.Check = record { fine = ((refl, inl (refl, refl), tt), ((refl, inr (inr refl), tt), tt)); once = refl; negates = refl }
 leaf-fine subcommand.Sweep = record { fine = ((refl, inl (refl, refl), tt), ((refl, inl (refl, refl), tt), ((refl, inl (refl, refl), tt), ((refl, inl (refl, refl), tt), ((refl, inr (inl (refl, refl, refl)), tt), ((refl, inr (inr refl), tt), tt)))))); once = refl; negates = refl }
-leaf-fine subcommand.Serve = record { fine = ((refl, inl (refl, refl), tt), ((refl, inl (refl, refl), tt), ((refl, inl (refl, refl), tt), ((refl, inr (inl (refl, refl, refl)), tt), ((refl, inl (refl, refl), tt), ((refl, inl (refl, refl), tt), ((refl, inr (inl (refl, refl, refl)), tt), ((refl, inl (refl, refl), tt), ((refl, inl (refl, refl), tt), ((refl, inr (inr refl), tt), tt)))))))))); once = refl; negates = refl }
+leaf-fine subcommand.Backup = record { fine = ((refl, inl (refl, refl), tt), ((refl, inl (refl, refl), tt), ((refl, inr (inr refl), tt), tt))); once = refl; negates = refl }
+leaf-fine subcommand.Serve = record { fine = ((refl, inl (refl, refl), tt), ((refl, inl (refl, refl), tt), ((refl, inl (refl, refl), tt), ((refl, inr (inl (refl, refl, refl)), tt), ((refl, inl (refl, refl), tt), ((refl, inl (refl, refl), tt), ((refl, inr (inl (refl, refl, refl)), tt), ((refl, inl (refl, refl), tt), ((refl, inl (refl, refl), tt), ((refl, inl (refl, refl), tt), ((refl, inl (refl, refl), tt), ((refl, inr (inr refl), tt), tt)))))))))))); once = refl; negates = refl }
+leaf-fine subcommand.Tell = record { fine = ((refl, inl (refl, refl), tt), ((refl, inl (refl, refl), tt), ((refl, inl (refl, refl), tt), ((refl, inr (inr refl), tt), tt)))); once = refl; negates = refl }
 
 limits-given : (rows : List Row) (v w : Text) (n m : ℕ) → first_of (codes "min-part") rows ≡ Some v → number_of 64 v ≡ Some n
     → first_of (codes "max-body") rows ≡ Some w → number_of 64 w ≡ Some m → n ≤ 2 ^ 30 → 1 ≤ m → m ≤ 2 ^ 30
@@ -150,6 +153,11 @@ leaf-told subcommand.Report words e =
     let leap = leap-given (rows_of_words subcommand.Report words) _ _ days.1 days_n.1 in
     let clock = clock-given (rows_of_words subcommand.Report words) _ leap in
     rw (file.1, clock) refl
+leaf-told subcommand.Check words e =
+    let fine = leaf-fine subcommand.Check in
+    let s = leaf subcommand.Check in
+    let file = required-value s words (codes "file") _ fine e refl refl in
+    rw file.1 refl
 leaf-told subcommand.Sweep words e =
     let fine = leaf-fine subcommand.Sweep in
     let s = leaf subcommand.Sweep in
@@ -161,6 +169,12 @@ leaf-told subcommand.Sweep words e =
     let leap = leap-given (rows_of_words subcommand.Sweep words) _ _ days.1 days_n.1 in
     let clock = clock-given (rows_of_words subcommand.Sweep words) _ leap in
     rw (file.1, limit.1, limit_n.1, clock) refl
+leaf-told subcommand.Backup words e =
+    let fine = leaf-fine subcommand.Backup in
+    let s = leaf subcommand.Backup in
+    let file = required-value s words (codes "file") _ fine e refl refl in
+    let to = required-value s words (codes "to") _ fine e refl refl in
+    rw (file.1, to.1) refl
 leaf-told subcommand.Serve words e =
     let fine = leaf-fine subcommand.Serve in
     let s = leaf subcommand.Serve in
@@ -178,3 +192,10 @@ leaf-told subcommand.Serve words e =
     let days_n = number_in 32 0 3_000_000 days.0 (omega arith) days.2 in
     let leap = leap-given (rows_of_words subcommand.Serve words) _ _ days.1 days_n.1 in
     rw (file.1, port.1, port_n.1, timeout.1, timeout_n.1, leap, tuning) refl
+leaf-told subcommand.Tell words e =
+    let fine = leaf-fine subcommand.Tell in
+    let s = leaf subcommand.Tell in
+    let port = required-value s words (codes "port") _ fine e refl refl in
+    let port_n = number_in 16 0 65_535 port.0 (omega arith) port.2 in
+    let order = required-value s words (codes "LINE") _ fine e refl refl in
+    rw (port.1, port_n.1, order.1) refl

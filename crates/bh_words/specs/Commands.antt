@@ -4,7 +4,7 @@ use Rattle.clap.specs.Words.{App, Shape, Text, with_rule, with_subcommand}
 use Rattle.clap.specs.Simple.{new_shape}
 use Rattle.bh_words.specs.Options.{rule}
 use Rattle.bh_words.specs.declared.options.OptionName.{OptionName}
-use Rattle.bh_words.specs.declared.options.OptionName.TheVariants.{File, Tenant, Name, Secret, Quota, At, ClockLeap, Force, Limit, Port, Count, Log, Timeout, MinPart, MaxBody, BlockSize, CacheBlocks, Digest}
+use Rattle.bh_words.specs.declared.options.OptionName.TheVariants.{File, To, Tenant, Name, Secret, Quota, At, ClockLeap, Force, Limit, Port, Count, Log, Timeout, MinPart, MaxBody, BlockSize, CacheBlocks, Digest, OperatorPort, OperatorSecretFile, SecretFile, Order}
 use Rattle.bh_words.specs.declared.subcommands.Subcommand.{Subcommand}
 use Rattle.bh_words.specs.declared.subcommands.Subcommand.TheVariants as subcommand
 
@@ -17,8 +17,11 @@ word subcommand.KeyAdd = codes "key-add"
 word subcommand.KeyRemove = codes "key-remove"
 word subcommand.Usage = codes "usage"
 word subcommand.Report = codes "report"
+word subcommand.Check = codes "check"
 word subcommand.Sweep = codes "sweep"
+word subcommand.Backup = codes "backup"
 word subcommand.Serve = codes "serve"
+word subcommand.Tell = codes "tell"
 
 -- each subcommand's options
 abbrev pub options : Subcommand → List OptionName
@@ -30,12 +33,15 @@ options subcommand.KeyAdd = File ∷ Tenant ∷ Name ∷ Secret ∷ At ∷ Clock
 options subcommand.KeyRemove = File ∷ Tenant ∷ Name ∷ At ∷ ClockLeap ∷ Force ∷ []
 options subcommand.Usage = File ∷ Tenant ∷ At ∷ ClockLeap ∷ Force ∷ []
 options subcommand.Report = File ∷ At ∷ ClockLeap ∷ Force ∷ []
+options subcommand.Check = File ∷ []
 options subcommand.Sweep = File ∷ Limit ∷ At ∷ ClockLeap ∷ Force ∷ []
-options subcommand.Serve = File ∷ Port ∷ Count ∷ Log ∷ Timeout ∷ ClockLeap ∷ Force ∷ BlockSize ∷ CacheBlocks ∷ []
+options subcommand.Backup = File ∷ To ∷ []
+options subcommand.Serve = File ∷ Port ∷ Count ∷ Log ∷ Timeout ∷ ClockLeap ∷ Force ∷ BlockSize ∷ CacheBlocks ∷ OperatorPort ∷ OperatorSecretFile ∷ []
+options subcommand.Tell = Port ∷ SecretFile ∷ Order ∷ []
 
 abbrev pub subcommands : List Subcommand
 subcommands = subcommand.Script ∷ subcommand.Init ∷ subcommand.TenantAdd ∷ subcommand.Quota ∷ subcommand.KeyAdd
-    ∷ subcommand.KeyRemove ∷ subcommand.Usage ∷ subcommand.Report ∷ subcommand.Sweep ∷ subcommand.Serve ∷ []
+    ∷ subcommand.KeyRemove ∷ subcommand.Usage ∷ subcommand.Report ∷ subcommand.Check ∷ subcommand.Sweep ∷ subcommand.Backup ∷ subcommand.Serve ∷ subcommand.Tell ∷ []
 
 -- a command of these options
 abbrev pub shape : Text → List OptionName → Shape

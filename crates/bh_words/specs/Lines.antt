@@ -1,5 +1,5 @@
 -- What a command line asks for, as contracts see it.
-use Rattle.std.specs.Prelude.{ℕ, Bool, List, Option}
+use Rattle.std.specs.Prelude.{ℕ, Bool, List, Option, option_map}
 use Rattle.std.specs.String.{string_bytes}
 use Rattle.bh_types.specs.Limits.{HostLimits, HostTuning}
 use Rattle.bh_types.specs.declared.block_digest.BlockDigest.{BlockDigest}
@@ -29,8 +29,12 @@ pub data CommandLine : Type 0 where
   KeyRemove : (file : Octets) (tenant : Octets) (name : Octets) (clock : ClockGiven) → CommandLine
   Usage : (file : Octets) (tenant : Octets) (clock : ClockGiven) → CommandLine
   Report : (file : Octets) (clock : ClockGiven) → CommandLine
+  Check : (file : Octets) → CommandLine
   Sweep : (file : Octets) (limit : ℕ) (clock : ClockGiven) → CommandLine
-  Serve : (file : Octets) (port : ℕ) (count : Option ℕ) (log : Bool) (timeout : ℕ) (leap : Leap) (tuning : HostTuning) → CommandLine
+  Backup : (file : Octets) (to : Octets) → CommandLine
+  Serve : (file : Octets) (port : ℕ) (count : Option ℕ) (log : Bool) (timeout : ℕ) (leap : Leap) (tuning : HostTuning) (operator_port : Option ℕ)
+      (operator_secret_file : Option Octets) → CommandLine
+  Tell : (port : ℕ) (secret_file : Option Octets) (order : Octets) → CommandLine
 
 abbrev pub secret : SecretGiven → Secret
 secret (given.Word text) = Written (string_bytes text)
@@ -45,5 +49,9 @@ command_line (line.KeyAdd file tenant name s clock) = KeyAdd (string_bytes file)
 command_line (line.KeyRemove file tenant name clock) = KeyRemove (string_bytes file) (string_bytes tenant) (string_bytes name) clock
 command_line (line.Usage file tenant clock) = Usage (string_bytes file) (string_bytes tenant) clock
 command_line (line.Report file clock) = Report (string_bytes file) clock
+command_line (line.Check file) = Check (string_bytes file)
 command_line (line.Sweep file limit clock) = Sweep (string_bytes file) limit clock
-command_line (line.Serve file port count log timeout leap tuning) = Serve (string_bytes file) port count log timeout leap tuning
+command_line (line.Backup file to) = Backup (string_bytes file) (string_bytes to)
+command_line (line.Serve file port count log timeout leap tuning operator secret) =
+    Serve (string_bytes file) port count log timeout leap tuning operator (option_map string_bytes secret)
+command_line (line.Tell port secret order) = Tell port (option_map string_bytes secret) (string_bytes order)

@@ -5,11 +5,12 @@ use Rattle.clap.specs.declared.builder.action.ArgAction.TheVariants.{SetTrue}
 use Rattle.clap.specs.declared.builder.value_parser.ValueParser.TheVariants.{Unsigned}
 use Rattle.bh_types.specs.Limits.{default_limits, default_tuning}
 use Rattle.bh_words.specs.declared.options.OptionName.{OptionName}
-use Rattle.bh_words.specs.declared.options.OptionName.TheVariants.{File, Tenant, Name, Secret, Quota, At, ClockLeap, Force, Limit, Port, Count, Log, Timeout, MinPart, MaxBody, BlockSize, CacheBlocks, Digest}
+use Rattle.bh_words.specs.declared.options.OptionName.TheVariants.{File, To, Tenant, Name, Secret, Quota, At, ClockLeap, Force, Limit, Port, Count, Log, Timeout, MinPart, MaxBody, BlockSize, CacheBlocks, Digest, OperatorPort, OperatorSecretFile, SecretFile, Order}
 
 -- an option is written `--word value` or `--word=value`
 abbrev pub word : OptionName → Text
 word File = codes "file"
+word To = codes "to"
 word Tenant = codes "tenant"
 word Name = codes "name"
 word Secret = codes "secret"
@@ -27,6 +28,10 @@ word MaxBody = codes "max-body"
 word BlockSize = codes "block-size"
 word CacheBlocks = codes "cache-blocks"
 word Digest = codes "digest"
+word OperatorPort = codes "operator-port"
+word OperatorSecretFile = codes "operator-secret-file"
+word SecretFile = codes "secret-file"
+word Order = codes "LINE"
 
 abbrev pub described : OptionName → Rule
 described o = record (new_rule (word o)) { long = Some (word o) }
@@ -34,6 +39,10 @@ described o = record (new_rule (word o)) { long = Some (word o) }
 -- the option may not be missing
 abbrev pub required : Rule → Rule
 required a = record a { required = true }
+
+-- the word stands by its place, without a name before it
+abbrev pub placed : OptionName → Rule
+placed o = required (new_rule (word o))
 
 -- the value is any text
 abbrev pub text : OptionName → Rule
@@ -61,6 +70,7 @@ greatest = 2 ^ 64 - 1
 
 abbrev pub rule : OptionName → Rule
 rule File = text File
+rule To = text To
 rule Tenant = text Tenant
 rule Name = text Name
 rule Secret = text Secret
@@ -78,3 +88,7 @@ rule MaxBody = preset default_limits.max_body (number MaxBody 1 (2 ^ 30))
 rule BlockSize = preset default_tuning.block_size (number BlockSize 1 1_048_576)
 rule CacheBlocks = preset default_tuning.cache_blocks (number CacheBlocks 0 65_536)
 rule Digest = worded (codes "sha256") (described Digest)
+rule OperatorPort = number OperatorPort 0 65_535
+rule OperatorSecretFile = described OperatorSecretFile
+rule SecretFile = described SecretFile
+rule Order = placed Order

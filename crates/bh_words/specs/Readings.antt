@@ -176,12 +176,23 @@ report rows = do
   clock ← clock_at rows
   Some (line.Report file clock)
 
+abbrev pub check : List Row → Option CommandLine
+check rows = do
+  file ← text_at option.File rows
+  Some (line.Check file)
+
 abbrev pub sweep : List Row → Option CommandLine
 sweep rows = do
   file ← text_at option.File rows
   limit ← number_at 32 option.Limit rows
   clock ← clock_at rows
   Some (line.Sweep file limit clock)
+
+abbrev pub backup : List Row → Option CommandLine
+backup rows = do
+  file ← text_at option.File rows
+  to ← text_at option.To rows
+  Some (line.Backup file to)
 
 abbrev pub serve : List Row → Option CommandLine
 serve rows = do
@@ -190,7 +201,14 @@ serve rows = do
   timeout ← number_at 64 option.Timeout rows
   leap ← leap_at rows
   tuning ← tuning_at rows
-  Some (line.Serve file port (number_at 64 option.Count rows) (is_given option.Log rows) timeout leap tuning)
+  Some (line.Serve file port (number_at 64 option.Count rows) (is_given option.Log rows) timeout leap tuning
+      (number_at 16 option.OperatorPort rows) (text_at option.OperatorSecretFile rows))
+
+abbrev pub tell : List Row → Option CommandLine
+tell rows = do
+  port ← number_at 16 option.Port rows
+  order ← text_at option.Order rows
+  Some (line.Tell port (text_at option.SecretFile rows) order)
 
 abbrev pub line_at : Subcommand → List Row → Option CommandLine
 line_at subcommand.Script = script
@@ -201,8 +219,11 @@ line_at subcommand.KeyAdd = key_add
 line_at subcommand.KeyRemove = key_remove
 line_at subcommand.Usage = usage
 line_at subcommand.Report = report
+line_at subcommand.Check = check
 line_at subcommand.Sweep = sweep
+line_at subcommand.Backup = backup
 line_at subcommand.Serve = serve
+line_at subcommand.Tell = tell
 
 abbrev pub subcommand_named : Text → Option Subcommand
 subcommand_named name = find (λ s. bytes_eq (commands.word s) name) subcommands

@@ -12,7 +12,7 @@ use std::alloc::{AllocError, Global};
 /// The program's version.
 const VERSION: &str = "0.1.0";
 
-/// The program's command with its ten subcommands.
+/// The program's command with its subcommands.
 pub(crate) fn the_command<'a>(alloc: Global) -> Result<Command<'a>, AllocError>
     ensures { IfOk result (λ c. app_of c ≡ spec.the_command) }
 {
@@ -38,7 +38,7 @@ fn with_subcommands<'a>(
     Ok(command)
 }
 
-static SUBCOMMANDS: [Subcommand; 10] = [
+static SUBCOMMANDS: [Subcommand; 13] = [
     Subcommand::Script,
     Subcommand::Init,
     Subcommand::TenantAdd,
@@ -47,8 +47,11 @@ static SUBCOMMANDS: [Subcommand; 10] = [
     Subcommand::KeyRemove,
     Subcommand::Usage,
     Subcommand::Report,
+    Subcommand::Check,
     Subcommand::Sweep,
+    Subcommand::Backup,
     Subcommand::Serve,
+    Subcommand::Tell,
 ];
 
 fn subcommand_command<'a>(alloc: Global, subcommand: Subcommand) -> Result<Command<'a>, AllocError>

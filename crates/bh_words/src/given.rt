@@ -1,5 +1,5 @@
 //! The values that `clap` found for the options of a subcommand.
-ghost use Rattle.std.specs.Prelude.{◌≡◌, IfOk, option_map};
+ghost use Rattle.std.specs.Prelude.{◌≡◌, Some, IfOk, option_map};
 ghost use Rattle.std.specs.String.{string_bytes};
 ghost use Rattle.bh_words.specs.Lines as lines;
 ghost use Rattle.bh_words.specs.Readings as spec;
@@ -51,6 +51,20 @@ pub(crate) fn text(
     match written(given, option) {
         Some(text) => Ok(String::from_str(alloc, text)?),
         None => Err(GivenError::NotGiven),
+    }
+}
+
+/// The text of an option that may be missing.
+pub(crate) fn text_if_given(
+    alloc: Global,
+    given: &ArgMatches<'_>,
+    option: OptionName,
+) -> Result<Option<String>, GivenError>
+    ensures { spec.Gives (option_map string_bytes) result (Some (spec.text_at option (spec.rows_in given.now))) }
+{
+    match written(given, option) {
+        Some(text) => Ok(Some(String::from_str(alloc, text)?)),
+        None => Ok(None),
     }
 }
 
@@ -166,6 +180,16 @@ fn port_of(text: &str) -> Option<u16>
     ensures { result ≡ spec.number_of 16 text.now }
 {
     text.parse::<u16>().ok()
+}
+
+/// The port of operators, if one was given.
+pub(crate) fn operator_port(given: &ArgMatches<'_>) -> Option<u16>
+    ensures { result ≡ spec.number_at 16 option.OperatorPort (spec.rows_in given.now) }
+{
+    match written(given, OptionName::OperatorPort) {
+        Some(text) => port_of(text),
+        None => None,
+    }
 }
 
 /// The limits of a new host.

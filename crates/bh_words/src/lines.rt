@@ -85,15 +85,26 @@ pub enum Line {
         file: String,
         clock: ClockGiven,
     },
+    /// Whether all that the file holds is sound.
+    Check {
+        file: String,
+    },
     /// At most `limit` stale uploads and unreferenced blocks go.
     Sweep {
         file: String,
         limit: u32,
         clock: ClockGiven,
     },
+    /// The host's file is copied to a new file, `to`.
+    Backup {
+        file: String,
+        to: String,
+    },
     /// Connections on a port of 127.0.0.1 are served, on one that the system chooses where it is 0:
     /// `count` of them, or without end. Each is read within `timeout` seconds, and its response is
-    /// written within as many. With `log` a line tells each request on standard error.
+    /// written within as many. With `log` a line tells each request on standard error. Where there is an
+    /// `operator_port`, operators' lines are taken there; with an `operator_secret_file` each begins
+    /// with the secret that this file holds.
     Serve {
         file: String,
         port: u16,
@@ -102,5 +113,14 @@ pub enum Line {
         timeout: u64,
         leap: Leap,
         tuning: Tuning,
+        operator_port: Option<u16>,
+        operator_secret_file: Option<String>,
+    },
+    /// A line is sent to the operator's port of a host that serves, after the secret that a file
+    /// holds, where one is named. `-` stands for the first line of standard input.
+    Tell {
+        port: u16,
+        secret_file: Option<String>,
+        order: String,
     },
 }

@@ -7,10 +7,11 @@ use clap::builder::ValueParser;
 use clap::{Arg, ArgAction};
 use std::alloc::Global;
 
-/// An option of a subcommand.
+/// An option of a subcommand, or the word that one takes by its place.
 #[derive(Clone, Copy)]
 pub(crate) enum OptionName {
     File,
+    To,
     Tenant,
     Name,
     Secret,
@@ -28,6 +29,10 @@ pub(crate) enum OptionName {
     BlockSize,
     CacheBlocks,
     Digest,
+    OperatorPort,
+    OperatorSecretFile,
+    SecretFile,
+    Order,
 }
 
 impl OptionName {
@@ -37,6 +42,7 @@ impl OptionName {
     {
         match self {
             OptionName::File => "file",
+            OptionName::To => "to",
             OptionName::Tenant => "tenant",
             OptionName::Name => "name",
             OptionName::Secret => "secret",
@@ -54,12 +60,17 @@ impl OptionName {
             OptionName::BlockSize => "block-size",
             OptionName::CacheBlocks => "cache-blocks",
             OptionName::Digest => "digest",
+            OptionName::OperatorPort => "operator-port",
+            OptionName::OperatorSecretFile => "operator-secret-file",
+            OptionName::SecretFile => "secret-file",
+            OptionName::Order => "LINE",
         }
     }
 
     fn help<'a>(self) -> &'a str {
         match self {
             OptionName::File => "The host's file",
+            OptionName::To => "The new file; its folder is there, and nothing has its name",
             OptionName::Tenant => "The tenant's name: 1 to 32 of a to z, 0 to 9",
             OptionName::Name => "The key's name: 1 to 32 of a to z, 0 to 9",
             OptionName::Secret =>
@@ -84,6 +95,14 @@ impl OptionName {
                 "How many blocks are to stay in memory (no effect yet): 0 to 65,536",
             OptionName::Digest =>
                 "Which function names blocks, as long as the host is there: sha256 or fast",
+            OptionName::OperatorPort =>
+                "Takes operators' lines on this port on 127.0.0.1, too; 0: one that the system chooses",
+            OptionName::OperatorSecretFile =>
+                "A file of mode 0600 whose first line an operator's line begins with, before a space",
+            OptionName::SecretFile =>
+                "The file that serve was given as --operator-secret-file, if it was",
+            OptionName::Order =>
+                "A JSON object as of a line of a script, without at; - reads it from standard input",
         }
     }
 
@@ -93,9 +112,11 @@ impl OptionName {
         ensures local { result.global ≡ false }
     {
         match self {
-            OptionName::File | OptionName::Tenant | OptionName::Name | OptionName::Secret => {
-                self.text(alloc)
-            }
+            OptionName::File
+            | OptionName::To
+            | OptionName::Tenant
+            | OptionName::Name
+            | OptionName::Secret => self.text(alloc),
             OptionName::Quota => self.number(alloc, 0, u64::MAX).required(true),
             OptionName::At => self.number(alloc, 0, u64::MAX),
             OptionName::ClockLeap => self.number(alloc, 0, 3_000_000).default_value("1"),
@@ -110,6 +131,9 @@ impl OptionName {
             OptionName::BlockSize => self.number(alloc, 1, 1_048_576).default_value("65536"),
             OptionName::CacheBlocks => self.number(alloc, 0, 65_536).default_value("0"),
             OptionName::Digest => self.described(alloc).default_value("sha256"),
+            OptionName::OperatorPort => self.number(alloc, 0, 65_535),
+            OptionName::OperatorSecretFile | OptionName::SecretFile => self.described(alloc),
+            OptionName::Order => self.placed(alloc),
         }
     }
 
@@ -136,6 +160,16 @@ impl OptionName {
         ensures local { result.global ≡ false }
     {
         self.described(alloc).action(ArgAction::SetTrue)
+    }
+
+    // A word that may not be missing, with any text, without a name before it.
+    fn placed<'a>(self, alloc: Global) -> Arg<'a>
+        ensures rule { rule_of result ≡ spec.placed self }
+        ensures local { result.global ≡ false }
+    {
+        Arg::new(alloc, self.word())
+            .help(self.help())
+            .required(true)
     }
 
     fn described<'a>(self, alloc: Global) -> Arg<'a>

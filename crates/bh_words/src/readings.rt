@@ -3,8 +3,8 @@ ghost use Rattle.bh_words.specs.Lines.{command_line};
 ghost use Rattle.bh_words.specs.Readings as spec;
 
 use crate::given::{
-    GivenError, clock, digest, is_given, leap, limits, needed, number, port, secret, small_number,
-    text, tuning,
+    GivenError, clock, digest, is_given, leap, limits, needed, number, operator_port, port, secret,
+    small_number, text, text_if_given, tuning,
 };
 use crate::lines::Line;
 use crate::options::OptionName;
@@ -36,8 +36,11 @@ fn line_of(
         Subcommand::KeyRemove => key_remove(alloc, given),
         Subcommand::Usage => usage(alloc, given),
         Subcommand::Report => report(alloc, given),
+        Subcommand::Check => check(alloc, given),
         Subcommand::Sweep => sweep(alloc, given),
+        Subcommand::Backup => backup(alloc, given),
         Subcommand::Serve => serve(alloc, given),
+        Subcommand::Tell => tell(alloc, given),
     }
 }
 
@@ -150,6 +153,13 @@ fn report(alloc: Global, given: &ArgMatches<'_>) -> Result<Line, GivenError>
     Ok(Line::Report { file, clock })
 }
 
+fn check(alloc: Global, given: &ArgMatches<'_>) -> Result<Line, GivenError>
+    ensures { spec.Gives command_line result (spec.check (spec.rows_in given.now)) }
+{
+    let file = text(alloc, given, OptionName::File)?;
+    Ok(Line::Check { file })
+}
+
 fn sweep(alloc: Global, given: &ArgMatches<'_>) -> Result<Line, GivenError>
     ensures { spec.Gives command_line result (spec.sweep (spec.rows_in given.now)) }
 {
@@ -157,6 +167,14 @@ fn sweep(alloc: Global, given: &ArgMatches<'_>) -> Result<Line, GivenError>
     let limit = needed(small_number(given, OptionName::Limit))?;
     let clock = needed(clock(given))?;
     Ok(Line::Sweep { file, limit, clock })
+}
+
+fn backup(alloc: Global, given: &ArgMatches<'_>) -> Result<Line, GivenError>
+    ensures { spec.Gives command_line result (spec.backup (spec.rows_in given.now)) }
+{
+    let file = text(alloc, given, OptionName::File)?;
+    let to = text(alloc, given, OptionName::To)?;
+    Ok(Line::Backup { file, to })
 }
 
 fn serve(alloc: Global, given: &ArgMatches<'_>) -> Result<Line, GivenError>
@@ -169,6 +187,8 @@ fn serve(alloc: Global, given: &ArgMatches<'_>) -> Result<Line, GivenError>
     let timeout = needed(number(given, OptionName::Timeout))?;
     let leap = needed(leap(given))?;
     let tuning = needed(tuning(given))?;
+    let operator_port = operator_port(given);
+    let operator_secret_file = text_if_given(alloc, given, OptionName::OperatorSecretFile)?;
     Ok(Line::Serve {
         file,
         port,
@@ -177,5 +197,20 @@ fn serve(alloc: Global, given: &ArgMatches<'_>) -> Result<Line, GivenError>
         timeout,
         leap,
         tuning,
+        operator_port,
+        operator_secret_file,
+    })
+}
+
+fn tell(alloc: Global, given: &ArgMatches<'_>) -> Result<Line, GivenError>
+    ensures { spec.Gives command_line result (spec.tell (spec.rows_in given.now)) }
+{
+    let port = needed(port(given))?;
+    let secret_file = text_if_given(alloc, given, OptionName::SecretFile)?;
+    let order = text(alloc, given, OptionName::Order)?;
+    Ok(Line::Tell {
+        port,
+        secret_file,
+        order,
     })
 }

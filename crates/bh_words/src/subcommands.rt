@@ -16,8 +16,11 @@ pub(crate) enum Subcommand {
     KeyRemove,
     Usage,
     Report,
+    Check,
     Sweep,
+    Backup,
     Serve,
+    Tell,
 }
 
 static SCRIPT: [OptionName; 5] = [
@@ -78,6 +81,8 @@ static REPORT: [OptionName; 4] = [
     OptionName::Force,
 ];
 
+static CHECK: [OptionName; 1] = [OptionName::File];
+
 static SWEEP: [OptionName; 5] = [
     OptionName::File,
     OptionName::Limit,
@@ -86,7 +91,9 @@ static SWEEP: [OptionName; 5] = [
     OptionName::Force,
 ];
 
-static SERVE: [OptionName; 9] = [
+static BACKUP: [OptionName; 2] = [OptionName::File, OptionName::To];
+
+static SERVE: [OptionName; 11] = [
     OptionName::File,
     OptionName::Port,
     OptionName::Count,
@@ -96,7 +103,11 @@ static SERVE: [OptionName; 9] = [
     OptionName::Force,
     OptionName::BlockSize,
     OptionName::CacheBlocks,
+    OptionName::OperatorPort,
+    OptionName::OperatorSecretFile,
 ];
+
+static TELL: [OptionName; 3] = [OptionName::Port, OptionName::SecretFile, OptionName::Order];
 
 impl Subcommand {
     /// The subcommand's name.
@@ -112,8 +123,11 @@ impl Subcommand {
             Subcommand::KeyRemove => "key-remove",
             Subcommand::Usage => "usage",
             Subcommand::Report => "report",
+            Subcommand::Check => "check",
             Subcommand::Sweep => "sweep",
+            Subcommand::Backup => "backup",
             Subcommand::Serve => "serve",
+            Subcommand::Tell => "tell",
         }
     }
 
@@ -129,8 +143,12 @@ impl Subcommand {
             Subcommand::KeyRemove => "Removes an access key of a tenant",
             Subcommand::Usage => "Says how many bytes a tenant uses",
             Subcommand::Report => "Says how many blocks are stored",
+            Subcommand::Check => "Says whether all that a file holds is sound",
             Subcommand::Sweep => "Removes stale uploads and blocks that nothing refers to",
+            Subcommand::Backup => "Copies the host to a new file",
             Subcommand::Serve => "Serves connections on a port",
+            Subcommand::Tell =>
+                "Sends an operator's line to a host that serves, and writes the reply",
         }
     }
 
@@ -146,8 +164,11 @@ impl Subcommand {
             Subcommand::KeyRemove => &KEY_REMOVE,
             Subcommand::Usage => &USAGE,
             Subcommand::Report => &REPORT,
+            Subcommand::Check => &CHECK,
             Subcommand::Sweep => &SWEEP,
+            Subcommand::Backup => &BACKUP,
             Subcommand::Serve => &SERVE,
+            Subcommand::Tell => &TELL,
         }
     }
 
@@ -164,8 +185,11 @@ impl Subcommand {
             "key-remove" => Some(Subcommand::KeyRemove),
             "usage" => Some(Subcommand::Usage),
             "report" => Some(Subcommand::Report),
+            "check" => Some(Subcommand::Check),
             "sweep" => Some(Subcommand::Sweep),
+            "backup" => Some(Subcommand::Backup),
             "serve" => Some(Subcommand::Serve),
+            "tell" => Some(Subcommand::Tell),
             _ => None,
         }
     }
