@@ -8,16 +8,16 @@ eight: how many a second, and the processor's time that the server takes for one
 beside as many, a request of the same kind for comparison. Files lie in /dev/shm.
 """
 import os
-import re
 import shutil
 import socket
-import subprocess
 import sys
 import tempfile
 import threading
 import time
 
-GET = b"GET /plans/x HTTP/1.1\r\nhost: h\r\nx-access-key: green$k1\r\nx-secret-key: greensecret\r\n\r\n"
+from server import CREDENTIALS, Server, free_port
+
+GET = b"GET /plans/x HTTP/1.1\r\n" + CREDENTIALS + b"\r\n"
 LINE = b'{"op":"usage","tenant":"green"}\n'
 ROUNDS, SECONDS = 6, 2
 
@@ -31,18 +31,13 @@ def exchange(port, data):
     return got
 
 
-class Server:
-    def __init__(self, program, folder, name, *more):
-        self.file = os.path.join(folder, name)
-        for words in (["init"], ["tenant-add", "--tenant", "green", "--quota", str(1 << 40)], ["key-add", "--tenant", "green", "--name", "k1", "--secret", "greensecret"]):
-            subprocess.run([program, words[0], "--file", self.file, *words[1:]], check=True, stdout=subprocess.DEVNULL)
-        self.process = subprocess.Popen([program, "serve", "--file", self.file, "--port", "0", *more], stderr=subprocess.PIPE, text=True)
-        self.port = int(re.search(r":(\d+)", self.process.stderr.readline()).group(1))
-        self.operators = int(re.search(r":(\d+)", self.process.stderr.readline()).group(1)) if more else None
-        for data in (b"PUT /plans HTTP/1.1\r\nhost: h\r\nx-access-key: green$k1\r\nx-secret-key: greensecret\r\ncontent-length: 0\r\n\r\n",
-                     b"PUT /plans/x HTTP/1.1\r\nhost: h\r\nx-access-key: green$k1\r\nx-secret-key: greensecret\r\ncontent-length: 1024\r\n\r\n" + b"x" * 1024):
-            if not exchange(self.port, data).startswith(b"HTTP/1.1 200 "):
-                sys.exit("a put was refused")
+def started(program, folder, name, *words):
+    """A server on a new host, with an object of 1 KiB."""
+    place = os.path.join(folder, name)
+    os.mkdir(place)
+    server = Server(program, place, *words)
+    server.put("/x", b"x" * 1024)
+    return server
 
 
 def client(port, until, counts, slot):
@@ -98,7 +93,9 @@ def main():
     folder = tempfile.mkdtemp(dir="/dev/shm")
     servers = []
     try:
-        servers += [Server(program, folder, "one"), Server(program, folder, "two", "--operator-port", "0")]
+        operators = free_port()
+        servers.append(started(program, folder, "plain"))
+        servers.append(started(program, folder, "operated", "--operator-port", str(operators)))
         plain, operated = servers
         for clients in (1, 8):
             rates = {plain: [], operated: []}
@@ -110,10 +107,10 @@ def main():
                 print(f"{clients} clients, {name} the port: {middle(it[0] for it in rates[server]):.0f} gets a second, {middle(it[1] for it in rates[server]):.1f} us of a processor each")
             print(f"  with to without: {middle(ratios):.2f} in the middle of {ROUNDS} ({min(ratios):.2f} to {max(ratios):.2f})")
         alone, beside, gets = [], [], []
-        timed(operated.operators, LINE, b"usage ", alone)(time.monotonic() + SECONDS)
+        timed(operators, LINE, b"usage ", alone)(time.monotonic() + SECONDS)
         told("a line alone", alone)
         for _ in range(ROUNDS):
-            rate(operated, 8, timed(operated.operators, LINE, b"usage ", beside))
+            rate(operated, 8, timed(operators, LINE, b"usage ", beside))
             rate(operated, 8, timed(operated.port, GET, b"HTTP/1.1 200 ", gets))
         told("a line beside 8 clients", beside)
         told("a get beside 8 clients", gets)
