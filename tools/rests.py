@@ -11,16 +11,21 @@ from sources import code, functions
 
 NAME = r"[^\W\d][\w'◌-]*"
 WORDS = re.compile(rf"{NAME}(?:(?:\.|::){NAME})*|\.{NAME}")
-DECLARED = re.compile(r"(?:(?:pub|abbrev|record|data|unfoldable|infixl) )+(?:\d+ )?([^\s:]+)|(\S+) : ")
+DECLARED = re.compile(r"(?:(?:pub|abbrev|record|data|unfoldable|infix[lr]?) )+(?:\d+ )?([^\s:]+)|([^\s({]+) : ")
 INSIDE = re.compile(r" +(?:pub )?(\S+) :")
-ITEM = re.compile(r"(?:pub(?:\([^)]*\))? )?(?:unsafe )?(?:struct|enum|trait|type|const|static|union) (\w+)")
+ITEM = re.compile(
+    r"(?:pub(?:\([^)]*\))? )?(?:const |unsafe |extern \"[^\"]*\" )*(?:(?:struct|enum|trait|type|union|fn|static|const) )(?:mut )?(\w+)"
+    r"|(?:const|static) (\w+)"
+)
 IMPL = re.compile(r"(?:unsafe )?impl\b(?:<.*?>)? (?:(?P<trait>\w[\w:]*)(?:<.*?>)? for )?&?(?:'\w+ )?(?P<type>\w[\w:]*)")
-USE = re.compile(r"(?:unfoldable )?(?:pub(?:\([^)]*\))? )?(?:ghost )?use ")
+# An import of Rust ends at a semicolon; one of a spec at its brace, its alias or its path.
+USE = re.compile(r"(?m)^ *(?:pub(?:\([^)]*\))? )?(?:ghost )?use ([^;]+);\n?")
+SPEC_USE = re.compile(r"(?m)^ *(?:unfoldable )?(?:pub )?use ([^\s{]+(?:\{[^}]*\})?(?: as \S+)?)\n?")
 
 
 @dataclass
 class Module:
-    """A file's declarations by name, and what its imports call what: a module and a name in it, or the module by itself."""
+    """A file's declarations by name, and what its imports call what: a path of words."""
 
     texts: dict = field(default_factory=dict)
     names: dict = field(default_factory=dict)
@@ -28,91 +33,92 @@ class Module:
     methods: dict = field(default_factory=dict)
     imports: dict = field(default_factory=dict)
 
-    def add(self, name, lines, others=()):
-        self.texts.setdefault(name, []).append("\n".join(lines))
+    def add(self, name, text, others=()):
+        self.texts.setdefault(name, []).append(text)
         for it in (name, *others):
             self.names.setdefault(it, []).append(name)
 
+    def take_imports(self, pattern, text):
+        """A text without its imports, which are noted."""
+        for it in pattern.findall(text):
+            for words, name in uses_of(" ".join(it.split())):
+                self.imports.setdefault(name, []).append(tuple(words))
+        return pattern.sub("", text)
 
-def uses_of(text):
-    """The paths that a `use` names, each as its words and the name that it has here."""
-    text = re.sub(rf"^{USE.pattern}|;$", "", " ".join(text.split()))
+    @property
+    def operators(self):
+        """The operators that its texts may use, by a notation that isn't their name."""
+        return [it for it in {*self.names, *self.imports} if it.startswith("◌") or it.endswith("◌")]
 
-    def read(path, rest):
-        head, brace, inner = rest.partition("{")
-        if brace and "}" in inner:
-            words = [*path, *[it for it in re.split(r"::|\.", head) if it.strip()]]
-            depth, part, parts = 0, "", []
-            for char in inner[: inner.rindex("}")]:
-                depth += {"{": 1, "}": -1}.get(char, 0)
-                part, parts = ("", [*parts, part]) if char == "," and not depth else (part + char, parts)
-            for it in [*parts, part]:
-                if it.strip():
-                    yield from read(words, it.strip())
-            return
+
+def uses_of(rest, path=()):
+    """The paths that an import names, each as its words, and the name that each has here."""
+    head, brace, inner = rest.partition("{")
+    if not brace:
         name, _, alias = rest.partition(" as ")
         words = [*path, *[it for it in re.split(r"::|\.", name.strip()) if it]]
         words = words[:-1] if words[-1] == "self" else words
-        yield words, alias.strip() or words[-1]
-
-    yield from read([], text)
-
-
-def groups_of(lines, begins):
-    """The lines of a file in groups, each with the match of the line that begins it; a `use` is a group of its own."""
-    found = []
-    for line in lines:
-        is_use = bool(USE.match(line))
-        match = is_use or (line[:1] not in ("", " ", "}", ")", "]", "-") and begins(line))
-        if match:
-            found.append((match, [line]))
-        elif found:
-            found[-1][1].append(line)
-    return found
+        return [(words, alias.strip() or words[-1])]
+    depth, parts = 0, [""]
+    for char in inner[: inner.rindex("}")]:
+        depth += {"{": 1, "}": -1}.get(char, 0)
+        parts += [""] if char == "," and not depth else []
+        parts[-1] += "" if char == "," and not depth else char
+    above = [*path, *[it for it in re.split(r"::|\.", head) if it.strip()]]
+    return [found for it in parts if it.strip() for found in uses_of(it.strip(), above)]
 
 
 def spec_module(text):
-    """A file of specs/."""
+    """A file of specs/. What stands in a module with parameters is read as what stands in the file, with that module's head."""
     module = Module()
-    lines, is_inside = [], False
-    for line in text.split("\n"):
+    above, name, group, inside = [], None, [], []
+    for line in [*module.take_imports(SPEC_USE, text).split("\n"), "end : "]:
         if not line.strip() or line.lstrip().startswith("-- "):
             continue
-        # What stands in a module with parameters is read as what stands in the file.
-        is_inside = line.startswith("module ") or (is_inside and line.startswith(" "))
-        lines.append(line.removeprefix("  ") if is_inside else line)
-    for match, group in groups_of(lines, lambda line: line.startswith("module ") or DECLARED.match(line)):
-        if match is True:
-            for words, name in uses_of("\n".join(group)):
-                module.imports.setdefault(name, []).append(tuple(words))
-        elif group[0].startswith("module "):
-            module.texts.setdefault("module", []).append("\n".join(group))
-        else:
-            module.add(match[1] or match[2], group, [it[1] for line in group if (it := INSIDE.match(line))])
+        indent = len(line) - len(line.lstrip())
+        above = [it for it in above if it[0] < indent]
+        line = line[2 * len(above) :]
+        begins = DECLARED.match(line)
+        if begins or line.startswith("module "):
+            if name:
+                module.add(name, "\n".join([*heads, *group]), inside)
+            name, group, inside, heads = begins and (begins[1] or begins[2]), [], [], [it[1] for it in above]
+        if line.startswith("module "):
+            above = [*above, (indent, line)]
+            continue
+        group.append(line)
+        inside += [INSIDE.match(line)[1]] if INSIDE.match(line) else []
     return module
 
 
 def source_module(file, text):
     """A file of src/, without bodies of functions."""
-    module, lines = Module(), code(file, text)
+    module = Module()
+    lines = module.take_imports(USE, "\n".join(code(file, text))).split("\n")
     held = functions(lines)
     inside = {at for it in held for at in range(it.first, it.last + 1)}
     for it in held:
-        stated = lines[it.first : it.body + 1]
+        stated = "\n".join(lines[it.first : it.body + 1])
         if it.owner:
             kept = module.impls if it.trait else module.methods
-            kept.setdefault(it.owner, {}).setdefault(it.name, []).append("\n".join(stated))
+            kept.setdefault(it.owner, {}).setdefault(it.name, []).append(stated)
         else:
             module.add(it.name, stated)
-    rest = [line for at, line in enumerate(lines) if at not in inside and not line.startswith(("#![", "mod ", "pub mod "))]
-    for match, group in groups_of(rest, lambda line: IMPL.match(line) or ITEM.match(line)):
-        if match is True:
-            for words, name in uses_of("\n".join(group)):
-                module.imports.setdefault(name, []).append(tuple(words))
-        elif match.re is IMPL:
-            module.impls.setdefault(match["type"].rpartition(":")[2], {}).setdefault("", []).append("\n".join(group))
+    groups, attributes = [], []
+    for line in (line for at, line in enumerate(lines) if at not in inside):
+        begins = IMPL.match(line) or ITEM.match(line)
+        if line.startswith("#["):
+            attributes.append(line)
+        elif begins:
+            groups.append((begins, [*attributes, line]))
+            attributes = []
+        elif groups:
+            groups[-1][1].append(line)
+    for begins, group in groups:
+        if begins.re is IMPL:
+            module.impls.setdefault(begins["type"].rpartition(":")[2], {}).setdefault("", []).append("\n".join(group))
         else:
-            module.add(match[1], group)
+            module.add(begins[1] or begins[2], "\n".join(group))
     return module
 
 
@@ -126,7 +132,7 @@ class Sources:
         self.typed = {}
         for key, it in self.modules.items():
             for name in {*it.impls, *it.methods}:
-                self.typed.setdefault((key.split("::")[0], name), []).append((key, it))
+                self.typed.setdefault(name, []).append((key, it))
 
     def source_at(self, words):
         """The module of src/ that a path begins with, and the words after it."""
@@ -183,8 +189,8 @@ class Sources:
         """The declarations that a text of a module names, and what may be methods that it calls."""
         if (key, text) not in self.known:
             found, calls = {}, set()
-            for word in {*WORDS.findall(text)}:
-                words = [it for it in re.split(r"\.|::", word) if it]
+            for word in {*WORDS.findall(text), *self.modules[key].operators}:
+                words = [word] if "◌" in word else [it for it in re.split(r"\.|::", word) if it]
                 calls |= {*words[0 if word.startswith(".") else 1 :]}
                 found |= {} if word.startswith(".") else {it: 0 for it in self.found(key, words)}
             self.known[key, text] = found, calls
@@ -195,8 +201,7 @@ class Sources:
         key, name = decl
         module = self.modules[key]
         found = [(key, name, it) for it in module.texts.get(name, ())]
-        crate = re.split(r"::|\.", key)[0]
-        for other, it in self.typed.get((crate, name), ()):
+        for other, it in self.typed.get(name, ()):
             found += [(other, name, text) for texts in it.impls.get(name, {}).values() for text in texts]
             found += [(other, f"{name}::{call}", text) for call, texts in it.methods.get(name, {}).items() if call in calls for text in texts]
         return found
