@@ -15,11 +15,12 @@
 # most (all bench/README.md).
 # stops: `serve` and commands killed, refused what they ask of the disk, and on a full disk, minutes (PROGRAM=..: of another bucketd);
 # breaks: connections that break after each byte; ample: drawn events by a script and by a file's server. opening: how long a file
-# is opened, and in how much memory (bench/README.md). memory: the stored run, and connections, with each allocation refused in
-# turn. others: drawn scripts of two tenants, each of whom is answered as where the other's events, sweeps and reports are left
-# out. front: nginx before the program, as deploy/nginx.conf has it, and slow clients. hostile: what is made to break the program,
-# at its full size; edits: ten minutes of edited requests, by a script and over a socket.
-.PHONY: demo try build test gate times wrong-bodies stamps lint bench lookups versions serving digests bodies blocks uploads pages quotas sweeps totals telling shards profile memory others stops breaks ample opening front hostile edits
+# is opened, and in how much memory; migration: how long one of version 1 is, the first time (bench/README.md). memory: the stored
+# run, and connections, with each allocation refused in turn. others: drawn scripts of two tenants, each of whom is answered as
+# where the other's events, sweeps and reports are left out. front: nginx before the program, as deploy/nginx.conf has it, and slow
+# clients. hostile: what is made to break the program, at its full size; edits: ten minutes of edited requests, by a script and
+# over a socket.
+.PHONY: demo try build test gate times wrong-bodies stamps lint bench lookups versions serving digests bodies blocks uploads pages quotas sweeps totals telling shards profile memory others stops breaks ample opening migration front hostile edits
 
 demo:
 	@tools/bucketd <crates/bucketd/stdin
@@ -110,6 +111,9 @@ ample:
 
 opening:
 	@bench/opening.py $(PROGRAM)
+
+migration:
+	@bench/migration.py $(PROGRAM)
 
 hostile:
 	@tools/hostile $(PROGRAM) --long

@@ -11,17 +11,20 @@ tenant's object is asked for, and has what its own host holds. 'of linear' is th
 nginx and the load take processors, too.
 """
 import argparse
+import json
 import os
 import re
 import shutil
+import socket
 import subprocess
 import sys
 import tempfile
 import time
+from http.client import HTTPConnection
 
 TOP = os.path.dirname(os.path.dirname(os.path.abspath(__file__)))
 sys.path.insert(0, os.path.join(TOP, "tools"))
-from served import Server, free_port, listens, make_host
+from served import Server, command, free_port, listens
 
 CONNECTIONS = 32
 SIZE = 1024
@@ -42,25 +45,35 @@ end
 """
 
 
-def curl(port, method, target, tenant, body):
-    words = ["curl", "-s", "-X", method, "--data-binary", body, "-H", "content-type: application/octet-stream"]
-    words += ["-H", f"x-access-key: {tenant}$k1", "-H", f"x-secret-key: {tenant}secret", f"http://127.0.0.1:{port}{target}"]
-    return subprocess.run(words, check=True, capture_output=True).stdout
+def told(port, op, tenant, **members):
+    """What an operator's line is answered."""
+    with socket.create_connection(("127.0.0.1", port), 60) as it:
+        it.sendall(json.dumps({"op": op, "tenant": tenant, **members}).encode() + b"\n")
+        return it.makefile().read().strip()
 
 
 class Host:
     """A host in a file with some tenants, each with an object of its own, served."""
 
     def __init__(self, program, file, tenants):
-        make_host(program, file, tenants)
-        self.server = Server(program, file, said=subprocess.DEVNULL)
+        command(program, file, "init")
+        operators = free_port()
+        self.server = Server(program, file, "--operator-port", str(operators), said=subprocess.DEVNULL)
         self.port = self.server.port
         for tenant in tenants:
-            curl(self.port, "PUT", "/plans", tenant, "")
-            curl(self.port, "PUT", "/plans/x", tenant, tenant.ljust(SIZE))
+            answers = [told(operators, "tenant-add", tenant, quota=1 << 40), told(operators, "key-add", tenant, name="k1", secret=tenant + "secret")]
+            answers += [self.server.ask(tenant, "PUT", "/plans").status, self.server.ask(tenant, "PUT", "/plans/x", tenant.ljust(SIZE).encode()).status]
+            if answers != [f"tenant {tenant}", f"key {tenant}$k1", 200, 200]:
+                sys.exit(f"{tenant} wasn't made: {answers}")
 
     def end(self):
         self.server.end()
+
+
+def gets(front, tenant):
+    """What a tenant's object is, by nginx."""
+    front.request("GET", "/plans/x", headers={"x-access-key": f"{tenant}$k1", "x-secret-key": f"{tenant}secret"})
+    return front.getresponse().read().decode().rstrip()
 
 
 def replaced(text, old, new):
@@ -124,8 +137,9 @@ def measured(program, folder, number, options):
         for n, tenants in enumerate(tenants_of):
             hosts.append(Host(program, os.path.join(folder, f"host{n}"), tenants))
         front = Front(folder, hosts, tenants_of)
+        client = HTTPConnection("127.0.0.1", front.port, timeout=60)
         for name in names:
-            if curl(front.port, "GET", "/plans/x", name, "").decode().rstrip() != name:
+            if gets(client, name) != name:
                 sys.exit(f"{name} isn't answered by its host")
         return [rate(folder, front.port, options.tenants, method, options.seconds) for method in ("GET", "PUT")]
     finally:
@@ -143,9 +157,9 @@ def main():
     program = os.path.abspath(options.program)
     if not os.path.exists(program):
         sys.exit(f"{program} isn't there: 'make build' makes it")
-    for tool in ("nginx", "wrk", "curl"):
+    for tool in ("nginx", "wrk"):
         if not shutil.which(tool):
-            sys.exit(f"{tool} isn't there: apt-get install nginx-light wrk curl")
+            sys.exit(f"{tool} isn't there: apt-get install nginx-light wrk")
     print(f"{'hosts':>5} {'GET/s':>8} {'of linear':>9} {'PUT/s':>8} {'of linear':>9}")
     first = None
     for number in map(int, options.hosts.split(",")):

@@ -38,6 +38,13 @@ func refuseIf(isSo bool, code, message string) {
 	}
 }
 
+// refuseUnset ends a call that asks for what isn't set.
+func refuseUnset(isSo bool, code, message string) {
+	if isSo {
+		panic(&apiError{code, http.StatusNotFound, message})
+	}
+}
+
 // must panics with an error that isn't nil.
 func must[T any](value T, err error) T {
 	if err != nil {
@@ -67,9 +74,11 @@ func try(act func()) (e *apiError) {
 
 // bucketd's refusals by number: those that are asked for here, and those that S3 names otherwise.
 const (
-	refusalBucket = 12
-	refusalKey    = 13
-	refusalRange  = 25
+	refusalArgument = 10
+	refusalBucket   = 12
+	refusalKey      = 13
+	refusalRange    = 25
+	refusalRequest  = 28
 )
 
 var renamed = map[int]string{1: "InvalidRequest", 11: "MalformedXML", 29: "InternalError", 30: "InternalError"}
@@ -117,7 +126,7 @@ func (c *call) write(x *bytes.Buffer, name string, value any) {
 		switch name {
 		case "ChecksumSHA256":
 			name, tag, text = "ETag", "ETag", etag(text)
-		case "CreationDate", "Initiated", "LastModified":
+		case "CreationDate", "Initiated", "LastModified", "RetainUntilDate":
 			text = strings.TrimSuffix(text, "Z") + ".000Z" // (bucketd's have whole seconds)
 		case "Key", "Prefix", "NextKeyMarker", "NextMarker", "Delimiter", "KeyMarker", "Marker", "StartAfter":
 			if c.query.Get("encoding-type") == "url" {

@@ -123,6 +123,8 @@ var calls = map[string]func(c *call){
 	"object PUT acl":          notThere("an acl but private"),
 	"object GET tagging":      func(c *call) { c.sendDocument("Tagging", document{"TagSet": document{}}) },
 	"object POST uploads":     (*call).beginUpload,
+	"object GET retention":    (*call).getRetention,
+	"object PUT retention":    (*call).putRetention,
 	"object PUT uploadId":     func(c *call) { c.done(200, c.partOf(c.readBody(c.server.piece, c.server.piece))) },
 	"object COPY uploadId":    (*call).copyPart,
 	"object POST uploadId":    (*call).completeUpload,
@@ -141,6 +143,7 @@ var calls = map[string]func(c *call){
 	"bucket PUT lifecycle":    (*call).putLifecycle,
 	"bucket DELETE lifecycle": func(c *call) { c.done(204, c.request("DELETE", "lifecycle", "")) },
 	"bucket GET location":     (*call).getLocation,
+	"bucket GET object-lock":  (*call).getObjectLock,
 	"bucket GET uploads":      func(c *call) { c.sendListing("ListMultipartUploadsResult", "uploads") },
 	"bucket GET versions":     func(c *call) { c.sendListing("ListVersionsResult", "versions") },
 	"bucket GET":              (*call).listObjects,
@@ -156,7 +159,7 @@ func notThere(what string) func(*call) {
 	return func(*call) { panic(newError("NotImplemented", what+" is not there")) }
 }
 
-var subresources = strings.Fields("acl tagging versioning lifecycle uploadId uploads location versions delete")
+var subresources = strings.Fields("acl tagging versioning lifecycle uploadId uploads location versions delete retention object-lock")
 
 // The name that the call has in the table.
 func (c *call) kind() string {
@@ -181,9 +184,9 @@ var unset = map[string]string{
 	"policy": "NoSuchBucketPolicy", "cors": "NoSuchCORSConfiguration", "website": "NoSuchWebsiteConfiguration", "tagging": "NoSuchTagSet",
 	"encryption": "ServerSideEncryptionConfigurationNotFoundError", "replication": "ReplicationConfigurationNotFoundError",
 	"publicAccessBlock": "NoSuchPublicAccessBlockConfiguration", "ownershipControls": "OwnershipControlsNotFoundError",
-	"object-lock": "ObjectLockConfigurationNotFoundError", "accelerate": "", "analytics": "", "append": "", "attributes": "",
-	"intelligent-tiering": "", "inventory": "", "legal-hold": "", "logging": "", "metrics": "", "notification": "", "partNumber": "",
-	"policyStatus": "", "requestPayment": "", "restore": "", "retention": "", "select": "", "torrent": "",
+	"accelerate": "", "analytics": "", "append": "", "attributes": "",
+	"intelligent-tiering": "", "inventory": "", "legal-hold": "", "logging": "", "metrics": "", "notification": "", "object-lock": "",
+	"partNumber": "", "policyStatus": "", "requestPayment": "", "restore": "", "retention": "", "select": "", "torrent": "",
 }
 
 // Beginnings of fields whose being passed over would be taken for a promise.
@@ -198,14 +201,14 @@ func (c *call) refuseUnknown() {
 	refuseIf(owner != "" && owner != c.tenant, "AccessDenied", "the bucket has another owner")
 	for name := range c.query {
 		code, isUnset := unset[name]
-		isThere := name == "tagging" && c.key != "" && isRead || name == "partNumber" && c.query.Has("uploadId")
+		isThere := calls[c.kind()] != nil && strings.HasSuffix(c.kind(), " "+name) || name == "partNumber" && c.query.Has("uploadId")
 		if isUnset && !isThere {
 			refuseIf(code == "" || !isRead, "NotImplemented", name+" is not there")
-			panic(&apiError{code, http.StatusNotFound, "nothing is set"})
+			refuseUnset(true, code, "nothing is set")
 		}
 	}
 	for field := range c.r.Header {
-		if unknownFields.MatchString(field) && field != "X-Amz-Tagging-Directive" {
+		if unknownFields.MatchString(field) && field != "X-Amz-Tagging-Directive" && !c.takes(field) {
 			panic(newError("NotImplemented", field+" is not there"))
 		}
 	}
@@ -271,7 +274,9 @@ const uploadsRule = "uploads"
 func (c *call) createBucket() {
 	c.readBody(greatestXML, 0) // it names a region: there is one alone
 	c.tell("Location", c.path())
-	c.done(200, c.request("PUT"))
+	q := c.request("PUT")
+	q.fields = c.lock()
+	c.done(200, q)
 }
 
 func (c *call) headBucket() {
@@ -422,8 +427,13 @@ func (c *call) done(status int, q *hostRequest) {
 }
 
 func (c *call) putObject() {
-	meta, b := metadata(c.r.Header), c.readBody(c.server.maxPut, c.server.piece)
+	meta, date, most := metadata(c.r.Header), c.date(), c.server.maxPut
+	if date != nil { // (what bucketd puts as an upload has none)
+		most = c.server.piece
+	}
+	b := c.readBody(most, c.server.piece)
 	q := c.request("PUT").sending(b)
+	q.fields = append(q.fields, date...)
 	if b.size > c.server.piece {
 		q = c.putPieces(b)
 	}
@@ -517,7 +527,7 @@ func (c *call) lookAtSource(o object) (d *details, r *hostResponse) {
 }
 
 func (c *call) copyObject() {
-	o, meta := c.source(), metadata(c.r.Header)
+	o, meta, date := c.source(), metadata(c.r.Header), c.date()
 	defer c.hold(c.key)()
 	c.checkWrite()
 	d, _ := c.lookAtSource(o)
@@ -530,7 +540,7 @@ func (c *call) copyObject() {
 		c.tell("x-amz-copy-source-version-id", o.version)
 	}
 	q := c.request("PUT")
-	q.fields = []string{"x-amz-copy-source: " + from}
+	q.fields = append(date, "x-amz-copy-source: "+from)
 	r := c.need(q)
 	refuseIf(r.document().ChecksumSHA256 != d.checksum, "SlowDown", "the source was overwritten meanwhile")
 	c.keepVersion(r, meta)

@@ -49,7 +49,7 @@ func parseOptions(words []string, out io.Writer) (options, error) {
 	set.IntVar(&o.connections, "connections", 1024, "the most connections of clients at once")
 	set.DurationVar(&o.silence, "silence", 30*time.Second, "how long a client may be silent within a request; in reading an answer, twice that")
 	set.IntVar(&o.ahead, "ahead", 4, "how many requests of all, and of a tenant, are sent before bucketd has answered")
-	set.Int64Var(&o.piece, "piece", 16<<20, "a put of more bytes goes as an upload of parts of so many: at least the host's least part, at most its greatest body")
+	set.Int64Var(&o.piece, "piece", 16<<20, "a put of more bytes goes as an upload of parts of so many, or is refused where it has a date: at least the host's least part, at most its greatest body")
 	set.Int64Var(&o.maxPut, "max-put", 5<<30, "the most bytes of a put")
 	set.BoolVar(&o.lastModified, "last-modified", true, "tells Last-Modified on GET and HEAD, by a listing each")
 	set.BoolVar(&o.meta, "meta", true, "keeps x-amz-meta-*, Content-Type and the like in a hidden bucket of the tenant, "+hiddenBucket)

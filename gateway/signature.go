@@ -165,9 +165,9 @@ func (g *signedRequest) canonical() string {
 }
 
 // What a presigned query of version 2 counts as a part of the resource, in order.
-var signedParameters = strings.Fields("acl cors delete lifecycle location logging notification partNumber policy requestPayment " +
+var signedParameters = strings.Fields("acl cors delete lifecycle location logging notification object-lock partNumber policy requestPayment " +
 	"response-cache-control response-content-disposition response-content-encoding response-content-language response-content-type " +
-	"response-expires restore tagging torrent uploadId uploads versionId versioning versions website")
+	"response-expires restore retention tagging torrent uploadId uploads versionId versioning versions website")
 
 // Whose a presigned URL of version 2 is ("Authenticating Requests (AWS Signature Version 2)"): boto3 and aws-cli 1 make them where
 // nothing is said. No head is signed so.

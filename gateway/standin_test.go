@@ -28,6 +28,7 @@ type storedVersion struct {
 	at     string
 	sum    string
 	data   []byte
+	until  string // the date before which it stays
 }
 type storedUpload struct {
 	id, key, at string
@@ -35,6 +36,7 @@ type storedUpload struct {
 }
 type storedBucket struct {
 	made, state string
+	locked      bool
 	days        int
 	keys        map[string][]*storedVersion // newest first
 	uploads     map[string]*storedUpload
@@ -59,7 +61,7 @@ type standin struct {
 
 var standinSecrets = map[string]string{"green$k1": "greensecret", "blue$k1": "bluesecret"}
 
-var codes = map[int][2]string{1: {"400", "BadRequest"}, 2: {"501", "NotImplemented"}, 3: {"411", "MissingContentLength"}, 4: {"400", "EntityTooLarge"}, 5: {"403", "AccessDenied"}, 6: {"403", "InvalidAccessKeyId"}, 7: {"400", "InvalidURI"}, 8: {"400", "InvalidBucketName"}, 9: {"400", "KeyTooLongError"}, 10: {"400", "InvalidArgument"}, 11: {"400", "MalformedJSON"}, 12: {"404", "NoSuchBucket"}, 13: {"404", "NoSuchKey"}, 14: {"404", "NoSuchVersion"}, 15: {"404", "NoSuchUpload"}, 16: {"405", "MethodNotAllowed"}, 17: {"409", "BucketAlreadyOwnedByYou"}, 18: {"409", "BucketNotEmpty"}, 20: {"404", "NoSuchLifecycleConfiguration"}, 21: {"400", "InvalidPart"}, 22: {"400", "InvalidPartOrder"}, 23: {"400", "EntityTooSmall"}, 24: {"403", "QuotaExceeded"}, 25: {"416", "InvalidRange"}, 26: {"400", "BadDigest"}, 27: {"400", "IncompleteBody"}, 28: {"400", "InvalidRequest"}, 29: {"500", "CounterExhausted"}, 30: {"500", "ClockOutOfRange"}, 31: {"503", "ServiceUnavailable"}}
+var codes = map[int][2]string{1: {"400", "BadRequest"}, 2: {"501", "NotImplemented"}, 3: {"411", "MissingContentLength"}, 4: {"400", "EntityTooLarge"}, 5: {"403", "AccessDenied"}, 6: {"403", "InvalidAccessKeyId"}, 7: {"400", "InvalidURI"}, 8: {"400", "InvalidBucketName"}, 9: {"400", "KeyTooLongError"}, 10: {"400", "InvalidArgument"}, 11: {"400", "MalformedJSON"}, 12: {"404", "NoSuchBucket"}, 13: {"404", "NoSuchKey"}, 14: {"404", "NoSuchVersion"}, 15: {"404", "NoSuchUpload"}, 16: {"405", "MethodNotAllowed"}, 17: {"409", "BucketAlreadyOwnedByYou"}, 18: {"409", "BucketNotEmpty"}, 19: {"409", "InvalidBucketState"}, 20: {"404", "NoSuchLifecycleConfiguration"}, 21: {"400", "InvalidPart"}, 22: {"400", "InvalidPartOrder"}, 23: {"400", "EntityTooSmall"}, 24: {"403", "QuotaExceeded"}, 25: {"416", "InvalidRange"}, 26: {"400", "BadDigest"}, 27: {"400", "IncompleteBody"}, 28: {"400", "InvalidRequest"}, 29: {"500", "CounterExhausted"}, 30: {"500", "ClockOutOfRange"}, 31: {"503", "ServiceUnavailable"}}
 
 const maxBody = 16 << 20
 
@@ -112,10 +114,14 @@ func (s *standin) handle(r *http.Request, body []byte) *standinAnswer {
 		return refuse(10)
 	}
 	q, _ := url.ParseQuery(query)
-	for _, it := range []string{"acl", "delete", "location", "policy", "start-after", "tagging", "cors"} {
+	for _, it := range []string{"acl", "delete", "location", "policy", "start-after", "tagging", "cors", "object-lock", "legal-hold"} {
 		if q.Has(it) {
 			return refuse(2)
 		}
+	}
+	mode, until := r.Header.Get("x-amz-object-lock-mode"), r.Header.Get("x-amz-object-lock-retain-until-date")
+	if r.Method == "POST" && mode+until != "" || r.Header.Get("x-amz-object-lock-legal-hold") != "" {
+		return refuse(2)
 	}
 	bname, key, _ := strings.Cut(strings.TrimPrefix(path, "/"), "/")
 	now := clock().UTC().Format("2006-01-02T15:04:05Z")
@@ -134,10 +140,17 @@ func (s *standin) handle(r *http.Request, body []byte) *standinAnswer {
 	b := t.buckets[bname]
 	m := r.Method
 	if key == "" && m == "PUT" && query == "" {
+		enabled := r.Header.Get("x-amz-bucket-object-lock-enabled")
+		if enabled != "" && enabled != "true" && enabled != "false" {
+			return refuse(10)
+		}
 		if b != nil {
 			return refuse(17)
 		}
-		t.buckets[bname] = &storedBucket{made: now, keys: map[string][]*storedVersion{}, uploads: map[string]*storedUpload{}}
+		b = &storedBucket{made: now, keys: map[string][]*storedVersion{}, uploads: map[string]*storedUpload{}}
+		if t.buckets[bname] = b; enabled == "true" {
+			b.locked, b.state = true, "Enabled"
+		}
 		return empty(200)
 	}
 	if b == nil {
@@ -165,6 +178,9 @@ func (s *standin) handle(r *http.Request, body []byte) *standinAnswer {
 			var v struct{ Status string }
 			if json.Unmarshal(body, &v) != nil || v.Status != "Enabled" && v.Status != "Suspended" {
 				return refuse(11)
+			}
+			if b.locked && v.Status == "Suspended" {
+				return refuse(19)
 			}
 			b.state = v.Status
 			return empty(200)
@@ -240,6 +256,40 @@ func (s *standin) handle(r *http.Request, body []byte) *standinAnswer {
 		return ids(v.id)
 	}
 	want := r.Header.Get("x-amz-checksum-sha256")
+	// What a date is refused with, of a version that has another one or none.
+	refusedDate := func(mode, until, present string) int {
+		at, err := time.Parse("2006-01-02T15:04:05Z", until)
+		switch {
+		case !b.locked:
+			return 28
+		case mode != "COMPLIANCE" || err != nil || at.Unix() <= clock().Unix():
+			return 10
+		case until < present:
+			return 5
+		}
+		return 0
+	}
+	if q.Has("retention") && (m == "GET" || m == "PUT") {
+		var v struct{ Mode, RetainUntilDate string }
+		if m == "PUT" && (json.Unmarshal(body, &v) != nil || v.Mode == "" || v.RetainUntilDate == "") {
+			return refuse(11)
+		}
+		it, f := find()
+		if f != nil {
+			return f
+		}
+		if m == "GET" && it.until == "" {
+			return doc(jsonObject{})
+		}
+		if m == "GET" {
+			return doc(jsonObject{"Mode": "COMPLIANCE", "RetainUntilDate": it.until})
+		}
+		if n := refusedDate(v.Mode, v.RetainUntilDate, it.until); n != 0 {
+			return refuse(n)
+		}
+		it.until = v.RetainUntilDate
+		return empty(200)
+	}
 	if q.Has("uploads") && m == "POST" {
 		t.uploads++
 		u := &storedUpload{id: fmt.Sprintf("%016x", t.uploads), key: key, at: now, parts: map[int]*storedVersion{}}
@@ -332,7 +382,10 @@ func (s *standin) handle(r *http.Request, body []byte) *standinAnswer {
 			}
 			for _, v := range from.keys[sk] {
 				if !has && !v.marker || v.id == id && !v.marker {
-					n := &storedVersion{data: v.data, sum: v.sum}
+					n := &storedVersion{data: v.data, sum: v.sum, until: until}
+					if it := refusedDate(mode, until, ""); mode+until != "" && it != 0 {
+						return refuse(it)
+					}
 					fields := put(n)
 					a := doc(jsonObject{"ChecksumSHA256": n.sum, "LastModified": n.at})
 					a.fields = fields
@@ -351,7 +404,10 @@ func (s *standin) handle(r *http.Request, body []byte) *standinAnswer {
 		if want != "" && want != s {
 			return refuse(26)
 		}
-		n := &storedVersion{data: body, sum: s}
+		n := &storedVersion{data: body, sum: s, until: until}
+		if it := refusedDate(mode, until, ""); mode+until != "" && it != 0 {
+			return refuse(it)
+		}
 		fields := put(n)
 		return empty(200, append([]string{"x-amz-checksum-sha256: " + s}, fields...)...)
 	case "GET", "HEAD":
@@ -386,6 +442,12 @@ func (s *standin) handle(r *http.Request, body []byte) *standinAnswer {
 		return a
 	case "DELETE":
 		if q.Has("versionId") {
+			for _, v := range vs {
+				at, err := time.Parse("2006-01-02T15:04:05Z", v.until)
+				if v.id == q.Get("versionId") && err == nil && clock().Unix() < at.Unix() {
+					return refuse(5)
+				}
+			}
 			if v := drop(q.Get("versionId")); v != nil {
 				f := ids(v.id)
 				if v.marker {

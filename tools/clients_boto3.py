@@ -1,9 +1,11 @@
 """Calls of boto3 through a gateway: clients_boto3.py URL BUCKET. Its last line is 'all ok'."""
 import concurrent.futures
+import datetime
 import io
 import os
 import ssl
 import sys
+import time
 import urllib.request
 
 import boto3
@@ -106,6 +108,36 @@ def versions():
     assert len(list(s3.get_paginator("list_object_versions").paginate(Bucket=B, Prefix="v", PaginationConfig={"PageSize": 1}))) == 3
 
 
+def locks():
+    """Object Lock in compliance mode, until the dates are over."""
+    vault, words = f"{B}-vault", {"Bucket": f"{B}-vault", "Key": "v"}
+    at = datetime.datetime.now(datetime.timezone.utc).replace(microsecond=0) + datetime.timedelta(seconds=20)
+    s3.create_bucket(Bucket=vault, ObjectLockEnabledForBucket=True)
+    assert s3.get_object_lock_configuration(Bucket=vault)["ObjectLockConfiguration"] == {"ObjectLockEnabled": "Enabled"}
+    assert code(lambda: s3.get_object_lock_configuration(Bucket=B)) == "ObjectLockConfigurationNotFoundError"
+    assert code(lambda: s3.put_bucket_versioning(Bucket=vault, VersioningConfiguration={"Status": "Suspended"})) == "InvalidBucketState"
+    first = s3.put_object(**words, Body=b"1", ObjectLockMode="COMPLIANCE", ObjectLockRetainUntilDate=at - datetime.timedelta(seconds=1))["VersionId"]
+    until = lambda when, mode="COMPLIANCE": {"Mode": mode, "RetainUntilDate": when}
+    put = lambda when, mode="COMPLIANCE": s3.put_object_retention(**words, VersionId=first, Retention=until(when, mode))
+    put(at)
+    assert s3.get_object_retention(**words)["Retention"] == until(at)
+    assert code(lambda: put(at - datetime.timedelta(seconds=1))) == "AccessDenied"
+    assert code(lambda: put(at, "GOVERNANCE")) == code(lambda: s3.get_object_legal_hold(**words)) == "NotImplemented"
+    copy = {"Bucket": vault, "Key": "c", "CopySource": words}
+    second = s3.copy_object(**copy, ObjectLockMode="COMPLIANCE", ObjectLockRetainUntilDate=at)["VersionId"]
+    third = s3.copy_object(**copy)["VersionId"]
+    assert code(lambda: s3.get_object_retention(Bucket=vault, Key="c")) == "NoSuchObjectLockConfiguration"
+    assert code(lambda: s3.create_multipart_upload(**words, ObjectLockMode="COMPLIANCE", ObjectLockRetainUntilDate=at)) == "NotImplemented"
+    assert code(lambda: s3.put_object(Bucket=B, Key="v", ObjectLockMode="COMPLIANCE", ObjectLockRetainUntilDate=at)) == "InvalidRequest"
+    assert code(lambda: s3.delete_object(**words, VersionId=first)) == "AccessDenied"
+    gone = s3.delete_objects(Bucket=vault, Delete={"Objects": [{"Key": "c", "VersionId": it} for it in (second, third)]})
+    assert [(it["VersionId"], it["Code"]) for it in gone["Errors"]] == [(second, "AccessDenied")] and len(gone["Deleted"]) == 1, gone
+    assert s3.get_object(**words, VersionId=first)["Body"].read() == b"1"
+    time.sleep(max(0, at.timestamp() - time.time()))
+    boto3.resource("s3", endpoint_url=URL).Bucket(vault).object_versions.delete()
+    s3.delete_bucket(Bucket=vault)
+
+
 def parallel():
     with concurrent.futures.ThreadPoolExecutor(16) as pool:
         list(pool.map(lambda i: s3.put_object(Bucket=B, Key=f"par/{i}", Body=os.urandom(5000)), range(100)))
@@ -119,7 +151,7 @@ def clean():
 
 
 s3.create_bucket(Bucket=B)
-for step in (objects, conditions, listings, transfers, presigned, unset, versions, parallel, clean):
+for step in (objects, conditions, listings, transfers, presigned, unset, versions, locks, parallel, clean):
     try:
         step()
     except Exception as error:

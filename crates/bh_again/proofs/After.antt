@@ -1,20 +1,65 @@
 -- From what an event does to what an open after a stop finds.
-use Rattle.std.proofs.Common.{◌⊎◌, inl, inr, Some, None, sym, subst, ◌∙◌}
+use Rattle.std.proofs.Common.{◌≡◌, ◌⊎◌, inl, inr, Some, None, refl, sym, subst, ◌∙◌}
 use Rattle.std.proofs.Math.Logic.{∥∥₁_map}
 use Rattle.sqlite_disk.specs.declared.Disk.{Ghosts}
 use Rattle.sqlite_store.specs.declared.store.FileStore.{FileStore}
-use Rattle.sqlite.specs.Files.{over_files}
+use Rattle.sqlite.specs.Effect.{Database}
+use Rattle.sqlite.specs.Files.{over_files, file_state}
+use Rattle.sqlite.specs.State.{State}
+use Rattle.bh_types.specs.Limits.{HostLimits}
 use Rattle.bh_model.specs.State.{Octets}
 use Rattle.bh_event.specs.Events.{Arrival}
+use Rattle.bh_tables.specs.Hosts.{tables_shown, tables_opened}
+use Rattle.bh_tables.specs.Schema.{host_schema}
 use Rattle.bh_tables.specs.Typed.{Tables}
+use Rattle.bh_tables.proofs.HostTests.{others_open, other_schema}
 use Rattle.bh_view.specs.Bodies.{IsSoundHost}
 use Rattle.bh_storage.specs.Calls.{IsAtRest}
+use Rattle.bh_schema.specs.Layer.{standing}
 use Rattle.bh_schema.specs.declared.host.Host.{Host}
-use Rattle.bh_schema.specs.Storage.{IsOpen, seen, left}
+use Rattle.bh_schema.specs.Storage.{IsOpen, seen, seen_in, left, left_in}
+use Rattle.bh_schema.proofs.Storing.{sound_host}
+use Rattle.bh_open.specs.Versions.{IsTypedIfFirst}
 use Rattle.bh_open.specs.declared.open.Opened.{Opened}
 use Rattle.bh_host.specs.Runs.{Told}
 use Rattle.bh_host.specs.Turns.{Applied, WouldApply}
-use Rattle.bh_again.specs.Stops.{seen_again, IsCleanAgain, CameBack, AllLeft, IsReopened, HasApplied, IsReady, AddsSound, IsLeftBy, Survives, AfterStop, StaysSound}
+use Rattle.bh_again.specs.Stops.{seen_again, IsCleanAgain, CameBack, ComesBack, AllLeft, AllShown, kept_of, IsLeft, IsOlder, IsReopened, HasApplied, IsReady, AddsSound, IsLeftBy, Survives, AfterStop, OpensSound, StaysSound}
+
+-- ---- a database of version 2, and one of sound tables
+
+second_typed : (db : Database) → db.schema ≡ host_schema → IsTypedIfFirst db
+second_typed db is first = absurd (other_schema db is first)
+
+second_opens : (db : Database) → db.schema ≡ host_schema → tables_opened db ≡ tables_shown db
+second_opens db is = others_open db (other_schema db is)
+
+second_back : {D : Type 0} {g : Ghosts D} (opened : Opened (FileStore D g)) (db : Database) → db.schema ≡ host_schema → ComesBack db opened → CameBack (tables_shown db) opened
+second_back opened db is it = subst (λ (x : Tables). CameBack x opened) (second_opens db is) (it.came_back (second_typed db is))
+
+sound_schema : (digest : Octets → Octets) (db : Database) → IsSoundHost digest (tables_shown db) → db.schema ≡ host_schema
+sound_schema digest db sound = (sound_host db sound.sound).schema
+
+kept_shown : (l : HostLimits) (s : State) → (seen_in l s).kept ≡ tables_shown (standing s).kept
+unfolding seen_in
+kept_shown l s = refl
+
+module _ {D G : Type 0} {g : Ghosts D} (host : Host (FileStore D g) G) where
+  left_shown : (db : Database) → IsLeft host db → left over_files host (tables_shown db)
+  unfolding left_in
+  left_shown db it = (db, it.0, it.1, refl)
+
+  module _ (digest : Octets → Octets) (all : AllLeft (IsSoundHost digest) host) where
+    left_schema : (db : Database) → IsLeft host db → db.schema ≡ host_schema
+    left_schema db it = sound_schema digest db (all (tables_shown db) (left_shown db it))
+
+    all_shown : AllShown (IsSoundHost digest) host
+    all_shown db it = subst (IsSoundHost digest) (sym (second_opens db (left_schema db it))) (all (tables_shown db) (left_shown db it))
+
+    none_older : (x : Tables) → ¬ IsOlder host x
+    none_older x older = other_schema older.db (left_schema older.db older.may) older.schema
+
+pub opens_sound : {D G : Type 0} {g : Ghosts D} (digest : Octets → Octets) → OpensSound g G digest
+opens_sound digest host all = (all_shown host digest all, none_older host digest all)
 
 pub stays_sound : {D G : Type 0} {g : Ghosts D} (digest : Octets → Octets) → StaysSound g G digest
 stays_sound digest old new adds were intact x leaves = elim (adds intact x leaves) [
@@ -22,23 +67,35 @@ stays_sound digest old new adds were intact x leaves = elim (adds intact x leave
   | inr sound ↦ sound
 ]
 
+-- ---- after an event
+
 module _ {D G : Type 0} {g : Ghosts D} (digest : Octets → Octets) (event : Arrival) (old new : Host (FileStore D g) G) (opened : Opened (FileStore D g))
     (ready : IsReady digest new) (again : IsReopened new opened) (clean : IsCleanAgain opened) where
   -- of a store that no fault has shut, what stood after the event
   came_back : IsOpen over_files new → CameBack (seen over_files new).now opened
-  came_back up = subst (λ (x : Tables). CameBack x opened) (ready (again.intact clean, up)).committed (again.came_back clean up)
+  came_back up =
+      let it = ready (again.intact clean, up) in
+      let shown : tables_shown (kept_of new) ≡ (seen over_files new).now = sym (kept_shown new.limits (file_state new.connection)) ∙ it.committed in
+      let schema = sound_schema digest (kept_of new) (subst (IsSoundHost digest) (sym shown) it.sound) in
+      subst (λ (x : Tables). CameBack x opened) shown (second_back opened (kept_of new) schema (again.came_back clean up))
 
   rests : IsOpen over_files new → IsAtRest (IsSoundHost digest) (seen_again opened)
   rests up = (came_back up).rest digest (ready (again.intact clean, up)).sound
 
   merely_rests : AddsSound digest old new → AllLeft (IsSoundHost digest) old → ∥ IsAtRest (IsSoundHost digest) (seen_again opened) ∥₁
-  merely_rests adds were = ∥∥₁_map (again.merely clean) (λ it. it.2.rest digest (stays_sound digest old new adds were (again.intact clean) it.0 it.1))
+  merely_rests adds were = ∥∥₁_map (again.merely clean) (λ it.
+      let all = stays_sound digest old new adds were (again.intact clean) in
+      (second_back opened it.0 (left_schema new digest all it.0 it.1) it.2).rest digest (all (tables_shown it.0) (left_shown new it.0 it.1)))
 
   leaves : (told : Told) → HasApplied event told old new → IsLeftBy event told old new (seen_again opened).now
   leaves (None, reply) applied =
-      let Before : Tables → Type 0 = λ x. left over_files old x ⊎ (IsOpen over_files old × WouldApply event (seen over_files old).now x) in (
+      let Before : Tables → Type 0 = λ x. left over_files old x ⊎ (IsOpen over_files old × WouldApply event (seen over_files old).now x) in
+      let found : (db : Database) → IsLeft new db → ComesBack db opened → Before (seen_again opened).now ⊎ IsOlder new (seen_again opened).now = λ db may back. elim back.schema [
+        | inl first ↦ inr (record { db = db; may = may; schema = first; shown = λ typed. (back.came_back typed).tables })
+        | inr second ↦ inl (subst Before (sym (second_back opened db second back).tables) (applied.crash (again.intact clean) (tables_shown db) (left_shown new db may)))
+      ] in (
         λ up. (came_back up).tables ∙ (applied.applied (again.intact clean) up).1,
-        ∥∥₁_map (again.merely clean) (λ it. subst Before (sym it.2.tables) (applied.crash (again.intact clean) it.0 it.1)),
+        ∥∥₁_map (again.merely clean) (λ it. found it.0 it.1 it.2),
       )
   leaves (Some m, reply) applied =
       let did = applied.applied (again.intact clean) in

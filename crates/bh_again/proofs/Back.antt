@@ -1,56 +1,68 @@
 -- From a crash to the host that is opened after it.
 use mathlib.Core.HLevel.{⊥_prop}
-use Rattle.std.proofs.Common.{◌≡◌, ℕ, ◌≤◌, zero, suc, [], ◌∷◌, refl, sym, ap, subst, ◌∙◌, arith}
+use Rattle.std.proofs.Common.{◌≡◌, ◌⊎◌, inl, inr, ℕ, ◌≤◌, zero, suc, true, List, [], ◌∷◌, map, length, refl, sym, ap, subst, ◌∙◌, arith}
+use Rattle.std.specs.List.{list_all}
 use Rattle.std.proofs.Math.Logic.{∥∥₁_elim, ∥∥₁_map}
+use Rattle.std.proofs.lemmas.Bool.{and_parts, eqb-true}
 use Rattle.sqlite_disk.specs.declared.Disk.{Ghosts}
 use Rattle.sqlite_store.specs.declared.store.FileStore.{FileStore}
 use Rattle.sqlite.specs.Effect.{Database, IsDatabase}
 use Rattle.sqlite.specs.Tree.{Trees}
 use Rattle.sqlite.specs.State.{State, Opens, IsLive, HasCleanDisk}
 use Rattle.bh_types.specs.BlockDigests.{digest_number}
-use Rattle.bh_types.specs.Limits.{HostLimits}
+use Rattle.bh_types.specs.Limits.{HostLimits, AreLimits}
 use Rattle.bh_types.specs.declared.block_digest.BlockDigest.{BlockDigest}
 use Rattle.bh_types.specs.declared.block_digest.BlockDigest.TheVariants.{Sha256, Fast}
 use Rattle.bh_model.specs.State.{Octets}
-use Rattle.bh_tables.specs.Hosts.{tables_shown}
-use Rattle.bh_tables.specs.Typed.{Tables, tables_in}
-use Rattle.bh_tables.proofs.HostTests.{host_shows}
+use Rattle.bh_tables.specs.Hosts.{is_first_version, with_version, tables_opened}
+use Rattle.bh_tables.specs.Schema.{first_schema, host_schema}
+use Rattle.bh_tables.specs.Typed.{HostRow, Tables, tables_in, first_tables_in}
+use Rattle.bh_tables.proofs.HostTests.{host_opens, first_opens, opened_host}
 use Rattle.bh_view.specs.Bodies.{IsSoundHost}
 use Rattle.bh_view.specs.View.{latest_of}
 use Rattle.bh_storage.specs.Calls.{IsAtRest}
-use Rattle.bh_schema.specs.Layer.{Standing, standing, IsIntact, IsOpen, IsStateClean, Leaves, KeepsDisk}
-use Rattle.bh_schema.specs.Storage.{seen_in, left_in}
-use Rattle.bh_schema.proofs.Storing.{sound_host}
+use Rattle.bh_schema.specs.Layer.{standing, IsIntact, IsOpen, IsStateClean, Leaves, KeepsDisk}
 use Rattle.bh_schema.proofs.Committing.{same_database}
 use Rattle.bh_open.specs.Opening.{digest_in, IsHostOf}
+use Rattle.bh_open.specs.Versions.{IsTypedIfFirst}
+use Rattle.bh_open.specs.declared.found.HostVersion.TheVariants.{First, Second}
 use Rattle.bh_open.specs.declared.open.Opened.{Opened}
-use Rattle.bh_again.specs.Stops.{seen_again, IsCleanAgain, CameBack}
+use Rattle.bh_again.specs.Stops.{seen_again, IsCleanAgain, ComesBack}
 
--- ---- a host that was opened, once its tables are known
+-- ---- a host that was opened, once its database is known
 
-module _ {D : Type 0} {g : Ghosts D} (opened : Opened (FileStore D g)) (clean : IsCleanAgain opened)
-    (rest : (digest : Octets → Octets) → IsCleanAgain opened → IsSoundHost digest (seen_again opened).now → IsAtRest (IsSoundHost digest) (seen_again opened))
-    (latest : (digest : Octets → Octets) → IsCleanAgain opened → IsSoundHost digest (seen_again opened).now → opened.latest ≡ latest_of (seen_again opened).now)
-    (named : (digest : Octets → Octets) → IsCleanAgain opened → IsSoundHost digest (seen_again opened).now → digest_number opened.digest ≡ digest_in (seen_again opened).now) where
-  pub back_with : (kept : Tables) → (seen_again opened).now ≡ kept → CameBack kept opened
-  back_with kept is =
-      let here : (digest : Octets → Octets) → IsSoundHost digest kept → IsSoundHost digest (seen_again opened).now = λ digest sound. subst (IsSoundHost digest) (sym is) sound in
-      record {
-        tables = is;
-        rest = λ digest sound. rest digest clean (here digest sound);
-        latest = λ digest sound. latest digest clean (here digest sound) ∙ ap latest_of is;
-        named = λ digest sound. named digest clean (here digest sound) ∙ ap digest_in is;
-      }
+module _ {D : Type 0} {g : Ghosts D} (opened : Opened (FileStore D g)) (clean : IsCleanAgain opened) (db : Database)
+    (schema : (db.schema ≡ first_schema) ⊎ (db.schema ≡ host_schema))
+    (shows : IsCleanAgain opened → IsTypedIfFirst db → (seen_again opened).now ≡ tables_opened db)
+    (rest : (digest : Octets → Octets) → IsCleanAgain opened → IsTypedIfFirst db → IsSoundHost digest (seen_again opened).now → IsAtRest (IsSoundHost digest) (seen_again opened))
+    (latest : (digest : Octets → Octets) → IsCleanAgain opened → IsTypedIfFirst db → IsSoundHost digest (seen_again opened).now → opened.latest ≡ latest_of (seen_again opened).now)
+    (named : (digest : Octets → Octets) → IsCleanAgain opened → IsTypedIfFirst db → IsSoundHost digest (seen_again opened).now → digest_number opened.digest ≡ digest_in (seen_again opened).now) where
+  comes : ComesBack db opened
+  comes = record {
+    schema = schema;
+    came_back = λ typed.
+        let is = shows clean typed in
+        let here : (digest : Octets → Octets) → IsSoundHost digest (tables_opened db) → IsSoundHost digest (seen_again opened).now = λ digest sound. subst (IsSoundHost digest) (sym is) sound in
+        record {
+          tables = is;
+          rest = λ digest sound. rest digest clean typed (here digest sound);
+          latest = λ digest sound. latest digest clean typed (here digest sound) ∙ ap latest_of is;
+          named = λ digest sound. named digest clean typed (here digest sound) ∙ ap digest_in is;
+        };
+  }
+
+  pub comes_back : (it : Database) → db ≡ it → ComesBack it opened
+  comes_back it is = subst (λ (x : Database). ComesBack x opened) is comes
 
 -- ---- what a crash leaves of a connection that no fault has shut
 
-pub left_alone : (l : HostLimits) (s : State) → IsLive s → IsOpen s → ((db : Trees) → Leaves s db → db ≡ (standing s).kept.trees) → (x : Tables) → left_in s x → x ≡ (seen_in l s).kept
-unfolding left_in seen_in standing IsOpen
-left_alone l s live up settled x it = it.3 ∙ ap tables_shown (same_database it.0 s.committed it.2 (live up).1 (settled it.0.trees it.1))
+pub left_alone : (s : State) → IsLive s → IsOpen s → ((db : Trees) → Leaves s db → db ≡ (standing s).kept.trees) → (db : Database) → Leaves s db.trees × IsDatabase db → db ≡ (standing s).kept
+unfolding standing IsOpen
+left_alone s live up settled db it = same_database db s.committed it.1 (live up).1 (settled db.trees it.0)
 
 -- ---- the database that was found
 
-module _ (old mid new : State) (follows : KeepsDisk mid new) (same : IsStateClean new → standing new ≡ standing mid) (opened : HasCleanDisk mid → Opens mid × IsLive mid) where
+module _ (old mid new : State) (follows : KeepsDisk mid new) (opened : HasCleanDisk mid → Opens mid × IsLive mid) where
   was : IsStateClean new → HasCleanDisk mid
   unfolding IsIntact
   was clean = (follows.clean clean).intact
@@ -59,26 +71,20 @@ module _ (old mid new : State) (follows : KeepsDisk mid new) (same : IsStateClea
   unfolding IsIntact
   was_intact before clean = before (was clean)
 
-  -- one of the tables that a crash may leave is shown
-  pub shows_left : (l : HostLimits) → (HasCleanDisk mid → ∥ old.may_leave mid.committed.trees ∥₁) → IsStateClean new → ∥ ((x : Tables) × left_in old x × ((seen_in l new).now ≡ x)) ∥₁
-  unfolding left_in Leaves seen_in standing
-  shows_left l left clean =
+  -- it is one that a crash may leave
+  pub found_left : (HasCleanDisk mid → ∥ old.may_leave mid.committed.trees ∥₁) → IsStateClean new → ∥ ((db : Database) × (Leaves old db.trees × IsDatabase db) × ((standing mid).now ≡ db)) ∥₁
+  unfolding Leaves standing
+  found_left left clean =
       let all = opened (was clean) in
-      ∥∥₁_map (left (was clean)) (λ may. let r : (x : Tables) × left_in old x × ((seen_in l new).now ≡ x) = (
-        tables_shown mid.committed,
-        (mid.committed, may, (all.1 all.0.is_open).1, refl),
-        ap (λ (x : Standing). tables_shown x.now) (same clean) ∙ ap tables_shown all.0.clean,
-      ) in r)
+      ∥∥₁_map (left (was clean)) (λ may. let r : (db : Database) × (Leaves old db.trees × IsDatabase db) × ((standing mid).now ≡ db) = (mid.committed, (may, (all.1 all.0.is_open).1), all.0.clean) in r)
 
   -- of a connection that no fault has shut, what was committed
-  pub shows_kept : (found : HasCleanDisk mid → (kept : Database) → IsDatabase kept → ((db : Trees) → old.may_leave db → db ≡ kept.trees) → mid.now ≡ kept)
-      → IsLive old → (IsOpen old → (db : Trees) → Leaves old db → db ≡ (standing old).kept.trees)
-      → (l m : HostLimits) → IsStateClean new → IsOpen old → (seen_in m new).now ≡ (seen_in l old).kept
-  unfolding seen_in standing IsOpen Leaves
-  shows_kept found live settled l m clean up =
-      ap (λ (x : Standing). tables_shown x.now) (same clean) ∙ ap tables_shown (found (was clean) old.committed (live up).1 (settled up))
+  pub found_kept : (found : HasCleanDisk mid → (kept : Database) → IsDatabase kept → ((db : Trees) → old.may_leave db → db ≡ kept.trees) → mid.now ≡ kept)
+      → IsLive old → (IsOpen old → (db : Trees) → Leaves old db → db ≡ (standing old).kept.trees) → IsStateClean new → IsOpen old → (standing mid).now ≡ (standing old).kept
+  unfolding standing IsOpen Leaves
+  found_kept found live settled clean up = found (was clean) old.committed (live up).1 (settled up)
 
--- ---- sound tables are a host's
+-- ---- sound tables are a host's, of either version
 
 -- their row has the number of a function that is known
 named_by : (n : ℕ) → n ≤ 1 → (named : BlockDigest) × (digest_number named ≡ n)
@@ -86,24 +92,58 @@ named_by zero known = (Sha256, refl)
 named_by (suc zero) known = (Fast, refl)
 named_by (suc (suc n)) known = absurd (omega arith)
 
-hosts_database : (digest : Octets → Octets) (db : Database) → IsSoundHost digest (tables_shown db) → (limits : HostLimits) × IsHostOf limits db
+-- the one row that was brought over
+one_before : (rows : List HostRow) (row : HostRow) → map (with_version 2) rows ≡ row ∷ [] → list_all is_first_version rows ≡ true
+    → (h : HostRow) × (rows ≡ h ∷ []) × (with_version 2 h ≡ row) × (h.version ≡ 1)
+one_before [] row is first = absurd (cc)
+one_before (h ∷ []) row is first = (h, refl, (let e = is in cc), eqb-true h.version 1 (and_parts _ _ first).0)
+one_before (h ∷ k ∷ rows) row is first = let e = ap length is in absurd (omega (arith, e))
+
+hosts_database : (digest : Octets → Octets) (db : Database) → IsSoundHost digest (tables_opened db) → (limits : HostLimits) × IsHostOf limits db
 hosts_database digest db sound =
-    let host = sound_host db sound.sound in
     let it = sound.sound.host in
-    let there : (tables_in db).host ≡ it.row ∷ [] = ap (λ (t : Tables). t.host) (sym (host_shows db host)) ∙ it.alone in
-    let by = named_by it.row.digest it.good.digest in (
-      record { min_part = it.row.min_part; max_body = it.row.max_body },
-      record {
-        host = host;
-        row = record { row = it.row; alone = there; version = it.good.version; range = it.good.limits; limits_are = refl; named = by.0; number = by.1 };
-      },
-    )
+    let by = named_by it.row.digest it.good.digest in
+    let limits : HostLimits = record { min_part = it.row.min_part; max_body = it.row.max_body } in
+    elim (opened_host db it.row it.alone) [
+      | inl host ↦
+          let there : (tables_in db).host ≡ it.row ∷ [] = ap (λ (t : Tables). t.host) (sym (host_opens db host)) ∙ it.alone in (
+            limits,
+            (
+              Second,
+              record {
+                host = host;
+                row = record { row = it.row; alone = there; version_is = it.good.version; range = it.good.limits; limits_are = refl; named = by.0; number = by.1 };
+              },
+            ),
+          )
+      | inr first ↦
+          let there : map (with_version 2) (first_tables_in db).host ≡ it.row ∷ [] = ap (λ (t : Tables). t.host) (sym (first_opens db first)) ∙ it.alone in
+          let one = one_before (first_tables_in db).host it.row there first.version in
+          let same : with_version 2 one.0 ≡ it.row = one.2 in (
+            limits,
+            (
+              First,
+              record {
+                host = first.first;
+                row = record {
+                  row = one.0;
+                  alone = one.1;
+                  version_is = one.3;
+                  range = subst (λ (r : HostRow). AreLimits r.min_part r.max_body) (sym same) it.good.limits;
+                  limits_are = ap (λ (r : HostRow). record { min_part = r.min_part; max_body = r.max_body }) (sym same);
+                  named = by.0;
+                  number = by.1 ∙ ap (λ (r : HostRow). r.digest) (sym same);
+                };
+              },
+            ),
+          )
+    ]
 
 -- so they aren't refused as none
-pub never_none : (digest : Octets → Octets) (old mid : State) → ∥ old.may_leave mid.committed.trees ∥₁ → Opens mid × IsLive mid → ((x : Tables) → left_in old x → IsSoundHost digest x)
+pub never_none : (digest : Octets → Octets) (old mid : State) → ∥ old.may_leave mid.committed.trees ∥₁ → Opens mid × IsLive mid → ((db : Database) → Leaves old db.trees × IsDatabase db → IsSoundHost digest (tables_opened db))
     → ((limits : HostLimits) → ¬ IsHostOf limits (standing mid).now) → ⊥
-unfolding left_in Leaves standing
+unfolding Leaves standing
 never_none digest old mid left opens sound none = ∥∥₁_elim left ⊥_prop (λ may.
-    let was = sound (tables_shown mid.committed) (mid.committed, may, (opens.1 opens.0.is_open).1, refl) in
-    let it = hosts_database digest mid.now (subst (λ (db : Database). IsSoundHost digest (tables_shown db)) (sym opens.0.clean) was) in
+    let was = sound mid.committed (may, (opens.1 opens.0.is_open).1) in
+    let it = hosts_database digest mid.now (subst (λ (db : Database). IsSoundHost digest (tables_opened db)) (sym opens.0.clean) was) in
     none it.0 it.1)

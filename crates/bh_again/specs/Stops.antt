@@ -2,19 +2,24 @@
 use Rattle.std.specs.Prelude.{◌≡◌, ◌≢◌, ◌⊎◌, Some, None}
 use Rattle.sqlite_disk.specs.declared.Disk.{Ghosts}
 use Rattle.sqlite_store.specs.declared.store.FileStore.{FileStore}
+use Rattle.sqlite.specs.Effect.{Database, IsDatabase}
 use Rattle.sqlite.specs.Files.{over_files, file_state}
 use Rattle.bh_types.specs.BlockDigests.{digest_number}
 use Rattle.bh_types.specs.declared.refusal.Refusal.TheVariants as refusal
 use Rattle.bh_model.specs.State.{Octets}
 use Rattle.bh_event.specs.Events.{Arrival}
+use Rattle.bh_tables.specs.Hosts.{tables_opened}
+use Rattle.bh_tables.specs.Schema.{first_schema, host_schema}
 use Rattle.bh_tables.specs.Typed.{Tables}
 use Rattle.bh_view.specs.Bodies.{IsSoundHost}
 use Rattle.bh_view.specs.View.{latest_of}
 use Rattle.bh_storage.specs.Calls.{Seen, IsAtRest, LeavesSound}
 use Rattle.bh_schema.specs.Connections as connection
+use Rattle.bh_schema.specs.Layer.{standing, Leaves}
 use Rattle.bh_schema.specs.declared.host.Host.{Host}
 use Rattle.bh_schema.specs.Storage.{seen_in, IsIntact, IsOpen, IsClean, seen, left}
 use Rattle.bh_open.specs.Opening.{digest_in}
+use Rattle.bh_open.specs.Versions.{IsTypedIfFirst}
 use Rattle.bh_open.specs.declared.open.Opened.{Opened}
 use Rattle.bh_host.specs.Runs.{Told}
 use Rattle.bh_host.specs.Turns.{Applied, WouldApply}
@@ -38,6 +43,12 @@ module _ {D : Type 0} {g : Ghosts D} where
     pub latest : (digest : Octets → Octets) → IsSoundHost digest kept → opened.latest ≡ latest_of kept
     pub named : (digest : Octets → Octets) → IsSoundHost digest kept → digest_number opened.digest ≡ digest_in kept
 
+  -- it is the host of this database, of either version, and has the tables that an open shows of it. Rows under the schema of
+  -- version 1 are to be typed rows
+  pub record ComesBack (db : Database) (opened : Opened (FileStore D g)) : Type 0 where
+    pub schema : (db.schema ≡ first_schema) ⊎ (db.schema ≡ host_schema)
+    pub came_back : IsTypedIfFirst db → CameBack (tables_opened db) opened
+
   -- the files aren't said to hold no host
   abbrev pub IsNotNone : ReopenError D g → Type 0
   IsNotNone (reopen.Files error) = Unit {0}
@@ -50,11 +61,22 @@ module _ {D : Type 0} {g : Ghosts D} where
     abbrev pub AllLeft : (Tables → Type 0) → Host (FileStore D g) G → Type 0
     AllLeft P host = (x : Tables) → left over_files host x → P x
 
+    -- the database that was committed, and one that a crash may leave
+    abbrev pub kept_of : Host (FileStore D g) G → Database
+    kept_of host = (standing (file_state host.connection)).kept
+
+    abbrev pub IsLeft : Host (FileStore D g) G → Database → Type 0
+    IsLeft host db = Leaves (file_state host.connection) db.trees × IsDatabase db
+
+    -- all tables that an open may show after a crash, of a database of either version
+    abbrev pub AllShown : (Tables → Type 0) → Host (FileStore D g) G → Type 0
+    AllShown P host = (db : Database) → IsLeft host db → P (tables_opened db)
+
     -- what `stop_and_open_host` promises of one that was opened again
     pub record IsReopened (host : Host (FileStore D g) G) (opened : Opened (FileStore D g)) : Type 0 where
       pub intact : IsCleanAgain opened → IsIntact over_files host
-      pub came_back : IsCleanAgain opened → IsOpen over_files host → CameBack (seen over_files host).kept opened
-      pub merely : IsCleanAgain opened → ∥ ((x : Tables) × left over_files host x × CameBack x opened) ∥₁
+      pub came_back : IsCleanAgain opened → IsOpen over_files host → ComesBack (kept_of host) opened
+      pub merely : IsCleanAgain opened → ∥ ((db : Database) × IsLeft host db × ComesBack db opened) ∥₁
 
     -- ---- an event before it
 
@@ -68,12 +90,20 @@ module _ {D : Type 0} {g : Ghosts D} where
     abbrev pub AddsSound : (Octets → Octets) → Host (FileStore D g) G → Host (FileStore D g) G → Type 0
     AddsSound digest old new = IsIntact over_files new → LeavesSound (IsSoundHost digest) (left over_files) old new
 
+    -- these are the tables of a database of version 1 that a crash may leave, brought over
+    pub record IsOlder (host : Host (FileStore D g) G) (x : Tables) : Type 0 where
+      pub db : Database
+      pub may : IsLeft host db
+      pub schema : db.schema ≡ first_schema
+      pub shown : IsTypedIfFirst db → x ≡ tables_opened db
+
     -- the tables that a host has after an event, a stop and an open. With a stamp: what the event did. Without: what stood
-    -- before it, where no fault has shut the store, and else what a crash might have left before, or the commit would have given
+    -- before it, where no fault has shut the store, and else what a crash might have left before, or the commit would have
+    -- given. Only of a store that a crash may leave a database of version 1 of is there a third
     abbrev pub IsLeftBy : Arrival → Told → Host (FileStore D g) G → Host (FileStore D g) G → Tables → Type 0
     IsLeftBy event (None, reply) old new x =
         (IsOpen over_files new → x ≡ (seen over_files old).now)
-        × ∥ (left over_files old x ⊎ (IsOpen over_files old × WouldApply event (seen over_files old).now x)) ∥₁
+        × ∥ ((left over_files old x ⊎ (IsOpen over_files old × WouldApply event (seen over_files old).now x)) ⊎ IsOlder new x) ∥₁
     IsLeftBy event (Some m, reply) old new x = Applied event (seen over_files old).now x (Some m) reply
 
     pub record Survives (digest : Octets → Octets) (event : Arrival) (told : Told) (old new : Host (FileStore D g) G) (opened : Opened (FileStore D g)) : Type 0 where
@@ -86,6 +116,11 @@ module _ {D : Type 0} {g : Ghosts D} where
 abbrev pub AfterStop : {D : Type 0} → Ghosts D → Type 0 → (Octets → Octets) → Type 0
 AfterStop {D} g G digest = (event : Arrival) (told : Told) (old new : Host (FileStore D g) G) (opened : Opened (FileStore D g))
     → HasApplied event told old new → IsReady digest new → IsReopened new opened → IsCleanAgain opened → Survives digest event told old new opened
+
+-- where a crash leaves none but sound tables, an open after it shows none but sound ones, and finds no database of version 1
+abbrev pub OpensSound : {D : Type 0} → Ghosts D → Type 0 → (Octets → Octets) → Type 0
+OpensSound {D} g G digest = (host : Host (FileStore D g) G) → AllLeft (IsSoundHost digest) host
+    → AllShown (IsSoundHost digest) host × ((x : Tables) → ¬ IsOlder host x)
 
 -- where a crash before an event would have left none but sound tables, so does one after it
 abbrev pub StaysSound : {D : Type 0} → Ghosts D → Type 0 → (Octets → Octets) → Type 0

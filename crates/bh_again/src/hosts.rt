@@ -1,15 +1,15 @@
 ghost use Rattle.std.specs.Prelude.{◌≡◌, IfOk, IfErr};
+ghost use Rattle.sqlite.specs.Effect.{Database};
 ghost use Rattle.sqlite.specs.Files.{over_files};
 ghost use Rattle.sqlite.specs.Held.{state};
 ghost use Rattle.sqlite.specs.State.{IsLive};
 ghost use Rattle.sqlite.specs.Tree.{Trees};
 ghost use Rattle.bh_model.specs.State.{Octets};
-ghost use Rattle.bh_tables.specs.Typed.{Tables};
 ghost use Rattle.bh_view.specs.Bodies.{IsSoundHost};
 ghost use Rattle.bh_schema.specs.Layer as layer;
 ghost use Rattle.bh_schema.specs.Layer.{standing, Leaves};
-ghost use Rattle.bh_schema.specs.Storage.{IsIntact, IsOpen, seen, left};
-ghost use Rattle.bh_again.specs.Stops.{IsCleanAgain, CameBack, IsNotNone, AllLeft};
+ghost use Rattle.bh_schema.specs.Storage.{IsIntact, IsOpen};
+ghost use Rattle.bh_again.specs.Stops.{IsCleanAgain, ComesBack, IsNotNone, AllShown, IsLeft, kept_of};
 
 use crate::files::stop_and_open;
 use bh_open::{OpenError, Opened, open_host};
@@ -40,8 +40,9 @@ fn look<S: Alter>(connection: &Connection<S>)
 /// Stops the machine under a host, whatever it was at, and opens its files again. The digester is to be of the function that
 /// names its blocks: it isn't known but by what was opened.
 ///
-/// Of a host that no fault has shut, what was committed comes back; of another one, some tables that a crash may leave. Where
-/// all that it may leave is sound, the host that comes back is at rest, and `NotAHostFile` is not among the errors.
+/// Of a host that no fault has shut, what was committed comes back; of another one, some database that a crash may leave. One of
+/// version 1 comes back brought over. Where all that an open may show is sound, the host that comes back is at rest, and
+/// `NotAHostFile` is not among the errors.
 pub fn stop_and_open_host<D: Crash + Drop, G: Digester + Drop>(
     alloc: Global,
     host: Host<FileStore<D>, G>,
@@ -49,13 +50,12 @@ pub fn stop_and_open_host<D: Crash + Drop, G: Digester + Drop>(
     tuning: Tuning,
 ) -> Result<Opened<FileStore<D>>, ReopenError<D>>
     ensures given { IfOk result (λ opened. opened.tuning ≡ tuning) }
-    ensures settled { IsOpen over_files host → AllLeft (λ x. x ≡ (seen over_files host).kept) host }
+    ensures settled { IsOpen over_files host → (db : Database) → IsLeft host db → db ≡ kept_of host }
     ensures intact { IfOk result (λ opened. IsCleanAgain opened → IsIntact over_files host) }
-    ensures came_back { IfOk result (λ opened. IsCleanAgain opened → IsOpen over_files host
-        → CameBack (seen over_files host).kept opened) }
+    ensures came_back { IfOk result (λ opened. IsCleanAgain opened → IsOpen over_files host → ComesBack (kept_of host) opened) }
     ensures merely { IfOk result (λ opened. IsCleanAgain opened
-        → ∥ ((x : Tables) × left over_files host x × CameBack x opened) ∥₁) }
-    ensures never { (digest : Octets → Octets) → (IsIntact over_files host → AllLeft (IsSoundHost digest) host)
+        → ∥ ((db : Database) × IsLeft host db × ComesBack db opened) ∥₁) }
+    ensures never { (digest : Octets → Octets) → (IsIntact over_files host → AllShown (IsSoundHost digest) host)
         → IfErr result IsNotNone }
 {
     let connection = host.into_connection();

@@ -1,6 +1,6 @@
 //! What follows for a host whose machine stops after an event, each law the contract of a function that does nothing.
 
-ghost use Rattle.bh_again.specs.Stops.{AfterStop, StaysSound};
+ghost use Rattle.bh_again.specs.Stops.{AfterStop, OpensSound, StaysSound};
 
 use bh_schema::host::Digester;
 use sqlite_disk::Crash;
@@ -14,4 +14,9 @@ pub fn after_stop<D: Crash, G: Digester>()
 /// Whatever comes of an event, a crash after it leaves none but sound tables, where one before it would have.
 pub fn stays_sound<D: Crash, G: Digester>()
     ensures { StaysSound D.Disk G G.digest_of }
+{}
+
+/// Where a crash leaves none but sound tables, an open after it shows none but sound ones, and finds no host of version 1.
+pub fn opens_sound<D: Crash, G: Digester>()
+    ensures { OpensSound D.Disk G G.digest_of }
 {}

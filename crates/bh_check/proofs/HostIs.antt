@@ -1,4 +1,4 @@
--- A database whose rows were checked is a host's.
+-- The rows that were checked are typed rows.
 use Rattle.std.proofs.Common.{◌≡◌, ℕ, pos, ◌+◌, sum_by, filter, Bool, true, false, ◌&&◌, List, [], ◌∷◌, map, refl, sym, ap, ap₂, ◌∙◌}
 use Rattle.std.specs.List.{AllByRecursion}
 use Rattle.std.specs.Ordering.{int_eq}
@@ -11,14 +11,14 @@ use Rattle.sqlite_typed.specs.Tests.{bytes_eq}
 use Rattle.bh_rows.specs.Form.{AreRows, typed}
 use Rattle.bh_tables.specs.Schema.{Octets, host_schema}
 use Rattle.bh_tables.specs.Bodies.{resolved, resolved_part, same_name}
-use Rattle.bh_tables.specs.Typed.{Totals, totals_of, tables_in, raw, AreHeld, IsHost, TenantColumns, UploadColumns, VersionRow, PartRow, tenant_columns, upload_columns, tenant_form, stored_tenant_form, upload_form, stored_upload_form, block_form, ref_form, version_of, part_of, bytes_used, bytes_kept}
+use Rattle.bh_tables.specs.Typed.{Totals, totals_of, tables_in, raw, AreHeld, TenantColumns, UploadColumns, VersionRow, PartRow, tenant_columns, upload_columns, tenant_form, stored_tenant_form, upload_form, stored_upload_form, block_form, ref_form, version_of, part_of, bytes_used, bytes_kept}
 use Rattle.bh_tables.proofs.StoredLemmas.{Uses, Keeps, held_shown}
 use Rattle.bh_stored.specs.Cells.{is_fit}
 use Rattle.bh_check.specs.Checked.{IsChecked}
 use Rattle.bh_stored.specs.Fits.{tenant_kinds, upload_kinds, use_kinds}
 use Rattle.bh_check.specs.Holds.{owner, first_two, number_at, version_bytes, part_bytes, upload_bytes, block_refs, Holds}
 use Rattle.bh_check.specs.declared.rows.Table.TheVariants as table
-use Rattle.bh_stored.proofs.Fitted.{hosts_are, tenants_are, keys_are, buckets_are, versions_are, blocks_are, refs_are, uploads_are, parts_are, uses_are, used_is, kept_is}
+use Rattle.bh_stored.proofs.Fitted.{hosts_are, tenants_are, keys_are, buckets_are, versions_are, blocks_are, refs_are, uploads_are, parts_are, uses_are, locks_are, retains_are, used_is, kept_is}
 use Rattle.bh_check.proofs.CountsAre.{counts_are, refs_counted}
 use Rattle.bh_check.proofs.TotalIs.{total_twice}
 
@@ -26,7 +26,7 @@ pub and_true : (b : Bool) → b ≡ (b && true)
 and_true true = refl
 and_true false = refl
 
-module _ (digest : Octets → Octets) (d : Trees) (c : IsChecked digest d) where
+module _ (has : Bool) (digest : Octets → Octets) (d : Trees) (c : IsChecked has digest d) where
   abbrev db : Database
   db = record { schema = host_schema; trees = d }
 
@@ -57,20 +57,19 @@ module _ (digest : Octets → Octets) (d : Trees) (c : IsChecked digest d) where
       (all_both (λ r. is_fit upload_kinds r ≡ true) (Holds d c.latest table.Uploads) (λ r. Keeps sums (stored_upload_form.decode r))
       (λ r fit h. kept_is r fit ∙ ap pos (h.kept ∙ sym (kept_sum (bytes_of (column r 1)) (number_at 2 r)))) (d 16) (all_from_test (is_fit upload_kinds) (d 16) c.fits.uploads.fit) c.rows.uploads)
 
-  pub host_is : IsHost db
-  host_is = record {
-    schema = refl;
-    held = record {
-      host = hosts_are (d 0) c.fits.host;
-      tenants = held_shown (tenant_form sums) stored_tenant_form (λ (x : TenantColumns). x.row) (Uses sums) (λ r. refl) (λ x k. ap (λ n. tenant_columns n x.row) k) (λ r h. ap (λ x. int_of (column x 6)) h) (d 1) (tenants_are (d 1) c.fits.tenants) uses;
-      keys = keys_are (d 3) c.fits.keys;
-      buckets = buckets_are (d 5) c.fits.buckets;
-      versions = versions_are (d 7) c.fits.versions;
-      blocks = blocks_are (d 10) c.fits.blocks;
-      refs = refs_are (d 12) c.fits.refs;
-      uploads = held_shown (upload_form sums) stored_upload_form (λ (x : UploadColumns). x.row) (Keeps sums) (λ r. refl) (λ x k. ap (λ n. upload_columns n x.row) k) (λ r h. ap (λ x. int_of (column x 6)) h) (d 16) (uploads_are (d 16) c.fits.uploads) keeps;
-      parts = parts_are (d 18) c.fits.parts;
-      uses = uses_are (d 23) c.fits.uses;
-      counts = counts_are (block_refs d) (typed ref_form (d 12)) (refs_counted d) (d 23) (d 10) (all_from_test (is_fit use_kinds) (d 23) c.fits.uses.fit) c.counts;
-    };
+  pub held_is : AreHeld sums (raw d)
+  held_is = record {
+    host = hosts_are (d 0) c.fits.host;
+    tenants = held_shown (tenant_form sums) stored_tenant_form (λ (x : TenantColumns). x.row) (Uses sums) (λ r. refl) (λ x k. ap (λ n. tenant_columns n x.row) k) (λ r h. ap (λ x. int_of (column x 6)) h) (d 1) (tenants_are (d 1) c.fits.tenants) uses;
+    keys = keys_are (d 3) c.fits.keys;
+    buckets = buckets_are (d 5) c.fits.buckets;
+    versions = versions_are (d 7) c.fits.versions;
+    blocks = blocks_are (d 10) c.fits.blocks;
+    refs = refs_are (d 12) c.fits.refs;
+    uploads = held_shown (upload_form sums) stored_upload_form (λ (x : UploadColumns). x.row) (Keeps sums) (λ r. refl) (λ x k. ap (λ n. upload_columns n x.row) k) (λ r h. ap (λ x. int_of (column x 6)) h) (d 16) (uploads_are (d 16) c.fits.uploads) keeps;
+    parts = parts_are (d 18) c.fits.parts;
+    uses = uses_are (d 23) c.fits.uses;
+    locks = locks_are (d 26) c.fits.locks;
+    retains = retains_are (d 28) c.fits.retains;
+    counts = counts_are (block_refs d) (typed ref_form (d 12)) (refs_counted d) (d 23) (d 10) (all_from_test (is_fit use_kinds) (d 23) c.fits.uses.fit) c.counts;
   }

@@ -11,10 +11,13 @@ mod NamedLemmas
 mod TotalIs
 mod CountsAre
 mod HostIs
+mod Schemas
 mod OneLemmas
 mod Parents
 mod SoundRows
 mod SoundBodies
 mod SoundOwned
+mod BucketNames
+mod SoundLocks
 mod Sound
 mod LeftSound

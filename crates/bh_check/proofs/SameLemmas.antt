@@ -7,7 +7,7 @@ use Rattle.std.proofs.lemmas.Int.{ints}
 use Rattle.sqlite_typed.specs.Tests.{bytes_eq}
 use Rattle.bh_tables.proofs.TotalLemmas.{bytes_Decides}
 
-agree : (r s : Bool) (P : Type 0) → Decides r P → Decides s P → r ≡ s
+pub agree : (r s : Bool) (P : Type 0) → Decides r P → Decides s P → r ≡ s
 agree true s P d e = sym (e.1 (d.0 refl))
 agree false true P d e = d.1 (e.0 refl)
 agree false false P d e = refl

@@ -1,28 +1,45 @@
 -- What a check finds of all rows, and so is to make a host's tables sound.
-use Rattle.std.specs.Prelude.{◌≡◌, ℕ, List, [], ◌∷◌}
+use Rattle.std.specs.Prelude.{◌≡◌, ℕ, Bool, true, false, List, [], ◌∷◌}
 use Rattle.std.specs.List.{AllByRecursion}
 use Rattle.sqlite.specs.Effect.{IsDatabase}
 use Rattle.sqlite.specs.Order.{Row}
+use Rattle.sqlite.specs.Schema.{Schema}
 use Rattle.sqlite.specs.Tree.{Trees}
 use Rattle.bh_rows.specs.Form.{typed}
-use Rattle.bh_tables.specs.Schema.{Octets, host_schema}
-use Rattle.bh_tables.specs.Hosts.{tables_shown}
+use Rattle.bh_tables.specs.Schema.{Octets, first_schema, host_schema}
+use Rattle.bh_tables.specs.Hosts.{with_version, tables_opened}
 use Rattle.bh_tables.specs.Typed.{HostRow, host_form}
 use Rattle.bh_view.specs.Bodies.{IsSoundHost}
 use Rattle.bh_view.specs.Sound.{IsHostRow}
 use Rattle.bh_stored.specs.Fits.{AreAllFit}
+use Rattle.bh_stored.specs.Stored.{seen}
 use Rattle.bh_check.specs.Blocks.{HasDigest, AreOnce, AreNamed, AreUses, HasChecksum}
 use Rattle.bh_check.specs.Holds.{block_refs, Holds}
 use Rattle.bh_check.specs.Placed.{IsPlaced}
 use Rattle.bh_check.specs.declared.rows.Table.TheVariants as table
 
+-- ---- the two versions of a host: the second has the tables of locks and of dates
+
+abbrev pub version_with : Bool → ℕ
+version_with true = 2
+version_with false = 1
+
+abbrev pub schema_with : Bool → Schema
+schema_with true = host_schema
+schema_with false = first_schema
+
 -- ---- what is found
 
--- one row of the host, of this version, with this last stamp
-pub record IsHostRowIn (rows : List Row) (latest : ℕ) : Type 0 where
+-- a row of a host of this version, which is as that of one of the present version but for this
+pub record IsHostBy (version : ℕ) (row : HostRow) : Type 0 where
+  pub version_is : row.version ≡ version
+  pub good : IsHostRow (with_version 2 row)
+
+-- there is one such row, with this last stamp
+pub record IsHostRowIn (version : ℕ) (rows : List Row) (latest : ℕ) : Type 0 where
   pub host : HostRow
   pub alone : typed host_form rows ≡ host ∷ []
-  pub good : IsHostRow host
+  pub good : IsHostBy version host
   pub latest_is : host.latest ≡ latest
 
 -- each row is as it is to be, by itself and with what the others add up to
@@ -35,6 +52,13 @@ pub record AreRowsHeld (d : Trees) (latest : ℕ) : Type 0 where
   pub uploads : AllByRecursion (Holds d latest table.Uploads) (d 16)
   pub parts : AllByRecursion (Holds d latest table.Parts) (d 18)
 
+-- locked buckets are Enabled, versions with a date may have one, and dates are moments
+pub record AreDatesHeld (d : Trees) (latest : ℕ) : Type 0 where
+  pub locked : AllByRecursion (Holds d latest table.Locked) (d 5)
+  pub dated : AllByRecursion (Holds d latest table.Dated) (d 7)
+  pub kept : AllByRecursion (Holds d latest table.Kept) (d 7)
+  pub retains : AllByRecursion (Holds d latest table.Retains) (d 28)
+
 -- references are in the order of their places, and parts have the checksums of their bytes
 pub record AreBodiesHeld (d : Trees) : Type 0 where
   pub placed : IsPlaced (λ _. 0) (d 12)
@@ -45,16 +69,19 @@ pub record AreBytesHeld (digest : Octets → Octets) (blocks : List Row) : Type 
   pub digests : AllByRecursion (HasDigest digest) blocks
   pub once : AreOnce blocks
 
--- all of it
-pub record IsChecked (digest : Octets → Octets) (d : Trees) : Type 0 where
+-- all of it, of a host of either version
+pub record IsChecked (has_locks : Bool) (digest : Octets → Octets) (d : Trees) : Type 0 where
   pub latest : ℕ
-  pub host : IsHostRowIn (d 0) latest
+  pub host : IsHostRowIn (version_with has_locks) (d 0) latest
   pub fits : AreAllFit d
   pub rows : AreRowsHeld d latest
+  pub dates : AreDatesHeld d latest
   pub bodies : AreBodiesHeld d
   pub bytes : AreBytesHeld digest (d 10)
   pub counts : AreUses (block_refs d) (d 23) (d 10)
 
--- the tables are sound where the store's own rules hold too: keys are unique, and each row has its parent
+-- where the store's own rules hold too (keys are unique, and each row has its parent) a host's tables are sound: those of one of
+-- version 1 are as they are once it is opened, without locks and dates
 abbrev pub MakesSound : Type 0
-MakesSound = (digest : Octets → Octets) (d : Trees) → IsDatabase (record { schema = host_schema; trees = d }) → IsChecked digest d → IsSoundHost digest (tables_shown (record { schema = host_schema; trees = d }))
+MakesSound = (has_locks : Bool) (digest : Octets → Octets) (d : Trees) → IsDatabase (record { schema = schema_with has_locks; trees = d }) → IsChecked has_locks digest (seen has_locks d)
+    → IsSoundHost digest (tables_opened (record { schema = schema_with has_locks; trees = d }))

@@ -1,5 +1,5 @@
 -- What is asked of each stored row, in numbers that are summed over the other tables.
-use Rattle.std.specs.Prelude.{◌≡◌, ℕ, ◌+◌, ◌<◌, ◌≤◌, ◌^◌, List, [], ◌∷◌, length, IsTrue, take, get_or}
+use Rattle.std.specs.Prelude.{◌≡◌, ℕ, ◌+◌, ◌<◌, ◌≤◌, ◌^◌, List, [], ◌∷◌, ◌++◌, length, IsTrue, take, get_or}
 use Rattle.std.specs.List.{AllByRecursion}
 use Rattle.std.specs.Str.{IsUtf8}
 use Rattle.sqlite.specs.Order.{Row, column}
@@ -20,6 +20,7 @@ use Rattle.bh_check.specs.declared.rows.Table.TheVariants as table
 use Rattle.bh_check.specs.declared.totals.Totals.{Totals}
 use Rattle.bh_check.specs.declared.totals.TenantTotals.{TenantTotals}
 use Rattle.bh_check.specs.declared.totals.BodyTotals.{BodyTotals}
+use Rattle.bh_check.specs.declared.totals.DateTotals.{DateTotals}
 
 -- ---- the names of rows
 
@@ -38,6 +39,10 @@ part_body r = (bytes_of (column r 1), column_number (column r 7))
 -- the block of a reference
 abbrev pub ref_block : Row → Name
 ref_block r = (bytes_of (column r 4), column_number (column r 5))
+
+-- a bucket, whose own name is in this column: its tenant's and that, and where that begins
+abbrev pub bucket_name : ℕ → Row → Name
+bucket_name at r = (bytes_of (column r 1) ++ bytes_of (column r at), length (bytes_of (column r 1)))
 
 abbrev pub number_at : ℕ → Row → ℕ
 number_at at r = column_number (column r at)
@@ -91,6 +96,13 @@ module _ (d : Trees) where
   abbrev pub block_bytes : Name → ℕ
   block_bytes = total first_two block_length (d 10)
 
+  -- how many rows lock a bucket, and how many date a version
+  abbrev pub bucket_locks : Name → ℕ
+  bucket_locks = total (bucket_name 2) one (d 26)
+
+  abbrev pub version_dates : Name → ℕ
+  version_dates = total first_two one (d 28)
+
 -- ---- they are what was summed
 
 pub record AreTenantTotals (d : Trees) (t : TenantTotals) : Type 0 where
@@ -106,9 +118,14 @@ pub record AreBodyTotals (d : Trees) (t : BodyTotals) : Type 0 where
   pub versions_is : Keeps (body_versions d) t.versions
   pub parts_is : Keeps (body_parts d) t.parts
 
+pub record AreDateTotals (d : Trees) (t : DateTotals) : Type 0 where
+  pub locks_is : Keeps (bucket_locks d) t.locks
+  pub dates_is : Keeps (version_dates d) t.dates
+
 pub record AreTotals (d : Trees) (t : Totals) : Type 0 where
   pub tenants_are : AreTenantTotals d t.tenants
   pub bodies_are : AreBodyTotals d t.bodies
+  pub dates_are : AreDateTotals d t.dates
   pub upload_bytes_is : Keeps (upload_bytes d) t.upload_bytes
   pub block_refs_is : Keeps (block_refs d) t.block_refs
   pub block_bytes_is : Keeps (block_bytes d) t.block_bytes
@@ -154,6 +171,19 @@ pub record IsPartBy (latest next_entry bytes versions : ℕ) (r : Row) : Type 0 
   pub size : number_at 4 r ≡ bytes
   pub apart : versions ≡ 0
 
+-- of a bucket that so many rows lock: if one does, it is Enabled
+pub record IsLockedBy (locks : ℕ) (r : Row) : Type 0 where
+  pub enabled : 0 < locks → number_at 4 r ≡ 1
+
+-- of a version that so many rows date: if one does, it has a number and is no marker
+pub record IsDatedBy (dates : ℕ) (r : Row) : Type 0 where
+  pub numbered : 0 < dates → 1 ≤ number_at 5 r
+  pub content : 0 < dates → number_at 6 r ≡ 0
+
+-- and then its bucket is locked, by so many rows
+pub record IsKeptBy (dates locks : ℕ) : Type 0 where
+  pub locked : 0 < dates → 0 < locks
+
 -- ---- by the rows of a database
 
 module _ (d : Trees) (latest : ℕ) where
@@ -165,6 +195,10 @@ module _ (d : Trees) (latest : ℕ) where
   Holds table.Refs r = IsRefBy (body_versions d (first_two r)) (body_parts d (first_two r)) (block_bytes d (ref_block r)) r
   Holds table.Uploads r = IsUploadBy latest (next_upload d (owner r)) (upload_bytes d (first_two r)) r
   Holds table.Parts r = IsPartBy latest (next_entry d (owner r)) (body_bytes d (part_body r)) (body_versions d (part_body r)) r
+  Holds table.Locked r = IsLockedBy (bucket_locks d (bucket_name 2 r)) r
+  Holds table.Dated r = IsDatedBy (version_dates d (first_two r)) r
+  Holds table.Kept r = IsKeptBy (version_dates d (first_two r)) (bucket_locks d (bucket_name 3 r))
+  Holds table.Retains r = number_at 3 r ≤ 251_000_000_000
 
 -- ---- what was looked up
 

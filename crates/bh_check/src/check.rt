@@ -1,19 +1,19 @@
 //! The check of a host's tables.
 
-ghost use Rattle.std.specs.Prelude.{◌≡◌, None, OnOk, IfOk, IsTrue};
+ghost use Rattle.std.specs.Prelude.{◌≡◌, ◌⊎◌, None, OnOk, IfOk, IsTrue};
 ghost use Rattle.std.specs.List.{AllByRecursion};
 ghost use Rattle.sqlite.specs.Tree.{Trees};
 ghost use Rattle.sqlite.specs.Held.{state};
 ghost use Rattle.sqlite_trees.specs.View.{IsClean};
-ghost use Rattle.bh_tables.specs.Hosts.{tables_shown};
-ghost use Rattle.bh_tables.specs.Schema.{Octets, host_schema};
+ghost use Rattle.bh_tables.specs.Hosts.{tables_opened};
+ghost use Rattle.bh_tables.specs.Schema.{Octets, first_schema, host_schema};
 ghost use Rattle.bh_view.specs.Bodies.{IsSoundHost};
 ghost use Rattle.bh_schema.specs.Layer.{IsStateClean};
 ghost use Rattle.bh_stored.specs.Fits.{AreAllFit};
-ghost use Rattle.bh_stored.specs.Stored.{AreStoredIn};
+ghost use Rattle.bh_stored.specs.Stored.{seen, AreStoredIn};
 ghost use Rattle.bh_stored.specs.Stores.{KeepsTrees};
 ghost use Rattle.bh_check.specs.Blocks.{HasDigest, AreOnce, AreUses};
-ghost use Rattle.bh_check.specs.Checked.{IsHostRowIn, AreRowsHeld, AreBodiesHeld, AreBytesHeld, IsChecked};
+ghost use Rattle.bh_check.specs.Checked.{version_with, IsHostRowIn, AreRowsHeld, AreDatesHeld, AreBodiesHeld, AreBytesHeld, IsChecked};
 ghost use Rattle.bh_check.specs.Holds.{block_refs, AreMeasures, AreTotals, Holds};
 
 use crate::blocks::{first_again, first_misnamed};
@@ -34,12 +34,22 @@ use sqlite_trees::store::Store;
 use sqlite_value::row::Row;
 use std::alloc::Global;
 
-/// The last stamp, of the one row of the host.
-fn check_host_row(rows: &[Row]) -> Result<u64, Stop>
-    ensures { IfOk result (IsHostRowIn rows.now) }
+/// How many tables a host of version 1 has.
+const FIRST_TABLES: usize = 10;
+
+/// Of which version a host is that has the tables of locks and of dates, or not.
+fn version_with(has_locks: bool) -> u64
+    ensures { result ≡ version_with has_locks }
+{
+    if has_locks { 2 } else { 1 }
+}
+
+/// The last stamp, of the one row of the host of this version.
+fn check_host_row(rows: &[Row], version: u64) -> Result<u64, Stop>
+    ensures { IfOk result (IsHostRowIn version rows.now) }
 {
     match rows {
-        [row] if is_host(row) => Ok(number_in(row, 3)),
+        [row] if is_host(row, version) => Ok(number_in(row, 3)),
         _ => Err(Stop::Flaw(Flaw::Host)),
     }
 }
@@ -64,6 +74,25 @@ fn check_tables(alloc: Global, measures: &Measures, stored: &Stored) -> Result<(
     check_table(alloc, measures, Table::Refs, &stored.refs)?;
     check_table(alloc, measures, Table::Uploads, &stored.uploads)?;
     check_table(alloc, measures, Table::Parts, &stored.parts)
+}
+
+/// Locked buckets and their versions' dates.
+fn check_dates(alloc: Global, measures: &Measures, stored: &Stored) -> Result<(), Stop>
+    ensures { OnOk result ((d : Trees) → AreStoredIn d stored.now → AreMeasures d measures.now → AreDatesHeld d measures.now.latest) }
+{
+    check_table(alloc, measures, Table::Locked, &stored.buckets)?;
+    check_table(alloc, measures, Table::Dated, &stored.versions)?;
+    check_table(alloc, measures, Table::Kept, &stored.versions)?;
+    check_table(alloc, measures, Table::Retains, &stored.retains)
+}
+
+/// Each row by itself, with the sums over the others, and with what locks or dates it.
+fn check_all_tables(alloc: Global, measures: &Measures, stored: &Stored) -> Result<(), Stop>
+    ensures rows { OnOk result ((d : Trees) → AreStoredIn d stored.now → AreMeasures d measures.now → AreRowsHeld d measures.now.latest) }
+    ensures dates { OnOk result ((d : Trees) → AreStoredIn d stored.now → AreMeasures d measures.now → AreDatesHeld d measures.now.latest) }
+{
+    check_tables(alloc, measures, stored)?;
+    check_dates(alloc, measures, stored)
 }
 
 /// The places of references, and the checksums of parts.
@@ -121,12 +150,12 @@ fn check_bytes<D: Digester>(alloc: Global, digester: &D, blocks: &[Row]) -> Resu
     Ok(())
 }
 
-/// What rows are measured by.
-fn measures_of(alloc: Global, stored: &Stored) -> Result<Measures, Stop>
-    ensures host { IfOk result (λ m. IsHostRowIn stored.now.host.items m.latest) }
+/// What rows are measured by, of a host of this version.
+fn measures_of(alloc: Global, stored: &Stored, version: u64) -> Result<Measures, Stop>
+    ensures host { IfOk result (λ m. IsHostRowIn version stored.now.host.items m.latest) }
     ensures totals { IfOk result (λ m. (d : Trees) → AreStoredIn d stored.now → AreMeasures d m) }
 {
-    let latest = check_host_row(&stored.host)?;
+    let latest = check_host_row(&stored.host, version)?;
     Ok(Measures {
         totals: Totals::of(alloc, stored)?,
         latest,
@@ -137,13 +166,14 @@ fn measures_of(alloc: Global, stored: &Stored) -> Result<Measures, Stop>
 fn check_stored<D: Digester, W: Watch>(
     alloc: Global,
     stored: &Stored,
+    has_locks: bool,
     digester: &D,
     watch: &mut W,
 ) -> Result<(), Stop>
-    ensures { OnOk result ((d : Trees) → AreStoredIn d stored.now → AreAllFit d → IsChecked D.digest_of d) }
+    ensures { OnOk result ((d : Trees) → AreStoredIn d stored.now → AreAllFit d → IsChecked has_locks D.digest_of d) }
 {
-    let measures = measures_of(alloc, stored)?;
-    check_tables(alloc, &measures, stored)?;
+    let measures = measures_of(alloc, stored, version_with(has_locks))?;
+    check_all_tables(alloc, &measures, stored)?;
     check_bodies(alloc, stored, &measures.totals)?;
     check_uses(alloc, stored, &measures.totals)?;
     watch.at(Stage::Blocks(stored.blocks.len()));
@@ -155,30 +185,35 @@ fn check_stored<D: Digester, W: Watch>(
 fn check_rows<S: Store, D: Digester, W: Watch>(
     alloc: Global,
     store: &mut S,
+    has_locks: bool,
     digester: &D,
     watch: &mut W,
 ) -> Result<(), Stop>
     ensures keeps { OnOk result (KeepsTrees (S.view store.old) (S.view store.new)) }
-    ensures checked { OnOk result (IsClean (S.view store.new) → IsChecked D.digest_of (S.view store.old).trees) }
+    ensures checked { OnOk result (IsClean (S.view store.new)
+        → IsChecked has_locks D.digest_of (seen has_locks (S.view store.old).trees)) }
 {
-    let stored = Stored::read(alloc, store)?;
+    let stored = Stored::read(alloc, store, has_locks)?;
     watch.at(Stage::Rows(stored.refs.len()));
-    check_stored(alloc, &stored, digester, watch)?;
+    check_stored(alloc, &stored, has_locks, digester, watch)?;
     Ok(())
 }
 
-/// The first thing that isn't sound in a store that is a host's database, if there is one. The digester is to be of the
-/// function that names the host's blocks. An error says that the store failed, or memory ran out.
+/// The first thing that isn't sound in a store that is a host's database, if there is one: of version 2, which has the tables of
+/// locks and of dates, or of version 1. The digester is to be of the function that names the host's blocks. An error says that the
+/// store failed, or memory ran out.
 pub fn check_store<S: Store, D: Digester, W: Watch>(
     alloc: Global,
     store: &mut S,
+    has_locks: bool,
     digester: &D,
     watch: &mut W,
 ) -> Result<Option<Flaw>, StoreError>
     ensures keeps { IfOk result (λ found. found ≡ None → KeepsTrees (S.view store.old) (S.view store.new)) }
-    ensures checked { IfOk result (λ found. found ≡ None → IsClean (S.view store.new) → IsChecked D.digest_of (S.view store.old).trees) }
+    ensures checked { IfOk result (λ found. found ≡ None → IsClean (S.view store.new)
+        → IsChecked has_locks D.digest_of (seen has_locks (S.view store.old).trees)) }
 {
-    match check_rows(alloc, store, digester, watch) {
+    match check_rows(alloc, store, has_locks, digester, watch) {
         Ok(()) => Ok(None),
         Err(Stop::Flaw(flaw)) => Ok(Some(flaw)),
         Err(Stop::Store(error)) => Err(error),
@@ -186,16 +221,18 @@ pub fn check_store<S: Store, D: Digester, W: Watch>(
 }
 
 /// The same of the database of a connection, of which the store is left, without what wasn't committed. A transaction that
-/// is open is an error.
+/// is open is an error. A host of version 1 is judged by the tables that it has once it is opened, with no lock and no date;
+/// nothing is written.
 pub fn check_connection<S: Alter + Drop, D: Digester, W: Watch>(
     alloc: Global,
     connection: Connection<S>,
     digester: &D,
     watch: &mut W,
 ) -> (Result<Option<Flaw>, StoreError>, S)
-    requires schema { IsStateClean (state S.Store connection) → (state S.Store connection).now.schema ≡ host_schema }
+    requires schema { IsStateClean (state S.Store connection)
+        → ((state S.Store connection).now.schema ≡ first_schema) ⊎ ((state S.Store connection).now.schema ≡ host_schema) }
     ensures sound { IfOk result.0 (λ found. found ≡ None → IsClean (S.Store.view result.1) → IsTrue (S.Store.view result.1).is_open
-        → IsStateClean (state S.Store connection) × IsSoundHost D.digest_of (tables_shown (state S.Store connection).now)) }
+        → IsStateClean (state S.Store connection) × IsSoundHost D.digest_of (tables_opened (state S.Store connection).now)) }
 {
     let tables = connection.schema().tables.len();
     let is_settled = connection.is_autocommit();
@@ -204,6 +241,6 @@ pub fn check_connection<S: Alter + Drop, D: Digester, W: Watch>(
         return (Err(StoreError::Broken), store);
     }
     watch.at(Stage::Reading(tables));
-    let found = check_store(alloc, &mut store, digester, watch);
+    let found = check_store(alloc, &mut store, FIRST_TABLES < tables, digester, watch);
     (found, store)
 }

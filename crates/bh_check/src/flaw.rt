@@ -9,9 +9,9 @@ use std::fmt;
 pub enum Flaw {
     /// In the tree of this number the row has other columns than its table.
     Columns(u32, u64),
-    /// There isn't one row of the host, of this version and in its ranges.
+    /// There isn't one row of the host, of the version of its tables and in its ranges.
     Host,
-    /// A row isn't as its table's rows are to be, by itself and with what it counts or measures.
+    /// A row isn't as its table's rows are to be, by itself and with what it counts or measures, or with what locks or dates it.
     Row(Table, u64),
     /// A reference isn't at the place after those of its body that are stored before it.
     Place(u64),
@@ -66,7 +66,9 @@ fn table_in<'a>(tree: u32) -> &'a str {
         12 => "refs",
         16 => "uploads",
         18 => "parts",
-        _ => "uses",
+        23 => "uses",
+        26 => "locks",
+        _ => "retains",
     }
 }
 
@@ -85,6 +87,10 @@ fn demand_of<'a>(table: Table) -> &'a str {
             "uploads: key, moment or number is out of range, or `bytes_kept` is not what its parts have",
         Table::Parts =>
             "parts: number, moment or body is out of range or a version's, or its size is not that of its blocks",
+        Table::Locked => "buckets: locked, and its versioning is not enabled",
+        Table::Dated => "versions: a date, and it is a marker or `null`",
+        Table::Kept => "versions: a date, and its bucket is not locked",
+        Table::Retains => "retains: a date after the last moment",
     }
 }
 

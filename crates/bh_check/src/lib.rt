@@ -2,6 +2,7 @@
 #![tactic(auto)]
 
 pub mod blocks;
+pub mod buckets;
 pub mod check;
 pub mod checksums;
 pub mod flaw;

@@ -3,12 +3,13 @@
 ghost use Rattle.std.specs.Prelude.{◌≡◌, None, IsTrue, IfOk};
 ghost use Rattle.std.specs.List.{AllByRecursion};
 ghost use Rattle.sqlite.specs.Tree.{Trees};
-ghost use Rattle.bh_check.specs.Holds.{AreMeasures, IsVersionMeasured, IsPartMeasured, Holds};
+ghost use Rattle.bh_check.specs.Holds.{first_two, version_dates, AreMeasures, IsVersionMeasured, IsPartMeasured, Holds};
 ghost use Rattle.bh_check.specs.declared.rows.Table.TheVariants as table;
 
+use crate::buckets::at_bucket;
 use crate::rows::{
-    PartTotals, Table, VersionTotals, is_access_key, is_bucket, is_part, is_ref, is_tenant,
-    is_upload, is_version,
+    PartTotals, Table, VersionTotals, is_access_key, is_bucket, is_date, is_dated, is_kept,
+    is_locked, is_part, is_ref, is_tenant, is_upload, is_version,
 };
 use crate::totals::Totals;
 use bh_stored::cells::{bytes_in, number_in};
@@ -102,6 +103,37 @@ impl Measures {
         Ok(is_part(row, by))
     }
 
+    fn is_locked(&self, alloc: Global, row: &Row) -> Result<bool, AllocError>
+        ensures { IfOk result (λ b. IsTrue b → (d : Trees) → AreMeasures d self.now → Holds d self.now.latest table.Locked row.now) }
+    {
+        let locks = at_bucket(alloc, &self.totals.dates.locks, row, 2)?;
+        Ok(is_locked(row, locks))
+    }
+
+    /// How many rows date a version.
+    fn dates_of(&self, alloc: Global, row: &Row) -> Result<u64, AllocError>
+        ensures { IfOk result (λ n. (d : Trees) → AreMeasures d self.now → n ≡ version_dates d (first_two row.now)) }
+    {
+        let tenant = bytes_in(row, 1);
+        let seq = number_in(row, 2);
+        self.totals.dates.dates.at(alloc, tenant, seq)
+    }
+
+    fn is_dated(&self, alloc: Global, row: &Row) -> Result<bool, AllocError>
+        ensures { IfOk result (λ b. IsTrue b → (d : Trees) → AreMeasures d self.now → Holds d self.now.latest table.Dated row.now) }
+    {
+        let dates = self.dates_of(alloc, row)?;
+        Ok(is_dated(row, dates))
+    }
+
+    fn is_kept(&self, alloc: Global, row: &Row) -> Result<bool, AllocError>
+        ensures { IfOk result (λ b. IsTrue b → (d : Trees) → AreMeasures d self.now → Holds d self.now.latest table.Kept row.now) }
+    {
+        let dates = self.dates_of(alloc, row)?;
+        let locks = at_bucket(alloc, &self.totals.dates.locks, row, 3)?;
+        Ok(is_kept(dates, locks))
+    }
+
     /// Whether a row of a table is as it is to be.
     fn holds(&self, alloc: Global, table: Table, row: &Row) -> Result<bool, AllocError>
         ensures { IfOk result (λ b. IsTrue b → (d : Trees) → AreMeasures d self.now → Holds d self.now.latest table row.now) }
@@ -114,6 +146,10 @@ impl Measures {
             Table::Refs => self.is_ref(alloc, row),
             Table::Uploads => self.is_upload(alloc, row),
             Table::Parts => self.is_part(alloc, row),
+            Table::Locked => self.is_locked(alloc, row),
+            Table::Dated => self.is_dated(alloc, row),
+            Table::Kept => self.is_kept(alloc, row),
+            Table::Retains => Ok(is_date(row)),
         }
     }
 

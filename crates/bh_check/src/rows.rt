@@ -1,25 +1,26 @@
 //! What is asked of one row.
 
-ghost use Rattle.std.specs.Prelude.{◌≡◌, ◌+◌, [], IsTrue, IfOk};
+ghost use Rattle.std.specs.Prelude.{◌≡◌, ◌≤◌, ◌+◌, [], IsTrue, IfOk};
 ghost use Rattle.std.specs.List.{list_all};
 ghost use Rattle.std.specs.Str.{IsUtf8};
 ghost use Rattle.sqlite.specs.Order.{column};
 ghost use Rattle.sqlite_typed.specs.Columns.{bytes_of};
 ghost use Rattle.bh_types.specs.Names as names;
 ghost use Rattle.bh_tables.specs.Typed.{column_number, host_of, tenant_of, key_of, bucket_of};
-ghost use Rattle.bh_view.specs.Sound.{AreDays, IsHostRow, IsTenantRow, IsKeyRow, IsBucketRow};
-ghost use Rattle.bh_check.specs.Holds.{IsTenantBy, IsVersionBy, IsRefBy, IsUploadBy, IsPartBy};
+ghost use Rattle.bh_view.specs.Sound.{AreDays, IsTenantRow, IsKeyRow, IsBucketRow};
+ghost use Rattle.bh_check.specs.Checked.{IsHostBy};
+ghost use Rattle.bh_check.specs.Holds.{number_at, IsTenantBy, IsVersionBy, IsRefBy, IsUploadBy, IsPartBy, IsLockedBy, IsDatedBy, IsKeptBy};
 
 use bh_stored::cells::{bytes_in, maybe_number_in, number_in};
 use bh_types::bucket::BucketName;
 use bh_types::counters::Counters;
 use bh_types::limits::{Limits, is_quota};
-use bh_types::moment::LAST_READING;
+use bh_types::moment::{LAST_MOMENT, LAST_READING};
 use sqlite_value::row::Row;
 use std::alloc::{AllocError, Global};
 use std::str;
 
-/// The tables whose rows are looked at one by one.
+/// What is looked at one by one: the rows of a table, some of them once more with those that lock or date them.
 #[derive(Clone, Copy, PartialEq, Eq)]
 pub enum Table {
     Tenants,
@@ -29,6 +30,13 @@ pub enum Table {
     Refs,
     Uploads,
     Parts,
+    /// Buckets, with their locks.
+    Locked,
+    /// Versions, with their dates.
+    Dated,
+    /// Versions, with their dates and the locks of their buckets.
+    Kept,
+    Retains,
 }
 
 /// Whether there are so many bytes.
@@ -89,10 +97,10 @@ fn is_sum(total: u64, a: u64, b: u64) -> bool
 }
 
 /// Whether the host's row is one of this version.
-pub fn is_host(row: &Row) -> bool
-    ensures { IsTrue result → IsHostRow (host_of row.now) }
+pub fn is_host(row: &Row, version: u64) -> bool
+    ensures { IsTrue result → IsHostBy version (host_of row.now) }
 {
-    number_in(row, 2) == 1
+    number_in(row, 2) == version
         && number_in(row, 6) <= 1
         && number_in(row, 3) <= LAST_READING
         && Limits::new(number_in(row, 4), number_in(row, 5)).is_some()
@@ -218,4 +226,32 @@ pub fn is_part(row: &Row, by: PartTotals) -> bool
         && number_in(row, 7) < by.next_entry
         && number_in(row, 4) == by.bytes
         && by.versions == 0
+}
+
+/// Whether a bucket that so many rows lock is Enabled, if one does.
+pub fn is_locked(row: &Row, locks: u64) -> bool
+    ensures { IsTrue result → IsLockedBy locks row.now }
+{
+    locks == 0 || number_in(row, 4) == 1
+}
+
+/// Whether a version that so many rows date has a number and is no marker, if one does.
+pub fn is_dated(row: &Row, dates: u64) -> bool
+    ensures { IsTrue result → IsDatedBy dates row.now }
+{
+    dates == 0 || 1 <= number_in(row, 5) && number_in(row, 6) == 0
+}
+
+/// Whether a version that so many rows date is in a bucket that some row locks, if one does.
+pub fn is_kept(dates: u64, locks: u64) -> bool
+    ensures { IsTrue result → IsKeptBy dates locks }
+{
+    dates == 0 || 0 < locks
+}
+
+/// Whether a date is a moment.
+pub fn is_date(row: &Row) -> bool
+    ensures { IsTrue result → number_at 3 row.now ≤ 251_000_000_000 }
+{
+    number_in(row, 3) <= LAST_MOMENT
 }

@@ -3,10 +3,11 @@
 ghost use Rattle.std.specs.Prelude.{◌≡◌, IfOk};
 ghost use Rattle.sqlite.specs.Tree.{Trees};
 ghost use Rattle.bh_check.specs.Holds.{owner, first_two, part_body, ref_block, number_at, one, block_length};
-ghost use Rattle.bh_check.specs.Holds.{AreTenantTotals, AreBodyTotals, AreTotals};
+ghost use Rattle.bh_check.specs.Holds.{AreTenantTotals, AreBodyTotals, AreDateTotals, AreTotals};
 ghost use Rattle.bh_check.specs.Sums.{IsSumOf};
 ghost use Rattle.bh_stored.specs.Stored.{AreStoredIn};
 
+use crate::buckets::count_by_bucket;
 use crate::sums::{Amount, Grouping, Sums, sums_of};
 use bh_stored::failure::Failure;
 use bh_stored::stored::Stored;
@@ -36,11 +37,19 @@ pub struct BodyTotals {
     pub parts: Sums,
 }
 
+/// How many rows lock a bucket, and how many date a version.
+#[derive(Drop)]
+pub struct DateTotals {
+    pub locks: Sums,
+    pub dates: Sums,
+}
+
 /// Sums by name, each over all rows of a table.
 #[derive(Drop)]
 pub struct Totals {
     pub tenants: TenantTotals,
     pub bodies: BodyTotals,
+    pub dates: DateTotals,
     /// The bytes that an upload's parts have.
     pub upload_bytes: Sums,
     /// How many references name a block, and its length in bytes.
@@ -147,6 +156,17 @@ impl BodyTotals {
     }
 }
 
+impl DateTotals {
+    fn of(alloc: Global, stored: &Stored) -> Result<DateTotals, Failure>
+        ensures { IfOk result (λ t. (d : Trees) → AreStoredIn d stored.now → AreDateTotals d t) }
+    {
+        Ok(DateTotals {
+            locks: count_by_bucket(alloc, &stored.locks, 2)?,
+            dates: count_by_two(alloc, &stored.retains)?,
+        })
+    }
+}
+
 impl Totals {
     /// The sums over all rows that were read.
     pub fn of(alloc: Global, stored: &Stored) -> Result<Totals, Failure>
@@ -155,6 +175,7 @@ impl Totals {
         Ok(Totals {
             tenants: TenantTotals::of(alloc, stored)?,
             bodies: BodyTotals::of(alloc, stored)?,
+            dates: DateTotals::of(alloc, stored)?,
             upload_bytes: by_two(alloc, &stored.parts, 4)?,
             block_refs: count_by_block(alloc, &stored.refs)?,
             block_bytes: lengths(alloc, &stored.blocks)?,

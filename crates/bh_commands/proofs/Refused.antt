@@ -8,7 +8,7 @@ use Rattle.bh_types.specs.declared.refusal.Refusal.{Refusal}
 use Rattle.bh_types.specs.declared.refusal.Refusal.TheVariants.{NotAHostFile, Unavailable}
 use Rattle.bh_schema.specs.Layer.{standing, IsOpen, IsStateClean, KeepsDisk, LeavesNothingNew, taken_back}
 use Rattle.bh_create.specs.Creation.{IsEmpty}
-use Rattle.bh_open.specs.Opening.{IsHostOf}
+use Rattle.bh_open.specs.Opening.{IsHostOf, LeavesOver}
 use Rattle.bh_commands.specs.Commands.{IsRefusal}
 use Rattle.bh_commands.specs.Subcommands.{IsNotFound, IsNotMade}
 use Rattle.bh_commands.specs.declared.printed.Printed.{Printed}
@@ -51,17 +51,19 @@ module _ {S : Type 0} (g : Ghosts S) (old new : Held S) (refusal : Refusal) (pri
   pub not_found : (refusal ≡ NotAHostFile → IsStateClean (state g new) → (standing (state g new) ≡ standing (state g old))
       × ((limits : HostLimits) → ¬ IsHostOf limits (standing (state g old)).now))
       → (refusal ≢ NotAHostFile → (refusal ≡ Unavailable) × (IsStateClean (state g new) → standing (state g new) ≡ taken_back (standing (state g old))))
-      → KeepsDisk (state g old) (state g new) → (IsOpen (state g old) → LeavesNothingNew (state g old) (state g new))
-      → IsNotFound (state g old) (state g new) printed
-  not_found refused failed keeps leaves = elim (is_no_host refusal) [
+      → KeepsDisk (state g old) (state g new) → (refusal ≡ NotAHostFile → IsOpen (state g old) → LeavesNothingNew (state g old) (state g new))
+      → (IsOpen (state g old) → LeavesOver (state g old) (state g new)) → IsNotFound (state g old) (state g new) printed
+  not_found refused failed keeps quiet leaves = elim (is_no_host refusal) [
     | inl is ↦ record {
       alone = record { refusal = refusal; which = inl is; line = line; follows = keeps; stays = λ clean. inl (refused is clean).0 };
       no_host = λ h clean. (refused h clean).1;
-      survives = leaves;
+      quiet = quiet;
+      crash = leaves;
     }
     | inr isnt ↦ record {
       alone = record { refusal = refusal; which = inr (failed isnt).0; line = line; follows = keeps; stays = λ clean. inr ((failed isnt).1 clean) };
       no_host = λ h. absurd (isnt h);
-      survives = leaves;
+      quiet = λ h. absurd (isnt h);
+      crash = leaves;
     }
   ]

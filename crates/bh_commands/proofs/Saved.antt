@@ -3,32 +3,33 @@ use Rattle.std.proofs.Common.{◌≡◌, Option, Some, None, Result, Ok, Err, Ma
 use Rattle.std.specs.Prelude.{MatchResult}
 use Rattle.sqlite_disk.specs.declared.Disk as disk
 use Rattle.sqlite_disk.specs.declared.Files.{Files}
-use Rattle.sqlite_wal.specs.Reads.{AreClean}
 use Rattle.sqlite_wal.specs.Recovery.{Image}
 use Rattle.sqlite_store.specs.declared.store.FileStore.{FileStore}
 use Rattle.sqlite_trees.specs.Tree.{Trees}
 use Rattle.sqlite.specs.Closing.{HoldsAlone, IsCopied}
 use Rattle.sqlite.specs.Effect.{Database}
-use Rattle.sqlite.specs.Files.{file_state, image_of, over_files}
+use Rattle.sqlite.specs.Files.{file_state, image_of}
 use Rattle.sqlite.specs.Held.{Held}
 use Rattle.bh_schema.specs.Layer.{Standing, standing, IsIntact, IsOpen, IsStateClean}
+use Rattle.bh_tables.specs.Schema.{host_schema}
 use Rattle.bh_file.specs.Opened.{IsOpenedOn}
 use Rattle.bh_backup.specs.Copies.{IsFileOf}
 use Rattle.bh_commands.proofs.Found.{is_clean}
-use Rattle.bh_commands.specs.Backups.{IsFoundAs, IsLeftOut, IsCopiedTo, IsSaved, HasSaved, IsSavedOrNot, IsBackedUp}
+use Rattle.bh_commands.specs.Backups.{IsCopiedTo, IsSaved, HasSaved, IsSavedOrNot, IsBackedUp}
 use Rattle.bh_commands.specs.Endings.{AreClosed}
-use Rattle.bh_commands.specs.Subcommands.{IsNotFound}
+use Rattle.bh_commands.specs.Subcommands.{IsOpenedAs, IsNotFound}
 use Rattle.bh_commands.specs.declared.ending.Done.{Done}
 use Rattle.bh_commands.specs.declared.printed.Printed.{Printed}
 
-module _ {D : Type 0} {g : disk.Ghosts D} (old new : Held (FileStore D g)) (found : IsFoundAs over_files old new) (files : Files D) where
+-- of the present version, it stands as it stood
+module _ {D : Type 0} {g : disk.Ghosts D} (old new : Held (FileStore D g)) (found : IsOpenedAs (file_state old) (file_state new)) (second : (standing (file_state old)).now.schema ≡ host_schema) (files : Files D) where
   clean_when_copied : IsCopied new files → IsStateClean (file_state new)
   unfolding IsIntact IsOpen
   clean_when_copied copied = is_clean (copied.was_clean, copied.was_open)
 
   same_committed : IsCopied new files → (file_state new).committed ≡ (file_state old).committed
   unfolding standing
-  same_committed copied = ap (λ (x : Standing). x.kept) (found.same (clean_when_copied copied))
+  same_committed copied = ap (λ (x : Standing). x.kept) (found.same (clean_when_copied copied) second)
 
   copied_before : IsCopied new files → IsCopied old files
   unfolding IsIntact IsOpen
@@ -42,23 +43,23 @@ module _ {D : Type 0} {g : disk.Ghosts D} (old new : Held (FileStore D g)) (foun
         left = λ image may. subst (λ (t : Trees). HoldsAlone image t) same (copied.left image may);
       }
 
-  module _ {E : Type 0} (e : disk.Ghosts E) (printed : Printed) (copy : E) where
-    pub found_saved : IsCopiedTo e new printed files copy → IsSaved e old printed files copy
-    found_saved saved = record {
-      schema = found.schema;
-      saved = record {
-        kept = λ clean. copied_before (saved.kept clean);
-        copied = λ clean. subst (λ (db : Database). IsFileOf e db copy) (same_committed (saved.kept clean)) (saved.copied clean);
-        line = saved.line;
-      };
-    }
+  saved_before : {E : Type 0} (e : disk.Ghosts E) (printed : Printed) (copy : E) → IsCopiedTo e new printed files copy → IsCopiedTo e old printed files copy
+  saved_before e printed copy saved = record {
+    kept = λ clean. copied_before (saved.kept clean);
+    copied = λ clean. subst (λ (db : Database). IsFileOf e db copy) (same_committed (saved.kept clean)) (saved.copied clean);
+    line = saved.line;
+  }
+
+found_saved : {D : Type 0} {g : disk.Ghosts D} (old new : Held (FileStore D g)) → IsOpenedAs (file_state old) (file_state new) → (files : Files D) {E : Type 0} (e : disk.Ghosts E) (printed : Printed) (copy : E)
+    → IsCopiedTo e new printed files copy → IsSaved e old printed files copy
+found_saved old new found files e printed copy saved = record { new = new; opened = found; saved = saved; same = λ second. saved_before old new found second files e printed copy saved }
 
 -- what was found, and what wasn't
 module _ {D : Type 0} {g : disk.Ghosts D} (old : Held (FileStore D g)) (found : Result (Held (FileStore D g)) (Done (FileStore D g))) where
   abbrev IsFoundOrNot : Result (Held (FileStore D g)) (Done (FileStore D g)) → Type 0
-  IsFoundOrNot r = MatchResult r (IsFoundAs over_files old) (λ done. IsNotFound (file_state old) (file_state done.connection) done.printed)
+  IsFoundOrNot r = MatchResult r (λ new. IsOpenedAs (file_state old) (file_state new)) (λ done. IsNotFound (file_state old) (file_state done.connection) done.printed)
 
-  pub found_at : (new : Held (FileStore D g)) → found ≡ Ok new → IsFoundOrNot found → IsFoundAs over_files old new
+  pub found_at : (new : Held (FileStore D g)) → found ≡ Ok new → IsFoundOrNot found → IsOpenedAs (file_state old) (file_state new)
   found_at new is either = subst IsFoundOrNot is either
 
   pub left_at : (done : Done (FileStore D g)) (printed : Printed) → found ≡ Err done → printed ≡ done.printed → IsFoundOrNot found → IsNotFound (file_state old) (file_state done.connection) printed
@@ -67,7 +68,7 @@ module _ {D : Type 0} {g : disk.Ghosts D} (old : Held (FileStore D g)) (found : 
       subst (λ (p : Printed). IsNotFound (file_state old) (file_state done.connection) p) (sym same) left
 
 module _ {D : Type 0} {g : disk.Ghosts D} {E : Type 0} (e : disk.Ghosts E) (old : Held (FileStore D g)) (printed : Printed) where
-  pub one_saved : (new : Held (FileStore D g)) → IsFoundAs over_files old new → (files : Option (Files D)) (copy : Option E) → HasSaved e new printed files copy → IsSavedOrNot e old printed files copy
+  pub one_saved : (new : Held (FileStore D g)) → IsOpenedAs (file_state old) (file_state new) → (files : Option (Files D)) (copy : Option E) → HasSaved e new printed files copy → IsSavedOrNot e old printed files copy
   one_saved new found None copy has = has
   one_saved new found (Some f) None has = absurd has
   one_saved new found (Some f) (Some c) has = found_saved old new found f e printed c has

@@ -2,28 +2,21 @@
 use Rattle.std.specs.Prelude.{◌≡◌, Option, MatchOption, None, codes}
 use Rattle.sqlite_disk.specs.declared.Disk as disk
 use Rattle.sqlite_disk.specs.declared.Files.{Files}
-use Rattle.sqlite_trees.specs.declared.store.Store.{Ghosts}
 use Rattle.sqlite_wal.specs.Reads.{AreClean}
 use Rattle.sqlite_wal.specs.Recovery.{Image}
 use Rattle.sqlite_store.specs.declared.store.FileStore.{FileStore}
 use Rattle.sqlite.specs.Closing.{IsCopied}
 use Rattle.sqlite.specs.Files.{file_state}
-use Rattle.sqlite.specs.Held.{Held, state}
+use Rattle.sqlite.specs.Held.{Held}
 use Rattle.bh_types.specs.declared.refusal.Refusal.TheVariants.{NotAHostFile}
 use Rattle.bh_tables.specs.Schema.{host_schema}
-use Rattle.bh_schema.specs.Layer.{standing, IsStateClean, KeepsDisk}
+use Rattle.bh_schema.specs.Layer.{standing}
 use Rattle.bh_file.specs.Opened.{IsOpenedOn}
 use Rattle.bh_backup.specs.Copies.{IsFileOf}
 use Rattle.bh_commands.specs.Commands.{IsLine, IsRefusal}
 use Rattle.bh_commands.specs.Endings.{AreClosed}
-use Rattle.bh_commands.specs.Subcommands.{IsNotFound}
+use Rattle.bh_commands.specs.Subcommands.{IsOpenedAs, IsNotFound}
 use Rattle.bh_commands.specs.declared.printed.Printed.{Printed}
-
--- a connection has a database of a host's schema, and shows what it showed
-pub record IsFoundAs {S : Type 0} (g : Ghosts S) (old new : Held S) : Type 0 where
-  pub schema : (standing (state g old)).now.schema ≡ host_schema
-  pub same : IsStateClean (state g new) → standing (state g new) ≡ standing (state g old)
-  pub follows : KeepsDisk (state g old) (state g new)
 
 module _ {D : Type 0} {g : disk.Ghosts D} where
   -- no host was found, which alone is told, and the files were closed
@@ -39,10 +32,12 @@ module _ {D : Type 0} {g : disk.Ghosts D} where
     pub copied : AreClean g files.log files.db → IsFileOf e (file_state c).committed copy
     pub line : IsLine (codes "backup") printed
 
-  -- and that is a host's database
+  -- and that is a host's database: as it stood, or brought over from version 1
   pub record IsSaved {E : Type 0} (e : disk.Ghosts E) (old : Held (FileStore D g)) (printed : Printed) (files : Files D) (copy : E) : Type 0 where
-    pub schema : (standing (file_state old)).now.schema ≡ host_schema
-    pub saved : IsCopiedTo e old printed files copy
+    pub new : Held (FileStore D g)
+    pub opened : IsOpenedAs (file_state old) (file_state new)
+    pub saved : IsCopiedTo e new printed files copy
+    pub same : (standing (file_state old)).now.schema ≡ host_schema → IsCopiedTo e old printed files copy
 
   abbrev pub HasSaved : {E : Type 0} → disk.Ghosts E → Held (FileStore D g) → Printed → Option (Files D) → Option E → Type 0
   HasSaved e c printed files copy = MatchOption files ⊥ (λ f. MatchOption copy ⊥ (IsCopiedTo e c printed f))

@@ -8,24 +8,24 @@ use Rattle.sqlite.specs.Effect.{Database, IsDatabase}
 use Rattle.sqlite.specs.Files.{AreFoundIn, file_state, over_files}
 use Rattle.sqlite.specs.Held.{Held}
 use Rattle.bh_types.specs.declared.refusal.Refusal.TheVariants.{NotAHostFile}
-use Rattle.bh_tables.specs.Hosts.{tables_shown}
-use Rattle.bh_tables.specs.Schema.{host_schema}
+use Rattle.bh_tables.specs.Hosts.{tables_opened}
 use Rattle.bh_tables.specs.Typed.{Tables}
 use Rattle.bh_file.specs.Opened.{IsOpenedOn}
 use Rattle.bh_commands.specs.Commands.{IsRefusal}
 use Rattle.bh_commands.specs.Endings.{AreClosed}
-use Rattle.bh_commands.specs.Subcommands.{IsSoundByItsRow, CarriesOut}
+use Rattle.bh_commands.specs.Subcommands.{IsSoundByItsRow, IsHostsSchema, CarriesOut}
 use Rattle.bh_commands.specs.declared.asked.Asked.{Asked}
 use Rattle.bh_commands.specs.declared.asked.Asked.TheVariants.{Init, Host}
 use Rattle.bh_commands.specs.declared.printed.Printed.{Printed}
 
--- files with these contents hold a database of a host's schema, which shows these tables
+-- files with these contents hold a database of a host's schema, which shows these tables once it is opened: of version 1 those
+-- that it has, brought over
 pub record AreTablesIn (image : Image) (tables : Tables) : Type 0 where
   pub db : Database
   pub found : AreFoundIn image db.trees
   pub database : IsDatabase db
-  pub schema : db.schema ≡ host_schema
-  pub shown : tables ≡ tables_shown db
+  pub schema : IsHostsSchema db.schema
+  pub shown : tables ≡ tables_opened db
 
 -- what they hold of a host is sound, its blocks named by the function that its row tells
 abbrev pub HoldsSoundHost : Image → Type 0

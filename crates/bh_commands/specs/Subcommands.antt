@@ -2,14 +2,15 @@
 use Rattle.std.specs.Prelude.{◌≡◌, ◌⊎◌, ℕ, Bool, true, false, IfSome, codes}
 use Rattle.sqlite_trees.specs.declared.store.Store.{Ghosts}
 use Rattle.sqlite.specs.Held.{Held, state}
+use Rattle.sqlite.specs.Schema.{Schema}
 use Rattle.sqlite.specs.State.{State}
 use Rattle.bh_types.specs.BlockDigests.{digest_number}
 use Rattle.bh_types.specs.Limits.{HostLimits}
 use Rattle.bh_types.specs.declared.block_digest.BlockDigest.{BlockDigest}
 use Rattle.bh_types.specs.declared.refusal.Refusal.{Refusal}
 use Rattle.bh_types.specs.declared.refusal.Refusal.TheVariants.{NotAHostFile, Unavailable}
-use Rattle.bh_tables.specs.Hosts.{tables_shown}
-use Rattle.bh_tables.specs.Schema.{Octets, host_schema}
+use Rattle.bh_tables.specs.Hosts.{tables_shown, tables_opened}
+use Rattle.bh_tables.specs.Schema.{Octets, first_schema, host_schema}
 use Rattle.bh_tables.specs.Typed.{Tables}
 use Rattle.bh_view.specs.Bodies.{IsSoundHost}
 use Rattle.bh_view.specs.View.{latest_of}
@@ -18,7 +19,9 @@ use Rattle.bh_schema.specs.Layer.{standing, IsOpen, IsStateClean, KeepsDisk, Lea
 use Rattle.bh_schema.specs.Storage.{seen_in}
 use Rattle.bh_schema.specs.Storage as storage
 use Rattle.bh_create.specs.Creation.{IsEmpty, IsNewHost}
-use Rattle.bh_open.specs.Opening.{digest_in, IsHostOf}
+use Rattle.bh_migration.specs.Migration.{Settles}
+use Rattle.bh_open.specs.Opening.{digest_in, IsHostOf, LeavesOver}
+use Rattle.bh_open.specs.Versions.{IsTypedIfFirst}
 use Rattle.bh_open.specs.declared.open.Opened.{Opened}
 use Rattle.bh_blocks.specs.Digests.{digest_by, digester_of, the_digester}
 use Rattle.bh_dispatch.specs.declared.storage.HostStorage.{HostStorage}
@@ -38,14 +41,28 @@ pub record IsSoundByItsRow (tables : Tables) : Type 0 where
   pub row : digest_number digest ≡ digest_in tables
   pub sound : IsSoundHost (digest_by digest) tables
 
--- so are those of the host that a database is, if it is one
+-- the tables are a host's, of version 1 or of the present one
+abbrev pub IsHostsSchema : Schema → Type 0
+IsHostsSchema schema = (schema ≡ first_schema) ⊎ (schema ≡ host_schema)
+
+-- so are those of the host that a database is once it is opened, if it is one
 abbrev pub IsSoundIn : State → Type 0
-IsSoundIn s = IsStateClean s → (standing s).now.schema ≡ host_schema → IsSoundByItsRow (tables_shown (standing s).now)
+IsSoundIn s = IsStateClean s → IsHostsSchema (standing s).now.schema → IsSoundByItsRow (tables_opened (standing s).now)
 
 -- a new host needs nothing of it
 abbrev pub IsReadyFor : Asked → State → Type 0
 IsReadyFor (Init limits digest) s = Unit {0}
 IsReadyFor (Host clock work) s = IsSoundIn s
+
+-- a database was opened as a host: one of the present version stands as it stood, and one of version 1 was brought over, in one
+-- commit. It shows what it was to show; rows under the schema of version 1 are to be typed rows
+pub record IsOpenedAs (old new : State) : Type 0 where
+  pub schema : IsHostsSchema (standing old).now.schema
+  pub same : IsStateClean new → (standing old).now.schema ≡ host_schema → standing new ≡ standing old
+  pub brought : IsStateClean new → (standing old).now.schema ≡ first_schema → Settles (standing old) (standing new)
+  pub shows : IsStateClean new → IsTypedIfFirst (standing old).now → tables_shown (standing new).now ≡ tables_opened (standing old).now
+  pub follows : KeepsDisk old new
+  pub crash : IsOpen old → LeavesOver old new
 
 -- a refusal alone, of what is no host's file or for want of memory or the store. What stands is what stood, and no more than
 -- a transaction that was open is taken back
@@ -56,11 +73,13 @@ pub record IsLeftAlone (old new : State) (printed : Printed) : Type 0 where
   pub follows : KeepsDisk old new
   pub stays : IsStateClean new → Unwinds (standing old) (standing new)
 
--- no host is found in a database
+-- no host is found in a database. Only where the commit failed that was to bring one of version 1 over may a crash leave
+-- anything else than before: all of it brought over
 pub record IsNotFound (old new : State) (printed : Printed) : Type 0 where
   pub alone : IsLeftAlone old new printed
   pub no_host : alone.refusal ≡ NotAHostFile → IsStateClean new → (limits : HostLimits) → ¬ IsHostOf limits (standing old).now
-  pub survives : IsOpen old → LeavesNothingNew old new
+  pub quiet : alone.refusal ≡ NotAHostFile → IsOpen old → LeavesNothingNew old new
+  pub crash : IsOpen old → LeavesOver old new
 
 -- none is made in it
 pub record IsNotMade (old new : State) (printed : Printed) : Type 0 where
@@ -90,13 +109,11 @@ module _ {S : Type 0} (g : Ghosts S) where
     pub rest : IsStateClean (state g opened.connection) → IsAtRest (IsSoundHost digest) (seen_in opened.limits (state g opened.connection))
     pub latest : IsStateClean (state g opened.connection) → opened.latest ≡ latest_of (seen_in opened.limits (state g opened.connection)).now
 
-  -- a connection was opened as a host, which shows what stood and is at rest
+  -- a connection was opened as a host, which shows what stood, of version 1 brought over, and is at rest
   pub record IsFound {D : Type 0} (digest : Octets → Octets) (old : Held S) (host : HostStorage S D) : Type 0 where
-    pub schema : (standing (state g old)).now.schema ≡ host_schema
-    pub same : IsStateClean (state g host.host.connection) → standing (state g host.host.connection) ≡ standing (state g old)
+    pub opened : IsOpenedAs (state g old) (state g host.host.connection)
+    pub shows : storage.IsClean g host.host → (storage.seen g host.host).now ≡ tables_opened (standing (state g old)).now
     pub rest : storage.IsClean g host.host → IsAtRest (IsSoundHost digest) (storage.seen g host.host)
-    pub follows : KeepsDisk (state g old) (state g host.host.connection)
-    pub survives : IsOpen (state g old) → LeavesNothingNew (state g old) (state g host.host.connection)
 
   -- what is asked of it at a reading was done, all of it, and its connection is left
   pub record IsWorkedOn {D : Type 0} (digest : Octets → Octets) (work : Work) (reading : ℕ) (host : HostStorage S D) (new : Held S) (printed : Printed) : Type 0 where

@@ -1,26 +1,21 @@
 //! The host of a file, copied to a new one.
 
-ghost use Rattle.std.specs.Prelude.{◌≡◌, None, IfOk, MatchOption, MatchResult};
-ghost use Rattle.sqlite.specs.Held.{state};
+ghost use Rattle.std.specs.Prelude.{◌≡◌, None, IfOk, MatchOption};
 ghost use Rattle.sqlite_wal.specs.Files.{image_at};
 ghost use Rattle.bh_types.specs.declared.refusal.Refusal.TheVariants as refusal;
-ghost use Rattle.bh_commands.specs.Backups.{IsFoundAs, HasSaved, IsSavedOrNot, IsBackedUp};
+ghost use Rattle.bh_commands.specs.Backups.{HasSaved, IsSavedOrNot, IsBackedUp};
 ghost use Rattle.bh_commands.specs.Commands.{IsRefusal};
 ghost use Rattle.bh_commands.specs.Endings.{AreClosed};
-ghost use Rattle.bh_commands.specs.Subcommands.{IsNotFound};
 
 use crate::ending::{Done, close, leave};
 use crate::fault::Fault;
 use crate::files::{is_blank, open};
-use crate::hosts::{refused, why_not_found};
+use crate::hosts::found_host;
 use crate::printed::Printed;
-use crate::remarks::tell;
 use bh_backup::{Saved, save};
 use bh_file::OpenFault;
-use bh_open::open_host;
-use bh_types::limits::Tuning;
 use bh_types::refusal::Refusal;
-use sqlite::{Alter, Connection, FileFrom, FileStore, Files, Start};
+use sqlite::{Connection, FileFrom, FileStore, Files, Start};
 use sqlite_disk::Disk;
 use std::alloc::{AllocError, Global};
 
@@ -43,24 +38,6 @@ impl<D: Disk + Drop, E: Disk + Drop> BackedUp<D, E> {
             copy: _,
         } = self;
         printed
-    }
-}
-
-/// The connection of a database that holds a host, or the refusal of one that doesn't.
-fn found_host<S: Alter + Drop>(
-    rt: &HostRuntime,
-    path: &str,
-    connection: Connection<S>,
-) -> Result<Result<Connection<S>, Done<S>>, AllocError>
-    ensures { IfOk result (λ found. MatchResult found (IsFoundAs S.Store connection)
-        (λ done. IsNotFound (state S.Store connection) (state S.Store done.connection) done.printed)) }
-{
-    match open_host(rt.alloc(), connection, Tuning::default()) {
-        Ok(opened) => Ok(Ok(opened.connection)),
-        Err(error) => {
-            tell(rt, path, &why_not_found(error.why, error.cause));
-            Ok(Err(refused(rt.alloc(), error.connection, error.refusal)?))
-        }
     }
 }
 
@@ -126,7 +103,7 @@ fn back_up_connection<D: Disk + Drop, T: Start>(
 }
 
 /// Copies the host of a file to a new file, `to`, as it stood after the last event, and prints `backup`. No clock is read, and
-/// the host has the same last stamp afterwards.
+/// the host has the same last stamp afterwards. A host of version 1 is brought over first, and so is the copy.
 ///
 /// The copy is whole and synced before that, or there is none. A name that is taken is a fault.
 pub fn backup_file<S: Start, T: Start>(

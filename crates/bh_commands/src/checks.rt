@@ -7,8 +7,8 @@ ghost use Rattle.sqlite_trees.specs.View.{IsClean};
 ghost use Rattle.sqlite_wal.specs.Files.{image_at};
 ghost use Rattle.bh_blocks.specs.Digests.{digest_by};
 ghost use Rattle.bh_schema.specs.Layer.{IsStateClean};
-ghost use Rattle.bh_tables.specs.Schema.{host_schema};
 ghost use Rattle.bh_commands.specs.Checks.{IsVerdict, IsSoundBy, IsFoundSound, IsChecked};
+ghost use Rattle.bh_commands.specs.Subcommands.{IsHostsSchema};
 
 use crate::ending::{Ended, Left, close};
 use crate::fault::Fault;
@@ -21,10 +21,10 @@ use bh_check::check::check_connection;
 use bh_check::flaw::Flaw;
 use bh_check::watch::{Stage, Watch};
 use bh_file::OpenFault;
-use bh_open::{Opened, open_host};
+use bh_open::look;
 use bh_schema::host::Digester;
 use bh_types::block_digest::BlockDigest;
-use bh_types::limits::Tuning;
+use bh_types::refusal::Refusal;
 use sqlite::{Alter, Connection, FileFrom, Start};
 use sqlite_disk::Disk;
 use sqlite_trees::error::StoreError;
@@ -79,7 +79,7 @@ fn check_by<S: Alter + Drop, D: Digester>(
     connection: Connection<S>,
     digester: &D,
 ) -> Result<(Printed, S), Fault>
-    requires { IsStateClean (state S.Store connection) → (state S.Store connection).now.schema ≡ host_schema }
+    requires { IsStateClean (state S.Store connection) → IsHostsSchema (state S.Store connection).now.schema }
     ensures { IfOk result (λ it. IsVerdict (IsSoundBy S.Store D.digest_of connection it.1) it.0) }
 {
     let mut progress = Progress { rt, path };
@@ -90,29 +90,39 @@ fn check_by<S: Alter + Drop, D: Digester>(
     }
 }
 
-/// The same, by the digester of the function that its row tells.
-fn check_opened<S: Alter + Drop>(
+/// The same, by the digester of the function that names its blocks.
+fn check_named<S: Alter + Drop>(
     rt: &HostRuntime,
     path: &str,
-    opened: Opened<S>,
+    connection: Connection<S>,
+    digest: BlockDigest,
 ) -> Result<(Printed, S), Fault>
-    requires { IsStateClean (state S.Store opened.connection) → (state S.Store opened.connection).now.schema ≡ host_schema }
-    ensures { IfOk result (λ it. IsVerdict (IsSoundBy S.Store (digest_by opened.digest) opened.connection it.1) it.0) }
+    requires { IsStateClean (state S.Store connection) → IsHostsSchema (state S.Store connection).now.schema }
+    ensures { IfOk result (λ it. IsVerdict (IsSoundBy S.Store (digest_by digest) connection it.1) it.0) }
 {
-    let Opened {
-        connection,
-        limits: _,
-        tuning: _,
-        digest,
-        latest: _,
-    } = opened;
     match digest {
         BlockDigest::Sha256 => check_by(rt, path, connection, &Sha256Digester),
         BlockDigest::Fast => check_by(rt, path, connection, &FastDigester),
     }
 }
 
-/// Checks the host of a database, and gives what is printed of it and the store that is left.
+/// What is printed where no host was found, and the store that is left.
+fn check_none<S: Alter + Drop>(
+    rt: &HostRuntime,
+    path: &str,
+    connection: Connection<S>,
+    refusal: Refusal,
+    remark: Remark,
+) -> Result<(Printed, S), Fault>
+    ensures { IfOk result (λ it. it.0.status ≡ 1) }
+{
+    tell(rt, path, &remark);
+    let printed = Printed::refusal(rt.alloc(), refusal)?;
+    Ok((printed, connection.into_store()))
+}
+
+/// Checks the host of a database by the function that its row tells, and gives what is printed of it and the store that is left.
+/// One of version 1 isn't brought over: it is judged by what it has once that is done.
 pub(crate) fn check_on<S: Alter + Drop>(
     rt: &HostRuntime,
     path: &str,
@@ -120,12 +130,16 @@ pub(crate) fn check_on<S: Alter + Drop>(
 ) -> Result<(Printed, S), Fault>
     ensures { IfOk result (λ it. IsVerdict (IsFoundSound S.Store connection it.1) it.0) }
 {
-    match open_host(rt.alloc(), connection, Tuning::default()) {
-        Ok(opened) => check_opened(rt, path, opened),
+    let mut connection = connection;
+    match look(rt.alloc(), &mut connection) {
+        Ok(Ok(found)) => check_named(rt, path, connection, found.digest),
+        Ok(Err(why)) => {
+            let remark = why_not_found(Some(why), None);
+            check_none(rt, path, connection, Refusal::NotAHostFile, remark)
+        }
         Err(error) => {
-            tell(rt, path, &why_not_found(error.why, error.cause));
-            let printed = Printed::refusal(rt.alloc(), error.refusal)?;
-            Ok((printed, error.connection.into_store()))
+            let remark = why_not_found(None, Some(error));
+            check_none(rt, path, connection, Refusal::Unavailable, remark)
         }
     }
 }
@@ -148,9 +162,10 @@ fn check_files<S: Start>(
 
 /// Checks the host of a file: prints `sound`, or the first thing that isn't.
 ///
-/// Where it is `sound` the tables that the open found are a sound host's, as far as the file gave back what was written to it:
-/// what is asked of a file before anything else is done on its host. Nothing is changed. `47 NotAHostFile` where the path names
-/// nothing, a file of no bytes, or another database than a host's; `fault` where the file can't be read.
+/// Where it is `sound` the tables that the file shows once it is opened are a sound host's, as far as the file gave back what was
+/// written to it: what is asked of a file before anything else is done on its host. Nothing is changed, and a host of version 1
+/// stays one. `47 NotAHostFile` where the path names nothing, a file of no bytes, or another database than a host's; `fault`
+/// where the file can't be read.
 pub fn check_file<S: Start>(
     rt: &HostRuntime,
     path: &str,

@@ -1,6 +1,6 @@
 //! What is asked of a file, done on its connection, whatever store that is over.
 
-ghost use Rattle.std.specs.Prelude.{◌≡◌, IfOk};
+ghost use Rattle.std.specs.Prelude.{◌≡◌, IfOk, MatchResult};
 ghost use Rattle.sqlite.specs.Held.{state};
 ghost use Rattle.bh_blocks.specs.Digests.{digest_by};
 ghost use Rattle.bh_view.specs.Bodies.{IsSoundHost};
@@ -9,7 +9,7 @@ ghost use Rattle.bh_schema.specs.Storage.{IsClean, seen};
 ghost use Rattle.bh_storage.specs.Calls.{IsAtRest};
 ghost use Rattle.bh_commands.specs.Commands.{IsFault, IsRefusal};
 ghost use Rattle.bh_commands.specs.Endings.{IsLeft};
-ghost use Rattle.bh_commands.specs.Subcommands.{IsSoundIn, IsReadyFor, IsReadyBy, host_with, host_by, Makes, IsWorkedOn, IsWorkedInTime, Works, CarriesOut, LeavesDone};
+ghost use Rattle.bh_commands.specs.Subcommands.{IsSoundIn, IsReadyFor, IsReadyBy, IsOpenedAs, IsNotFound, host_with, host_by, Makes, IsWorkedOn, IsWorkedInTime, Works, CarriesOut, LeavesDone};
 
 use crate::asked::{Asked, Work};
 use crate::clocks::{leaps, reading_of};
@@ -66,6 +66,25 @@ pub(crate) fn why_not_found(why: Option<NoHost>, cause: Option<Error>) -> Remark
     match cause {
         Some(error) => Remark::Trouble(error),
         None => Remark::NoHost(why.unwrap_or(NoHost::NoRow)),
+    }
+}
+
+/// The connection of a database that holds a host, which was brought over if it was of version 1, or the refusal of one that
+/// doesn't.
+pub(crate) fn found_host<S: Alter + Drop>(
+    rt: &HostRuntime,
+    path: &str,
+    connection: Connection<S>,
+) -> Result<Result<Connection<S>, Done<S>>, AllocError>
+    ensures { IfOk result (λ found. MatchResult found (λ new. IsOpenedAs (state S.Store connection) (state S.Store new))
+        (λ done. IsNotFound (state S.Store connection) (state S.Store done.connection) done.printed)) }
+{
+    match open_host(rt.alloc(), connection, Tuning::default()) {
+        Ok(opened) => Ok(Ok(opened.connection)),
+        Err(error) => {
+            tell(rt, path, &why_not_found(error.why, error.cause));
+            Ok(Err(refused(rt.alloc(), error.connection, error.refusal)?))
+        }
     }
 }
 

@@ -7,7 +7,7 @@ use Rattle.bh_types.specs.declared.block_digest.BlockDigest.{BlockDigest}
 use Rattle.bh_model.specs.QuotaLaws.{IsBounded}
 use Rattle.bh_model.specs.State.{Octets}
 use Rattle.bh_tables.specs.Schema.{no_schema}
-use Rattle.bh_tables.specs.Made.{with_uses_by_count}
+use Rattle.bh_tables.specs.Made.{with_retains}
 use Rattle.bh_tables.specs.Typed.{Tables, no_rows, tables_in}
 use Rattle.bh_tables.specs.Hosts.{tables_shown}
 use Rattle.bh_tables.proofs.HostTests.{host_shows}
@@ -84,7 +84,7 @@ module _ (before : Schema) (sql : List ℕ) (table : Table) (creates : Creates b
       (grows before sql table creates old new (blank_before before (created before table) old new making) result runs s)
 
   pub fails : IsFree before sql table → (result : Result ℕ Error) → (HasCleanDisk new → Executes sql [] old new result) → Survives old new (CommitsBy sql [] old) → IfErr result (λ e. IsIntact new → is_trouble e ≡ true)
-  fails free result runs s = if_intact new result (create_trouble before sql table creates free old new (blank_before before (created before table) old new making) result runs s)
+  fails free result runs s = if_intact new result (create_trouble before sql table creates free old new (λ clean up. (blank_before before (created before table) old new making clean up).schema_is) result runs s)
 
 -- and so does an index
 module _ (before : Schema) (sql : List ℕ) (place : ℕ) (table : Table) (index : Index) (it : Indexes before sql place table index) (old new : State) (making : IsStateClean old → IsMaking before old) where
@@ -107,24 +107,24 @@ unfolding standing
 begun_making old new empty is = record { inside = ap (λ (x : Standing). x.inside) is; blank = record { schema_is = ap (λ (x : Standing). x.now.schema) is ∙ empty; blank = tt } }
 
 -- all tables are made
-made_host : (s : State) → IsMaking with_uses_by_count s → IsInside (standing s) × (tables_in (standing s).now ≡ no_rows)
+made_host : (s : State) → IsMaking with_retains s → IsInside (standing s) × (tables_in (standing s).now ≡ no_rows)
 unfolding standing
 made_host s making =
     let it = blank_host s (subst (λ schema. IsBlank schema s) all_made making.blank) in
     (record { inside = making.inside; host = it.0 }, it.1)
 
-pub made_empty : (s : State) → IsMaking with_uses_by_count s → (tables_in (standing s).now).host ≡ []
+pub made_empty : (s : State) → IsMaking with_retains s → (tables_in (standing s).now).host ≡ []
 made_empty s making = ap (λ (t : Tables). t.host) (made_host s making).1
 
-pub made_inside : (s : State) → IsMaking with_uses_by_count s → IsInside (standing s)
+pub made_inside : (s : State) → IsMaking with_retains s → IsInside (standing s)
 made_inside s making = (made_host s making).0
 
 -- the host's row is added
-pub filled : (old new : State) (min_part max_body digest : ℕ) → IsMaking with_uses_by_count old
-    → Holds (record (tables_in (standing old).now) { host = (tables_in (standing old).now).host ++ record { version = 1; latest = 0; min_part = min_part; max_body = max_body; digest = digest } ∷ [] }) (standing new)
+pub filled : (old new : State) (min_part max_body digest : ℕ) → IsMaking with_retains old
+    → Holds (record (tables_in (standing old).now) { host = (tables_in (standing old).now).host ++ record { version = 2; latest = 0; min_part = min_part; max_body = max_body; digest = digest } ∷ [] }) (standing new)
     → Holds (new_host min_part max_body digest) (standing new)
 filled old new min_part max_body digest making it =
-    record { within = it.within; is = it.is ∙ ap (λ (t : Tables). record t { host = t.host ++ record { version = 1; latest = 0; min_part = min_part; max_body = max_body; digest = digest } ∷ [] }) (made_host old making).1 }
+    record { within = it.within; is = it.is ∙ ap (λ (t : Tables). record t { host = t.host ++ record { version = 2; latest = 0; min_part = min_part; max_body = max_body; digest = digest } ∷ [] }) (made_host old making).1 }
 
 -- it has no body, and no tenant
 new_sound : (digest : Octets → Octets) (tables : Tables) (min_part max_body number : ℕ) → tables ≡ new_host min_part max_body number → IsSound tables → ((t : Octets) → view tables t ≡ None) → IsSoundHost digest tables

@@ -1,8 +1,8 @@
 ghost use Rattle.std.specs.Prelude.{◌≡◌, true, IfErr};
 ghost use Rattle.sqlite.specs.Held.{state};
 ghost use Rattle.bh_rows.specs.Means.{is_trouble};
-ghost use Rattle.bh_tables.specs.Schema.{no_schema};
-ghost use Rattle.bh_tables.specs.Made.{with_host, with_tenants, with_keys, with_buckets, with_versions, with_blocks, with_refs, with_newest, with_refs_by_block, with_uploads, with_parts, with_uploads_by_key, with_uploads_by_moment, with_uses, with_uses_by_count};
+ghost use Rattle.bh_tables.specs.Schema.{no_schema, first_schema};
+ghost use Rattle.bh_tables.specs.Made.{with_host, with_tenants, with_keys, with_buckets, with_versions, with_blocks, with_refs, with_newest, with_refs_by_block, with_uploads, with_parts, with_uploads_by_key, with_uploads_by_moment, with_uses, with_uses_by_count, with_locks, with_retains};
 ghost use Rattle.bh_schema.specs.Layer.{IsIntact, IsStateClean};
 ghost use Rattle.bh_create.specs.Creation.{IsMaking, Makes};
 
@@ -220,8 +220,30 @@ fn create_counts<S: Alter>(connection: &mut Connection<S>) -> Result<usize, Erro
     create_uses_by_count(connection)
 }
 
-/// Makes the tables of a host and their indexes, with no row.
-pub fn create_tables<S: Alter>(connection: &mut Connection<S>) -> Result<(), Error>
+fn create_locks<S: Alter>(connection: &mut Connection<S>) -> Result<usize, Error>
+    requires { IsStateClean (state S.Store connection.old) → IsMaking first_schema (state S.Store connection.old) }
+    ensures makes { Makes with_locks (state S.Store connection.old) (state S.Store connection.new) result }
+    ensures trouble { IfErr result (λ e. IsIntact (state S.Store connection.new) → is_trouble e ≡ true) }
+{
+    connection.execute(
+        "CREATE TABLE locks (tenant TEXT NOT NULL, bucket TEXT NOT NULL, PRIMARY KEY (tenant, bucket), FOREIGN KEY (tenant, bucket) REFERENCES buckets ON DELETE RESTRICT) STRICT",
+        &[],
+    )
+}
+
+fn create_retains<S: Alter>(connection: &mut Connection<S>) -> Result<usize, Error>
+    requires { IsStateClean (state S.Store connection.old) → IsMaking with_locks (state S.Store connection.old) }
+    ensures makes { Makes with_retains (state S.Store connection.old) (state S.Store connection.new) result }
+    ensures trouble { IfErr result (λ e. IsIntact (state S.Store connection.new) → is_trouble e ≡ true) }
+{
+    connection.execute(
+        "CREATE TABLE retains (tenant TEXT NOT NULL, seq INTEGER NOT NULL CHECK (seq >= 0), until INTEGER NOT NULL CHECK (until >= 0), PRIMARY KEY (tenant, seq), FOREIGN KEY (tenant, seq) REFERENCES versions ON DELETE RESTRICT) STRICT",
+        &[],
+    )
+}
+
+/// Makes the tables of a host of version 1 and their indexes, with no row. They stay as they are: files have them.
+pub fn create_first_tables<S: Alter>(connection: &mut Connection<S>) -> Result<usize, Error>
     requires { IsStateClean (state S.Store connection.old) → IsMaking no_schema (state S.Store connection.old) }
     ensures makes { Makes with_uses_by_count (state S.Store connection.old) (state S.Store connection.new) result }
     ensures trouble { IfErr result (λ e. IsIntact (state S.Store connection.new) → is_trouble e ≡ true) }
@@ -230,6 +252,17 @@ pub fn create_tables<S: Alter>(connection: &mut Connection<S>) -> Result<(), Err
     create_objects(connection)?;
     create_indexes(connection)?;
     create_multipart(connection)?;
-    create_counts(connection)?;
+    create_counts(connection)
+}
+
+/// Makes the tables of a host and their indexes, with no row.
+pub fn create_tables<S: Alter>(connection: &mut Connection<S>) -> Result<(), Error>
+    requires { IsStateClean (state S.Store connection.old) → IsMaking no_schema (state S.Store connection.old) }
+    ensures makes { Makes with_retains (state S.Store connection.old) (state S.Store connection.new) result }
+    ensures trouble { IfErr result (λ e. IsIntact (state S.Store connection.new) → is_trouble e ≡ true) }
+{
+    create_first_tables(connection)?;
+    create_locks(connection)?;
+    create_retains(connection)?;
     Ok(())
 }

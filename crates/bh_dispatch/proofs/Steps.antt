@@ -10,22 +10,22 @@ use Rattle.bh_types.specs.declared.id.UploadId.{UploadId}
 use Rattle.bh_types.specs.declared.refusal.Refusal.{Refusal}
 use Rattle.bh_types.specs.declared.refusal.Refusal.TheVariants.{InvalidArgument, InvalidName}
 use Rattle.bh_types.specs.declared.rejection.Rejection.{Rejection}
-use Rattle.bh_model.specs.Operations.{Answer, Outcome, create_bucket, head_bucket, delete_bucket, list_buckets, tell_usage, show_usage, get_versioning, put_object, copy_object, get_object, head_object, delete_object, get_lifecycle, put_lifecycle, delete_lifecycle}
+use Rattle.bh_model.specs.Operations.{Answer, Outcome, create_bucket, head_bucket, delete_bucket, list_buckets, tell_usage, show_usage, get_versioning, put_object, copy_object, get_object, head_object, delete_object, get_lifecycle, put_lifecycle, delete_lifecycle, get_retention, put_retention}
 use Rattle.bh_model.specs.State.{Octets, State as Machine}
 use Rattle.bh_model.specs.Listings.{list_objects, list_versions, list_uploads, list_parts}
 use Rattle.bh_model.specs.Parts.{Naming}
 use Rattle.bh_model.specs.Shown.{naming_of}
 use Rattle.bh_model.specs.Uploads.{create_upload, upload_part, complete_upload, abort_upload}
-use Rattle.bh_machine.specs.Machine.{set_versioning, page_asked, naming, finish_upload, operated, place_asked, upload_asked, set_lifecycle}
+use Rattle.bh_machine.specs.Machine.{set_versioning, page_asked, naming, finish_upload, operated, place_asked, upload_asked, set_lifecycle, set_retention}
 use Rattle.bh_operation.specs.declared.page.Page.{Page}
 use Rattle.bh_operation.specs.declared.address.ObjectName.{ObjectName}
 use Rattle.bh_operation.specs.declared.operation.CopySource.{CopySource}
-use Rattle.bh_operation.specs.declared.operation.Operation.TheVariants.{ListBuckets, Usage, CreateBucket, HeadBucket, DeleteBucket, ListObjectsV2, ListObjectVersions, ListMultipartUploads, GetBucketVersioning, PutBucketVersioning, GetLifecycle, PutLifecycle, DeleteLifecycle, PutObject, CopyObject, GetObject, HeadObject, DeleteObject, CreateMultipartUpload, UploadPart, ListParts, CompleteMultipartUpload, AbortMultipartUpload}
+use Rattle.bh_operation.specs.declared.operation.Operation.TheVariants.{ListBuckets, Usage, CreateBucket, HeadBucket, DeleteBucket, ListObjectsV2, ListObjectVersions, ListMultipartUploads, GetBucketVersioning, PutBucketVersioning, GetLifecycle, PutLifecycle, DeleteLifecycle, PutObject, CopyObject, GetObject, HeadObject, DeleteObject, CreateMultipartUpload, UploadPart, ListParts, CompleteMultipartUpload, AbortMultipartUpload, GetRetention, PutRetention}
 use Rattle.bh_types.specs.declared.wanted.Named.{Named}
 use Rattle.bh_types.specs.declared.wanted.Wanted.{Wanted}
 use Rattle.std.proofs.lemmas.Bool.{and_parts, leb-true}
 use Rattle.bh_docs.specs.Shapes.{lifecycle_shape}
-use Rattle.bh_docs.specs.Requests.{named_view, complete_of, lifecycle_of, ranged, document_of, or_malformed}
+use Rattle.bh_docs.specs.Requests.{named_view, complete_of, lifecycle_of, retention_of, ranged, document_of, or_malformed}
 use Rattle.bh_tables.specs.Typed.{Tables}
 use Rattle.bh_storage.specs.Answers.{answer_view}
 use Rattle.bh_storage.specs.declared.answer.Answer.{Answer as Told}
@@ -78,9 +78,9 @@ pub lists_buckets : (limits : HostLimits) (at : ℕ) (body : Octets) → operate
 unfolding operated
 lists_buckets limits at body = refl
 
-pub creates_bucket : (limits : HostLimits) (at : ℕ) (body : Octets) (bucket : Octets) → operated limits at body (CreateBucket bucket) ≡ (λ s. plainly (create_bucket at bucket s))
+pub creates_bucket : (limits : HostLimits) (at : ℕ) (body : Octets) (bucket : Octets) (locked : Bool) → operated limits at body (CreateBucket bucket locked) ≡ (λ s. plainly (create_bucket at bucket locked s))
 unfolding operated
-creates_bucket limits at body bucket = refl
+creates_bucket limits at body bucket locked = refl
 
 pub heads_bucket : (limits : HostLimits) (at : ℕ) (body : Octets) (bucket : Octets) → operated limits at body (HeadBucket bucket) ≡ (λ s. plainly (head_bucket bucket s))
 unfolding operated
@@ -151,14 +151,14 @@ lifecycle_range body n is =
     let days = then_ok (or_malformed (lifecycle_shape document.0)) (ranged 1 3650) n document.1 in
     ranged_in 1 3650 days.0 n days.1
 
-pub puts_object : (limits : HostLimits) (at : ℕ) (body : Octets) (object : ObjectName) (checksum : Option Octets) → operated limits at body (PutObject object checksum) ≡ (λ s. plainly (put_object at object.bucket object.key body checksum s))
+pub puts_object : (limits : HostLimits) (at : ℕ) (body : Octets) (object : ObjectName) (checksum : Option Octets) (date : Option (Option ℕ)) → operated limits at body (PutObject object checksum date) ≡ (λ s. plainly (put_object at object.bucket object.key body checksum date s))
 unfolding operated
-puts_object limits at body object checksum = refl
+puts_object limits at body object checksum date = refl
 
-pub copies_object : (limits : HostLimits) (at : ℕ) (body : Octets) (object : ObjectName) (source : CopySource) → operated limits at body (CopyObject object source)
-    ≡ (λ s. plainly (copy_object at object.bucket object.key source.object.bucket source.object.key source.version s))
+pub copies_object : (limits : HostLimits) (at : ℕ) (body : Octets) (object : ObjectName) (source : CopySource) (date : Option (Option ℕ)) → operated limits at body (CopyObject object source date)
+    ≡ (λ s. plainly (copy_object at object.bucket object.key source.object.bucket source.object.key source.version date s))
 unfolding operated
-copies_object limits at body object source = refl
+copies_object limits at body object source date = refl
 
 pub gets_object : (limits : HostLimits) (at : ℕ) (body : Octets) (object : ObjectName) (version : Wanted) (range : Option Octets) → operated limits at body (GetObject object version range) ≡ get_object object.bucket object.key version range
 unfolding operated
@@ -171,6 +171,22 @@ heads_object limits at body object version = refl
 pub deletes_object : (limits : HostLimits) (at : ℕ) (body : Octets) (object : ObjectName) (version : Wanted) → operated limits at body (DeleteObject object version) ≡ (λ s. plainly (delete_object at object.bucket object.key version s))
 unfolding operated
 deletes_object limits at body object version = refl
+
+-- ---- the operations on dates
+
+pub tells_date : (limits : HostLimits) (at : ℕ) (body : Octets) (object : ObjectName) (version : Wanted) → operated limits at body (GetRetention object version) ≡ get_retention object.bucket object.key version
+unfolding operated
+tells_date limits at body object version = refl
+
+pub sets_date : (limits : HostLimits) (at : ℕ) (body : Octets) (object : ObjectName) (version : Wanted) → operated limits at body (PutRetention object version) ≡ set_retention at object.bucket object.key version body
+unfolding operated
+sets_date limits at body object version = refl
+
+-- where the document tells the date
+pub dates : (at : ℕ) (bucket key : Octets) (version : Wanted) (body : Octets) (date : ℕ) → retention_of body ≡ Ok date → ◌≡◌ {A = Option Machine → Result Outcome Rejection} (put_retention at bucket key version date) (set_retention at bucket key version body)
+dates at bucket key version body date is =
+    let after : Result ℕ Refusal → Option Machine → Result Outcome Rejection = λ r s. plainly r >>= (λ d. put_retention at bucket key version d s) in
+    ap after (sym is)
 
 -- ---- the operations on uploads
 

@@ -8,6 +8,6 @@ use Rattle.bh_view.specs.Bodies.{StoresPieces}
 
 -- an object and a part are cut into pieces of so many bytes
 abbrev pub StoresBody : (Octets → Octets) → ℕ → Octets → Operation → Tables → Tables → Type 0
-StoresBody digest size body (PutObject object checksum) old new = StoresPieces digest size body old new
+StoresBody digest size body (PutObject object checksum date) old new = StoresPieces digest size body old new
 StoresBody digest size body (UploadPart object upload number checksum) old new = StoresPieces digest size body old new
 StoresBody digest size body operation old new = Unit {0}

@@ -6,5 +6,6 @@ mod answers;
 mod commands;
 pub mod lifecycle;
 pub mod operations;
+pub mod retention;
 pub mod storage;
 pub mod uploads;

@@ -14,7 +14,7 @@ ghost use Rattle.bh_schema.specs.Connections.{IsClean, tables, StaysWithin, Stay
 ghost use Rattle.bh_schema.specs.Working.{Works, StillWorks, StillWorksBy};
 ghost use Rattle.bh_dispatch.specs.Stored.{StoresBody};
 
-use crate::{answers, lifecycle, uploads};
+use crate::{answers, lifecycle, retention, uploads};
 use bh_docs::read_versioning;
 use bh_objects::copies::NewCopy;
 use bh_objects::writes::NewObject;
@@ -74,6 +74,7 @@ fn create_bucket<S: Alter>(
     tenant: &TenantName,
     at: Moment,
     bucket: &BucketName,
+    locked: bool,
 ) -> Result<Answer, StepError<Rejection>>
     requires working { Works S.Store connection.old }
     requires early { IsClean S.Store connection.old → at ≤ latest_of (tables S.Store connection.old) }
@@ -81,10 +82,10 @@ fn create_bucket<S: Alter>(
     ensures opens { Unless result (StaysOpen S.Store connection.old connection.new) }
     ensures working { Unless result (StillWorks S.Store connection.old connection.new) }
     ensures carries { IsClean S.Store connection.new
-        → Carries answer_view tenant.now (λ s. plainly (machine.create_bucket at bucket.now s))
+        → Carries answer_view tenant.now (λ s. plainly (machine.create_bucket at bucket.now locked s))
         (tables S.Store connection.old) (tables S.Store connection.new) result }
 {
-    answers::done(buckets::create_bucket(connection, tenant, at, bucket))
+    answers::done(buckets::create_bucket(connection, tenant, at, bucket, locked))
 }
 
 fn head_bucket<S: Alter>(
@@ -170,7 +171,7 @@ fn put_object<S: Alter, D: Digester>(
     ensures opens { Unless result (StaysOpen S.Store connection.old connection.new) }
     ensures working { Unless result (StillWorksBy S.Store D.digest_of connection.old connection.new) }
     ensures carries { IsClean S.Store connection.new
-        → Carries answer_view object.now.tenant.now (λ s. plainly (machine.put_object object.now.at object.now.bucket.now object.now.key.now object.now.bytes.now (option_copied given.entry) s))
+        → Carries answer_view object.now.tenant.now (λ s. plainly (machine.put_object object.now.at object.now.bucket.now object.now.key.now object.now.bytes.now (option_copied given.entry) object.now.date s))
         (tables S.Store connection.old) (tables S.Store connection.new) result }
     ensures blocks { OnOk result (IsClean S.Store connection.new
         → StoresPieces D.digest_of block_size object.now.bytes.now (tables S.Store connection.old) (tables S.Store connection.new)) }
@@ -184,6 +185,7 @@ fn copy_object<S: Alter>(
     at: Moment,
     object: &ObjectName,
     source: &CopySource,
+    date: Option<Option<Moment>>,
 ) -> Result<Answer, StepError<Rejection>>
     requires working { Works S.Store connection.old }
     requires early { IsClean S.Store connection.old → at ≤ latest_of (tables S.Store connection.old) }
@@ -192,7 +194,7 @@ fn copy_object<S: Alter>(
     ensures working { Unless result (StillWorks S.Store connection.old connection.new) }
     ensures carries { IsClean S.Store connection.new
         → Carries answer_view tenant.now (λ s. plainly (machine.copy_object at object.now.bucket object.now.key
-        source.now.object.bucket source.now.object.key source.now.version s))
+        source.now.object.bucket source.now.object.key source.now.version date s))
         (tables S.Store connection.old) (tables S.Store connection.new) result }
 {
     let copy = NewCopy {
@@ -203,6 +205,7 @@ fn copy_object<S: Alter>(
         source_bucket: &source.object.bucket,
         source_key: &source.object.key,
         version: source.version,
+        date,
     };
     answers::copied(copies::copy_object(connection, &copy))
 }
@@ -370,7 +373,9 @@ fn operate_bucket<S: Alter>(
 {
     match operation {
         Operation::ListBuckets => list_buckets(connection, alloc, tenant),
-        Operation::CreateBucket(bucket) => create_bucket(connection, tenant, at, bucket),
+        Operation::CreateBucket { bucket, locked } => {
+            create_bucket(connection, tenant, at, bucket, *locked)
+        }
         Operation::HeadBucket(bucket) => head_bucket(connection, tenant, bucket),
         Operation::DeleteBucket(bucket) => delete_bucket(connection, tenant, bucket),
         Operation::ListObjectsV2 {
@@ -421,7 +426,11 @@ fn operate_object<S: Alter, D: Digester>(
         → StoresBody D.digest_of block_size body.now operation.now (tables S.Store connection.old) (tables S.Store connection.new)) }
 {
     match operation {
-        Operation::PutObject { object, checksum } => {
+        Operation::PutObject {
+            object,
+            checksum,
+            date,
+        } => {
             let (bucket, key, given) = (&object.bucket, &object.key, bytes_of(checksum));
             let object = NewObject {
                 tenant,
@@ -429,12 +438,15 @@ fn operate_object<S: Alter, D: Digester>(
                 key,
                 at,
                 bytes: body,
+                date: *date,
             };
             put_object(connection, alloc, digester, block_size, &object, given)
         }
-        Operation::CopyObject { object, source } => {
-            copy_object(connection, tenant, at, object, source)
-        }
+        Operation::CopyObject {
+            object,
+            source,
+            date,
+        } => { copy_object(connection, tenant, at, object, source, *date) }
         Operation::GetObject {
             object,
             version,
@@ -548,7 +560,7 @@ pub fn operate<S: Alter, D: Digester>(
 {
     match operation {
         Operation::ListBuckets
-        | Operation::CreateBucket(_)
+        | Operation::CreateBucket { .. }
         | Operation::HeadBucket(_)
         | Operation::DeleteBucket(_)
         | Operation::ListObjectsV2 { .. }
@@ -578,6 +590,9 @@ pub fn operate<S: Alter, D: Digester>(
             operate_upload(
                 connection, alloc, digester, block_size, limits, tenant, at, operation, body,
             )
+        }
+        Operation::GetRetention { .. } | Operation::PutRetention { .. } => {
+            retention::operate_retention(connection, alloc, tenant, at, operation, body)
         }
         Operation::Usage => usage(connection, tenant),
     }

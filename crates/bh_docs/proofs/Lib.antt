@@ -3,3 +3,4 @@ pub mod Bodies
 pub mod Floats
 pub mod Markers
 pub mod Ranges
+pub mod Retained

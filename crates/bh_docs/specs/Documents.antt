@@ -133,6 +133,17 @@ lifecycle_data days =
 abbrev pub lifecycle_text : ℕ → List ℕ
 lifecycle_text days = compact_text (lifecycle_data days)
 
+-- {} or {"Mode":"COMPLIANCE","RetainUntilDate":date}
+-- Amazon S3 API Reference, GetObjectRetention, as JSON
+abbrev pub retention_data : Option ℕ → Data
+retention_data None = object no_members
+retention_data (Some date) =
+    object (member (codes "Mode") (string (codes "COMPLIANCE"))
+    (member (codes "RetainUntilDate") (moment date) no_members))
+
+abbrev pub retention_text : Option ℕ → List ℕ
+retention_text date = compact_text (retention_data date)
+
 -- {"Bucket":bucket,"Key":key,"UploadId":upload}
 -- Amazon S3 API Reference, CreateMultipartUpload, as JSON
 abbrev pub begun_data : List ℕ → List ℕ → UploadId → Data

@@ -1,13 +1,15 @@
 -- What request documents ask: MalformedJSON where the shape is another, anywhere in the document,
 -- and then InvalidArgument where a whole number is out of its range.
-use Rattle.std.specs.Prelude.{ℕ, ℤ, pos, negsuc, ◌&&◌, nat_le, List, [], ◌∷◌, Option, Some, None, option_map, Result, Ok, Err, if◌then◌else◌, string_bytes}
+use Rattle.std.specs.Prelude.{ℕ, ℤ, pos, negsuc, ◌&&◌, nat_le, List, [], ◌∷◌, codes, Option, Some, None, option_map, ok_or, Result, Ok, Err, if◌then◌else◌, string_bytes}
+use Rattle.std.specs.Str.{bytes_eq}
 use Rattle.serde_json.specs.Data.{Data}
+use Rattle.bh_types.specs.Moments.{moment_of}
 use Rattle.bh_types.specs.Outcomes.{◌>>=◌}
 use Rattle.bh_types.specs.declared.refusal.Refusal.{Refusal}
 use Rattle.bh_types.specs.declared.refusal.Refusal.TheVariants.{InvalidArgument, MalformedJson}
 use Rattle.bh_types.specs.declared.bucket_state.BucketState.{BucketState}
 use Rattle.bh_types.specs.declared.wanted.Named.{Named}
-use Rattle.bh_docs.specs.Shapes.{Part, data_of, versioning_shape, lifecycle_shape, complete_shape}
+use Rattle.bh_docs.specs.Shapes.{Part, data_of, versioning_shape, lifecycle_shape, retention_shape, complete_shape}
 
 abbrev pub or_malformed : {A : Type 0} → Option A → Result A Refusal
 or_malformed None = Err MalformedJson
@@ -36,6 +38,18 @@ lifecycle_of body = do
   document ← document_of body
   days ← or_malformed (lifecycle_shape document)
   ranged 1 3650 days
+
+-- a date in the one mode that the host does
+abbrev pub date_told : List ℕ × List ℕ → Result ℕ Refusal
+date_told (mode, date) = if bytes_eq mode (codes "COMPLIANCE") then ok_or (moment_of date) InvalidArgument else Err InvalidArgument
+
+-- the date until which a version is to be kept
+-- Amazon S3 API Reference, PutObjectRetention
+abbrev pub retention_of : List ℕ → Result ℕ Refusal
+retention_of body = do
+  document ← document_of body
+  told ← or_malformed (retention_shape document)
+  date_told told
 
 -- a part with a number from 1 to 10,000
 abbrev pub in_range : Part → Result (ℕ × Option (List ℕ)) Refusal

@@ -9,6 +9,7 @@ use Rattle.serde_json.specs.Read.{read}
 use Rattle.bh_types.specs.declared.bucket_state.BucketState.{BucketState}
 use Rattle.bh_types.specs.declared.bucket_state.BucketState.TheVariants.{Enabled, Suspended}
 use Rattle.bh_docs.specs.declared.shape.PartShape.{PartShape}
+use Rattle.bh_docs.specs.declared.shape.RetentionShape.{RetentionShape}
 
 infixl 10 ◌>>=◌
 abbrev pub ◌>>=◌ : {A B : Type 0} → Option A → (A → Option B) → Option B
@@ -86,6 +87,20 @@ lifecycle_shape d = do
   items ← as_array rules
   rule ← only_item items
   rule_shape rule
+
+-- ---- {"Mode":text,"RetainUntilDate":text}
+
+-- a mode and a date, whatever texts they are
+abbrev pub retention_view : RetentionShape → List ℕ × List ℕ
+retention_view told = (told.mode.now, told.date.now)
+
+-- Amazon S3 API Reference, PutObjectRetention, as JSON
+abbrev pub retention_shape : Data → Option (List ℕ × List ℕ)
+retention_shape d = do
+  members ← two_members (codes "Mode") (codes "RetainUntilDate") d
+  mode ← as_str members.0
+  date ← as_str members.1
+  Some (mode, date)
 
 -- ---- {"Parts":[part,..]}
 

@@ -17,10 +17,10 @@ pub mod versions;
 pub use objects::{ObjectEntry, ObjectsPage, objects_document};
 pub use parts::{PartEntry, PartsPage, parts_document};
 pub use prefix::CommonPrefix;
-pub use read::{read_complete, read_lifecycle, read_versioning};
+pub use read::{read_complete, read_lifecycle, read_retention, read_versioning};
 pub use reply::{
     BucketEntry, Usage, begun_document, buckets_document, completed_document, copied_document,
-    error_document, lifecycle_document, usage_document, versioning_document,
+    error_document, lifecycle_document, retention_document, usage_document, versioning_document,
 };
 pub use uploads::{UploadEntry, UploadsNext, UploadsPage, uploads_document};
 pub use versions::{StoredObject, VersionEntry, VersionsNext, VersionsPage, versions_document};

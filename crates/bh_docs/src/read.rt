@@ -5,11 +5,14 @@ ghost use Rattle.std.specs.Prelude.{◌≡◌, map};
 ghost use Rattle.serde_json.specs.View.{view};
 ghost use Rattle.bh_types.specs.Outcomes.{Gives};
 ghost use Rattle.bh_docs.specs.Requests as spec;
-ghost use Rattle.bh_docs.specs.Shapes.{part_view};
+ghost use Rattle.bh_docs.specs.Shapes.{part_view, retention_view};
 
-use crate::shape::{PartShape, complete_shape, lifecycle_shape, versioning_shape};
+use crate::shape::{
+    PartShape, RetentionShape, complete_shape, lifecycle_shape, retention_shape, versioning_shape,
+};
 use bh_types::bucket_state::BucketState;
 use bh_types::error::RequestError;
+use bh_types::moment::Moment;
 use bh_types::refusal::Refusal;
 use bh_types::wanted::Named;
 use serde_json::Value;
@@ -36,6 +39,31 @@ pub fn read_lifecycle(alloc: Global, body: &[u8]) -> Result<u16, RequestError>
     let days = or_malformed(lifecycle_shape(&document))?;
     let days = ranged(1, 3650, days)?;
     Ok(days as u16)
+}
+
+/// The date until which a version is to be kept, by `{"Mode":"COMPLIANCE","RetainUntilDate":date}` with a date as
+/// `Moment::read` reads it. A body of another shape is refused with `MalformedJson`, and else one with another mode or
+/// date with `InvalidArgument`. (Amazon S3 API Reference, PutObjectRetention, as JSON.)
+pub fn read_retention(alloc: Global, body: &[u8]) -> Result<Moment, RequestError>
+    ensures { Gives (λ date. date) result (spec.retention_of body.now) }
+{
+    let document = read_document(alloc, body)?;
+    match retention_shape(&document) {
+        Some(told) => Ok(date_told(told)?),
+        None => Err(RequestError::Refused(Refusal::MalformedJson)),
+    }
+}
+
+fn date_told(told: RetentionShape<'_>) -> Result<Moment, Refusal>
+    ensures { result ≡ spec.date_told (retention_view told.entry) }
+{
+    if told.mode != "COMPLIANCE" {
+        return Err(Refusal::InvalidArgument);
+    }
+    match Moment::read(told.date) {
+        Some(date) => Ok(date),
+        None => Err(Refusal::InvalidArgument),
+    }
 }
 
 /// The parts that complete an upload, as they are named, by

@@ -1,11 +1,11 @@
 //! The documents of replies, but for the pages of listings. Each is compact JSON (RFC 8259) with
 //! its members in byte order. An error says that memory ran out.
 
-ghost use Rattle.std.specs.Prelude.{◌≡◌, ◌≢◌, ◌≤◌, map, IfOk};
+ghost use Rattle.std.specs.Prelude.{◌≡◌, ◌≢◌, ◌≤◌, ℕ, Some, None, map, IfOk};
 ghost use Rattle.std.specs.String.{string_bytes};
 ghost use Rattle.serde_json.specs.View.{view};
 ghost use Rattle.bh_docs.specs.Documents as spec;
-ghost use Rattle.bh_docs.specs.Requests.{versioning_of, lifecycle_of};
+ghost use Rattle.bh_docs.specs.Requests.{versioning_of, lifecycle_of, retention_of};
 
 use crate::document::{Listed, Shown, object_of, print, with_entries, with_member};
 use bh_types::bucket_state::BucketState;
@@ -178,6 +178,45 @@ fn days_value(alloc: Global, days: u16) -> Result<Value, AllocError>
     object_of(
         alloc,
         &[("DaysAfterInitiation", Shown::Count(u64::from(days)))],
+    )
+}
+
+/// The answer to GetObjectRetention: `{}` for a version without a date, and else the document that sets its date.
+pub fn retention_document(alloc: Global, date: Option<Moment>) -> Result<String, AllocError>
+    ensures text { IfOk result (λ text. string_bytes text ≡ spec.retention_text date) }
+    ensures reads_back { (until : ℕ) → date ≡ Some until
+        → IfOk result (λ text. retention_of (string_bytes text) ≡ Ok until) }
+{
+    match date {
+        Some(date) => dated_document(alloc, date),
+        None => undated_document(alloc),
+    }
+}
+
+fn undated_document(alloc: Global) -> Result<String, AllocError>
+    ensures { IfOk result (λ text. string_bytes text ≡ spec.retention_text None) }
+{
+    let document = object_of(alloc, &[])?;
+    print(alloc, &document)
+}
+
+fn dated_document(alloc: Global, date: Moment) -> Result<String, AllocError>
+    ensures text { IfOk result (λ text. string_bytes text ≡ spec.retention_text (Some date)) }
+    ensures reads_back { IfOk result (λ text. retention_of (string_bytes text) ≡ Ok date) }
+{
+    let document = dated_value(alloc, date)?;
+    print(alloc, &document)
+}
+
+fn dated_value(alloc: Global, date: Moment) -> Result<Value, AllocError>
+    ensures { IfOk result (λ value. view value ≡ spec.retention_data (Some date)) }
+{
+    object_of(
+        alloc,
+        &[
+            ("Mode", Shown::Text("COMPLIANCE")),
+            ("RetainUntilDate", Shown::At(date)),
+        ],
     )
 }
 

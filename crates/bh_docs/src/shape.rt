@@ -108,6 +108,25 @@ fn if_enabled(status: &Value, days: i128) -> Option<i128>
     }
 }
 
+/// A version's retention as a document gives it.
+#[derive(Clone, Copy)]
+pub struct RetentionShape<'a> {
+    /// Any text.
+    pub mode: &'a str,
+    /// Any text.
+    pub date: &'a str,
+}
+
+/// The mode and the date of `{"Mode":mode,"RetainUntilDate":date}`, whatever texts they are.
+pub fn retention_shape(document: &Value) -> Option<RetentionShape<'_>>
+    ensures { option_map spec.retention_view result ≡ spec.retention_shape (view document.now) }
+{
+    let (mode, date) = two_members("Mode", "RetainUntilDate", document)?;
+    let mode = mode.as_str()?;
+    let date = date.as_str()?;
+    Some(RetentionShape { mode, date })
+}
+
 /// A part as a document gives it.
 #[derive(Clone, Copy)]
 pub struct PartShape<'a> {

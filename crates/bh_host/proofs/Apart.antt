@@ -7,7 +7,7 @@ use Rattle.bh_http.specs.declared.values.Allow.{Allow}
 use Rattle.bh_http.specs.declared.values.ContentRange.{ContentRange}
 use Rattle.bh_machine.specs.Refused.{is_step_refusal}
 use Rattle.bh_http.specs.Responses.{response_text, refusal_text}
-use Rattle.bh_model.specs.Operations.{Answer, Done, Removed, Stored, Copied, Head, Object, Buckets, Versioning, Objects, Versions, Uploads, Parts, Begun, PartStored, Completed, Lifecycle, Used}
+use Rattle.bh_model.specs.Operations.{Answer, Done, Removed, Stored, Copied, Head, Object, Buckets, Versioning, Objects, Versions, Uploads, Parts, Begun, PartStored, Completed, Lifecycle, Retention, Used}
 use Rattle.bh_model.specs.State.{Octets}
 use Rattle.bh_types.specs.declared.range.RangePlan.TheVariants.{Whole, Part}
 use Rattle.bh_types.specs.declared.refusal.Refusal.{Refusal}
@@ -44,6 +44,7 @@ answer_apart (Versions page) body = refl
 answer_apart (Uploads page) body = refl
 answer_apart (Parts page) body = refl
 answer_apart (Lifecycle days) body = refl
+answer_apart (Retention date) body = refl
 answer_apart (Begun bucket key upload abort) body = refl
 answer_apart (PartStored checksum) body = refl
 answer_apart (Completed bucket key id checksum) body = refl

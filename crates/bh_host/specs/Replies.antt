@@ -2,7 +2,7 @@
 use Rattle.std.specs.Prelude.{ℕ, Bool, true, false, [], ◌++◌, length, codes, decimal, if◌then◌else◌, Option, Some, None, Result, Ok, Err}
 use Rattle.std.specs.Str.{bytes_eq}
 use Rattle.std.specs.Str.Lossy.{utf8_lossy}
-use Rattle.bh_docs.specs.Documents.{begun_text, buckets_text, completed_text, copied_text, error_text, versioning_text, lifecycle_text, usage_text}
+use Rattle.bh_docs.specs.Documents.{begun_text, buckets_text, completed_text, copied_text, error_text, versioning_text, lifecycle_text, usage_text, retention_text}
 use Rattle.bh_docs.specs.Pages.{objects_text, versions_text, uploads_text, parts_text}
 use Rattle.bh_event.specs.Events.{Order, AddTenant, AddKey, RemoveKey, ShowUsage, Message, Requested, Ordered, SweepOrdered, ReportOrdered, SetQuota}
 use Rattle.bh_http.specs.Answers.{bare, empty, with_document, refused, bare_refusal}
@@ -13,7 +13,7 @@ use Rattle.bh_http.specs.declared.values.Allow.TheVariants.{Marker}
 use Rattle.bh_http.specs.declared.values.ContentRange.{ContentRange}
 use Rattle.bh_http.specs.declared.values.ContentRange.TheVariants.{Part as Satisfied, Unsatisfied}
 use Rattle.bh_http.specs.declared.values.ContentType.TheVariants.{OctetStream}
-use Rattle.bh_model.specs.Operations.{Answer, Done, Removed, Stored, Copied, Head, Object, Buckets, Versioning, Objects, Versions, Uploads, Parts, Begun, PartStored, Completed, Lifecycle, Used}
+use Rattle.bh_model.specs.Operations.{Answer, Done, Removed, Stored, Copied, Head, Object, Buckets, Versioning, Objects, Versions, Uploads, Parts, Begun, PartStored, Completed, Lifecycle, Retention, Used}
 use Rattle.bh_model.specs.State.{Octets}
 use Rattle.bh_operation.specs.Allowed.{allow_of}
 use Rattle.bh_operation.specs.Targets.{path_of}
@@ -79,6 +79,7 @@ response_to (Versions page) = with_document 200 (versions_text page)
 response_to (Uploads page) = with_document 200 (uploads_text page)
 response_to (Parts page) = with_document 200 (parts_text page)
 response_to (Lifecycle days) = with_document 200 (lifecycle_text days)
+response_to (Retention date) = with_document 200 (retention_text date)
 response_to (Begun bucket key upload abort) = record (with_document 200 (begun_text bucket key upload)) { abort_date = abort }
 response_to (PartStored checksum) = record (empty 200) { checksum = Some checksum }
 response_to (Used usage) = with_document 200 (usage_text usage)

@@ -4,13 +4,14 @@ ghost use Rattle.bh_docs.specs.Documents.{bucket_view, usage_view};
 ghost use Rattle.bh_docs.specs.Pages.{page_view, versions_view, uploads_view, parts_view};
 ghost use Rattle.bh_http.specs.Answers.{response_view};
 ghost use Rattle.bh_host.specs.Replies as spec;
-ghost use Rattle.bh_model.specs.Operations.{Buckets, Versioning, Objects, Versions, Lifecycle, Uploads, Parts, PartStored, Used};
+ghost use Rattle.bh_model.specs.Operations.{Buckets, Versioning, Objects, Versions, Lifecycle, Retention, Uploads, Parts, PartStored, Used};
 ghost use Rattle.bh_storage.specs.Answers.{answer_view, removed_answer, stored_answer, copied_answer, head_answer, found_answer, begun_answer, completed_answer};
 
 use bh_docs::{
     BucketEntry, ObjectsPage, PartsPage, UploadsPage, Usage, VersionsPage, begun_document,
     buckets_document, completed_document, copied_document, lifecycle_document, objects_document,
-    parts_document, uploads_document, usage_document, versioning_document, versions_document,
+    parts_document, retention_document, uploads_document, usage_document, versioning_document,
+    versions_document,
 };
 use bh_http::StatusCode;
 use bh_http::response::Response;
@@ -20,6 +21,7 @@ use bh_storage::answer::{
     StoredVersion,
 };
 use bh_types::bucket_state::BucketState;
+use bh_types::moment::Moment;
 use bh_types::range::RangePlan;
 use std::alloc::{AllocError, Global};
 
@@ -41,6 +43,7 @@ pub fn response_to(alloc: Global, answer: Answer) -> Result<Response, AllocError
         Answer::Uploads(page) => uploads(alloc, &page),
         Answer::Parts(page) => parts(alloc, &page),
         Answer::Lifecycle(days) => lifecycle(alloc, days),
+        Answer::Retention(date) => retention(alloc, date),
         Answer::Begun(upload) => begun(alloc, &upload),
         Answer::PartStored(checksum) => Ok(part_stored(alloc, checksum)),
         Answer::Completed(upload) => completed(alloc, &upload),
@@ -138,6 +141,14 @@ fn lifecycle(alloc: Global, days: u16) -> Result<Response, AllocError>
     ensures { IfOk result (λ response. response_view response ≡ spec.response_to (Lifecycle days)) }
 {
     let document = lifecycle_document(alloc, days)?;
+    Ok(Response::with_document(alloc, StatusCode::OK, document.into_bytes()))
+}
+
+/// A version's retention, which is told by an empty document where it has no date.
+fn retention(alloc: Global, date: Option<Moment>) -> Result<Response, AllocError>
+    ensures { IfOk result (λ response. response_view response ≡ spec.response_to (Retention date)) }
+{
+    let document = retention_document(alloc, date)?;
     Ok(Response::with_document(alloc, StatusCode::OK, document.into_bytes()))
 }
 

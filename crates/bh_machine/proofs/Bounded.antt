@@ -22,10 +22,10 @@ module _ (limits : HostLimits) (now : ℕ) (s : Option State) where
   purged = purged_tenant s now
 
   fits : (act : Act) → IfOk (change limits now act purged) (λ o. FitsQuota purged o.1) → FitsQuota s (step limits now act s).1
-  fits act h = fits_later s purged (step limits now act s).1 (purged_fits now s) (settled_as FitsQuota changes_fit purged (change limits now act purged) h)
+  fits act h = fits_later s purged (step limits now act s).1 (purged_fits now s) (settled_as FitsQuota now (changes_fit now) purged (change limits now act purged) h)
 
   commanded : (order : Order) → IfOk (ordered order purged) (λ o. FitsQuota purged o.1) → FitsQuota s (step limits now (Commanded order) s).1
-  commanded order h = fits (Commanded order) (plainly_holds FitsQuota changes_fit purged (ordered order purged) h)
+  commanded order h = fits (Commanded order) (plainly_holds FitsQuota now (changes_fit now) purged (ordered order purged) h)
 
   -- where the quota is set
   sets : (r : Result Outcome Refusal) → IfOk r (λ o. UsesNoMore purged o.1) → UsesNoMore s (settled purged (plainly r)).1
@@ -33,14 +33,14 @@ module _ (limits : HostLimits) (now : ℕ) (s : Option State) where
   sets (Err e) h = purge_uses_no_more now s
 
 pub steps_keep_quota : StepsKeepQuota
-steps_keep_quota limits now (Asked answer) s = fits limits now s (Asked answer) (asked_as FitsQuota changes_fit (purged_tenant s now) limits now answer)
+steps_keep_quota limits now (Asked answer) s = fits limits now s (Asked answer) (asked_as FitsQuota now (changes_fit now) (purged_tenant s now) limits answer)
 steps_keep_quota limits now (Commanded (AddTenant tenant quota)) s =
     sets limits now s (add_tenant tenant quota (purged_tenant s now)) (settings_use_no_more.tenant_added tenant quota (purged_tenant s now))
 steps_keep_quota limits now (Commanded (SetQuota tenant quota)) s =
     sets limits now s (set_quota tenant quota (purged_tenant s now)) (settings_use_no_more.quota_set tenant quota (purged_tenant s now))
-steps_keep_quota limits now (Commanded (AddKey tenant name secret)) s = commanded limits now s (AddKey tenant name secret) (key_added_as FitsQuota changes_fit (purged_tenant s now) tenant name secret)
-steps_keep_quota limits now (Commanded (RemoveKey tenant name)) s = commanded limits now s (RemoveKey tenant name) (key_removed_as FitsQuota changes_fit (purged_tenant s now) tenant name)
-steps_keep_quota limits now (Commanded (ShowUsage tenant)) s = commanded limits now s (ShowUsage tenant) (usage_shown_as FitsQuota changes_fit (purged_tenant s now) tenant)
+steps_keep_quota limits now (Commanded (AddKey tenant name secret)) s = commanded limits now s (AddKey tenant name secret) (key_added_as FitsQuota now (changes_fit now) (purged_tenant s now) tenant name secret)
+steps_keep_quota limits now (Commanded (RemoveKey tenant name)) s = commanded limits now s (RemoveKey tenant name) (key_removed_as FitsQuota now (changes_fit now) (purged_tenant s now) tenant name)
+steps_keep_quota limits now (Commanded (ShowUsage tenant)) s = commanded limits now s (ShowUsage tenant) (usage_shown_as FitsQuota now (changes_fit now) (purged_tenant s now) tenant)
 
 -- ---- against the greatest quota
 
@@ -50,13 +50,13 @@ left_bounded s bound (Err e) h = tt
 
 pub operated_bounded : (s : Option State) → IsBounded s → (limits : HostLimits) (now : ℕ) (body : Octets) (operation : Operation) → IfOk (operated limits now body operation s) (λ o. IsBounded o.1)
 operated_bounded s bound limits now body operation =
-    left_bounded s bound (operated limits now body operation s) (operated_as KeepsBound changes_keep_bound s limits now body operation)
+    left_bounded s bound (operated limits now body operation s) (operated_as KeepsBound now (changes_keep_bound now) s limits body operation)
 
 pub ordered_bounded : (s : Option State) → IsBounded s → (order : Order) → IfOk (ordered order s) (λ o. IsBounded o.1)
-ordered_bounded s bound order = left_bounded s bound (ordered order s) (ordered_as KeepsBound changes_keep_bound s settings_keep_bound order)
+ordered_bounded s bound order = left_bounded s bound (ordered order s) (ordered_as KeepsBound 0 (changes_keep_bound 0) s settings_keep_bound order)
 
 pub steps_bounded : StepsStayBounded
-steps_bounded limits now act s bound = step_as KeepsBound changes_keep_bound settings_keep_bound limits now act s (used_stays_bounded.purged_bounded now s bound)
+steps_bounded limits now act s bound = step_as KeepsBound now (changes_keep_bound now) settings_keep_bound limits act s (used_stays_bounded.purged_bounded now s bound)
 
 from_here : (limits : HostLimits) (s : Option State) (acts : List (ℕ × Act)) → IsBounded s → IsBounded (solo_state (step limits) s acts)
 from_here limits s [] bound = bound

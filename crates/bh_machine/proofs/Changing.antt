@@ -10,13 +10,13 @@ use Rattle.bh_types.specs.declared.id.UploadId.{UploadId}
 use Rattle.bh_types.specs.declared.refusal.Refusal.{Refusal}
 use Rattle.bh_types.specs.declared.refusal.Refusal.TheVariants.{InvalidAccessKeyId, InvalidName, NoSuchLifecycleConfiguration}
 use Rattle.bh_types.specs.declared.wanted.Wanted.{Wanted}
-use Rattle.bh_docs.specs.Requests.{versioning_of, lifecycle_of, complete_of}
+use Rattle.bh_docs.specs.Requests.{versioning_of, lifecycle_of, retention_of, complete_of}
 use Rattle.bh_event.specs.Events.{Order, AddTenant, SetQuota, AddKey, RemoveKey, ShowUsage}
 use Rattle.bh_http.specs.Credentials.{key_given, secret_given}
 use Rattle.bh_http.specs.Views.{Taken}
 use Rattle.bh_model.specs.Credentials.{authenticate}
 use Rattle.bh_model.specs.Listings.{objects_listed, versions_listed, uploads_listed, parts_listed, list_objects, list_versions, list_uploads, list_parts}
-use Rattle.bh_model.specs.Operations.{Outcome, added_tenant, tenant_bucket, tell_usage, wanted_version, planned, create_bucket, head_bucket, delete_bucket, get_versioning, get_lifecycle, delete_lifecycle, put_object, copy_object, get_object, head_object, delete_object}
+use Rattle.bh_model.specs.Operations.{Outcome, added_tenant, tenant_bucket, tell_usage, wanted_version, planned, create_bucket, head_bucket, delete_bucket, get_versioning, get_lifecycle, delete_lifecycle, put_object, copy_object, get_object, head_object, delete_object, get_retention}
 use Rattle.bh_model.specs.Uploads.{create_upload, upload_part, abort_upload}
 use Rattle.bh_model.specs.Runs.{purged_tenant, settled}
 use Rattle.bh_model.specs.State.{Octets, State}
@@ -24,9 +24,9 @@ use Rattle.bh_operation.specs.Operations.{operation}
 use Rattle.bh_operation.specs.declared.operation.Operation.{Operation}
 use Rattle.bh_operation.specs.declared.operation.Operation.TheVariants as op
 use Rattle.bh_model.proofs.Changes.{Changes, Settings}
-use Rattle.bh_machine.specs.Machine.{Act, Act.Asked, Act.Commanded, page_asked, place_asked, upload_asked, naming, operated, requested, asked, ordered, change, step, set_versioning, set_lifecycle, finish_upload}
+use Rattle.bh_machine.specs.Machine.{Act, Act.Asked, Act.Commanded, page_asked, place_asked, upload_asked, naming, operated, requested, asked, ordered, change, step, set_versioning, set_lifecycle, set_retention, finish_upload}
 
-module _ (R : Option State → Option State → Type 0) (all : Changes R) (s : Option State) where
+module _ (R : Option State → Option State → Type 0) (now : ℕ) (all : Changes R now) (s : Option State) where
   abbrev Holds : {E : Type 0} → Result Outcome E → Type 0
   Holds r = IfOk r (λ o. R s o.1)
 
@@ -51,9 +51,15 @@ module _ (R : Option State → Option State → Type 0) (all : Changes R) (s : O
   sets_lifecycle : (bucket body : Octets) → Holds (set_lifecycle bucket body s)
   sets_lifecycle bucket body = then_holds (lifecycle_of body) _ (λ days. all.lifecycle_put bucket days s)
 
-  finishes : (limits : HostLimits) (now : ℕ) (bucket key : Octets) (upload : Option UploadId) (body : Octets) → Holds (finish_upload limits now bucket key upload body s)
-  finishes limits now bucket key upload body =
-      then_holds (complete_of body) _ (λ parts. all.upload_completed now limits.min_part bucket key upload (map naming parts) s)
+  sets_retention : (bucket key : Octets) (wanted : Wanted) (body : Octets) → Holds (set_retention now bucket key wanted body s)
+  sets_retention bucket key wanted body = then_holds (plainly (retention_of body)) _ (λ date. all.retention_put bucket key wanted date s)
+
+  retention_read : (bucket key : Octets) (wanted : Wanted) → Holds (get_retention bucket key wanted s)
+  retention_read bucket key wanted = then_holds (wanted_version bucket key wanted s) _ (λ f. same)
+
+  finishes : (limits : HostLimits) (bucket key : Octets) (upload : Option UploadId) (body : Octets) → Holds (finish_upload limits now bucket key upload body s)
+  finishes limits bucket key upload body =
+      then_holds (complete_of body) _ (λ parts. all.upload_completed limits.min_part bucket key upload (map naming parts) s)
 
   got : (bucket key : Octets) (wanted : Wanted) (range : Option Octets) → Holds (get_object bucket key wanted range s)
   got bucket key wanted range = then_holds (wanted_version bucket key wanted s) _ (λ f. then_holds (planned range (length f.1.bytes)) _ (λ plan. same))
@@ -64,55 +70,57 @@ module _ (R : Option State → Option State → Type 0) (all : Changes R) (s : O
   rule_read : (bucket : Octets) → Holds (get_lifecycle bucket s)
   rule_read bucket = then_holds (tenant_bucket bucket s) _ (λ f. then_holds (ok_or f.1.days NoSuchLifecycleConfiguration) _ (λ days. same))
 
-  pub operated_as : (limits : HostLimits) (now : ℕ) (body : Octets) (operation : Operation) → Holds (operated limits now body operation s)
+  pub operated_as : (limits : HostLimits) (body : Octets) (operation : Operation) → Holds (operated limits now body operation s)
   unfolding operated
-  operated_as limits now body op.ListBuckets = same
-  operated_as limits now body (op.CreateBucket bucket) = plainly_holds (create_bucket now bucket s) (all.bucket_created now bucket s)
-  operated_as limits now body (op.HeadBucket bucket) = plainly_holds (head_bucket bucket s) (then_holds (tenant_bucket bucket s) _ (λ f. same))
-  operated_as limits now body (op.DeleteBucket bucket) = plainly_holds (delete_bucket bucket s) (all.bucket_deleted bucket s)
-  operated_as limits now body (op.ListObjectsV2 bucket page token) =
+  operated_as limits body op.ListBuckets = same
+  operated_as limits body (op.CreateBucket bucket locked) = plainly_holds (create_bucket now bucket locked s) (all.bucket_created bucket locked s)
+  operated_as limits body (op.HeadBucket bucket) = plainly_holds (head_bucket bucket s) (then_holds (tenant_bucket bucket s) _ (λ f. same))
+  operated_as limits body (op.DeleteBucket bucket) = plainly_holds (delete_bucket bucket s) (all.bucket_deleted bucket s)
+  operated_as limits body (op.ListObjectsV2 bucket page token) =
       plainly_holds (list_objects bucket (page_asked page) token s) (then_holds (objects_listed bucket (page_asked page) token s) _ (λ told. same))
-  operated_as limits now body (op.ListObjectVersions bucket page after) =
+  operated_as limits body (op.ListObjectVersions bucket page after) =
       plainly_holds (list_versions bucket (page_asked page) (option_map place_asked after) s) (then_holds (versions_listed bucket (page_asked page) (option_map place_asked after) s) _ (λ told. same))
-  operated_as limits now body (op.ListMultipartUploads bucket page after) =
+  operated_as limits body (op.ListMultipartUploads bucket page after) =
       plainly_holds (list_uploads bucket (page_asked page) (option_map upload_asked after) s) (then_holds (uploads_listed bucket (page_asked page) (option_map upload_asked after) s) _ (λ told. same))
-  operated_as limits now body (op.GetBucketVersioning bucket) = plainly_holds (get_versioning bucket s) (then_holds (tenant_bucket bucket s) _ (λ f. same))
-  operated_as limits now body (op.PutBucketVersioning bucket) = plainly_holds (set_versioning bucket body s) (sets_versioning bucket body)
-  operated_as limits now body (op.GetLifecycle bucket) = plainly_holds (get_lifecycle bucket s) (rule_read bucket)
-  operated_as limits now body (op.PutLifecycle bucket) = plainly_holds (set_lifecycle bucket body s) (sets_lifecycle bucket body)
-  operated_as limits now body (op.DeleteLifecycle bucket) = plainly_holds (delete_lifecycle bucket s) (all.lifecycle_deleted bucket s)
-  operated_as limits now body (op.PutObject object checksum) =
-      plainly_holds (put_object now object.bucket object.key body checksum s) (all.object_put now object.bucket object.key body checksum s)
-  operated_as limits now body (op.CopyObject object source) =
-      plainly_holds (copy_object now object.bucket object.key source.object.bucket source.object.key source.version s)
-      (all.object_copied now object.bucket object.key source.object.bucket source.object.key source.version s)
-  operated_as limits now body (op.GetObject object version range) = got object.bucket object.key version range
-  operated_as limits now body (op.HeadObject object version) = headed object.bucket object.key version
-  operated_as limits now body (op.DeleteObject object version) =
-      plainly_holds (delete_object now object.bucket object.key version s) (all.object_deleted now object.bucket object.key version s)
-  operated_as limits now body (op.CreateMultipartUpload object) =
-      plainly_holds (create_upload now object.bucket object.key s) (all.upload_created now object.bucket object.key s)
-  operated_as limits now body (op.UploadPart object upload number checksum) =
+  operated_as limits body (op.GetBucketVersioning bucket) = plainly_holds (get_versioning bucket s) (then_holds (tenant_bucket bucket s) _ (λ f. same))
+  operated_as limits body (op.PutBucketVersioning bucket) = plainly_holds (set_versioning bucket body s) (sets_versioning bucket body)
+  operated_as limits body (op.GetLifecycle bucket) = plainly_holds (get_lifecycle bucket s) (rule_read bucket)
+  operated_as limits body (op.PutLifecycle bucket) = plainly_holds (set_lifecycle bucket body s) (sets_lifecycle bucket body)
+  operated_as limits body (op.DeleteLifecycle bucket) = plainly_holds (delete_lifecycle bucket s) (all.lifecycle_deleted bucket s)
+  operated_as limits body (op.PutObject object checksum date) =
+      plainly_holds (put_object now object.bucket object.key body checksum date s) (all.object_put object.bucket object.key body checksum date s)
+  operated_as limits body (op.CopyObject object source date) =
+      plainly_holds (copy_object now object.bucket object.key source.object.bucket source.object.key source.version date s)
+      (all.object_copied object.bucket object.key source.object.bucket source.object.key source.version date s)
+  operated_as limits body (op.GetObject object version range) = got object.bucket object.key version range
+  operated_as limits body (op.HeadObject object version) = headed object.bucket object.key version
+  operated_as limits body (op.DeleteObject object version) =
+      plainly_holds (delete_object now object.bucket object.key version s) (all.object_deleted object.bucket object.key version s)
+  operated_as limits body (op.CreateMultipartUpload object) =
+      plainly_holds (create_upload now object.bucket object.key s) (all.upload_created object.bucket object.key s)
+  operated_as limits body (op.UploadPart object upload number checksum) =
       plainly_holds (upload_part now object.bucket object.key upload number body checksum s)
-      (all.part_uploaded now number object.bucket object.key body upload checksum s)
-  operated_as limits now body (op.ListParts object upload page) =
+      (all.part_uploaded number object.bucket object.key body upload checksum s)
+  operated_as limits body (op.ListParts object upload page) =
       plainly_holds (list_parts object.bucket object.key upload page.size page.after s) (then_holds (parts_listed object.bucket object.key upload page.size page.after s) _ (λ told. same))
-  operated_as limits now body (op.CompleteMultipartUpload object upload) =
-      plainly_holds (finish_upload limits now object.bucket object.key upload body s) (finishes limits now object.bucket object.key upload body)
-  operated_as limits now body (op.AbortMultipartUpload object upload) =
+  operated_as limits body (op.CompleteMultipartUpload object upload) =
+      plainly_holds (finish_upload limits now object.bucket object.key upload body s) (finishes limits object.bucket object.key upload body)
+  operated_as limits body (op.AbortMultipartUpload object upload) =
       plainly_holds (abort_upload object.bucket object.key upload s) (all.upload_aborted object.bucket object.key upload s)
-  operated_as limits now body op.Usage = plainly_holds (tell_usage s) tells_usage
+  operated_as limits body (op.GetRetention object version) = retention_read object.bucket object.key version
+  operated_as limits body (op.PutRetention object version) = sets_retention object.bucket object.key version body
+  operated_as limits body op.Usage = plainly_holds (tell_usage s) tells_usage
 
-  requested_as : (limits : HostLimits) (now : ℕ) (request : Taken) → Holds (requested limits now request s)
-  requested_as limits now request =
+  requested_as : (limits : HostLimits) (request : Taken) → Holds (requested limits now request s)
+  requested_as limits request =
       then_holds (plainly (secret_given request)) _ (λ secret.
       then_holds (ok_or (key_given request) (plain InvalidAccessKeyId)) _ (λ key.
       then_holds (plainly (authenticate key secret s)) _ (λ _.
-      then_holds (plainly (operation key.tenant request)) _ (λ asked_for. operated_as limits now request.body asked_for))))
+      then_holds (plainly (operation key.tenant request)) _ (λ asked_for. operated_as limits request.body asked_for))))
 
-  pub asked_as : (limits : HostLimits) (now : ℕ) (answer : Result Taken Refusal) → Holds (asked limits now answer s)
-  asked_as limits now (Ok request) = requested_as limits now request
-  asked_as limits now (Err refusal) = tt
+  pub asked_as : (limits : HostLimits) (answer : Result Taken Refusal) → Holds (asked limits now answer s)
+  asked_as limits (Ok request) = requested_as limits request
+  asked_as limits (Err refusal) = tt
 
   pub key_added_as : (tenant name secret : Octets) → Holds (ordered (AddKey tenant name secret) s)
   key_added_as tenant name secret = all.key_added tenant name secret s
@@ -131,9 +139,9 @@ module _ (R : Option State → Option State → Type 0) (all : Changes R) (s : O
     ordered_as (RemoveKey tenant name) = key_removed_as tenant name
     ordered_as (ShowUsage tenant) = usage_shown_as tenant
 
-    change_as : (limits : HostLimits) (now : ℕ) (act : Act) → Holds (change limits now act s)
-    change_as limits now (Asked answer) = asked_as limits now answer
-    change_as limits now (Commanded order) = plainly_holds (ordered order s) (ordered_as order)
+    change_as : (limits : HostLimits) (act : Act) → Holds (change limits now act s)
+    change_as limits (Asked answer) = asked_as limits answer
+    change_as limits (Commanded order) = plainly_holds (ordered order s) (ordered_as order)
 
   -- where it is refused, the state stays
   pub settled_as : {X E : Type 0} (r : Result (X × Option State) E) → IfOk r (λ o. R s o.1) → R s (settled s r).1
@@ -141,7 +149,7 @@ module _ (R : Option State → Option State → Type 0) (all : Changes R) (s : O
   settled_as (Err e) h = same
 
 -- a step makes its change of the purged state
-pub step_as : (R : Option State → Option State → Type 0) → Changes R → Settings R → (limits : HostLimits) (now : ℕ) (act : Act) (s : Option State) → R (purged_tenant s now) (step limits now act s).1
-step_as R all settings limits now act s =
+pub step_as : (R : Option State → Option State → Type 0) (now : ℕ) → Changes R now → Settings R → (limits : HostLimits) (act : Act) (s : Option State) → R (purged_tenant s now) (step limits now act s).1
+step_as R now all settings limits act s =
     let p = purged_tenant s now in
-    settled_as R all p (change limits now act p) (change_as R all p settings limits now act)
+    settled_as R now all p (change limits now act p) (change_as R now all p settings limits act)

@@ -3,3 +3,4 @@ pub mod Refused
 pub mod Changing
 pub mod Bounded
 pub mod NumberLemmas
+pub mod Retaining

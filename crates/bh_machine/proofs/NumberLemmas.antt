@@ -13,10 +13,10 @@ use Rattle.bh_machine.proofs.Changing.{step_as}
 
 pub steps_rise : StepsRise
 steps_rise limits now act s =
-    rises_later s (purged_tenant s now) (step limits now act s).1 (purge_rises now s) (step_as Rises changes_rise settings_rise limits now act s)
+    rises_later s (purged_tenant s now) (step limits now act s).1 (purge_rises now s) (step_as Rises now (changes_rise now) settings_rise limits act s)
 
 pub steps_keep_ids : StepsKeepIds
-steps_keep_ids limits now act s all = step_as KeepsIds changes_keep_ids settings_keep_ids limits now act s (purge_keeps_ids now s all)
+steps_keep_ids limits now act s all = step_as KeepsIds now (changes_keep_ids now) settings_keep_ids limits act s (purge_keeps_ids now s all)
 
 from_here : (limits : HostLimits) (s : Option State) (acts : List (ℕ × Act)) → IsNumbered s → IsNumbered (solo_state (step limits) s acts)
 from_here limits s [] all = all

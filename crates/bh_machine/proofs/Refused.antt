@@ -1,12 +1,13 @@
 -- How a step of the machine may be refused.
-use Rattle.std.proofs.Common.{◌≡◌, ℕ, Bool, true, false, List, Option, Some, None, Ok, Err, Result, refl, sym, subst, rules, IfErr, inl, inr, ℤ, pos, negsuc, ◌+◌, map, nat_cmp}
-use Rattle.std.specs.Prelude.{ok_or, option_map, bytes_eq, nat_le, nat_lt, min, ◌-◌, [], ◌∷◌, length, ◌&&◌, ◌^◌, is_none, is_some, option_and_then}
+use Rattle.std.proofs.Common.{◌≡◌, ℕ, Bool, true, false, cond, codes, List, Option, Some, None, Ok, Err, Result, refl, sym, subst, rules, IfErr, inl, inr, ℤ, pos, negsuc, ◌+◌, map, nat_cmp}
+use Rattle.std.specs.Prelude.{ok_or, unwrap_or, option_map, bytes_eq, nat_le, nat_lt, min, ◌-◌, [], ◌∷◌, length, ◌&&◌, ◌^◌, is_none, is_some, option_and_then}
 use Rattle.std.specs.FinMap.{get, FinMap}
 use Rattle.std.specs.List.{find}
 use Rattle.std.specs.Result.{result_map_both}
 use Rattle.std.proofs.lemmas.Bool.{cases_Bool}
 use Rattle.bh_types.specs.Counts.{Counts}
 use Rattle.bh_types.specs.Limits.{HostLimits}
+use Rattle.bh_types.specs.Moments.{moment_of}
 use Rattle.bh_types.specs.Names.{is_tenant_name, is_key_name, is_secret}
 use Rattle.bh_types.specs.Outcomes.{◌>>=◌, require}
 use Rattle.bh_types.specs.Ranges.{Asked as Range, Between, From, Last, asked_in, part, planned_if_asked, range_of}
@@ -23,8 +24,8 @@ use Rattle.bh_types.specs.declared.refusal.Refusal.{Refusal}
 use Rattle.bh_types.specs.declared.refusal.Refusal.TheVariants.{BadRequest, NotImplemented, MissingContentLength, EntityTooLarge, AccessDenied, InvalidAccessKeyId, InvalidUri, InvalidBucketName, KeyTooLong, InvalidArgument, MalformedJson, NoSuchBucket, NoSuchKey, NoSuchVersion, NoSuchUpload, MethodNotAllowed, BucketAlreadyOwnedByYou, BucketNotEmpty, InvalidBucketState, NoSuchLifecycleConfiguration, InvalidPart, InvalidPartOrder, EntityTooSmall, QuotaExceeded, InvalidRange, BadDigest, IncompleteBody, InvalidRequest, CounterExhausted, ClockOutOfRange, ServiceUnavailable, TenantExists, NoSuchTenant, KeyExists, NoSuchKeyName, InvalidName, InvalidQuota, NotAHostFile, Unavailable}
 use Rattle.bh_types.specs.declared.rejection.Rejection.{Rejection}
 use Rattle.bh_types.proofs.Refusing.{then_only, if_only, require_only, ok_or_only, weaker_only}
-use Rattle.bh_docs.specs.Requests.{or_malformed, ranged, document_of, versioning_of, in_range, in_ranges, complete_of, lifecycle_of}
-use Rattle.bh_docs.specs.Shapes.{Part as Shape, data_of, versioning_shape, complete_shape, lifecycle_shape}
+use Rattle.bh_docs.specs.Requests.{or_malformed, ranged, document_of, versioning_of, in_range, in_ranges, complete_of, lifecycle_of, date_told, retention_of}
+use Rattle.bh_docs.specs.Shapes.{Part as Shape, data_of, versioning_shape, complete_shape, lifecycle_shape, retention_shape}
 use Rattle.bh_event.specs.Events.{Order, AddTenant, SetQuota, AddKey, RemoveKey, ShowUsage, Message, Requested, Ordered, SweepOrdered, ReportOrdered}
 use Rattle.bh_http.specs.Credentials.{key_field, secret_field, secret_of_both, secret_given, key_given}
 use Rattle.bh_http.specs.Fields.{Occurrence, Missing, Once, Repeated}
@@ -35,9 +36,10 @@ use Rattle.bh_model.specs.Counting.{counts, can_give, can_number, after_entry, a
 use Rattle.bh_model.specs.Credentials.{authenticate, secret_of}
 use Rattle.bh_model.specs.Entries.{Version, LookupFault, has_id, lookup, opened, found_named}
 use Rattle.bh_model.specs.FinMaps.{is_empty}
-use Rattle.bh_model.specs.Operations.{Outcome, added_tenant, tenant_bucket, with_bucket, listed, not_found, wanted_version, source_refusal, source_version, out_of_range, planned, tell_usage, create_bucket, head_bucket, delete_bucket, get_versioning, with_object, with_copy, require_quota, put_object, copy_object, get_object, head_object, delete_object, get_lifecycle, delete_lifecycle}
+use Rattle.bh_model.specs.Operations.{Outcome, added_tenant, tenant_bucket, with_bucket, listed, not_found, wanted_version, source_refusal, source_version, out_of_range, planned, tell_usage, create_bucket, head_bucket, delete_bucket, get_versioning, with_object, with_copy, require_quota, put_object, copy_object, get_object, head_object, delete_object, get_lifecycle, delete_lifecycle, found_version, get_retention, put_retention}
 use Rattle.bh_model.specs.Parts.{Naming, ascends, is_checksum, checked, choice, chosen, are_large, completed}
 use Rattle.bh_model.specs.Quotas.{keeps_quota}
+use Rattle.bh_model.specs.Retention.{keeps_versions, can_retain, date_of, named_date, may_go, may_retain, first_date}
 use Rattle.bh_model.specs.Runs.{settled, purged_tenant}
 use Rattle.bh_model.specs.State.{Octets, Content, Content.Marker, Content.Body, Entry, Part, Bucket, State}
 use Rattle.bh_model.specs.Uploads.{found_upload, find_upload, after_begin, after_part, with_stored, create_upload, upload_part, complete_upload, abort_upload}
@@ -47,7 +49,7 @@ use Rattle.bh_operation.specs.declared.operation.Operation.{Operation}
 use Rattle.bh_operation.specs.declared.operation.Operation.TheVariants as op
 use Rattle.bh_operation.proofs.Refused.{operation_only}
 use Rattle.bh_model.specs.Listings.{objects_listed, list_objects, versions_listed, list_versions, uploads_listed, list_uploads, parts_listed, list_parts}
-use Rattle.bh_machine.specs.Machine.{Act, Acted, page_asked, place_asked, upload_asked, set_versioning, operated, requested, asked, ordered, change, naming, finish_upload, set_lifecycle}
+use Rattle.bh_machine.specs.Machine.{Act, Acted, page_asked, place_asked, upload_asked, set_versioning, operated, requested, asked, ordered, change, naming, finish_upload, set_lifecycle, set_retention}
 use Rattle.bh_machine.specs.Refused.{StepRefusals, is_step_refusal as may}
 
 abbrev Only : {X : Type 0} → Result X Refusal → Type 0
@@ -187,8 +189,8 @@ got_only bucket key wanted range s =
 headed_only : (bucket key : Octets) (wanted : Wanted) (s : Option State) → MaySay (head_object bucket key wanted s)
 headed_only bucket key wanted s = then_told (wanted_version bucket key wanted s) _ (wanted_only bucket key wanted s) (λ f. tt)
 
-created_only : (now : ℕ) (bucket : Octets) (s : Option State) → Only (create_bucket now bucket s)
-created_only now bucket s =
+created_only : (now : ℕ) (bucket : Octets) (locked : Bool) (s : Option State) → Only (create_bucket now bucket locked s)
+created_only now bucket locked s =
     then_only may (added_tenant s) _ (ok_or_only may s NoSuchTenant refl)
     (λ t. then_only may (require (is_none (get t.buckets bucket)) BucketAlreadyOwnedByYou) _ (require_only may (is_none (get t.buckets bucket)) BucketAlreadyOwnedByYou refl) (λ _. tt))
 
@@ -198,12 +200,24 @@ quota_only name b t = require_only may (keeps_quota t (with_bucket name b t)) Qu
 used_only : (s : Option State) → Only (tell_usage s)
 used_only s = then_only may (added_tenant s) _ (ok_or_only may s NoSuchTenant refl) (λ t. tt)
 
-put_only : (now : ℕ) (bucket key body : Octets) (given : Option Octets) (s : Option State) → Only (put_object now bucket key body given s)
-put_only now bucket key body given s =
+retained_only : (locked : Bool) (present date : Option ℕ) (now : ℕ) → Only (may_retain locked present date now)
+retained_only locked present date now =
+    then_only may (require locked InvalidRequest) _ (require_only may locked InvalidRequest refl)
+    (λ _. then_only may (ok_or date InvalidArgument) _ (ok_or_only may date InvalidArgument refl)
+    (λ until. then_only may (require (nat_lt now until) InvalidArgument) _ (require_only may (nat_lt now until) InvalidArgument refl)
+    (λ _. require_only may (nat_le (unwrap_or present 0) until) AccessDenied refl)))
+
+dated_only : (locked : Bool) (date : Option (Option ℕ)) (now : ℕ) → Only (first_date locked date now)
+dated_only locked None now = tt
+dated_only locked (Some date) now = then_only may (may_retain locked None date now) _ (retained_only locked None date now) (λ _. tt)
+
+put_only : (now : ℕ) (bucket key body : Octets) (given : Option Octets) (date : Option (Option ℕ)) (s : Option State) → Only (put_object now bucket key body given date s)
+put_only now bucket key body given date s =
     then_only may (tenant_bucket bucket s) _ (found_bucket bucket s)
     (λ f. then_only may (require (is_checksum given body) BadDigest) _ (require_only may (is_checksum given body) BadDigest refl)
-    (λ _. then_only may (require_quota bucket (with_object now key f.0.next_version body f.1) f.0) _ (quota_only bucket (with_object now key f.0.next_version body f.1) f.0)
-    (λ _. then_only may (after_entry f.1.mode (counts f.0)) _ (numbers_only f.1.mode (counts f.0)) (λ c. tt))))
+    (λ _. then_only may (first_date f.1.locked date now) _ (dated_only f.1.locked date now)
+    (λ until. then_only may (require_quota bucket (with_object now key f.0.next_version body f.1) f.0) _ (quota_only bucket (with_object now key f.0.next_version body f.1) f.0)
+    (λ _. then_only may (after_entry f.1.mode (counts f.0)) _ (numbers_only f.1.mode (counts f.0)) (λ c. tt)))))
 
 source_refusal_only : (refusal : Refusal) → may refusal ≡ true → may (source_refusal refusal) ≡ true
 source_refusal_only BadRequest h = h
@@ -251,12 +265,14 @@ source_told : {X : Type 0} (r : Result (X × Version) Rejection) → MaySay r
 source_told (Ok f) only = tt
 source_told (Err rejection) only = source_refusal_only rejection.refusal only
 
-copied_only : (now : ℕ) (bucket key source_bucket source_key : Octets) (wanted : Wanted) (s : Option State) → Only (copy_object now bucket key source_bucket source_key wanted s)
-copied_only now bucket key source_bucket source_key wanted s =
+copied_only : (now : ℕ) (bucket key source_bucket source_key : Octets) (wanted : Wanted) (date : Option (Option ℕ)) (s : Option State)
+    → Only (copy_object now bucket key source_bucket source_key wanted date s)
+copied_only now bucket key source_bucket source_key wanted date s =
     then_only may (tenant_bucket bucket s) _ (found_bucket bucket s)
     (λ f. then_only may (source_version source_bucket source_key wanted s) _ (source_told (wanted_version source_bucket source_key wanted s) (wanted_only source_bucket source_key wanted s))
-    (λ v. then_only may (require_quota bucket (with_copy now key f.0.next_version v f.1) f.0) _ (quota_only bucket (with_copy now key f.0.next_version v f.1) f.0)
-    (λ _. then_only may (after_entry f.1.mode (counts f.0)) _ (numbers_only f.1.mode (counts f.0)) (λ c. tt))))
+    (λ v. then_only may (first_date f.1.locked date now) _ (dated_only f.1.locked date now)
+    (λ until. then_only may (require_quota bucket (with_copy now key f.0.next_version v f.1) f.0) _ (quota_only bucket (with_copy now key f.0.next_version v f.1) f.0)
+    (λ _. then_only may (after_entry f.1.mode (counts f.0)) _ (numbers_only f.1.mode (counts f.0)) (λ c. tt)))))
 
 delete_numbers_only : (mode : BucketState) (wanted : Wanted) (c : Counts) → Only (after_delete mode wanted c)
 delete_numbers_only Unversioned Current c = tt
@@ -268,7 +284,8 @@ delete_numbers_only mode Unknown c = tt
 deleted_only : (now : ℕ) (bucket key : Octets) (wanted : Wanted) (s : Option State) → Only (delete_object now bucket key wanted s)
 deleted_only now bucket key wanted s =
     then_only may (tenant_bucket bucket s) _ (found_bucket bucket s)
-    (λ f. then_only may (after_delete f.1.mode wanted (counts f.0)) _ (delete_numbers_only f.1.mode wanted (counts f.0)) (λ c. tt))
+    (λ f. then_only may (require (may_go (named_date key wanted f.1) now) AccessDenied) _ (require_only may (may_go (named_date key wanted f.1) now) AccessDenied refl)
+    (λ _. then_only may (after_delete f.1.mode wanted (counts f.0)) _ (delete_numbers_only f.1.mode wanted (counts f.0)) (λ c. tt)))
 
 bucket_only : (bucket : Octets) (s : Option State) (f : State × Bucket → Result Outcome Refusal) → ((found : State × Bucket) → Only (f found)) → Only (tenant_bucket bucket s >>= f)
 bucket_only bucket s f next = then_only may (tenant_bucket bucket s) f (found_bucket bucket s) next
@@ -286,7 +303,32 @@ versioning_only : (body : Octets) → Only (versioning_of body)
 versioning_only body = then_only may (document_of body) _ (or_malformed_only (data_of body)) (λ document. or_malformed_only (versioning_shape document))
 
 set_only : (bucket body : Octets) (s : Option State) → Only (set_versioning bucket body s)
-set_only bucket body s = then_only may (versioning_of body) _ (versioning_only body) (λ mode. bucket_only bucket s _ (λ f. tt))
+set_only bucket body s = then_only may (versioning_of body) _ (versioning_only body) (λ mode. bucket_only bucket s _
+    (λ f. then_only may (require (keeps_versions f.1.locked mode) InvalidBucketState) _ (require_only may (keeps_versions f.1.locked mode) InvalidBucketState refl) (λ _. tt)))
+
+-- ---- retention
+
+told_only : (mode date : Octets) → Only (date_told (mode, date))
+told_only mode date = elim (bytes_eq mode (codes "COMPLIANCE")) as (λ b. Only (cond b (ok_or (moment_of date) InvalidArgument) (Err InvalidArgument))) [
+  | true ↦ ok_or_only may (moment_of date) InvalidArgument refl
+  | false ↦ refl
+]
+
+retention_only : (body : Octets) → Only (retention_of body)
+retention_only body =
+    then_only may (document_of body) _ (or_malformed_only (data_of body))
+    (λ document. then_only may (or_malformed (retention_shape document)) _ (or_malformed_only (retention_shape document)) (λ told. told_only told.0 told.1))
+
+retention_set_only : (now : ℕ) (bucket key : Octets) (wanted : Wanted) (body : Octets) (s : Option State) → MaySay (set_retention now bucket key wanted body s)
+retention_set_only now bucket key wanted body s =
+    then_told (plainly (retention_of body)) _ (plainly_told (retention_of body) (retention_only body))
+    (λ date. then_told (plainly (tenant_bucket bucket s)) _ (plainly_told (tenant_bucket bucket s) (found_bucket bucket s))
+    (λ f. then_told (found_version key wanted f.1) _ (not_found_told (lookup wanted (listed key f.1)) (lookup_only wanted (listed key f.1)))
+    (λ v. then_told (plainly (may_retain (can_retain f.1.locked v.id) (date_of key v.id f.1) (Some date) now)) _ (plainly_told (may_retain (can_retain f.1.locked v.id) (date_of key v.id f.1) (Some date) now) (retained_only (can_retain f.1.locked v.id) (date_of key v.id f.1) (Some date) now))
+    (λ _. tt))))
+
+retention_told_only : (bucket key : Octets) (wanted : Wanted) (s : Option State) → MaySay (get_retention bucket key wanted s)
+retention_told_only bucket key wanted s = then_told (wanted_version bucket key wanted s) _ (wanted_only bucket key wanted s) (λ f. tt)
 
 -- ---- uploads
 
@@ -363,8 +405,11 @@ aborted_only bucket key upload s = then_only may (find_upload bucket key upload 
 
 operated_only : (limits : HostLimits) (now : ℕ) (body : Octets) (operation : Operation) (s : Option State) → MaySay (operated limits now body operation s)
 unfolding operated
-operated_only limits now body (op.CreateBucket bucket) s = plainly_told (create_bucket now bucket s) (created_only now bucket s)
-operated_only limits now body (op.PutObject object checksum) s = plainly_told (put_object now object.bucket object.key body checksum s) (put_only now object.bucket object.key body checksum s)
+operated_only limits now body (op.CreateBucket bucket locked) s = plainly_told (create_bucket now bucket locked s) (created_only now bucket locked s)
+operated_only limits now body (op.PutObject object checksum date) s =
+    plainly_told (put_object now object.bucket object.key body checksum date s) (put_only now object.bucket object.key body checksum date s)
+operated_only limits now body (op.GetRetention object version) s = retention_told_only object.bucket object.key version s
+operated_only limits now body (op.PutRetention object version) s = retention_set_only now object.bucket object.key version body s
 operated_only limits now body (op.GetObject object version range) s = got_only object.bucket object.key version range s
 operated_only limits now body op.ListBuckets s = tt
 operated_only limits now body op.Usage s = plainly_told (tell_usage s) (used_only s)
@@ -383,9 +428,9 @@ operated_only limits now body (op.PutBucketVersioning bucket) s = plainly_told (
 operated_only limits now body (op.GetLifecycle bucket) s = plainly_told (get_lifecycle bucket s) (rule_only bucket s)
 operated_only limits now body (op.PutLifecycle bucket) s = plainly_told (set_lifecycle bucket body s) (rule_set_only bucket body s)
 operated_only limits now body (op.DeleteLifecycle bucket) s = plainly_told (delete_lifecycle bucket s) (bucket_only bucket s _ (λ f. tt))
-operated_only limits now body (op.CopyObject object source) s =
-    plainly_told (copy_object now object.bucket object.key source.object.bucket source.object.key source.version s)
-    (copied_only now object.bucket object.key source.object.bucket source.object.key source.version s)
+operated_only limits now body (op.CopyObject object source date) s =
+    plainly_told (copy_object now object.bucket object.key source.object.bucket source.object.key source.version date s)
+    (copied_only now object.bucket object.key source.object.bucket source.object.key source.version date s)
 operated_only limits now body (op.HeadObject object version) s = headed_only object.bucket object.key version s
 operated_only limits now body (op.DeleteObject object version) s = plainly_told (delete_object now object.bucket object.key version s) (deleted_only now object.bucket object.key version s)
 operated_only limits now body (op.CreateMultipartUpload object) s = plainly_told (create_upload now object.bucket object.key s) (begun_only now object.bucket object.key s)

@@ -2,3 +2,4 @@ pub mod Machine
 pub mod Refused
 pub mod Bounded
 pub mod Numbers
+pub mod Retained

@@ -8,7 +8,8 @@ use Rattle.bh_types.specs.declared.id.UploadId.{UploadId}
 use Rattle.bh_types.specs.declared.refusal.Refusal.{Refusal}
 use Rattle.bh_types.specs.declared.refusal.Refusal.TheVariants.{InvalidAccessKeyId}
 use Rattle.bh_types.specs.declared.rejection.Rejection.{Rejection}
-use Rattle.bh_docs.specs.Requests.{versioning_of, lifecycle_of, complete_of}
+use Rattle.bh_types.specs.declared.wanted.Wanted.{Wanted}
+use Rattle.bh_docs.specs.Requests.{versioning_of, lifecycle_of, retention_of, complete_of}
 use Rattle.bh_event.specs.Events.{Order, AddTenant, SetQuota, AddKey, RemoveKey, ShowUsage, tenant_of, Message, Requested, Ordered, SweepOrdered, ReportOrdered}
 use Rattle.bh_http.specs.Credentials.{owner, key_given, secret_given}
 use Rattle.bh_http.specs.Reading.{Reads}
@@ -16,7 +17,7 @@ use Rattle.bh_http.specs.Views.{Taken}
 use Rattle.bh_model.specs.Credentials.{authenticate}
 use Rattle.bh_model.specs.Listings.{list_objects, list_versions, list_uploads, list_parts}
 use Rattle.bh_model.specs.Pages as pages
-use Rattle.bh_model.specs.Operations.{Answer, Outcome, add_tenant, set_quota, add_key, remove_key, tell_usage, show_usage, create_bucket, head_bucket, delete_bucket, list_buckets, get_versioning, put_versioning, get_lifecycle, put_lifecycle, delete_lifecycle, put_object, copy_object, get_object, head_object, delete_object}
+use Rattle.bh_model.specs.Operations.{Answer, Outcome, add_tenant, set_quota, add_key, remove_key, tell_usage, show_usage, create_bucket, head_bucket, delete_bucket, list_buckets, get_versioning, put_versioning, get_lifecycle, put_lifecycle, delete_lifecycle, put_object, copy_object, get_object, head_object, delete_object, get_retention, put_retention}
 use Rattle.bh_model.specs.Parts.{Naming}
 use Rattle.bh_model.specs.Runs as runs
 use Rattle.bh_model.specs.State.{Octets, State}
@@ -26,7 +27,7 @@ use Rattle.bh_operation.specs.declared.page.Page.{Page}
 use Rattle.bh_operation.specs.declared.page.UploadMarker.{UploadMarker}
 use Rattle.bh_operation.specs.declared.page.VersionMarker.{VersionMarker}
 use Rattle.bh_operation.specs.declared.operation.Operation.{Operation}
-use Rattle.bh_operation.specs.declared.operation.Operation.TheVariants.{ListBuckets, CreateBucket, HeadBucket, DeleteBucket, ListObjectsV2, GetBucketVersioning, PutBucketVersioning, PutObject, CopyObject, GetObject, HeadObject, DeleteObject, ListObjectVersions, ListMultipartUploads, CreateMultipartUpload, UploadPart, ListParts, CompleteMultipartUpload, AbortMultipartUpload, GetLifecycle, PutLifecycle, DeleteLifecycle, Usage}
+use Rattle.bh_operation.specs.declared.operation.Operation.TheVariants.{ListBuckets, CreateBucket, HeadBucket, DeleteBucket, ListObjectsV2, GetBucketVersioning, PutBucketVersioning, PutObject, CopyObject, GetObject, HeadObject, DeleteObject, ListObjectVersions, ListMultipartUploads, CreateMultipartUpload, UploadPart, ListParts, CompleteMultipartUpload, AbortMultipartUpload, GetLifecycle, PutLifecycle, DeleteLifecycle, GetRetention, PutRetention, Usage}
 
 -- ---- acts
 
@@ -65,6 +66,12 @@ set_lifecycle bucket body s = do
   days ← lifecycle_of body
   put_lifecycle bucket days s
 
+-- the document says until when the version is to be kept
+abbrev pub set_retention : ℕ → Octets → Octets → Wanted → Octets → Option State → Result Outcome Rejection
+set_retention now bucket key wanted body s = do
+  date ← plainly (retention_of body)
+  put_retention now bucket key wanted date s
+
 -- the page that a request asks for
 abbrev pub page_asked : Page → pages.Asked
 page_asked page = record { prefix = page.prefix; delimiter = page.delimiter; max = page.size }
@@ -89,7 +96,7 @@ finish_upload limits now bucket key upload body s = do
 -- an operation at a moment, on a host with these limits. The document of a request is read before anything is looked at
 unfoldable pub operated : HostLimits → ℕ → Octets → Operation → Option State → Result Outcome Rejection
 operated limits now body ListBuckets s = plainly (list_buckets s)
-operated limits now body (CreateBucket bucket) s = plainly (create_bucket now bucket s)
+operated limits now body (CreateBucket bucket locked) s = plainly (create_bucket now bucket locked s)
 operated limits now body (HeadBucket bucket) s = plainly (head_bucket bucket s)
 operated limits now body (DeleteBucket bucket) s = plainly (delete_bucket bucket s)
 operated limits now body (ListObjectsV2 bucket page token) s = plainly (list_objects bucket (page_asked page) token s)
@@ -100,9 +107,9 @@ operated limits now body (PutBucketVersioning bucket) s = plainly (set_versionin
 operated limits now body (GetLifecycle bucket) s = plainly (get_lifecycle bucket s)
 operated limits now body (PutLifecycle bucket) s = plainly (set_lifecycle bucket body s)
 operated limits now body (DeleteLifecycle bucket) s = plainly (delete_lifecycle bucket s)
-operated limits now body (PutObject object checksum) s = plainly (put_object now object.bucket object.key body checksum s)
-operated limits now body (CopyObject object source) s =
-    plainly (copy_object now object.bucket object.key source.object.bucket source.object.key source.version s)
+operated limits now body (PutObject object checksum date) s = plainly (put_object now object.bucket object.key body checksum date s)
+operated limits now body (CopyObject object source date) s =
+    plainly (copy_object now object.bucket object.key source.object.bucket source.object.key source.version date s)
 operated limits now body (GetObject object version range) s = get_object object.bucket object.key version range s
 operated limits now body (HeadObject object version) s = head_object object.bucket object.key version s
 operated limits now body (DeleteObject object version) s = plainly (delete_object now object.bucket object.key version s)
@@ -112,6 +119,8 @@ operated limits now body (UploadPart object upload number checksum) s =
 operated limits now body (ListParts object upload page) s = plainly (list_parts object.bucket object.key upload page.size page.after s)
 operated limits now body (CompleteMultipartUpload object upload) s = plainly (finish_upload limits now object.bucket object.key upload body s)
 operated limits now body (AbortMultipartUpload object upload) s = plainly (abort_upload object.bucket object.key upload s)
+operated limits now body (GetRetention object version) s = get_retention object.bucket object.key version s
+operated limits now body (PutRetention object version) s = set_retention now object.bucket object.key version body s
 operated limits now body Usage s = plainly (tell_usage s)
 
 -- ---- requests and orders

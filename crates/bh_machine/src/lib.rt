@@ -5,3 +5,4 @@
 pub mod bounds;
 pub mod laws;
 pub mod numbers;
+pub mod retained;

@@ -1,32 +1,30 @@
 -- That no operation takes a tenant above its quota, or above the greatest quota.
-use Rattle.std.proofs.Common.{◌≡◌, ◌∙◌, ℕ, ◌+◌, ◌^◌, ◌≤◌, max, nat_le, true, ◌&&◌, List, Option, Some, None, is_none, is_some, sum_by, Result, Ok, Err, refl, sym, ap, subst, arith, nat_cmp, leb-true}
-use Rattle.std.specs.Result.{IfOk}
+use Rattle.std.proofs.Common.{◌≡◌, ◌∙◌, ℕ, Bool, ◌+◌, ◌^◌, ◌≤◌, max, nat_le, true, ◌&&◌, List, Option, Some, None, is_none, is_some, sum_by, Result, refl, sym, ap, subst, arith, nat_cmp, leb-true}
 use Rattle.std.specs.Option.{option_map_or}
 use Rattle.std.specs.Cmp.{nat_cmp_total}
 use Rattle.std.specs.FinMap.{nat_cmp-IsAntisymmetric, get, remove}
 use Rattle.std.proofs.Math.Nat.{max-le, le_trans}
 use Rattle.bh_types.specs.Names.{is_tenant_name, is_key_name, is_secret}
 use Rattle.bh_types.specs.declared.id.UploadId.{UploadId}
-use Rattle.bh_types.specs.declared.refusal.Refusal.TheVariants.{InvalidName, InvalidQuota, TenantExists, KeyExists, NoSuchKeyName, BucketAlreadyOwnedByYou, BucketNotEmpty, BadDigest, QuotaExceeded}
+use Rattle.bh_types.specs.declared.id.VersionId.{VersionId}
+use Rattle.bh_types.specs.declared.refusal.Refusal.TheVariants.{AccessDenied, InvalidName, InvalidQuota, TenantExists, KeyExists, NoSuchKeyName, BucketAlreadyOwnedByYou, BucketNotEmpty, InvalidBucketState, BadDigest, QuotaExceeded}
+use Rattle.bh_types.specs.Rejections.{plainly}
 use Rattle.bh_types.specs.declared.wanted.Wanted.{Wanted}
 use Rattle.bh_model.specs.FinMaps.{is_empty, total}
 use Rattle.bh_model.specs.State.{Octets, octets_cmp, Content, Part, Upload, Bucket, State, new_tenant, new_bucket, content_size, entry_size, part_size, upload_used, bucket_used, used}
 use Rattle.bh_model.specs.Counting.{counts, after_entry, after_delete}
-use Rattle.bh_model.specs.Entries.{deleted}
+use Rattle.bh_model.specs.Entries.{deleted, new_id}
 use Rattle.bh_model.specs.Parts.{Naming, is_checksum, completed}
 use Rattle.bh_model.specs.Runs.{purged_tenant}
 use Rattle.bh_model.specs.Quotas.{keeps_quota}
-use Rattle.bh_model.specs.Operations.{add_key, remove_key, create_bucket, put_object, copy_object, delete_object, listed, with_bucket, with_object, with_copy, with_deleted, source_version, add_tenant, set_quota}
+use Rattle.bh_model.specs.Retention.{keeps_versions, can_retain, date_of, named_date, may_go, with_date, may_retain, first_date}
+use Rattle.bh_model.specs.Operations.{add_key, remove_key, create_bucket, put_object, copy_object, delete_object, listed, with_bucket, with_object, with_copy, with_deleted, found_version, source_version, add_tenant, set_quota}
 use Rattle.bh_model.specs.Uploads.{with_upload, without_upload, with_stored, with_completed, new_upload, after_begin, after_part, create_upload, upload_part, complete_upload}
 use Rattle.bh_model.specs.QuotaLaws.{FitsQuota, UsesNoMore, IsBounded, StaysBounded}
-use Rattle.bh_model.proofs.Changes.{Always, Changes, Settings, found, of_bucket, of_upload}
+use Rattle.bh_model.proofs.Changes.{Always, Changes, Settings, found, of_bucket, of_plain_bucket, of_upload}
 use Rattle.bh_model.proofs.KeyLemmas.{tested}
 use Rattle.bh_model.proofs.UsedLemmas.{octets_total, octets_same, total_inserted, total_removed, used_with_bucket, used_with_entries, used_with_content}
-use Rattle.bh_model.proofs.QuotaLemmas.{at_most_before, at_most_quota, implied, and_then, total_empty, purged_size, deleted_size, completed_size}
-
-anyway : {X E : Type 0} (r : Result X E) → IfOk r (λ _. Unit {0})
-anyway (Ok x) = tt
-anyway (Err e) = tt
+use Rattle.bh_model.proofs.QuotaLemmas.{at_most_before, at_most_quota, implied, and_then, anyway, whatever, total_empty, purged_size, deleted_size, completed_size}
 
 -- ---- what the tenant uses with a bucket in place of another
 
@@ -38,14 +36,22 @@ smaller name b c t there less = at_most_before _ _ _ (let change = used_with_buc
 fitting : (name : Octets) (c : Bucket) (t : State) → keeps_quota t (with_bucket name c t) ≡ true → used (with_bucket name c t) ≤ max (used t) t.quota
 fitting name c t keeps = at_most_quota (used t) (used (with_bucket name c t)) t.quota keeps
 
-new_bucket_size : (moment : ℕ) → bucket_used (new_bucket moment) ≡ 0
-new_bucket_size moment = omega (arith, total_empty octets_cmp (sum_by entry_size), total_empty nat_cmp upload_used)
+new_bucket_size : (moment : ℕ) (locked : Bool) → bucket_used (new_bucket moment locked) ≡ 0
+new_bucket_size moment locked = omega (arith, total_empty octets_cmp (sum_by entry_size), total_empty nat_cmp upload_used)
 
-with_new_bucket : (moment : ℕ) (name : Octets) (t : State) → used (with_bucket name (new_bucket moment) t) ≤ used t
-with_new_bucket moment name t = omega (arith, total_inserted octets_total octets_same bucket_used t.buckets name (new_bucket moment), new_bucket_size moment)
+with_new_bucket : (moment : ℕ) (name : Octets) (locked : Bool) (t : State) → used (with_bucket name (new_bucket moment locked) t) ≤ used t
+with_new_bucket moment name locked t = omega (arith, total_inserted octets_total octets_same bucket_used t.buckets name (new_bucket moment locked), new_bucket_size moment locked)
 
 without_bucket : (name : Octets) (t : State) → total bucket_used (remove t.buckets name) ≤ used t
 without_bucket name t = omega (arith, total_removed octets_total octets_same bucket_used t.buckets name)
+
+-- a date takes nothing
+redated : (name : Octets) (c : Bucket) (id : VersionId) (key : Octets) (date : Option ℕ) (t : State) → used (with_bucket name c t) ≤ max (used t) t.quota
+    → used (with_bucket name (with_date key id date c) t) ≤ max (used t) t.quota
+redated name c id key date t fits =
+    let change = total_inserted octets_total octets_same bucket_used t.buckets name c in
+    let dated = total_inserted octets_total octets_same bucket_used t.buckets name (with_date key id date c) in
+    omega (arith, fits, change, dated)
 
 -- ---- what a bucket has afterwards
 
@@ -74,19 +80,22 @@ fits_itself None = tt
 fits_itself (Some t) = (refl, at_most_before (used t) (used t) t.quota (omega arith))
 
 -- what sets no quota keeps to it
-pub changes_fit : Changes FitsQuota
-changes_fit = record {
+pub changes_fit : (moment : ℕ) → Changes FitsQuota moment
+changes_fit moment = record {
   stays = fits_itself;
   key_added = add_key_fits;
   key_removed = remove_key_fits;
   bucket_created = create_bucket_fits;
   bucket_deleted = λ name s. of_bucket FitsQuota name s _ (λ t b there. tested (is_empty b.objects && is_empty b.uploads) tt BucketNotEmpty _ _ (λ _. (refl, at_most_before _ _ _ (without_bucket name t))));
-  versioning_put = λ name mode s. of_bucket FitsQuota name s _ (λ t b there. (refl, smaller name b (record b { mode = mode }) t there (omega arith)));
+  versioning_put = λ name mode s. of_bucket FitsQuota name s _ (λ t b there. tested (keeps_versions b.locked mode) tt InvalidBucketState _ _ (λ _. (refl, smaller name b (record b { mode = mode }) t there (omega arith))));
   lifecycle_put = λ name days s. of_bucket FitsQuota name s _ (λ t b there. (refl, smaller name b (record b { days = Some days }) t there (omega arith)));
   lifecycle_deleted = λ name s. of_bucket FitsQuota name s _ (λ t b there. (refl, smaller name b (record b { days = None }) t there (omega arith)));
   object_put = put_object_fits;
   object_copied = copy_object_fits;
   object_deleted = delete_object_fits;
+  retention_put = λ name key wanted date s. of_plain_bucket FitsQuota name s _ (λ t b there.
+      whatever (found_version key wanted b) _ _ (λ v. whatever (plainly (may_retain (can_retain b.locked v.id) (date_of key v.id b) (Some date) moment)) _ _ (λ _.
+      (refl, smaller name b (with_date key v.id (Some date) b) t there (omega arith)))));
   upload_created = create_upload_fits;
   part_uploaded = upload_part_fits;
   upload_completed = complete_upload_fits;
@@ -105,42 +114,45 @@ changes_fit = record {
         tested (is_tenant_name tenant && is_key_name name) tt InvalidName _ _ (λ _.
         tested (is_some (get t.keys name)) tt NoSuchKeyName _ _ (λ _. (refl, at_most_before (used t) (used t) _ (omega arith))))
 
-    create_bucket_fits : (moment : ℕ) (name : Octets) → Always FitsQuota (create_bucket moment name)
-    create_bucket_fits moment name None = tt
-    create_bucket_fits moment name (Some t) = tested (is_none (get t.buckets name)) tt BucketAlreadyOwnedByYou _ _ (λ _. (refl, at_most_before _ _ _ (with_new_bucket moment name t)))
+    create_bucket_fits : (name : Octets) (locked : Bool) → Always FitsQuota (create_bucket moment name locked)
+    create_bucket_fits name locked None = tt
+    create_bucket_fits name locked (Some t) = tested (is_none (get t.buckets name)) tt BucketAlreadyOwnedByYou _ _ (λ _. (refl, at_most_before _ _ _ (with_new_bucket moment name locked t)))
 
-    put_object_fits : (moment : ℕ) (name key bytes : Octets) (given : Option Octets) → Always FitsQuota (put_object moment name key bytes given)
-    put_object_fits moment name key bytes given s = of_bucket FitsQuota name s _ (λ t b there.
+    put_object_fits : (name key bytes : Octets) (given : Option Octets) (date : Option (Option ℕ)) → Always FitsQuota (put_object moment name key bytes given date)
+    put_object_fits name key bytes given date s = of_bucket FitsQuota name s _ (λ t b there.
         tested (is_checksum given bytes) tt BadDigest _ _ (λ _.
+        whatever (first_date b.locked date moment) _ _ (λ until.
         tested (keeps_quota t (with_bucket name (with_object moment key t.next_version bytes b) t)) tt QuotaExceeded _ _ (λ keeps.
-        and_then (after_entry b.mode (counts t)) _ _ _ (anyway (after_entry b.mode (counts t))) (λ c _. (refl, fitting name (with_object moment key t.next_version bytes b) t keeps)))))
+        whatever (after_entry b.mode (counts t)) _ _ (λ c. (refl, redated name (with_object moment key t.next_version bytes b) (new_id b.mode t.next_version) key until t (fitting name (with_object moment key t.next_version bytes b) t keeps)))))))
 
-    copy_object_fits : (moment : ℕ) (name key source_name source_key : Octets) (wanted : Wanted) → Always FitsQuota (copy_object moment name key source_name source_key wanted)
-    copy_object_fits moment name key source_name source_key wanted s = of_bucket FitsQuota name s _ (λ t b there.
-        and_then (source_version source_name source_key wanted s) _ _ _ (anyway (source_version source_name source_key wanted s)) (λ v _.
+    copy_object_fits : (name key source_name source_key : Octets) (wanted : Wanted) (date : Option (Option ℕ)) → Always FitsQuota (copy_object moment name key source_name source_key wanted date)
+    copy_object_fits name key source_name source_key wanted date s = of_bucket FitsQuota name s _ (λ t b there.
+        whatever (source_version source_name source_key wanted s) _ _ (λ v.
+        whatever (first_date b.locked date moment) _ _ (λ until.
         tested (keeps_quota t (with_bucket name (with_copy moment key t.next_version v b) t)) tt QuotaExceeded _ _ (λ keeps.
-        and_then (after_entry b.mode (counts t)) _ _ _ (anyway (after_entry b.mode (counts t))) (λ c _. (refl, fitting name (with_copy moment key t.next_version v b) t keeps)))))
+        whatever (after_entry b.mode (counts t)) _ _ (λ c. (refl, redated name (with_copy moment key t.next_version v b) (new_id b.mode t.next_version) key until t (fitting name (with_copy moment key t.next_version v b) t keeps)))))))
 
-    delete_object_fits : (moment : ℕ) (name key : Octets) (wanted : Wanted) → Always FitsQuota (delete_object moment name key wanted)
-    delete_object_fits moment name key wanted s = of_bucket FitsQuota name s _ (λ t b there.
-        and_then (after_delete b.mode wanted (counts t)) _ _ _ (anyway (after_delete b.mode wanted (counts t))) (λ c _.
-        (refl, smaller name b (with_deleted moment key wanted t.next_version b) t there (after_delete_size moment key wanted t.next_version b))))
+    delete_object_fits : (name key : Octets) (wanted : Wanted) → Always FitsQuota (delete_object moment name key wanted)
+    delete_object_fits name key wanted s = of_bucket FitsQuota name s _ (λ t b there.
+        tested (may_go (named_date key wanted b) moment) tt AccessDenied _ _ (λ _.
+        whatever (after_delete b.mode wanted (counts t)) _ _ (λ c.
+        (refl, smaller name b (with_deleted moment key wanted t.next_version b) t there (after_delete_size moment key wanted t.next_version b)))))
 
-    create_upload_fits : (moment : ℕ) (name key : Octets) → Always FitsQuota (create_upload moment name key)
-    create_upload_fits moment name key s = of_bucket FitsQuota name s _ (λ t b there.
+    create_upload_fits : (name key : Octets) → Always FitsQuota (create_upload moment name key)
+    create_upload_fits name key s = of_bucket FitsQuota name s _ (λ t b there.
         and_then (after_begin (counts t)) _ _ _ (anyway (after_begin (counts t))) (λ c _.
         (refl, smaller name b (with_upload t.next_upload (new_upload key moment) b) t there (with_new_upload t.next_upload key moment b))))
 
-    upload_part_fits : (moment number : ℕ) (name key bytes : Octets) (upload : Option UploadId) (given : Option Octets) → Always FitsQuota (upload_part moment name key upload number bytes given)
-    upload_part_fits moment number name key bytes upload given s =
+    upload_part_fits : (number : ℕ) (name key bytes : Octets) (upload : Option UploadId) (given : Option Octets) → Always FitsQuota (upload_part moment name key upload number bytes given)
+    upload_part_fits number name key bytes upload given s =
         let p : Part = record { bytes = bytes; moment = moment } in
         of_upload FitsQuota name key upload s _ (λ t b place u there here.
         tested (is_checksum given bytes) tt BadDigest _ _ (λ _.
         tested (keeps_quota t (with_bucket name (with_stored (found t b place u) number p) t)) tt QuotaExceeded _ _ (λ keeps.
         and_then (after_part (counts t)) _ _ _ (anyway (after_part (counts t))) (λ c _. (refl, fitting name (with_stored (found t b place u) number p) t keeps)))))
 
-    complete_upload_fits : (moment least : ℕ) (name key : Octets) (upload : Option UploadId) (names : List Naming) → Always FitsQuota (complete_upload moment least name key upload names)
-    complete_upload_fits moment least name key upload names s =
+    complete_upload_fits : (least : ℕ) (name key : Octets) (upload : Option UploadId) (names : List Naming) → Always FitsQuota (complete_upload moment least name key upload names)
+    complete_upload_fits least name key upload names s =
         of_upload FitsQuota name key upload s _ (λ t b number u there here.
         and_then (completed least u.parts names) _ (λ content. content_size content ≤ upload_used u) _ (completed_size least u.parts names) (λ content small.
         and_then (after_entry b.mode (counts t)) _ _ _ (anyway (after_entry b.mode (counts t))) (λ c _.
@@ -171,23 +183,24 @@ KeepsBound s t = IsBounded s → IsBounded t
 kept_bound : {X E : Type 0} (change : Option State → Result (X × Option State) E) → Always FitsQuota change → Always KeepsBound change
 kept_bound change fits s = implied (change s) (λ o. FitsQuota s o.1) (λ o. KeepsBound s o.1) (λ o fit bound. fits_bounded s o.1 bound fit) (fits s)
 
-pub changes_keep_bound : Changes KeepsBound
-changes_keep_bound = record {
+pub changes_keep_bound : (moment : ℕ) → Changes KeepsBound moment
+changes_keep_bound moment = let all = changes_fit moment in record {
   stays = λ s bound. bound;
-  key_added = λ tenant name secret. kept_bound _ (changes_fit.key_added tenant name secret);
-  key_removed = λ tenant name. kept_bound _ (changes_fit.key_removed tenant name);
-  bucket_created = λ moment name. kept_bound _ (changes_fit.bucket_created moment name);
-  bucket_deleted = λ name. kept_bound _ (changes_fit.bucket_deleted name);
-  versioning_put = λ name mode. kept_bound _ (changes_fit.versioning_put name mode);
-  lifecycle_put = λ name days. kept_bound _ (changes_fit.lifecycle_put name days);
-  lifecycle_deleted = λ name. kept_bound _ (changes_fit.lifecycle_deleted name);
-  object_put = λ moment name key bytes given. kept_bound _ (changes_fit.object_put moment name key bytes given);
-  object_copied = λ moment name key source_name source_key wanted. kept_bound _ (changes_fit.object_copied moment name key source_name source_key wanted);
-  object_deleted = λ moment name key wanted. kept_bound _ (changes_fit.object_deleted moment name key wanted);
-  upload_created = λ moment name key. kept_bound _ (changes_fit.upload_created moment name key);
-  part_uploaded = λ moment number name key bytes upload given. kept_bound _ (changes_fit.part_uploaded moment number name key bytes upload given);
-  upload_completed = λ moment least name key upload names. kept_bound _ (changes_fit.upload_completed moment least name key upload names);
-  upload_aborted = λ name key upload. kept_bound _ (changes_fit.upload_aborted name key upload);
+  key_added = λ tenant name secret. kept_bound _ (all.key_added tenant name secret);
+  key_removed = λ tenant name. kept_bound _ (all.key_removed tenant name);
+  bucket_created = λ name locked. kept_bound _ (all.bucket_created name locked);
+  bucket_deleted = λ name. kept_bound _ (all.bucket_deleted name);
+  versioning_put = λ name mode. kept_bound _ (all.versioning_put name mode);
+  lifecycle_put = λ name days. kept_bound _ (all.lifecycle_put name days);
+  lifecycle_deleted = λ name. kept_bound _ (all.lifecycle_deleted name);
+  object_put = λ name key bytes given date. kept_bound _ (all.object_put name key bytes given date);
+  object_copied = λ name key source_name source_key wanted date. kept_bound _ (all.object_copied name key source_name source_key wanted date);
+  object_deleted = λ name key wanted. kept_bound _ (all.object_deleted name key wanted);
+  retention_put = λ name key wanted date. kept_bound _ (all.retention_put name key wanted date);
+  upload_created = λ name key. kept_bound _ (all.upload_created name key);
+  part_uploaded = λ number name key bytes upload given. kept_bound _ (all.part_uploaded number name key bytes upload given);
+  upload_completed = λ least name key upload names. kept_bound _ (all.upload_completed least name key upload names);
+  upload_aborted = λ name key upload. kept_bound _ (all.upload_aborted name key upload);
 }
 
 pub settings_keep_bound : Settings KeepsBound
@@ -219,8 +232,8 @@ pub used_stays_bounded : UsedStaysBounded
 used_stays_bounded = record {
   add_tenant_bounded = λ name quota. stays_bounded _ (settings_keep_bound.tenant_added name quota);
   set_quota_bounded = λ name quota. stays_bounded _ (settings_keep_bound.quota_set name quota);
-  add_key_bounded = λ tenant name secret. stays_bounded _ (changes_keep_bound.key_added tenant name secret);
-  remove_key_bounded = λ tenant name. stays_bounded _ (changes_keep_bound.key_removed tenant name);
+  add_key_bounded = λ tenant name secret. stays_bounded _ ((changes_keep_bound 0).key_added tenant name secret);
+  remove_key_bounded = λ tenant name. stays_bounded _ ((changes_keep_bound 0).key_removed tenant name);
   purged_bounded = λ now s bound. fits_bounded s (purged_tenant s now) bound (purged_fits now s);
 }
 

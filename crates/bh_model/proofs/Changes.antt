@@ -3,14 +3,16 @@ use Rattle.std.proofs.Common.{◌≡◌, ℕ, Bool, true, false, cond, List, Opt
 use Rattle.std.specs.Result.{IfOk}
 use Rattle.std.specs.FinMap.{get}
 use Rattle.bh_types.specs.Outcomes.{◌>>=◌}
+use Rattle.bh_types.specs.Rejections.{plainly}
 use Rattle.bh_types.specs.declared.bucket_state.BucketState.{BucketState}
 use Rattle.bh_types.specs.declared.id.UploadId.{UploadId}
 use Rattle.bh_types.specs.declared.refusal.Refusal.{Refusal}
 use Rattle.bh_types.specs.declared.refusal.Refusal.TheVariants.{NoSuchBucket, NoSuchUpload}
+use Rattle.bh_types.specs.declared.rejection.Rejection.{Rejection}
 use Rattle.bh_types.specs.declared.wanted.Wanted.{Wanted}
 use Rattle.bh_model.specs.State.{Octets, Upload, Bucket, State}
 use Rattle.bh_model.specs.Parts.{Naming}
-use Rattle.bh_model.specs.Operations.{Outcome, tenant_bucket, add_tenant, set_quota, add_key, remove_key, create_bucket, delete_bucket, put_versioning, put_lifecycle, delete_lifecycle, put_object, copy_object, delete_object}
+use Rattle.bh_model.specs.Operations.{Outcome, tenant_bucket, add_tenant, set_quota, add_key, remove_key, create_bucket, delete_bucket, put_versioning, put_lifecycle, delete_lifecycle, put_object, copy_object, delete_object, put_retention}
 use Rattle.bh_model.specs.Uploads.{FoundUpload, of_key, found_upload, find_upload, create_upload, upload_part, complete_upload, abort_upload}
 
 -- an upload that a change names
@@ -22,22 +24,23 @@ module _ (R : Option State → Option State → Type 0) where
   abbrev pub Always : {X E : Type 0} → (Option State → Result (X × Option State) E) → Type 0
   Always change = (s : Option State) → IfOk (change s) (λ o. R s o.1)
 
-  -- so each that sets no quota does; what only tells leaves the state as it is
-  pub record Changes : Type 0 where
+  -- so each that sets no quota does at this moment; what only tells leaves the state as it is
+  pub record Changes (moment : ℕ) : Type 0 where
     pub stays : (s : Option State) → R s s
     pub key_added : (tenant name secret : Octets) → Always (add_key tenant name secret)
     pub key_removed : (tenant name : Octets) → Always (remove_key tenant name)
-    pub bucket_created : (moment : ℕ) (name : Octets) → Always (create_bucket moment name)
+    pub bucket_created : (name : Octets) (locked : Bool) → Always (create_bucket moment name locked)
     pub bucket_deleted : (name : Octets) → Always (delete_bucket name)
     pub versioning_put : (name : Octets) (mode : BucketState) → Always (put_versioning name mode)
     pub lifecycle_put : (name : Octets) (days : ℕ) → Always (put_lifecycle name days)
     pub lifecycle_deleted : (name : Octets) → Always (delete_lifecycle name)
-    pub object_put : (moment : ℕ) (name key bytes : Octets) (given : Option Octets) → Always (put_object moment name key bytes given)
-    pub object_copied : (moment : ℕ) (name key source_name source_key : Octets) (wanted : Wanted) → Always (copy_object moment name key source_name source_key wanted)
-    pub object_deleted : (moment : ℕ) (name key : Octets) (wanted : Wanted) → Always (delete_object moment name key wanted)
-    pub upload_created : (moment : ℕ) (name key : Octets) → Always (create_upload moment name key)
-    pub part_uploaded : (moment number : ℕ) (name key bytes : Octets) (upload : Option UploadId) (given : Option Octets) → Always (upload_part moment name key upload number bytes given)
-    pub upload_completed : (moment least : ℕ) (name key : Octets) (upload : Option UploadId) (names : List Naming) → Always (complete_upload moment least name key upload names)
+    pub object_put : (name key bytes : Octets) (given : Option Octets) (date : Option (Option ℕ)) → Always (put_object moment name key bytes given date)
+    pub object_copied : (name key source_name source_key : Octets) (wanted : Wanted) (date : Option (Option ℕ)) → Always (copy_object moment name key source_name source_key wanted date)
+    pub object_deleted : (name key : Octets) (wanted : Wanted) → Always (delete_object moment name key wanted)
+    pub retention_put : (name key : Octets) (wanted : Wanted) (date : ℕ) → Always (put_retention moment name key wanted date)
+    pub upload_created : (name key : Octets) → Always (create_upload moment name key)
+    pub part_uploaded : (number : ℕ) (name key bytes : Octets) (upload : Option UploadId) (given : Option Octets) → Always (upload_part moment name key upload number bytes given)
+    pub upload_completed : (least : ℕ) (name key : Octets) (upload : Option UploadId) (names : List Naming) → Always (complete_upload moment least name key upload names)
     pub upload_aborted : (name key : Octets) (upload : Option UploadId) → Always (abort_upload name key upload)
 
   -- and each that sets one
@@ -56,6 +59,16 @@ module _ (R : Option State → Option State → Type 0) where
   of_bucket name (Some t) F h = go (get t.buckets name) refl
     where
       go : (o : Option Bucket) → get t.buckets name ≡ o → IfOk (ok_or (option_map (λ b. (t, b)) o) NoSuchBucket >>= F) (Left (Some t))
+      go None e = tt
+      go (Some b) e = h t b e
+
+  -- and where the change's refusals tell more
+  pub of_plain_bucket : (name : Octets) (s : Option State) (F : State × Bucket → Result Outcome Rejection)
+      → ((t : State) (b : Bucket) → get t.buckets name ≡ Some b → IfOk (F (t, b)) (Left (Some t))) → IfOk (plainly (tenant_bucket name s) >>= F) (Left s)
+  of_plain_bucket name None F h = tt
+  of_plain_bucket name (Some t) F h = go (get t.buckets name) refl
+    where
+      go : (o : Option Bucket) → get t.buckets name ≡ o → IfOk (plainly (ok_or (option_map (λ b. (t, b)) o) NoSuchBucket) >>= F) (Left (Some t))
       go None e = tt
       go (Some b) e = h t b e
 

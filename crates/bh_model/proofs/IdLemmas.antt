@@ -17,7 +17,8 @@ use Rattle.bh_types.specs.declared.id.VersionId.TheVariants.{Null, Numbered}
 use Rattle.bh_types.specs.Checksums.{checksum_text}
 use Rattle.bh_types.specs.Outcomes.{◌>>=◌}
 use Rattle.bh_types.specs.declared.refusal.Refusal.{Refusal}
-use Rattle.bh_types.specs.declared.refusal.Refusal.TheVariants.{InvalidName, InvalidQuota, TenantExists, KeyExists, NoSuchKeyName, BucketAlreadyOwnedByYou, BucketNotEmpty, BadDigest, QuotaExceeded, CounterExhausted}
+use Rattle.bh_types.specs.declared.refusal.Refusal.TheVariants.{AccessDenied, InvalidName, InvalidQuota, TenantExists, KeyExists, NoSuchKeyName, BucketAlreadyOwnedByYou, BucketNotEmpty, InvalidBucketState, BadDigest, QuotaExceeded, CounterExhausted}
+use Rattle.bh_types.specs.Rejections.{plainly}
 use Rattle.bh_types.specs.declared.wanted.Wanted.{Wanted}
 use Rattle.bh_types.specs.declared.wanted.Wanted.TheVariants.{Current, Named, Unknown}
 use Rattle.bh_model.specs.FinMaps.{is_empty}
@@ -27,13 +28,14 @@ use Rattle.bh_model.specs.Entries.{same_id, has_id, is_version, without, added, 
 use Rattle.bh_model.specs.Ids.{HaveOwnIds, WasGiven, AreNumbered, BucketIsNumbered, IsNumbered}
 use Rattle.bh_model.specs.Parts.{Naming, is_checksum, completed}
 use Rattle.bh_model.specs.Quotas.{keeps_quota}
+use Rattle.bh_model.specs.Retention.{keeps_versions, can_retain, date_of, named_date, may_go, with_date, may_retain, first_date}
 use Rattle.bh_model.specs.Runs.{purged_tenant}
-use Rattle.bh_model.specs.Operations.{Outcome, listed, removed, with_deleted, with_bucket, with_entries, with_content, with_object, with_copy, source_version, add_tenant, set_quota, add_key, remove_key, create_bucket, put_object, copy_object, delete_object}
+use Rattle.bh_model.specs.Operations.{Outcome, listed, removed, with_deleted, with_bucket, with_entries, with_content, with_new_date, with_object, with_copy, found_version, source_version, add_tenant, set_quota, add_key, remove_key, create_bucket, put_object, copy_object, delete_object}
 use Rattle.bh_model.specs.Uploads.{with_upload, without_upload, with_stored, new_upload, create_upload, upload_part, complete_upload}
-use Rattle.bh_model.proofs.Changes.{Always, Changes, Settings, found, of_bucket, of_upload}
+use Rattle.bh_model.proofs.Changes.{Always, Changes, Settings, found, of_bucket, of_plain_bucket, of_upload}
 use Rattle.bh_model.proofs.KeyLemmas.{tested}
 use Rattle.bh_model.proofs.MapLemmas.{get-adjusted}
-use Rattle.bh_model.proofs.QuotaLemmas.{and_then}
+use Rattle.bh_model.proofs.QuotaLemmas.{and_then, anyway, whatever}
 use Rattle.bh_model.proofs.UsedLemmas.{octets_total, octets_same}
 
 -- ---- the entries of a key
@@ -174,7 +176,7 @@ Each next = EachValue octets_total (BucketIsNumbered next)
 bucket_later : (m n : ℕ) → m ≤ n → (b : Bucket) → BucketIsNumbered m b → BucketIsNumbered n b
 bucket_later m n le b all = λ q es is. later m n le es (all q es is)
 
-listed_numbered : (next : ℕ) (key : Octets) (b : Bucket) → BucketIsNumbered next b → AreNumbered next (listed key b)
+pub listed_numbered : (next : ℕ) (key : Octets) (b : Bucket) → BucketIsNumbered next b → AreNumbered next (listed key b)
 listed_numbered next key b all = go (get b.objects key) refl
   where
     go : (o : Option (List Entry)) → get b.objects key ≡ o → AreNumbered next (unwrap_or o [])
@@ -190,19 +192,15 @@ with_one : (m n : ℕ) → m ≤ n → (buckets : FinMap octets_cmp Bucket) (nam
 with_one m n le buckets name c all here = each_inserted octets_total (BucketIsNumbered n) buckets name c (λ q b is. bucket_later m n le b (all q b is)) here
 
 -- a bucket with a new version, whose number was the next one
-with_version : (moment : ℕ) (name key : Octets) (content : Content) (t : State) (b : Bucket) → IsNumbered (Some t) → BucketIsNumbered t.next_version b
-    → Each (numbered b.mode (counts t)).version (insert t.buckets name (with_content moment key t.next_version content b))
-with_version moment name key content t b all here =
+with_version : (moment : ℕ) (name key : Octets) (content : Content) (date : Option ℕ) (t : State) (b : Bucket) → IsNumbered (Some t) → BucketIsNumbered t.next_version b
+    → Each (numbered b.mode (counts t)).version (insert t.buckets name (with_new_date key t.next_version date (with_content moment key t.next_version content b)))
+with_version moment name key content date t b all here =
     let le = numbered_later b.mode (counts t) in
-    with_one t.next_version (numbered b.mode (counts t)).version le t.buckets name (with_content moment key t.next_version content b) all
+    with_one t.next_version (numbered b.mode (counts t)).version le t.buckets name (with_new_date key t.next_version date (with_content moment key t.next_version content b)) all
     (with_key t.next_version (numbered b.mode (counts t)).version le key (added b.mode t.next_version moment content (listed key b)) b here
     (added_numbered b.mode (counts t) moment content (listed key b) (listed_numbered t.next_version key b here)))
 
 -- ---- changes
-
-anyway : {X E : Type 0} (r : Result X E) → IfOk r (λ _. Unit {0})
-anyway (Ok x) = tt
-anyway (Err e) = tt
 
 abbrev pub KeepsIds : Option State → Option State → Type 0
 KeepsIds s t = IsNumbered s → IsNumbered t
@@ -211,20 +209,24 @@ KeepsIds s t = IsNumbered s → IsNumbered t
 same_bucket : (name : Octets) (t : State) (c : Bucket) → BucketIsNumbered t.next_version c → IsNumbered (Some t) → Each t.next_version (insert t.buckets name c)
 same_bucket name t c here all = with_one t.next_version t.next_version (omega arith) t.buckets name c all here
 
-pub changes_keep_ids : Changes KeepsIds
-changes_keep_ids = record {
+pub changes_keep_ids : (moment : ℕ) → Changes KeepsIds moment
+changes_keep_ids moment = record {
   stays = λ s all. all;
   key_added = key_added;
   key_removed = key_removed;
   bucket_created = bucket_created;
   bucket_deleted = λ name s. of_bucket KeepsIds name s _ (λ t b there.
       tested (is_empty b.objects && is_empty b.uploads) tt BucketNotEmpty _ _ (λ _ all. each_removed octets_total (BucketIsNumbered t.next_version) t.buckets name all));
-  versioning_put = λ name mode s. of_bucket KeepsIds name s _ (λ t b there all. same_bucket name t (record b { mode = mode }) (all name b there) all);
+  versioning_put = λ name mode s. of_bucket KeepsIds name s _ (λ t b there.
+      tested (keeps_versions b.locked mode) tt InvalidBucketState _ _ (λ _ all. same_bucket name t (record b { mode = mode }) (all name b there) all));
   lifecycle_put = λ name days s. of_bucket KeepsIds name s _ (λ t b there all. same_bucket name t (record b { days = Some days }) (all name b there) all);
   lifecycle_deleted = λ name s. of_bucket KeepsIds name s _ (λ t b there all. same_bucket name t (record b { days = None }) (all name b there) all);
   object_put = object_put;
   object_copied = object_copied;
   object_deleted = object_deleted;
+  retention_put = λ name key wanted date s. of_plain_bucket KeepsIds name s _ (λ t b there.
+      whatever (found_version key wanted b) _ _ (λ v. whatever (plainly (may_retain (can_retain b.locked v.id) (date_of key v.id b) (Some date) moment)) _ _ (λ _ all.
+      same_bucket name t (with_date key v.id (Some date) b) (all name b there) all)));
   upload_created = upload_created;
   part_uploaded = part_uploaded;
   upload_completed = upload_completed;
@@ -241,26 +243,29 @@ changes_keep_ids = record {
     key_removed tenant name (Some t) =
         tested (is_tenant_name tenant && is_key_name name) tt InvalidName _ _ (λ _. tested (is_some (get t.keys name)) tt NoSuchKeyName _ _ (λ _ all. all))
 
-    bucket_created : (moment : ℕ) (name : Octets) → Always KeepsIds (create_bucket moment name)
-    bucket_created moment name None = tt
-    bucket_created moment name (Some t) =
-        tested (is_none (get t.buckets name)) tt BucketAlreadyOwnedByYou _ _ (λ _ all. same_bucket name t (new_bucket moment) (each_empty octets_total (AreNumbered t.next_version)) all)
+    bucket_created : (name : Octets) (locked : Bool) → Always KeepsIds (create_bucket moment name locked)
+    bucket_created name locked None = tt
+    bucket_created name locked (Some t) =
+        tested (is_none (get t.buckets name)) tt BucketAlreadyOwnedByYou _ _ (λ _ all. same_bucket name t (new_bucket moment locked) (each_empty octets_total (AreNumbered t.next_version)) all)
 
-    object_put : (moment : ℕ) (name key bytes : Octets) (given : Option Octets) → Always KeepsIds (put_object moment name key bytes given)
-    object_put moment name key bytes given s = of_bucket KeepsIds name s _ (λ t b there.
+    object_put : (name key bytes : Octets) (given : Option Octets) (date : Option (Option ℕ)) → Always KeepsIds (put_object moment name key bytes given date)
+    object_put name key bytes given date s = of_bucket KeepsIds name s _ (λ t b there.
         tested (is_checksum given bytes) tt BadDigest _ _ (λ _.
+        whatever (first_date b.locked date moment) _ _ (λ until.
         tested (keeps_quota t (with_bucket name (with_object moment key t.next_version bytes b) t)) tt QuotaExceeded _ _ (λ _.
-        tested (can_number b.mode (counts t)) (numbered b.mode (counts t)) CounterExhausted _ _ (λ _ all. with_version moment name key (Body bytes (checksum_text bytes)) t b all (all name b there)))))
+        tested (can_number b.mode (counts t)) (numbered b.mode (counts t)) CounterExhausted _ _ (λ _ all. with_version moment name key (Body bytes (checksum_text bytes)) until t b all (all name b there))))))
 
-    object_copied : (moment : ℕ) (name key source_name source_key : Octets) (wanted : Wanted) → Always KeepsIds (copy_object moment name key source_name source_key wanted)
-    object_copied moment name key source_name source_key wanted s = of_bucket KeepsIds name s _ (λ t b there.
-        and_then (source_version source_name source_key wanted s) _ (λ _. Unit {0}) _ (anyway (source_version source_name source_key wanted s)) (λ v _.
+    object_copied : (name key source_name source_key : Octets) (wanted : Wanted) (date : Option (Option ℕ)) → Always KeepsIds (copy_object moment name key source_name source_key wanted date)
+    object_copied name key source_name source_key wanted date s = of_bucket KeepsIds name s _ (λ t b there.
+        whatever (source_version source_name source_key wanted s) _ _ (λ v.
+        whatever (first_date b.locked date moment) _ _ (λ until.
         tested (keeps_quota t (with_bucket name (with_copy moment key t.next_version v b) t)) tt QuotaExceeded _ _ (λ _.
-        tested (can_number b.mode (counts t)) (numbered b.mode (counts t)) CounterExhausted _ _ (λ _ all. with_version moment name key (Body v.bytes v.checksum) t b all (all name b there)))))
+        tested (can_number b.mode (counts t)) (numbered b.mode (counts t)) CounterExhausted _ _ (λ _ all. with_version moment name key (Body v.bytes v.checksum) until t b all (all name b there))))))
 
-    object_deleted : (moment : ℕ) (name key : Octets) (wanted : Wanted) → Always KeepsIds (delete_object moment name key wanted)
-    object_deleted moment name key wanted s = of_bucket KeepsIds name s _ (λ t b there.
-        deleting t b there (after_delete b.mode wanted (counts t)) (λ h. deleted_numbered b.mode wanted (counts t) moment (listed key b) h))
+    object_deleted : (name key : Octets) (wanted : Wanted) → Always KeepsIds (delete_object moment name key wanted)
+    object_deleted name key wanted s = of_bucket KeepsIds name s _ (λ t b there.
+        tested (may_go (named_date key wanted b) moment) tt AccessDenied _ _ (λ _.
+        deleting t b there (after_delete b.mode wanted (counts t)) (λ h. deleted_numbered b.mode wanted (counts t) moment (listed key b) h)))
       where
         -- what was after the delete
         deleting : (t : State) (b : Bucket) → get t.buckets name ≡ Some b → (r : Result Counts Refusal)
@@ -273,22 +278,22 @@ changes_keep_ids = record {
             (with_key t.next_version d.version left.0 key (deleted b.mode wanted t.next_version moment (listed key b)) b here left.1)
         deleting t b there (Err e) h = tt
 
-    upload_created : (moment : ℕ) (name key : Octets) → Always KeepsIds (create_upload moment name key)
-    upload_created moment name key s = of_bucket KeepsIds name s _ (λ t b there.
+    upload_created : (name key : Octets) → Always KeepsIds (create_upload moment name key)
+    upload_created name key s = of_bucket KeepsIds name s _ (λ t b there.
         tested (can_give t.next_upload) _ CounterExhausted _ _ (λ _ all. same_bucket name t (with_upload t.next_upload (new_upload key moment) b) (all name b there) all))
 
-    part_uploaded : (moment number : ℕ) (name key bytes : Octets) (upload : Option UploadId) (given : Option Octets) → Always KeepsIds (upload_part moment name key upload number bytes given)
-    part_uploaded moment number name key bytes upload given s =
+    part_uploaded : (number : ℕ) (name key bytes : Octets) (upload : Option UploadId) (given : Option Octets) → Always KeepsIds (upload_part moment name key upload number bytes given)
+    part_uploaded number name key bytes upload given s =
         let p : Part = record { bytes = bytes; moment = moment } in
         of_upload KeepsIds name key upload s _ (λ t b place u there here.
         tested (is_checksum given bytes) tt BadDigest _ _ (λ _.
         tested (keeps_quota t (with_bucket name (with_stored (found t b place u) number p) t)) tt QuotaExceeded _ _ (λ _.
         tested (can_give t.next_entry) _ CounterExhausted _ _ (λ _ all. same_bucket name t (with_stored (found t b place u) number p) (all name b there) all))))
 
-    upload_completed : (moment least : ℕ) (name key : Octets) (upload : Option UploadId) (names : List Naming) → Always KeepsIds (complete_upload moment least name key upload names)
-    upload_completed moment least name key upload names s = of_upload KeepsIds name key upload s _ (λ t b number u there here.
+    upload_completed : (least : ℕ) (name key : Octets) (upload : Option UploadId) (names : List Naming) → Always KeepsIds (complete_upload moment least name key upload names)
+    upload_completed least name key upload names s = of_upload KeepsIds name key upload s _ (λ t b number u there here.
         and_then (completed least u.parts names) _ (λ _. Unit {0}) _ (anyway (completed least u.parts names)) (λ content _.
-        tested (can_number b.mode (counts t)) (numbered b.mode (counts t)) CounterExhausted _ _ (λ _ all. with_version moment name key content t (without_upload number b) all (all name b there))))
+        tested (can_number b.mode (counts t)) (numbered b.mode (counts t)) CounterExhausted _ _ (λ _ all. with_version moment name key content None t (without_upload number b) all (all name b there))))
 
 pub settings_keep_ids : Settings KeepsIds
 settings_keep_ids = record { tenant_added = tenant_added; quota_set = quota_set }

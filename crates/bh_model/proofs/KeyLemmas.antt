@@ -12,7 +12,7 @@ use Rattle.bh_types.specs.Names.{is_name_byte, is_tenant_name, is_key_name, is_s
 use Rattle.bh_types.specs.declared.refusal.Refusal.{Refusal}
 use Rattle.bh_types.specs.declared.refusal.Refusal.TheVariants.{AccessDenied, InvalidAccessKeyId, InvalidName, KeyExists, NoSuchKeyName}
 use Rattle.bh_types.specs.Outcomes.{◌>>=◌, require}
-use Rattle.bh_model.specs.State.{Octets, octets_cmp, State}
+use Rattle.bh_model.specs.State.{Octets, octets_cmp}
 use Rattle.bh_types.specs.AccessKeys.{is_dollar, access_key, access_key_of}
 use Rattle.bh_model.specs.Credentials.{authenticate}
 use Rattle.bh_model.specs.Laws.{key_id, key_named, AddedKeyOpens, RemovedKeyIsUnknown}

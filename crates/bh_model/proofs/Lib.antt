@@ -11,3 +11,5 @@ pub mod Changes
 pub mod IdLemmas
 pub mod RisingLemmas
 pub mod BoundLemmas
+pub mod DateLemmas
+pub mod RetainedLemmas

@@ -1,5 +1,5 @@
 -- To purge twice is to purge at the later moment.
-use Rattle.std.proofs.Common.{◌≡◌, ℕ, ◌≤◌, true, false, cond, Option, nat_cmp, Some, None, option_and_then, refl, sym, ap, arith, le-leb, leb-true, nat_le, nat_lt, ◌*◌, ◌/◌, ◌+◌}
+use Rattle.std.proofs.Common.{◌≡◌, ℕ, ◌≤◌, true, false, cond, Option, Some, None, option_and_then, refl, sym, ap, arith, le-leb, leb-true, nat_le, nat_lt, ◌*◌, ◌/◌, ◌+◌}
 use Rattle.std.specs.Cmp.{nat_cmp_total}
 use Rattle.std.specs.Cmp.Lexicographic.{nat_list_cmp_total}
 use Rattle.std.specs.FinMap.{nat_cmp-IsAntisymmetric, slice_cmp-IsAntisymmetric}

@@ -45,6 +45,15 @@ pub and_then : {X Y E : Type 0} (r : Result X E) (F : X → Result Y E) (P : X �
 and_then (Ok x) F P Q p h = h x p
 and_then (Err e) F P Q p h = tt
 
+-- whatever the result is
+pub anyway : {X E : Type 0} (r : Result X E) → IfOk r (λ _. Unit {0})
+anyway (Ok x) = tt
+anyway (Err e) = tt
+
+pub whatever : {X Y E : Type 0} (r : Result X E) (F : X → Result Y E) (Q : Y → Type 0) → ((x : X) → IfOk (F x) Q) → IfOk (r >>= F) Q
+whatever (Ok x) F Q h = h x
+whatever (Err e) F Q h = tt
+
 -- ---- maps
 
 no_sum : {X : Type 0} (f : X → ℕ) (xs : List X) → length xs ≡ 0 → sum_by f xs ≡ 0

@@ -152,7 +152,7 @@ module _ (later least number : ℕ) (name key : Octets) (p : Part) where
       subst (λ r. UnlessExhausted (r >>= (λ content. after_entry b.mode (counts t) >>= (λ c. Ok (completion name key (found t b id u) content, Some (with_bucket name (with_completed later key (found t b id u) content) (with_counts c t)))))) IsRead)
       (sym (alone u.parts there))
       (unless (can_number b.mode (counts t)) (numbered b.mode (counts t)) (λ c. (completion name key (found t b id u) (Body p.bytes sum), Some (with_bucket name (with_completed later key (found t b id u) (Body p.bytes sum)) (with_counts c t)))) IsRead
-      (id_told b.mode (new_id b.mode t.next_version), refl, read later name key p.bytes sum t (without_upload id.number b)))
+      (id_told b.mode (new_id b.mode t.next_version), refl, read later name key p.bytes sum None t (without_upload id.number b)))
 
 pub part_is_read : PartIsRead
 part_is_read moment later least number name key bytes upload given s =

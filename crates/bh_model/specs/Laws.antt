@@ -50,15 +50,15 @@ SuspendedDeleteClears = (next moment : ℕ) (entries : List Entry)
 
 -- what was put is what a get without id reads, under the id that the put told, whatever the bucket's state is
 abbrev pub PutIsRead : Type 0
-PutIsRead = (moment : ℕ) (name key bytes : Octets) (given : Option Octets) (s : Option State)
-    → IfOk (put_object moment name key bytes given s) (λ put.
+PutIsRead = (moment : ℕ) (name key bytes : Octets) (given : Option Octets) (date : Option (Option ℕ)) (s : Option State)
+    → IfOk (put_object moment name key bytes given date s) (λ put.
     (id : Option VersionId) × (put.0 ≡ Stored id (checksum_text bytes)) × (get_object name key Current None put.1 ≡ Ok (Object id (length bytes) Whole bytes (checksum_text bytes), put.1)))
 
 -- what was copied is what a get without id reads, whatever the states of both buckets are, and also where a version is
 -- copied onto its own key
 abbrev pub CopyIsRead : Type 0
-CopyIsRead = (moment : ℕ) (name key source_name source_key : Octets) (wanted : Wanted) (s : Option State)
-    → IfOk (copy_object moment name key source_name source_key wanted s) (λ copy.
+CopyIsRead = (moment : ℕ) (name key source_name source_key : Octets) (wanted : Wanted) (date : Option (Option ℕ)) (s : Option State)
+    → IfOk (copy_object moment name key source_name source_key wanted date s) (λ copy.
     (v : Version) × (id : Option VersionId) × (source_version source_name source_key wanted s ≡ Ok v) × (copy.0 ≡ Copied id moment v.checksum)
     × (get_object name key Current None copy.1 ≡ Ok (Object id (length v.bytes) Whole v.bytes v.checksum, copy.1)))
 

@@ -3,6 +3,7 @@ pub mod State
 pub mod Pages
 pub mod Counting
 pub mod Entries
+pub mod Retention
 pub mod Parts
 pub mod Ids
 pub mod Quotas
@@ -12,6 +13,8 @@ pub mod Operations
 pub mod Listings
 pub mod Runs
 pub mod Laws
+pub mod RetentionLaws
+pub mod Retained
 pub mod Uploads
 pub mod UploadLaws
 pub mod QuotaLaws

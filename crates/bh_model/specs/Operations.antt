@@ -12,7 +12,7 @@ use Rattle.bh_types.specs.declared.bucket_state.BucketState.{BucketState}
 use Rattle.bh_types.specs.declared.bucket_state.BucketState.TheVariants.{Unversioned, Enabled, Suspended}
 use Rattle.bh_types.specs.declared.range.RangePlan.{RangePlan}
 use Rattle.bh_types.specs.declared.refusal.Refusal.{Refusal}
-use Rattle.bh_types.specs.declared.refusal.Refusal.TheVariants.{NoSuchBucket, MethodNotAllowed, BucketAlreadyOwnedByYou, BucketNotEmpty, BadDigest, QuotaExceeded, NoSuchLifecycleConfiguration, InvalidRequest, TenantExists, NoSuchTenant, KeyExists, NoSuchKeyName, InvalidName, InvalidQuota}
+use Rattle.bh_types.specs.declared.refusal.Refusal.TheVariants.{AccessDenied, NoSuchBucket, MethodNotAllowed, BucketAlreadyOwnedByYou, BucketNotEmpty, InvalidBucketState, BadDigest, QuotaExceeded, NoSuchLifecycleConfiguration, InvalidRequest, TenantExists, NoSuchTenant, KeyExists, NoSuchKeyName, InvalidName, InvalidQuota}
 use Rattle.bh_types.specs.declared.rejection.Detail.{Detail}
 use Rattle.bh_types.specs.declared.rejection.Detail.TheVariants.{Nothing, CurrentMarker, NamedMarker, ObjectSize}
 use Rattle.bh_types.specs.declared.rejection.Rejection.{Rejection}
@@ -29,13 +29,14 @@ use Rattle.bh_model.specs.Entries.{Version, LookupFault, has_id, is_version, add
 use Rattle.bh_model.specs.Pages.{ObjectsListed, VersionsListed, UploadsListed, PartsListed}
 use Rattle.bh_model.specs.Parts.{is_checksum}
 use Rattle.bh_model.specs.Quotas.{keeps_quota}
+use Rattle.bh_model.specs.Retention.{keeps_versions, can_retain, date_of, named_date, may_go, with_date, without_date, may_retain, first_date}
 use Rattle.bh_model.specs.Usage.{Usage, usage_of}
 
 -- what is told where nothing is refused. An id is told where the bucket is or was versioned. `Removed` says whether a
 -- marker was made or taken out. `Head` and `Object` tell the whole object's size, `Object` with the bytes that its plan
 -- names. `Copied` tells the moment of the copy. Buckets are told with their moments, in the order of their names,
 -- and `Objects`, `Versions` and `Uploads` a page of a bucket's objects, of its versions and of its uploads; `Parts` a
--- page of an upload's parts. `Lifecycle` tells a bucket's rule, and `Used` what a tenant uses. `Begun` and `Completed` name the object of an upload;
+-- page of an upload's parts. `Lifecycle` tells a bucket's rule, `Retention` a version's date, and `Used` what a tenant uses. `Begun` and `Completed` name the object of an upload;
 -- `Begun` tells when the upload will be stale, where its bucket has a rule
 pub data Answer : Type 0 where
   Done : Answer
@@ -51,6 +52,7 @@ pub data Answer : Type 0 where
   Uploads : (page : UploadsListed) → Answer
   Parts : (page : PartsListed) → Answer
   Lifecycle : (days : ℕ) → Answer
+  Retention : (date : Option ℕ) → Answer
   Begun : (bucket key : Octets) (upload : UploadId) (abort : Option ℕ) → Answer
   PartStored : (checksum : Octets) → Answer
   Completed : (bucket key : Octets) (id : Option VersionId) (checksum : Octets) → Answer
@@ -115,12 +117,12 @@ remove_key tenant name s = do
   _ ← require (is_some (get t.keys name)) NoSuchKeyName
   Ok (Done, Some (record t { keys = remove t.keys name }))
 
--- Amazon S3 API Reference, CreateBucket
-abbrev pub create_bucket : ℕ → Octets → Option State → Result Outcome Refusal
-create_bucket moment name s = do
+-- Amazon S3 API Reference, CreateBucket: x-amz-bucket-object-lock-enabled
+abbrev pub create_bucket : ℕ → Octets → Bool → Option State → Result Outcome Refusal
+create_bucket moment name locked s = do
   t ← added_tenant s
   _ ← require (is_none (get t.buckets name)) BucketAlreadyOwnedByYou
-  Ok (Done, Some (with_bucket name (new_bucket moment) t))
+  Ok (Done, Some (with_bucket name (new_bucket moment locked) t))
 
 -- Amazon S3 API Reference, HeadBucket
 abbrev pub head_bucket : Octets → Option State → Result Outcome Refusal
@@ -164,6 +166,7 @@ get_versioning name s = do
 abbrev pub put_versioning : Octets → BucketState → Option State → Result Outcome Refusal
 put_versioning name mode s = do
   f ← tenant_bucket name s
+  _ ← require (keeps_versions f.1.locked mode) InvalidBucketState
   Ok (Done, Some (with_bucket name (record f.1 { mode = mode }) f.0))
 
 -- Amazon S3 API Reference, GetBucketLifecycleConfiguration
@@ -202,15 +205,20 @@ stored bytes next b = Stored (id_told b.mode (new_id b.mode next)) (checksum_tex
 abbrev pub require_quota : Octets → Bucket → State → Result (Unit {0}) Refusal
 require_quota name b t = require (keeps_quota t (with_bucket name b t)) QuotaExceeded
 
--- `given` is the checksum that the request says the bytes have, if it says one
+-- the bucket with a date for its newest version, which got the next version number
+abbrev pub with_new_date : Octets → ℕ → Option ℕ → Bucket → Bucket
+with_new_date key next date b = with_date key (new_id b.mode next) date b
+
+-- `given` is the checksum that the request says the bytes have, and `date` the date until which the version is kept, if it says one
 -- Amazon S3 API Reference, PutObject
-abbrev pub put_object : ℕ → Octets → Octets → Octets → Option Octets → Option State → Result Outcome Refusal
-put_object moment name key bytes given s = do
+abbrev pub put_object : ℕ → Octets → Octets → Octets → Option Octets → Option (Option ℕ) → Option State → Result Outcome Refusal
+put_object moment name key bytes given date s = do
   f ← tenant_bucket name s
   _ ← require (is_checksum given bytes) BadDigest
+  until ← first_date f.1.locked date moment
   _ ← require_quota name (with_object moment key f.0.next_version bytes f.1) f.0
   c ← after_entry f.1.mode (counts f.0)
-  Ok (stored bytes f.0.next_version f.1, Some (with_bucket name (with_object moment key f.0.next_version bytes f.1) (with_counts c f.0)))
+  Ok (stored bytes f.0.next_version f.1, Some (with_bucket name (with_new_date key f.0.next_version until (with_object moment key f.0.next_version bytes f.1)) (with_counts c f.0)))
 
 -- which marker was met, by how its version was asked for
 abbrev pub marker_met : Refusal → Detail
@@ -221,11 +229,15 @@ marker_met refusal = CurrentMarker
 abbrev pub not_found : LookupFault → Rejection
 not_found fault = record { refusal = fault.refusal; detail = if fault.marker then marker_met fault.refusal else Nothing }
 
--- the version that is wanted, with its bucket
+-- the version of a key that is wanted
+abbrev pub found_version : Octets → Wanted → Bucket → Result Version Rejection
+found_version key wanted b = result_map_both (λ v. v) not_found (lookup wanted (listed key b))
+
+-- with its bucket
 abbrev pub wanted_version : Octets → Octets → Wanted → Option State → Result (Bucket × Version) Rejection
 wanted_version name key wanted s = do
   f ← plainly (tenant_bucket name s)
-  v ← result_map_both (λ v. v) not_found (lookup wanted (listed key f.1))
+  v ← found_version key wanted f.1
   Ok (f.1, v)
 
 -- a delete marker is no source of a copy: where it is named by its id, the request is at fault
@@ -246,15 +258,16 @@ abbrev pub copied : ℕ → Version → ℕ → Bucket → Answer
 copied moment v next b = Copied (id_told b.mode (new_id b.mode next)) moment v.checksum
 
 -- the bucket and the key that the copy goes to, and then those that it comes from. The moment and the id are those of
--- a new version of the first bucket
+-- a new version of the first bucket, and so is the date: that of the source stays with the source
 -- Amazon S3 API Reference, CopyObject
-abbrev pub copy_object : ℕ → Octets → Octets → Octets → Octets → Wanted → Option State → Result Outcome Refusal
-copy_object moment name key source_name source_key wanted s = do
+abbrev pub copy_object : ℕ → Octets → Octets → Octets → Octets → Wanted → Option (Option ℕ) → Option State → Result Outcome Refusal
+copy_object moment name key source_name source_key wanted date s = do
   f ← tenant_bucket name s
   v ← source_version source_name source_key wanted s
+  until ← first_date f.1.locked date moment
   _ ← require_quota name (with_copy moment key f.0.next_version v f.1) f.0
   c ← after_entry f.1.mode (counts f.0)
-  Ok (copied moment v f.0.next_version f.1, Some (with_bucket name (with_copy moment key f.0.next_version v f.1) (with_counts c f.0)))
+  Ok (copied moment v f.0.next_version f.1, Some (with_bucket name (with_new_date key f.0.next_version until (with_copy moment key f.0.next_version v f.1)) (with_counts c f.0)))
 
 -- a range in which no byte is tells the object's size
 abbrev pub out_of_range : ℕ → Refusal → Rejection
@@ -299,11 +312,29 @@ removed mode Unknown next entries = Removed None false
 
 -- the bucket once a delete of a key is done
 abbrev pub with_deleted : ℕ → Octets → Wanted → ℕ → Bucket → Bucket
-with_deleted moment key wanted next b = with_entries key (deleted b.mode wanted next moment (listed key b)) b
+with_deleted moment key wanted next b = without_date key wanted (with_entries key (deleted b.mode wanted next moment (listed key b)) b)
 
 -- Amazon S3 API Reference, DeleteObject
 abbrev pub delete_object : ℕ → Octets → Octets → Wanted → Option State → Result Outcome Refusal
 delete_object moment name key wanted s = do
   f ← tenant_bucket name s
+  _ ← require (may_go (named_date key wanted f.1) moment) AccessDenied
   c ← after_delete f.1.mode wanted (counts f.0)
   Ok (removed f.1.mode wanted f.0.next_version (listed key f.1), Some (with_bucket name (with_deleted moment key wanted f.0.next_version f.1) (with_counts c f.0)))
+
+-- ---- retention
+
+-- a version without a date tells none, in a locked bucket or not
+-- Amazon S3 API Reference, GetObjectRetention
+abbrev pub get_retention : Octets → Octets → Wanted → Option State → Result Outcome Rejection
+get_retention name key wanted s = do
+  f ← wanted_version name key wanted s
+  Ok (Retention (date_of key f.1.id f.0), s)
+
+-- Amazon S3 API Reference, PutObjectRetention
+abbrev pub put_retention : ℕ → Octets → Octets → Wanted → ℕ → Option State → Result Outcome Rejection
+put_retention moment name key wanted date s = do
+  f ← plainly (tenant_bucket name s)
+  v ← found_version key wanted f.1
+  _ ← plainly (may_retain (can_retain f.1.locked v.id) (date_of key v.id f.1) (Some date) moment)
+  Ok (Done, Some (with_bucket name (with_date key v.id (Some date) f.1) f.0))

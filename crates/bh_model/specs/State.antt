@@ -1,14 +1,14 @@
 -- The state of one tenant's private machine. It is made of finite maps, so two states that answer alike are equal values.
 use Rattle.std.specs.Prelude.{ℕ, ◌+◌, ◌-◌, ◌*◌, ◌/◌, Bool, false, nat_le, List, length, Option, Some, None, if◌then◌else◌}
 use Rattle.std.specs.List.{sum_by}
-use Rattle.std.specs.Ordering.{nat_cmp}
+use Rattle.std.specs.Ordering.{nat_cmp, ordering_then}
 use Rattle.std.specs.declared.cmp.Ordering.{Ordering}
 use Rattle.std.specs.Cmp.Lexicographic.{slice_cmp}
 use Rattle.std.specs.FinMap.{FinMap, empty}
 use Rattle.bh_types.specs.Moments.{abort_moment}
 use Rattle.bh_types.specs.declared.id.VersionId.{VersionId}
 use Rattle.bh_types.specs.declared.bucket_state.BucketState.{BucketState}
-use Rattle.bh_types.specs.declared.bucket_state.BucketState.TheVariants.{Unversioned}
+use Rattle.bh_types.specs.declared.bucket_state.BucketState.TheVariants.{Unversioned, Enabled}
 use Rattle.bh_model.specs.FinMaps.{adjusted, total}
 
 -- names, keys, secrets, texts and bodies, as their bytes
@@ -41,15 +41,26 @@ pub record Upload : Type 0 where
   pub begun : ℕ
   pub parts : FinMap nat_cmp Part
 
+-- versions by their keys, and then by their numbers
+abbrev pub version_cmp : Octets × ℕ → Octets × ℕ → Ordering
+version_cmp a b = ordering_then (octets_cmp a.0 b.0) (nat_cmp a.1 b.1)
+
+-- the moments before which versions may not be deleted, in seconds since 1970
+abbrev pub Dates : Type 0
+Dates = FinMap version_cmp ℕ
+
 -- `days` is the bucket's rule for uploads that are left unfinished, if it has one. The entries of a key are
--- newest first, and a key that has none is not in `objects`. Uploads stand by number
--- Amazon S3 API Reference, CreateBucket, PutBucketVersioning, PutBucketLifecycleConfiguration
+-- newest first, and a key that has none is not in `objects`. Uploads stand by number. Only versions of a bucket that
+-- is `locked` have dates
+-- Amazon S3 API Reference, CreateBucket, PutBucketVersioning, PutBucketLifecycleConfiguration, PutObjectRetention
 pub record Bucket : Type 0 where
   pub created : ℕ
   pub mode : BucketState
   pub days : Option ℕ
   pub objects : FinMap octets_cmp (List Entry)
   pub uploads : FinMap nat_cmp Upload
+  pub locked : Bool
+  pub dates : Dates
 
 -- `keys` has the secret of each access key's name. Each counter is the next number to give
 pub record State : Type 0 where
@@ -67,8 +78,17 @@ absent = None
 abbrev pub new_tenant : ℕ → State
 new_tenant quota = record { quota = quota; keys = empty; next_version = 1; next_upload = 1; next_entry = 1; buckets = empty }
 
-abbrev pub new_bucket : ℕ → Bucket
-new_bucket created = record { created = created; mode = Unversioned; days = None; objects = empty; uploads = empty }
+-- Amazon S3 User Guide, "Object Lock considerations": a locked bucket is Enabled from its making on
+abbrev pub new_bucket : ℕ → Bool → Bucket
+new_bucket created locked = record {
+  created = created;
+  mode = if locked then Enabled else Unversioned;
+  days = None;
+  objects = empty;
+  uploads = empty;
+  locked = locked;
+  dates = empty;
+}
 
 -- sizes, in bytes
 abbrev pub content_size : Content → ℕ

@@ -1,10 +1,10 @@
 -- What a tenant uses, counted.
-use Rattle.std.specs.Prelude.{ℕ, Bool, not, List, [], ◌∷◌, length, if◌then◌else◌}
+use Rattle.std.specs.Prelude.{ℕ, not, List, [], ◌∷◌, length, if◌then◌else◌}
 use Rattle.std.specs.List.{filter, sum_by}
 use Rattle.std.specs.FinMap.{len}
 use Rattle.bh_model.specs.Entries.{is_version}
 use Rattle.bh_model.specs.FinMaps.{total}
-use Rattle.bh_model.specs.State.{Entry, Bucket, State, entry_size, upload_used, used}
+use Rattle.bh_model.specs.State.{Entry, State, entry_size, upload_used, used}
 
 -- sizes in bytes; `objects` counts the keys whose newest entry is a version, and `versions` no delete markers
 pub record Usage : Type 0 where

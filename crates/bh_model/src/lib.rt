@@ -5,4 +5,5 @@ pub mod counting;
 pub mod entries;
 pub mod laws;
 pub mod parts;
+pub mod retention_laws;
 pub mod upload_laws;

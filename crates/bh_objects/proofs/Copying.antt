@@ -1,4 +1,4 @@
--- CopyObject: the version that was read is the machine's source, and the rows that were written are its step.
+-- CopyObject of a version without a date: the version that was read is the machine's source, and the rows that were written are its step.
 use Rattle.std.proofs.Common.{◌≡◌, ℕ, ◌≤◌, true≢false, is_ok, length, Option, Some, None, option_map, ok_or, ◌++◌, [], ◌∷◌, Result, Ok, Err, refl, sym, ap, ◌∙◌, subst}
 use Rattle.std.specs.FinMap.{get}
 use Rattle.std.specs.Result.{result_map_both}
@@ -13,7 +13,8 @@ use Rattle.bh_types.specs.declared.wanted.Wanted.{Wanted}
 use Rattle.bh_model.specs.State.{Octets, Content, Content.Body, State, Bucket}
 use Rattle.bh_model.specs.Counting.{counts, with_counts, after_entry}
 use Rattle.bh_model.specs.Entries.{Version, new_id, lookup}
-use Rattle.bh_model.specs.Operations.{Answer, Outcome, Copied, id_told, listed, not_found, with_bucket, with_copy, copied, tenant_bucket, source_refusal, source_version, copy_object, require_quota}
+use Rattle.bh_model.specs.Operations.{Answer, Outcome, Copied, id_told, listed, not_found, with_bucket, with_copy, with_new_date, copied, tenant_bucket, source_refusal, source_version, copy_object, require_quota}
+use Rattle.bh_model.specs.Retention.{first_date}
 use Rattle.bh_tables.specs.Bodies.{resolved}
 use Rattle.bh_tables.specs.Typed.{Tables}
 use Rattle.bh_view.specs.Blocks.{whole, AreDigests}
@@ -100,32 +101,40 @@ copied_row mode before t b k moment head bytes tables size = ap (λ n. record ta
   }) ∷ [];
 }) size
 
--- a copy asks for the numbers of its entry, and then stores it
-abbrev copy_then : ℕ → Octets → Octets → Version → State → Bucket → Counts × Counts → Result Outcome Refusal
-copy_then at b k version s B n = Ok (copied at version s.next_version B, Some (with_bucket b (with_copy at k s.next_version version B) (with_counts n.1 s)))
+-- a copy whose date is decided asks for the numbers of its entry, and then stores it
+abbrev pub copy_then : ℕ → Octets → Octets → Version → Option ℕ → State → Bucket → Counts × Counts → Result Outcome Refusal
+copy_then at b k version until s B n = Ok (copied at version s.next_version B, Some (with_bucket b (with_new_date k s.next_version until (with_copy at k s.next_version version B)) (with_counts n.1 s)))
 
-abbrev copy_from : ℕ → Octets → Octets → Result (State × Bucket) Refusal → Result Version Refusal → Result Outcome Refusal
-copy_from at b k r from = do
+abbrev copy_from : ℕ → Octets → Octets → Option (Option ℕ) → Result (State × Bucket) Refusal → Result Version Refusal → Result Outcome Refusal
+copy_from at b k date r from = do
   f ← r
   v ← from
+  until ← first_date f.1.locked date at
   _ ← require_quota b (with_copy at k f.0.next_version v f.1) f.0
   c ← after_entry f.1.mode (counts f.0)
-  Ok (copied at v f.0.next_version f.1, Some (with_bucket b (with_copy at k f.0.next_version v f.1) (with_counts c f.0)))
+  Ok (copied at v f.0.next_version f.1, Some (with_bucket b (with_new_date k f.0.next_version until (with_copy at k f.0.next_version v f.1)) (with_counts c f.0)))
 
-copy_shape : (at : ℕ) (b k sb sk : Octets) (wanted : Wanted) (v : Option State) (mode : BucketState) (h : HasBucket b v mode) (version : Version) → source_version sb sk wanted v ≡ Ok version
-    → copy_object at b k sb sk wanted v ≡ ◌>>=◌ {B = Outcome} (entry_numbers_in mode b k (length version.bytes) v) (copy_then at b k version h.state h.bucket)
-copy_shape at b k sb sk wanted v mode h version source =
-    let s = h.state in
-    let B = h.bucket in
-    let then : Counts → Result Outcome Refusal = λ c. copy_then at b k version s B (c, c) in
-    let asks : copy_from at b k (tenant_bucket b v) (Ok version) ≡ ◌>>=◌ {B = Outcome} (require_quota b (with_copy at k s.next_version version B) s) (λ _. ◌>>=◌ {B = Outcome} (after_entry B.mode (counts s)) then) = rw (h.added, h.there) refl in
-    ap (copy_from at b k (tenant_bucket b v)) source ∙ asks ∙ entry_asked s b k B h.there at s.next_version (Body version.bytes version.checksum) then
-    ∙ (λ i. ◌>>=◌ {B = Outcome} (entry_numbers_in (h.its i) b k (length version.bytes) (sym h.added i)) (λ n. then n.1))
+module _ (at : ℕ) (b k sb sk : Octets) (wanted : Wanted) (date : Option (Option ℕ)) (v : Option State) (mode : BucketState) (h : HasBucket b v mode) (version : Version) (source : source_version sb sk wanted v ≡ Ok version) where
+  pub copy_shape : (until : Option ℕ) → first_date h.bucket.locked date at ≡ Ok until
+      → copy_object at b k sb sk wanted date v ≡ ◌>>=◌ {B = Outcome} (entry_numbers_in mode b k (length version.bytes) v) (copy_then at b k version until h.state h.bucket)
+  copy_shape until dated =
+      let s = h.state in
+      let B = h.bucket in
+      let then : Counts → Result Outcome Refusal = λ c. copy_then at b k version until s B (c, c) in
+      let asks : copy_from at b k date (tenant_bucket b v) (Ok version) ≡ ◌>>=◌ {B = Outcome} (require_quota b (with_copy at k s.next_version version B) s) (λ _. ◌>>=◌ {B = Outcome} (after_entry B.mode (counts s)) then) = rw (h.added, h.there, dated) refl in
+      ap (copy_from at b k date (tenant_bucket b v)) source ∙ asks ∙ entry_asked s b k B h.there at s.next_version (Body version.bytes version.checksum) then
+      ∙ (λ i. ◌>>=◌ {B = Outcome} (entry_numbers_in (h.its i) b k (length version.bytes) (sym h.added i)) (λ n. then n.1))
+
+  -- its date is refused
+  pub copy_undated : (x : Refusal) → first_date h.bucket.locked date at ≡ Err x → copy_object at b k sb sk wanted date v ≡ Err x
+  copy_undated x refused =
+      let last : copy_from at b k date (tenant_bucket b v) (Ok version) ≡ Err x = rw (h.added, h.there, refused) refl in
+      ap (copy_from at b k date (tenant_bucket b v)) source ∙ last
 
 -- what a copy gives, and what stays of the tables
 abbrev pub Copies : Tables → Tables → Octets → Octets → Octets → Octets → Octets → Wanted → ℕ → SeenHead → BucketState → Counts → Type 0
 Copies old new t b k sb sk wanted at head mode c =
-    GivesStep t (copy_object at b k sb sk wanted) (Copied (id_told mode (new_id mode c.version)) at head.checksum) old new × IsSound new × (limits_in new ≡ limits_in old)
+    GivesStep t (copy_object at b k sb sk wanted None) (Copied (id_told mode (new_id mode c.version)) at head.checksum) old new × IsSound new × (limits_in new ≡ limits_in old)
 
 module _ (old new : Tables) (t b k sb sk : Octets) (wanted : Wanted) (at : ℕ) (head : SeenHead) (after : Counts) (host : IsHostOf old) (early : at ≤ latest_of old) (key : IsKeyText k)
     (source : source_version sb sk wanted (view old t) ≡ Ok (version_read t old head)) (size : head.size ≡ length (whole old.refs old.blocks (t, head.seq))) where
@@ -146,8 +155,8 @@ module _ (old new : Tables) (t b k sb sk : Octets) (wanted : Wanted) (at : ℕ) 
       let target = with_entry h.bucket.mode (counts h.state) after t b k at content old in
       let change = becomes_so t _ old target new (copy_put old target t h.state host.sound h.added b k h.bucket h.there at early key.key key.valid its_version after room refl) has in
       let own : HasBucket b (view old t) h.bucket.mode = record { state = h.state; bucket = h.bucket; added = h.added; there = h.there; its = refl } in
-      let made = copy_shape at b k sb sk wanted (view old t) h.bucket.mode own its_version source ∙ ap (λ n. ◌>>=◌ {B = Outcome} (entry_numbers_in h.bucket.mode b k n (view old t)) (copy_then at b k its_version h.state h.bucket)) (sym size)
-      ∙ ap (λ r. ◌>>=◌ {B = Outcome} r (copy_then at b k its_version h.state h.bucket)) read in
+      let made = copy_shape at b k sb sk wanted None (view old t) h.bucket.mode own its_version source None refl ∙ ap (λ n. ◌>>=◌ {B = Outcome} (entry_numbers_in h.bucket.mode b k n (view old t)) (copy_then at b k its_version None h.state h.bucket)) (sym size)
+      ∙ ap (λ r. ◌>>=◌ {B = Outcome} r (copy_then at b k its_version None h.state h.bucket)) read in
       (record { gives = made ∙ ap (λ (v : Option State). Ok (copied at its_version h.state.next_version h.bucket, v)) (sym change.shown); others = change.others; latest = change.latest; shared = shared }, change.sound, change.limits)
 
   copies : (mode : BucketState) (c : Counts) → mode_in b (view old t) ≡ Ok mode → entry_numbers_in mode b k head.size (view old t) ≡ Ok (c, after) → HasRowsOf (with_entry mode c after t b k at content old) new → KeepsShared old new → Made mode c
@@ -158,7 +167,7 @@ module _ (old new : Tables) (t b k sb sk : Octets) (wanted : Wanted) (at : ℕ) 
 
   -- a copy whose body has the source's blocks
   pub copies_body : (mode : BucketState) (c : Counts) → mode_in b (view old t) ≡ Ok mode → entry_numbers_in mode b k head.size (view old t) ≡ Ok (c, after) → new ≡ copy_written mode c after (replaced_in mode t b k old) t b k at head old
-      → Made mode c × HasBodies new × ((digest : Octets → Octets) → AreDigests digest old.blocks → AreDigests digest new.blocks)
+      → Made mode c × HasBodies new × ((digest : Octets → Octets) → AreDigests digest old.blocks → AreDigests digest new.blocks) × HasRowsOf (with_entry mode c after t b k at content old) new
   copies_body mode c found read e =
       let h = has_bucket b (view old t) mode found in
       let free = next_unnamed old t h.state host.sound h.added c (has_numbers (view old t) h.state mode c after h.added (numbers_read (view old t) b k mode h head.size (c, after) read)).0 in
@@ -168,33 +177,34 @@ module _ (old new : Tables) (t b k sb sk : Octets) (wanted : Wanted) (at : ℕ) 
       let room = room_found mode t b k old middle (ap (λ (x : Tables). x.versions) (adds (λ bytes. bytes)).is) in
       let is = e ∙ ap (with_version mode c t b k at head.size head.checksum) room ∙ copied_row mode c t b k at head its_version.bytes (with_room mode t b k middle) size in
       let it = λ (digest : Octets → Octets). is_added old host mode c after t b k at free digest its_version.bytes head.checksum middle new (adds digest) (shares_same (t, c.entry) old middle refl) is in
-      (copies mode c found read (it (λ x. x)).0.rows (it (λ x. x)).2, (it (λ x. x)).0.bodies, λ digest. (it digest).1)
+      (copies mode c found read (it (λ x. x)).0.rows (it (λ x. x)).2, (it (λ x. x)).0.bodies, λ digest. (it digest).1, (it (λ x. x)).0.rows)
 
 -- ---- refusals
 
 module _ (at : ℕ) (b k sb sk : Octets) (wanted : Wanted) where
-  -- its bucket is not there
-  pub bucket_refuses : (v : Option State) (x : Refusal) → mode_in b v ≡ Err x → copy_object at b k sb sk wanted v ≡ Err x
-  bucket_refuses None x e = ap (λ r. Err (refusal_or r x)) e
-  bucket_refuses (Some s) x e = go (get s.buckets b) e
-    where
-      go : (o : Option Bucket) → result_map_both (λ (f : State × Bucket). f.1.mode) (λ refusal. refusal) (ok_or (option_map (λ b. (s, b)) o) NoSuchBucket) ≡ Err x
-          → copy_from at b k (ok_or (option_map (λ b. (s, b)) o) NoSuchBucket) (source_version sb sk wanted (Some s)) ≡ Err x
-      go None e = ap (λ r. Err (refusal_or r x)) e
-      go (Some B) e = absurd (true≢false (ap is_ok e))
+  module _ (date : Option (Option ℕ)) where
+    -- its bucket is not there
+    pub bucket_refuses : (v : Option State) (x : Refusal) → mode_in b v ≡ Err x → copy_object at b k sb sk wanted date v ≡ Err x
+    bucket_refuses None x e = ap (λ r. Err (refusal_or r x)) e
+    bucket_refuses (Some s) x e = go (get s.buckets b) e
+      where
+        go : (o : Option Bucket) → result_map_both (λ (f : State × Bucket). f.1.mode) (λ refusal. refusal) (ok_or (option_map (λ b. (s, b)) o) NoSuchBucket) ≡ Err x
+            → copy_from at b k date (ok_or (option_map (λ b. (s, b)) o) NoSuchBucket) (source_version sb sk wanted (Some s)) ≡ Err x
+        go None e = ap (λ r. Err (refusal_or r x)) e
+        go (Some B) e = absurd (true≢false (ap is_ok e))
 
-  module _ (v : Option State) (mode : BucketState) (found : mode_in b v ≡ Ok mode) where
-    pub source_refuses : (x : Refusal) → source_version sb sk wanted v ≡ Err x → copy_object at b k sb sk wanted v ≡ Err x
-    source_refuses x e =
+    pub source_refuses : (v : Option State) (mode : BucketState) → mode_in b v ≡ Ok mode → (x : Refusal) → source_version sb sk wanted v ≡ Err x → copy_object at b k sb sk wanted date v ≡ Err x
+    source_refuses v mode found x e =
         let h = has_bucket b v mode found in
-        let last : copy_from at b k (tenant_bucket b v) (Err x) ≡ Err x = rw (h.added, h.there) refl in
-        ap (copy_from at b k (tenant_bucket b v)) e ∙ last
+        let last : copy_from at b k date (tenant_bucket b v) (Err x) ≡ Err x = rw (h.added, h.there) refl in
+        ap (copy_from at b k date (tenant_bucket b v)) e ∙ last
 
-    -- there is no room, or no number is left
-    pub numbers_refuse : (version : Version) → source_version sb sk wanted v ≡ Ok version → (x : Refusal) → entry_numbers_in mode b k (length version.bytes) v ≡ Err x → copy_object at b k sb sk wanted v ≡ Err x
-    numbers_refuse version source x e =
-        let h = has_bucket b v mode found in
-        copy_shape at b k sb sk wanted v mode h version source ∙ ap (λ r. ◌>>=◌ {B = Outcome} r (copy_then at b k version h.state h.bucket)) e
+  -- there is no room, or no number is left
+  pub numbers_refuse : (v : Option State) (mode : BucketState) → mode_in b v ≡ Ok mode → (version : Version) → source_version sb sk wanted v ≡ Ok version → (x : Refusal) → entry_numbers_in mode b k (length version.bytes) v ≡ Err x
+      → copy_object at b k sb sk wanted None v ≡ Err x
+  numbers_refuse v mode found version source x e =
+      let h = has_bucket b v mode found in
+      copy_shape at b k sb sk wanted None v mode h version source None refl ∙ ap (λ r. ◌>>=◌ {B = Outcome} r (copy_then at b k version None h.state h.bucket)) e
 
 -- ---- what was answered of the calls, where one of them fails
 
@@ -204,23 +214,21 @@ module _ {X Y : Type 0} (shows : X → BucketState) (told : Y → Version) (t b 
   source_bucket_failed (Failed trouble) d = tt
 
 module _ {Y : Type 0} (told : Y → Answer) (at : ℕ) (t b k sb sk : Octets) (wanted : Wanted) (old new : Tables) where
-  pub bucket_failed : {X : Type 0} (shows : X → BucketState) (error : StepError Refusal) → Decides shows (mode_in b (view old t)) old new (Err error) → Carries told t (copy_object at b k sb sk wanted) old new (Err error)
-  bucket_failed shows (Refused x) d = (bucket_refuses at b k sb sk wanted (view old t) x d.0, d.1)
-  bucket_failed shows (Failed trouble) d = tt
+  module _ (date : Option (Option ℕ)) where
+    pub bucket_failed : {X : Type 0} (shows : X → BucketState) (error : StepError Refusal) → Decides shows (mode_in b (view old t)) old new (Err error) → Carries told t (copy_object at b k sb sk wanted date) old new (Err error)
+    bucket_failed shows (Refused x) d = (bucket_refuses at b k sb sk wanted date (view old t) x d.0, d.1)
+    bucket_failed shows (Failed trouble) d = tt
 
-  module _ (mode : BucketState) (found : mode_in b (view old t) ≡ Ok mode) (middle : Tables) (one : middle ≡ old) where
-    pub source_failed : {X : Type 0} (shows : X → Version) (error : StepError Refusal) → Decides shows (source_version sb sk wanted (view middle t)) middle new (Err error) → Carries told t (copy_object at b k sb sk wanted) old new (Err error)
-    source_failed shows (Refused x) d = (source_refuses at b k sb sk wanted (view old t) mode found x (ap (λ (y : Tables). source_version sb sk wanted (view y t)) (sym one) ∙ d.0), d.1 ∙ one)
-    source_failed shows (Failed trouble) d = tt
+    pub source_failed : (mode : BucketState) → mode_in b (view old t) ≡ Ok mode → (middle : Tables) → middle ≡ old → {X : Type 0} (shows : X → Version) (error : StepError Refusal)
+        → Decides shows (source_version sb sk wanted (view middle t)) middle new (Err error) → Carries told t (copy_object at b k sb sk wanted date) old new (Err error)
+    source_failed mode found middle one shows (Refused x) d = (source_refuses at b k sb sk wanted date (view old t) mode found x (ap (λ (y : Tables). source_version sb sk wanted (view y t)) (sym one) ∙ d.0), d.1 ∙ one)
+    source_failed mode found middle one shows (Failed trouble) d = tt
 
-    pub numbers_failed : {X : Type 0} (shows : X → Counts × Counts) (version : Version) → source_version sb sk wanted (view middle t) ≡ Ok version → (n : ℕ) → n ≡ length version.bytes → (last : Tables) → last ≡ middle → (error : StepError Refusal)
-        → Decides shows (entry_numbers_in mode b k n (view last t)) last new (Err error) → Carries told t (copy_object at b k sb sk wanted) old new (Err error)
-    numbers_failed shows version source n same_size last two (Refused x) d = (
-      numbers_refuse at b k sb sk wanted (view old t) mode found version (ap (λ (y : Tables). source_version sb sk wanted (view y t)) (sym one) ∙ source) x
-          (ap (λ m. entry_numbers_in mode b k m (view old t)) (sym same_size) ∙ ap (λ (y : Tables). entry_numbers_in mode b k n (view y t)) (sym (two ∙ one)) ∙ d.0),
-      d.1 ∙ two ∙ one,
-    )
-    numbers_failed shows version source n same_size last two (Failed trouble) d = tt
+  pub numbers_failed : (mode : BucketState) → mode_in b (view old t) ≡ Ok mode → {X : Type 0} (shows : X → Counts × Counts) (version : Version) → source_version sb sk wanted (view old t) ≡ Ok version → (n : ℕ) → n ≡ length version.bytes → (error : StepError Refusal)
+      → Decides shows (entry_numbers_in mode b k n (view old t)) old new (Err error) → Carries told t (copy_object at b k sb sk wanted None) old new (Err error)
+  numbers_failed mode found shows version source n same_size (Refused x) d =
+      (numbers_refuse at b k sb sk wanted (view old t) mode found version source x (ap (λ m. entry_numbers_in mode b k m (view old t)) (sym same_size) ∙ d.0), d.1)
+  numbers_failed mode found shows version source n same_size (Failed trouble) d = tt
 
 -- the writes of a copy, one after another
 pub copy_chain : (mode : BucketState) (before after : Counts) (replaced : Option Replaced) (t b k : Octets) (at : ℕ) (head : SeenHead) (old two three new : Tables)

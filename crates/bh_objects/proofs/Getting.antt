@@ -34,13 +34,13 @@ use Rattle.bh_view.proofs.WantedLemmas.{lookup_row, wanted_good, wanted_entry}
 use Rattle.bh_schema.specs.Rows.{SeenHead, seen_head}
 use Rattle.bh_objects.specs.Answers.{head_opened, head_looked, head_told}
 use Rattle.bh_objects.specs.Found.{mode_in}
-use Rattle.bh_objects.proofs.Putting.{has_bucket}
+use Rattle.bh_objects.proofs.Putting.{HasBucket, has_bucket}
 
 -- the version that a row is
-abbrev version_of : VersionRow → Version
+abbrev pub version_of : VersionRow → Version
 version_of row = record { id = id_of row.id; moment = row.stamp; bytes = row.bytes; checksum = row.checksum }
 
-abbrev told : Result Version LookupFault → Result Version Rejection
+abbrev pub told : Result Version LookupFault → Result Version Rejection
 told r = result_map_both (λ v. v) not_found r
 
 abbrev head_or : Result SeenHead Rejection → SeenHead → SeenHead
@@ -86,7 +86,7 @@ head_refused (Named id) (Some row) away x e = go row.marker refl e
     go zero is e = absurd (true≢false (ap is_ok e))
     go (suc n) is e = ap (λ m. told (opened MethodNotAllowed (entry_of row) (content_of m row))) is ∙ ap (λ r. Err (rejection_or r x)) e
 
-version_in : (b k : Octets) (wanted : Wanted) (v : Option State) (s : State) (B : Bucket) → v ≡ Some s → get s.buckets b ≡ Some B → wanted_version b k wanted v ≡ (told (lookup wanted (listed k B)) >>= (λ x. Ok (B, x)))
+pub version_in : (b k : Octets) (wanted : Wanted) (v : Option State) (s : State) (B : Bucket) → v ≡ Some s → get s.buckets b ≡ Some B → wanted_version b k wanted v ≡ (told (lookup wanted (listed k B)) >>= (λ x. Ok (B, x)))
 version_in b k wanted v s B is at = rw (is, at) refl
 
 module _ (tables : Tables) (t b k : Octets) (sound : IsSound tables) (mode : BucketState) (found : mode_in b (view tables t) ≡ Ok mode) (wanted : Wanted) where
@@ -100,10 +100,14 @@ module _ (tables : Tables) (t b k : Octets) (sound : IsSound tables) (mode : Buc
   abbrev tell : Bucket → Result Version Rejection → Result (Bucket × Version) Rejection
   tell B r = r >>= (λ x. Ok (B, x))
 
+  -- what its lookup tells
+  looked_up : (h : HasBucket b (view tables t) mode) (r : Result Version Rejection) → told (looked wanted row_there) ≡ r → told (lookup wanted (listed k h.bucket)) ≡ r
+  looked_up h r is = ap told (lookup_row tables t sound b k h.state h.added h.bucket h.there wanted) ∙ is
+
   version_at : (r : Result Version Rejection) → told (looked wanted row_there) ≡ r → (B : Bucket) × (B.mode ≡ mode) × (wanted_version b k wanted (view tables t) ≡ tell B r)
   version_at r is =
       let h = has_bucket b (view tables t) mode found in
-      (h.bucket, h.its, version_in b k wanted (view tables t) h.state h.bucket h.added h.there ∙ ap (λ x. tell h.bucket (told x)) (lookup_row tables t sound b k h.state h.added h.bucket h.there wanted) ∙ ap (tell h.bucket) is)
+      (h.bucket, h.its, version_in b k wanted (view tables t) h.state h.bucket h.added h.there ∙ ap (tell h.bucket) (looked_up h r is))
 
   abbrev head_given : Option State → Result (Bucket × Version) Rejection → Result Outcome Rejection
   head_given v r = r >>= (λ f. Ok (Head (id_told f.0.mode f.1.id) (length f.1.bytes) f.1.checksum, v))
@@ -116,6 +120,9 @@ module _ (tables : Tables) (t b k : Octets) (sound : IsSound tables) (mode : Buc
 
   -- a refusal of the lookup
   module _ (x : Rejection) (e : head_looked wanted (option_map seen_head row_there) ≡ Err x) where
+    pub refused_up : (h : HasBucket b (view tables t) mode) → told (lookup wanted (listed k h.bucket)) ≡ Err x
+    refused_up h = looked_up h (Err x) (head_refused wanted row_there (nothing_unknown wanted) x e)
+
     pub refused_version : (B : Bucket) × (B.mode ≡ mode) × (wanted_version b k wanted (view tables t) ≡ Err x)
     refused_version = version_at (Err x) (head_refused wanted row_there (nothing_unknown wanted) x e)
 
@@ -129,6 +136,9 @@ module _ (tables : Tables) (t b k : Octets) (sound : IsSound tables) (mode : Buc
   module _ (head : SeenHead) (e : head_looked wanted (option_map seen_head row_there) ≡ Ok head) where
     pub its : IsRow wanted row_there head
     its = head_row wanted row_there (nothing_unknown wanted) head e
+
+    pub found_up : (h : HasBucket b (view tables t) mode) → told (lookup wanted (listed k h.bucket)) ≡ Ok (version_of its.row)
+    found_up h = looked_up h (Ok (version_of its.row)) its.tells
 
     pub sized : head.size ≡ length its.row.bytes
     sized = ap (λ (x : SeenHead). x.size) (sym its.seen) ∙ (wanted_good tables t sound b k wanted its.row its.there).size

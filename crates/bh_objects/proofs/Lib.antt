@@ -6,8 +6,13 @@ pub mod Sizes
 pub mod Creating
 pub mod Keeping
 pub mod Putting
+pub mod Dated
+pub mod Dating
 pub mod Room
 pub mod BucketSteps
 pub mod Getting
 pub mod Copying
+pub mod DatedPuts
+pub mod Undating
 pub mod Deleting
+pub mod Retaining

@@ -1,4 +1,4 @@
--- PutObject: what was read, and the rows that were written, are the machine's step.
+-- PutObject of a version without a date: what was read, and the rows that were written, are the machine's step.
 use Rattle.std.proofs.Common.{◌≡◌, ℕ, ◌≤◌, length, Bool, true, false, is_ok, true≢false, Option, Some, None, option_map, ok_or, Result, Ok, Err, refl, sym, ap, ◌∙◌, subst}
 use Rattle.std.specs.FinMap.{get}
 use Rattle.std.specs.Result.{result_map_both}
@@ -11,8 +11,9 @@ use Rattle.bh_model.specs.State.{Octets, Content.Body, State, Bucket}
 use Rattle.bh_types.specs.Checksums.{checksum_text}
 use Rattle.bh_model.specs.Counting.{counts, with_counts, after_entry}
 use Rattle.bh_model.specs.Entries.{new_id}
-use Rattle.bh_model.specs.Operations.{Answer, Outcome, Stored, id_told, put_object, require_quota, stored, with_bucket, with_object, listed}
+use Rattle.bh_model.specs.Operations.{Answer, Outcome, Stored, id_told, put_object, require_quota, stored, with_bucket, with_object, with_new_date, listed}
 use Rattle.bh_model.specs.Parts.{is_checksum}
+use Rattle.bh_model.specs.Retention.{first_date}
 use Rattle.bh_tables.specs.Typed.{Tables}
 use Rattle.bh_view.specs.View.{view, latest_of, limits_in}
 use Rattle.bh_view.specs.Sound.{IsSound}
@@ -69,31 +70,32 @@ numbers_read v b k mode h added x e = go (room_in (replaced_size mode (listed k 
     go (Ok u) e = e
     go (Err q) e = absurd (true≢false (sym (ap is_ok e)))
 
--- a put asks for the numbers of its entry, and then stores it
-pub put_shape : (at : ℕ) (b k bytes : Octets) (given : Option Octets) (v : Option State) (mode : BucketState) (h : HasBucket b v mode) → is_checksum given bytes ≡ true
-    → put_object at b k bytes given v ≡ ◌>>=◌ {B = Outcome} (entry_numbers_in mode b k (length bytes) v)
-    (λ n. Ok (stored bytes h.state.next_version h.bucket, Some (with_bucket b (with_object at k h.state.next_version bytes h.bucket) (with_counts n.1 h.state))))
-put_shape at b k bytes given v mode h right =
+-- a put whose date is decided asks for the numbers of its entry, and then stores it
+abbrev pub put_then : ℕ → Octets → Octets → Octets → Option ℕ → State → Bucket → Counts × Counts → Result Outcome Refusal
+put_then at b k bytes until s B n = Ok (stored bytes s.next_version B, Some (with_bucket b (with_new_date k s.next_version until (with_object at k s.next_version bytes B)) (with_counts n.1 s)))
+
+pub put_shape : (at : ℕ) (b k bytes : Octets) (given : Option Octets) (date : Option (Option ℕ)) (until : Option ℕ) (v : Option State) (mode : BucketState) (h : HasBucket b v mode) → is_checksum given bytes ≡ true → first_date h.bucket.locked date at ≡ Ok until
+    → put_object at b k bytes given date v ≡ ◌>>=◌ {B = Outcome} (entry_numbers_in mode b k (length bytes) v) (put_then at b k bytes until h.state h.bucket)
+put_shape at b k bytes given date until v mode h right dated =
     let s = h.state in
     let B = h.bucket in
-    let then : Counts → Result Outcome Refusal = λ c. Ok (stored bytes s.next_version B, Some (with_bucket b (with_object at k s.next_version bytes B) (with_counts c s))) in
-    let asks : put_object at b k bytes given v ≡ ◌>>=◌ {B = Outcome} (require_quota b (with_object at k s.next_version bytes B) s) (λ _. ◌>>=◌ {B = Outcome} (after_entry B.mode (counts s)) then) = rw (h.added, h.there, right) refl in
+    let then : Counts → Result Outcome Refusal = λ c. put_then at b k bytes until s B (c, c) in
+    let asks : put_object at b k bytes given date v ≡ ◌>>=◌ {B = Outcome} (require_quota b (with_object at k s.next_version bytes B) s) (λ _. ◌>>=◌ {B = Outcome} (after_entry B.mode (counts s)) then) = rw (h.added, h.there, right, dated) refl in
     asks ∙ entry_asked s b k B h.there at s.next_version (Body bytes (checksum_text bytes)) then
     ∙ (λ i. ◌>>=◌ {B = Outcome} (entry_numbers_in (h.its i) b k (length bytes) (sym h.added i)) (λ n. then n.1))
 
 -- it is refused where they are
-pub put_refused : (at : ℕ) (b k bytes : Octets) (given : Option Octets) (old : Option State) (mode : BucketState) → mode_in b old ≡ Ok mode → is_checksum given bytes ≡ true
-    → (x : Refusal) → entry_numbers_in mode b k (length bytes) old ≡ Err x → put_object at b k bytes given old ≡ Err x
-put_refused at b k bytes given old mode found right x e =
+pub put_refused : (at : ℕ) (b k bytes : Octets) (old : Option State) (mode : BucketState) → mode_in b old ≡ Ok mode
+    → (x : Refusal) → entry_numbers_in mode b k (length bytes) old ≡ Err x → put_object at b k bytes None None old ≡ Err x
+put_refused at b k bytes old mode found x e =
     let h = has_bucket b old mode found in
-    put_shape at b k bytes given old mode h right ∙ ap (λ r. ◌>>=◌ {B = Outcome} r (λ n. Ok (stored bytes h.state.next_version h.bucket, Some (with_bucket b (with_object at k h.state.next_version bytes h.bucket) (with_counts n.1 h.state))))) e
+    put_shape at b k bytes None None None old mode h refl refl ∙ ap (λ r. ◌>>=◌ {B = Outcome} r (put_then at b k bytes None h.state h.bucket)) e
 
-pub put_failed : {X Y : Type 0} (shown : X → Counts × Counts) (told : Y → Answer) (t : Octets) (at : ℕ) (b k bytes : Octets) (given : Option Octets) (old middle new : Tables) (mode : BucketState)
-    → mode_in b (view old t) ≡ Ok mode → is_checksum given bytes ≡ true → middle ≡ old → (error : StepError Refusal)
-    → Decides shown (entry_numbers_in mode b k (length bytes) (view middle t)) middle new (Err error) → Carries told t (put_object at b k bytes given) old new (Err error)
-put_failed shown told t at b k bytes given old middle new mode found right same (Refused x) d =
-    (put_refused at b k bytes given (view old t) mode found right x (ap (λ (y : Tables). entry_numbers_in mode b k (length bytes) (view y t)) (sym same) ∙ d.0), d.1 ∙ same)
-put_failed shown told t at b k bytes given old middle new mode found right same (Failed trouble) d = tt
+pub put_failed : {X Y : Type 0} (shown : X → Counts × Counts) (told : Y → Answer) (t : Octets) (at : ℕ) (b k bytes : Octets) (old new : Tables) (mode : BucketState)
+    → mode_in b (view old t) ≡ Ok mode → (error : StepError Refusal)
+    → Decides shown (entry_numbers_in mode b k (length bytes) (view old t)) old new (Err error) → Carries told t (put_object at b k bytes None None) old new (Err error)
+put_failed shown told t at b k bytes old new mode found (Refused x) d = (put_refused at b k bytes (view old t) mode found x d.0, d.1)
+put_failed shown told t at b k bytes old new mode found (Failed trouble) d = tt
 
 -- the sum that was given, if one was, is right
 pub sum_right : (given : Option Octets) (bytes text : Octets) → sum_given given bytes ≡ Ok text → is_checksum given bytes ≡ true
@@ -108,23 +110,31 @@ pub next_unnamed : (old : Tables) (t : Octets) (s : State) (sound : IsSound old)
 next_unnamed old t s sound is before same = subst (λ (x : Counts). IsUnnamed (t, x.entry) old) same (unnamed old t s sound is)
 
 -- what a put gives, and what stays of the tables
-abbrev pub Puts : Octets → Octets → Octets → ℕ → Octets → Option Octets → BucketState → Counts → Tables → Tables → Type 0
-Puts t b k at bytes given mode c old new = GivesStep t (put_object at b k bytes given) (Stored (id_told mode (new_id mode c.version)) (checksum_text bytes)) old new × IsSound new × (limits_in new ≡ limits_in old)
+abbrev pub Puts : Octets → Octets → Octets → ℕ → Octets → BucketState → Counts → Tables → Tables → Type 0
+Puts t b k at bytes mode c old new = GivesStep t (put_object at b k bytes None None) (Stored (id_told mode (new_id mode c.version)) (checksum_text bytes)) old new × IsSound new × (limits_in new ≡ limits_in old)
 
-module _ (old new : Tables) (t b k : Octets) (at : ℕ) (bytes : Octets) (given : Option Octets) (after : Counts) (host : IsHostOf old) (early : at ≤ latest_of old) (key : IsKeyText k) (right : is_checksum given bytes ≡ true) where
+module _ (old new : Tables) (t b k : Octets) (at : ℕ) (bytes : Octets) (after : Counts) (host : IsHostOf old) (early : at ≤ latest_of old) (key : IsKeyText k) where
   abbrev Goes : BucketState → Counts → Type 0
-  Goes mode c = entry_numbers_in mode b k (length bytes) (view old t) ≡ Ok (c, after) → after_entry mode c ≡ Ok after → HasRowsOf (with_entry mode c after t b k at (Body bytes (checksum_text bytes)) old) new → KeepsShared old new → Puts t b k at bytes given mode c old new
+  Goes mode c = entry_numbers_in mode b k (length bytes) (view old t) ≡ Ok (c, after) → after_entry mode c ≡ Ok after → HasRowsOf (with_entry mode c after t b k at (Body bytes (checksum_text bytes)) old) new → KeepsShared old new → Puts t b k at bytes mode c old new
 
   goes : (mode : BucketState) (h : HasBucket b (view old t) mode) → Goes h.bucket.mode (counts h.state)
   goes mode h read room has shared =
       let target = with_entry h.bucket.mode (counts h.state) after t b k at (Body bytes (checksum_text bytes)) old in
       let change = becomes_so t _ old target new (object_put old target t h.state host.sound h.added b k h.bucket h.there at early key.key key.valid bytes after room refl) has in
-      let own : HasBucket b (view old t) h.bucket.mode = record { state = h.state; bucket = h.bucket; added = h.added; there = h.there; its = refl } in
-      let then : Counts × Counts → Result Outcome Refusal = λ n. Ok (stored bytes h.state.next_version h.bucket, Some (with_bucket b (with_object at k h.state.next_version bytes h.bucket) (with_counts n.1 h.state))) in
-      (record { gives = put_shape at b k bytes given (view old t) h.bucket.mode own right ∙ ap (λ r. ◌>>=◌ {B = Outcome} r then) read ∙ ap (λ (v : Option State). Ok (stored bytes h.state.next_version h.bucket, v)) (sym change.shown); others = change.others; latest = change.latest; shared = shared }, change.sound, change.limits)
+      let own : HasBucket b (view old t) h.bucket.mode = record { state = h.state; bucket = h.bucket; added = h.added; there = h.there; its = refl } in (
+        record {
+          gives = put_shape at b k bytes None None None (view old t) h.bucket.mode own refl refl ∙ ap (λ r. ◌>>=◌ {B = Outcome} r (put_then at b k bytes None h.state h.bucket)) read
+              ∙ ap (λ (v : Option State). Ok (stored bytes h.state.next_version h.bucket, v)) (sym change.shown);
+          others = change.others;
+          latest = change.latest;
+          shared = shared;
+        },
+        change.sound,
+        change.limits,
+      )
 
   pub puts : (mode : BucketState) (c : Counts) → mode_in b (view old t) ≡ Ok mode → entry_numbers_in mode b k (length bytes) (view old t) ≡ Ok (c, after) → HasRowsOf (with_entry mode c after t b k at (Body bytes (checksum_text bytes)) old) new
-      → KeepsShared old new → Puts t b k at bytes given mode c old new
+      → KeepsShared old new → Puts t b k at bytes mode c old new
   puts mode c found read =
       let h = has_bucket b (view old t) mode found in
       let numbers = has_numbers (view old t) h.state mode c after h.added (numbers_read (view old t) b k mode h (length bytes) (c, after) read) in
@@ -132,9 +142,10 @@ module _ (old new : Tables) (t b k : Octets) (at : ℕ) (bytes : Octets) (given 
 
   -- an object whose body is stored in pieces
   pub puts_pieces : (digest : Octets → Octets) (size : ℕ) → 1 ≤ size → AreDigests digest old.blocks → (mode : BucketState) (c : Counts) → mode_in b (view old t) ≡ Ok mode → entry_numbers_in mode b k (length bytes) (view old t) ≡ Ok (c, after)
-      → new ≡ object_written digest size mode c after (replaced_in mode t b k old) t b k at bytes old → Puts t b k at bytes given mode c old new × HasBodies new × AreDigests digest new.blocks × StoresPieces digest size bytes old new
+      → new ≡ object_written digest size mode c after (replaced_in mode t b k old) t b k at bytes old
+      → Puts t b k at bytes mode c old new × HasBodies new × AreDigests digest new.blocks × StoresPieces digest size bytes old new × HasRowsOf (with_entry mode c after t b k at (Body bytes (checksum_text bytes)) old) new
   puts_pieces digest size low digests mode c found read e =
       let h = has_bucket b (view old t) mode found in
       let free = next_unnamed old t h.state host.sound h.added c (has_numbers (view old t) h.state mode c after h.added (numbers_read (view old t) b k mode h (length bytes) (c, after) read)).0 in
       let it = object_is_written old host mode c after t b k at free digest size bytes new low digests e in
-      (puts mode c found read it.0.rows it.2, it.0.bodies, it.1, it.3)
+      (puts mode c found read it.0.rows it.2, it.0.bodies, it.1, it.3, it.0.rows)

@@ -3,3 +3,4 @@ pub mod Found
 pub mod Buckets
 pub mod Writes
 pub mod Copies
+pub mod Dates

@@ -1,15 +1,18 @@
-ghost use Rattle.std.specs.Prelude.{◌≡◌, ◌≢◌, ◌≤◌, map, IfOk, OnOk};
+ghost use Rattle.std.specs.Prelude.{◌≡◌, ◌≢◌, ◌≤◌, map, IsTrue, IfOk, OnOk};
+ghost use Rattle.bh_types.specs.Names.{is_bucket_name};
 ghost use Rattle.bh_docs.specs.Documents.{bucket_view};
 ghost use Rattle.bh_model.specs.Operations as machine;
+ghost use Rattle.bh_model.specs.Retention as retention;
 ghost use Rattle.bh_storage.specs.Answers.{removed_answer};
 ghost use Rattle.bh_storage.specs.Calls.{Unless, Carries, Decides};
 ghost use Rattle.bh_view.specs.View.{latest_of};
-ghost use Rattle.bh_schema.specs.Connections.{IsClean, tables, InTransaction, StaysWithin, StaysOpen, ChangesNothing};
+ghost use Rattle.bh_schema.specs.Connections.{IsClean, tables, InTransaction, StaysWithin, StaysOpen, ChangesNothing, Becomes};
 ghost use Rattle.bh_schema.specs.Views.{entry_seen};
 ghost use Rattle.bh_schema.specs.Working.{Works, StillWorks};
-ghost use Rattle.bh_objects.specs.Buckets.{is_empty, emptiness};
+ghost use Rattle.bh_objects.specs.Buckets as spec;
+ghost use Rattle.bh_objects.specs.Buckets.{is_empty, emptiness, versions_kept, with_lock, with_bucket, without_bucket};
 
-use crate::reads::{bucket_state, require_free_name, require_tenant};
+use crate::reads::{bucket_locked, bucket_state, require_free_name, require_tenant};
 use bh_docs::BucketEntry;
 use bh_schema::rows;
 use bh_schema::rows::buckets::ListedBucket;
@@ -24,13 +27,71 @@ use bh_types::refusal::Refusal;
 use sqlite::{Alter, Connection, Error};
 use std::alloc::{AllocError, Global};
 
-/// S3's CreateBucket, at a moment that is not after the last stamp: NoSuchTenant,
+/// The state of a new bucket: a locked one keeps its versions from its making on.
+fn first_state(locked: bool) -> BucketState
+    ensures { result ≡ spec.first_state locked }
+{
+    if locked {
+        BucketState::Enabled
+    } else {
+        BucketState::Unversioned
+    }
+}
+
+/// Locks a new bucket, if it is to be locked.
+fn add_lock<S: Alter>(
+    connection: &mut Connection<S>,
+    tenant: &TenantName,
+    bucket: &BucketName,
+    locked: bool,
+) -> Result<(), Trouble>
+    requires inside { InTransaction S.Store connection.old }
+    ensures within { StaysWithin S.Store connection.old connection.new }
+    ensures opens { OnOk result (StaysOpen S.Store connection.old connection.new) }
+    ensures holds { OnOk result (Becomes S.Store connection.old connection.new
+        (with_lock tenant.now bucket.now locked)) }
+{
+    if !locked {
+        return Ok(());
+    }
+    or_trouble(rows::locks::insert_lock(connection, tenant.as_str(), bucket.as_str()))?;
+    Ok(())
+}
+
+/// The rows of a new bucket: its own and then the lock, since a locked bucket is Enabled.
+fn add_bucket<S: Alter>(
+    connection: &mut Connection<S>,
+    tenant: &TenantName,
+    bucket: &BucketName,
+    at: Moment,
+    locked: bool,
+) -> Result<(), Trouble>
+    requires inside { InTransaction S.Store connection.old }
+    ensures within { StaysWithin S.Store connection.old connection.new }
+    ensures opens { OnOk result (StaysOpen S.Store connection.old connection.new) }
+    ensures holds { OnOk result (Becomes S.Store connection.old connection.new
+        (with_bucket tenant.now bucket.now at locked)) }
+    ensures name { OnOk result (IsTrue (is_bucket_name bucket.now)) }
+{
+    let state = first_state(locked);
+    or_trouble(rows::buckets::insert_bucket(
+        connection,
+        tenant.as_str(),
+        bucket.as_str(),
+        at.seconds(),
+        state,
+    ))?;
+    add_lock(connection, tenant, bucket, locked)
+}
+
+/// S3's CreateBucket, locked or not, at a moment that is not after the last stamp: NoSuchTenant,
 /// BucketAlreadyOwnedByYou.
 pub fn create_bucket<S: Alter>(
     connection: &mut Connection<S>,
     tenant: &TenantName,
     at: Moment,
     bucket: &BucketName,
+    locked: bool,
 ) -> Result<(), StepError<Refusal>>
     requires working { Works S.Store connection.old }
     requires early { IsClean S.Store connection.old → at ≤ latest_of (tables S.Store connection.old) }
@@ -38,17 +99,12 @@ pub fn create_bucket<S: Alter>(
     ensures opens { Unless result (StaysOpen S.Store connection.old connection.new) }
     ensures working { Unless result (StillWorks S.Store connection.old connection.new) }
     ensures carries { IsClean S.Store connection.new
-        → Carries (λ _. machine.Done) tenant.now (machine.create_bucket at bucket.now)
+        → Carries (λ _. machine.Done) tenant.now (machine.create_bucket at bucket.now locked)
         (tables S.Store connection.old) (tables S.Store connection.new) result }
 {
     require_tenant(connection, tenant)?;
     require_free_name(connection, tenant, bucket)?;
-    or_trouble(rows::buckets::insert_bucket(
-        connection,
-        tenant.as_str(),
-        bucket.as_str(),
-        at.seconds(),
-    ))?;
+    add_bucket(connection, tenant, bucket, at, locked)?;
     Ok(())
 }
 
@@ -87,7 +143,41 @@ pub fn versioning<S: Alter>(
     bucket_state(connection, tenant, bucket)
 }
 
-/// S3's PutBucketVersioning: NoSuchBucket. No bucket goes back to the state that it was made in.
+/// Whether a bucket, locked or not, keeps all its versions in this state as it has to.
+fn keeps_versions(locked: bool, state: BucketState) -> bool
+    ensures { result ≡ retention.keeps_versions locked state }
+{
+    match state {
+        BucketState::Enabled => true,
+        BucketState::Unversioned => !locked,
+        BucketState::Suspended => !locked,
+    }
+}
+
+/// Whether a tenant's bucket may have this state: InvalidBucketState where it is locked and would not keep its versions.
+fn require_kept<S: Alter>(
+    connection: &mut Connection<S>,
+    tenant: &TenantName,
+    bucket: &BucketName,
+    state: BucketState,
+) -> Result<(), StepError<Refusal>>
+    requires working { Works S.Store connection.old }
+    ensures within { StaysWithin S.Store connection.old connection.new }
+    ensures opens { Unless result (StaysOpen S.Store connection.old connection.new) }
+    ensures working { Unless result (StillWorks S.Store connection.old connection.new) }
+    ensures decides { IsClean S.Store connection.new
+        → Decides (λ _. tt) (versions_kept tenant.now bucket.now state (tables S.Store connection.old))
+        (tables S.Store connection.old) (tables S.Store connection.new) result }
+{
+    let locked = bucket_locked(connection, tenant, bucket)?;
+    if keeps_versions(locked, state) {
+        Ok(())
+    } else {
+        Err(StepError::Refused(Refusal::InvalidBucketState))
+    }
+}
+
+/// S3's PutBucketVersioning: NoSuchBucket, InvalidBucketState. No bucket goes back to the state that it was made in.
 pub fn set_versioning<S: Alter>(
     connection: &mut Connection<S>,
     tenant: &TenantName,
@@ -104,6 +194,7 @@ pub fn set_versioning<S: Alter>(
         (tables S.Store connection.old) (tables S.Store connection.new) result }
 {
     bucket_state(connection, tenant, bucket)?;
+    require_kept(connection, tenant, bucket, state)?;
     or_trouble(rows::buckets::set_state(connection, tenant.as_str(), bucket.as_str(), state))?;
     Ok(())
 }
@@ -147,8 +238,25 @@ fn require_empty<S: Alter>(
     Ok(())
 }
 
+/// Takes the rows of an empty bucket away: the lock, if it is locked, and then its own.
+fn drop_bucket<S: Alter>(
+    connection: &mut Connection<S>,
+    tenant: &TenantName,
+    bucket: &BucketName,
+) -> Result<(), Trouble>
+    requires inside { InTransaction S.Store connection.old }
+    ensures within { StaysWithin S.Store connection.old connection.new }
+    ensures opens { OnOk result (StaysOpen S.Store connection.old connection.new) }
+    ensures holds { OnOk result (Becomes S.Store connection.old connection.new
+        (without_bucket tenant.now bucket.now)) }
+{
+    or_trouble(rows::locks::delete_lock(connection, tenant.as_str(), bucket.as_str()))?;
+    or_trouble(rows::buckets::delete_bucket(connection, tenant.as_str(), bucket.as_str()))?;
+    Ok(())
+}
+
 /// S3's DeleteBucket: NoSuchBucket, BucketNotEmpty. A version, a delete marker or an upload that is neither
-/// completed nor aborted keeps a bucket.
+/// completed nor aborted keeps a bucket; a lock alone doesn't.
 pub fn delete_bucket<S: Alter>(
     connection: &mut Connection<S>,
     tenant: &TenantName,
@@ -164,7 +272,7 @@ pub fn delete_bucket<S: Alter>(
 {
     bucket_state(connection, tenant, bucket)?;
     require_empty(connection, tenant, bucket)?;
-    or_trouble(rows::buckets::delete_bucket(connection, tenant.as_str(), bucket.as_str()))?;
+    drop_bucket(connection, tenant, bucket)?;
     Ok(RemovedEntry {
         id: None,
         marker: false,

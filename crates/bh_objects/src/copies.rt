@@ -1,22 +1,26 @@
-ghost use Rattle.std.specs.Prelude.{◌≡◌, ◌≤◌, ◌<◌, ◌^◌, length, IfOk, OnOk};
+ghost use Rattle.std.specs.Prelude.{◌≡◌, ◌≤◌, ◌<◌, ◌^◌, length, None, Ok, IfOk, OnOk};
+ghost use Rattle.std.specs.String.{string_bytes};
+ghost use Rattle.bh_model.specs.Entries.{new_id};
 ghost use Rattle.bh_model.specs.Operations as machine;
 ghost use Rattle.bh_storage.specs.Answers.{copied_answer};
 ghost use Rattle.bh_storage.specs.Calls.{Unless, Decides, Carries};
 ghost use Rattle.bh_view.specs.Blocks.{whole};
+ghost use Rattle.bh_view.specs.Put.{row_number};
 ghost use Rattle.bh_view.specs.View.{view, latest_of};
 ghost use Rattle.bh_schema.specs.Connections.{IsClean, tables, InTransaction, StaysWithin, StaysOpen, Becomes};
 ghost use Rattle.bh_schema.specs.Views.{head_seen};
 ghost use Rattle.bh_schema.specs.Working.{Works, StillWorks};
-ghost use Rattle.bh_objects.specs.Found.{IsKeyText, IsHeld};
+ghost use Rattle.bh_objects.specs.Found.{IsKeyText, IsHeld, counts_in, mode_in};
 ghost use Rattle.bh_objects.specs.Copies.{version_read, copy_written};
+ghost use Rattle.bh_objects.specs.Dates.{IsPlaced};
 
+use crate::dates::{add_date, new_date};
 use crate::heads::wanted_head;
-use crate::ids::told_id;
+use crate::ids::new_id_told;
 use crate::quotas::{NewEntry, new_entry};
-use crate::reads::bucket_state;
+use crate::reads::{Numbers, bucket_state};
 use crate::writes::{AddedVersion, add_version, drop_replaced};
 use bh_blocks::bodies::copy_body;
-use bh_model::entries::new_id;
 use bh_schema::rows::versions::VersionHead;
 use bh_schema::trouble::or_trouble;
 use bh_storage::answer::CopiedVersion;
@@ -45,6 +49,8 @@ pub struct NewCopy<'a> {
     pub source_bucket: &'a BucketName,
     pub source_key: &'a ObjectKey,
     pub version: Wanted,
+    /// Until when the copy is kept, where that is given; the inner `None` is a date that is not given as it should be.
+    pub date: Option<Option<Moment>>,
 }
 
 /// A delete marker is no source of a copy: where it is named by its id, the request is at fault.
@@ -126,8 +132,57 @@ fn write_copy<S: Alter>(
     add_version(connection, &version, mode, numbers)
 }
 
+/// Stores a copy of a version that was found as a new version without a date, in a bucket of this state: QuotaExceeded,
+/// CounterExhausted.
+fn store_copy<S: Alter>(
+    connection: &mut Connection<S>,
+    copy: &NewCopy<'_>,
+    mode: BucketState,
+    head: &VersionHead,
+) -> Result<Numbers, StepError<Refusal>>
+    requires working { Works S.Store connection.old }
+    requires early { IsClean S.Store connection.old → copy.now.at ≤ latest_of (tables S.Store connection.old) }
+    requires state { IsClean S.Store connection.old
+        → mode_in copy.now.bucket.now (view (tables S.Store connection.old) copy.now.tenant.now) ≡ Ok mode }
+    requires source { IsClean S.Store connection.old
+        → machine.source_version copy.now.source_bucket.now copy.now.source_key.now copy.now.version
+        (view (tables S.Store connection.old) copy.now.tenant.now)
+        ≡ Ok (version_read copy.now.tenant.now (tables S.Store connection.old) (head_seen head.now)) }
+    requires sized { IsClean S.Store connection.old
+        → head.now.size ≡ length (whole (tables S.Store connection.old).refs (tables S.Store connection.old).blocks
+        (copy.now.tenant.now, head.now.seq)) }
+    ensures within { StaysWithin S.Store connection.old connection.new }
+    ensures opens { Unless result (StaysOpen S.Store connection.old connection.new) }
+    ensures working { Unless result (StillWorks S.Store connection.old connection.new) }
+    ensures carries { IsClean S.Store connection.new
+        → Carries (λ numbers. machine.Copied (machine.id_told mode (new_id mode numbers.before.version)) copy.now.at
+        (string_bytes head.now.checksum))
+        copy.now.tenant.now
+        (machine.copy_object copy.now.at copy.now.bucket.now copy.now.key.now copy.now.source_bucket.now copy.now.source_key.now
+        copy.now.version None)
+        (tables S.Store connection.old) (tables S.Store connection.new) result }
+    ensures counted { IfOk result (λ numbers. IsClean S.Store connection.new
+        → counts_in (view (tables S.Store connection.old) copy.now.tenant.now) ≡ Ok numbers.before) }
+    ensures placed { IfOk result (λ numbers. IsClean S.Store connection.new
+        → IsPlaced copy.now.tenant.now copy.now.bucket.now copy.now.key.now
+        (row_number mode numbers.before.version) numbers.before.entry (tables S.Store connection.new)) }
+{
+    let entry = new_entry(
+        connection,
+        copy.tenant,
+        copy.bucket,
+        copy.key,
+        mode,
+        head.size,
+    )?;
+    let NewEntry { numbers, .. } = entry;
+    write_copy(connection, copy, mode, entry, head)?;
+    Ok(numbers)
+}
+
 /// S3's CopyObject, at a moment that is not after the last stamp: NoSuchBucket of the copy's bucket and then of the
-/// source's, NoSuchKey, NoSuchVersion, InvalidRequest, QuotaExceeded, CounterExhausted. No byte is read.
+/// source's, NoSuchKey, NoSuchVersion, InvalidRequest, InvalidArgument, QuotaExceeded, CounterExhausted. The source's date
+/// stays with the source. No byte is read.
 pub fn copy_object<S: Alter>(
     connection: &mut Connection<S>,
     copy: &NewCopy<'_>,
@@ -139,23 +194,17 @@ pub fn copy_object<S: Alter>(
     ensures working { Unless result (StillWorks S.Store connection.old connection.new) }
     ensures carries { IsClean S.Store connection.new
         → Carries copied_answer copy.now.tenant.now
-        (machine.copy_object copy.now.at copy.now.bucket.now copy.now.key.now copy.now.source_bucket.now copy.now.source_key.now copy.now.version)
+        (machine.copy_object copy.now.at copy.now.bucket.now copy.now.key.now copy.now.source_bucket.now copy.now.source_key.now
+        copy.now.version copy.now.date)
         (tables S.Store connection.old) (tables S.Store connection.new) result }
 {
     let mode = bucket_state(connection, copy.tenant, copy.bucket)?;
     let head = source_head(connection, copy)?;
-    let entry = new_entry(
-        connection,
-        copy.tenant,
-        copy.bucket,
-        copy.key,
-        mode,
-        head.size,
-    )?;
-    let NewEntry { numbers, .. } = entry;
-    write_copy(connection, copy, mode, entry, &head)?;
+    let until = new_date(connection, copy.tenant, copy.bucket, copy.date, copy.at)?;
+    let numbers = store_copy(connection, copy, mode, &head)?;
+    add_date(connection, copy.tenant, numbers.before.entry, until)?;
     Ok(CopiedVersion {
-        id: told_id(mode, new_id(mode, numbers.before.version)),
+        id: new_id_told(mode, numbers.before.version),
         modified: copy.at,
         checksum: head.checksum,
     })

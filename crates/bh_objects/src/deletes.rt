@@ -1,22 +1,30 @@
-ghost use Rattle.std.specs.Prelude.{ℕ, ◌≡◌, ◌≢◌, ◌≤◌, ◌<◌, ◌^◌, None, Ok, false};
+ghost use Rattle.std.specs.Prelude.{◌≡◌, ◌≢◌, ◌≤◌, ◌<◌, ◌^◌, find, Some, None, option_map, Ok, false, OnOk};
 ghost use Rattle.bh_types.specs.declared.bucket_state.BucketState.TheVariants.{Unversioned};
 ghost use Rattle.bh_types.specs.declared.wanted.Wanted.TheVariants.{Current, Named};
 ghost use Rattle.bh_model.specs.Operations as machine;
 ghost use Rattle.bh_storage.specs.Answers.{removed_answer};
 ghost use Rattle.bh_storage.specs.Calls.{Unless, Carries};
+ghost use Rattle.bh_tables.specs.Shown.{is_version};
 ghost use Rattle.bh_view.specs.View.{view, latest_of, id_of};
-ghost use Rattle.bh_schema.specs.Connections.{IsClean, tables, StaysWithin, StaysOpen};
+ghost use Rattle.bh_schema.specs.Connections.{IsClean, tables, InTransaction, StaysWithin, StaysOpen, Becomes};
+ghost use Rattle.bh_schema.specs.Written.{bytes_of_id};
 ghost use Rattle.bh_schema.specs.Working.{Works, StillWorks};
+ghost use Rattle.bh_schema.specs.Rows.{seen_head};
+ghost use Rattle.bh_schema.specs.Views.{head_seen};
+ghost use Rattle.bh_objects.specs.Dates.{without_date};
 ghost use Rattle.bh_objects.specs.Found.{mode_in};
+ghost use Rattle.bh_objects.specs.Writes.{without_entry};
 
+use crate::dates::{drop_date, past_date};
 use crate::heads::{is_marker, numbered_head};
 use crate::ids::{number_of, told_id};
-use crate::quotas::as_replaced;
+use crate::quotas::{Replaced, as_replaced};
 use crate::reads::{Numbers, bucket_state, new_numbers};
 use crate::writes::{drop_entry, drop_null_version, write_marker};
 use bh_model::entries::new_id;
+use bh_schema::rows::versions::VersionHead;
 use bh_storage::answer::RemovedEntry;
-use bh_storage::error::StepError;
+use bh_storage::error::{StepError, Trouble};
 use bh_types::bucket::BucketName;
 use bh_types::bucket_state::BucketState;
 use bh_types::id::VersionId;
@@ -89,10 +97,70 @@ fn delete_null<S: Alter>(
     Ok(nothing_told())
 }
 
-/// The entry of a key with this id, and this number in the column `id`, is taken out, if it is there.
+/// The entry of a key with this number in the column `id` goes, after its date, if it has one.
+fn drop_dated<S: Alter>(
+    connection: &mut Connection<S>,
+    tenant: &TenantName,
+    bucket: &BucketName,
+    key: &ObjectKey,
+    number: u64,
+    entry: Replaced,
+    date: Option<Moment>,
+) -> Result<(), Trouble>
+    requires inside { InTransaction S.Store connection.old }
+    requires small { number < 2 ^ 62 }
+    requires held { IsClean S.Store connection.old
+        → bytes_of_id tenant.now bucket.now key.now number (tables S.Store connection.old) ≡ entry.size }
+    ensures within { StaysWithin S.Store connection.old connection.new }
+    ensures opens { OnOk result (StaysOpen S.Store connection.old connection.new) }
+    ensures holds { OnOk result (Becomes S.Store connection.old connection.new
+        (λ rows. without_entry tenant.now bucket.now key.now number entry.seq (without_date tenant.now entry.seq date rows))) }
+{
+    drop_date(connection, tenant, entry.seq, date)?;
+    drop_entry(connection, tenant, bucket, key, number, entry)
+}
+
+/// The entry that was found of a key with this id, and this number in the column `id`, is taken out: AccessDenied before its
+/// date.
+fn delete_found<S: Alter>(
+    connection: &mut Connection<S>,
+    tenant: &TenantName,
+    at: Moment,
+    bucket: &BucketName,
+    key: &ObjectKey,
+    mode: BucketState,
+    id: VersionId,
+    number: u64,
+    head: &VersionHead,
+) -> Result<RemovedEntry, StepError<Refusal>>
+    requires working { Works S.Store connection.old }
+    requires state { IsClean S.Store connection.old → mode_in bucket.now (view (tables S.Store connection.old) tenant.now) ≡ Ok mode }
+    requires number { id_of number ≡ id }
+    requires small { number < 2 ^ 62 }
+    requires found { IsClean S.Store connection.old → Some (head_seen head.now) ≡ option_map seen_head
+        (find (is_version tenant.now bucket.now key.now number) (tables S.Store connection.old).versions) }
+    ensures within { StaysWithin S.Store connection.old connection.new }
+    ensures opens { Unless result (StaysOpen S.Store connection.old connection.new) }
+    ensures working { Unless result (StillWorks S.Store connection.old connection.new) }
+    ensures carries { IsClean S.Store connection.new
+        → Carries removed_answer tenant.now (machine.delete_object at bucket.now key.now (Named id))
+        (tables S.Store connection.old) (tables S.Store connection.new) result }
+{
+    let date = past_date(connection, tenant, head.seq, at)?;
+    let entry = as_replaced(head);
+    drop_dated(connection, tenant, bucket, key, number, entry, date)?;
+    Ok(RemovedEntry {
+        id: told_id(mode, id),
+        marker: is_marker(head.marker),
+    })
+}
+
+/// The entry of a key with this id, and this number in the column `id`, is taken out, if it is there: AccessDenied before
+/// its date.
 fn delete_numbered<S: Alter>(
     connection: &mut Connection<S>,
     tenant: &TenantName,
+    at: Moment,
     bucket: &BucketName,
     key: &ObjectKey,
     mode: BucketState,
@@ -106,21 +174,14 @@ fn delete_numbered<S: Alter>(
     ensures within { StaysWithin S.Store connection.old connection.new }
     ensures opens { Unless result (StaysOpen S.Store connection.old connection.new) }
     ensures working { Unless result (StillWorks S.Store connection.old connection.new) }
-    ensures carries { (at : ℕ) → IsClean S.Store connection.new
+    ensures carries { IsClean S.Store connection.new
         → Carries removed_answer tenant.now (machine.delete_object at bucket.now key.now (Named id))
         (tables S.Store connection.old) (tables S.Store connection.new) result }
 {
     let found = numbered_head(connection, tenant, bucket, key, number)?;
     match found {
         None => Ok(nothing_told()),
-        Some(head) => {
-            let entry = as_replaced(&head);
-            drop_entry(connection, tenant, bucket, key, number, entry)?;
-            Ok(RemovedEntry {
-                id: told_id(mode, id),
-                marker: is_marker(head.marker),
-            })
-        }
+        Some(head) => { delete_found(connection, tenant, at, bucket, key, mode, id, number, &head) }
     }
 }
 
@@ -150,7 +211,7 @@ fn delete_current<S: Alter>(
     }
 }
 
-/// A delete with an id.
+/// A delete with an id: AccessDenied before the version's date.
 fn delete_named<S: Alter>(
     connection: &mut Connection<S>,
     tenant: &TenantName,
@@ -170,13 +231,13 @@ fn delete_named<S: Alter>(
         (tables S.Store connection.old) (tables S.Store connection.new) result }
 {
     match number_of(id) {
-        Some(number) => delete_numbered(connection, tenant, bucket, key, mode, id, number),
+        Some(number) => delete_numbered(connection, tenant, at, bucket, key, mode, id, number),
         None => Ok(nothing_told()),
     }
 }
 
-/// S3's DeleteObject, at a moment that is not after the last stamp: NoSuchBucket, and CounterExhausted where a
-/// delete marker is made.
+/// S3's DeleteObject, at a moment that is not after the last stamp: NoSuchBucket, AccessDenied where a version is named by
+/// its id before its date, and CounterExhausted where a delete marker is made.
 pub fn delete_object<S: Alter>(
     connection: &mut Connection<S>,
     tenant: &TenantName,

@@ -1,8 +1,10 @@
 ghost use Rattle.std.specs.Prelude.{◌≡◌, ◌≢◌, ◌<◌, ◌^◌, ℕ, IfSome, IfNone};
+ghost use Rattle.bh_model.specs.Entries as entries;
 ghost use Rattle.bh_model.specs.Operations as machine;
 ghost use Rattle.bh_view.specs.Put as put;
 ghost use Rattle.bh_view.specs.View as view;
 
+use bh_model::entries::new_id;
 use bh_types::bucket_state::BucketState;
 use bh_types::counters::COUNTER_END;
 use bh_types::id::VersionId;
@@ -55,4 +57,11 @@ pub fn told_id(mode: BucketState, id: VersionId) -> Option<VersionId>
         BucketState::Enabled => Some(id),
         BucketState::Suspended => Some(id),
     }
+}
+
+/// The id that is told of a new entry in a bucket of this state; `next` is the tenant's next version number.
+pub fn new_id_told(mode: BucketState, next: u64) -> Option<VersionId>
+    ensures { result ≡ machine.id_told mode (entries.new_id mode next) }
+{
+    told_id(mode, new_id(mode, next))
 }

@@ -3,6 +3,7 @@
 
 pub mod buckets;
 pub mod copies;
+pub mod dates;
 pub mod deletes;
 pub mod gets;
 pub mod heads;
@@ -10,4 +11,5 @@ pub mod ids;
 pub mod objects;
 pub mod quotas;
 pub mod reads;
+pub mod retention;
 pub mod writes;

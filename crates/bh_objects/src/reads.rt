@@ -1,7 +1,9 @@
-ghost use Rattle.std.specs.Prelude.{◌≡◌, IfOk};
+ghost use Rattle.std.specs.Prelude.{◌≡◌, IfOk, OnOk};
+ghost use Rattle.std.specs.List.{list_any};
+ghost use Rattle.bh_tables.specs.Shown.{is_lock};
 ghost use Rattle.bh_storage.specs.Calls.{Unless, Decides};
 ghost use Rattle.bh_view.specs.View.{view};
-ghost use Rattle.bh_schema.specs.Connections.{IsClean, tables, StaysWithin, StaysOpen};
+ghost use Rattle.bh_schema.specs.Connections.{IsClean, tables, InTransaction, StaysWithin, StaysOpen, WasOpen, ChangesNothing};
 ghost use Rattle.bh_schema.specs.Working.{Works, StillWorks};
 ghost use Rattle.bh_objects.specs.Found.{mode_in, account_in, bytes_in, counts_in, numbers_in, tenant_in, name_free};
 
@@ -37,6 +39,22 @@ pub fn bucket_state<S: Alter>(
         },
         None => Err(StepError::Refused(Refusal::NoSuchBucket)),
     }
+}
+
+/// Whether a tenant's bucket is locked.
+pub fn bucket_locked<S: Alter>(
+    connection: &mut Connection<S>,
+    tenant: &TenantName,
+    bucket: &BucketName,
+) -> Result<bool, Trouble>
+    requires { InTransaction S.Store connection.old }
+    ensures within { StaysWithin S.Store connection.old connection.new }
+    ensures opens { OnOk result (WasOpen S.Store connection.old connection.new) }
+    ensures same { OnOk result (ChangesNothing S.Store connection.old connection.new) }
+    ensures found { IfOk result (λ found. IsClean S.Store connection.new
+        → found ≡ list_any (is_lock tenant.now bucket.now) (tables S.Store connection.old).locks) }
+{
+    or_trouble(rows::locks::is_locked(connection, tenant.as_str(), bucket.as_str()))
 }
 
 /// What a tenant may use, and the next numbers that its counters give.

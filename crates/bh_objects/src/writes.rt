@@ -42,6 +42,8 @@ pub struct NewObject<'a> {
     /// When it is stored.
     pub at: Moment,
     pub bytes: &'a [u8],
+    /// Until when it is kept, where that is given; the inner `None` is a date that is not given as it should be.
+    pub date: Option<Option<Moment>>,
 }
 
 /// The counters go on, as a new version in a bucket of this state has them.

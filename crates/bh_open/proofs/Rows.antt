@@ -6,35 +6,48 @@ use Rattle.bh_types.specs.Limits.{HostLimits, AreLimits}
 use Rattle.bh_types.specs.declared.block_digest.BlockDigest.{BlockDigest}
 use Rattle.bh_tables.specs.Typed.{HostRow, Tables}
 use Rattle.bh_view.specs.View.{latest_of, limits_in}
+use Rattle.bh_tables.specs.Hosts.{with_version}
 use Rattle.bh_open.specs.Opening.{digest_in, IsRowOf, Tells, shown_row}
+use Rattle.bh_open.specs.Versions.{number_of}
+use Rattle.bh_open.specs.declared.found.FoundHost.{FoundHost}
+use Rattle.bh_open.specs.declared.found.HostVersion.{HostVersion}
+use Rattle.bh_open.specs.declared.found.HostVersion.TheVariants.{First, Second}
 
-same_row : (limits : HostLimits) (h : HostRow) → (it : IsRowOf limits (h ∷ [])) → it.row ≡ h
-same_row limits h it = let e = it.alone in cc
+same_row : (n : ℕ) (limits : HostLimits) (h : HostRow) → (it : IsRowOf n limits (h ∷ [])) → it.row ≡ h
+same_row n limits h it = let e = it.alone in cc
 
-pub other_version : (h : HostRow) → ¬ (h.version ≡ 1) → (limits : HostLimits) → ¬ IsRowOf limits (h ∷ [])
-other_version h other limits it = other (ap (λ (r : HostRow). r.version) (sym (same_row limits h it)) ∙ it.version)
+pub other_version : (h : HostRow) (n : ℕ) → ¬ (h.version ≡ n) → (limits : HostLimits) → ¬ IsRowOf n limits (h ∷ [])
+other_version h n other limits it = other (ap (λ (r : HostRow). r.version) (sym (same_row n limits h it)) ∙ it.version_is)
 
-pub out_of_range : (h : HostRow) → ¬ AreLimits h.min_part h.max_body → (limits : HostLimits) → ¬ IsRowOf limits (h ∷ [])
-out_of_range h out limits it = out (subst (λ (r : HostRow). AreLimits r.min_part r.max_body) (same_row limits h it) it.range)
+pub out_of_range : (h : HostRow) → ¬ AreLimits h.min_part h.max_body → (n : ℕ) (limits : HostLimits) → ¬ IsRowOf n limits (h ∷ [])
+out_of_range h out n limits it = out (subst (λ (r : HostRow). AreLimits r.min_part r.max_body) (same_row n limits h it) it.range)
 
-pub other_digest : (h : HostRow) → ((digest : BlockDigest) → digest_number digest ≢ h.digest) → (limits : HostLimits) → ¬ IsRowOf limits (h ∷ [])
-other_digest h other limits it = other it.named (it.number ∙ ap (λ (r : HostRow). r.digest) (same_row limits h it))
+pub other_digest : (h : HostRow) → ((digest : BlockDigest) → digest_number digest ≢ h.digest) → (n : ℕ) (limits : HostLimits) → ¬ IsRowOf n limits (h ∷ [])
+other_digest h other n limits it = other it.named (it.number ∙ ap (λ (r : HostRow). r.digest) (same_row n limits h it))
 
-pub in_range : (h : HostRow) (limits : HostLimits) (latest : ℕ) (named : BlockDigest) → h.version ≡ 1 → h.latest ≡ latest → AreLimits h.min_part h.max_body
-    → limits ≡ record { min_part = h.min_part; max_body = h.max_body } → digest_number named ≡ h.digest → Tells (h ∷ []) (record { limits = limits; digest = named; latest = latest })
-in_range h limits latest named version same range are number = (record { row = h; alone = refl; version = version; range = range; limits_are = are; named = named; number = number }, sym same, number)
+pub in_range : (v : HostVersion) (h : HostRow) (limits : HostLimits) (latest : ℕ) (named : BlockDigest) → h.version ≡ number_of v → h.latest ≡ latest → AreLimits h.min_part h.max_body
+    → limits ≡ record { min_part = h.min_part; max_body = h.max_body } → digest_number named ≡ h.digest → Tells v (h ∷ []) (record { version = v; limits = limits; digest = named; latest = latest })
+in_range v h limits latest named version same range are number = (record { row = h; alone = refl; version_is = version; range = range; limits_are = are; named = named; number = number }, sym same, number)
 
-pub limits_kept : (tables : Tables) (limits : HostLimits) → IsRowOf limits tables.host → limits_in tables ≡ limits
+pub limits_kept : (tables : Tables) (n : ℕ) (limits : HostLimits) → IsRowOf n limits tables.host → limits_in tables ≡ limits
 unfolding limits_in
-limits_kept tables limits it = ap (λ l. limits_in (record tables { host = l })) it.alone ∙ sym it.limits_are
+limits_kept tables n limits it = ap (λ l. limits_in (record tables { host = l })) it.alone ∙ sym it.limits_are
 
-pub latest_kept : (tables : Tables) (limits : HostLimits) → (it : IsRowOf limits tables.host) → it.row.latest ≡ latest_of tables
+pub latest_kept : (tables : Tables) (n : ℕ) (limits : HostLimits) → (it : IsRowOf n limits tables.host) → it.row.latest ≡ latest_of tables
 unfolding latest_of
-latest_kept tables limits it = ap (λ l. latest_of (record tables { host = l })) (sym it.alone)
+latest_kept tables n limits it = ap (λ l. latest_of (record tables { host = l })) (sym it.alone)
 
-pub digest_kept : (tables : Tables) (limits : HostLimits) → (it : IsRowOf limits tables.host) → it.row.digest ≡ digest_in tables
+pub digest_kept : (tables : Tables) (n : ℕ) (limits : HostLimits) → (it : IsRowOf n limits tables.host) → it.row.digest ≡ digest_in tables
 unfolding digest_in
-digest_kept tables limits it = ap (λ l. digest_in (record tables { host = l })) (sym it.alone)
+digest_kept tables n limits it = ap (λ l. digest_in (record tables { host = l })) (sym it.alone)
+
+-- the row of a host that is brought over
+pub told_brought : (rows : List HostRow) (found : FoundHost) → Tells First rows found → Tells Second (map (with_version 2) rows) found
+told_brought rows found it = (
+  record { row = with_version 2 it.0.row; alone = ap (map (with_version 2)) it.0.alone; version_is = refl; range = it.0.range; limits_are = it.0.limits_are; named = it.0.named; number = it.0.number },
+  it.1,
+  it.2,
+)
 
 -- ---- the rows that are read
 
@@ -46,5 +59,5 @@ sole (h ∷ []) rows row all one first use_it = use_it h refl (let e = first ∙
 sole (h ∷ k ∷ hosts) rows row all one first use_it = let e = ap length (sym all) ∙ one in absurd (omega (arith, e))
 
 -- none or several are shown: no host has them
-pub not_sole : (hosts : List HostRow) (rows : List Row) → rows ≡ map shown_row hosts → length rows ≢ 1 → (limits : HostLimits) → ¬ IsRowOf limits hosts
-not_sole hosts rows all several limits it = several (ap length all ∙ ap (λ l. length (map shown_row l)) it.alone)
+pub not_sole : (hosts : List HostRow) (rows : List Row) → rows ≡ map shown_row hosts → length rows ≢ 1 → (n : ℕ) (limits : HostLimits) → ¬ IsRowOf n limits hosts
+not_sole hosts rows all several n limits it = several (ap length all ∙ ap (λ l. length (map shown_row l)) it.alone)

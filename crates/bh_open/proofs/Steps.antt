@@ -1,32 +1,51 @@
 -- The calls of an open, one after another.
-use Rattle.std.proofs.Common.{◌≡◌, ℕ, Bool, true, false, not, None, IsTrue, refl, sym, ap, ◌∙◌, subst}
+use Rattle.std.proofs.Common.{◌≡◌, ◌≢◌, ◌⊎◌, inl, inr, ℕ, ◌==◌, Bool, true, false, not, ◌&&◌, List, None, Result, Ok, Err, IfOk, IsTrue, refl, sym, ap, ◌∙◌, subst}
+use Rattle.std.specs.List.{list_all}
 use Rattle.sqlite_trees.specs.declared.memory.MemStore.{MemStore}
+use Rattle.sqlite.specs.Effect.{Database}
 use Rattle.sqlite.specs.Held.{Held, state, IsNew}
+use Rattle.sqlite.specs.Schema.{Schema}
 use Rattle.sqlite.specs.Steps.{over_memory}
 use Rattle.sqlite.specs.State.{State}
 use Rattle.bh_types.specs.BlockDigests.{digest_number}
 use Rattle.bh_types.specs.Limits.{HostLimits}
 use Rattle.bh_types.specs.declared.block_digest.BlockDigest.{BlockDigest}
 use Rattle.bh_model.specs.State.{Octets}
-use Rattle.bh_tables.specs.Schema.{host_schema}
-use Rattle.bh_tables.specs.Typed.{IsHost, tables_in}
-use Rattle.bh_tables.specs.Hosts.{tables_shown}
-use Rattle.bh_tables.proofs.HostTests.{host_shows}
+use Rattle.bh_tables.specs.Made.{with_uses_by_count}
+use Rattle.bh_tables.specs.Schema.{no_schema, first_schema, host_schema}
+use Rattle.bh_tables.specs.Typed.{HostRow, Tables, IsHost, IsFirstHost, tables_in}
+use Rattle.bh_tables.specs.Hosts.{IsOfVersion1, is_first_version, tables_shown, tables_opened}
+use Rattle.bh_tables.proofs.Creates.{first_made}
+use Rattle.bh_tables.proofs.HostTests.{host_shows, other_schema, others_open}
 use Rattle.bh_view.specs.Bodies.{IsSoundHost}
 use Rattle.bh_view.specs.View.{latest_of, limits_in}
 use Rattle.bh_storage.specs.Calls.{IsAtRest}
-use Rattle.bh_schema.specs.Layer.{Standing, standing, IsOpen, IsStateClean, KeepsDisk, taken_back}
+use Rattle.bh_schema.specs.Layer.{Standing, standing, IsOpen, IsStateClean, KeepsDisk, LeavesNothingNew, begun, taken_back}
 use Rattle.bh_schema.specs.Storage.{seen_in}
 use Rattle.bh_schema.proofs.Storing.{sound_host}
-use Rattle.bh_create.specs.Creation.{IsNewHost}
-use Rattle.bh_open.specs.Opening.{digest_in, IsRowOf, IsHostOf, IsSettled, IsKept, Tells}
-use Rattle.bh_open.proofs.Rows.{digest_kept, latest_kept, limits_kept}
+use Rattle.bh_create.specs.Creation.{IsEmpty, IsMaking, IsNewHost}
+use Rattle.bh_create.proofs.Building.{begun_making}
+use Rattle.bh_migration.specs.Migration.{Settles, LeavesChanged}
+use Rattle.bh_migration.proofs.Stages.{shows_same}
+use Rattle.bh_open.specs.Opening.{digest_in, IsRowOf, IsHostOf, IsSettled, IsKept, Tells, Reads, Finds, Opens, LeavesOver}
+use Rattle.bh_open.specs.Versions.{number_of, schema_of, IsHostWith, IsAnyHost, IsTypedIfFirst}
+use Rattle.bh_open.specs.declared.found.FoundHost.{FoundHost}
+use Rattle.bh_open.specs.declared.found.HostVersion.{HostVersion}
+use Rattle.bh_open.specs.declared.found.HostVersion.TheVariants.{First, Second}
+use Rattle.bh_open.specs.declared.found.NoHost.{NoHost}
+use Rattle.bh_open.proofs.Rows.{digest_kept, latest_kept, limits_kept, told_brought}
 
 -- ---- a new host in memory
 
 pub made_schema : (limits : HostLimits) (named : BlockDigest) (s : State) → IsNewHost limits named s → s.now.schema ≡ host_schema
 unfolding seen_in standing
 made_schema limits named s new = (sound_host s.now (new.rest (λ bytes. bytes)).sound.sound).schema
+
+pub first_schema_made : (s : State) → IsMaking with_uses_by_count s → s.now.schema ≡ first_schema
+first_schema_made s making = making.blank.schema_is ∙ first_made
+
+pub first_making : (old new : Held MemStore) → IsEmpty (state over_memory old) → standing (state over_memory new) ≡ begun (standing (state over_memory old)) → IsMaking no_schema (state over_memory new)
+first_making old new empty is = begun_making (state over_memory old) (state over_memory new) empty is
 
 pub unlimited : (h : Held MemStore) → IsNew h → (standing (state over_memory h)).limit ≡ None
 unfolding standing
@@ -50,13 +69,52 @@ settled_when s b is settles on = record { outside = go s.in_transaction (sym is 
     go true h = sym h
     go false h = refl
 
-pub schema_seen : (s : State) → s.now.schema ≡ host_schema → (standing s).now.schema ≡ host_schema
+pub schema_seen : (s : State) (schema : Schema) → s.now.schema ≡ schema → (standing s).now.schema ≡ schema
 unfolding standing
-schema_seen s is = is
+schema_seen s schema is = is
 
-pub seen_schema : (s : State) → (standing s).now.schema ≡ host_schema → s.now.schema ≡ host_schema
+pub seen_schema : (s : State) (schema : Schema) → (standing s).now.schema ≡ schema → s.now.schema ≡ schema
 unfolding standing
-seen_schema s is = is
+seen_schema s schema is = is
+
+-- ---- one version alone
+
+with_schema : (v : HostVersion) (db : Database) → IsHostWith v db → db.schema ≡ schema_of v
+with_schema First db host = host.schema
+with_schema Second db host = host.schema
+
+one_version : (v w : HostVersion) (db : Database) → db.schema ≡ schema_of v → db.schema ≡ schema_of w → w ≡ v
+one_version First First db is other = refl
+one_version First Second db is other = absurd (other_schema db other is)
+one_version Second First db is other = absurd (other_schema db is other)
+one_version Second Second db is other = refl
+
+-- a host of any version is one of the version that its schema has
+pub host_with : (v : HostVersion) (db : Database) → db.schema ≡ schema_of v → IsAnyHost db → IsHostWith v db
+host_with v db is any = subst (λ w. IsHostWith w db) (one_version v any.0 db is (with_schema any.0 db any.1)) any.1
+
+pub either_schema : (v : HostVersion) (schema : Schema) → schema ≡ schema_of v → (schema ≡ first_schema) ⊎ (schema ≡ host_schema)
+either_schema First schema is = inl is
+either_schema Second schema is = inr is
+
+pub neither_schema : (schema : Schema) → ((v : HostVersion) → schema ≢ schema_of v) → (schema ≡ first_schema) ⊎ (schema ≡ host_schema) → ⊥
+neither_schema schema other (inl is) = other First is
+neither_schema schema other (inr is) = other Second is
+
+-- ---- what is found
+
+pub finds_of : (v : HostVersion) (db : Database) (found : Result FoundHost NoHost) → db.schema ≡ schema_of v → IfOk found (λ f. f.version ≡ v) → (IsHostWith v db → Reads v (tables_in db).host found) → Finds db found
+finds_of v db (Ok f) schema its reads = λ host. subst (λ w. Tells w (tables_in db).host f) (sym its) (reads (subst (λ w. IsHostWith w db) its host))
+finds_of v db (Err why) schema its reads = λ limits it.
+    let same = one_version v it.0 db schema (with_schema it.0 db it.1.host) in
+    reads (subst (λ w. IsHostWith w db) same it.1.host) limits (subst (λ w. IsRowOf (number_of w) limits (tables_in db).host) same it.1.row)
+
+pub finds_none : (db : Database) → ((v : HostVersion) → db.schema ≢ schema_of v) → (limits : HostLimits) → ¬ IsHostOf limits db
+finds_none db other limits it = other it.0 (with_schema it.0 db it.1.host)
+
+pub schema_of_found : (v : HostVersion) (db : Database) (found : Result FoundHost NoHost) → db.schema ≡ schema_of v → IfOk found (λ f. f.version ≡ v) → IfOk found (λ f. db.schema ≡ schema_of f.version)
+schema_of_found v db (Ok f) is its = is ∙ ap schema_of (sym its)
+schema_of_found v db (Err why) is its = tt
 
 -- ---- after the transaction is taken back
 
@@ -67,34 +125,76 @@ module _ (old mid new : State) (settled : IsSettled old) (kept : IsKept old mid)
       let committed = sym (settled.committed (kept.follows.clean was).is_open) in
       back clean ∙ (λ i. record { now = (kept.kept was ∙ committed) i; kept = kept.kept was i; inside = sym settled.outside i; limit = kept.follows.limit i })
 
-  module _ (limits : HostLimits) (named : BlockDigest) (latest : ℕ) (row : IsStateClean mid → IsHost (standing old).now → Tells (tables_in (standing old).now).host (record { limits = limits; digest = named; latest = latest })) where
-    pub rests : (digest : Octets → Octets) → IsStateClean new → IsSoundHost digest (seen_in limits new).now → IsAtRest (IsSoundHost digest) (seen_in limits new)
-    unfolding seen_in
-    rests digest clean sound =
-        let e = same clean in
-        let host = sound_host (standing new).now sound.sound in
-        let it = (subst (λ (x : Standing). IsHost x.now → Tells (tables_in x.now).host (record { limits = limits; digest = named; latest = latest })) (sym e) (row (follows.clean clean)) host).0 in
-        record {
-          outside = ap (λ (x : Standing). x.inside) (back clean);
-          committed = ap (λ (x : Standing). tables_shown x.kept) (back clean) ∙ ap (λ (x : Standing). tables_shown x.now) (sym (back clean));
-          sound = sound;
-          limits = ap limits_in (host_shows (standing new).now host) ∙ limits_kept (tables_in (standing new).now) limits it;
-        }
+-- what a crash leaves of a call that changed nothing, and one that may have brought the database over
+pub over_then : (a m d : State) → LeavesNothingNew a m → (IsStateClean m → standing m ≡ standing a) → KeepsDisk m d → LeavesOver m d → IsOpen a → LeavesOver a d
+over_then a m d first same follows over up intact db left =
+    let before = follows.intact intact in
+    elim (over intact db left) [
+      | inl was ↦ inl (first before db was)
+      | inr it ↦
+          let e = same (record { intact = before; is_open = it.is_open }) in
+          inr (record { is_open = up; schema = subst (λ (x : Standing). x.now.schema ≡ first_schema) e it.schema; changed = subst (λ (x : Standing). LeavesChanged x.now db) e it.changed })
+    ]
 
-    pub tells : (digest : Octets → Octets) → IsStateClean new → IsSoundHost digest (seen_in limits new).now → latest ≡ latest_of (seen_in limits new).now
-    unfolding seen_in
-    tells digest clean sound =
-        let host = sound_host (standing new).now sound.sound in
-        let it = subst (λ (x : Standing). IsHost x.now → Tells (tables_in x.now).host (record { limits = limits; digest = named; latest = latest })) (sym (same clean)) (row (follows.clean clean)) host in
-        it.1 ∙ latest_kept (tables_in (standing new).now) limits it.0 ∙ ap latest_of (sym (host_shows (standing new).now host))
+-- ---- once it is opened
 
-    pub names : (digest : Octets → Octets) → IsStateClean new → IsSoundHost digest (seen_in limits new).now → digest_number named ≡ digest_in (seen_in limits new).now
-    unfolding seen_in
-    names digest clean sound =
-        let host = sound_host (standing new).now sound.sound in
-        let it = subst (λ (x : Standing). IsHost x.now → Tells (tables_in x.now).host (record { limits = limits; digest = named; latest = latest })) (sym (same clean)) (row (follows.clean clean)) host in
-        it.2 ∙ digest_kept (tables_in (standing new).now) limits it.0 ∙ ap digest_in (sym (host_shows (standing new).now host))
+module _ (old new : Standing) where
+  told_after : (v : HostVersion) (found : FoundHost) → Opens v old new → IsHostWith v old.now → Tells v (tables_in old.now).host found → Tells Second (tables_in new.now).host found
+  told_after First found o host it =
+      subst (λ (l : List HostRow). Tells Second l found) (sym (ap (λ (t : Tables). t.host) ((o.brought refl).changed.brought host).rows)) (told_brought (tables_in old.now).host found it)
+  told_after Second found o host it = subst (λ (x : Standing). Tells Second (tables_in x.now).host found) (sym (o.same refl)) it
 
-  pub refuses : (IsStateClean mid → IsHost (standing old).now → (limits : HostLimits) → ¬ IsRowOf limits (tables_in (standing old).now).host)
-      → IsStateClean new → (standing new ≡ standing old) × ((limits : HostLimits) → ¬ IsHostOf limits (standing old).now)
-  refuses none clean = (same clean, λ limits it. none (follows.clean clean) it.host limits it.row)
+  host_before : (v : HostVersion) → Opens v old new → IsTypedIfFirst old.now → IsHost new.now → IsHostWith v old.now
+  host_before First o typed host = typed o.schema
+  host_before Second o typed host = subst (λ (x : Standing). IsHost x.now) (o.same refl) host
+
+  first_version : (found : FoundHost) → IsFirstHost old.now → Tells First (tables_in old.now).host found → IsOfVersion1 old.now
+  first_version found host it = record { first = host; version = ap (list_all is_first_version) it.0.alone ∙ ap (λ n. (n == 1) && true) it.0.version_is }
+
+  shown_after : (v : HostVersion) (found : FoundHost) → Opens v old new → (IsHostWith v old.now → Tells v (tables_in old.now).host found) → IsTypedIfFirst old.now → tables_shown new.now ≡ tables_opened old.now
+  shown_after First found o told typed = let host = typed o.schema in shows_same old.now new.now (first_version found host (told host)) (o.brought refl).changed
+  shown_after Second found o told typed = ap (λ (x : Standing). tables_shown x.now) (o.same refl) ∙ sym (others_open old.now (other_schema old.now o.schema))
+
+  pub same_second : (v : HostVersion) → Opens v old new → old.now.schema ≡ host_schema → new ≡ old
+  same_second v o is = o.same (sym (one_version v Second old.now o.schema is))
+
+  pub brought_first : (v : HostVersion) → Opens v old new → old.now.schema ≡ first_schema → Settles old new
+  brought_first v o is = o.brought (sym (one_version v First old.now o.schema is))
+
+  pub host_of : (found : FoundHost) → Opens found.version old new → (IsHostWith found.version old.now → Tells found.version (tables_in old.now).host found) → IsAnyHost old.now → IsHostOf found.limits old.now
+  host_of found o told any = let host = host_with found.version old.now o.schema any in (found.version, record { host = host; row = (told host).0 })
+
+module _ (old new : State) (found : FoundHost) (opens : IsStateClean new → Opens found.version (standing old) (standing new)) (told : IsStateClean new → IsHostWith found.version (standing old).now → Tells found.version (tables_in (standing old).now).host found) where
+  after : IsStateClean new → IsTypedIfFirst (standing old).now → IsHost (standing new).now → Tells Second (tables_in (standing new).now).host found
+  after clean typed host =
+      let before = host_before (standing old) (standing new) found.version (opens clean) typed host in
+      told_after (standing old) (standing new) found.version found (opens clean) before (told clean before)
+
+  pub shows : IsStateClean new → IsTypedIfFirst (standing old).now → (seen_in found.limits new).now ≡ tables_opened (standing old).now
+  unfolding seen_in
+  shows clean typed = shown_after (standing old) (standing new) found.version found (opens clean) (told clean) typed
+
+  pub rests : (digest : Octets → Octets) → IsStateClean new → IsTypedIfFirst (standing old).now → IsSoundHost digest (seen_in found.limits new).now → IsAtRest (IsSoundHost digest) (seen_in found.limits new)
+  unfolding seen_in
+  rests digest clean typed sound =
+      let host = sound_host (standing new).now sound.sound in
+      record {
+        outside = (opens clean).outside;
+        committed = ap tables_shown (opens clean).committed;
+        sound = sound;
+        limits = ap limits_in (host_shows (standing new).now host) ∙ limits_kept (tables_in (standing new).now) 2 found.limits (after clean typed host).0;
+      }
+
+  pub tells : (digest : Octets → Octets) → IsStateClean new → IsTypedIfFirst (standing old).now → IsSoundHost digest (seen_in found.limits new).now → found.latest ≡ latest_of (seen_in found.limits new).now
+  unfolding seen_in
+  tells digest clean typed sound =
+      let host = sound_host (standing new).now sound.sound in
+      let it = after clean typed host in
+      it.1 ∙ latest_kept (tables_in (standing new).now) 2 found.limits it.0 ∙ ap latest_of (sym (host_shows (standing new).now host))
+
+  pub names : (digest : Octets → Octets) → IsStateClean new → IsTypedIfFirst (standing old).now → IsSoundHost digest (seen_in found.limits new).now → digest_number found.digest ≡ digest_in (seen_in found.limits new).now
+  unfolding seen_in
+  names digest clean typed sound =
+      let host = sound_host (standing new).now sound.sound in
+      let it = after clean typed host in
+      it.2 ∙ digest_kept (tables_in (standing new).now) 2 found.limits it.0 ∙ ap digest_in (sym (host_shows (standing new).now host))

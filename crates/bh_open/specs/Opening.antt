@@ -1,36 +1,46 @@
--- What an open finds in a database.
-use Rattle.std.specs.Prelude.{◌≡◌, ℕ, false, List, [], ◌∷◌, Result, MatchResult}
+-- What an open finds in a database, and what it makes of it.
+use Rattle.std.specs.Prelude.{◌≡◌, ◌⊎◌, ℕ, false, List, [], ◌∷◌, Result, MatchResult}
 use Rattle.std.specs.Option.{option_map_or}
 use Rattle.sqlite.specs.Order.{Row}
 use Rattle.sqlite.specs.Effect.{Database}
 use Rattle.sqlite.specs.State.{State}
+use Rattle.sqlite.specs.Tree.{Trees}
 use Rattle.bh_types.specs.BlockDigests.{digest_number}
 use Rattle.bh_types.specs.Limits.{HostLimits, AreLimits}
 use Rattle.bh_types.specs.declared.block_digest.BlockDigest.{BlockDigest}
-use Rattle.bh_tables.specs.Typed.{HostRow, Tables, IsHost, tables_in, number}
+use Rattle.bh_tables.specs.Schema.{first_schema}
+use Rattle.bh_tables.specs.Typed.{HostRow, Tables, tables_in, number}
 use Rattle.bh_view.specs.Grouped.{first}
+use Rattle.bh_migration.specs.Migration.{Settles, LeavesChanged}
+use Rattle.bh_open.specs.Versions.{number_of, schema_of, IsHostWith}
 use Rattle.bh_open.specs.declared.found.FoundHost.{FoundHost}
+use Rattle.bh_open.specs.declared.found.HostVersion.{HostVersion}
+use Rattle.bh_open.specs.declared.found.HostVersion.TheVariants.{First, Second}
 use Rattle.bh_open.specs.declared.found.NoHost.{NoHost}
-use Rattle.bh_schema.specs.Layer.{standing, IsOpen, IsStateClean, KeepsDisk, LeavesNothingNew}
+use Rattle.bh_schema.specs.Layer.{Standing, standing, IsIntact, IsOpen, IsStateClean, Leaves, KeepsDisk, LeavesNothingNew}
 
 -- the number of the function that names the blocks of a host, as its row keeps it
 unfoldable pub digest_in : Tables → ℕ
 digest_in tables = option_map_or (λ (r : HostRow). r.digest) (first tables.host) 0
 
 -- the one row that a host of this version and these limits keeps of itself, with the number of a function that is known
-pub record IsRowOf (limits : HostLimits) (rows : List HostRow) : Type 0 where
+pub record IsRowOf (version : ℕ) (limits : HostLimits) (rows : List HostRow) : Type 0 where
   pub row : HostRow
   pub alone : rows ≡ row ∷ []
-  pub version : row.version ≡ 1
+  pub version_is : row.version ≡ version
   pub range : AreLimits row.min_part row.max_body
   pub limits_are : limits ≡ record { min_part = row.min_part; max_body = row.max_body }
   pub named : BlockDigest
   pub number : digest_number named ≡ row.digest
 
 -- a database of a host of this version and these limits
-pub record IsHostOf (limits : HostLimits) (db : Database) : Type 0 where
-  pub host : IsHost db
-  pub row : IsRowOf limits (tables_in db).host
+pub record IsHostAt (version : HostVersion) (limits : HostLimits) (db : Database) : Type 0 where
+  pub host : IsHostWith version db
+  pub row : IsRowOf (number_of version) limits (tables_in db).host
+
+-- of either version
+abbrev pub IsHostOf : HostLimits → Database → Type 0
+IsHostOf limits db = (version : HostVersion) × IsHostAt version limits db
 
 -- the columns that are read
 abbrev pub shown_row : HostRow → Row
@@ -38,13 +48,17 @@ shown_row h = number h.version ∷ number h.latest ∷ number h.min_part ∷ num
 
 -- ---- the calls of an open
 
--- the limits, the last stamp and the digest function of a host of this version, whose rows these are
-abbrev pub Tells : List HostRow → FoundHost → Type 0
-Tells rows found = (it : IsRowOf found.limits rows) × (found.latest ≡ it.row.latest) × (digest_number found.digest ≡ it.row.digest)
+-- the limits, the last stamp and the digest function of a host of a version, whose rows these are
+abbrev pub Tells : HostVersion → List HostRow → FoundHost → Type 0
+Tells version rows found = (it : IsRowOf (number_of version) found.limits rows) × (found.latest ≡ it.row.latest) × (digest_number found.digest ≡ it.row.digest)
 
 -- what was read of these rows: that, or that they are no such host's
-abbrev pub Reads : List HostRow → Result FoundHost NoHost → Type 0
-Reads rows found = MatchResult found (Tells rows) (λ why. (limits : HostLimits) → ¬ IsRowOf limits rows)
+abbrev pub Reads : HostVersion → List HostRow → Result FoundHost NoHost → Type 0
+Reads version rows found = MatchResult found (Tells version rows) (λ why. (limits : HostLimits) → ¬ IsRowOf (number_of version) limits rows)
+
+-- what was found in a database: that, or no host of either version
+abbrev pub Finds : Database → Result FoundHost NoHost → Type 0
+Finds db found = MatchResult found (λ f. IsHostWith f.version db → Tells f.version (tables_in db).host f) (λ why. (limits : HostLimits) → ¬ IsHostOf limits db)
 
 -- no transaction is open, and what stands was committed
 pub record IsSettled (s : State) : Type 0 where
@@ -56,3 +70,21 @@ pub record IsKept (old new : State) : Type 0 where
   pub follows : KeepsDisk old new
   pub kept : IsStateClean new → (standing new).kept ≡ (standing old).kept
   pub survives : IsOpen old → LeavesNothingNew old new
+
+-- no transaction is open, all is committed, and the database is as it was, or brought over if it was of version 1
+pub record Opens (version : HostVersion) (old new : Standing) : Type 0 where
+  pub schema : old.now.schema ≡ schema_of version
+  pub outside : new.inside ≡ false
+  pub committed : new.kept ≡ new.now
+  pub same : version ≡ Second → new ≡ old
+  pub brought : version ≡ First → Settles old new
+
+-- these trees are those of the open connection's database, of version 1, brought over
+pub record IsLeftOver (old : State) (db : Trees) : Type 0 where
+  pub is_open : IsOpen old
+  pub schema : (standing old).now.schema ≡ first_schema
+  pub changed : LeavesChanged (standing old).now db
+
+-- what a crash may leave from then on, it might have left before, or it is the database brought over
+abbrev pub LeavesOver : State → State → Type 0
+LeavesOver old new = IsIntact new → (db : Trees) → Leaves new db → Leaves old db ⊎ IsLeftOver old db

@@ -1,9 +1,35 @@
+ghost use Rattle.std.specs.Prelude.{◌≡◌};
+ghost use Rattle.bh_open.specs.Versions.{number_of};
+
 use bh_types::block_digest::BlockDigest;
 use bh_types::limits::Limits;
+
+/// Of which version a host is, by its tables.
+#[derive(Clone, Copy)]
+pub enum HostVersion {
+    /// It has no table of locks and none of dates.
+    First,
+    /// It has both.
+    Second,
+}
+
+impl HostVersion {
+    /// The number that the host's row tells.
+    pub fn number(self) -> u64
+        ensures { result ≡ number_of self }
+    {
+        match self {
+            HostVersion::First => 1,
+            HostVersion::Second => 2,
+        }
+    }
+}
 
 /// What a host keeps of itself.
 #[derive(Clone, Copy)]
 pub struct FoundHost {
+    /// Of which version it was found.
+    pub version: HostVersion,
     pub limits: Limits,
     /// Which function names its blocks.
     pub digest: BlockDigest,
@@ -18,7 +44,7 @@ pub enum NoHost {
     NoTable,
     /// It has other tables than a host's.
     OtherTables,
-    /// The host is of this version: its row says so, or its tables do.
+    /// The host is of this version, which its tables are not: its row says so, or its tables do.
     OtherVersion(u64),
     /// Its blocks are named by a function of this number, which this program doesn't know.
     OtherDigest(u64),

@@ -6,6 +6,6 @@ mod open;
 mod row;
 mod tables;
 
-pub use found::{FoundHost, NoHost};
-pub use open::{OpenError, Opened, open_host};
+pub use found::{FoundHost, HostVersion, NoHost};
+pub use open::{OpenError, Opened, look, open_host};
 pub use tables::is_hosts;

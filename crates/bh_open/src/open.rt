@@ -1,22 +1,25 @@
-ghost use Rattle.std.specs.Prelude.{◌≡◌, ◌≢◌, ◌↔◌, true, false, None, IsTrue, IsOk, IsSome, IfSome, IfOk, IfErr};
+ghost use Rattle.std.specs.Prelude.{◌≡◌, ◌≢◌, ◌⊎◌, ◌↔◌, true, false, None, IsSome, IfSome, IfOk, IfErr, OnOk, OnErr};
 ghost use Rattle.sqlite.specs.Held.{state};
 ghost use Rattle.bh_types.specs.BlockDigests.{digest_number};
 ghost use Rattle.bh_types.specs.Limits.{HostLimits};
 ghost use Rattle.bh_types.specs.declared.refusal.Refusal.TheVariants as refusal;
 ghost use Rattle.bh_rows.specs.Means.{is_trouble};
-ghost use Rattle.bh_tables.specs.Schema.{Octets, host_schema};
-ghost use Rattle.bh_tables.specs.Typed.{IsHost};
+ghost use Rattle.bh_tables.specs.Hosts.{tables_opened};
+ghost use Rattle.bh_tables.specs.Schema.{Octets, first_schema, host_schema};
 ghost use Rattle.bh_view.specs.Bodies.{IsSoundHost};
 ghost use Rattle.bh_view.specs.View.{latest_of};
 ghost use Rattle.bh_storage.specs.Calls.{IsAtRest};
 ghost use Rattle.bh_schema.specs.Connections.{IsIntact, IsOpen, IsClean, stands, tables};
 ghost use Rattle.bh_schema.specs.Layer.{taken_back, KeepsDisk, LeavesNothingNew};
 ghost use Rattle.bh_schema.specs.Storage.{seen_in};
-ghost use Rattle.bh_open.specs.Opening.{digest_in, IsHostOf, IsSettled, IsKept, Reads};
+ghost use Rattle.bh_migration.specs.Migration.{Settles};
+ghost use Rattle.bh_open.specs.Opening.{digest_in, IsHostOf, IsSettled, IsKept, Tells, Reads, Finds, Opens, LeavesOver};
+ghost use Rattle.bh_open.specs.Versions.{schema_of, IsHostWith, IsAnyHost, IsTypedIfFirst};
 
-use crate::found::{FoundHost, NoHost};
+use crate::found::{FoundHost, HostVersion, NoHost};
 use crate::row::{found_in, host_rows};
-use crate::tables::{is_hosts, why_none};
+use crate::tables::{version_of, why_none};
+use bh_migration::bring_over;
 use bh_schema::host::{Digester, Host};
 use bh_schema::rows::transactions::{begin, take_back};
 use bh_types::block_digest::BlockDigest;
@@ -79,18 +82,23 @@ impl<S: Alter + Drop> Opened<S> {
     }
 }
 
-/// What the host's row tells, in a database that has a host's tables. A transaction is open afterwards, or was taken back.
-fn read_host<S: Alter>(connection: &mut Connection<S>) -> Result<Result<FoundHost, NoHost>, Error>
-    requires schema { (stands S.Store connection.old).now.schema ≡ host_schema }
+/// What the host's row tells, in a database that has the tables of a host of this version. A transaction is open afterwards, or was
+/// taken back.
+fn read_host<S: Alter>(
+    connection: &mut Connection<S>,
+    version: HostVersion,
+) -> Result<Result<FoundHost, NoHost>, Error>
+    requires schema { (stands S.Store connection.old).now.schema ≡ schema_of version }
     ensures kept { IsKept (state S.Store connection.old) (state S.Store connection.new) }
-    ensures read { IfOk result (λ found. IsClean S.Store connection.new → IsHost (stands S.Store connection.old).now
-        → Reads (tables S.Store connection.old).host found) }
+    ensures of { IfOk result (λ found. IfOk found (λ f. f.version ≡ version)) }
+    ensures read { IfOk result (λ found. IsClean S.Store connection.new → IsHostWith version (stands S.Store connection.old).now
+        → Reads version (tables S.Store connection.old).host found) }
     ensures trouble { IfErr result (λ e. IsIntact S.Store connection.new → (stands S.Store connection.old).limit ≡ None
-        → (stands S.Store connection.old).inside ≡ false → IsHost (stands S.Store connection.old).now → is_trouble e ≡ true) }
+        → (stands S.Store connection.old).inside ≡ false → IsHostWith version (stands S.Store connection.old).now → is_trouble e ≡ true) }
 {
     begin(connection)?;
-    let rows = host_rows(connection)?;
-    found_in(rows.as_slice())
+    let rows = host_rows(connection, version)?;
+    found_in(version, rows.as_slice())
 }
 
 /// What the host whose database this is keeps of itself, if it is one and no transaction is open.
@@ -100,25 +108,96 @@ fn find_host<S: Alter>(
 ) -> Result<Result<FoundHost, NoHost>, Error>
     ensures kept { IsKept (state S.Store connection.old) (state S.Store connection.new) }
     ensures settled { IfOk result (λ found. IsSettled (state S.Store connection.old)) }
-    ensures schema { IfOk result (λ found. IsOk found → (stands S.Store connection.old).now.schema ≡ host_schema) }
-    ensures read { IfOk result (λ found. IsClean S.Store connection.new → IsHost (stands S.Store connection.old).now
-        → Reads (tables S.Store connection.old).host found) }
+    ensures schema { IfOk result (λ found. IfOk found (λ f. (stands S.Store connection.old).now.schema ≡ schema_of f.version)) }
+    ensures finds { IfOk result (λ found. IsClean S.Store connection.new → Finds (stands S.Store connection.old).now found) }
     ensures trouble { IfErr result (λ e. IsIntact S.Store connection.new → (stands S.Store connection.old).limit ≡ None
-        → (stands S.Store connection.old).inside ≡ false → IsHost (stands S.Store connection.old).now → is_trouble e ≡ true) }
+        → (stands S.Store connection.old).inside ≡ false → IsAnyHost (stands S.Store connection.old).now → is_trouble e ≡ true) }
 {
     if !connection.is_autocommit() {
         return Err(Error::SqliteFailure(ErrorCode::TransactionState));
     }
-    if !is_hosts(alloc, connection.schema())? {
-        return Ok(Err(why_none(connection.schema())));
+    match version_of(alloc, connection.schema())? {
+        Some(version) => read_host(connection, version),
+        None => Ok(Err(why_none(connection.schema()))),
     }
-    read_host(connection)
 }
 
-/// The host that a database holds, which is as it was.
+/// What a host, of either version, keeps of itself whose database this is, or why it is no host's. It stays as it is, and no
+/// transaction is open afterwards.
+pub fn look<S: Alter>(
+    alloc: Global,
+    connection: &mut Connection<S>,
+) -> Result<Result<FoundHost, NoHost>, Error>
+    ensures follows { KeepsDisk (state S.Store connection.old) (state S.Store connection.new) }
+    ensures survives { IsOpen S.Store connection.old → LeavesNothingNew (state S.Store connection.old) (state S.Store connection.new) }
+    ensures settled { IfOk result (λ found. IsSettled (state S.Store connection.old)) }
+    ensures same { OnOk result (IsClean S.Store connection.new → stands S.Store connection.new ≡ stands S.Store connection.old) }
+    ensures back { OnErr result (IsClean S.Store connection.new
+        → stands S.Store connection.new ≡ taken_back (stands S.Store connection.old)) }
+    ensures schema { IfOk result (λ found. IfOk found (λ f. (stands S.Store connection.old).now.schema ≡ schema_of f.version)) }
+    ensures finds { IfOk result (λ found. IsClean S.Store connection.new → Finds (stands S.Store connection.old).now found) }
+    ensures trouble { IfErr result (λ e. IsIntact S.Store connection.new → (stands S.Store connection.old).limit ≡ None
+        → (stands S.Store connection.old).inside ≡ false → IsAnyHost (stands S.Store connection.old).now → is_trouble e ≡ true) }
+{
+    let found = find_host(alloc, connection);
+    take_back(connection);
+    found
+}
+
+/// Brings the database of a host of an older version over to the present one.
+fn bring<S: Alter>(connection: &mut Connection<S>, version: HostVersion) -> Result<(), Error>
+    requires outside { IsClean S.Store connection.old → (stands S.Store connection.old).inside ≡ false }
+    requires committed { IsClean S.Store connection.old → (stands S.Store connection.old).now ≡ (stands S.Store connection.old).kept }
+    requires schema { IsClean S.Store connection.old → (stands S.Store connection.old).now.schema ≡ schema_of version }
+    ensures follows { KeepsDisk (state S.Store connection.old) (state S.Store connection.new) }
+    ensures opens { OnOk result (IsClean S.Store connection.new
+        → Opens version (stands S.Store connection.old) (stands S.Store connection.new)) }
+    ensures back { OnErr result (IsClean S.Store connection.new
+        → stands S.Store connection.new ≡ taken_back (stands S.Store connection.old)) }
+    ensures crash { LeavesOver (state S.Store connection.old) (state S.Store connection.new) }
+    ensures trouble { IfErr result (λ e. IsIntact S.Store connection.new → (stands S.Store connection.old).limit ≡ None
+        → (IsClean S.Store connection.old → IsHostWith version (stands S.Store connection.old).now) → is_trouble e ≡ true) }
+{
+    match version {
+        HostVersion::First => bring_over(connection),
+        HostVersion::Second => Ok(()),
+    }
+}
+
+/// What a host keeps of itself whose database this is. It is of the present version afterwards.
+fn find_and_bring<S: Alter>(
+    alloc: Global,
+    connection: &mut Connection<S>,
+) -> Result<Result<FoundHost, NoHost>, Error>
+    ensures follows { KeepsDisk (state S.Store connection.old) (state S.Store connection.new) }
+    ensures crash { IsOpen S.Store connection.old → LeavesOver (state S.Store connection.old) (state S.Store connection.new) }
+    ensures schema { IfOk result (λ found. IfOk found (λ f. (stands S.Store connection.old).now.schema ≡ schema_of f.version)) }
+    ensures opens { IfOk result (λ found. IfOk found (λ f. IsClean S.Store connection.new
+        → Opens f.version (stands S.Store connection.old) (stands S.Store connection.new))) }
+    ensures finds { IfOk result (λ found. IsClean S.Store connection.new → Finds (stands S.Store connection.old).now found) }
+    ensures same { IfOk result (λ found. IfErr found (λ why. IsClean S.Store connection.new
+        → stands S.Store connection.new ≡ stands S.Store connection.old)) }
+    ensures quiet { IfOk result (λ found. IfErr found (λ why. IsOpen S.Store connection.old
+        → LeavesNothingNew (state S.Store connection.old) (state S.Store connection.new))) }
+    ensures back { OnErr result (IsClean S.Store connection.new
+        → stands S.Store connection.new ≡ taken_back (stands S.Store connection.old)) }
+    ensures trouble { IfErr result (λ e. IsIntact S.Store connection.new → (stands S.Store connection.old).limit ≡ None
+        → (stands S.Store connection.old).inside ≡ false → IsAnyHost (stands S.Store connection.old).now → is_trouble e ≡ true) }
+{
+    match look(alloc, connection)? {
+        Ok(host) => {
+            bring(connection, host.version)?;
+            Ok(Ok(host))
+        }
+        Err(why) => Ok(Err(why)),
+    }
+}
+
+/// The host that a database holds, brought over if it is of version 1, in one commit: all that it shows stays. One of the present
+/// version is as it was.
 ///
-/// `NotAHostFile` where the database has other tables than a host's, an empty one too, or no row of a host of
-/// this version with limits in their ranges and a digest function that is known. `Unavailable` where memory or the
+/// `NotAHostFile` where the database has other tables than a host's, an empty one too, or no row of a host of the version that
+/// its tables are of, with limits in their ranges and a digest function that is known. `Unavailable` where memory or the
 /// store was wanting, a row can't be read, a transaction was open, or a limit on the steps of a statement is set: an
 /// open transaction is taken back.
 pub fn open_host<S: Alter + Drop>(
@@ -127,39 +206,48 @@ pub fn open_host<S: Alter + Drop>(
     tuning: Tuning,
 ) -> Result<Opened<S>, OpenError<S>>
     ensures given { IfOk result (λ opened. opened.tuning ≡ tuning) }
-    ensures schema { IfOk result (λ opened. (stands S.Store connection).now.schema ≡ host_schema) }
-    ensures same { IfOk result (λ opened. IsClean S.Store opened.connection → stands S.Store opened.connection ≡ stands S.Store connection) }
-    ensures opened { IfOk result (λ opened. IsClean S.Store opened.connection → IsHost (stands S.Store connection).now
+    ensures schema { IfOk result (λ opened. ((stands S.Store connection).now.schema ≡ first_schema)
+        ⊎ ((stands S.Store connection).now.schema ≡ host_schema)) }
+    ensures same { IfOk result (λ opened. IsClean S.Store opened.connection → (stands S.Store connection).now.schema ≡ host_schema
+        → stands S.Store opened.connection ≡ stands S.Store connection) }
+    ensures brought { IfOk result (λ opened. IsClean S.Store opened.connection → (stands S.Store connection).now.schema ≡ first_schema
+        → Settles (stands S.Store connection) (stands S.Store opened.connection)) }
+    ensures shows { IfOk result (λ opened. IsClean S.Store opened.connection → IsTypedIfFirst (stands S.Store connection).now
+        → (seen_in opened.limits (state S.Store opened.connection)).now ≡ tables_opened (stands S.Store connection).now) }
+    ensures opened { IfOk result (λ opened. IsClean S.Store opened.connection → IsAnyHost (stands S.Store connection).now
         → IsHostOf opened.limits (stands S.Store connection).now) }
     ensures rest { (digest : Octets → Octets) → IfOk result (λ opened. IsClean S.Store opened.connection
+        → IsTypedIfFirst (stands S.Store connection).now
         → IsSoundHost digest (seen_in opened.limits (state S.Store opened.connection)).now
         → IsAtRest (IsSoundHost digest) (seen_in opened.limits (state S.Store opened.connection))) }
     ensures latest { (digest : Octets → Octets) → IfOk result (λ opened. IsClean S.Store opened.connection
+        → IsTypedIfFirst (stands S.Store connection).now
         → IsSoundHost digest (seen_in opened.limits (state S.Store opened.connection)).now
         → opened.latest ≡ latest_of (seen_in opened.limits (state S.Store opened.connection)).now) }
     ensures named { (digest : Octets → Octets) → IfOk result (λ opened. IsClean S.Store opened.connection
+        → IsTypedIfFirst (stands S.Store connection).now
         → IsSoundHost digest (seen_in opened.limits (state S.Store opened.connection)).now
         → digest_number opened.digest ≡ digest_in (seen_in opened.limits (state S.Store opened.connection)).now) }
     ensures follows { IfOk result (λ opened. KeepsDisk (state S.Store connection) (state S.Store opened.connection)) }
-    ensures survives { IfOk result (λ opened. IsOpen S.Store connection
-        → LeavesNothingNew (state S.Store connection) (state S.Store opened.connection)) }
+    ensures crash { IfOk result (λ opened. IsOpen S.Store connection
+        → LeavesOver (state S.Store connection) (state S.Store opened.connection)) }
     ensures refused { IfErr result (λ e. e.refusal ≡ refusal.NotAHostFile → IsClean S.Store e.connection
         → (stands S.Store e.connection ≡ stands S.Store connection)
         × ((limits : HostLimits) → ¬ IsHostOf limits (stands S.Store connection).now)) }
+    ensures quiet { IfErr result (λ e. e.refusal ≡ refusal.NotAHostFile → IsOpen S.Store connection
+        → LeavesNothingNew (state S.Store connection) (state S.Store e.connection)) }
     ensures failed { IfErr result (λ e. e.refusal ≢ refusal.NotAHostFile → (e.refusal ≡ refusal.Unavailable)
         × (IsClean S.Store e.connection → stands S.Store e.connection ≡ taken_back (stands S.Store connection))) }
     ensures keeps { IfErr result (λ e. KeepsDisk (state S.Store connection) (state S.Store e.connection)) }
     ensures leaves { IfErr result (λ e. IsOpen S.Store connection
-        → LeavesNothingNew (state S.Store connection) (state S.Store e.connection)) }
+        → LeavesOver (state S.Store connection) (state S.Store e.connection)) }
     ensures cause { IfErr result (λ e. (e.refusal ≡ refusal.Unavailable) ↔ IsSome e.cause) }
     ensures trouble { IfErr result (λ e. IfSome e.cause (λ cause. IsIntact S.Store e.connection
         → (stands S.Store connection).limit ≡ None → (stands S.Store connection).inside ≡ false
-        → IsHost (stands S.Store connection).now → is_trouble cause ≡ true)) }
+        → IsAnyHost (stands S.Store connection).now → is_trouble cause ≡ true)) }
 {
     let mut connection = connection;
-    let found = find_host(alloc, &mut connection);
-    take_back(&mut connection);
-    match found {
+    match find_and_bring(alloc, &mut connection) {
         Ok(found) => match found {
             Ok(found) => Ok(Opened {
                 connection,

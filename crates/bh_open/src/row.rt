@@ -1,36 +1,39 @@
 ghost use Rattle.std.specs.Prelude.{◌≡◌, true, map, [], ◌∷◌, None, IfOk, IfErr, OnOk};
 ghost use Rattle.sqlite.specs.Held.{state};
 ghost use Rattle.bh_rows.specs.Means.{is_trouble};
-ghost use Rattle.bh_tables.specs.Schema.{host_schema};
-ghost use Rattle.bh_tables.specs.Typed.{HostRow as Stored, IsHost};
+ghost use Rattle.bh_tables.specs.Typed.{HostRow as Stored};
 ghost use Rattle.bh_schema.specs.Connections.{IsClean, stands, tables, StaysWithin, WasOpen, ChangesNothing, IsTrouble};
 ghost use Rattle.bh_open.specs.Opening.{shown_row, Reads};
+ghost use Rattle.bh_open.specs.Versions.{schema_of, IsHostWith};
 
-use crate::found::{FoundHost, NoHost};
+use crate::found::{FoundHost, HostVersion, NoHost};
 use bh_types::block_digest::BlockDigest;
 use bh_types::limits::Limits;
 use sqlite::{Alter, Connection, Error, Row};
 
 #[tactic(auto, using(crate::proofs::Rows::other_version, crate::proofs::Rows::out_of_range, crate::proofs::Rows::other_digest))]
-/// What is told, if the version is this one, the limits are in their ranges and the digest function has that number.
+/// What is told, if the number is this version's, the limits are in their ranges and the digest function has that number.
 fn found_of(
-    version: u64,
+    version: HostVersion,
+    number: u64,
     latest: u64,
     min_part: u64,
     max_body: u64,
     digest: u64,
 ) -> Result<FoundHost, NoHost>
-    ensures { (h : Stored) → h.version ≡ version → h.latest ≡ latest → h.min_part ≡ min_part → h.max_body ≡ max_body
-        → h.digest ≡ digest → Reads (h ∷ []) result }
+    ensures of { IfOk result (λ found. found.version ≡ version) }
+    ensures reads { (h : Stored) → h.version ≡ number → h.latest ≡ latest → h.min_part ≡ min_part → h.max_body ≡ max_body
+        → h.digest ≡ digest → Reads version (h ∷ []) result }
 {
-    if version != 1 {
-        return Err(NoHost::OtherVersion(version));
+    if number != version.number() {
+        return Err(NoHost::OtherVersion(number));
     }
     let Some(limits) = Limits::new(min_part, max_body) else {
         return Err(NoHost::NoRow);
     };
     match BlockDigest::from_number(digest) {
         Some(named) => Ok(FoundHost {
+            version,
             limits,
             digest: named,
             latest,
@@ -40,11 +43,13 @@ fn found_of(
 }
 
 /// What the host's row tells, if it is of this version, its limits are in their ranges and its digest function is known.
-fn read_row(row: &Row) -> Result<Result<FoundHost, NoHost>, Error>
-    ensures read { IfOk result (λ found. (h : Stored) → row.now ≡ shown_row h → Reads (h ∷ []) found) }
+fn read_row(version: HostVersion, row: &Row) -> Result<Result<FoundHost, NoHost>, Error>
+    ensures of { IfOk result (λ found. IfOk found (λ f. f.version ≡ version)) }
+    ensures read { IfOk result (λ found. (h : Stored) → row.now ≡ shown_row h → Reads version (h ∷ []) found) }
     ensures trouble { IfErr result (λ e. (h : Stored) → row.now ≡ shown_row h → is_trouble e ≡ true) }
 {
     Ok(found_of(
+        version,
         row.get(0)?,
         row.get(1)?,
         row.get(2)?,
@@ -55,27 +60,31 @@ fn read_row(row: &Row) -> Result<Result<FoundHost, NoHost>, Error>
 
 #[tactic(auto, using(crate::proofs::Rows::not_sole))]
 /// What these rows tell of a host, if they are the one row of a host of this version.
-pub fn found_in(rows: &[Row]) -> Result<Result<FoundHost, NoHost>, Error>
-    ensures read { IfOk result (λ found. (hosts : _) → rows.now ≡ map shown_row hosts → Reads hosts found) }
+pub fn found_in(version: HostVersion, rows: &[Row]) -> Result<Result<FoundHost, NoHost>, Error>
+    ensures of { IfOk result (λ found. IfOk found (λ f. f.version ≡ version)) }
+    ensures read { IfOk result (λ found. (hosts : _) → rows.now ≡ map shown_row hosts → Reads version hosts found) }
     ensures trouble { IfErr result (λ e. (hosts : _) → rows.now ≡ map shown_row hosts → is_trouble e ≡ true) }
 {
     if rows.len() != 1 {
         return Ok(Err(NoHost::NoRow));
     }
     match rows.first() {
-        Some(row) => read_row(row),
+        Some(row) => read_row(version, row),
         None => Ok(Err(NoHost::NoRow)),
     }
 }
 
-/// The rows of the host's table, in a transaction over a host's schema.
-pub fn host_rows<S: Alter>(connection: &mut Connection<S>) -> Result<Vec<Row>, Error>
+/// The rows of the host's table, in a transaction over the schema of a host of this version.
+pub fn host_rows<S: Alter>(
+    connection: &mut Connection<S>,
+    version: HostVersion,
+) -> Result<Vec<Row>, Error>
     requires inside { IsClean S.Store connection.old → (stands S.Store connection.old).inside ≡ true }
-    requires schema { IsClean S.Store connection.old → (stands S.Store connection.old).now.schema ≡ host_schema }
+    requires schema { IsClean S.Store connection.old → (stands S.Store connection.old).now.schema ≡ schema_of version }
     ensures within { StaysWithin S.Store connection.old connection.new }
     ensures opens { OnOk result (WasOpen S.Store connection.old connection.new) }
     ensures same { OnOk result (ChangesNothing S.Store connection.old connection.new) }
-    ensures rows { IfOk result (λ rows. IsClean S.Store connection.new → IsHost (stands S.Store connection.old).now
+    ensures rows { IfOk result (λ rows. IsClean S.Store connection.new → IsHostWith version (stands S.Store connection.old).now
         → rows.items ≡ map shown_row (tables S.Store connection.old).host) }
     ensures trouble { IfErr result (IsTrouble S.Store connection.old connection.new) }
 {

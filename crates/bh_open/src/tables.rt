@@ -1,12 +1,14 @@
-ghost use Rattle.std.specs.Prelude.{◌≡◌, ◌↔◌, true, IsTrue, IfOk, IfErr};
+ghost use Rattle.std.specs.Prelude.{◌≡◌, ◌⊎◌, ◌↔◌, true, IsTrue, IfOk, IfErr};
 ghost use Rattle.sqlite.specs.Held.{state};
 ghost use Rattle.sqlite.specs.Steps.{over_memory};
 ghost use Rattle.bh_rows.specs.Means.{is_trouble};
-ghost use Rattle.bh_tables.specs.Schema.{host_schema};
+ghost use Rattle.bh_tables.specs.Schema.{first_schema, host_schema};
+ghost use Rattle.bh_open.specs.Versions.{IsVersionOf};
 
-use crate::found::NoHost;
+use crate::found::{HostVersion, NoHost};
 use bh_compare::same_schema;
-use bh_create::make;
+use bh_create::{create_first_tables, make};
+use bh_schema::rows::transactions::begin;
 use bh_types::block_digest::BlockDigest;
 use bh_types::limits::Limits;
 use sqlite::{Connection, Error, MemStore};
@@ -23,13 +25,56 @@ fn new_tables(alloc: Global) -> Result<Connection<MemStore>, Error>
     Ok(connection)
 }
 
-/// Whether a schema is that of a host's tables.
-pub fn is_hosts(alloc: Global, schema: &Schema) -> Result<bool, Error>
+/// The tables of a host of version 1 in memory, in a transaction.
+fn first_tables(alloc: Global) -> Result<Connection<MemStore>, Error>
+    ensures schema { IfOk result (λ connection. (state over_memory connection).now.schema ≡ first_schema) }
+    ensures trouble { IfErr result (λ e. is_trouble e ≡ true) }
+{
+    let mut connection = Connection::open_in_memory(alloc)?;
+    begin(&mut connection)?;
+    create_first_tables(&mut connection)?;
+    Ok(connection)
+}
+
+fn is_second(alloc: Global, schema: &Schema) -> Result<bool, Error>
     ensures is { IfOk result (λ is. IsTrue is ↔ (schema.now ≡ host_schema)) }
     ensures trouble { IfErr result (λ e. is_trouble e ≡ true) }
 {
     let connection = new_tables(alloc)?;
     Ok(same_schema(schema, connection.schema()))
+}
+
+fn is_first(alloc: Global, schema: &Schema) -> Result<bool, Error>
+    ensures is { IfOk result (λ is. IsTrue is ↔ (schema.now ≡ first_schema)) }
+    ensures trouble { IfErr result (λ e. is_trouble e ≡ true) }
+{
+    let connection = first_tables(alloc)?;
+    Ok(same_schema(schema, connection.schema()))
+}
+
+/// Of which version the host is whose tables have this schema, if they are a host's.
+pub(crate) fn version_of(alloc: Global, schema: &Schema) -> Result<Option<HostVersion>, Error>
+    ensures is { IfOk result (λ found. IsVersionOf schema.now found) }
+    ensures trouble { IfErr result (λ e. is_trouble e ≡ true) }
+{
+    if is_second(alloc, schema)? {
+        Ok(Some(HostVersion::Second))
+    } else if is_first(alloc, schema)? {
+        Ok(Some(HostVersion::First))
+    } else {
+        Ok(None)
+    }
+}
+
+/// Whether a schema is that of a host's tables, of either version.
+pub fn is_hosts(alloc: Global, schema: &Schema) -> Result<bool, Error>
+    ensures is { IfOk result (λ is. IsTrue is ↔ ((schema.now ≡ first_schema) ⊎ (schema.now ≡ host_schema))) }
+    ensures trouble { IfErr result (λ e. is_trouble e ≡ true) }
+{
+    match version_of(alloc, schema)? {
+        Some(_version) => Ok(true),
+        None => Ok(false),
+    }
 }
 
 /// Whether its table `host` is that of a host of version 0, which had no `digest`.

@@ -13,12 +13,12 @@ use Rattle.bh_types.specs.Ids.{upload_of}
 use Rattle.bh_types.specs.Digits.{is_number}
 use Rattle.bh_operation.specs.Actions.{method_of, bucket_action, object_action}
 use Rattle.bh_operation.specs.Addresses.{is_colon, own_part, bucket_name, object_key, bucket_named, object_named}
-use Rattle.bh_operation.specs.Headers.{has_lock_field, supported, at_most_once, checksum_in, copy_source, stands}
+use Rattle.bh_operation.specs.Headers.{dates_upload, supported, lock_told, lock_from, lock_in, date_in, at_most_once, checksum_in, copy_source, stands}
 use Rattle.bh_types.specs.Tokens as tokens
 use Rattle.hex.specs.Hex.{decode_of}
 use Rattle.hex.specs.declared.error.FromHexError.{FromHexError}
 use Rattle.bh_operation.specs.Numbers.{or_invalid_argument, short_number, page_size, part_marker, part_number}
-use Rattle.bh_operation.specs.Operations.{Octets, Fields, at_name, host_operation, list_objects, list_versions, list_uploads, bucket_operation, put_object, copy_object, upload_part, list_parts, object_operation, operation_at, operation}
+use Rattle.bh_operation.specs.Operations.{Octets, Fields, at_name, host_operation, list_objects, list_versions, list_uploads, create_bucket, bucket_operation, put_object, copy_object, upload_part, list_parts, object_operation, operation_at, operation}
 use Rattle.bh_operation.specs.Pages.{page_in, key_page, upload_page, part_page, is_second, second_version, token_from, token_of, version_marker_from, version_marker, upload_marker_from, upload_marker}
 use Rattle.bh_operation.specs.Queries.{value_of, is_given, is_unsupported, is_repeated, parameters_of, given_once, parameters_in, count_selectors, selected}
 use Rattle.bh_operation.specs.Sources.{source_path, named_by, version_after, source_version, source_part, source_of, source_in}
@@ -32,7 +32,7 @@ use Rattle.bh_operation.specs.declared.action.ObjectAction.TheVariants as object
 use Rattle.bh_operation.specs.declared.operation.Operation.{Operation}
 use Rattle.bh_operation.specs.declared.query.Parameter.{Parameter}
 use Rattle.bh_operation.specs.declared.query.Selector.{Selector}
-use Rattle.bh_operation.specs.declared.query.Selector.TheVariants.{ListType, Versions, Uploads, Versioning, Lifecycle, Usage, UploadId}
+use Rattle.bh_operation.specs.declared.query.Selector.TheVariants.{ListType, Versions, Uploads, Versioning, Lifecycle, Usage, UploadId, Retention}
 use Rattle.bh_operation.specs.declared.target.Kind.{Kind}
 use Rattle.bh_operation.specs.declared.target.Kind.TheVariants as kind
 use Rattle.bh_operation.specs.declared.target.Target.{Target}
@@ -74,9 +74,9 @@ parameters_only : (query : List ℕ) → Only (parameters_in query)
 unfolding parameters_in given_once
 parameters_only query = unless_only may (list_any (is_repeated (parameters_of query)) (parameters_of query)) InvalidArgument (parameters_of query) refl
 
-supported_only : (parameters : List Parameter) (fields : Fields) → Only (supported parameters fields)
+supported_only : (m : Method) (parameters : List Parameter) (fields : Fields) → Only (supported m parameters fields)
 unfolding supported
-supported_only parameters fields = unless_only may (list_any (λ p. is_unsupported p.name) parameters || has_lock_field fields) NotImplemented tt refl
+supported_only m parameters fields = unless_only may (list_any (λ p. is_unsupported p.name) parameters || dates_upload m fields) NotImplemented tt refl
 
 selected_only : (parameters : List Parameter) → Only (selected parameters)
 unfolding selected
@@ -94,6 +94,7 @@ host_only Get (Some Uploads) = refl
 host_only Get (Some Versioning) = refl
 host_only Get (Some Lifecycle) = refl
 host_only Get (Some UploadId) = refl
+host_only Get (Some Retention) = refl
 host_only Head s = refl
 host_only Put s = refl
 host_only Post s = refl
@@ -110,6 +111,7 @@ bucket_action_only Get (Some Versioning) = tt
 bucket_action_only Get (Some Lifecycle) = tt
 bucket_action_only Get (Some Usage) = refl
 bucket_action_only Get (Some UploadId) = refl
+bucket_action_only Get (Some Retention) = refl
 bucket_action_only Put None = tt
 bucket_action_only Put (Some Versioning) = tt
 bucket_action_only Put (Some Lifecycle) = tt
@@ -118,6 +120,7 @@ bucket_action_only Put (Some Versions) = refl
 bucket_action_only Put (Some Uploads) = refl
 bucket_action_only Put (Some Usage) = refl
 bucket_action_only Put (Some UploadId) = refl
+bucket_action_only Put (Some Retention) = refl
 bucket_action_only Head None = tt
 bucket_action_only Head (Some s) = refl
 bucket_action_only Delete None = tt
@@ -128,6 +131,7 @@ bucket_action_only Delete (Some Uploads) = refl
 bucket_action_only Delete (Some Versioning) = refl
 bucket_action_only Delete (Some Usage) = refl
 bucket_action_only Delete (Some UploadId) = refl
+bucket_action_only Delete (Some Retention) = refl
 bucket_action_only Post None = refl
 bucket_action_only Post (Some s) = refl
 bucket_action_only Other None = refl
@@ -155,6 +159,7 @@ object_action_only Get (Some Versions) numbered copied = refl
 object_action_only Get (Some Versioning) numbered copied = refl
 object_action_only Get (Some Lifecycle) numbered copied = refl
 object_action_only Get (Some Usage) numbered copied = refl
+object_action_only Get (Some Retention) numbered copied = tt
 object_action_only Post (Some UploadId) numbered copied = tt
 object_action_only Post (Some Uploads) numbered copied = tt
 object_action_only Post (Some ListType) numbered copied = refl
@@ -162,6 +167,7 @@ object_action_only Post (Some Versions) numbered copied = refl
 object_action_only Post (Some Versioning) numbered copied = refl
 object_action_only Post (Some Lifecycle) numbered copied = refl
 object_action_only Post (Some Usage) numbered copied = refl
+object_action_only Post (Some Retention) numbered copied = refl
 object_action_only Delete (Some UploadId) numbered copied = tt
 object_action_only Delete (Some Uploads) numbered copied = refl
 object_action_only Delete (Some ListType) numbered copied = refl
@@ -169,6 +175,7 @@ object_action_only Delete (Some Versions) numbered copied = refl
 object_action_only Delete (Some Versioning) numbered copied = refl
 object_action_only Delete (Some Lifecycle) numbered copied = refl
 object_action_only Delete (Some Usage) numbered copied = refl
+object_action_only Delete (Some Retention) numbered copied = refl
 object_action_only Put (Some UploadId) false copied = refl
 object_action_only Put (Some UploadId) true true = refl
 object_action_only Put (Some UploadId) true false = tt
@@ -178,6 +185,7 @@ object_action_only Put (Some Versions) numbered copied = refl
 object_action_only Put (Some Versioning) numbered copied = refl
 object_action_only Put (Some Lifecycle) numbered copied = refl
 object_action_only Put (Some Usage) numbered copied = refl
+object_action_only Put (Some Retention) numbered copied = tt
 object_action_only Head (Some s) numbered copied = refl
 object_action_only Other (Some s) numbered copied = refl
 
@@ -267,6 +275,20 @@ checksum_only : (fields : Fields) → Only (checksum_in fields)
 unfolding checksum_in
 checksum_only fields = once_only (field_named (codes "x-amz-checksum-sha256") fields)
 
+lock_only : (fields : Fields) → Only (lock_in fields)
+unfolding lock_in
+lock_only fields = from_only (field_named (codes "x-amz-bucket-object-lock-enabled") fields)
+  where
+    told_only : (yes not_so : Bool) → Only (cond yes (Ok true) (cond not_so (Ok false) (Err InvalidArgument)))
+    told_only true not_so = tt
+    told_only false true = tt
+    told_only false false = refl
+
+    from_only : (field : Occurrence) → Only (lock_from field)
+    from_only Missing = tt
+    from_only (Once value) = told_only (bytes_eq value (codes "true")) (bytes_eq value (codes "false"))
+    from_only Repeated = refl
+
 source_version_only : (value : List ℕ) → Only (source_version value)
 unfolding source_version version_after
 source_version_only value = plain_only (is_none (position is_question value))
@@ -301,29 +323,31 @@ source_only Repeated = refl
 
 -- ---- operations
 
-bucket_only : (caller text : Octets) (parameters : List Parameter) (action : BucketAction) → Only (bucket_operation caller text parameters action)
-unfolding bucket_operation list_objects list_versions list_uploads key_page upload_page token_of version_marker upload_marker
-bucket_only caller text parameters bucket.Create = at_name_only _ (bucket_named caller text) (bucket_named_only caller text)
-bucket_only caller text parameters bucket.Head = at_name_only _ (bucket_named caller text) (bucket_named_only caller text)
-bucket_only caller text parameters bucket.Delete = at_name_only _ (bucket_named caller text) (bucket_named_only caller text)
-bucket_only caller text parameters bucket.ListObjects =
+bucket_only : (caller text : Octets) (parameters : List Parameter) (fields : Fields) (action : BucketAction) → Only (bucket_operation caller text parameters fields action)
+unfolding bucket_operation create_bucket list_objects list_versions list_uploads key_page upload_page token_of version_marker upload_marker
+bucket_only caller text parameters fields bucket.Create =
+    then_only may (lock_in fields) _ (lock_only fields)
+    (λ _. then_only may (bucket_named caller text) _ (bucket_named_only caller text) (λ _. tt))
+bucket_only caller text parameters fields bucket.Head = at_name_only _ (bucket_named caller text) (bucket_named_only caller text)
+bucket_only caller text parameters fields bucket.Delete = at_name_only _ (bucket_named caller text) (bucket_named_only caller text)
+bucket_only caller text parameters fields bucket.ListObjects =
     then_only may (second_version parameters) _ (second_only parameters)
     (λ _. then_only may (key_page parameters) _ (page_only (codes "max-keys") parameters)
     (λ _. then_only may (token_of parameters) _ (token_only (value_of (codes "continuation-token") parameters))
     (λ _. then_only may (bucket_named caller text) _ (bucket_named_only caller text) (λ _. tt))))
-bucket_only caller text parameters bucket.ListVersions =
+bucket_only caller text parameters fields bucket.ListVersions =
     then_only may (key_page parameters) _ (page_only (codes "max-keys") parameters)
     (λ _. then_only may (version_marker parameters) _ (version_marker_only (value_of (codes "key-marker") parameters) (value_of (codes "version-id-marker") parameters))
     (λ _. then_only may (bucket_named caller text) _ (bucket_named_only caller text) (λ _. tt)))
-bucket_only caller text parameters bucket.ListUploads =
+bucket_only caller text parameters fields bucket.ListUploads =
     then_only may (upload_page parameters) _ (page_only (codes "max-uploads") parameters)
     (λ _. then_only may (upload_marker parameters) _ (upload_marker_only (value_of (codes "key-marker") parameters) (value_of (codes "upload-id-marker") parameters))
     (λ _. then_only may (bucket_named caller text) _ (bucket_named_only caller text) (λ _. tt)))
-bucket_only caller text parameters bucket.GetVersioning = at_name_only _ (bucket_named caller text) (bucket_named_only caller text)
-bucket_only caller text parameters bucket.PutVersioning = at_name_only _ (bucket_named caller text) (bucket_named_only caller text)
-bucket_only caller text parameters bucket.GetLifecycle = at_name_only _ (bucket_named caller text) (bucket_named_only caller text)
-bucket_only caller text parameters bucket.PutLifecycle = at_name_only _ (bucket_named caller text) (bucket_named_only caller text)
-bucket_only caller text parameters bucket.DeleteLifecycle = at_name_only _ (bucket_named caller text) (bucket_named_only caller text)
+bucket_only caller text parameters fields bucket.GetVersioning = at_name_only _ (bucket_named caller text) (bucket_named_only caller text)
+bucket_only caller text parameters fields bucket.PutVersioning = at_name_only _ (bucket_named caller text) (bucket_named_only caller text)
+bucket_only caller text parameters fields bucket.GetLifecycle = at_name_only _ (bucket_named caller text) (bucket_named_only caller text)
+bucket_only caller text parameters fields bucket.PutLifecycle = at_name_only _ (bucket_named caller text) (bucket_named_only caller text)
+bucket_only caller text parameters fields bucket.DeleteLifecycle = at_name_only _ (bucket_named caller text) (bucket_named_only caller text)
 
 object_only : (caller text key : Octets) (parameters : List Parameter) (fields : Fields) (action : ObjectAction) → Only (object_operation caller text key parameters fields action)
 unfolding object_operation put_object copy_object upload_part list_parts
@@ -338,6 +362,8 @@ object_only caller text key parameters fields object.Copy =
 object_only caller text key parameters fields object.Get = at_name_only _ (object_named caller text key) (object_named_only caller text key)
 object_only caller text key parameters fields object.Head = at_name_only _ (object_named caller text key) (object_named_only caller text key)
 object_only caller text key parameters fields object.Delete = at_name_only _ (object_named caller text key) (object_named_only caller text key)
+object_only caller text key parameters fields object.GetRetention = at_name_only _ (object_named caller text key) (object_named_only caller text key)
+object_only caller text key parameters fields object.PutRetention = at_name_only _ (object_named caller text key) (object_named_only caller text key)
 object_only caller text key parameters fields object.CreateUpload = at_name_only _ (object_named caller text key) (object_named_only caller text key)
 object_only caller text key parameters fields object.UploadPart =
     then_only may (part_number (value_of (codes "partNumber") parameters)) _ (part_number_only (value_of (codes "partNumber") parameters))
@@ -353,7 +379,7 @@ at_only : (caller : Octets) (m : Method) (parameters : List Parameter) (fields :
 unfolding operation_at
 at_only caller m parameters fields target.Host s = host_only m s
 at_only caller m parameters fields (target.Bucket text) s =
-    then_only may (bucket_action m s) _ (bucket_action_only m s) (λ action. bucket_only caller text parameters action)
+    then_only may (bucket_action m s) _ (bucket_action_only m s) (λ action. bucket_only caller text parameters fields action)
 at_only caller m parameters fields (target.Object text key) s =
     then_only may (object_action m s (is_given (codes "partNumber") parameters) (stands (copy_source fields))) _
     (object_action_only m s (is_given (codes "partNumber") parameters) (stands (copy_source fields)))
@@ -365,6 +391,6 @@ operation_only caller request =
     then_only may (routed (path_of request.target)) _ (routed_only (path_of request.target))
     (λ k. then_only may (target_at k (path_of request.target)) _ (target_only k (path_of request.target))
     (λ t. then_only may (parameters_in (query_of request.target)) _ (parameters_only (query_of request.target))
-    (λ parameters. then_only may (supported parameters request.fields) _ (supported_only parameters request.fields)
+    (λ parameters. then_only may (supported (method_of request.method) parameters request.fields) _ (supported_only (method_of request.method) parameters request.fields)
     (λ _. then_only may (selected parameters) _ (selected_only parameters)
     (λ s. at_only caller (method_of request.method) parameters request.fields t s)))))

@@ -55,4 +55,6 @@ object_action method.Put (Some by.UploadId) true false = Ok object.UploadPart
 object_action method.Get (Some by.UploadId) numbered copied = Ok object.ListParts
 object_action method.Post (Some by.UploadId) numbered copied = Ok object.CompleteUpload
 object_action method.Delete (Some by.UploadId) numbered copied = Ok object.AbortUpload
+object_action method.Get (Some by.Retention) numbered copied = Ok object.GetRetention
+object_action method.Put (Some by.Retention) numbered copied = Ok object.PutRetention
 object_action m s numbered copied = Err MethodNotAllowed

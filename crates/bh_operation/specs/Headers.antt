@@ -1,11 +1,16 @@
 -- The header fields that operations read, and those that the host does not support.
-use Rattle.std.specs.Prelude.{ℕ, ◌||◌, Bool, true, false, List, codes, Option, Some, None, if◌then◌else◌, Result, Ok, Err}
+use Rattle.std.specs.Prelude.{ℕ, ◌||◌, Bool, true, false, List, codes, Option, Some, None, option_and_then, if◌then◌else◌, Result, Ok, Err}
 use Rattle.std.specs.List.{list_any}
+use Rattle.std.specs.Str.{bytes_eq}
+use Rattle.bh_types.specs.Moments.{moment_of}
 use Rattle.bh_types.specs.declared.refusal.Refusal.{Refusal}
 use Rattle.bh_types.specs.declared.refusal.Refusal.TheVariants.{InvalidArgument, NotImplemented}
 use Rattle.bh_http.specs.Fields.{Occurrence, Missing, Once, Repeated, field_named}
+use Rattle.bh_operation.specs.declared.action.Method.{Method}
+use Rattle.bh_operation.specs.declared.action.Method.TheVariants as method
 use Rattle.bh_operation.specs.declared.query.Parameter.{Parameter}
 use Rattle.bh_operation.specs.Queries.{is_unsupported}
+use Rattle.bh_operation.specs.Targets.{text_of}
 
 -- a field stands in the request, once or more
 abbrev pub stands : Occurrence → Bool
@@ -13,19 +18,60 @@ stands Missing = false
 stands (Once value) = true
 stands Repeated = true
 
--- a field of object locks, which the host does not do
--- Amazon S3 API Reference, PutObject and CreateBucket: the fields of object locks
-abbrev pub has_lock_field : List (List ℕ × List ℕ) → Bool
-has_lock_field fields =
-    stands (field_named (codes "x-amz-bucket-object-lock-enabled") fields)
-    || stands (field_named (codes "x-amz-object-lock-mode") fields)
-    || stands (field_named (codes "x-amz-object-lock-retain-until-date") fields)
+-- the fields of a version's retention
+-- Amazon S3 API Reference, PutObject
+abbrev pub lock_mode : List (List ℕ × List ℕ) → Occurrence
+lock_mode fields = field_named (codes "x-amz-object-lock-mode") fields
+
+abbrev pub lock_date : List (List ℕ × List ℕ) → Occurrence
+lock_date fields = field_named (codes "x-amz-object-lock-retain-until-date") fields
+
+-- a date for the object of an upload, which the host does not do
+-- Amazon S3 API Reference, CreateMultipartUpload: x-amz-object-lock-mode, x-amz-object-lock-retain-until-date
+abbrev pub dates_upload : Method → List (List ℕ × List ℕ) → Bool
+dates_upload method.Post fields = stands (lock_mode fields) || stands (lock_date fields)
+dates_upload m fields = false
 
 -- fourth step: nothing is asked that the host does not do
-unfoldable pub supported : List Parameter → List (List ℕ × List ℕ) → Result (Unit {0}) Refusal
-supported parameters fields =
-    if list_any (λ p. is_unsupported p.name) parameters || has_lock_field fields then Err NotImplemented
+unfoldable pub supported : Method → List Parameter → List (List ℕ × List ℕ) → Result (Unit {0}) Refusal
+supported m parameters fields =
+    if list_any (λ p. is_unsupported p.name) parameters || dates_upload m fields then Err NotImplemented
     else Ok tt
+
+-- whether a new bucket is to be locked
+abbrev pub lock_told : List ℕ → Result Bool Refusal
+lock_told value =
+    if bytes_eq value (codes "true") then Ok true
+    else if bytes_eq value (codes "false") then Ok false
+    else Err InvalidArgument
+
+abbrev pub lock_from : Occurrence → Result Bool Refusal
+lock_from Missing = Ok false
+lock_from (Once value) = lock_told value
+lock_from Repeated = Err InvalidArgument
+
+-- Amazon S3 API Reference, CreateBucket: x-amz-bucket-object-lock-enabled
+unfoldable pub lock_in : List (List ℕ × List ℕ) → Result Bool Refusal
+lock_in fields = lock_from (field_named (codes "x-amz-bucket-object-lock-enabled") fields)
+
+-- a date in the one mode that the host does
+abbrev pub date_told : List ℕ → List ℕ → Option ℕ
+date_told mode date = if bytes_eq mode (codes "COMPLIANCE") then option_and_then moment_of (text_of date) else None
+
+-- both fields stand once, or neither does; in the inner Option none is a fault of theirs
+abbrev pub date_from : Occurrence → Occurrence → Option (Option ℕ)
+date_from Missing Missing = None
+date_from Missing (Once date) = Some None
+date_from Missing Repeated = Some None
+date_from (Once mode) Missing = Some None
+date_from (Once mode) (Once date) = Some (date_told mode date)
+date_from (Once mode) Repeated = Some None
+date_from Repeated date = Some None
+
+-- the date until which a new version is to be kept, if the request gives one
+-- Amazon S3 API Reference, PutObject: x-amz-object-lock-mode, x-amz-object-lock-retain-until-date
+abbrev pub date_in : List (List ℕ × List ℕ) → Option (Option ℕ)
+date_in fields = date_from (lock_mode fields) (lock_date fields)
 
 -- the value of a field that may stand once
 abbrev pub at_most_once : Occurrence → Result (Option (List ℕ)) Refusal

@@ -9,7 +9,7 @@ use Rattle.bh_types.specs.declared.refusal.Refusal.TheVariants.{MethodNotAllowed
 use Rattle.bh_http.specs.Views.{Taken}
 use Rattle.bh_operation.specs.Actions.{method_of, bucket_action, object_action}
 use Rattle.bh_operation.specs.Addresses.{bucket_named, object_named}
-use Rattle.bh_operation.specs.Headers.{supported, checksum_in, copy_source, range_in, stands}
+use Rattle.bh_operation.specs.Headers.{supported, lock_in, date_in, checksum_in, copy_source, range_in, stands}
 use Rattle.bh_operation.specs.Numbers.{part_number, wanted}
 use Rattle.bh_operation.specs.Pages.{key_page, part_page, upload_page, second_version, token_of, version_marker, upload_marker}
 use Rattle.bh_operation.specs.Queries.{parameters_in, selected, value_of, is_given}
@@ -86,7 +86,6 @@ at_name make (Err refusal) = Err refusal
 
 -- what an action that reads nothing but a bucket's name makes of it
 abbrev pub on_bucket : Octets → BucketAction → Option Operation
-on_bucket name bucket.Create = Some (op.CreateBucket name)
 on_bucket name bucket.Head = Some (op.HeadBucket name)
 on_bucket name bucket.Delete = Some (op.DeleteBucket name)
 on_bucket name bucket.GetVersioning = Some (op.GetBucketVersioning name)
@@ -96,25 +95,32 @@ on_bucket name bucket.PutLifecycle = Some (op.PutLifecycle name)
 on_bucket name bucket.DeleteLifecycle = Some (op.DeleteLifecycle name)
 on_bucket name action = None
 
-unfoldable pub bucket_operation : Octets → Octets → List Parameter → BucketAction → Result Operation Refusal
-bucket_operation caller text parameters bucket.Create = at_name op.CreateBucket (bucket_named caller text)
-bucket_operation caller text parameters bucket.Head = at_name op.HeadBucket (bucket_named caller text)
-bucket_operation caller text parameters bucket.Delete = at_name op.DeleteBucket (bucket_named caller text)
-bucket_operation caller text parameters bucket.ListObjects = list_objects caller text parameters
-bucket_operation caller text parameters bucket.ListVersions = list_versions caller text parameters
-bucket_operation caller text parameters bucket.ListUploads = list_uploads caller text parameters
-bucket_operation caller text parameters bucket.GetVersioning = at_name op.GetBucketVersioning (bucket_named caller text)
-bucket_operation caller text parameters bucket.PutVersioning = at_name op.PutBucketVersioning (bucket_named caller text)
-bucket_operation caller text parameters bucket.GetLifecycle = at_name op.GetLifecycle (bucket_named caller text)
-bucket_operation caller text parameters bucket.PutLifecycle = at_name op.PutLifecycle (bucket_named caller text)
-bucket_operation caller text parameters bucket.DeleteLifecycle = at_name op.DeleteLifecycle (bucket_named caller text)
+-- Amazon S3 API Reference, CreateBucket
+unfoldable pub create_bucket : Octets → Octets → Fields → Result Operation Refusal
+create_bucket caller text fields = do
+  locked ← lock_in fields
+  name ← bucket_named caller text
+  Ok (op.CreateBucket name locked)
+
+unfoldable pub bucket_operation : Octets → Octets → List Parameter → Fields → BucketAction → Result Operation Refusal
+bucket_operation caller text parameters fields bucket.Create = create_bucket caller text fields
+bucket_operation caller text parameters fields bucket.Head = at_name op.HeadBucket (bucket_named caller text)
+bucket_operation caller text parameters fields bucket.Delete = at_name op.DeleteBucket (bucket_named caller text)
+bucket_operation caller text parameters fields bucket.ListObjects = list_objects caller text parameters
+bucket_operation caller text parameters fields bucket.ListVersions = list_versions caller text parameters
+bucket_operation caller text parameters fields bucket.ListUploads = list_uploads caller text parameters
+bucket_operation caller text parameters fields bucket.GetVersioning = at_name op.GetBucketVersioning (bucket_named caller text)
+bucket_operation caller text parameters fields bucket.PutVersioning = at_name op.PutBucketVersioning (bucket_named caller text)
+bucket_operation caller text parameters fields bucket.GetLifecycle = at_name op.GetLifecycle (bucket_named caller text)
+bucket_operation caller text parameters fields bucket.PutLifecycle = at_name op.PutLifecycle (bucket_named caller text)
+bucket_operation caller text parameters fields bucket.DeleteLifecycle = at_name op.DeleteLifecycle (bucket_named caller text)
 
 -- Amazon S3 API Reference, PutObject
 unfoldable pub put_object : Octets → Octets → Octets → Fields → Result Operation Refusal
 put_object caller text key fields = do
   checksum ← checksum_in fields
   name ← object_named caller text key
-  Ok (op.PutObject name checksum)
+  Ok (op.PutObject name checksum (date_in fields))
 
 -- a checksum of a copy is only counted; the names of the source come last
 -- Amazon S3 API Reference, CopyObject
@@ -124,14 +130,14 @@ copy_object caller text key fields = do
   _ ← checksum_in fields
   name ← object_named caller text key
   from ← object_named caller source.bucket source.key
-  Ok (op.CopyObject name (record { object = from; version = source.version }))
+  Ok (op.CopyObject name (record { object = from; version = source.version }) (date_in fields))
 
 -- the names of a copy and of its source
-abbrev pub copy_from : Octets → Octets → Octets → Source → Result Operation Refusal
-copy_from caller text key source = do
+abbrev pub copy_from : Octets → Octets → Octets → Source → Fields → Result Operation Refusal
+copy_from caller text key source fields = do
   name ← object_named caller text key
   from ← object_named caller source.bucket source.key
-  Ok (op.CopyObject name (record { object = from; version = source.version }))
+  Ok (op.CopyObject name (record { object = from; version = source.version }) (date_in fields))
 
 -- Amazon S3 API Reference, UploadPart
 unfoldable pub upload_part : Octets → Octets → Octets → List Parameter → Fields → Result Operation Refusal
@@ -152,6 +158,8 @@ list_parts caller text key parameters = do
 abbrev pub on_object : ObjectName → List Parameter → ObjectAction → Option Operation
 on_object name parameters object.Head = Some (op.HeadObject name (version_in parameters))
 on_object name parameters object.Delete = Some (op.DeleteObject name (version_in parameters))
+on_object name parameters object.GetRetention = Some (op.GetRetention name (version_in parameters))
+on_object name parameters object.PutRetention = Some (op.PutRetention name (version_in parameters))
 on_object name parameters object.CreateUpload = Some (op.CreateMultipartUpload name)
 on_object name parameters object.CompleteUpload = Some (op.CompleteMultipartUpload name (upload_in parameters))
 on_object name parameters object.AbortUpload = Some (op.AbortMultipartUpload name (upload_in parameters))
@@ -166,6 +174,10 @@ object_operation caller text key parameters fields object.Head =
     at_name (λ name. op.HeadObject name (version_in parameters)) (object_named caller text key)
 object_operation caller text key parameters fields object.Delete =
     at_name (λ name. op.DeleteObject name (version_in parameters)) (object_named caller text key)
+object_operation caller text key parameters fields object.GetRetention =
+    at_name (λ name. op.GetRetention name (version_in parameters)) (object_named caller text key)
+object_operation caller text key parameters fields object.PutRetention =
+    at_name (λ name. op.PutRetention name (version_in parameters)) (object_named caller text key)
 object_operation caller text key parameters fields object.CreateUpload =
     at_name op.CreateMultipartUpload (object_named caller text key)
 object_operation caller text key parameters fields object.UploadPart = upload_part caller text key parameters fields
@@ -180,7 +192,7 @@ unfoldable pub operation_at : Octets → Method → List Parameter → Fields �
 operation_at caller m parameters fields target.Host selector = host_operation m selector
 operation_at caller m parameters fields (target.Bucket text) selector = do
   action ← bucket_action m selector
-  bucket_operation caller text parameters action
+  bucket_operation caller text parameters fields action
 operation_at caller m parameters fields (target.Object text key) selector = do
   action ← object_action m selector (is_given (codes "partNumber") parameters) (stands (copy_source fields))
   object_operation caller text key parameters fields action
@@ -188,7 +200,7 @@ operation_at caller m parameters fields (target.Object text key) selector = do
 -- third to seventh step
 abbrev pub supported_operation : Octets → Octets → List Parameter → Fields → Target → Result Operation Refusal
 supported_operation caller method parameters fields target = do
-  _ ← supported parameters fields
+  _ ← supported (method_of method) parameters fields
   selector ← selected parameters
   operation_at caller (method_of method) parameters fields target selector
 
@@ -198,6 +210,4 @@ operation caller request = do
   kind ← routed (path_of request.target)
   target ← target_at kind (path_of request.target)
   parameters ← parameters_in (query_of request.target)
-  _ ← supported parameters request.fields
-  selector ← selected parameters
-  operation_at caller (method_of request.method) parameters request.fields target selector
+  supported_operation caller request.method parameters request.fields target

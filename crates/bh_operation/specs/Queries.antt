@@ -8,7 +8,7 @@ use Rattle.bh_types.specs.declared.refusal.Refusal.{Refusal}
 use Rattle.bh_types.specs.declared.refusal.Refusal.TheVariants.{InvalidArgument}
 use Rattle.bh_operation.specs.declared.query.Parameter.{Parameter}
 use Rattle.bh_operation.specs.declared.query.Selector.{Selector}
-use Rattle.bh_operation.specs.declared.query.Selector.TheVariants.{ListType, Versions, Uploads, Versioning, Lifecycle, Usage, UploadId}
+use Rattle.bh_operation.specs.declared.query.Selector.TheVariants.{ListType, Versions, Uploads, Versioning, Lifecycle, Usage, UploadId, Retention}
 
 -- the text that an encoded name or value stands for
 abbrev pub form_text : List ℕ → List ℕ
@@ -32,7 +32,7 @@ is_unsupported =
     ∷ codes "encryption" ∷ codes "intelligent-tiering" ∷ codes "inventory" ∷ codes "legal-hold" ∷ codes "location"
     ∷ codes "logging" ∷ codes "metrics" ∷ codes "notification" ∷ codes "object-lock" ∷ codes "ownershipControls"
     ∷ codes "policy" ∷ codes "policyStatus" ∷ codes "publicAccessBlock" ∷ codes "replication"
-    ∷ codes "requestPayment" ∷ codes "restore" ∷ codes "retention" ∷ codes "select" ∷ codes "start-after"
+    ∷ codes "requestPayment" ∷ codes "restore" ∷ codes "select" ∷ codes "start-after"
     ∷ codes "tagging" ∷ codes "torrent" ∷ codes "website" ∷ [])
 
 -- parameters that tell operations apart
@@ -45,6 +45,7 @@ selector_of name =
     else if bytes_eq name (codes "lifecycle") then Some Lifecycle
     else if bytes_eq name (codes "usage") then Some Usage
     else if bytes_eq name (codes "uploadId") then Some UploadId
+    else if bytes_eq name (codes "retention") then Some Retention
     else None
 
 abbrev pub is_selector : List ℕ → Bool

@@ -45,6 +45,8 @@ pub enum ObjectAction {
     ListParts,
     CompleteUpload,
     AbortUpload,
+    GetRetention,
+    PutRetention,
 }
 
 /// The method of a name.
@@ -115,6 +117,8 @@ pub fn object_action(
         (Method::Get, Some(Selector::UploadId)) => Ok(ObjectAction::ListParts),
         (Method::Post, Some(Selector::UploadId)) => Ok(ObjectAction::CompleteUpload),
         (Method::Delete, Some(Selector::UploadId)) => Ok(ObjectAction::AbortUpload),
+        (Method::Get, Some(Selector::Retention)) => Ok(ObjectAction::GetRetention),
+        (Method::Put, Some(Selector::Retention)) => Ok(ObjectAction::PutRetention),
         _ => Err(Refusal::MethodNotAllowed),
     }
 }

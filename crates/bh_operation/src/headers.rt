@@ -6,11 +6,14 @@ ghost use Rattle.bh_http.specs.Views.{pairs_of};
 ghost use Rattle.bh_operation.specs.Headers as spec;
 ghost use Rattle.bh_operation.specs.Queries.{is_unsupported as is_unsupported_name};
 
+use crate::action::Method;
 use crate::query::{Parameter, is_unsupported};
+use crate::target::text_of;
 use crate::text::Bytes;
 use bh_http::fields::{Given, field_named};
 use bh_http::request::Field;
 use bh_types::error::RequestError;
+use bh_types::moment::Moment;
 use bh_types::refusal::Refusal;
 use std::alloc::{AllocError, Global};
 
@@ -21,12 +24,26 @@ pub fn stands(given: Given) -> bool
     !matches!(given, Given::Missing)
 }
 
-fn has_lock_field(fields: &[Field<'_>]) -> bool
-    ensures { result ≡ spec.has_lock_field (pairs_of fields.now) }
+fn lock_mode<'a>(fields: &[Field<'a>]) -> Given<'a>
+    ensures { given_view result ≡ spec.lock_mode (pairs_of fields.now) }
 {
-    stands(field_named(fields, b"x-amz-bucket-object-lock-enabled"))
-        || stands(field_named(fields, b"x-amz-object-lock-mode"))
-        || stands(field_named(fields, b"x-amz-object-lock-retain-until-date"))
+    field_named(fields, b"x-amz-object-lock-mode")
+}
+
+fn lock_date<'a>(fields: &[Field<'a>]) -> Given<'a>
+    ensures { given_view result ≡ spec.lock_date (pairs_of fields.now) }
+{
+    field_named(fields, b"x-amz-object-lock-retain-until-date")
+}
+
+/// Whether a date is given for the object of an upload, which the host does not do.
+fn dates_upload(method: Method, fields: &[Field<'_>]) -> bool
+    ensures { result ≡ spec.dates_upload method (pairs_of fields.now) }
+{
+    match method {
+        Method::Post => stands(lock_mode(fields)) || stands(lock_date(fields)),
+        _ => false,
+    }
 }
 
 fn any_unsupported(parameters: &[Parameter]) -> bool
@@ -37,13 +54,67 @@ fn any_unsupported(parameters: &[Parameter]) -> bool
 
 /// NotImplemented where a parameter or a header field asks for what the host does not do.
 #[tactic(auto, unfolding(crate::specs::Headers::supported))]
-pub fn supported(parameters: &[Parameter], fields: &[Field<'_>]) -> Result<(), Refusal>
-    ensures { result ≡ spec.supported parameters.now (pairs_of fields.now) }
+pub fn supported(
+    method: Method,
+    parameters: &[Parameter],
+    fields: &[Field<'_>],
+) -> Result<(), Refusal>
+    ensures { result ≡ spec.supported method parameters.now (pairs_of fields.now) }
 {
-    if any_unsupported(parameters) || has_lock_field(fields) {
+    if any_unsupported(parameters) || dates_upload(method, fields) {
         return Err(Refusal::NotImplemented);
     }
     Ok(())
+}
+
+/// Whether a new bucket is to be locked (Amazon S3 API Reference, CreateBucket: `x-amz-bucket-object-lock-enabled`):
+/// InvalidArgument where the field has another value than `true` or `false`, or stands twice.
+#[tactic(auto, unfolding(crate::specs::Headers::lock_in))]
+pub fn lock_in(fields: &[Field<'_>]) -> Result<bool, Refusal>
+    ensures { result ≡ spec.lock_in (pairs_of fields.now) }
+{
+    match field_named(fields, b"x-amz-bucket-object-lock-enabled") {
+        Given::Missing => Ok(false),
+        Given::Once(value) => lock_told(value),
+        Given::Repeated => Err(Refusal::InvalidArgument),
+    }
+}
+
+fn lock_told(value: &[u8]) -> Result<bool, Refusal>
+    ensures { result ≡ spec.lock_told value.now }
+{
+    if value == b"true".as_slice() {
+        Ok(true)
+    } else if value == b"false".as_slice() {
+        Ok(false)
+    } else {
+        Err(Refusal::InvalidArgument)
+    }
+}
+
+/// The date until which a new version is to be kept (Amazon S3 API Reference, PutObject: `x-amz-object-lock-mode` and
+/// `x-amz-object-lock-retain-until-date`), if the request gives one. The inner `None` is a fault of the two fields: one
+/// without the other, one that stands twice, another mode than `COMPLIANCE`, or no moment.
+pub fn date_in(fields: &[Field<'_>]) -> Option<Option<Moment>>
+    ensures { result ≡ spec.date_in (pairs_of fields.now) }
+{
+    match (lock_mode(fields), lock_date(fields)) {
+        (Given::Missing, Given::Missing) => None,
+        (Given::Once(mode), Given::Once(date)) => Some(date_told(mode, date)),
+        _ => Some(None),
+    }
+}
+
+fn date_told(mode: &[u8], date: &[u8]) -> Option<Moment>
+    ensures { result ≡ spec.date_told mode.now date.now }
+{
+    if mode != b"COMPLIANCE".as_slice() {
+        return None;
+    }
+    match text_of(date) {
+        Some(text) => Moment::read(text),
+        None => None,
+    }
 }
 
 /// The field that names a copy source (Amazon S3 API Reference, CopyObject: `x-amz-copy-source`).

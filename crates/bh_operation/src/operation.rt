@@ -5,7 +5,7 @@ ghost use Rattle.bh_operation.specs.Operations as spec;
 
 use crate::action::{BucketAction, Method, ObjectAction, bucket_action, method_of, object_action};
 use crate::address::{ObjectName, bucket_named, object_named};
-use crate::headers::{checksum_in, copy_source, range_in, stands, supported};
+use crate::headers::{checksum_in, copy_source, date_in, lock_in, range_in, stands, supported};
 use crate::number::{part_number, wanted};
 use crate::page::{
     Page, PartPage, UploadMarker, VersionMarker, page_in, part_page, second_version, token_of,
@@ -19,6 +19,7 @@ use bh_http::request::{Field, Request};
 use bh_types::bucket::BucketName;
 use bh_types::error::RequestError;
 use bh_types::id::UploadId;
+use bh_types::moment::Moment;
 use bh_types::names::TenantName;
 use bh_types::refusal::Refusal;
 use bh_types::wanted::Wanted;
@@ -39,8 +40,11 @@ pub enum Operation {
     ListBuckets,
     /// `GET /?usage`, which S3 has not.
     Usage,
-    /// `PUT /bucket`
-    CreateBucket(BucketName),
+    /// `PUT /bucket`, and whether the bucket is to be locked.
+    CreateBucket {
+        bucket: BucketName,
+        locked: bool,
+    },
     /// `HEAD /bucket`
     HeadBucket(BucketName),
     /// `DELETE /bucket`
@@ -73,15 +77,18 @@ pub enum Operation {
     PutLifecycle(BucketName),
     /// `DELETE /bucket?lifecycle`
     DeleteLifecycle(BucketName),
-    /// `PUT /bucket/key`, with the checksum that the body must have, if one is given.
+    /// `PUT /bucket/key`, with the checksum that the body must have, and the date until which the version is to be kept,
+    /// if they are given. The inner `None` is a date that is not given as it should be.
     PutObject {
         object: ObjectName,
         checksum: Option<Bytes>,
+        date: Option<Option<Moment>>,
     },
-    /// `PUT /bucket/key` with `x-amz-copy-source`.
+    /// `PUT /bucket/key` with `x-amz-copy-source`, and a date as for `PutObject`.
     CopyObject {
         object: ObjectName,
         source: CopySource,
+        date: Option<Option<Moment>>,
     },
     /// `GET /bucket/key`, with the text of the header field Range, if just one stands.
     GetObject {
@@ -123,6 +130,16 @@ pub enum Operation {
     AbortMultipartUpload {
         object: ObjectName,
         upload: Option<UploadId>,
+    },
+    /// `GET /bucket/key?retention`
+    GetRetention {
+        object: ObjectName,
+        version: Wanted,
+    },
+    /// `PUT /bucket/key?retention`
+    PutRetention {
+        object: ObjectName,
+        version: Wanted,
     },
 }
 
@@ -202,6 +219,16 @@ fn list_uploads(asked: &Asked, text: Text) -> Result<Operation, RequestError>
     })
 }
 
+#[tactic(auto, unfolding(crate::specs::Operations::create_bucket))]
+fn create_bucket(asked: &Asked, text: Text) -> Result<Operation, RequestError>
+    ensures { Gives (λ x. x) result
+        (spec.create_bucket asked.now.caller.now text (pairs_of asked.now.fields.now)) }
+{
+    let locked = lock_in(asked.fields)?;
+    let bucket = bucket_named(asked.alloc, asked.caller, text)?;
+    Ok(Operation::CreateBucket { bucket, locked })
+}
+
 /// The operation on the bucket that a text names: first the parameters that it reads are looked at, and then the text.
 #[tactic(auto, unfolding(crate::specs::Operations::bucket_operation))]
 fn bucket_operation(
@@ -210,9 +237,10 @@ fn bucket_operation(
     action: BucketAction,
 ) -> Result<Operation, RequestError>
     ensures { Gives (λ x. x) result
-        (spec.bucket_operation asked.now.caller.now text asked.now.parameters.now action) }
+        (spec.bucket_operation asked.now.caller.now text asked.now.parameters.now (pairs_of asked.now.fields.now) action) }
 {
     match action {
+        BucketAction::Create => create_bucket(asked, text),
         BucketAction::ListObjects => list_objects(asked, text),
         BucketAction::ListVersions => list_versions(asked, text),
         BucketAction::ListUploads => list_uploads(asked, text),
@@ -229,7 +257,6 @@ fn on_bucket(bucket: BucketName, action: BucketAction) -> Operation
     ensures { Some result ≡ spec.on_bucket bucket action }
 {
     match action {
-        BucketAction::Create => Operation::CreateBucket(bucket),
         BucketAction::Head => Operation::HeadBucket(bucket),
         BucketAction::Delete => Operation::DeleteBucket(bucket),
         BucketAction::GetVersioning => Operation::GetBucketVersioning(bucket),
@@ -237,8 +264,10 @@ fn on_bucket(bucket: BucketName, action: BucketAction) -> Operation
         BucketAction::GetLifecycle => Operation::GetLifecycle(bucket),
         BucketAction::PutLifecycle => Operation::PutLifecycle(bucket),
         BucketAction::DeleteLifecycle => Operation::DeleteLifecycle(bucket),
-        BucketAction::ListObjects | BucketAction::ListVersions | BucketAction::ListUploads =>
-            unreachable!(),
+        BucketAction::Create
+        | BucketAction::ListObjects
+        | BucketAction::ListVersions
+        | BucketAction::ListUploads => unreachable!(),
     }
 }
 
@@ -249,7 +278,11 @@ fn put_object(asked: &Asked, text: Text, key: Text) -> Result<Operation, Request
 {
     let checksum = checksum_in(asked.alloc, asked.fields)?;
     let object = object_named(asked.alloc, asked.caller, text, key)?;
-    Ok(Operation::PutObject { object, checksum })
+    Ok(Operation::PutObject {
+        object,
+        checksum,
+        date: date_in(asked.fields),
+    })
 }
 
 /// A copy: the names of its source are looked at last. Its checksum is only counted.
@@ -269,7 +302,8 @@ fn copy_from(
     key: Text,
     source: Source,
 ) -> Result<Operation, RequestError>
-    ensures { Gives (λ x. x) result (spec.copy_from asked.now.caller.now text key source) }
+    ensures { Gives (λ x. x) result
+        (spec.copy_from asked.now.caller.now text key source (pairs_of asked.now.fields.now)) }
 {
     let object = object_named(asked.alloc, asked.caller, text, key)?;
     let from = object_named(asked.alloc, asked.caller, source.bucket, source.key)?;
@@ -279,6 +313,7 @@ fn copy_from(
             object: from,
             version: source.version,
         },
+        date: date_in(asked.fields),
     })
 }
 
@@ -360,6 +395,8 @@ fn on_object(object: ObjectName, parameters: &[Parameter], action: ObjectAction)
     match action {
         ObjectAction::Head => Operation::HeadObject { object, version },
         ObjectAction::Delete => Operation::DeleteObject { object, version },
+        ObjectAction::GetRetention => Operation::GetRetention { object, version },
+        ObjectAction::PutRetention => Operation::PutRetention { object, version },
         ObjectAction::CreateUpload => Operation::CreateMultipartUpload(object),
         ObjectAction::CompleteUpload => Operation::CompleteMultipartUpload { object, upload },
         ObjectAction::AbortUpload => Operation::AbortMultipartUpload { object, upload },
@@ -402,16 +439,17 @@ fn supported_operation(
     ensures { Gives (λ x. x) result (spec.supported_operation
         asked.now.caller.now method.now asked.now.parameters.now (pairs_of asked.now.fields.now) target) }
 {
-    supported(asked.parameters, asked.fields)?;
+    let method = method_of(method);
+    supported(method, asked.parameters, asked.fields)?;
     let selector = selected(asked.parameters)?;
-    operation_at(asked, method_of(method), target, selector)
+    operation_at(asked, method, target, selector)
 }
 
 /// The operation that a request of a caller asks for, or its first refusal, in this order:
 ///
 /// - InvalidUri for a path that has no route or does not decode,
 /// - InvalidArgument for a parameter that the host knows and that is given twice,
-/// - NotImplemented for a parameter or header field of what the host does not do,
+/// - NotImplemented for a parameter of what the host does not do, and for a retention date on POST,
 /// - InvalidArgument, NotImplemented or MethodNotAllowed where method, target and parameters make no operation,
 /// - InvalidArgument for a value that is not of its form,
 /// - AccessDenied, InvalidBucketName and KeyTooLong for the names, those of a copy's source last.

@@ -28,10 +28,11 @@ pub enum Selector {
     Lifecycle,
     Usage,
     UploadId,
+    Retention,
 }
 
 /// Parameters of operations that the host does not do.
-const UNSUPPORTED: [&str; 28] = [
+const UNSUPPORTED: [&str; 27] = [
     "accelerate",
     "acl",
     "analytics",
@@ -54,7 +55,6 @@ const UNSUPPORTED: [&str; 28] = [
     "replication",
     "requestPayment",
     "restore",
-    "retention",
     "select",
     "start-after",
     "tagging",
@@ -126,6 +126,7 @@ fn selector_of(name: &str) -> Option<Selector>
         "lifecycle" => Some(Selector::Lifecycle),
         "usage" => Some(Selector::Usage),
         "uploadId" => Some(Selector::UploadId),
+        "retention" => Some(Selector::Retention),
         _ => None,
     }
 }

@@ -27,7 +27,7 @@ use Rattle.sqlite_catalog.specs.Calls.{RefusesTable, IsBadName}
 use Rattle.sqlite_catalog.specs.Listing.{is_fit, is_formed}
 use Rattle.sqlite_catalog.specs.declared.error.Refusal.{Refusal}
 use Rattle.sqlite_catalog.specs.declared.error.Refusal.TheVariants.{Invalid, NameTaken, BadName, TooBig, BadKey, BadText, Violates}
-use Rattle.bh_rows.specs.Means.{IsBlank, is_trouble}
+use Rattle.bh_rows.specs.Means.{is_trouble}
 use Rattle.bh_rows.proofs.CallLemmas.{clean_before, write_open, write_refused_text}
 use Rattle.bh_rows.proofs.CreateLemmas.{Makes}
 use Rattle.bh_rows.proofs.RefusedLemmas.{stopped}
@@ -100,14 +100,14 @@ module _ (before : Schema) (sql : List ℕ) (table : Table) (makes : Makes befor
             absurd (let x = rw plain at more in cc)
 
     -- it is refused in trouble alone
-    pub create_trouble : (HasCleanDisk old → IsTrue old.is_open → IsBlank before old) → (result : Result ℕ Error) → (HasCleanDisk new → Executes sql [] old new result) → {P : Trees → Type 0} → Survives old new P → HasCleanDisk new
+    pub create_trouble : (HasCleanDisk old → IsTrue old.is_open → old.now.schema ≡ before) → (result : Result ℕ Error) → (HasCleanDisk new → Executes sql [] old new result) → {P : Trees → Type 0} → Survives old new P → HasCleanDisk new
         → IfErr result (λ e. is_trouble e ≡ true)
     create_trouble ready (Ok count) runs s clean = tt
     create_trouble ready (Err e) runs s clean = elim (write_open sql [] old new e (runs clean)) [
       | inr bad ↦ bad
       | inl up ↦
-          let blank = ready (clean_before old new _ s clean) up in
-          elim (write_refused_text sql [] old new before blank.schema_is CreateTable 0 makes.means refl refl e (runs clean)) [
+          let schema = ready (clean_before old new _ s clean) up in
+          elim (write_refused_text sql [] old new before schema CreateTable 0 makes.means refl refl e (runs clean)) [
             | inl bad ↦ bad
             | inr refused ↦ absurd (never_does e (subst (λ t. Does old.step_limit (mode_of old) [] (record { schema = before; trees = old.now.trees }) t None CreateTable (Err (Some e))) makes.text refused))
           ]

@@ -9,6 +9,7 @@ pub mod RefusedLemmas
 pub mod AllowedLemmas
 pub mod CreateLemmas
 pub mod CreateErrors
+pub mod OverLemmas
 pub mod RestrictLemmas
 pub mod FreshLemmas
 pub mod KeptLemmas

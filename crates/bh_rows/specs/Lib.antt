@@ -4,3 +4,4 @@ pub mod Means
 pub mod Keys
 pub mod Texts
 pub mod Index
+pub mod Over

@@ -3,8 +3,8 @@ use Rattle.std.specs.Prelude.{◌≡◌, ℕ, true, false, List, filter, Option}
 use Rattle.std.specs.List.{list_any}
 use Rattle.sqlite_keyed.specs.Lists.{sort_by}
 use Rattle.bh_tables.specs.Schema.{Octets}
-use Rattle.bh_tables.specs.Typed.{HostRow, TenantRow, KeyRow, BucketRow, VersionRow, Tables, bytes_used}
-use Rattle.bh_tables.specs.Shown.{is_tenant, is_key, is_bucket, is_owned_bucket, by_bucket, is_entry, is_version, is_at, is_in_bucket, is_upload_in, newer, is_ruled}
+use Rattle.bh_tables.specs.Typed.{HostRow, TenantRow, KeyRow, BucketRow, VersionRow, RetainRow, Tables, bytes_used}
+use Rattle.bh_tables.specs.Shown.{is_tenant, is_key, is_bucket, is_owned_bucket, by_bucket, is_entry, is_version, is_at, is_in_bucket, is_upload_in, is_lock, is_retain, newer, is_ruled}
 use Rattle.bh_view.specs.Grouped.{first}
 use Rattle.bh_schema.specs.declared.rows.tenants.TenantNumbers.{TenantNumbers}
 use Rattle.bh_schema.specs.declared.rows.tenants.TenantAccount.{TenantAccount}
@@ -22,6 +22,9 @@ tenant_numbers t = record { quota = t.quota; next_version = t.next_version; next
 -- with the bytes that its versions and parts have
 abbrev pub tenant_account : Tables → TenantRow → TenantAccount
 tenant_account tables t = record { numbers = tenant_numbers t; used = bytes_used tables.versions tables.parts t.tenant }
+
+abbrev pub until_in : RetainRow → ℕ
+until_in r = r.until
 
 abbrev pub secret_in : KeyRow → Octets
 secret_in k = k.secret
@@ -78,9 +81,18 @@ pub record IsNewVersion (tables : Tables) (tenant bucket okey : Octets) (seq id 
   pub free : list_any (is_version tenant bucket okey id) tables.versions ≡ false
   pub owned : list_any (is_bucket tenant bucket) tables.buckets ≡ true
 
+pub record IsNewLock (tables : Tables) (tenant bucket : Octets) : Type 0 where
+  pub free : list_any (is_lock tenant bucket) tables.locks ≡ false
+  pub owned : list_any (is_bucket tenant bucket) tables.buckets ≡ true
+
+pub record IsNewRetain (tables : Tables) (tenant : Octets) (seq : ℕ) : Type 0 where
+  pub free : list_any (is_retain tenant seq) tables.retains ≡ false
+  pub owned : list_any (is_entry tenant seq) tables.versions ≡ true
+
 -- ---- a row that may be taken away
 
--- no version, no marker and no upload is in the bucket
+-- no version, no marker and no upload is in the bucket, and it is not locked
 pub record IsEmptyBucket (tables : Tables) (tenant bucket : Octets) : Type 0 where
   pub versions : list_any (is_in_bucket tenant bucket) tables.versions ≡ false
   pub uploads : list_any (is_upload_in tenant bucket) tables.uploads ≡ false
+  pub unlocked : list_any (is_lock tenant bucket) tables.locks ≡ false

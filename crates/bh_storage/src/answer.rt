@@ -27,6 +27,8 @@ pub enum Answer {
     Parts(PartsPage),
     /// The days after which a bucket's uploads go that are left unfinished.
     Lifecycle(u16),
+    /// The moment until which a version is kept, if it has one.
+    Retention(Option<Moment>),
     Begun(BegunUpload),
     /// A part was put: the base64 (RFC 4648) of the SHA-256 digest (FIPS 180-4) of its bytes.
     PartStored(String),

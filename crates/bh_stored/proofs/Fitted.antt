@@ -10,9 +10,9 @@ use Rattle.sqlite.specs.Edit.{id_in}
 use Rattle.sqlite_trees.specs.View.{is_int}
 use Rattle.sqlite_typed.specs.Columns.{bytes_of, int_of, or_null}
 use Rattle.bh_rows.specs.Form.{Form, AreRows}
-use Rattle.bh_tables.specs.Typed.{column_number, maybe_number, number, host_form, stored_tenant_form, key_form, bucket_form, version_form, block_form, ref_form, stored_upload_form, part_form, use_form}
+use Rattle.bh_tables.specs.Typed.{column_number, maybe_number, number, host_form, stored_tenant_form, key_form, bucket_form, version_form, block_form, ref_form, stored_upload_form, part_form, use_form, lock_form, retain_form}
 use Rattle.bh_stored.specs.Cells.{suits, are_suited, is_fit}
-use Rattle.bh_stored.specs.Fits.{AreFit, host_kinds, tenant_kinds, key_kinds, bucket_kinds, version_kinds, block_kinds, ref_kinds, upload_kinds, part_kinds, use_kinds}
+use Rattle.bh_stored.specs.Fits.{AreFit, host_kinds, tenant_kinds, key_kinds, bucket_kinds, version_kinds, block_kinds, ref_kinds, upload_kinds, part_kinds, use_kinds, lock_kinds, retain_kinds}
 use Rattle.bh_stored.specs.declared.cells.Kind.{Kind}
 use Rattle.bh_stored.specs.declared.cells.Kind.TheVariants as kind
 
@@ -182,6 +182,19 @@ use_each id (a ∷ b ∷ []) h = let h0 = and_parts (suits kind.Blob a) _ h in l
 use_each id (a ∷ b ∷ c ∷ []) h = let h0 = and_parts (suits kind.Blob a) _ h in let h1 = and_parts (suits kind.Number b) _ h0.1 in let h2 = and_parts (suits kind.Number c) _ h1.1 in (λ i. blob_is a h0.0 i ∷ number_is b h1.0 i ∷ int_is c h2.0 i ∷ [])
 use_each id (a ∷ b ∷ c ∷ v ∷ vs) h = let h0 = and_parts (suits kind.Blob a) _ h in let h1 = and_parts (suits kind.Number b) _ h0.1 in let h2 = and_parts (suits kind.Number c) _ h1.1 in no h2.1
 
+lock_each : (id : Value) (vs : Row) → are_suited lock_kinds vs ≡ true → vs ≡ lock_form.encode (lock_form.decode (id ∷ vs))
+lock_each id [] h = no h
+lock_each id (a ∷ []) h = let h0 = and_parts (suits kind.Text a) _ h in no h0.1
+lock_each id (a ∷ b ∷ []) h = let h0 = and_parts (suits kind.Text a) _ h in let h1 = and_parts (suits kind.Text b) _ h0.1 in (λ i. text_is a h0.0 i ∷ text_is b h1.0 i ∷ [])
+lock_each id (a ∷ b ∷ v ∷ vs) h = let h0 = and_parts (suits kind.Text a) _ h in let h1 = and_parts (suits kind.Text b) _ h0.1 in no h1.1
+
+retain_each : (id : Value) (vs : Row) → are_suited retain_kinds vs ≡ true → vs ≡ retain_form.encode (retain_form.decode (id ∷ vs))
+retain_each id [] h = no h
+retain_each id (a ∷ []) h = let h0 = and_parts (suits kind.Text a) _ h in no h0.1
+retain_each id (a ∷ b ∷ []) h = let h0 = and_parts (suits kind.Text a) _ h in let h1 = and_parts (suits kind.Number b) _ h0.1 in no h1.1
+retain_each id (a ∷ b ∷ c ∷ []) h = let h0 = and_parts (suits kind.Text a) _ h in let h1 = and_parts (suits kind.Number b) _ h0.1 in let h2 = and_parts (suits kind.Number c) _ h1.1 in (λ i. text_is a h0.0 i ∷ number_is b h1.0 i ∷ number_is c h2.0 i ∷ [])
+retain_each id (a ∷ b ∷ c ∷ v ∷ vs) h = let h0 = and_parts (suits kind.Text a) _ h in let h1 = and_parts (suits kind.Number b) _ h0.1 in let h2 = and_parts (suits kind.Number c) _ h1.1 in no h2.1
+
 -- ---- the rows of each
 
 pub hosts_are : (rows : List Row) → AreFit host_kinds rows → AreRows host_form rows
@@ -213,6 +226,12 @@ parts_are = rows_are part_form part_kinds part_each
 
 pub uses_are : (rows : List Row) → AreFit use_kinds rows → AreRows use_form rows
 uses_are = rows_are use_form use_kinds use_each
+
+pub locks_are : (rows : List Row) → AreFit lock_kinds rows → AreRows lock_form rows
+locks_are = rows_are lock_form lock_kinds lock_each
+
+pub retains_are : (rows : List Row) → AreFit retain_kinds rows → AreRows retain_form rows
+retains_are = rows_are retain_form retain_kinds retain_each
 
 -- ---- totals that are kept aren't negative
 

@@ -39,6 +39,12 @@ part_kinds = kind.Text ∷ kind.Number ∷ kind.Number ∷ kind.Number ∷ kind.
 abbrev pub use_kinds : List Kind
 use_kinds = kind.Blob ∷ kind.Number ∷ kind.Number ∷ []
 
+abbrev pub lock_kinds : List Kind
+lock_kinds = kind.Text ∷ kind.Text ∷ []
+
+abbrev pub retain_kinds : List Kind
+retain_kinds = kind.Text ∷ kind.Number ∷ kind.Number ∷ []
+
 -- rows of these kinds, whose numbers rise
 pub record AreFit (kinds : List Kind) (rows : List Row) : Type 0 where
   pub fit : list_all (is_fit kinds) rows ≡ true
@@ -55,3 +61,5 @@ pub record AreAllFit (d : Trees) : Type 0 where
   pub uploads : AreFit upload_kinds (d 16)
   pub parts : AreFit part_kinds (d 18)
   pub uses : AreFit use_kinds (d 23)
+  pub locks : AreFit lock_kinds (d 26)
+  pub retains : AreFit retain_kinds (d 28)

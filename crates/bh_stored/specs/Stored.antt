@@ -1,7 +1,11 @@
 -- The rows that were read.
-use Rattle.std.specs.Prelude.{◌≡◌}
+use Rattle.std.specs.Prelude.{◌≡◌, ◌==◌, Bool, ◌&&◌, ◌||◌, not, [], if◌then◌else◌}
 use Rattle.sqlite.specs.Tree.{Trees}
 use Rattle.bh_stored.specs.declared.stored.Stored.{Stored}
+
+-- the rows of a database, whose tables of locks and of dates have none where they are not there
+abbrev pub seen : Bool → Trees → Trees
+seen has_locks d t = if (t == 26 || t == 28) && not has_locks then [] else d t
 
 -- they are those of a database
 pub record AreStoredIn (d : Trees) (s : Stored) : Type 0 where
@@ -15,3 +19,5 @@ pub record AreStoredIn (d : Trees) (s : Stored) : Type 0 where
   pub uploads_is : s.uploads.items ≡ d 16
   pub parts_is : s.parts.items ≡ d 18
   pub uses_is : s.uses.items ≡ d 23
+  pub locks_is : s.locks.items ≡ d 26
+  pub retains_is : s.retains.items ≡ d 28

@@ -1,11 +1,11 @@
 //! The rows of a host's tables.
 
-ghost use Rattle.std.specs.Prelude.{◌≡◌, true, None, IfOk, OnOk};
+ghost use Rattle.std.specs.Prelude.{◌≡◌, true, false, None, IfOk, OnOk};
 ghost use Rattle.std.specs.List.{list_all};
 ghost use Rattle.sqlite_trees.specs.View.{IsClean};
 ghost use Rattle.bh_stored.specs.Cells.{is_fit};
 ghost use Rattle.bh_stored.specs.Fits.{AreFit, AreAllFit};
-ghost use Rattle.bh_stored.specs.Stored.{AreStoredIn};
+ghost use Rattle.bh_stored.specs.Stored.{seen, AreStoredIn};
 ghost use Rattle.bh_stored.specs.Stores.{KeepsTrees};
 
 use crate::cells::{Kind, is_fit, number_in};
@@ -87,6 +87,10 @@ const PARTS: [Kind; 7] = [
 
 const USES: [Kind; 3] = [Kind::Blob, Kind::Number, Kind::Number];
 
+const LOCKS: [Kind; 2] = [Kind::Text, Kind::Text];
+
+const RETAINS: [Kind; 3] = [Kind::Text, Kind::Number, Kind::Number];
+
 /// As they are stored.
 #[derive(Drop)]
 pub struct Stored {
@@ -100,6 +104,8 @@ pub struct Stored {
     pub uploads: Vec<Row>,
     pub parts: Vec<Row>,
     pub uses: Vec<Row>,
+    pub locks: Vec<Row>,
+    pub retains: Vec<Row>,
 }
 
 /// The number of the first row that has other columns than of these kinds.
@@ -133,11 +139,11 @@ fn fit_rows<S: Store>(
 }
 
 impl Stored {
-    /// All rows of the store of a host's database.
-    pub fn read<S: Store>(alloc: Global, store: &mut S) -> Result<Stored, Failure>
+    /// The rows of the tables that a host of either version has.
+    fn read_first<S: Store>(alloc: Global, store: &mut S) -> Result<Stored, Failure>
         ensures keeps { OnOk result (KeepsTrees (S.view store.old) (S.view store.new)) }
-        ensures stored { IfOk result (λ it. IsClean (S.view store.new) → AreStoredIn (S.view store.old).trees it) }
-        ensures fit { OnOk result (IsClean (S.view store.new) → AreAllFit (S.view store.old).trees) }
+        ensures stored { IfOk result (λ it. IsClean (S.view store.new) → AreStoredIn (seen false (S.view store.old).trees) it) }
+        ensures fit { OnOk result (IsClean (S.view store.new) → AreAllFit (seen false (S.view store.old).trees)) }
     {
         Ok(Stored {
             host: fit_rows(alloc, store, 0, &HOST)?,
@@ -150,6 +156,23 @@ impl Stored {
             uploads: fit_rows(alloc, store, 16, &UPLOADS)?,
             parts: fit_rows(alloc, store, 18, &PARTS)?,
             uses: fit_rows(alloc, store, 23, &USES)?,
+            locks: Vec::new(alloc),
+            retains: Vec::new(alloc),
         })
+    }
+
+    /// All rows of the store of a host's database. One of version 1 has no tables of locks and of dates: none of their rows is there.
+    pub fn read<S: Store>(alloc: Global, store: &mut S, has_locks: bool) -> Result<Stored, Failure>
+        ensures keeps { OnOk result (KeepsTrees (S.view store.old) (S.view store.new)) }
+        ensures stored { IfOk result (λ it. IsClean (S.view store.new) → AreStoredIn (seen has_locks (S.view store.old).trees) it) }
+        ensures fit { OnOk result (IsClean (S.view store.new) → AreAllFit (seen has_locks (S.view store.old).trees)) }
+    {
+        let mut stored = Stored::read_first(alloc, store)?;
+        if !has_locks {
+            return Ok(stored);
+        }
+        stored.locks = fit_rows(alloc, store, 26, &LOCKS)?;
+        stored.retains = fit_rows(alloc, store, 28, &RETAINS)?;
+        Ok(stored)
     }
 }

@@ -26,9 +26,9 @@ use Rattle.bh_rows.specs.Texts.{MayAdd, MayChange, InsertText, UpdateText, Delet
 use Rattle.bh_rows.proofs.DeleteErrors.{none_points, none_named}
 use Rattle.bh_rows.proofs.FormLemmas.{any_typed}
 use Rattle.bh_tables.specs.Schema.{Octets, host_schema, buckets_table, at}
-use Rattle.bh_tables.specs.Typed.{Totals, BucketRow, VersionColumns, UploadRow, bucket_form, tenant_form, version_form, upload_form, number, IsHostBy, tables_in}
+use Rattle.bh_tables.specs.Typed.{Totals, BucketRow, VersionColumns, UploadRow, LockRow, lock_form, bucket_form, tenant_form, version_form, upload_form, number, IsHostBy, tables_in}
 use Rattle.bh_tables.specs.Bodies.{bare}
-use Rattle.bh_tables.specs.Shown.{is_bucket, is_in_bucket, is_upload_in, is_owned_bucket, is_tenant, by_bucket, shown_bucket, shown_entry, is_ruled, shown_rule}
+use Rattle.bh_tables.specs.Shown.{is_bucket, is_lock, is_in_bucket, is_upload_in, is_owned_bucket, is_tenant, by_bucket, shown_bucket, shown_entry, is_ruled, shown_rule}
 use Rattle.bh_tables.proofs.Places.{Goes, buckets}
 use Rattle.bh_tables.proofs.ResolvedLemmas.{any_resolved}
 use Rattle.bh_tables.proofs.Checked.{bucket_checked, bucket_checked_still}
@@ -53,7 +53,7 @@ new_bucket {sums} db host b low free owned = record {
   parents = ap (λ c. c && true) (any_typed (tenant_form sums) _ (is_tenant b.tenant) (λ id t. last_term (at_texts false Eq t.tenant b.tenant)) (db.trees 1) host.held.tenants ∙ owned);
 }
 
--- ---- a bucket that no version and no upload names may go
+-- ---- a bucket that no version, no upload and no lock names may go
 
 -- the rows of the table in this tree name their bucket by columns 1 and 3
 abbrev to_buckets : ℕ → Pointer
@@ -67,6 +67,13 @@ begun_in : (sums : Totals) (i : ℤ) (u : UploadRow) (j : ℤ) (b : BucketRow) �
 unfolding first_key
 begun_in sums i u j b = then_term (at_texts false Eq u.tenant b.tenant) (last_term (at_texts false Eq u.bucket b.bucket))
 
+locked_by : Pointer
+locked_by = record { child = 26; columns = 1 ∷ 2 ∷ []; places = 1 ∷ 2 ∷ []; order = plain }
+
+locks : (i : ℤ) (l : LockRow) (j : ℤ) (b : BucketRow) → points_at locked_by (put lock_form (i, l)) (put bucket_form (j, b)) ≡ (bytes_eq l.tenant b.tenant && bytes_eq l.bucket b.bucket)
+unfolding locked_by first_key
+locks i l j b = then_term (at_texts false Eq l.tenant b.tenant) (last_term (at_texts false Eq l.bucket b.bucket))
+
 -- what is in the row's bucket is in the bucket of this name
 named : (tenant bucket mine its : Octets) (b : BucketRow) → (bytes_eq mine b.tenant && bytes_eq its b.bucket) ≡ true → is_bucket tenant bucket b ≡ true → (bytes_eq mine tenant && bytes_eq its bucket) ≡ true
 named tenant bucket mine its b lies is =
@@ -77,15 +84,20 @@ module _ {sums : Totals} (db : Database) (host : IsHostBy sums db) (tenant bucke
   no_version : list_any (is_in_bucket tenant bucket) (tables_in db).versions ≡ false → list_any (λ v. is_in_bucket tenant bucket (bare v)) (typed version_form (db.trees 7)) ≡ false
   no_version empty = sym (any_resolved (tables_in db).refs (tables_in db).blocks (is_in_bucket tenant bucket) (typed version_form (db.trees 7))) ∙ empty
 
-  pub empty_goes : list_any (is_in_bucket tenant bucket) (tables_in db).versions ≡ false → list_any (is_upload_in tenant bucket) (tables_in db).uploads ≡ false → Goes (buckets sums) db.trees (is_bucket tenant bucket)
-  unfolding everything
-  empty_goes empty finished = (
+  pub empty_goes : list_any (is_in_bucket tenant bucket) (tables_in db).versions ≡ false → list_any (is_upload_in tenant bucket) (tables_in db).uploads ≡ false → list_any (is_lock tenant bucket) (tables_in db).locks ≡ false
+      → Goes (buckets sums) db.trees (is_bucket tenant bucket)
+  unfolding everything locked_by
+  empty_goes empty finished unlocked = (
     none_points bucket_form version_form (db.trees 5) (db.trees 7) (to_buckets 7) (is_bucket tenant bucket) (λ v b. bytes_eq v.tenant b.tenant && bytes_eq v.bucket b.bucket) lies_in host.held.buckets host.held.versions
         (none_named (λ v b. bytes_eq v.tenant b.tenant && bytes_eq v.bucket b.bucket) (is_bucket tenant bucket) (λ v. is_in_bucket tenant bucket (bare v)) (λ v b. named tenant bucket v.tenant v.bucket b) (tables_in db).buckets (typed version_form (db.trees 7)) (no_version empty)),
     (
       none_points bucket_form (upload_form sums) (db.trees 5) (db.trees 16) (to_buckets 16) (is_bucket tenant bucket) (λ u b. bytes_eq u.tenant b.tenant && bytes_eq u.bucket b.bucket) (begun_in sums) host.held.buckets host.held.uploads
           (none_named (λ u b. bytes_eq u.tenant b.tenant && bytes_eq u.bucket b.bucket) (is_bucket tenant bucket) (is_upload_in tenant bucket) (λ u b. named tenant bucket u.tenant u.bucket b) (tables_in db).buckets (tables_in db).uploads finished),
-      tt,
+      (
+        none_points bucket_form lock_form (db.trees 5) (db.trees 26) locked_by (is_bucket tenant bucket) (λ l b. bytes_eq l.tenant b.tenant && bytes_eq l.bucket b.bucket) locks host.held.buckets host.held.locks
+            (none_named (λ l b. bytes_eq l.tenant b.tenant && bytes_eq l.bucket b.bucket) (is_bucket tenant bucket) (is_lock tenant bucket) (λ l b. named tenant bucket l.tenant l.bucket b) (tables_in db).buckets (tables_in db).locks unlocked),
+        tt,
+      ),
     ),
   )
 
@@ -119,11 +131,11 @@ bucket_shown tenant bucket = record {
   shows = λ id b. refl;
 }
 
-pub bucket_inserted : (tenant bucket : Octets) (created : ℕ) → InsertText bucket_form host_schema 3 (at 5 buckets_table) (codes "INSERT INTO buckets (tenant, bucket, created, state, days) VALUES (?1, ?2, ?3, 0, NULL)") (Text tenant ∷ Text bucket ∷ number created ∷ [])
-    (record { tenant = tenant; bucket = bucket; created = created; state = 0; days = None })
+pub bucket_inserted : (tenant bucket : Octets) (created state : ℕ) → InsertText bucket_form host_schema 3 (at 5 buckets_table) (codes "INSERT INTO buckets (tenant, bucket, created, state, days) VALUES (?1, ?2, ?3, ?4, NULL)") (Text tenant ∷ Text bucket ∷ number created ∷ number state ∷ [])
+    (record { tenant = tenant; bucket = bucket; created = created; state = state; days = None })
 unfolding understood everything
-bucket_inserted tenant bucket created = record {
-  terms = lit Null ∷ col 0 0 ∷ col 0 1 ∷ col 0 2 ∷ lit (Int (pos 0)) ∷ lit Null ∷ [];
+bucket_inserted tenant bucket created state = record {
+  terms = lit Null ∷ col 0 0 ∷ col 0 1 ∷ col 0 2 ∷ col 0 3 ∷ lit Null ∷ [];
   width = 6;
   means = record { is = refl; plain = (refl, refl); unlisted = refl; whole = refl; given = refl };
   gives = refl;

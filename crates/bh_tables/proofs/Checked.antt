@@ -17,8 +17,8 @@ use Rattle.sqlite.specs.Term.{Term, eval}
 use Rattle.sqlite_rules.specs.Lists.{Has}
 use Rattle.sqlite_rules.proofs.ListLemmas.{test_has}
 use Rattle.sqlite_schema.specs.Rules.{passes_checks}
-use Rattle.bh_tables.specs.Schema.{Octets, is_natural, is_small, host_table, tenants_table, buckets_table, versions_table, blocks_table, refs_table, uploads_table, parts_table, uses_table}
-use Rattle.bh_tables.specs.Typed.{HostRow, host_columns, TenantRow, tenant_columns, BucketRow, bucket_columns, VersionColumns, version_columns, BlockRow, block_columns, use_columns, RefRow, ref_columns, UploadRow, upload_columns, PartColumns, part_columns, number}
+use Rattle.bh_tables.specs.Schema.{Octets, is_natural, is_small, host_table, tenants_table, buckets_table, versions_table, blocks_table, refs_table, uploads_table, parts_table, uses_table, retains_table}
+use Rattle.bh_tables.specs.Typed.{HostRow, host_columns, TenantRow, tenant_columns, BucketRow, bucket_columns, VersionColumns, version_columns, BlockRow, block_columns, use_columns, RefRow, ref_columns, UploadRow, upload_columns, PartColumns, part_columns, RetainRow, retain_columns, number}
 use Rattle.bh_tables.specs.Bodies.{bare}
 use Rattle.bh_tables.specs.Shown.{is_marked_right}
 
@@ -84,6 +84,9 @@ upload_checked id kept u low = both_true (natural u.upload) (both_true (natural 
 pub part_checked : (id : ℤ) (p : PartColumns) → passes_checks parts_table (Int id ∷ part_columns p) ≡ true
 part_checked id p = both_true (natural p.upload) (both_true (natural p.part) (both_true (natural p.size) (both_true (natural p.stamp) (both_true (natural p.body) refl))))
 
+pub retain_checked : (id : ℤ) (r : RetainRow) → passes_checks retains_table (Int id ∷ retain_columns r) ≡ true
+retain_checked id r = both_true (natural r.seq) (both_true (natural r.until) refl)
+
 -- the row number of the host is 1
 pub host_checked : (h : HostRow) → passes_checks host_table (number 1 ∷ host_columns h) ≡ true
 host_checked h = both_true (twice _ (at_ints true Eq (pos 1) (pos 1))) (both_true (natural h.version) (both_true (natural h.latest) (both_true (natural h.min_part) (both_true (natural h.max_body) (both_true (natural h.digest) refl)))))
@@ -91,3 +94,7 @@ host_checked h = both_true (twice _ (at_ints true Eq (pos 1) (pos 1))) (both_tru
 -- and stays so under another last stamp
 pub host_checked_still : (id : ℤ) (h : HostRow) (n : ℕ) → passes_checks host_table (Int id ∷ host_columns h) ≡ true → passes_checks host_table (Int id ∷ host_columns (record h { latest = n })) ≡ true
 host_checked_still id h n was = both_true (and_parts _ _ was).0 (both_true (natural h.version) (both_true (natural n) (both_true (natural h.min_part) (both_true (natural h.max_body) (both_true (natural h.digest) refl)))))
+
+-- and under another version
+pub version_checked_still : (id : ℤ) (h : HostRow) (n : ℕ) → passes_checks host_table (Int id ∷ host_columns h) ≡ true → passes_checks host_table (Int id ∷ host_columns (record h { version = n })) ≡ true
+version_checked_still id h n was = both_true (and_parts _ _ was).0 (both_true (natural n) (both_true (natural h.latest) (both_true (natural h.min_part) (both_true (natural h.max_body) (both_true (natural h.digest) refl)))))

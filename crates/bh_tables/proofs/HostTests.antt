@@ -1,5 +1,5 @@
 -- The test says what it is to say.
-use Rattle.std.proofs.Common.{◌≡◌, inl, inr, Bool, true, true≢false, cond, List, [], ◌∷◌, map, pos, refl, sym, ap, ap₂, ◌∙◌, subst, Ordering, Less, Equal, Greater, is_lt}
+use Rattle.std.proofs.Common.{◌≡◌, ◌⊎◌, inl, inr, Bool, true, true≢false, cond, length, arith, List, [], ◌∷◌, map, pos, refl, sym, ap, ap₂, ◌∙◌, subst, Ordering, Less, Equal, Greater, is_lt}
 use Rattle.std.specs.List.{AllByRecursion, list_all}
 use Rattle.std.specs.Coded.{Coded, coded_list}
 use Rattle.std.proofs.lemmas.Bool.{and_parts, and_from, cases_Bool, eqb-true, eq-eqb}
@@ -8,11 +8,13 @@ use Rattle.sqlite.specs.declared.types.Value.TheVariants.{Int}
 use Rattle.sqlite.specs.Order.{Row}
 use Rattle.sqlite.specs.Tree.{IsTable}
 use Rattle.sqlite.specs.Effect.{Database}
+use Rattle.sqlite.specs.Schema.{Schema}
+use Rattle.sqlite_tied.specs.Compute.{everything}
 use Rattle.sqlite_schema.specs.contracts.schema.Schema as schema
 use Rattle.bh_rows.specs.Form.{Form, AreRows, typed}
-use Rattle.bh_tables.specs.Schema.{host_schema}
-use Rattle.bh_tables.specs.Typed.{Totals, totals_of, HostRow, Raw, raw, tables_in, no_rows, AreHeld, IsHost, host_form, tenant_form, key_form, bucket_form, version_form, block_form, ref_form, upload_form, part_form, UseRow, use_columns, use_of, use_form}
-use Rattle.bh_tables.specs.Hosts.{same_code, same, ascends, coded_row, are_rows, are_counts, are_held, is_host, tables_shown}
+use Rattle.bh_tables.specs.Schema.{first_schema, host_schema}
+use Rattle.bh_tables.specs.Typed.{Totals, totals_of, HostRow, Tables, Raw, raw, first_raw, tables_in, first_tables_in, no_rows, AreHeld, IsHost, IsFirstHost, lock_form, retain_form, host_form, tenant_form, key_form, bucket_form, version_form, block_form, ref_form, upload_form, part_form, UseRow, use_columns, use_of, use_form}
+use Rattle.bh_tables.specs.Hosts.{same_code, same, ascends, coded_row, are_rows, are_counts, are_held, is_host, is_first_host, is_first_version, brought_over, first_shown, IsOfVersion1, tables_shown, tables_opened}
 
 -- ---- codes
 
@@ -91,6 +93,8 @@ held_of sums r h =
     let i = and_parts _ _ g.1 in
     let j = and_parts _ _ i.1 in
     let k = and_parts _ _ j.1 in
+    let l = and_parts _ _ k.1 in
+    let m = and_parts _ _ l.1 in
     record {
       host = rows_of host_form r.host a.0;
       tenants = rows_of (tenant_form sums) r.tenants b.0;
@@ -102,13 +106,15 @@ held_of sums r h =
       uploads = rows_of (upload_form sums) r.uploads i.0;
       parts = rows_of part_form r.parts j.0;
       uses = rows_of use_form r.uses k.0;
-      counts = counts_of r.uses sums.uses k.1;
+      counts = counts_of r.uses sums.uses l.0;
+      locks = rows_of lock_form r.locks m.0;
+      retains = rows_of retain_form r.retains m.1;
     }
 
 of_held : (sums : Totals) (r : Raw) → AreHeld sums r → are_held sums r ≡ true
 of_held sums r h = and_from _ _ (of_rows host_form r.host h.host) (and_from _ _ (of_rows (tenant_form sums) r.tenants h.tenants) (and_from _ _ (of_rows key_form r.keys h.keys) (and_from _ _ (of_rows bucket_form r.buckets h.buckets)
     (and_from _ _ (of_rows version_form r.versions h.versions) (and_from _ _ (of_rows block_form r.blocks h.blocks) (and_from _ _ (of_rows ref_form r.refs h.refs)
-    (and_from _ _ (of_rows (upload_form sums) r.uploads h.uploads) (and_from _ _ (of_rows part_form r.parts h.parts) (and_from _ _ (of_rows use_form r.uses h.uses) (of_counts r.uses sums.uses h.counts))))))))))
+    (and_from _ _ (of_rows (upload_form sums) r.uploads h.uploads) (and_from _ _ (of_rows part_form r.parts h.parts) (and_from _ _ (of_rows use_form r.uses h.uses) (and_from _ _ (of_counts r.uses sums.uses h.counts) (and_from _ _ (of_rows lock_form r.locks h.locks) (of_rows retain_form r.retains h.retains))))))))))))
 
 -- ---- databases
 
@@ -119,6 +125,14 @@ host_of db h = let parts = and_parts _ _ h in record { schema = same_value schem
 of_host : (db : Database) → IsHost db → is_host db ≡ true
 unfolding is_host
 of_host db h = and_from _ _ (value_same schema.the_row.coded db.schema host_schema h.schema) (of_held (totals_of (tables_in db)) (raw db.trees) h.held)
+
+first_of : (db : Database) → is_first_host db ≡ true → IsFirstHost db
+unfolding is_first_host
+first_of db h = let parts = and_parts _ _ h in record { schema = same_value schema.the_row.coded db.schema first_schema parts.0; held = held_of (totals_of (first_tables_in db)) (first_raw db.trees) parts.1 }
+
+of_first : (db : Database) → IsFirstHost db → is_first_host db ≡ true
+unfolding is_first_host
+of_first db h = and_from _ _ (value_same schema.the_row.coded db.schema first_schema h.schema) (of_held (totals_of (first_tables_in db)) (first_raw db.trees) h.held)
 
 -- a host's database shows its tables
 pub host_shows : (db : Database) → IsHost db → tables_shown db ≡ tables_in db
@@ -132,3 +146,42 @@ shown_host db row there = elim (cases_Bool (is_host db)) [
   | inl is ↦ host_of db is
   | inr other ↦ let none : [] ≡ row ∷ [] = sym (ap (λ b. (cond b (tables_in db) no_rows).host) other) ∙ there in absurd (cc)
 ]
+
+-- ---- once it is opened
+
+-- a database of another schema than the first shows what it shows
+pub others_open : (db : Database) → (db.schema ≡ first_schema → ⊥) → tables_opened db ≡ tables_shown db
+unfolding tables_opened
+others_open db other = elim (cases_Bool (is_first_host db)) [
+  | inl is ↦ absurd (other (first_of db is).schema)
+  | inr none ↦ ap (λ b. cond b (first_shown db) (tables_shown db)) none
+]
+
+pub other_schema : (db : Database) → db.schema ≡ host_schema → db.schema ≡ first_schema → ⊥
+unfolding everything
+other_schema db is first =
+    let counted : length host_schema.tables ≡ length first_schema.tables = ap (λ (s : Schema). length s.tables) (sym is ∙ first) in
+    absurd (omega (arith, counted))
+
+-- so a host's shows its tables
+pub host_opens : (db : Database) → IsHost db → tables_opened db ≡ tables_in db
+host_opens db h = others_open db (other_schema db h.schema) ∙ host_shows db h
+
+-- one of a host of version 1 shows them as they are once it is brought over
+pub first_opens : (db : Database) → IsOfVersion1 db → tables_opened db ≡ brought_over (first_tables_in db)
+unfolding tables_opened
+first_opens db h = ap (λ b. cond b (first_shown db) (tables_shown db)) (of_first db h.first) ∙ ap (λ b. cond b (brought_over (first_tables_in db)) no_rows) h.version
+
+-- and only one of either shows a row of the host
+pub opened_host : (db : Database) (row : HostRow) → (tables_opened db).host ≡ row ∷ [] → IsHost db ⊎ IsOfVersion1 db
+unfolding tables_opened
+opened_host db row there = elim (cases_Bool (is_first_host db)) [
+  | inl is ↦ inr (record { first = first_of db is; version = told (sym (ap (λ b. (cond b (first_shown db) (tables_shown db)).host) is) ∙ there) })
+  | inr other ↦ inl (shown_host db row (sym (ap (λ b. (cond b (first_shown db) (tables_shown db)).host) other) ∙ there))
+]
+  where
+    told : (first_shown db).host ≡ row ∷ [] → list_all is_first_version (first_tables_in db).host ≡ true
+    told is = elim (cases_Bool (list_all is_first_version (first_tables_in db).host)) [
+      | inl first_version ↦ first_version
+      | inr other ↦ let nothing : [] ≡ row ∷ [] = sym (ap (λ b. (cond b (brought_over (first_tables_in db)) no_rows).host) other) ∙ is in absurd (cc)
+    ]

@@ -12,9 +12,10 @@ use Rattle.bh_rows.specs.Form.{Form, typed}
 use Rattle.bh_rows.specs.Scan.{no_limit}
 use Rattle.bh_rows.specs.Texts.{MayAdd, MayChange, InsertText, UpdateText, SelectText}
 use Rattle.bh_tables.specs.Schema.{host_schema, host_table, at}
+use Rattle.bh_tables.specs.Hosts.{with_version}
 use Rattle.bh_tables.specs.Typed.{HostRow, host_columns, host_form, number, tables_in}
 use Rattle.bh_tables.specs.Shown.{shown_latest}
-use Rattle.bh_tables.proofs.Checked.{host_checked, host_checked_still}
+use Rattle.bh_tables.proofs.Checked.{host_checked, host_checked_still, version_checked_still}
 
 -- ---- the row of a new host: its number is 1 where no row is there
 
@@ -60,14 +61,31 @@ pub latest_may : (n : ℕ) → MayChange host_form host_schema (at 0 host_table)
 unfolding everything
 latest_may n = record { suits = λ id h found was. record { typed = refl; present = refl; checked = host_checked_still id h n was.checked }; unwatched = λ id h found. refl }
 
--- of version 1
-pub host_inserted : (min_part max_body digest : ℕ) → InsertText host_form host_schema 0 (at 0 host_table) (codes "INSERT INTO host (version, latest, min_part, max_body, digest) VALUES (1, 0, ?1, ?2, ?3)") (number min_part ∷ number max_body ∷ number digest ∷ [])
-    (record { version = 1; latest = 0; min_part = min_part; max_body = max_body; digest = digest })
+-- of version 2
+pub host_inserted : (min_part max_body digest : ℕ) → InsertText host_form host_schema 0 (at 0 host_table) (codes "INSERT INTO host (version, latest, min_part, max_body, digest) VALUES (2, 0, ?1, ?2, ?3)") (number min_part ∷ number max_body ∷ number digest ∷ [])
+    (record { version = 2; latest = 0; min_part = min_part; max_body = max_body; digest = digest })
 unfolding understood everything
 host_inserted min_part max_body digest = record {
-  terms = lit Null ∷ lit Null ∷ lit (Int (pos 1)) ∷ lit (Int (pos 0)) ∷ col 0 0 ∷ col 0 1 ∷ col 0 2 ∷ [];
+  terms = lit Null ∷ lit Null ∷ lit (Int (pos 2)) ∷ lit (Int (pos 0)) ∷ col 0 0 ∷ col 0 1 ∷ col 0 2 ∷ [];
   width = 7;
   means = record { is = refl; plain = (refl, refl); unlisted = refl; whole = refl; given = refl };
   gives = refl;
   accepts = refl;
 }
+
+-- ---- the version of a host that is brought over
+
+pub version_set : UpdateText host_form host_schema 0 (at 0 host_table) (codes "UPDATE host SET version = 2") [] (λ _. true) (with_version 2)
+unfolding understood everything
+version_set = record {
+  test = [];
+  show = col 1 0 ∷ col 1 0 ∷ lit Null ∷ lit (Int (pos 2)) ∷ col 1 3 ∷ col 1 4 ∷ col 1 5 ∷ col 1 6 ∷ [];
+  means = record { is = refl; plain = (refl, refl); unlisted = refl; whole = refl; given = refl };
+  accepts = refl;
+  tests = λ id h. refl;
+  shows = λ id h found was. refl;
+}
+
+pub version_may : MayChange host_form host_schema (at 0 host_table) (λ _. true) (with_version 2)
+unfolding everything
+version_may = record { suits = λ id h found was. record { typed = refl; present = refl; checked = version_checked_still id h 2 was.checked }; unwatched = λ id h found. refl }

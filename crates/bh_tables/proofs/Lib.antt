@@ -13,6 +13,8 @@ pub mod TenantTexts
 pub mod KeyTexts
 pub mod BucketTexts
 pub mod VersionTexts
+pub mod LockTexts
+pub mod RetainTexts
 pub mod BlockTexts
 pub mod RefTexts
 pub mod UseTexts

@@ -23,4 +23,6 @@ module _ (tree : ℕ) (db next : Trees) where
     uploads = at 16 h.1.1.1.1.1.1.1.0 i;
     parts = at 18 h.1.1.1.1.1.1.1.1.0 i;
     uses = at 23 h.1.1.1.1.1.1.1.1.1.0 i;
+    locks = at 26 h.1.1.1.1.1.1.1.1.1.1.0 i;
+    retains = at 28 h.1.1.1.1.1.1.1.1.1.1.1.0 i;
   }

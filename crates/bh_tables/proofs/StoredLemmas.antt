@@ -93,6 +93,8 @@ tenants_turned before used cs old new host all l =
       parts = host.held.parts;
       uses = host.held.uses;
       counts = host.held.counts;
+      locks = host.held.locks;
+      retains = host.held.retains;
     } in (
       record { schema = ap (λ (d : Database). d.schema) l.now; held = subst (AreHeld after) (sym now_is) held },
       ap tables_of now_is ∙ ap (λ ts. record (tables_of was) { tenants = ts }) (sym (map-map (λ (c : TenantColumns). c.row) stored_tenant_form.decode rows) ∙ ap (map (λ (c : TenantColumns). c.row)) l.rows),
@@ -131,6 +133,8 @@ uploads_turned before kept cs old new host all l =
       parts = host.held.parts;
       uses = host.held.uses;
       counts = host.held.counts;
+      locks = host.held.locks;
+      retains = host.held.retains;
     } in (
       record { schema = ap (λ (d : Database). d.schema) l.now; held = subst (AreHeld after) (sym now_is) held },
       ap tables_of now_is ∙ ap (λ us. record (tables_of was) { uploads = us }) (sym (map-map (λ (c : UploadColumns). c.row) stored_upload_form.decode rows) ∙ ap (map (λ (c : UploadColumns). c.row)) l.rows),
@@ -155,6 +159,8 @@ uses_turned sums us old new host l =
       parts = host.held.parts;
       uses = l.held;
       counts = l.rows;
+      locks = host.held.locks;
+      retains = host.held.retains;
     } in (
       record { schema = ap (λ (d : Database). d.schema) l.now; held = subst (AreHeld (record sums { uses = us })) (sym now_is) held },
       ap tables_of now_is,

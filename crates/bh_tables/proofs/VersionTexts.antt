@@ -1,5 +1,5 @@
 -- The texts over versions.
-use Rattle.std.proofs.Common.{◌≡◌, Bool, ℕ, ℤ, pos, codes, List, [], ◌∷◌, ◌&&◌, true, false, refl, sym, ap, ◌∙◌, int_cmp}
+use Rattle.std.proofs.Common.{◌≡◌, Bool, ℕ, ℤ, pos, codes, List, [], ◌∷◌, filter, ◌&&◌, true, false, true≢false, refl, sym, ap, ◌∙◌, int_cmp}
 use Rattle.std.specs.List.{list_any}
 use Rattle.sqlite.specs.declared.types.Value.TheVariants.{Null, Int, Text, Blob}
 use Rattle.sqlite.specs.Collation.TheVariants.{Binary}
@@ -12,20 +12,24 @@ use Rattle.sqlite.specs.Tree.{Trees}
 use Rattle.sqlite_sql.specs.declared.ops.CompareOp.TheVariants.{Eq}
 use Rattle.sqlite_value.specs.Keys.{plain, ascending, first_key}
 use Rattle.sqlite_value.proofs.OrderLemmas.{value_cmp-Int, value_cmp-Blob}
+use Rattle.sqlite_rules.proofs.ListLemmas.{some_has, some_from, has_filtered}
 use Rattle.sqlite_schema.specs.Rules.{agree}
+use Rattle.std.proofs.lemmas.Bool.{and_from, false_from_ne_true}
 use Rattle.sqlite_tied.specs.Compute.{everything}
 use Rattle.sqlite_typed.proofs.TestLemmas.{at_texts, at_blobs, at_ints, last_term, then_term, last_key, then_key}
 use Rattle.sqlite_typed.specs.Tests.{bytes_cmp}
 use Rattle.bh_rows.specs.Form.{put, typed}
-use Rattle.bh_rows.specs.Keys.{AreUnused}
+use Rattle.bh_rows.specs.Keys.{Pointer, points_at}
 use Rattle.bh_rows.specs.Scan.{no_limit, by_rowid}
 use Rattle.bh_rows.specs.Texts.{MayAdd, InsertText, DeleteText, SelectText, SortedText, SumText}
+use Rattle.bh_rows.proofs.DeleteErrors.{none_points}
 use Rattle.bh_rows.proofs.FormLemmas.{any_typed}
 use Rattle.bh_rows.proofs.ScanLemmas.{then_assoc}
 use Rattle.bh_tables.specs.Schema.{Octets, host_schema, versions_table, at}
-use Rattle.bh_tables.specs.Typed.{Totals, VersionColumns, VersionRow, version_form, bucket_form, number, IsHostBy, tables_in}
+use Rattle.bh_tables.specs.Typed.{Totals, VersionColumns, VersionRow, RetainRow, version_form, bucket_form, retain_form, number, IsHostBy, tables_in}
 use Rattle.bh_tables.specs.Bodies.{bare, resolved}
-use Rattle.bh_tables.specs.Shown.{is_version, is_at, is_in_bucket, is_entry, is_bucket, is_marked_right, newer, by_id, shown_head, shown_seq, is_version_of, has_marker}
+use Rattle.bh_tables.specs.Shown.{is_version, is_retain, is_dated, is_at, is_in_bucket, is_entry, is_bucket, is_marked_right, newer, by_id, shown_head, shown_seq, is_version_of, has_marker}
+use Rattle.bh_tables.proofs.Places.{Goes, versions}
 use Rattle.bh_tables.proofs.ResolvedLemmas.{any_resolved}
 use Rattle.bh_tables.proofs.Checked.{version_checked}
 use Rattle.bh_tables.proofs.Terms.{is, one_row}
@@ -55,9 +59,40 @@ new_version {sums} db host v right unnumbered free owned = record {
     any_in_it : (m : VersionRow → Bool) → list_any m (tables_in db).versions ≡ list_any (λ c. m (resolved (tables_in db).refs (tables_in db).blocks c)) (typed version_form (db.trees 7))
     any_in_it m = any_resolved (tables_in db).refs (tables_in db).blocks m (typed version_form (db.trees 7))
 
-pub versions_unused : (db : Trees) (rows : List Row) → AreUnused host_schema db 7 rows
-unfolding everything
-versions_unused db rows = tt
+-- ---- a version that has no date may go
+
+to_versions : Pointer
+to_versions = record { child = 28; columns = 1 ∷ 2 ∷ []; places = 1 ∷ 2 ∷ []; order = plain }
+
+dates : (i : ℤ) (r : RetainRow) (j : ℤ) (v : VersionColumns) → points_at to_versions (put retain_form (i, r)) (put version_form (j, v)) ≡ is_retain v.tenant v.seq r
+unfolding to_versions first_key
+dates i r j v = then_term (at_texts false Eq r.tenant v.tenant) (last_term (at_ints false Eq (pos r.seq) (pos v.seq)))
+
+pub undated_goes : {sums : Totals} (db : Database) → IsHostBy sums db → (tenant bucket okey : Octets) (id : ℕ)
+    → list_any (λ v. is_version tenant bucket okey id v && is_dated (tables_in db).retains v) (tables_in db).versions ≡ false → Goes (versions sums) db.trees (λ v. is_version tenant bucket okey id (bare v))
+unfolding everything to_versions
+undated_goes db host tenant bucket okey id undated = (
+  none_points version_form retain_form (db.trees 7) (db.trees 28) to_versions goes (λ r v. is_retain v.tenant v.seq r) dates host.held.versions host.held.retains
+      (false_from_ne_true _ (λ some.
+      let r = some_has (λ r. list_any (λ v. is_retain v.tenant v.seq r) (filter goes stored)) (tables_in db).retains some in
+      let v = some_has (λ v. is_retain v.tenant v.seq r.0) (filter goes stored) r.2 in
+      let found = has_filtered goes stored v.0 v.1 in
+      let date = some_from (is_retain v.0.tenant v.0.seq) (tables_in db).retains r.0 r.1 v.2 in
+      both_ways (some_from (λ c. goes c && is_dated (tables_in db).retains (bare c)) stored v.0 found.0 (and_from _ _ found.1 date)) none_stored)),
+  tt,
+)
+  where
+    goes : VersionColumns → Bool
+    goes v = is_version tenant bucket okey id (bare v)
+
+    stored : List VersionColumns
+    stored = typed version_form (db.trees 7)
+
+    none_stored : list_any (λ c. goes c && is_dated (tables_in db).retains (bare c)) stored ≡ false
+    none_stored = sym (any_resolved (tables_in db).refs (tables_in db).blocks (λ v. is_version tenant bucket okey id v && is_dated (tables_in db).retains v) stored) ∙ undated
+
+    both_ways : {b : Bool} → b ≡ true → b ≡ false → ⊥
+    both_ways is not_so = true≢false (sym is ∙ not_so)
 
 -- ---- the texts
 

@@ -1,5 +1,5 @@
--- Whether a database is a host's, as a test, and what it then shows.
-use Rattle.std.specs.Prelude.{◌==◌, Bool, true, false, ◌&&◌, List, [], ◌∷◌, map, if◌then◌else◌}
+-- Whether a database is a host's, as a test, and what it then shows; and what one of a host of version 1 shows once it is brought over.
+use Rattle.std.specs.Prelude.{◌≡◌, ◌==◌, ℕ, Bool, true, false, ◌&&◌, List, [], ◌∷◌, map, if◌then◌else◌}
 use Rattle.std.specs.List.{list_all}
 use Rattle.std.specs.Ordering.{is_lt}
 use Rattle.std.specs.Coded.{Coded, coded_list}
@@ -12,8 +12,8 @@ use Rattle.sqlite.specs.Effect.{Database}
 use Rattle.sqlite_value.specs.contracts.value.Value as value
 use Rattle.sqlite_schema.specs.contracts.schema.Schema as schema
 use Rattle.bh_rows.specs.Form.{Form, typed}
-use Rattle.bh_tables.specs.Schema.{host_schema}
-use Rattle.bh_tables.specs.Typed.{Tables, Totals, totals_of, Raw, raw, tables_in, no_rows, host_form, tenant_form, key_form, bucket_form, version_form, block_form, ref_form, upload_form, part_form, UseRow, use_columns, use_form}
+use Rattle.bh_tables.specs.Schema.{first_schema, host_schema}
+use Rattle.bh_tables.specs.Typed.{HostRow, Tables, Totals, totals_of, Raw, raw, first_raw, tables_in, first_tables_in, IsFirstHost, no_rows, lock_form, retain_form, host_form, tenant_form, key_form, bucket_form, version_form, block_form, ref_form, upload_form, part_form, UseRow, use_columns, use_form}
 
 -- ---- equality, by the codes that the logic gives to values
 
@@ -53,7 +53,7 @@ are_counts rows uses = same (coded_list coded_row) (map use_columns (typed use_f
 
 abbrev pub are_held : Totals → Raw → Bool
 are_held sums r = are_rows host_form r.host && (are_rows (tenant_form sums) r.tenants && (are_rows key_form r.keys && (are_rows bucket_form r.buckets && (are_rows version_form r.versions && (are_rows block_form r.blocks && (are_rows ref_form r.refs && (are_rows (upload_form sums) r.uploads
-    && (are_rows part_form r.parts && (are_rows use_form r.uses && are_counts r.uses sums.uses)))))))))
+    && (are_rows part_form r.parts && (are_rows use_form r.uses && (are_counts r.uses sums.uses && (are_rows lock_form r.locks && are_rows retain_form r.retains)))))))))))
 
 -- ---- databases
 
@@ -61,6 +61,33 @@ are_held sums r = are_rows host_form r.host && (are_rows (tenant_form sums) r.te
 unfoldable pub is_host : Database → Bool
 is_host db = same schema.the_row.coded db.schema host_schema && are_held (totals_of (tables_in db)) (raw db.trees)
 
+-- the same under the first schema, in which no bucket is locked and no version has a date
+unfoldable pub is_first_host : Database → Bool
+is_first_host db = same schema.the_row.coded db.schema first_schema && are_held (totals_of (first_tables_in db)) (first_raw db.trees)
+
+-- the tables of a host of version 1 as those of a host of version 2
+abbrev pub with_version : ℕ → HostRow → HostRow
+with_version n h = record h { version = n }
+
+abbrev pub is_first_version : HostRow → Bool
+is_first_version h = h.version == 1
+
+abbrev pub brought_over : Tables → Tables
+brought_over tables = record tables { host = map (with_version 2) tables.host }
+
+-- what a host of version 1 shows once it is brought over; one of the first schema whose row tells another version shows no row
+abbrev pub first_shown : Database → Tables
+first_shown db = if list_all is_first_version (first_tables_in db).host then brought_over (first_tables_in db) else no_rows
+
+-- whether a database is a host's of version 1
+pub record IsOfVersion1 (db : Database) : Type 0 where
+  pub first : IsFirstHost db
+  pub version : list_all is_first_version (first_tables_in db).host ≡ true
+
 -- a host's tables; a database that is no host's shows no row
 unfoldable pub tables_shown : Database → Tables
 tables_shown db = if is_host db then tables_in db else no_rows
+
+-- what it shows once it is opened as a host's, of either version
+unfoldable pub tables_opened : Database → Tables
+tables_opened db = if is_first_host db then first_shown db else tables_shown db

@@ -1,7 +1,7 @@
 -- The schema as its tables and indexes are made, one after another.
 use Rattle.sqlite.specs.Schema.{Schema}
 use Rattle.sqlite.specs.Change.{created, indexed}
-use Rattle.bh_tables.specs.Schema.{no_schema, host_table, tenants_table, keys_table, buckets_table, versions_table, blocks_table, refs_table, uploads_table, parts_table, at, newest, refs_by_block, uploads_by_key, uploads_by_moment, uses_table, uses_by_count}
+use Rattle.bh_tables.specs.Schema.{no_schema, host_table, tenants_table, keys_table, buckets_table, versions_table, blocks_table, refs_table, uploads_table, parts_table, at, newest, refs_by_block, uploads_by_key, uploads_by_moment, uses_table, uses_by_count, first_schema, locks_table, retains_table}
 
 abbrev pub with_host : Schema
 with_host = created no_schema host_table
@@ -47,3 +47,10 @@ with_uses = created with_uploads_by_moment uses_table
 
 abbrev pub with_uses_by_count : Schema
 with_uses_by_count = indexed with_uses (at 23 uses_table) uses_by_count
+
+-- over the first schema
+abbrev pub with_locks : Schema
+with_locks = created first_schema locks_table
+
+abbrev pub with_retains : Schema
+with_retains = created with_locks retains_table

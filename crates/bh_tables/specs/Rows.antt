@@ -129,6 +129,21 @@ bucket_of r = record { tenant = bytes_of (column r 1); bucket = bytes_of (column
 abbrev pub bucket_form : Form BucketRow
 bucket_form = record { encode = bucket_columns; decode = bucket_of; back = λ _ x. (λ i. record x { days = maybe_back x.days i }) }
 
+-- ---- the buckets that are locked
+
+pub record LockRow : Type 0 where
+  pub tenant : Octets
+  pub bucket : Octets
+
+abbrev pub lock_columns : LockRow → Row
+lock_columns x = Text x.tenant ∷ Text x.bucket ∷ []
+
+abbrev pub lock_of : Row → LockRow
+lock_of r = record { tenant = bytes_of (column r 1); bucket = bytes_of (column r 2) }
+
+abbrev pub lock_form : Form LockRow
+lock_form = record { encode = lock_columns; decode = lock_of; back = λ _ x. refl }
+
 -- ---- versions and markers of a key, a later one having the greater seq
 
 -- as it is stored: its bytes are those of a body
@@ -179,6 +194,24 @@ pub record VersionRow : Type 0 where
   pub size : ℕ
   pub checksum : Octets
   pub bytes : Octets
+
+-- ---- the moments before which versions may not be deleted
+
+pub record RetainRow : Type 0 where
+  pub tenant : Octets
+  -- of the version
+  pub seq : ℕ
+  -- seconds since 1970
+  pub until : ℕ
+
+abbrev pub retain_columns : RetainRow → Row
+retain_columns x = Text x.tenant ∷ number x.seq ∷ number x.until ∷ []
+
+abbrev pub retain_of : Row → RetainRow
+retain_of r = record { tenant = bytes_of (column r 1); seq = column_number (column r 2); until = column_number (column r 3) }
+
+abbrev pub retain_form : Form RetainRow
+retain_form = record { encode = retain_columns; decode = retain_of; back = λ _ x. refl }
 
 -- ---- blocks of bytes, shared by all tenants
 

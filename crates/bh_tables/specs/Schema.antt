@@ -1,5 +1,6 @@
--- The schema of a host as a value: ten tables and five indexes, each as its CREATE text defines it.
-use Rattle.std.specs.Prelude.{ℕ, true, false, [], ◌∷◌, List, map, Some, None, codes, pos}
+-- The schema of a host as a value: twelve tables and five indexes, each as its CREATE text defines it. The first schema, of
+-- hosts of version 1, is that without the last two tables.
+use Rattle.std.specs.Prelude.{ℕ, true, false, [], ◌∷◌, ◌++◌, List, map, Some, None, codes, pos}
 use Rattle.sqlite.specs.Collation.TheVariants.{Binary}
 use Rattle.sqlite.specs.declared.types.Value.TheVariants.{Null, Int, Text as Words}
 use Rattle.sqlite.specs.Table.{Table}
@@ -115,6 +116,15 @@ parts_table = table (codes "parts")
     (1 ∷ 2 ∷ 3 ∷ []) ((1 ∷ 7 ∷ []) ∷ []) (refers (1 ∷ 2 ∷ []) (codes "uploads") ∷ [])
     (is_natural 2 ∷ is_natural 3 ∷ is_natural 4 ∷ is_natural 6 ∷ is_natural 7 ∷ [])
 
+-- the buckets that are locked
+abbrev pub locks_table : Table
+locks_table = table (codes "locks") (given (codes "tenant") Text ∷ given (codes "bucket") Text ∷ []) (1 ∷ 2 ∷ []) [] (refers (1 ∷ 2 ∷ []) (codes "buckets") ∷ []) []
+
+-- the moment before which a version may not be deleted, in seconds since 1970
+abbrev pub retains_table : Table
+retains_table = table (codes "retains") (given (codes "tenant") Text ∷ given (codes "seq") Integer ∷ given (codes "until") Integer ∷ [])
+    (1 ∷ 2 ∷ []) [] (refers (1 ∷ 2 ∷ []) (codes "versions") ∷ []) (is_natural 2 ∷ is_natural 3 ∷ [])
+
 -- ---- the schema of them all
 
 -- the table, kept in this tree
@@ -148,8 +158,9 @@ uses_by_count = record { name = codes "uses_by_count"; tree = 0; table = 23; col
 abbrev pub no_schema : Schema
 no_schema = record { tables = []; indexes = []; views = [] }
 
-abbrev pub host_schema : Schema
-host_schema = record {
+-- of version 1
+abbrev pub first_schema : Schema
+first_schema = record {
   tables = at 0 host_table ∷ at 1 tenants_table ∷ at 3 keys_table ∷ at 5 buckets_table ∷ at 7 versions_table ∷ at 10 blocks_table ∷ at 12 refs_table
       ∷ at 16 uploads_table ∷ at 18 parts_table ∷ at 23 uses_table ∷ [];
   indexes = auto (codes "sqlite_autoindex_tenants_1") 2 1 (1 ∷ []) ∷ auto (codes "sqlite_autoindex_keys_1") 4 3 (1 ∷ 2 ∷ [])
@@ -159,5 +170,13 @@ host_schema = record {
       ∷ auto (codes "sqlite_autoindex_uploads_1") 17 16 (1 ∷ 2 ∷ []) ∷ auto (codes "sqlite_autoindex_parts_1") 19 18 (1 ∷ 2 ∷ 3 ∷ [])
       ∷ auto (codes "sqlite_autoindex_parts_2") 20 18 (1 ∷ 7 ∷ []) ∷ record uploads_by_key { tree = 21 } ∷ record uploads_by_moment { tree = 22 }
       ∷ auto (codes "sqlite_autoindex_uses_1") 24 23 (1 ∷ 2 ∷ []) ∷ record uses_by_count { tree = 25 } ∷ [];
+  views = [];
+}
+
+-- of version 2
+abbrev pub host_schema : Schema
+host_schema = record {
+  tables = first_schema.tables ++ at 26 locks_table ∷ at 28 retains_table ∷ [];
+  indexes = first_schema.indexes ++ auto (codes "sqlite_autoindex_locks_1") 27 26 (1 ∷ 2 ∷ []) ∷ auto (codes "sqlite_autoindex_retains_1") 29 28 (1 ∷ 2 ∷ []) ∷ [];
   views = [];
 }

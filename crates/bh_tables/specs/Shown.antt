@@ -10,7 +10,7 @@ use Rattle.sqlite_typed.specs.Columns.{or_null}
 use Rattle.sqlite_typed.specs.Tests.{bytes_eq, bytes_cmp}
 use Rattle.bh_tables.specs.Schema.{Octets}
 pub use Rattle.bh_tables.specs.Bodies.{Name, same_name, block_name, ref_name, body_name, part_name, by_place}
-use Rattle.bh_tables.specs.Typed.{Totals, UseRow, HostRow, TenantRow, KeyRow, BucketRow, VersionRow, BlockRow, RefRow, UploadRow, PartRow, number}
+use Rattle.bh_tables.specs.Typed.{Totals, UseRow, HostRow, TenantRow, KeyRow, BucketRow, VersionRow, BlockRow, RefRow, UploadRow, PartRow, LockRow, RetainRow, number}
 
 -- ---- the row of a primary key, or of the unique key of versions
 
@@ -23,6 +23,14 @@ is_key tenant name k = bytes_eq k.tenant tenant && bytes_eq k.name name
 abbrev pub is_bucket : Octets → Octets → BucketRow → Bool
 is_bucket tenant bucket b = bytes_eq b.tenant tenant && bytes_eq b.bucket bucket
 
+-- the lock of this bucket
+abbrev pub is_lock : Octets → Octets → LockRow → Bool
+is_lock tenant bucket l = bytes_eq l.tenant tenant && bytes_eq l.bucket bucket
+
+-- the date of the version of this entry number
+abbrev pub is_retain : Octets → ℕ → RetainRow → Bool
+is_retain tenant seq r = bytes_eq r.tenant tenant && int_eq (pos r.seq) (pos seq)
+
 -- the version of this id, where 0 is `null`
 abbrev pub is_version : Octets → Octets → Octets → ℕ → VersionRow → Bool
 is_version tenant bucket okey id v = bytes_eq v.tenant tenant && (bytes_eq v.bucket bucket && (bytes_eq v.okey okey && int_eq (pos v.id) (pos id)))
@@ -30,6 +38,10 @@ is_version tenant bucket okey id v = bytes_eq v.tenant tenant && (bytes_eq v.buc
 -- the version of this entry number, of which a tenant gives each once
 abbrev pub is_entry : Octets → ℕ → VersionRow → Bool
 is_entry tenant seq v = bytes_eq v.tenant tenant && int_eq (pos v.seq) (pos seq)
+
+-- whether a version has a date
+abbrev pub is_dated : List RetainRow → VersionRow → Bool
+is_dated retains v = list_any (is_retain v.tenant v.seq) retains
 
 -- a version or marker of this key
 abbrev pub is_at : Octets → Octets → Octets → VersionRow → Bool
@@ -202,6 +214,12 @@ shown_entry b = Text b.bucket ∷ number b.created ∷ []
 -- a bucket's rule
 abbrev pub shown_rule : BucketRow → Row
 shown_rule b = Text b.bucket ∷ or_null number b.days ∷ []
+
+abbrev pub shown_lock : LockRow → Row
+shown_lock l = Text l.bucket ∷ []
+
+abbrev pub shown_until : RetainRow → Row
+shown_until r = number r.until ∷ []
 
 -- a version without its bytes
 abbrev pub shown_head : VersionRow → Row

@@ -9,9 +9,9 @@ use Rattle.sqlite.specs.Tree.{Trees}
 use Rattle.sqlite.specs.Effect.{Database}
 use Rattle.sqlite.specs.State.{State, HasCleanDisk}
 use Rattle.bh_rows.specs.Form.{AreRows, typed}
-use Rattle.bh_tables.specs.Schema.{Octets, host_schema}
+use Rattle.bh_tables.specs.Schema.{Octets, first_schema, host_schema}
 use Rattle.bh_tables.specs.Bodies.{Name, same_name, block_name, ref_name, resolved, resolved_again, resolved_part, resolved_part_again}
-pub use Rattle.bh_tables.specs.Rows.{Totals, column_number, maybe_number, number, maybe_back, HostRow, host_columns, host_of, host_form, TenantRow, tenant_columns, tenant_of, tenant_form, TenantColumns, stored_tenant_form, KeyRow, key_columns, key_of, key_form, BucketRow, bucket_columns, bucket_of, bucket_form, VersionColumns, version_columns, version_of, version_form, VersionRow, BlockRow, block_columns, block_of, block_form, UseRow, use_columns, use_of, use_form, RefRow, ref_columns, ref_of, ref_form, UploadRow, upload_columns, upload_of, upload_form, UploadColumns, stored_upload_form, PartColumns, part_columns, part_of, part_form, PartRow}
+pub use Rattle.bh_tables.specs.Rows.{Totals, column_number, maybe_number, number, maybe_back, HostRow, host_columns, host_of, host_form, TenantRow, tenant_columns, tenant_of, tenant_form, TenantColumns, stored_tenant_form, KeyRow, key_columns, key_of, key_form, BucketRow, bucket_columns, bucket_of, bucket_form, VersionColumns, version_columns, version_of, version_form, VersionRow, BlockRow, block_columns, block_of, block_form, UseRow, use_columns, use_of, use_form, RefRow, ref_columns, ref_of, ref_form, UploadRow, upload_columns, upload_of, upload_form, UploadColumns, stored_upload_form, PartColumns, part_columns, part_of, part_form, PartRow, LockRow, lock_columns, lock_of, lock_form, RetainRow, retain_columns, retain_of, retain_form}
 
 -- ---- all tables
 
@@ -25,9 +25,11 @@ pub record Tables : Type 0 where
   pub refs : List RefRow
   pub uploads : List UploadRow
   pub parts : List PartRow
+  pub locks : List LockRow
+  pub retains : List RetainRow
 
 abbrev pub no_rows : Tables
-no_rows = record { host = []; tenants = []; keys = []; buckets = []; versions = []; blocks = []; refs = []; uploads = []; parts = [] }
+no_rows = record { host = []; tenants = []; keys = []; buckets = []; versions = []; blocks = []; refs = []; uploads = []; parts = []; locks = []; retains = [] }
 
 -- the rows as they are stored
 pub record Raw : Type 0 where
@@ -41,9 +43,15 @@ pub record Raw : Type 0 where
   pub uploads : List Row
   pub parts : List Row
   pub uses : List Row
+  pub locks : List Row
+  pub retains : List Row
 
 abbrev pub raw : Trees → Raw
-raw db = record { host = db 0; tenants = db 1; keys = db 3; buckets = db 5; versions = db 7; blocks = db 10; refs = db 12; uploads = db 16; parts = db 18; uses = db 23 }
+raw db = record { host = db 0; tenants = db 1; keys = db 3; buckets = db 5; versions = db 7; blocks = db 10; refs = db 12; uploads = db 16; parts = db 18; uses = db 23; locks = db 26; retains = db 28 }
+
+-- under the first schema, which has no table of locks and none of dates
+abbrev pub first_raw : Trees → Raw
+first_raw db = record (raw db) { locks = []; retains = [] }
 
 abbrev pub tables_of : Raw → Tables
 tables_of r = record {
@@ -56,6 +64,8 @@ tables_of r = record {
   refs = typed ref_form r.refs;
   uploads = map upload_of r.uploads;
   parts = map (resolved_part (typed ref_form r.refs) (typed block_form r.blocks)) (typed part_form r.parts);
+  locks = typed lock_form r.locks;
+  retains = typed retain_form r.retains;
 }
 
 -- the tables with other references and blocks, of which the versions and parts have their bytes
@@ -80,6 +90,8 @@ pub record AreHeld (sums : Totals) (r : Raw) : Type 0 where
   pub parts : AreRows part_form r.parts
   pub uses : AreRows use_form r.uses
   pub counts : typed use_form r.uses ≡ sums.uses
+  pub locks : AreRows lock_form r.locks
+  pub retains : AreRows retain_form r.retains
 
 -- what a database has in its tables, and a state of the store in those of the database that it sees
 abbrev pub tables_in : Database → Tables
@@ -87,6 +99,10 @@ tables_in db = tables_of (raw db.trees)
 
 abbrev pub tables : State → Tables
 tables s = tables_in s.now
+
+-- and what one of the first schema has
+abbrev pub first_tables_in : Database → Tables
+first_tables_in db = tables_of (first_raw db.trees)
 
 -- how many references name a block
 abbrev pub use_among : List RefRow → BlockRow → UseRow
@@ -142,6 +158,11 @@ pub record IsHostBy (sums : Totals) (db : Database) : Type 0 where
 -- the database is a host's: what is kept of other rows is what they have
 abbrev pub IsHost : Database → Type 0
 IsHost db = IsHostBy (totals_of (tables_in db)) db
+
+-- the database is a host's of the first schema
+pub record IsFirstHost (db : Database) : Type 0 where
+  pub schema : db.schema ≡ first_schema
+  pub held : AreHeld (totals_of (first_tables_in db)) (first_raw db.trees)
 
 -- if the store returned what was written and the connection is open, the database is a host's
 abbrev pub IsReadyBy : Totals → State → Type 0

@@ -1,11 +1,12 @@
-ghost use Rattle.std.specs.Prelude.{◌≡◌, ◌≤◌, ◌<◌, ◌*◌, pos, None, IfOk};
+ghost use Rattle.std.specs.Prelude.{◌≡◌, ◌≢◌, ◌↔◌, ◌≤◌, ◌<◌, ◌*◌, ℕ, pos, Some, None, IsTrue, IfOk, IfSome, IfNone};
 ghost use Rattle.std.specs.String.{string_bytes};
 ghost use Rattle.std.specs.Option.{SomeIff};
 ghost use Rattle.jiff.specs.Words.{epoch_day, date_text, time_text};
 ghost use Rattle.bh_types.specs.Moments as spec;
 
-use jiff::ToSpan;
 use jiff::civil::{Date, Time, date};
+use jiff::fmt::temporal::DateTimePrinter;
+use jiff::{Timestamp, ToSpan};
 use std::alloc::{AllocError, Global};
 use std::marker::Model;
 
@@ -59,6 +60,28 @@ impl Moment {
         }
     }
 
+    /// The moment that a text is, as [`moment_text`] writes it and in no other form, or `None` where it is none. Takes
+    /// no memory.
+    pub fn read(text: &str) -> Option<Moment>
+        ensures is { result ≡ spec.moment_of text.now }
+        ensures value { IfSome result (λ m. spec.moment_text m ≡ text.now) }
+        ensures none { IfNone result ((m : ℕ) → m ≤ 251_000_000_000 → text.now ≢ spec.moment_text m) }
+    {
+        let parsed = text.parse::<Timestamp>();
+        let Ok(timestamp) = parsed else {
+            return None;
+        };
+        let Some(moment) = moment_at(timestamp) else {
+            return None;
+        };
+        // The reader takes other forms too.
+        if is_print(timestamp, text) {
+            Some(moment)
+        } else {
+            None
+        }
+    }
+
     /// Seconds since 1970.
     pub fn seconds(self) -> u64
         ensures value { result ≡ self }
@@ -77,6 +100,26 @@ pub fn moment_text(alloc: Global, moment: Moment) -> Result<String, AllocError>
     let date = day_after((seconds / SECONDS_A_DAY) as u32);
     let time = clock((seconds % SECONDS_A_DAY) as u32);
     format!(in alloc; "{date}T{time}Z")
+}
+
+/// The moment of an instant, or `None` where it has a fraction of a second, or is before 1970 or past [`LAST_MOMENT`].
+fn moment_at(timestamp: Timestamp) -> Option<Moment>
+    ensures value { IfSome result (λ m. timestamp.nanosecond ≡ pos (m * 1_000_000_000)) }
+    ensures found { (m : ℕ) → m ≤ 251_000_000_000 → timestamp.nanosecond ≡ pos (m * 1_000_000_000) → result ≡ Some m }
+{
+    let seconds = timestamp.as_second();
+    if seconds < 0 || timestamp.subsec_nanosecond() != 0 {
+        return None;
+    }
+    Moment::new(seconds as u64)
+}
+
+/// Whether a text is the print of an instant that is a moment.
+fn is_print(timestamp: Timestamp, text: &str) -> bool
+    ensures { (m : ℕ) → m ≤ 251_000_000_000 → timestamp.nanosecond ≡ pos (m * 1_000_000_000) → IsTrue result ↔ (spec.moment_text m ≡ text.now) }
+{
+    let printed = DateTimePrinter::new().timestamp_text(timestamp.to_plain());
+    printed.as_str() == text
 }
 
 /// When an upload that was begun then is stale under a rule of so many days: the midnight, in UTC,

@@ -21,7 +21,7 @@ use Rattle.bh_view.proofs.GroupedLemmas.{unwrapped, set_at_same}
 use Rattle.bh_view.proofs.ObjectLemmas.{get-objects_of}
 use Rattle.bh_view.proofs.BucketLemmas.{objects_shown}
 use Rattle.bh_view.proofs.ViewLemmas.{own_row}
-use Rattle.bh_view.proofs.VersionChanges.{version_removed}
+use Rattle.bh_view.proofs.VersionChanges.{null_undated, version_removed}
 use Rattle.bh_view.proofs.FindLemmas.{id_found}
 
 -- an id that no entry has
@@ -73,7 +73,7 @@ module _ (tables : Tables) (t : Octets) (s : State) (is : view tables t ≡ Some
         let found : filter (has_id Null) (listed k B) ≡ entry_of v ∷ [] = id_found tables t s is b k B at sound 0 ∙ ap (λ o. option_to_list (option_map entry_of o)) there in
         let objects : AllByRecursion (λ e. is_object e ≡ true) (filter (has_id Null) (listed k B)) = subst (AllByRecursion (λ e. is_object e ≡ true)) (sym found) (ap (λ m. is_body (content_of m v)) body, tt) in
         subst (λ l. Becomes t (Some (with_bucket b (with_entries k l B) s)) tables new) (sym (none_kept (has_id Null) is_object (listed k B) objects))
-        (version_removed tables new t s sound is b k 0 B at e)
+        (version_removed tables new t s sound is b k 0 B at (null_undated b k _ _ _ (sound.tenants t).retains.kept) e)
 
     -- and nothing, where none is there, or a delete marker is `null`
     pub null_kept : option_map_or (λ v. is_object (entry_of v)) (find (is_version t b k 0) tables.versions) false ≡ false → with_bucket b (with_entries k (without_null_version (listed k B)) B) s ≡ s

@@ -36,6 +36,8 @@ sound_later m n up rows all =
       versions = record { each = versions; one_seq = all.versions.one_seq; one_id = all.versions.one_id; owned = all.versions.owned; given = all.versions.given };
       uploads = record { each = uploads; one = all.uploads.one; owned = all.uploads.owned; given = all.uploads.given };
       parts = record { each = parts; one = all.parts.one; one_body = all.parts.one_body; apart = all.parts.apart; owned = all.parts.owned; given = all.parts.given };
+      locks = all.locks;
+      retains = all.retains;
     }
 
 -- a stamp that is not before the last one
@@ -68,7 +70,7 @@ stamped_again tables sound =
 pub created : (tables : Tables) (min_part max_body digest : ℕ) → AreLimits min_part max_body → digest ≤ 1 → tables ≡ new_host min_part max_body digest
     → IsSound tables × (latest_of tables ≡ 0) × ((t : Octets) → view tables t ≡ None) × (limits_in tables ≡ record { min_part = min_part; max_body = max_body })
 created tables min_part max_body digest limits known e =
-    let row : HostRow = record { version = 1; latest = 0; min_part = min_part; max_body = max_body; digest = digest } in
+    let row : HostRow = record { version = 2; latest = 0; min_part = min_part; max_body = max_body; digest = digest } in
     subst (λ (x : Tables). IsSound x × (latest_of x ≡ 0) × ((t : Octets) → view x t ≡ None) × (limits_in x ≡ record { min_part = min_part; max_body = max_body })) (sym e) (
       record {
         host = record { row = row; alone = refl; good = record { version = refl; digest = known; latest = omega arith; limits = limits } };
@@ -79,6 +81,8 @@ created tables min_part max_body digest limits known e =
           versions = record { each = tt; one_seq = λ q. omega arith; one_id = λ b k q. omega arith; owned = λ q gone. refl; given = tt };
           uploads = record { each = tt; one = λ q. omega arith; owned = λ q gone. refl; given = tt };
           parts = record { each = tt; one = λ u q. omega arith; one_body = λ q. omega arith; apart = tt; owned = λ q gone. refl; given = tt };
+          locks = record { one = λ q. omega arith; owned = λ q gone. refl; enabled = tt };
+          retains = record { each = tt; one = λ q. omega arith; owned = λ q gone. refl; kept = tt };
         };
         stored = record { one = λ q. omega arith; once = λ q. omega arith; named = λ q gone. refl };
       },

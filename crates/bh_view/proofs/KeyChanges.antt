@@ -35,7 +35,7 @@ module _ (old new : Tables) (t : Octets) (s : State) (sound : IsSound old) (is :
       subst (Becomes t (Some (record s { keys = change s.keys })) old) (sym e)
       (becomes t _ old after sound refl refl refl (λ u apart i. record (rows_of u old) { keys = others u apart i })
       (keys_shown (rows_of t old) s (sym (view_is old t) ∙ is) (rows_at own t keys) change (ap keys_of here ∙ shows))
-      (record { tenants = all.tenants; keys = subst (AreKeys (rows_of t old).tenants) (sym here) good; buckets = all.buckets; versions = all.versions; uploads = all.uploads; parts = all.parts }))
+      (record { tenants = all.tenants; keys = subst (AreKeys (rows_of t old).tenants) (sym here) good; buckets = all.buckets; versions = all.versions; uploads = all.uploads; parts = all.parts; locks = all.locks; retains = all.retains }))
 
   -- no row has the name of a key that is not there
   pub key_fresh : (n : Octets) → get s.keys n ≡ None → matching bytes_eq name n (rows_of t old).keys ≡ []

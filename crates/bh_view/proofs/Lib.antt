@@ -4,6 +4,7 @@ pub mod GroupedLemmas
 pub mod TotalLemmas
 pub mod Keys
 pub mod ObjectLemmas
+pub mod DatedLemmas
 pub mod BucketLemmas
 pub mod ListingLemmas
 pub mod GroupListingLemmas
@@ -15,10 +16,12 @@ pub mod KeyChanges
 pub mod HostChanges
 pub mod TenantChanges
 pub mod BucketChanges
+pub mod LockChanges
 pub mod BucketListing
 pub mod VersionChanges
 pub mod PutLemmas
 pub mod FindLemmas
+pub mod DateChanges
 pub mod WantedLemmas
 pub mod IdLemmas
 pub mod DeleteLemmas

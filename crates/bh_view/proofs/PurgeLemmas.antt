@@ -86,6 +86,8 @@ module _ (old : Tables) (t : Octets) (gone : ℕ → Bool) where
           versions = all.versions;
           uploads = uploads_left (latest_of old) mine.tenants mine.buckets mine.uploads all.uploads (λ u. gone u.upload);
           parts = record { each = fit.each; one = fit.one; one_body = fit.one_body; apart = fit.apart; owned = λ n. owned_still n (all.parts.owned n); given = fit.given };
+          locks = all.locks;
+          retains = all.retains;
         }
 
     -- all else stays

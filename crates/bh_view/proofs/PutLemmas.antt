@@ -33,7 +33,7 @@ use Rattle.bh_view.proofs.GroupedLemmas.{get_here, set_at_again, is_other, unwra
 use Rattle.bh_view.proofs.OwnLemmas.{mine_deleted}
 use Rattle.bh_view.proofs.ViewLemmas.{own_row, own_rows, becomes_then}
 use Rattle.bh_view.proofs.TenantChanges.{next_entry_set, numbers_set}
-use Rattle.bh_view.proofs.VersionChanges.{one_version, version_added, version_removed}
+use Rattle.bh_view.proofs.VersionChanges.{one_version, null_undated, version_added, version_removed}
 
 -- ---- the machine's words
 
@@ -128,7 +128,7 @@ module _ (old new : Tables) (t : Octets) (s : State) (sound : IsSound old) (is :
         let s1 : State = record s { next_entry = s.next_entry + 1 } in
         let B1 = with_entries k (without Null (listed k B)) B in
         let first = next_entry_set old one t s sound is (s.next_entry + 1) (omega arith) (omega (arith, leb-true _ _ room)) refl in
-        let second = version_removed one two t s1 first.sound first.shown b k 0 B at refl in
+        let second = version_removed one two t s1 first.sound first.shown b k 0 B at (null_undated b k _ _ _ (first.sound.tenants t).retains.kept) refl in
         let third = version_added two new (with_bucket b B1 s1) (entry_row t b k s.next_entry 0 moment content) B1 second.sound second.shown (get_here octets s.buckets b (Some B1))
         (row_good s.next_entry 0 two (second.latest ∙ first.latest)) (omega arith) (omega (arith, (counters_good old t s sound is).0.0))
         (subst (AllByRecursion (λ x. x.seq < s.next_entry)) (sym (mine_deleted (λ (x : VersionRow). x.tenant) t _ old.versions)) (all-filter _ _ _ (older old t s sound is))) (parts_older old t s sound is) (delete_all (is_version t b k 0) old.versions) e in

@@ -8,7 +8,7 @@ use Rattle.bh_types.specs.Limits.{IsQuota}
 use Rattle.bh_types.specs.Names.{is_tenant_name}
 use Rattle.bh_model.specs.State.{Octets, State, new_tenant}
 use Rattle.bh_model.specs.Counting.{counts, with_counts, AtMost}
-use Rattle.bh_tables.specs.Typed.{TenantRow, BucketRow, VersionRow, UploadRow, PartRow, Tables}
+use Rattle.bh_tables.specs.Typed.{TenantRow, BucketRow, VersionRow, UploadRow, PartRow, LockRow, RetainRow, Tables}
 use Rattle.bh_tables.specs.Shown.{is_tenant}
 use Rattle.bh_view.specs.Grouped.{first, matching, same_number, grouped}
 use Rattle.bh_view.specs.View.{TenantRows, rows_of, state_of, state_shown, view, latest_of}
@@ -80,6 +80,8 @@ module _ (old new : Tables) (t : Octets) (s : State) (sound : IsSound old) (is :
           owned = all.parts.owned;
           given = (all_weaker (λ (p : PartRow). p.body < r.next_entry) (λ p. p.body < (f r).next_entry) (λ p less. omega (arith, less, fine.1.2)) mine.parts (all_first _ _ r row.1 all.parts.given), tt);
         };
+        locks = all.locks;
+        retains = all.retains;
       })))
 
   -- counters that do not go back
@@ -110,7 +112,7 @@ module _ (old new : Tables) (t : Octets) (s : State) (sound : IsSound old) (is :
       (record { name = fine.name; quota = fine.quota; counters = ((omega (arith, fine.counters.0.0, later), high_version), fine.counters.1, (omega (arith, fine.counters.2.0, more), high)) }, (later, omega arith, more)))
 
 abbrev pub no_tenant_rows : TenantRows
-no_tenant_rows = record { tenants = []; keys = []; buckets = []; versions = []; uploads = []; parts = [] }
+no_tenant_rows = record { tenants = []; keys = []; buckets = []; versions = []; uploads = []; parts = []; locks = []; retains = [] }
 
 -- a tenant that is not there has no rows
 pub absent_rows : (tables : Tables) (t : Octets) → IsSound tables → view tables t ≡ None → rows_of t tables ≡ no_tenant_rows
@@ -120,14 +122,17 @@ absent_rows tables t sound is =
     let none : first mine.tenants ≡ None = none_mapped (state_of mine) _ (sym (view_is tables t) ∙ is) in
     let no_buckets : mine.buckets ≡ [] = all.buckets.owned none in
     let none_named : (b : Octets) → first (matching bytes_eq (λ (r : BucketRow). r.bucket) b mine.buckets) ≡ None = λ b. ap (λ l. first (matching bytes_eq (λ (r : BucketRow). r.bucket) b l)) no_buckets in
+    let no_versions : mine.versions ≡ [] = no_keys octets (λ (v : VersionRow). v.bucket) mine.versions (λ b. all.versions.owned b (none_named b)) in
     let no_uploads : mine.uploads ≡ [] = no_keys octets (λ (u : UploadRow). u.bucket) mine.uploads (λ b. all.uploads.owned b (none_named b)) in
     λ i. record {
       tenants = none_first mine.tenants none i;
       keys = all.keys.owned none i;
       buckets = no_buckets i;
-      versions = no_keys octets (λ (v : VersionRow). v.bucket) mine.versions (λ b. all.versions.owned b (none_named b)) i;
+      versions = no_versions i;
       uploads = no_uploads i;
       parts = no_keys numbers (λ (p : PartRow). p.upload) mine.parts (λ u. all.parts.owned u (ap (λ l. first (matching same_number (λ (x : UploadRow). x.upload) u l)) no_uploads)) i;
+      locks = no_keys octets (λ (l : LockRow). l.bucket) mine.locks (λ b. all.locks.owned b (none_named b)) i;
+      retains = no_keys numbers (λ (r : RetainRow). r.seq) mine.retains (λ n. all.retains.owned n (ap (λ l. first (matching same_number (λ (v : VersionRow). v.seq) n l)) no_versions)) i;
     }
 
 pub tenant_added : (old new : Tables) (t : Octets) (quota : ℕ) → IsSound old → view old t ≡ None → IsTrue (is_tenant_name t) → IsQuota quota
@@ -148,4 +153,6 @@ tenant_added old new t quota sound is name few e =
       versions = record { each = tt; one_seq = λ q. omega arith; one_id = λ b k q. omega arith; owned = λ q gone. refl; given = (tt, tt) };
       uploads = record { each = tt; one = λ q. omega arith; owned = λ q gone. refl; given = (tt, tt) };
       parts = record { each = tt; one = λ u q. omega arith; one_body = λ q. omega arith; apart = tt; owned = λ q gone. refl; given = (tt, tt) };
+      locks = record { one = λ q. omega arith; owned = λ q gone. refl; enabled = tt };
+      retains = record { each = tt; one = λ q. omega arith; owned = λ q gone. refl; kept = tt };
     })))

@@ -80,6 +80,8 @@ module _ (old new : Tables) (t : Octets) (s : State) (sound : IsSound old) (is :
         uploads = subst (AreUploads (latest_of old) (rows_of t old).tenants (rows_of t old).buckets) (sym here) good;
         parts = subst (λ (l : List UploadRow). AreParts (latest_of old) (rows_of t old).tenants (rows_of t old).versions l (rows_at (λ (p : PartRow). p.tenant) t parts)) (sym here)
             (subst (AreParts (latest_of old) (rows_of t old).tenants (rows_of t old).versions mine) (sym parts_here) fit);
+        locks = all.locks;
+        retains = all.retains;
       }))
 
   module _ (b : Octets) (B : Bucket) (at : get s.buckets b ≡ Some B) where

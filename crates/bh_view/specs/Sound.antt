@@ -1,5 +1,5 @@
 -- Sound tables: the facts that each row keeps to, by itself and among the others.
-use Rattle.std.specs.Prelude.{◌≡◌, ℕ, ◌<◌, ◌≤◌, false, List, [], ◌∷◌, length, Option, Some, None, IsTrue}
+use Rattle.std.specs.Prelude.{◌≡◌, ℕ, ◌<◌, ◌≤◌, true, false, is_some, List, [], ◌∷◌, length, Option, Some, None, IsTrue}
 use Rattle.std.specs.Str.{IsUtf8}
 use Rattle.std.specs.List.{AllByRecursion, list_any}
 use Rattle.sqlite_typed.specs.Tests.{bytes_eq}
@@ -9,16 +9,16 @@ use Rattle.bh_types.specs.Counts.{AreCounters}
 use Rattle.bh_types.specs.Limits.{AreLimits, IsQuota}
 use Rattle.bh_model.specs.State.{Octets}
 use Rattle.bh_model.specs.Runs.{last_reading}
-use Rattle.bh_tables.specs.Typed.{HostRow, TenantRow, KeyRow, BucketRow, VersionRow, UploadRow, PartRow, Tables}
+use Rattle.bh_tables.specs.Typed.{HostRow, TenantRow, KeyRow, BucketRow, VersionRow, UploadRow, PartRow, LockRow, RetainRow, Tables}
 use Rattle.bh_view.specs.Grouped.{first, same_number, HasUnique, Refers}
 use Rattle.bh_view.specs.Blocks.{AreStored}
-use Rattle.bh_view.specs.View.{TenantRows, rows_of, in_bucket, at_key, of_upload, latest_of}
+use Rattle.bh_view.specs.View.{TenantRows, rows_of, in_bucket, at_key, of_upload, is_locked, date_in, latest_of}
 
 -- ---- the row of the host
 
--- of version 1, with blocks named by a function that has a number; the last stamp is in seconds since 1970
+-- of version 2, with blocks named by a function that has a number; the last stamp is in seconds since 1970
 pub record IsHostRow (r : HostRow) : Type 0 where
-  pub version : r.version ≡ 1
+  pub version : r.version ≡ 2
   pub digest : r.digest ≤ 1
   pub latest : r.latest ≤ last_reading
   pub limits : AreLimits r.min_part r.max_body
@@ -119,7 +119,26 @@ pub record AreParts (latest : ℕ) (tenants : List TenantRow) (versions : List V
   pub owned : Refers same_number (λ (u : UploadRow). u.upload) uploads (λ (p : PartRow). p.upload) parts
   pub given : AllByRecursion (λ (r : TenantRow). AllByRecursion (λ (p : PartRow). p.body < r.next_entry) parts) tenants
 
--- the rows of one tenant, of which no moment is after the last stamp
+-- one row for a bucket, none without its bucket, and a locked bucket is Enabled
+pub record AreLocks (buckets : List BucketRow) (locks : List LockRow) : Type 0 where
+  pub one : HasUnique bytes_eq (λ (l : LockRow). l.bucket) locks
+  pub owned : Refers bytes_eq (λ (r : BucketRow). r.bucket) buckets (λ (l : LockRow). l.bucket) locks
+  pub enabled : AllByRecursion (λ (r : BucketRow). is_locked r.bucket locks ≡ true → r.state ≡ 1) buckets
+
+-- a version that may have a date: one with a number, that is no marker and in a locked bucket
+pub record MayBeDated (locks : List LockRow) (v : VersionRow) : Type 0 where
+  pub numbered : 1 ≤ v.id
+  pub content : v.marker ≡ 0
+  pub locked : is_locked v.bucket locks ≡ true
+
+-- one row for a version, none without its version, and a date is a moment; it may be after the last stamp
+pub record AreRetains (versions : List VersionRow) (locks : List LockRow) (retains : List RetainRow) : Type 0 where
+  pub each : AllByRecursion (λ (r : RetainRow). r.until ≤ 251_000_000_000) retains
+  pub one : HasUnique same_number (λ (r : RetainRow). r.seq) retains
+  pub owned : Refers same_number (λ (v : VersionRow). v.seq) versions (λ (r : RetainRow). r.seq) retains
+  pub kept : AllByRecursion (λ v. is_some (date_in retains v) ≡ true → MayBeDated locks v) versions
+
+-- the rows of one tenant, of which no moment but a version's date is after the last stamp
 pub record AreSound (latest : ℕ) (rows : TenantRows) : Type 0 where
   pub tenants : AreTenants rows.tenants
   pub keys : AreKeys rows.tenants rows.keys
@@ -127,6 +146,8 @@ pub record AreSound (latest : ℕ) (rows : TenantRows) : Type 0 where
   pub versions : AreVersions latest rows.tenants rows.buckets rows.versions
   pub uploads : AreUploads latest rows.tenants rows.buckets rows.uploads
   pub parts : AreParts latest rows.tenants rows.versions rows.uploads rows.parts
+  pub locks : AreLocks rows.buckets rows.locks
+  pub retains : AreRetains rows.versions rows.locks rows.retains
 
 -- ---- all tables
 

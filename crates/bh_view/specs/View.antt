@@ -1,5 +1,5 @@
 -- One tenant's rows in the tables, and the state of the private machine that they show.
-use Rattle.std.specs.Prelude.{ℕ, zero, suc, Bool, ◌&&◌, List, map, find, Option, option_map, option_and_then}
+use Rattle.std.specs.Prelude.{ℕ, zero, suc, Bool, ◌&&◌, List, [], map, find, Option, option_map, option_and_then}
 use Rattle.std.specs.List.{list_any}
 use Rattle.std.specs.Option.{option_map_or}
 use Rattle.std.specs.FinMap.{FinMap}
@@ -11,9 +11,9 @@ use Rattle.bh_types.specs.declared.id.VersionId.{VersionId}
 use Rattle.bh_types.specs.declared.id.VersionId.TheVariants.{Null, Numbered}
 use Rattle.bh_types.specs.declared.bucket_state.BucketState.{BucketState}
 use Rattle.bh_types.specs.declared.bucket_state.BucketState.TheVariants.{Unversioned, Enabled, Suspended}
-use Rattle.bh_model.specs.State.{Octets, octets_cmp, Content, Content.Marker, Content.Body, Entry, Part, Upload, Bucket, State, is_stale}
-use Rattle.bh_tables.specs.Typed.{HostRow, TenantRow, KeyRow, BucketRow, VersionRow, RefRow, UploadRow, PartRow, Tables}
-use Rattle.bh_tables.specs.Shown.{part_name, is_bucket, is_upload, is_of_body, newer}
+use Rattle.bh_model.specs.State.{Octets, octets_cmp, version_cmp, Content, Content.Marker, Content.Body, Dates, Entry, Part, Upload, Bucket, State, is_stale}
+use Rattle.bh_tables.specs.Typed.{HostRow, TenantRow, KeyRow, BucketRow, VersionRow, RefRow, UploadRow, PartRow, LockRow, RetainRow, Tables}
+use Rattle.bh_tables.specs.Shown.{Name, same_name, part_name, is_bucket, is_upload, is_of_body, newer}
 use Rattle.bh_model.specs.FinMaps.{non_empty}
 use Rattle.bh_view.specs.Grouped.{first, matching, same_number, grouped, keyed}
 
@@ -70,6 +70,8 @@ pub record TenantRows : Type 0 where
   pub versions : List VersionRow
   pub uploads : List UploadRow
   pub parts : List PartRow
+  pub locks : List LockRow
+  pub retains : List RetainRow
 
 abbrev pub rows_of : Octets → Tables → TenantRows
 rows_of t tables = record {
@@ -79,6 +81,8 @@ rows_of t tables = record {
   versions = matching bytes_eq (λ (r : VersionRow). r.tenant) t tables.versions;
   uploads = matching bytes_eq (λ (r : UploadRow). r.tenant) t tables.uploads;
   parts = matching bytes_eq (λ (r : PartRow). r.tenant) t tables.parts;
+  locks = matching bytes_eq (λ (r : LockRow). r.tenant) t tables.locks;
+  retains = matching bytes_eq (λ (r : RetainRow). r.tenant) t tables.retains;
 }
 
 abbrev pub named : Octets → List BucketRow → List BucketRow
@@ -138,6 +142,22 @@ upload_shown parts number u = record { key = u.okey; begun = u.begun; parts = pa
 abbrev pub uploads_of : List PartRow → List UploadRow → FinMap nat_cmp Upload
 uploads_of parts = keyed nat_cmp same_number (λ (u : UploadRow). u.upload) (upload_shown parts)
 
+-- whether a bucket is locked
+abbrev pub is_locked : Octets → List LockRow → Bool
+is_locked name locks = list_any (λ (l : LockRow). bytes_eq l.bucket name) locks
+
+-- a version by its key and its number
+abbrev pub version_name : VersionRow → Name
+version_name v = (v.okey, v.id)
+
+-- the date of a version, if a row has one
+abbrev pub date_in : List RetainRow → VersionRow → Option ℕ
+date_in retains v = option_map (λ (r : RetainRow). r.until) (first (matching same_number (λ r. r.seq) v.seq retains))
+
+-- of versions of one bucket, by their keys and numbers
+abbrev pub dates_of : List RetainRow → List VersionRow → Dates
+dates_of retains = grouped version_cmp same_name version_name (λ _ rows. option_and_then (date_in retains) (first rows))
+
 abbrev pub bucket_shown : TenantRows → Octets → BucketRow → Bucket
 bucket_shown rows name r = record {
   created = r.created;
@@ -145,6 +165,8 @@ bucket_shown rows name r = record {
   days = r.days;
   objects = objects_of (in_bucket name rows.versions);
   uploads = uploads_of rows.parts (uploads_in name rows.uploads);
+  locked = is_locked name rows.locks;
+  dates = dates_of rows.retains (in_bucket name rows.versions);
 }
 
 abbrev pub buckets_of : TenantRows → FinMap octets_cmp Bucket

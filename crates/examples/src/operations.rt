@@ -69,7 +69,11 @@ fn asked(alloc: Global, request: &Request) -> Answer {
 
 fn outcome_text(alloc: Global, outcome: Result<Operation, RequestError>) -> Answer {
     match outcome {
-        Ok(operation) => Ok(operation_text(alloc, &operation)?),
+        Ok(operation) => text_of(alloc, &operation),
         Err(error) => refused(alloc, error),
     }
+}
+
+fn text_of(alloc: Global, operation: &Operation) -> Answer {
+    Ok(operation_text(alloc, operation)?)
 }

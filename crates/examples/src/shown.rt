@@ -2,7 +2,7 @@
 
 use crate::words::wanted_text;
 use Word::{
-    AfterUpload, AfterVersion, Bucket, Field, Number, Object, Source, Token, Upload, Version,
+    AfterUpload, AfterVersion, Bucket, Date, Field, Number, Object, Source, Token, Upload, Version,
 };
 use bh_operation::address::ObjectName;
 use bh_operation::operation::Operation;
@@ -10,6 +10,7 @@ use bh_operation::page::{Page, UploadMarker, VersionMarker};
 use bh_operation::text::Bytes;
 use bh_types::bucket::BucketName;
 use bh_types::id::UploadId;
+use bh_types::moment::{Moment, moment_text};
 use bh_types::wanted::Wanted;
 use std::alloc::{AllocError, Global};
 
@@ -18,6 +19,8 @@ use std::alloc::{AllocError, Global};
 enum Word<'a> {
     Nothing,
     Bucket(&'a BucketName),
+    /// That a bucket is to be locked.
+    Locked,
     Object(&'a ObjectName),
     Source(&'a ObjectName),
     Version(Wanted),
@@ -25,6 +28,8 @@ enum Word<'a> {
     Number(u64),
     /// A header field's text, or `none`.
     Field(&'a Option<Bytes>),
+    /// The date that is given, or `no date` where it isn't given as it should be.
+    Date(&'a Option<Moment>),
     Page(&'a Page),
     /// A token's bytes in hexadecimal digits, or `first`.
     Token(&'a Option<Bytes>),
@@ -51,6 +56,17 @@ const fn three<'a>(
     (name, [first, second, third, Word::Nothing])
 }
 
+const fn locked_word<'a>(locked: bool) -> Word<'a> {
+    if locked { Word::Locked } else { Word::Nothing }
+}
+
+const fn date_word<'a>(date: &'a Option<Option<Moment>>) -> Word<'a> {
+    match date {
+        Some(date) => Date(date),
+        None => Word::Nothing,
+    }
+}
+
 /// An operation and what it was asked with, on one line.
 pub fn operation_text(alloc: Global, operation: &Operation) -> Result<String, AllocError> {
     let (name, words) = object_words(operation);
@@ -63,12 +79,22 @@ pub fn operation_text(alloc: Global, operation: &Operation) -> Result<String, Al
 
 fn object_words(operation: &Operation) -> Words<'_> {
     match operation {
-        Operation::PutObject { object, checksum } => {
-            two("PutObject", Object(object), Field(checksum))
+        Operation::PutObject {
+            object,
+            checksum,
+            date,
+        } => {
+            let until = date_word(date);
+            three("PutObject", Object(object), Field(checksum), until)
         }
-        Operation::CopyObject { object, source } => {
+        Operation::CopyObject {
+            object,
+            source,
+            date,
+        } => {
             let (from, version) = (Source(&source.object), Version(source.version));
-            three("CopyObject", Object(object), from, version)
+            let until = date_word(date);
+            ("CopyObject", [Object(object), from, version, until])
         }
         Operation::GetObject {
             object,
@@ -80,6 +106,18 @@ fn object_words(operation: &Operation) -> Words<'_> {
         }
         Operation::DeleteObject { object, version } => {
             two("DeleteObject", Object(object), Version(*version))
+        }
+        _ => retention_words(operation),
+    }
+}
+
+fn retention_words(operation: &Operation) -> Words<'_> {
+    match operation {
+        Operation::GetRetention { object, version } => {
+            two("GetRetention", Object(object), Version(*version))
+        }
+        Operation::PutRetention { object, version } => {
+            two("PutRetention", Object(object), Version(*version))
         }
         _ => upload_words(operation),
     }
@@ -152,7 +190,9 @@ fn listing_words(operation: &Operation) -> Words<'_> {
 
 fn bucket_words(operation: &Operation) -> Words<'_> {
     match operation {
-        Operation::CreateBucket(bucket) => one("CreateBucket", Bucket(bucket)),
+        Operation::CreateBucket { bucket, locked } => {
+            two("CreateBucket", Bucket(bucket), locked_word(*locked))
+        }
         Operation::HeadBucket(bucket) => one("HeadBucket", Bucket(bucket)),
         Operation::DeleteBucket(bucket) => one("DeleteBucket", Bucket(bucket)),
         Operation::GetBucketVersioning(bucket) => one("GetBucketVersioning", Bucket(bucket)),
@@ -177,6 +217,7 @@ fn push(alloc: Global, text: &mut String, word: Word<'_>) -> Result<(), AllocErr
 fn name_text(alloc: Global, word: Word<'_>) -> Result<String, AllocError> {
     match word {
         Bucket(bucket) => String::from_str(alloc, bucket.as_str()),
+        Word::Locked => String::from_str(alloc, "locked"),
         Object(object) => object_text(alloc, "", object),
         Source(object) => object_text(alloc, "from ", object),
         Version(version) => wanted_text(alloc, version),
@@ -190,6 +231,7 @@ fn field_text(alloc: Global, word: Word<'_>) -> Result<String, AllocError> {
         Number(number) => number.to_string(alloc),
         Field(Some(bytes)) => String::from_utf8_lossy(alloc, bytes.as_slice()),
         Field(None) => String::from_str(alloc, "none"),
+        Date(date) => date_text(alloc, date),
         Word::Page(page) => page_text(alloc, page),
         Token(Some(bytes)) => token_text(alloc, bytes),
         _ => marker_text(alloc, word),
@@ -214,6 +256,16 @@ fn upload_text(alloc: Global, upload: Option<UploadId>) -> Result<String, AllocE
     match upload {
         Some(id) => id.number.to_string(alloc),
         None => String::from_str(alloc, "unknown"),
+    }
+}
+
+fn date_text(alloc: Global, date: &Option<Moment>) -> Result<String, AllocError> {
+    match date {
+        Some(date) => {
+            let date = moment_text(alloc, *date)?;
+            format!(in alloc; "until {date}")
+        }
+        None => String::from_str(alloc, "no date"),
     }
 }
 

@@ -86,12 +86,13 @@ pub fn find_bucket<S: Alter>(
     }
 }
 
-/// Adds an Unversioned bucket with no rule, made at this second since 1970.
+/// Adds a bucket in this state with no rule, made at this second since 1970.
 pub fn insert_bucket<S: Alter>(
     connection: &mut Connection<S>,
     tenant: &str,
     bucket: &str,
     created: u64,
+    state: BucketState,
 ) -> Result<usize, Error>
     requires inside { InTransaction S.Store connection.old }
     requires small { created < 2 ^ 63 }
@@ -100,7 +101,7 @@ pub fn insert_bucket<S: Alter>(
     ensures holds { OnOk result (Becomes S.Store connection.old connection.new
         (λ rows. record rows {
           buckets = rows.buckets
-              ++ record { tenant = tenant.now; bucket = bucket.now; created = created; state = 0; days = None } ∷ [];
+              ++ record { tenant = tenant.now; bucket = bucket.now; created = created; state = state_number state; days = None } ∷ [];
         })) }
     ensures trouble { IfErr result (IsTroubleIf S.Store connection.old connection.new
         (IsNewBucket (tables S.Store connection.old) tenant.now bucket.now)) }
@@ -108,8 +109,13 @@ pub fn insert_bucket<S: Alter>(
     // Asked for what it ensures: the rows obey the schema.
     let _schema = connection.schema();
     connection.execute(
-        "INSERT INTO buckets (tenant, bucket, created, state, days) VALUES (?1, ?2, ?3, 0, NULL)",
-        &[tenant.to_sql(), bucket.to_sql(), number(created)],
+        "INSERT INTO buckets (tenant, bucket, created, state, days) VALUES (?1, ?2, ?3, ?4, NULL)",
+        &[
+            tenant.to_sql(),
+            bucket.to_sql(),
+            number(created),
+            number(state.number()),
+        ],
     )
 }
 
@@ -139,7 +145,7 @@ pub fn set_state<S: Alter>(
 }
 
 /// Takes a tenant's bucket of this name away, if it is there. The store refuses to where a version or an
-/// upload is in it.
+/// upload is in it, or it is locked.
 pub fn delete_bucket<S: Alter>(
     connection: &mut Connection<S>,
     tenant: &str,

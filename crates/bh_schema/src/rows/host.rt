@@ -59,7 +59,7 @@ pub fn set_latest<S: Alter>(connection: &mut Connection<S>, stamp: u64) -> Resul
     connection.execute("UPDATE host SET latest = ?1", &[number(stamp)])
 }
 
-/// Adds the row of a new host, of version 1, whose last stamp is 0 and whose blocks are named by the function of this number.
+/// Adds the row of a new host, of version 2, whose last stamp is 0 and whose blocks are named by the function of this number.
 pub fn insert_host<S: Alter>(
     connection: &mut Connection<S>,
     min_part: u64,
@@ -73,14 +73,14 @@ pub fn insert_host<S: Alter>(
     ensures within { StaysWithin S.Store connection.old connection.new }
     ensures opens { OnOk result (StaysOpen S.Store connection.old connection.new) }
     ensures holds { OnOk result (Becomes S.Store connection.old connection.new
-        (λ rows. record rows { host = rows.host ++ record { version = 1; latest = 0; min_part = min_part; max_body = max_body; digest = digest } ∷ [] })) }
+        (λ rows. record rows { host = rows.host ++ record { version = 2; latest = 0; min_part = min_part; max_body = max_body; digest = digest } ∷ [] })) }
     ensures trouble { IfErr result (IsTroubleIf S.Store connection.old connection.new
         (IsClean S.Store connection.old → (tables S.Store connection.old).host ≡ [])) }
 {
     // Asked for what it ensures: the rows obey the schema.
     let _schema = connection.schema();
     connection.execute(
-        "INSERT INTO host (version, latest, min_part, max_body, digest) VALUES (1, 0, ?1, ?2, ?3)",
+        "INSERT INTO host (version, latest, min_part, max_body, digest) VALUES (2, 0, ?1, ?2, ?3)",
         &[number(min_part), number(max_body), number(digest)],
     )
 }

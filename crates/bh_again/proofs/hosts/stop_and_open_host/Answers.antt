@@ -1,29 +1,29 @@
 use Rattle.std.proofs.Math.Logic.{∥∥₁_map}
 use Rattle.sqlite.specs.Files.{file_state}
-use Rattle.bh_schema.specs.Layer.{IsIntact}
-use Rattle.bh_again.proofs.Back.{back_with, left_alone, was_intact, shows_left, shows_kept, never_none}
+use Rattle.bh_schema.specs.Layer.{standing, IsIntact}
+use Rattle.bh_again.proofs.Back.{comes_back, left_alone, was_intact, found_left, found_kept, never_none}
 use Rattle.bh_again.proofs.hosts.stop_and_open_host.Goals as goal
 
 pub returns-in-Ok-open_host-clause-settled : goal.returns-in-Ok-open_host-clause-settled
 returns-in-Ok-open_host-clause-settled g c up =
     let l = rw c.into_connection-connection.ensures at c.look.ensures in
-    left_alone c.args.host.limits (file_state c.args.host.connection) l.live up (l.settled up)
+    left_alone (file_state c.args.host.connection) l.live up (l.settled up)
 
 pub returns-in-Err-open_host-clause-settled : goal.returns-in-Err-open_host-clause-settled
 returns-in-Err-open_host-clause-settled g c up =
     let l = rw c.into_connection-connection.ensures at c.look.ensures in
-    left_alone c.args.host.limits (file_state c.args.host.connection) l.live up (l.settled up)
+    left_alone (file_state c.args.host.connection) l.live up (l.settled up)
 
 pub returns-in-Err-clause-settled : goal.returns-in-Err-clause-settled
 returns-in-Err-clause-settled g c up =
     let l = rw c.into_connection-connection.ensures at c.look.ensures in
-    left_alone c.args.host.limits (file_state c.args.host.connection) l.live up (l.settled up)
+    left_alone (file_state c.args.host.connection) l.live up (l.settled up)
 
 pub returns-in-Ok-open_host-clause-intact : goal.returns-in-Ok-open_host-clause-intact
 returns-in-Ok-open_host-clause-intact g c clean =
     let h = rw c.into_connection-connection.ensures at c.in-Ok.ensures in
     let o = c.in-Ok-open_host.ensures in
-    was_intact (file_state c.args.host.connection) (file_state c.in-Ok.connection) (file_state c.in-Ok-open_host.opened.connection) o.follows (λ x. o.same x) h.opened h.intact clean
+    was_intact (file_state c.args.host.connection) (file_state c.in-Ok.connection) (file_state c.in-Ok-open_host.opened.connection) o.follows h.opened h.intact clean
 
 pub returns-in-Ok-open_host-clause-came_back : goal.returns-in-Ok-open_host-clause-came_back
 returns-in-Ok-open_host-clause-came_back g c clean up =
@@ -31,17 +31,16 @@ returns-in-Ok-open_host-clause-came_back g c clean up =
     let l = rw c.into_connection-connection.ensures at c.look.ensures in
     let o = c.in-Ok-open_host.ensures in
     let opened = c.in-Ok-open_host.opened in
-    back_with opened clean (λ d x. o.rest d x) (λ d x. o.latest d x) (λ d x. o.named d x) _
-    (shows_kept (file_state c.args.host.connection) (file_state c.in-Ok.connection) (file_state opened.connection) o.follows (λ x. o.same x) h.opened h.found l.live l.settled
-    c.args.host.limits opened.limits clean up)
+    comes_back opened clean (standing (file_state c.in-Ok.connection)).now o.schema (λ x. o.shows x) (λ d x. o.rest d x) (λ d x. o.latest d x) (λ d x. o.named d x) _
+    (found_kept (file_state c.args.host.connection) (file_state c.in-Ok.connection) (file_state opened.connection) o.follows h.opened h.found l.live l.settled clean up)
 
 pub returns-in-Ok-open_host-clause-merely : goal.returns-in-Ok-open_host-clause-merely
 returns-in-Ok-open_host-clause-merely g c clean =
     let h = rw c.into_connection-connection.ensures at c.in-Ok.ensures in
     let o = c.in-Ok-open_host.ensures in
     let opened = c.in-Ok-open_host.opened in
-    ∥∥₁_map (shows_left (file_state c.args.host.connection) (file_state c.in-Ok.connection) (file_state opened.connection) o.follows (λ x. o.same x) h.opened opened.limits h.left clean)
-    (λ it. (it.0, it.1, back_with opened clean (λ d x. o.rest d x) (λ d x. o.latest d x) (λ d x. o.named d x) it.0 it.2))
+    ∥∥₁_map (found_left (file_state c.args.host.connection) (file_state c.in-Ok.connection) (file_state opened.connection) o.follows h.opened h.left clean)
+    (λ it. (it.0, it.1, comes_back opened clean (standing (file_state c.in-Ok.connection)).now o.schema (λ x. o.shows x) (λ d x. o.rest d x) (λ d x. o.latest d x) (λ d x. o.named d x) it.0 it.2))
 
 pub returns-in-Err-open_host-clause-never : goal.returns-in-Err-open_host-clause-never
 unfolding IsIntact

@@ -1,9 +1,4 @@
-use Rattle.std.proofs.Common.{◌≡◌, sym, subst}
-use Rattle.std.specs.Prelude.{MatchResult}
 use Rattle.std.proofs.lemmas.Result.{IfOk-weaker}
-use Rattle.sqlite.specs.Files.{file_state, over_files}
-use Rattle.bh_commands.specs.Backups.{IsFoundAs}
-use Rattle.bh_commands.specs.Subcommands.{IsNotFound}
 use Rattle.bh_commands.proofs.Saved.{one_saved, one_left_out, found_at, left_at}
 use Rattle.bh_commands.proofs.backups.back_up_connection.Goals as goal
 

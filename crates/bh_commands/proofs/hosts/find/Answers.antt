@@ -1,5 +1,7 @@
 use Rattle.std.proofs.Common.{inl, inr}
-use Rattle.bh_commands.proofs.Found.{is_clean, row_seen, sound_seen}
+use Rattle.sqlite.specs.Held.{state}
+use Rattle.bh_commands.specs.Subcommands.{IsOpenedAs}
+use Rattle.bh_commands.proofs.Found.{is_clean, opened_as, typed_when, shows_seen, row_seen, sound_seen}
 use Rattle.bh_commands.proofs.Refused.{not_found}
 use Rattle.bh_commands.proofs.hosts.find.Goals as goal
 
@@ -7,24 +9,28 @@ pub work_by_digest-requires : goal.work_by_digest-requires
 work_by_digest-requires g c =
     let it = c.in-Ok.ensures in
     let opened = c.in-Ok.opened in
+    let old = state g.S.Store c.args.connection in
+    let new = state g.S.Store opened.connection in
+    let found : IsOpenedAs old new = opened_as opened.limits old new it.schema it.same it.brought it.shows it.follows it.crash in
     record {
-      rest = λ clean. it.rest _ clean (sound_seen opened.limits _ _ c.requires it.schema it.same it.follows opened.digest it.named clean);
-      latest = λ clean. it.latest _ clean (sound_seen opened.limits _ _ c.requires it.schema it.same it.follows opened.digest it.named clean);
+      rest = λ clean. it.rest _ clean (typed_when opened.limits old new c.requires found clean) (sound_seen opened.limits old new c.requires found opened.digest it.named clean);
+      latest = λ clean. it.latest _ clean (typed_when opened.limits old new c.requires found clean) (sound_seen opened.limits old new c.requires found opened.digest it.named clean);
     }
 
 pub returns-in_ok-work_by_digest-in-Ok : goal.returns-in_ok-work_by_digest-in-Ok
 returns-in_ok-work_by_digest-in-Ok g c =
     let it = c.in-Ok.ensures in
     let opened = c.in-Ok.opened in
+    let old = state g.S.Store c.args.connection in
+    let new = state g.S.Store opened.connection in
+    let found : IsOpenedAs old new = opened_as opened.limits old new it.schema it.same it.brought it.shows it.follows it.crash in
     inr (record {
       opened = opened;
-      row = row_seen opened.limits _ _ c.requires it.schema it.same it.follows opened.digest it.named;
+      row = row_seen opened.limits old new c.requires found opened.digest it.named;
       found = record {
-        schema = it.schema;
-        same = it.same;
-        rest = λ clean. it.rest _ (is_clean clean) (sound_seen opened.limits _ _ c.requires it.schema it.same it.follows opened.digest it.named (is_clean clean));
-        follows = it.follows;
-        survives = it.survives;
+        opened = found;
+        shows = λ clean. shows_seen opened.limits old new c.requires found (is_clean clean);
+        rest = λ clean. it.rest _ (is_clean clean) (typed_when opened.limits old new c.requires found (is_clean clean)) (sound_seen opened.limits old new c.requires found opened.digest it.named (is_clean clean));
       };
       worked = c.in_ok-work_by_digest-in-Ok.ensures;
     })
@@ -33,4 +39,4 @@ pub returns-in_ok-refused-in-Err : goal.returns-in_ok-refused-in-Err
 returns-in_ok-refused-in-Err g c =
     let it = c.in-Err.ensures in
     let told = c.in_ok-refused-in-Err.ensures in
-    rw told.0 (inl (not_found g.S.Store c.args.connection c.in-Err.error.connection _ _ told.1 it.refused it.failed it.keeps it.leaves))
+    rw told.0 (inl (not_found g.S.Store c.args.connection c.in-Err.error.connection _ _ told.1 it.refused it.failed it.keeps it.quiet it.leaves))

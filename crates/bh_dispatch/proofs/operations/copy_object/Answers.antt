@@ -16,6 +16,6 @@ returns g c =
       within = it.ensures.within;
       opens = unless_told answer.Copied it.result _ it.ensures.opens;
       working = unless_told answer.Copied it.result _ it.ensures.working;
-      carries = λ clean. carries_told c.args.tenant.now (copy_object c.args.at c.args.object.now.bucket c.args.object.now.key c.args.source.now.object.bucket c.args.source.now.object.key c.args.source.now.version)
+      carries = λ clean. carries_told c.args.tenant.now (copy_object c.args.at c.args.object.now.bucket c.args.object.now.key c.args.source.now.object.bucket c.args.source.now.object.key c.args.source.now.version c.args.date)
           old new copied_answer answer.Copied (λ _. refl) it.result (it.ensures.carries clean);
     })

@@ -15,5 +15,5 @@ returns g c =
       within = it.ensures.within;
       opens = unless_told (λ _. answer.Done) it.result _ it.ensures.opens;
       working = unless_told (λ _. answer.Done) it.result _ it.ensures.working;
-      carries = λ clean. carries_told c.args.tenant.now (create_bucket c.args.at c.args.bucket.now) old new (λ _. Done) (λ _. answer.Done) (λ _. refl) it.result (it.ensures.carries clean);
+      carries = λ clean. carries_told c.args.tenant.now (create_bucket c.args.at c.args.bucket.now c.args.locked) old new (λ _. Done) (λ _. answer.Done) (λ _. refl) it.result (it.ensures.carries clean);
     })

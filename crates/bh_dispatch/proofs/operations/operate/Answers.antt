@@ -33,7 +33,7 @@ returns-in-ListBuckets-clause-blocks g c =
     elim c.in-ListBuckets.is [
       | inl is ↦ none _ is (λ clean. tt)
       | inr others ↦ elim others [
-        | inl is ↦ none _ is.1 (λ clean. tt)
+        | inl is ↦ none _ is.2 (λ clean. tt)
         | inr others ↦ elim others [
           | inl is ↦ none _ is.1 (λ clean. tt)
           | inr others ↦ elim others [
@@ -70,3 +70,18 @@ returns-in-GetLifecycle-clause-blocks g c =
 pub returns-in-Usage-clause-blocks : goal.returns-in-Usage-clause-blocks
 returns-in-Usage-clause-blocks g c =
     stores_none g.D.Digester.digest_of c.args.block_size c.args.body.now (state g.S.Store c.args.connection.now) (state g.S.Store c.usage.new.connection) c.usage.result c.args.operation.now _ c.in-Usage.is (λ clean. tt)
+
+pub returns-in-GetRetention-clause-working : goal.returns-in-GetRetention-clause-working
+returns-in-GetRetention-clause-working g c =
+    by_any g.D.Digester.digest_of (state g.S.Store c.args.connection.now) (state g.S.Store c.operate_retention.new.connection) c.operate_retention.result c.operate_retention.ensures.working
+
+pub returns-in-GetRetention-clause-carries : goal.returns-in-GetRetention-clause-carries
+returns-in-GetRetention-clause-carries g c = c.operate_retention.ensures.carries c.args.limits.now
+
+pub returns-in-GetRetention-clause-blocks : goal.returns-in-GetRetention-clause-blocks
+returns-in-GetRetention-clause-blocks g c =
+    let none = stores_none g.D.Digester.digest_of c.args.block_size c.args.body.now (state g.S.Store c.args.connection.now) (state g.S.Store c.operate_retention.new.connection) c.operate_retention.result c.args.operation.now in
+    elim c.in-GetRetention.is [
+      | inl is ↦ none _ is.2 (λ clean. tt)
+      | inr is ↦ none _ is.2 (λ clean. tt)
+    ]

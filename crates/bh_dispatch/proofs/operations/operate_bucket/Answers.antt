@@ -8,7 +8,7 @@ returns-in-ListBuckets-clause-carries g c limits clean =
 
 pub returns-in-CreateBucket-clause-carries : goal.returns-in-CreateBucket-clause-carries
 returns-in-CreateBucket-clause-carries g c limits clean =
-    rw (c.in-CreateBucket.is, creates_bucket limits c.args.at c.args.body.now c.in-CreateBucket.bucket) (c.create_bucket.ensures.carries clean)
+    rw (c.in-CreateBucket.is, creates_bucket limits c.args.at c.args.body.now c.in-CreateBucket.bucket c.in-CreateBucket.locked) (c.create_bucket.ensures.carries clean)
 
 pub returns-in-HeadBucket-clause-carries : goal.returns-in-HeadBucket-clause-carries
 returns-in-HeadBucket-clause-carries g c limits clean =

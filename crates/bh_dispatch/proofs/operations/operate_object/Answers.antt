@@ -6,14 +6,14 @@ use Rattle.bh_dispatch.proofs.operations.operate_object.Goals as goal
 
 pub returns-in-PutObject-clause-carries : goal.returns-in-PutObject-clause-carries
 returns-in-PutObject-clause-carries g c limits clean =
-    rw (c.in-PutObject.is, puts_object limits c.args.at c.args.body.now c.in-PutObject.object c.in-PutObject.checksum, sym c.bytes_of-given.ensures) (c.put_object.ensures.carries clean)
+    rw (c.in-PutObject.is, puts_object limits c.args.at c.args.body.now c.in-PutObject.object c.in-PutObject.checksum c.in-PutObject.date, sym c.bytes_of-given.ensures) (c.put_object.ensures.carries clean)
 
 pub returns-in-CopyObject-clause-working : goal.returns-in-CopyObject-clause-working
 returns-in-CopyObject-clause-working g c = by_any g.D.Digester.digest_of (state g.S.Store c.args.connection.now) (state g.S.Store c.copy_object.new.connection) c.copy_object.result c.copy_object.ensures.working
 
 pub returns-in-CopyObject-clause-carries : goal.returns-in-CopyObject-clause-carries
 returns-in-CopyObject-clause-carries g c limits clean =
-    rw (c.in-CopyObject.is, copies_object limits c.args.at c.args.body.now c.in-CopyObject.object c.in-CopyObject.source) (c.copy_object.ensures.carries clean)
+    rw (c.in-CopyObject.is, copies_object limits c.args.at c.args.body.now c.in-CopyObject.object c.in-CopyObject.source c.in-CopyObject.date) (c.copy_object.ensures.carries clean)
 
 pub returns-in-GetObject-clause-working : goal.returns-in-GetObject-clause-working
 returns-in-GetObject-clause-working g c = by_any g.D.Digester.digest_of (state g.S.Store c.args.connection.now) (state g.S.Store c.get_object.new.connection) c.get_object.result c.get_object.ensures.working

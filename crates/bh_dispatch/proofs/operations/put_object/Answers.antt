@@ -17,6 +17,6 @@ returns g c =
       within = it.ensures.within;
       opens = unless_told answer.Stored it.result _ it.ensures.opens;
       working = unless_told answer.Stored it.result _ it.ensures.working;
-      carries = λ clean. carries_told c.args.object.now.tenant.now (put_object c.args.object.now.at c.args.object.now.bucket.now c.args.object.now.key.now c.args.object.now.bytes.now (option_copied c.args.given)) old new stored_answer answer.Stored (λ _. refl) it.result (it.ensures.carries clean);
+      carries = λ clean. carries_told c.args.object.now.tenant.now (put_object c.args.object.now.at c.args.object.now.bucket.now c.args.object.now.key.now c.args.object.now.bytes.now (option_copied c.args.given) c.args.object.now.date) old new stored_answer answer.Stored (λ _. refl) it.result (it.ensures.carries clean);
       blocks = on_ok_told answer.Stored it.result _ it.ensures.blocks;
     })

@@ -1,47 +1,43 @@
 use Rattle.std.proofs.Common.{◌≡◌, None, false, Ok, sym, ap, ◌∙◌}
 use Rattle.std.proofs.lemmas.Result.{err_from_is_err_and}
 use Rattle.sqlite.specs.Held.{state}
-use Rattle.sqlite_keyed.specs.Lists.{delete_where}
 use Rattle.bh_model.specs.Operations.{Removed, delete_bucket}
-use Rattle.bh_tables.specs.Typed.{Tables}
-use Rattle.bh_tables.specs.Shown.{is_bucket}
 use Rattle.bh_view.specs.Sound.{IsSound}
 use Rattle.bh_view.specs.View.{limits_in}
 use Rattle.bh_schema.specs.Layer.{IsStateClean}
 use Rattle.bh_storage.specs.Calls.{GivesStep}
 use Rattle.bh_schema.specs.Working.{tables_at}
-use Rattle.bh_schema.proofs.Storing.{on_ok}
-use Rattle.bh_objects.specs.Buckets.{emptiness}
-use Rattle.bh_objects.proofs.Working.{still_buckets, works_then, unless_then}
+use Rattle.bh_objects.specs.Buckets.{emptiness, without_bucket}
+use Rattle.bh_objects.proofs.Working.{still_locked, works_then, unless_then}
 use Rattle.bh_objects.proofs.BucketSteps.{deletes, full_refused}
 use Rattle.bh_objects.proofs.buckets.delete_bucket.Given as given
 use Rattle.bh_objects.proofs.buckets.delete_bucket.Goals as goal
 
-done : (g : given.Over) (c : goal.In_ok-or_trouble g) → IsStateClean (state g.S.Store c.delete_bucket.new.connection)
-    → GivesStep c.args.tenant.now (delete_bucket c.args.bucket.now) (Removed None false) (tables_at (state g.S.Store c.args.connection.now)) (tables_at (state g.S.Store c.delete_bucket.new.connection)) × IsSound (tables_at (state g.S.Store c.delete_bucket.new.connection))
-    × (limits_in (tables_at (state g.S.Store c.delete_bucket.new.connection)) ≡ limits_in (tables_at (state g.S.Store c.args.connection.now)))
+done : (g : given.Over) (c : goal.In_ok-drop_bucket g) → IsStateClean (state g.S.Store c.drop_bucket.new.connection)
+    → GivesStep c.args.tenant.now (delete_bucket c.args.bucket.now) (Removed None false) (tables_at (state g.S.Store c.args.connection.now)) (tables_at (state g.S.Store c.drop_bucket.new.connection)) × IsSound (tables_at (state g.S.Store c.drop_bucket.new.connection))
+    × (limits_in (tables_at (state g.S.Store c.drop_bucket.new.connection)) ≡ limits_in (tables_at (state g.S.Store c.args.connection.now)))
 done g c clean =
     let old = state g.S.Store c.args.connection.now in
     let t = c.args.tenant.now in
     let b = c.args.bucket.now in
-    let clean_middle = c.delete_bucket.ensures.within.follows.clean clean in
+    let clean_middle = c.in_ok-drop_bucket.ensures.within.follows.clean clean in
     let clean_first = c.in_ok-require_empty.ensures.within.follows.clean clean_middle in
     let clean_old = c.in_ok-bucket_state.ensures.within.follows.clean clean_first in
     let one = c.in_ok-bucket_state.ensures.decides clean_first in
     let two = c.in_ok-require_empty.ensures.decides clean_middle in
     let empty : emptiness t b (tables_at old) ≡ Ok tt = ap (emptiness t b) (sym one.1) ∙ two.0 in
-    let is = rw (c.as_str.ensures.value, c.as_str-2.ensures.value) at (on_ok _ c.in_ok-or_trouble.ensures.ok c.delete_bucket.ensures.holds clean).is in
-    deletes (tables_at old) (tables_at (state g.S.Store c.delete_bucket.new.connection)) t b _ one.0 (c.requires.working clean_old).sound empty
-    (is ∙ ap (λ (x : Tables). record x { buckets = delete_where (is_bucket t b) x.buckets }) (two.1 ∙ one.1))
+    let is = (c.in_ok-drop_bucket.ensures.holds clean).is in
+    deletes (tables_at old) (tables_at (state g.S.Store c.drop_bucket.new.connection)) t b _ one.0 (c.requires.working clean_old).sound empty
+    (is ∙ ap (without_bucket t b) (two.1 ∙ one.1))
 
 pub returns-clause-working : goal.returns-clause-working
 returns-clause-working g c clean =
     let old = state g.S.Store c.args.connection.now in
-    let holds = on_ok _ c.in_ok-or_trouble.ensures.ok c.delete_bucket.ensures.holds clean in
-    let clean_2 = c.delete_bucket.ensures.within.follows.clean clean in
+    let holds = c.in_ok-drop_bucket.ensures.holds clean in
+    let clean_2 = c.in_ok-drop_bucket.ensures.within.follows.clean clean in
     let clean_1 = c.in_ok-require_empty.ensures.within.follows.clean clean_2 in
     let clean_old = c.in_ok-bucket_state.ensures.within.follows.clean clean_1 in
-    still_buckets old (state g.S.Store c.require_empty.new.connection) (state g.S.Store c.delete_bucket.new.connection) _ ((c.in_ok-require_empty.ensures.decides clean_2).1 ∙ (c.in_ok-bucket_state.ensures.decides clean_1).1) (c.requires.working clean_old) holds.within holds.is (done g c clean).1 (done g c clean).2
+    still_locked old (state g.S.Store c.require_empty.new.connection) (state g.S.Store c.drop_bucket.new.connection) _ _ ((c.in_ok-require_empty.ensures.decides clean_2).1 ∙ (c.in_ok-bucket_state.ensures.decides clean_1).1) (c.requires.working clean_old) holds.within holds.is (done g c clean).1 (done g c clean).2
 
 pub returns-clause-carries : goal.returns-clause-carries
 returns-clause-carries g c clean = (done g c clean).0
@@ -58,8 +54,8 @@ returns-in_err-require_empty-clause-carries g c clean =
 pub require_empty-requires : goal.require_empty-requires
 require_empty-requires g c = record { working = λ clean. (c.in_ok-bucket_state.ensures.working clean (λ bytes. bytes)).is }
 
-pub delete_bucket-requires : goal.delete_bucket-requires
-delete_bucket-requires g c = record { inside = λ clean. (c.in_ok-require_empty.ensures.working clean (λ bytes. bytes)).is.inside }
+pub drop_bucket-requires : goal.drop_bucket-requires
+drop_bucket-requires g c = record { inside = λ clean. (c.in_ok-require_empty.ensures.working clean (λ bytes. bytes)).is.inside }
 
 pub returns-in_err-require_empty-clause-working : goal.returns-in_err-require_empty-clause-working
 returns-in_err-require_empty-clause-working g c =

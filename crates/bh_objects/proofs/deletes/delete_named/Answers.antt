@@ -8,9 +8,6 @@ use Rattle.bh_objects.proofs.Working.{host_at}
 use Rattle.bh_objects.proofs.Deleting.{deletes_no_number}
 use Rattle.bh_objects.proofs.deletes.delete_named.Goals as goal
 
-pub returns-in-Some-clause-carries : goal.returns-in-Some-clause-carries
-returns-in-Some-clause-carries g c = c.delete_numbered.ensures.carries c.args.at
-
 pub returns-in-None-clause-carries : goal.returns-in-None-clause-carries
 returns-in-None-clause-carries g c clean =
     let old = tables_at (state g.S.Store c.args.connection.now) in

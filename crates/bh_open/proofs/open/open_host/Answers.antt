@@ -1,38 +1,54 @@
-use Rattle.std.proofs.Common.{subst}
+use Rattle.std.proofs.Common.{Ok, Err, IfOk, IfErr, ◌≡◌, subst}
 use Rattle.sqlite.specs.Held.{state}
-use Rattle.bh_tables.specs.Typed.{IsHost, tables_in}
 use Rattle.bh_schema.specs.Layer.{standing, IsStateClean}
-use Rattle.bh_open.specs.Opening.{Reads}
-use Rattle.bh_open.proofs.Steps.{rests, tells, names, refuses}
+use Rattle.bh_open.specs.Opening.{Finds, Opens}
+use Rattle.bh_open.proofs.Steps.{shows, host_of, rests, tells, names}
 use Rattle.bh_open.proofs.open.open_host.Goals as goal
+
+pub returns-in-Ok-found-clause-shows : goal.returns-in-Ok-found-clause-shows
+returns-in-Ok-found-clause-shows g c =
+    let old = state g.S.Store c.args.connection in
+    let new = state g.S.Store c.find_and_bring.new.connection in
+    let opens : IsStateClean new → Opens c.in-Ok-found.found.version (standing old) (standing new) = subst (λ r. IfOk r (λ f. IsStateClean new → Opens f.version (standing old) (standing new))) c.in-Ok-found.is c.in-Ok.ensures.opens in
+    let told : IsStateClean new → Finds (standing old).now (Ok c.in-Ok-found.found) = subst (λ r. IsStateClean new → Finds (standing old).now r) c.in-Ok-found.is c.in-Ok.ensures.finds in
+    shows old new c.in-Ok-found.found opens told
+
+pub returns-in-Ok-found-clause-opened : goal.returns-in-Ok-found-clause-opened
+returns-in-Ok-found-clause-opened g c clean any =
+    let old = state g.S.Store c.args.connection in
+    let new = state g.S.Store c.find_and_bring.new.connection in
+    let opens : IsStateClean new → Opens c.in-Ok-found.found.version (standing old) (standing new) = subst (λ r. IfOk r (λ f. IsStateClean new → Opens f.version (standing old) (standing new))) c.in-Ok-found.is c.in-Ok.ensures.opens in
+    let told : IsStateClean new → Finds (standing old).now (Ok c.in-Ok-found.found) = subst (λ r. IsStateClean new → Finds (standing old).now r) c.in-Ok-found.is c.in-Ok.ensures.finds in
+    host_of (standing old) (standing new) c.in-Ok-found.found (opens clean) (told clean) any
 
 pub returns-in-Ok-found-clause-rest : goal.returns-in-Ok-found-clause-rest
 returns-in-Ok-found-clause-rest g c digest =
     let old = state g.S.Store c.args.connection in
-    let mid = state g.S.Store c.find_host-found.new.connection in
-    rests old mid (state g.S.Store c.take_back.new.connection) c.in-Ok.ensures.settled c.in-Ok.ensures.kept c.take_back.ensures.follows c.take_back.ensures.back
-    c.in-Ok-found.found.limits c.in-Ok-found.found.digest c.in-Ok-found.found.latest
-    (subst (λ found. IsStateClean mid → IsHost (standing old).now → Reads (tables_in (standing old).now).host found) c.in-Ok-found.is c.in-Ok.ensures.read) digest
+    let new = state g.S.Store c.find_and_bring.new.connection in
+    let opens : IsStateClean new → Opens c.in-Ok-found.found.version (standing old) (standing new) = subst (λ r. IfOk r (λ f. IsStateClean new → Opens f.version (standing old) (standing new))) c.in-Ok-found.is c.in-Ok.ensures.opens in
+    let told : IsStateClean new → Finds (standing old).now (Ok c.in-Ok-found.found) = subst (λ r. IsStateClean new → Finds (standing old).now r) c.in-Ok-found.is c.in-Ok.ensures.finds in
+    rests old new c.in-Ok-found.found opens told digest
 
 pub returns-in-Ok-found-clause-latest : goal.returns-in-Ok-found-clause-latest
 returns-in-Ok-found-clause-latest g c digest =
     let old = state g.S.Store c.args.connection in
-    let mid = state g.S.Store c.find_host-found.new.connection in
-    tells old mid (state g.S.Store c.take_back.new.connection) c.in-Ok.ensures.settled c.in-Ok.ensures.kept c.take_back.ensures.follows c.take_back.ensures.back
-    c.in-Ok-found.found.limits c.in-Ok-found.found.digest c.in-Ok-found.found.latest
-    (subst (λ found. IsStateClean mid → IsHost (standing old).now → Reads (tables_in (standing old).now).host found) c.in-Ok-found.is c.in-Ok.ensures.read) digest
+    let new = state g.S.Store c.find_and_bring.new.connection in
+    let opens : IsStateClean new → Opens c.in-Ok-found.found.version (standing old) (standing new) = subst (λ r. IfOk r (λ f. IsStateClean new → Opens f.version (standing old) (standing new))) c.in-Ok-found.is c.in-Ok.ensures.opens in
+    let told : IsStateClean new → Finds (standing old).now (Ok c.in-Ok-found.found) = subst (λ r. IsStateClean new → Finds (standing old).now r) c.in-Ok-found.is c.in-Ok.ensures.finds in
+    tells old new c.in-Ok-found.found opens told digest
 
 pub returns-in-Ok-found-clause-named : goal.returns-in-Ok-found-clause-named
 returns-in-Ok-found-clause-named g c digest =
     let old = state g.S.Store c.args.connection in
-    let mid = state g.S.Store c.find_host-found.new.connection in
-    names old mid (state g.S.Store c.take_back.new.connection) c.in-Ok.ensures.settled c.in-Ok.ensures.kept c.take_back.ensures.follows c.take_back.ensures.back
-    c.in-Ok-found.found.limits c.in-Ok-found.found.digest c.in-Ok-found.found.latest
-    (subst (λ found. IsStateClean mid → IsHost (standing old).now → Reads (tables_in (standing old).now).host found) c.in-Ok-found.is c.in-Ok.ensures.read) digest
+    let new = state g.S.Store c.find_and_bring.new.connection in
+    let opens : IsStateClean new → Opens c.in-Ok-found.found.version (standing old) (standing new) = subst (λ r. IfOk r (λ f. IsStateClean new → Opens f.version (standing old) (standing new))) c.in-Ok-found.is c.in-Ok.ensures.opens in
+    let told : IsStateClean new → Finds (standing old).now (Ok c.in-Ok-found.found) = subst (λ r. IsStateClean new → Finds (standing old).now r) c.in-Ok-found.is c.in-Ok.ensures.finds in
+    names old new c.in-Ok-found.found opens told digest
 
 pub returns-in-Err-found-clause-refused : goal.returns-in-Err-found-clause-refused
-returns-in-Err-found-clause-refused g c _ =
+returns-in-Err-found-clause-refused g c _ clean =
     let old = state g.S.Store c.args.connection in
-    let mid = state g.S.Store c.find_host-found.new.connection in
-    refuses old mid (state g.S.Store c.take_back.new.connection) c.in-Ok.ensures.settled c.in-Ok.ensures.kept c.take_back.ensures.follows c.take_back.ensures.back
-    (subst (λ found. IsStateClean mid → IsHost (standing old).now → Reads (tables_in (standing old).now).host found) c.in-Err-found.is c.in-Ok.ensures.read)
+    let new = state g.S.Store c.find_and_bring.new.connection in (
+      subst (λ r. IfErr r (λ why. IsStateClean new → standing new ≡ standing old)) c.in-Err-found.is c.in-Ok.ensures.same clean,
+      subst (λ r. IsStateClean new → Finds (standing old).now r) c.in-Err-found.is c.in-Ok.ensures.finds clean,
+    )

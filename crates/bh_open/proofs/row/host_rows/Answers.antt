@@ -9,11 +9,11 @@ returns g c =
     let old = state g.S.Store c.args.connection.now in
     let new = state g.S.Store c.query_all.new.self in
     let r = c.query_all.result in
-    let asks = row_asks old new c.requires.schema (λ v. v.items) r h.ok h.survives h.err in
+    let asks = row_asks c.args.version old new c.requires.schema (λ v. v.items) r h.ok h.survives h.err in
     record {
       within = asks_within old new c.requires.inside r asks;
       opens = asks_opens old new c.requires.inside r asks;
       same = asks_same old new c.requires.inside r asks;
-      rows = row_rows old new c.requires.schema (λ v. v.items) r h.ok h.survives;
+      rows = row_rows c.args.version old new c.requires.schema (λ v. v.items) r h.ok h.survives;
       trouble = asks_trouble old new c.requires.inside r asks;
     }

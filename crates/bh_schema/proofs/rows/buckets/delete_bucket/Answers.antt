@@ -10,5 +10,5 @@ pub returns : goal.returns
 returns g c =
     let h = rw (c.to_sql.ensures, c.to_sql-2.ensures) at c.execute.ensures in
     let old = state g.S.Store c.args.connection.now in
-    let w = removed buckets old (state g.S.Store c.execute.new.self) c.requires.inside (λ t l. refl) c.execute.result c.schema-schema.ensures.live (bucket_deleted c.args.tenant.now c.args.bucket.now) (λ clean empty. empty_goes (standing old).now (c.requires.inside clean).host c.args.tenant.now c.args.bucket.now empty.versions empty.uploads) h.runs h.survives in
+    let w = removed buckets old (state g.S.Store c.execute.new.self) c.requires.inside (λ t l. refl) c.execute.result c.schema-schema.ensures.live (bucket_deleted c.args.tenant.now c.args.bucket.now) (λ clean empty. empty_goes (standing old).now (c.requires.inside clean).host c.args.tenant.now c.args.bucket.now empty.versions empty.uploads empty.unlocked) h.runs h.survives in
     record { within = w.within; opens = w.opens; holds = w.holds; trouble = w.trouble }

@@ -1,0 +1,13 @@
+use Rattle.sqlite.specs.Held.{state}
+use Rattle.bh_tables.proofs.Creates.{makes_locks, free_locks}
+use Rattle.bh_create.proofs.Building.{makes, fails}
+use Rattle.bh_create.proofs.tables.create_locks.Goals as goal
+
+pub returns : goal.returns
+returns g c =
+    let old = state g.S.Store c.args.connection.now in
+    let new = state g.S.Store c.execute.new.self in
+    record {
+      makes = makes _ _ _ makes_locks old new c.requires c.execute.result c.execute.ensures.runs c.execute.ensures.survives;
+      trouble = fails _ _ _ makes_locks old new c.requires free_locks c.execute.result c.execute.ensures.runs c.execute.ensures.survives;
+    }

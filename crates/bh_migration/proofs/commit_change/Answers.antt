@@ -1,0 +1,23 @@
+use Rattle.std.proofs.Common.{ap, sym, subst, ◌∙◌}
+use Rattle.sqlite.specs.Held.{state}
+use Rattle.bh_tables.specs.Typed.{IsFirstHost}
+use Rattle.bh_rows.specs.Means.{is_trouble}
+use Rattle.bh_schema.specs.Layer.{Standing, standing}
+use Rattle.bh_schema.proofs.Finds.{handed_on}
+use Rattle.bh_migration.proofs.Stages.{may_leave}
+use Rattle.bh_migration.proofs.commit_change.Goals as goal
+
+pub returns-clause-crash : goal.returns-clause-crash
+returns-clause-crash g c intact =
+    let a = state g.S.Store c.args.connection.now in
+    let b = state g.S.Store c.begin.new.connection in
+    let m = state g.S.Store c.change.new.connection in
+    let d = state g.S.Store c.commit.new.connection in
+    may_leave a b m d (ap (λ (x : Standing). x.now) (c.in_ok-begin.ensures.begins (c.change.ensures.within.follows.intact (c.commit.ensures.follows.intact intact)))) c.in_ok-begin.ensures.opens c.begin.ensures.survives
+    c.in_ok-change.ensures.opens c.change.ensures.within c.in_ok-change.ensures.brings c.commit.ensures.follows c.commit.ensures.survives intact
+
+pub returns-in_err-change-clause-trouble : goal.returns-in_err-change-clause-trouble
+returns-in_err-change-clause-trouble g c = handed_on _ _ _ c.from_residual-in_err-change.ensures (λ e same intact unlimited host.
+    let before = c.change.ensures.within.follows.intact intact in
+    let begun = c.in_ok-begin.ensures.begins before in
+    ap is_trouble same ∙ c.in_err-change.ensures.trouble intact (c.begin.ensures.within.follows.limit ∙ unlimited) (subst (λ (x : Standing). IsFirstHost x.now) (sym begun) (host (c.begin.ensures.within.follows.clean (record { intact = before; is_open = (c.in_ok-begin.ensures.opens before).1 })))))

@@ -1,0 +1,23 @@
+use Rattle.std.proofs.Common.{ap, ◌∙◌}
+use Rattle.sqlite.specs.Held.{state}
+use Rattle.bh_schema.specs.Working.{tables_at}
+use Rattle.bh_schema.specs.Written.{bytes_of_id}
+use Rattle.bh_objects.specs.Writes.{without_entry}
+use Rattle.bh_objects.proofs.Undating.{sizes_stay}
+use Rattle.bh_objects.proofs.Working.{on_ok_then}
+use Rattle.bh_objects.proofs.deletes.drop_dated.Goals as goal
+
+pub drop_entry-requires-clause-held : goal.drop_entry-requires-clause-held
+drop_entry-requires-clause-held g c clean =
+    let t = c.args.tenant.now in
+    let b = c.args.bucket.now in
+    let k = c.args.key.now in
+    ap (bytes_of_id t b k c.args.number) (c.in_ok-drop_date.ensures.holds clean).is ∙ sizes_stay t b k c.args.number c.args.entry.seq c.args.date (tables_at (state g.S.Store c.args.connection.now)) ∙ c.requires.held (c.in_ok-drop_date.ensures.within.follows.clean clean)
+
+pub returns-clause-holds : goal.returns-clause-holds
+returns-clause-holds g c = on_ok_then c.drop_entry.result _ _ (λ holds clean.
+    let it = holds clean in
+    record {
+      within = it.within;
+      is = it.is ∙ ap (without_entry c.args.tenant.now c.args.bucket.now c.args.key.now c.args.number c.args.entry.seq) (c.in_ok-drop_date.ensures.holds (c.drop_entry.ensures.within.follows.clean clean)).is;
+    }) c.drop_entry.ensures.holds

@@ -1,0 +1,257 @@
+//! The dates before which versions of locked buckets may not be deleted: read, decided and written.
+ghost use Rattle.std.specs.Prelude.{◌≡◌, ◌≤◌, ℕ, Some, IfOk, OnOk};
+ghost use Rattle.bh_model.specs.Retention as machine;
+ghost use Rattle.bh_storage.specs.Calls.{Unless, Decides};
+ghost use Rattle.bh_view.specs.View as spec;
+ghost use Rattle.bh_schema.specs.Connections.{IsClean, tables, InTransaction, StaysWithin, StaysOpen, ChangesNothing, Becomes};
+ghost use Rattle.bh_schema.specs.Working.{Works, StillWorks};
+ghost use Rattle.bh_objects.specs.Dates.{date_at, new_date_at, past_by, past_date_in, present_by, present_date_in, with_first_date, with_date, without_date};
+
+use crate::ids::id_of;
+use crate::reads::bucket_locked;
+use bh_core::retention::{decide_retain, first_date, may_go};
+use bh_schema::rows;
+use bh_schema::rows::versions::VersionHead;
+use bh_schema::trouble::or_trouble;
+use bh_storage::error::{StepError, Trouble};
+use bh_types::bucket::BucketName;
+use bh_types::counters::COUNTER_END;
+use bh_types::id::VersionId;
+use bh_types::moment::Moment;
+use bh_types::names::TenantName;
+use bh_types::refusal::Refusal;
+use sqlite::{Alter, Connection};
+
+/// The date of a tenant's version with this entry number, if it has one.
+pub fn version_date<S: Alter>(
+    connection: &mut Connection<S>,
+    tenant: &TenantName,
+    seq: u64,
+) -> Result<Option<Moment>, Trouble>
+    requires { InTransaction S.Store connection.old }
+    ensures within { StaysWithin S.Store connection.old connection.new }
+    ensures opens { OnOk result (StaysOpen S.Store connection.old connection.new) }
+    ensures same { OnOk result (ChangesNothing S.Store connection.old connection.new) }
+    ensures found { IfOk result (λ date. IsClean S.Store connection.new
+        → date ≡ date_at tenant.now seq (tables S.Store connection.old)) }
+{
+    // No counter gives such a number.
+    if seq >= COUNTER_END {
+        return Err(Trouble::Store);
+    }
+    match or_trouble(rows::retains::find_until(connection, tenant.as_str(), seq))? {
+        None => Ok(None),
+        Some(until) => match Moment::new(until) {
+            Some(date) => Ok(Some(date)),
+            None => Err(Trouble::Store),
+        },
+    }
+}
+
+/// The date that a new version in a tenant's bucket gets at a moment, where its request gives one: InvalidRequest,
+/// InvalidArgument. The inner `None` is a date that is not given as it should be.
+pub fn new_date<S: Alter>(
+    connection: &mut Connection<S>,
+    tenant: &TenantName,
+    bucket: &BucketName,
+    given: Option<Option<Moment>>,
+    at: Moment,
+) -> Result<Option<Moment>, StepError<Refusal>>
+    requires working { Works S.Store connection.old }
+    ensures within { StaysWithin S.Store connection.old connection.new }
+    ensures opens { Unless result (StaysOpen S.Store connection.old connection.new) }
+    ensures working { Unless result (StillWorks S.Store connection.old connection.new) }
+    ensures decides { IsClean S.Store connection.new
+        → Decides (λ until. until) (new_date_at tenant.now bucket.now given at (tables S.Store connection.old))
+        (tables S.Store connection.old) (tables S.Store connection.new) result }
+{
+    match given {
+        None => Ok(None),
+        Some(date) => {
+            let locked = bucket_locked(connection, tenant, bucket)?;
+            Ok(first_date(locked, Some(date), at)?)
+        }
+    }
+}
+
+/// A version's date, if it has one, where that is not after a moment: AccessDenied.
+fn require_past(date: Option<Moment>, at: Moment) -> Result<Option<Moment>, Refusal>
+    ensures { result ≡ past_by date at }
+{
+    match date {
+        None => Ok(None),
+        Some(until) => {
+            if may_go(Some(until), at) {
+                Ok(Some(until))
+            } else {
+                Err(Refusal::AccessDenied)
+            }
+        }
+    }
+}
+
+/// The date of a tenant's version with this entry number, if it has one, where that is not after a moment: AccessDenied.
+pub fn past_date<S: Alter>(
+    connection: &mut Connection<S>,
+    tenant: &TenantName,
+    seq: u64,
+    at: Moment,
+) -> Result<Option<Moment>, StepError<Refusal>>
+    requires working { Works S.Store connection.old }
+    ensures within { StaysWithin S.Store connection.old connection.new }
+    ensures opens { Unless result (StaysOpen S.Store connection.old connection.new) }
+    ensures working { Unless result (StillWorks S.Store connection.old connection.new) }
+    ensures decides { IsClean S.Store connection.new
+        → Decides (λ date. date) (past_date_in tenant.now seq at (tables S.Store connection.old))
+        (tables S.Store connection.old) (tables S.Store connection.new) result }
+{
+    let date = version_date(connection, tenant, seq)?;
+    Ok(require_past(date, at)?)
+}
+
+/// Whether a version with this number in the column `id` can have a date, in a bucket that is locked or not.
+fn can_retain(locked: bool, number: u64) -> bool
+    ensures { result ≡ machine.can_retain locked (spec.id_of number) }
+{
+    match id_of(number) {
+        VersionId::Null => false,
+        VersionId::Numbered(_) => locked,
+    }
+}
+
+/// The date of a version that can have one or not, if it has one, where it may have this one from a moment on: InvalidRequest,
+/// InvalidArgument, AccessDenied.
+fn require_later(
+    able: bool,
+    present: Option<Moment>,
+    until: Moment,
+    at: Moment,
+) -> Result<Option<Moment>, Refusal>
+    ensures { result ≡ present_by able present until at }
+{
+    match present {
+        None => {
+            decide_retain(able, None, Some(until), at)?;
+            Ok(None)
+        }
+        Some(date) => {
+            decide_retain(able, Some(date), Some(until), at)?;
+            Ok(Some(date))
+        }
+    }
+}
+
+/// The date of a version that was found in a tenant's bucket, if it has one, where it may have this one from a moment on:
+/// InvalidRequest, InvalidArgument, AccessDenied.
+pub fn present_date<S: Alter>(
+    connection: &mut Connection<S>,
+    tenant: &TenantName,
+    bucket: &BucketName,
+    head: &VersionHead,
+    until: Moment,
+    at: Moment,
+) -> Result<Option<Moment>, StepError<Refusal>>
+    requires working { Works S.Store connection.old }
+    ensures within { StaysWithin S.Store connection.old connection.new }
+    ensures opens { Unless result (StaysOpen S.Store connection.old connection.new) }
+    ensures working { Unless result (StillWorks S.Store connection.old connection.new) }
+    ensures decides { IsClean S.Store connection.new
+        → Decides (λ date. date) (present_date_in tenant.now bucket.now head.now.id head.now.seq until at (tables S.Store connection.old))
+        (tables S.Store connection.old) (tables S.Store connection.new) result }
+{
+    let locked = bucket_locked(connection, tenant, bucket)?;
+    let present = version_date(connection, tenant, head.seq)?;
+    let able = can_retain(locked, head.id);
+    Ok(require_later(able, present, until, at)?)
+}
+
+/// Gives a tenant's version with this entry number its first date, if it gets one.
+pub fn add_date<S: Alter>(
+    connection: &mut Connection<S>,
+    tenant: &TenantName,
+    seq: u64,
+    date: Option<Moment>,
+) -> Result<(), Trouble>
+    requires inside { InTransaction S.Store connection.old }
+    ensures within { StaysWithin S.Store connection.old connection.new }
+    ensures opens { OnOk result (StaysOpen S.Store connection.old connection.new) }
+    ensures holds { OnOk result (Becomes S.Store connection.old connection.new
+        (with_first_date tenant.now seq date)) }
+    ensures near { OnOk result ((until : ℕ) → date ≡ Some until → until ≤ 251_000_000_000) }
+{
+    // No counter gives such a number.
+    if seq >= COUNTER_END {
+        return Err(Trouble::Store);
+    }
+    match date {
+        None => Ok(()),
+        Some(until) => {
+            or_trouble(rows::retains::insert_retain(
+                connection,
+                tenant.as_str(),
+                seq,
+                until.seconds(),
+            ))?;
+            Ok(())
+        }
+    }
+}
+
+/// Sets the date of a tenant's version with this entry number, which has this one at present.
+pub fn set_date<S: Alter>(
+    connection: &mut Connection<S>,
+    tenant: &TenantName,
+    seq: u64,
+    present: Option<Moment>,
+    until: Moment,
+) -> Result<(), Trouble>
+    requires inside { InTransaction S.Store connection.old }
+    ensures within { StaysWithin S.Store connection.old connection.new }
+    ensures opens { OnOk result (StaysOpen S.Store connection.old connection.new) }
+    ensures holds { OnOk result (Becomes S.Store connection.old connection.new
+        (with_date tenant.now seq present until)) }
+    ensures near { OnOk result (until ≤ 251_000_000_000) }
+{
+    // No counter gives such a number.
+    if seq >= COUNTER_END {
+        return Err(Trouble::Store);
+    }
+    match present {
+        None => add_date(connection, tenant, seq, Some(until)),
+        Some(_) => {
+            or_trouble(rows::retains::set_until(
+                connection,
+                tenant.as_str(),
+                seq,
+                until.seconds(),
+            ))?;
+            Ok(())
+        }
+    }
+}
+
+/// Takes the date of a tenant's version with this entry number away, which has this one at present.
+pub fn drop_date<S: Alter>(
+    connection: &mut Connection<S>,
+    tenant: &TenantName,
+    seq: u64,
+    present: Option<Moment>,
+) -> Result<(), Trouble>
+    requires inside { InTransaction S.Store connection.old }
+    ensures within { StaysWithin S.Store connection.old connection.new }
+    ensures opens { OnOk result (StaysOpen S.Store connection.old connection.new) }
+    ensures holds { OnOk result (Becomes S.Store connection.old connection.new
+        (without_date tenant.now seq present)) }
+{
+    // No counter gives such a number.
+    if seq >= COUNTER_END {
+        return Err(Trouble::Store);
+    }
+    match present {
+        None => Ok(()),
+        Some(_) => {
+            or_trouble(rows::retains::delete_retain(connection, tenant.as_str(), seq))?;
+            Ok(())
+        }
+    }
+}

@@ -1,0 +1,14 @@
+use Rattle.std.proofs.Common.{refl}
+use Rattle.sqlite.specs.Held.{state}
+use Rattle.bh_tables.proofs.Places.{locks}
+use Rattle.bh_tables.proofs.LockTexts.{lock_inserted, new_lock}
+use Rattle.bh_schema.specs.Layer.{standing}
+use Rattle.bh_schema.proofs.Calls.{inserted}
+use Rattle.bh_schema.proofs.rows.locks.insert_lock.Goals as goal
+
+pub returns : goal.returns
+returns g c =
+    let h = rw (c.to_sql.ensures, c.to_sql-2.ensures) at c.execute.ensures in
+    let old = state g.S.Store c.args.connection.now in
+    let w = inserted locks old (state g.S.Store c.execute.new.self) c.requires.inside (λ t l. refl) c.execute.result c.schema-schema.ensures.live (lock_inserted c.args.tenant.now c.args.bucket.now) (λ clean is. new_lock (standing old).now (c.requires.inside clean).host _ is.free is.owned) h.runs h.survives in
+    record { within = w.within; opens = w.opens; holds = w.holds; trouble = w.trouble }

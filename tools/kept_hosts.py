@@ -1,0 +1,39 @@
+"""Files of hosts that earlier programs made (crates/examples/data/hosts), and what has to be read of them: what those programs
+told."""
+import json
+import os
+
+TOP = os.path.dirname(os.path.dirname(os.path.abspath(__file__)))
+READ = [
+    ("GET", "/", ""),
+    ("GET", "/?usage", ""),
+    ("GET", "/plans?list-type=2", ""),
+    ("GET", "/plans/a", ""),
+    ("GET", "/plans/b%2Fc", ""),
+    ("GET", "/kept?versions", ""),
+    ("GET", "/kept?versioning", ""),
+    ("GET", "/plans?lifecycle", ""),
+    ("GET", "/kept/a", ""),
+    ("GET", "/kept/a?versionId=0000000000000001", ""),
+    ("GET", "/kept/b", ""),
+    ("GET", "/kept?uploads", ""),
+    ("GET", "/kept/v?uploadId=0000000000000001", ""),
+]
+HOSTS = os.path.join(TOP, "crates/examples/data/hosts")
+
+
+def kept_names():
+    return sorted(it for it in os.listdir(HOSTS) if not it.endswith(".answers"))
+
+
+def told_by(name):
+    """What the program that made a file answered to READ."""
+    with open(os.path.join(HOSTS, name + ".answers")) as told:
+        return [it.encode() for it in json.load(told)]
+
+
+def versions_of(database):
+    """The number that a host's row has, and how many rows of locks and of dates there are; none where it has no such tables."""
+    tables = {name for (name,) in database.execute("SELECT name FROM sqlite_master WHERE type = 'table'")}
+    counts = [database.execute(f"SELECT count(*) FROM {it}").fetchone()[0] if it in tables else None for it in ("locks", "retains")]
+    return (database.execute("SELECT version FROM host").fetchone()[0], *counts)
