@@ -3,7 +3,6 @@
 
 ghost use Rattle.bh_storage.specs.Calls.{Clean, IsAtRest};
 
-use crate::answer::Fault;
 use crate::digest_runs::{answers, settings};
 use crate::dump::rows_of;
 use crate::ends::WHOLE;
@@ -18,6 +17,7 @@ use bh_event::line::read_line;
 use bh_host::{Told, apply};
 use bh_storage::storage::Storage;
 use bh_types::block_digest::BlockDigest;
+use example_calls::answer::Fault;
 use sqlite::Connection;
 use std::alloc::{AllocError, Global};
 use std::rt::Files;

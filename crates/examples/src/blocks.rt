@@ -1,12 +1,12 @@
 //! The blocks that a host of any digest function has after objects were put and deleted, and sweeps.
 
-use crate::answer::{Answer, Fault};
 use crate::digest_runs::answers;
 use crate::digesters::{Constant, Parity};
-use crate::words::number;
 use bh_blocks::digester::{FastDigester, Sha256Digester};
 use bh_schema::host::Digester;
 use bh_script::input::read_script;
+use example_calls::answer::{Answer, Fault};
+use example_calls::words::number;
 use sqlite::{Alter, Connection};
 use std::alloc::{AllocError, Global};
 

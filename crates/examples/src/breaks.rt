@@ -2,7 +2,6 @@
 
 ghost use Rattle.bh_storage.specs.Calls.{Clean, IsAtRest};
 
-use crate::answer::Fault;
 use crate::digest_runs::settings;
 use crate::dump::{rows_after, rows_of};
 use crate::ends::{Cut, WHOLE};
@@ -16,6 +15,7 @@ use bh_event::event::Event;
 use bh_host::run;
 use bh_storage::storage::Storage;
 use bh_types::block_digest::BlockDigest;
+use example_calls::answer::Fault;
 use sqlite::Connection;
 use std::alloc::{AllocError, Global};
 use std::io;

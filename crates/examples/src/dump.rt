@@ -1,9 +1,9 @@
 //! The rows of a host's tables, as text.
 
-use crate::answer::Fault;
 use crate::digest_runs::answers;
 use bh_blocks::digester::Sha256Digester;
 use bh_event::event::Event;
+use example_calls::answer::Fault;
 use sqlite::{Alter, Connection, Error, Row};
 use std::alloc::{AllocError, Global};
 

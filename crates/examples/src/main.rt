@@ -2,28 +2,20 @@
 #![tactic(auto)]
 
 mod ample;
-mod answer;
 mod blocks;
 mod breaks;
 mod connections;
 mod digest_runs;
 mod digesters;
 mod disks;
-mod documents;
 mod dump;
 mod ends;
-mod escapes;
-mod operations;
-mod plain;
 mod reopened;
-mod requests;
 mod retried;
 mod series;
 mod served;
-mod shown;
 mod stops;
 mod table;
-mod words;
 
 use std::process::ExitCode;
 use std::rt::Runtime;

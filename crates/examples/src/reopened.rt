@@ -1,6 +1,5 @@
 //! Stored scripts on a host in files whose machine stops after each event: opened again, the host has what stood after it.
 
-use crate::answer::Fault;
 use crate::digest_runs::settings;
 use crate::disks::{memory, options};
 use crate::dump::rows_of;
@@ -14,8 +13,9 @@ use bh_event::event::Event;
 use bh_host::Told;
 use bh_open::Opened;
 use bh_types::block_digest::BlockDigest;
+use example_calls::answer::Fault;
 use sqlite::{Connection, FileStore, Files};
-use sqlite_disk::Memory;
+use sqlite_disk::{Crash, Memory};
 use std::alloc::Global;
 use std::io;
 use std::rt::Files as System;
@@ -33,12 +33,12 @@ fn new_database(alloc: Global) -> Result<Connection<FileStore<Memory>>, Fault> {
 }
 
 /// Makes a host, applies events to it, which are to be answered as these are told, stops its machine, and opens its files again.
-fn reopen(
+fn reopen<D: Crash + Drop>(
     alloc: Global,
-    connection: Connection<FileStore<Memory>>,
+    connection: Connection<FileStore<D>>,
     events: &[Event],
     answers: &[Told],
-) -> Result<Opened<FileStore<Memory>>, Fault> {
+) -> Result<Opened<FileStore<D>>, Fault> {
     let (limits, tuning) = settings().ok_or(Fault::Form)?;
     let digest = BlockDigest::Sha256;
     let Ok(host) = create(connection, Sha256Digester, digest, limits, tuning) else {

@@ -3,7 +3,6 @@
 
 ghost use Rattle.bh_storage.specs.Calls.{Clean, IsAtRest};
 
-use crate::answer::Fault;
 use crate::digest_runs::{answers, settings};
 use crate::disks::{Fused, fuse, images, is_blown, memory, options};
 use crate::dump::{rows_after, rows_of};
@@ -16,7 +15,8 @@ use bh_host::{Told, apply};
 use bh_open::{NoHost, open_host};
 use bh_storage::storage::Storage;
 use bh_types::block_digest::BlockDigest;
-use sqlite::{Connection, FileStore, Files};
+use example_calls::answer::Fault;
+use sqlite::{Alter, Connection, FileStore, Files};
 use sqlite_disk::{Fuse, Memory};
 use std::alloc::Global;
 use std::io;
@@ -81,34 +81,23 @@ pub fn answered<H: Storage>(
     Ok(count)
 }
 
-/// Makes a host, and applies the events until there is trouble.
-fn run_on(
+/// Makes a host, and applies the events until there is trouble: how many were answered, or none where there is no host, and
+/// the store that is left.
+fn run_on<S: Alter + Drop>(
     alloc: Global,
-    connection: Connection<FileStore<Fuse<Memory>>>,
+    connection: Connection<S>,
     expected: &Expected<'_>,
-) -> Result<Stopped, Fault> {
+) -> Result<(Option<usize>, S), Fault> {
     let (limits, tuning) = settings().ok_or(Fault::Form)?;
-    match create(
-        connection,
-        Sha256Digester,
-        BlockDigest::Sha256,
-        limits,
-        tuning,
-    ) {
+    let digest = BlockDigest::Sha256;
+    match create(connection, Sha256Digester, digest, limits, tuning) {
         Ok(host) => {
             let mut storage = HostStorage { host };
             let answers = expected.answers.as_slice();
-            let answered = Some(answered(alloc, &mut storage, expected.events, answers)?);
-            let files = storage.host.into_connection().into_store().close();
-            Ok(Stopped { answered, files })
+            let count = answered(alloc, &mut storage, expected.events, answers)?;
+            Ok((Some(count), storage.host.into_connection().into_store()))
         }
-        Err(error) => {
-            let files = error.connection.into_store().close();
-            Ok(Stopped {
-                answered: None,
-                files,
-            })
-        }
+        Err(error) => Ok((None, error.connection.into_store())),
     }
 }
 
@@ -119,7 +108,11 @@ fn run_until(alloc: Global, expected: &Expected<'_>, log: u64, db: u64) -> Resul
         db: fuse(alloc, db),
     };
     match Connection::open_files_with(alloc, files, options(), true) {
-        Ok(connection) => run_on(alloc, connection, expected),
+        Ok(connection) => {
+            let (answered, store) = run_on(alloc, connection, expected)?;
+            let files = store.close();
+            Ok(Stopped { answered, files })
+        }
         Err((_, left)) => {
             let files = left.into_files();
             Ok(Stopped {

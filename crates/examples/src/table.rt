@@ -1,9 +1,10 @@
 //! Tables of examples: a line is a call, its input, ` => ` and what it is to give, the two with escapes. An empty line
 //! and one that begins with `#` are no rows.
 
-use crate::answer::{Answer, Fault};
-use crate::escapes::unescaped;
-use crate::{documents, operations, requests};
+use crate::blocks;
+use example_calls::answer::{Answer, Fault};
+use example_calls::calls;
+use example_calls::escapes::unescaped;
 use std::alloc::Global;
 use std::rt::Files;
 use std::{fs, io};
@@ -28,23 +29,20 @@ fn row_of(line: &str) -> Row<'_> {
     }
 }
 
-fn text_answer(alloc: Global, call: &str, input: &[u8]) -> Answer {
+/// What blocks a host has after the steps of a row.
+fn blocks_found(alloc: Global, input: &[u8]) -> Answer {
     match str::from_utf8(input) {
-        Ok(text) => operations::answer(alloc, call, text),
+        Ok(text) => blocks::answer(alloc, text),
         Err(_) => Err(Fault::Form),
     }
 }
 
-/// What a row's call gives: the calls that take bytes first, then those that take text.
+/// What a row's call gives.
 fn found(alloc: Global, row: Row<'_>) -> Answer {
     let input = unescaped(alloc, row.input)?;
-    match requests::answer(alloc, row.call, input.as_slice()) {
-        Err(Fault::Form) => {}
-        answer => return answer,
-    }
-    match documents::answer(alloc, row.call, input.as_slice()) {
-        Err(Fault::Form) => text_answer(alloc, row.call, input.as_slice()),
-        answer => answer,
+    match row.call {
+        "blocks" => blocks_found(alloc, input.as_slice()),
+        call => calls::answer(alloc, call, input.as_slice()),
     }
 }
 

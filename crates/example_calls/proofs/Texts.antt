@@ -1,6 +1,6 @@
 -- Names of tenants, access keys, buckets and objects, ids, and tokens.
 use Rattle.std.proofs.Common.{ℕ, true, false, List, [], ◌∷◌, ◌++◌, codes, replicate, Some, None, refl}
-use Rattle.examples.proofs.Rows.{Holds}
+use Rattle.example_calls.proofs.Rows.{Holds}
 use Rattle.std.specs.List.{flat_map}
 use Rattle.hex.specs.Hex.{encode_with, decode_pairs}
 use Rattle.bh_types.specs.Names.{is_tenant_name, is_key_name, is_secret, is_bucket_name, is_object_key}

@@ -2,8 +2,8 @@
 
 use crate::answer::{Answer, Fault, refusal, refused, text};
 use crate::documents::many_parts;
+use crate::plain;
 use crate::shown::operation_text;
-use crate::{blocks, plain};
 use bh_http::read::read_request;
 use bh_http::request::{Fields, Request};
 use bh_operation::allow::allow_of;
@@ -18,7 +18,6 @@ pub fn answer(alloc: Global, call: &str, input: &str) -> Answer {
         "asks" => asks(alloc, input),
         "allow" => allow(alloc, input),
         "many-parts" => many_parts(alloc, input),
-        "blocks" => blocks::answer(alloc, input),
         _ => plain::answer(alloc, call, input),
     }
 }

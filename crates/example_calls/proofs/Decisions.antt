@@ -2,7 +2,7 @@
 -- "Working with delete markers"): what a put and a delete make of the entries of a key, newest first, and of the next numbers,
 -- and which version a lookup finds.
 use Rattle.std.proofs.Common.{ℕ, Bool, true, false, List, [], ◌∷◌, codes, Result, Ok, Err, refl}
-use Rattle.examples.proofs.Rows.{Holds}
+use Rattle.example_calls.proofs.Rows.{Holds}
 use Rattle.bh_types.specs.Counts.{Counts}
 use Rattle.bh_types.specs.declared.id.VersionId.{VersionId}
 use Rattle.bh_types.specs.declared.id.VersionId.TheVariants.{Null, Numbered}

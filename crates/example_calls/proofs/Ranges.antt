@@ -1,7 +1,7 @@
 -- What a Range field names of an object of a size: the first and the last byte that are answered, both included; `Whole` where
 -- the field is ignored; `InvalidRange` where the object has none of the bytes asked for.
 use Rattle.std.proofs.Common.{ℕ, List, [], ◌∷◌, ◌++◌, codes, Some, None, Result, Ok, Err, refl}
-use Rattle.examples.proofs.Rows.{Holds}
+use Rattle.example_calls.proofs.Rows.{Holds}
 use Rattle.bh_types.specs.Ranges.{range_of}
 use Rattle.bh_types.specs.declared.range.RangePlan.{RangePlan}
 use Rattle.bh_types.specs.declared.range.RangePlan.TheVariants.{Whole, Part}

@@ -3,7 +3,7 @@ use Rattle.std.proofs.Common.{◌≡◌, ℕ, true, List, [], ◌∷◌, ◌++�
 use Rattle.std.specs.List.{flat_map}
 use Rattle.std.specs.Fmt.{digits}
 use Rattle.hex.specs.Hex.{encode_with}
-use Rattle.examples.proofs.Rows.{Holds}
+use Rattle.example_calls.proofs.Rows.{Holds}
 use Rattle.bh_types.specs.Moments.{day_at}
 use Rattle.bh_types.specs.declared.id.VersionId.TheVariants.{Numbered}
 use Rattle.bh_types.specs.declared.refusal.Refusal.TheVariants.{ClockOutOfRange, ServiceUnavailable, InvalidRange}

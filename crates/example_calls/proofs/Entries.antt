@@ -1,7 +1,7 @@
 -- The entries of one key, newest first, through puts and deletes, and what lookups show: the bytes, or the refusal and whether a
 -- delete marker was met; numbers and refusals.
 use Rattle.std.proofs.Common.{◌≡◌, ℕ, Bool, true, false, List, [], ◌∷◌, length, codes, Result, Ok, Err, refl, nat_eq, arith}
-use Rattle.examples.proofs.Rows.{Holds}
+use Rattle.example_calls.proofs.Rows.{Holds}
 use Rattle.bh_types.specs.Counts.{AreCounters}
 use Rattle.bh_types.specs.BucketStates.{state_number}
 use Rattle.bh_types.specs.Refusals.{row, row_of}
