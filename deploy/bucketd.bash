@@ -27,21 +27,23 @@ _bucketd() {
         quota) words=" --file --tenant --quota --at --clock-leap --force --help " ;;
         key-add) words=" --file --tenant --name --secret --at --clock-leap --force --help " ;;
         key-remove) words=" --file --tenant --name --at --clock-leap --force --help " ;;
+        keys) words=" --file --tenant --at --clock-leap --force --help " ;;
         usage) words=" --file --tenant --at --clock-leap --force --help " ;;
+        tenants) words=" --file --at --clock-leap --force --help " ;;
         report) words=" --file --at --clock-leap --force --help " ;;
         check) words=" --file --help " ;;
         sweep) words=" --file --limit --at --clock-leap --force --help " ;;
         backup) words=" --file --to --help " ;;
         serve) words=" --file --port --count --log --timeout --clock-leap --force --block-size --cache-blocks --operator-port --operator-secret-file --help " ;;
         tell) words=" --port --secret-file --help " ;;
-        help) [ "$COMP_CWORD" -gt 2 ] || words=" script init tenant-add quota key-add key-remove usage report check sweep backup serve tell " ;;
+        help) [ "$COMP_CWORD" -gt 2 ] || words=" script init tenant-add quota key-add key-remove keys usage tenants report check sweep backup serve tell " ;;
         esac
         # No option comes twice.
         for option in "${COMP_WORDS[@]:2:COMP_CWORD - 2}"; do
             words=${words/ $option / }
         done
     else
-        words=" script init tenant-add quota key-add key-remove usage report check sweep backup serve tell help --help --version "
+        words=" script init tenant-add quota key-add key-remove keys usage tenants report check sweep backup serve tell help --help --version "
     fi
     mapfile -t COMPREPLY < <(compgen -W "$words" -- "$word")
 }

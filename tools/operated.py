@@ -94,6 +94,8 @@ def each_line(it, expect):
         ({"op": "key-add", "tenant": "blue", "name": "k1", "secret": "bluesecret"}, "key blue$k1\n"),
         ({"op": "usage", "tenant": "blue"}, "usage blue bytes 0 quota 200000\n"),
         ({"op": "usage", "tenant": "none"}, "42 NoSuchTenant\n"),
+        ({"op": "keys", "tenant": "blue"}, "keys blue 1 k1\n"),
+        ({"op": "keys", "tenant": "none"}, "42 NoSuchTenant\n"),
     ]
     for members, wanted in lines:
         told = it.order(**members)
@@ -103,6 +105,8 @@ def each_line(it, expect):
     told = it.order(op="usage", tenant="blue", at=5)
     expect("an `at` in a line doesn't count", told == "usage blue bytes 5 quota 200000\n", told)
     it.ask_as("blue", "bluesecret", "DELETE", "/papers/x")
+    told = it.order(op="tenants")
+    expect("all tenants while it serves", re.fullmatch(r"tenants \d+( [a-z0-9]+ bytes \d+ quota \d+ keys \d+)+\n", told) is not None and " blue bytes 0 quota 200000 keys 1" in told, told)
     told = it.order(op="report")
     expect("a report while it serves", re.fullmatch(r"blocks \d+ stored \d+ referred \d+ clashes 0\n", told) is not None, told)
     told = it.order(op="sweep", limit=100000)
@@ -118,6 +122,7 @@ def told_lines(it, expect):
     for line, wanted in (
         ({"op": "usage", "tenant": "blue"}, ("usage blue bytes 0 quota 200000\n", 0)),
         ({"op": "quota", "tenant": "blue", "quota": 1 << 61}, ("46 InvalidQuota\n", 1)),
+        ({"op": "keys", "tenant": "blue"}, ("keys blue 0\n", 0)),
         ('{\n  "op": "usage",\n  "tenant": "blue"\n}', ("usage blue bytes 0 quota 200000\n", 0)),
         ("usage blue", ("bad line\n", 1)),
         ({"http": "GET / HTTP/1.1\r\n\r\n"}, ("bad line\n", 1)),

@@ -8,7 +8,7 @@ use Rattle.bh_host.specs.Turns.{IsToldApart, fixed}
 use Rattle.bh_commands.specs.Commands.{message_of, ordered_at}
 use Rattle.bh_commands.specs.Printing.{status_of}
 use Rattle.bh_commands.specs.declared.task.Task.{Task}
-use Rattle.bh_commands.specs.declared.task.Task.TheVariants.{Command, Sweep, Report}
+use Rattle.bh_commands.specs.declared.task.Task.TheVariants.{Command, Sweep, Report, Tenants}
 
 fixed_refuses : (reading : ℕ) → status_of (if nat_lt last_reading reading then clock_text Operator else wanting_text Operator) ≡ 1
 unfolding digits
@@ -20,6 +20,7 @@ fixed_is_refusal : (reading : ℕ) (task : Task) → status_of (fixed (ordered_a
 fixed_is_refusal reading (Command command) = fixed_refuses reading
 fixed_is_refusal reading (Sweep limit) = fixed_refuses reading
 fixed_is_refusal reading Report = fixed_refuses reading
+fixed_is_refusal reading Tenants = fixed_refuses reading
 
 not_one : (status : ℕ) → status ≡ 0 → status ≡ 1 → ⊥
 not_one status zero one = omega arith

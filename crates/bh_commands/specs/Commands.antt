@@ -1,7 +1,7 @@
 -- What is done on a host, and what is printed of it.
 use Rattle.std.specs.Prelude.{◌≡◌, ℕ, List, [], Option, is_some, option_and_then, codes}
 use Rattle.bh_types.specs.declared.refusal.Refusal.{Refusal}
-use Rattle.bh_event.specs.Events.{Arrival, Message, Ordered, SweepOrdered, ReportOrdered, order_of}
+use Rattle.bh_event.specs.Events.{Arrival, Message, Ordered, SweepOrdered, ReportOrdered, TenantsOrdered, order_of}
 use Rattle.bh_tables.specs.Typed.{Tables}
 use Rattle.bh_storage.specs.Calls.{Seen, Clean, IsAtRest}
 use Rattle.bh_host.specs.Runs.{Told}
@@ -21,6 +21,7 @@ abbrev pub message_of : Task → Message
 message_of (task.Command command) = Ordered (order_of command)
 message_of (task.Sweep limit) = SweepOrdered limit
 message_of task.Report = ReportOrdered
+message_of task.Tenants = TenantsOrdered
 
 -- at a reading of the clock, in seconds since 1970
 abbrev pub ordered_at : ℕ → Message → Arrival

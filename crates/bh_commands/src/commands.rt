@@ -10,12 +10,14 @@ use crate::printed::Printed;
 use crate::task::Task;
 use bh_connection::{MachineClock, serve_port};
 use bh_host::apply;
+use bh_operation::routes::Routes;
 use bh_storage::storage::Storage;
 use std::alloc::{AllocError, Global};
 
 /// Does what an operator asks at a reading of the clock, in seconds since 1970, and prints the reply.
 pub fn apply_command<H: Storage>(
     alloc: Global,
+    routes: &Routes,
     host: &mut H,
     reading: u64,
     task: Task,
@@ -25,19 +27,25 @@ pub fn apply_command<H: Storage>(
     ensures applied { IfOk result (IsTold H.IsIntact H.IsOpen H.seen H.left (ordered_at reading (message_of task)) host.old host.new) }
 {
     let event = task.at(reading);
-    let told = apply(alloc, host, &event);
+    let told = apply(alloc, routes, host, &event);
     let printed = Printed::reply(alloc, &told.reply)?;
     Ok(printed)
 }
 
 /// Serves connections, and operators' lines where they are taken, by the machine's clock, and prints nothing.
-fn serve<H: Storage>(rt: &HostRuntime, host: &mut H, serving: Serving) -> Result<Printed, Fault>
+fn serve<H: Storage>(
+    rt: &HostRuntime,
+    routes: &Routes,
+    host: &mut H,
+    serving: Serving,
+) -> Result<Printed, Fault>
     requires { Clean H.IsIntact H.IsOpen host.old → IsAtRest H.IsSound (H.seen host.old) }
     ensures stays { StaysReady H.IsIntact H.IsOpen H.IsSound H.seen host.old host.new }
     ensures done { IfOk result (HasServed H.IsIntact H.IsOpen H.seen H.left serving host.old host.new) }
 {
     serve_port(
         rt,
+        routes,
         host,
         &MachineClock(rt),
         serving.ports(),
@@ -59,8 +67,9 @@ pub fn do_work<H: Storage>(
     ensures stays { StaysReady H.IsIntact H.IsOpen H.IsSound H.seen host.old host.new }
     ensures done { IfOk result (HasDone H.IsIntact H.IsOpen H.seen H.left asked reading host.old host.new) }
 {
+    let routes = Routes::new(rt.alloc())?;
     match asked {
-        Work::Command(task) => Ok(apply_command(rt.alloc(), host, reading, task)?),
-        Work::Serve(serving) => Ok(serve(rt, host, serving)?),
+        Work::Command(task) => Ok(apply_command(rt.alloc(), &routes, host, reading, task)?),
+        Work::Serve(serving) => Ok(serve(rt, &routes, host, serving)?),
     }
 }

@@ -89,12 +89,18 @@ pub fn carry_out(rt: &HostRuntime, line: Line) -> Result<Printed, Fault> {
             name,
             clock,
         } => (file, clock, Task::from(Command::KeyRemove { tenant, name })),
+        Line::Keys {
+            file,
+            tenant,
+            clock,
+        } => (file, clock, Task::from(Command::Keys { tenant })),
         Line::Usage {
             file,
             tenant,
             clock,
         } => (file, clock, Task::from(Command::Usage { tenant })),
         Line::Sweep { file, limit, clock } => (file, clock, Task::Sweep { limit }),
+        Line::Tenants { file, clock } => (file, clock, Task::Tenants),
         Line::Report { file, clock } => (file, clock, Task::Report),
         Line::Check { file } => return check_in(rt, file.as_str()),
     };

@@ -13,6 +13,8 @@ pub enum Task {
     Sweep { limit: u32 },
     /// What all tenants together have stored is counted.
     Report,
+    /// All tenants are told.
+    Tenants,
 }
 
 impl From<Command> for Task {
@@ -34,6 +36,7 @@ impl Task {
             Task::Command(command) => Event::Operator { reading, command },
             Task::Sweep { limit } => Event::Sweep { reading, limit },
             Task::Report => Event::Report { reading },
+            Task::Tenants => Event::Tenants { reading },
         }
     }
 }

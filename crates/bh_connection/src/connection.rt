@@ -14,6 +14,7 @@ use bh_host::{Caller, Reply, Told, apply};
 use bh_link::ends::{Sink, Source};
 use bh_link::link::Link;
 use bh_link::request::{TakeError, take_request};
+use bh_operation::routes::Routes;
 use bh_storage::error::Trouble;
 use bh_storage::storage::Storage;
 use bh_types::moment::LAST_READING;
@@ -26,6 +27,7 @@ use std::alloc::Global;
 /// [`apply`] does and answers at all the bytes that the reader would give.
 pub fn serve_connection<H: Storage, R: Source, W: Sink>(
     alloc: Global,
+    routes: &Routes,
     host: &mut H,
     reading: u64,
     reader: &mut Link<R>,
@@ -56,7 +58,7 @@ pub fn serve_connection<H: Storage, R: Source, W: Sink>(
     match take_request(alloc, &host.limits(), reader) {
         Ok(bytes) => {
             let event = Event::Http { reading, bytes };
-            answer(writer, apply(alloc, host, &event))
+            answer(writer, apply(alloc, routes, host, &event))
         }
         Err(TakeError::OutOfMemory) => {
             let reply = Reply::Wanting(Caller::Request, Trouble::Memory);

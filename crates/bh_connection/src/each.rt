@@ -7,6 +7,7 @@ use crate::connection::serve_connection;
 use crate::served::Served;
 use bh_link::ends::{Sink, Source};
 use bh_link::link::Link;
+use bh_operation::routes::Routes;
 use bh_storage::storage::Storage;
 use std::alloc::{AllocError, Global};
 
@@ -22,6 +23,7 @@ pub struct Arrival<R, W> {
 /// connection breaks. Its vector is taken first: where memory is wanting for it, nothing is read or applied.
 pub fn serve_each<H: Storage, R: Source, W: Sink>(
     alloc: Global,
+    routes: &Routes,
     host: &mut H,
     arrivals: &mut [Arrival<R, W>],
 ) -> Result<Vec<Served>, AllocError>
@@ -45,7 +47,7 @@ pub fn serve_each<H: Storage, R: Source, W: Sink>(
 {
     let mut serveds = Vec::with_capacity(alloc, arrivals.len())?;
     for index in 0..arrivals.len() {
-        let served = serve_arrival(alloc, host, &mut arrivals[index]);
+        let served = serve_arrival(alloc, routes, host, &mut arrivals[index]);
         serveds.push_reserved(served);
     }
     Ok(serveds)
@@ -54,6 +56,7 @@ pub fn serve_each<H: Storage, R: Source, W: Sink>(
 /// Serves one connection.
 pub(crate) fn serve_arrival<H: Storage, R: Source, W: Sink>(
     alloc: Global,
+    routes: &Routes,
     host: &mut H,
     arrival: &mut Arrival<R, W>,
 ) -> Served
@@ -71,6 +74,7 @@ pub(crate) fn serve_arrival<H: Storage, R: Source, W: Sink>(
     let reading = arrival.reading;
     serve_connection(
         alloc,
+        routes,
         host,
         reading,
         &mut arrival.reader,

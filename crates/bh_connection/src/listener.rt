@@ -14,6 +14,7 @@ use crate::served::Served;
 use crate::sockets::{Manner, Sockets};
 use bh_host::Caller;
 use bh_link::ends::{Sink, Source};
+use bh_operation::routes::Routes;
 use bh_storage::storage::Storage;
 use std::alloc::Global;
 use std::cell::RefCell;
@@ -42,7 +43,15 @@ pub fn serve_port<
     N: Net<Stream = TcpStream, Listener = TcpListener> + AllocGlobal + Eprint,
     H: Storage,
     C: Clock,
->(net: &N, host: &mut H, clock: &C, ports: Ports<'_>, manner: Manner, count: u64) -> io::Result<()>
+>(
+    net: &N,
+    routes: &Routes,
+    host: &mut H,
+    clock: &C,
+    ports: Ports<'_>,
+    manner: Manner,
+    count: u64,
+) -> io::Result<()>
     requires { Clean H.IsIntact H.IsOpen host.old → IsAtRest H.IsSound (H.seen host.old) }
     ensures intact { H.IsIntact host.new → H.IsIntact host.old }
     ensures opened { H.IsIntact host.new → H.IsOpen host.new → H.IsOpen host.old }
@@ -60,7 +69,7 @@ pub fn serve_port<
                 clients: &clients,
                 operators: None,
             };
-            serve_listener(net, host, doors, clock, manner, count)
+            serve_listener(net, routes, host, doors, clock, manner, count)
         }
         Some(operator) => {
             let listener = bound(net, operator.port)?;
@@ -72,7 +81,7 @@ pub fn serve_port<
                     secret: operator.secret,
                 }),
             };
-            serve_listener(net, host, doors, clock, manner, count)
+            serve_listener(net, routes, host, doors, clock, manner, count)
         }
     }
 }
@@ -109,6 +118,7 @@ fn tell_address<E: Eprint>(errors: &E, what: &str, listener: &TcpListener) {
 /// those of a machine that it has to itself.
 pub fn serve_listener<E: Eprint + AllocGlobal, H: Storage, C: Clock>(
     errors: &E,
+    routes: &Routes,
     host: &mut H,
     doors: Doors<'_>,
     clock: &C,
@@ -136,7 +146,14 @@ pub fn serve_listener<E: Eprint + AllocGlobal, H: Storage, C: Clock>(
         since: 0,
         last: Caller::Operator,
     };
-    serve_from(errors.alloc(), host, &mut sockets, doors.secret(), count)
+    serve_from(
+        errors.alloc(),
+        routes,
+        host,
+        &mut sockets,
+        doors.secret(),
+        count,
+    )
 }
 
 /// Serves so many connections of an acceptor, one after another: each that is accepted, at the reading that the clock gives
@@ -144,6 +161,7 @@ pub fn serve_listener<E: Eprint + AllocGlobal, H: Storage, C: Clock>(
 /// before the next is waited for. A fault of an accept or of the clock ends it, and nothing is done after it.
 pub fn serve_from<H: Storage, A: Acceptor>(
     alloc: Global,
+    routes: &Routes,
     host: &mut H,
     acceptor: &mut A,
     secret: Option<&[u8]>,
@@ -160,7 +178,7 @@ pub fn serve_from<H: Storage, A: Acceptor>(
         (A.calls acceptor.old) (A.calls acceptor.new) count result host.old host.new }
 {
     for served in 0..count {
-        serve_next(alloc, host, acceptor, secret)?;
+        serve_next(alloc, routes, host, acceptor, secret)?;
     }
     Ok(())
 }
@@ -168,6 +186,7 @@ pub fn serve_from<H: Storage, A: Acceptor>(
 /// Serves the next connection of an acceptor.
 fn serve_next<H: Storage, A: Acceptor>(
     alloc: Global,
+    routes: &Routes,
     host: &mut H,
     acceptor: &mut A,
     secret: Option<&[u8]>,
@@ -186,7 +205,7 @@ fn serve_next<H: Storage, A: Acceptor>(
     let caller = acceptor.accept()?;
     let reading = acceptor.seconds()?;
     let mut arrival = acceptor.open(reading);
-    let served = serve_visit(alloc, host, secret, caller, &mut arrival);
+    let served = serve_visit(alloc, routes, host, secret, caller, &mut arrival);
     acceptor.close(arrival, served);
     Ok(())
 }
@@ -194,6 +213,7 @@ fn serve_next<H: Storage, A: Acceptor>(
 /// Serves one connection, as its caller's.
 fn serve_visit<H: Storage, R: Source, W: Sink>(
     alloc: Global,
+    routes: &Routes,
     host: &mut H,
     secret: Option<&[u8]>,
     caller: Caller,
@@ -211,11 +231,12 @@ fn serve_visit<H: Storage, R: Source, W: Sink>(
         (ends R.remaining R.transfers W.contents W.transfers arrival.new) result host.old host.new }
 {
     match caller {
-        Caller::Request => serve_arrival(alloc, host, arrival),
+        Caller::Request => serve_arrival(alloc, routes, host, arrival),
         Caller::Operator => {
             let reading = arrival.reading;
             serve_line(
                 alloc,
+                routes,
                 host,
                 secret,
                 reading,

@@ -11,6 +11,7 @@ use bh_host::{Caller, Reply, apply};
 use bh_link::ends::{Sink, Source};
 use bh_link::link::Link;
 use bh_link::request::TakeError;
+use bh_operation::routes::Routes;
 use bh_operator::order::take_order;
 use bh_storage::error::Trouble;
 use bh_storage::storage::Storage;
@@ -27,6 +28,7 @@ const BAD_LINE: &[u8] = b"bad line";
 /// `bad line`. What is done and answered of an order is what [`apply`] does and answers.
 pub fn serve_line<H: Storage, R: Source, W: Sink>(
     alloc: Global,
+    routes: &Routes,
     host: &mut H,
     secret: Option<&[u8]>,
     reading: u64,
@@ -50,7 +52,7 @@ pub fn serve_line<H: Storage, R: Source, W: Sink>(
 {
     match take_order(alloc, secret, reading, reader) {
         Ok(Some(event)) => {
-            let told = apply(alloc, host, &event);
+            let told = apply(alloc, routes, host, &event);
             answer_line(writer, told.stamp, told.reply.bytes(), told.reply.trouble())
         }
         Ok(None) => answer_line(writer, None, BAD_LINE, None),

@@ -18,7 +18,6 @@ use Rattle.bh_view.proofs.PurgeLemmas.{rows_gone}
 use Rattle.bh_view.proofs.SweptLemmas.{swept_latest, swept_bounded}
 use Rattle.bh_storage.specs.declared.error.StepError.{StepError}
 use Rattle.bh_storage.specs.declared.error.StepError.TheVariants.{Refused, Failed}
-use Rattle.bh_storage.specs.declared.report.StoreReport.{StoreReport}
 use Rattle.bh_storage.specs.declared.report.SweepReport.{SweepReport}
 use Rattle.bh_storage.specs.Calls as calls
 use Rattle.bh_schema.specs.Layer.{IsStateClean}
@@ -128,7 +127,7 @@ module _ (digest : Octets → Octets) (l : HostLimits) (old new : State) where
       rw (shows_in l old (was clean), (shown_now l new (still (both clean) digest).is).0) (purges (tables_at old) (tables_at new) t at (seen_working digest l old (was clean)).sound (h (both clean)))
   purged_after (Err e) t at was still h = tt
 
--- ---- a sweep, and a report
+-- ---- a sweep
 
 module _ (digest : Octets → Octets) (l : HostLimits) (old new : State) where
   -- nobody uses more than before
@@ -157,18 +156,20 @@ module _ (digest : Octets → Octets) (l : HostLimits) (old new : State) where
       })
   sweeps_after (Err e) at n was still is uploads blocks complete views = tt
 
-  -- the tables stay
-  pub reported_works : {E : Type 0} (result : Result StoreReport E) → (AreBoth new → IsAtWork digest l old) → OnOk result (IsStateClean new → StillWorking old new)
-      → IfOk result (λ report. IsStateClean new → calls.Reports report (tables_at old) (tables_at new)) → OnOk result (AreBoth new → IsAtWork digest l new)
-  reported_works (Ok report) was still h = λ clean.
-      working_seen digest l old new (was clean) (still (both clean) digest) (subst AreBounded (sym (h (both clean)).same) (bounded_seen digest l old (was clean)))
-  reported_works (Err e) was still h = tt
+-- ---- what is told of all tenants, by a call that leaves all tables
 
-  pub reports_after : {E : Type 0} (result : Result StoreReport E) → (AreBoth new → IsAtWork digest l old) → OnOk result (IsStateClean new → StillWorking old new)
-      → IfOk result (λ report. IsStateClean new → calls.Reports report (tables_at old) (tables_at new))
-      → IfOk result (λ report. AreBoth new → calls.Reports report (seen_in l old).now (seen_in l new).now)
-  reports_after (Ok report) was still h = λ clean. rw (shows_in l old (was clean), (shown_now l new (still (both clean) digest).is).0) (h (both clean))
-  reports_after (Err e) was still h = tt
+module _ {X E : Type 0} (Told : X → Tables → Tables → Type 0) (stays : (x : X) (a b : Tables) → Told x a b → b ≡ a) (digest : Octets → Octets) (l : HostLimits) (old new : State) where
+  pub told_works : (result : Result X E) → (AreBoth new → IsAtWork digest l old) → OnOk result (IsStateClean new → StillWorking old new)
+      → IfOk result (λ x. IsStateClean new → Told x (tables_at old) (tables_at new)) → OnOk result (AreBoth new → IsAtWork digest l new)
+  told_works (Ok x) was still h = λ clean.
+      working_seen digest l old new (was clean) (still (both clean) digest) (subst AreBounded (sym (stays x (tables_at old) (tables_at new) (h (both clean)))) (bounded_seen digest l old (was clean)))
+  told_works (Err e) was still h = tt
+
+  pub told_after : (result : Result X E) → (AreBoth new → IsAtWork digest l old) → OnOk result (IsStateClean new → StillWorking old new)
+      → IfOk result (λ x. IsStateClean new → Told x (tables_at old) (tables_at new))
+      → IfOk result (λ x. AreBoth new → Told x (seen_in l old).now (seen_in l new).now)
+  told_after (Ok x) was still h = λ clean. rw (shows_in l old (was clean), (shown_now l new (still (both clean) digest).is).0) (h (both clean))
+  told_after (Err e) was still h = tt
 
 pub opened_ok : {X E : Type 0} (I A B : Type 0) (result : Result X E) → OnOk result (I → A → B) → OnOk result (A → I → B)
 opened_ok I A B (Ok x) h = λ up intact. h intact up

@@ -137,6 +137,15 @@ pub fn changed(outcome: Result<(), StepError<Refusal>>) -> Result<Answer, StepEr
     }
 }
 
+pub fn named(outcome: Result<Vec<String>, StepError<Refusal>>) -> Result<Answer, StepError<Refusal>>
+    ensures { result ≡ result_map_both answer.Keys (λ error. error) outcome }
+{
+    match outcome {
+        Ok(names) => Ok(Answer::Keys(names)),
+        Err(error) => Err(error),
+    }
+}
+
 pub fn shown(outcome: Result<Usage, StepError<Refusal>>) -> Result<Answer, StepError<Refusal>>
     ensures { result ≡ result_map_both answer.Used (λ error. error) outcome }
 {

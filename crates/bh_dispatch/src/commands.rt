@@ -15,7 +15,7 @@ use bh_storage::answer::Answer;
 use bh_storage::error::{StepError, Trouble};
 use bh_types::names::TenantName;
 use bh_types::refusal::Refusal;
-use bh_usage::usage;
+use bh_usage::{keys, usage};
 use sqlite::{Alter, Connection};
 use std::alloc::Global;
 
@@ -44,7 +44,7 @@ pub fn change<S: Alter + Drop, D: Digester + Drop>(
         Command::KeyRemove { tenant, name } => {
             host.key_remove(alloc, tenant.as_str(), name.as_str())
         }
-        Command::Usage { .. } => Err(StepError::Failed(Trouble::Store)),
+        Command::Usage { .. } | Command::Keys { .. } => Err(StepError::Failed(Trouble::Store)),
     }
 }
 
@@ -66,4 +66,24 @@ pub fn show_usage<S: Alter>(
         Some(tenant) => answers::shown(usage(connection, &tenant)),
         None => Err(StepError::Refused(Refusal::InvalidName)),
     }
+}
+
+/// Names a tenant's access keys: InvalidName, NoSuchTenant.
+pub fn show_keys<S: Alter>(
+    connection: &mut Connection<S>,
+    alloc: Global,
+    tenant: &str,
+) -> Result<Answer, StepError<Refusal>>
+    requires { Works S.Store connection.old }
+    ensures within { StaysWithin S.Store connection.old connection.new }
+    ensures opens { Unless result (StaysOpen S.Store connection.old connection.new) }
+    ensures working { Unless result (StillWorks S.Store connection.old connection.new) }
+    ensures carries { IsClean S.Store connection.new
+        → Carries answer_view tenant.now (machine.show_keys tenant.now)
+        (tables S.Store connection.old) (tables S.Store connection.new) result }
+{
+    let Some(tenant) = TenantName::read(alloc, tenant)? else {
+        return Err(StepError::Refused(Refusal::InvalidName));
+    };
+    answers::named(keys(connection, alloc, &tenant))
 }

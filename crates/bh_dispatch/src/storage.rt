@@ -6,7 +6,7 @@ use bh_operation::operation::Operation;
 use bh_schema::host::{Digester, Host};
 use bh_storage::answer::Answer;
 use bh_storage::error::{StepError, Trouble};
-use bh_storage::report::{StoreReport, SweepReport};
+use bh_storage::report::{StoreReport, SweepReport, TenantReport};
 use bh_storage::storage::Storage;
 use bh_types::access_key::AccessKeyId;
 use bh_types::limits::{Limits, Tuning};
@@ -106,6 +106,9 @@ impl<S: Alter + Drop, D: Digester + Drop> Storage for HostStorage<S, D> {
             Command::Usage { tenant } => {
                 commands::show_usage(&mut self.host.connection, alloc, tenant.as_str())
             }
+            Command::Keys { tenant } => {
+                commands::show_keys(&mut self.host.connection, alloc, tenant.as_str())
+            }
             _ => answers::changed(commands::change(&mut self.host, alloc, command)),
         }
     }
@@ -116,5 +119,9 @@ impl<S: Alter + Drop, D: Digester + Drop> Storage for HostStorage<S, D> {
 
     fn report(&mut self) -> Result<StoreReport, Trouble> {
         bh_sweep::report::report(&mut self.host.connection)
+    }
+
+    fn tenants(&mut self, alloc: Global) -> Result<Vec<TenantReport>, Trouble> {
+        bh_usage::tenants(&mut self.host.connection, alloc)
     }
 }

@@ -1,5 +1,5 @@
 -- Why a line of a script tells no event: the first flaw that it has, in the order of these definitions.
-use Rattle.std.specs.Prelude.{ℕ, List, codes, not, ◌&&◌, Option, Some, None, is_some, if◌then◌else◌}
+use Rattle.std.specs.Prelude.{ℕ, Bool, List, codes, not, ◌&&◌, ◌||◌, Option, Some, None, is_some, if◌then◌else◌}
 use Rattle.std.specs.Str.{bytes_eq, is_utf8}
 use Rattle.serde_json.specs.Data.{Data}
 use Rattle.serde_json.specs.Find.{as_object}
@@ -15,17 +15,16 @@ flaw_of_request d =
     else if has_members 2 d then OddDigits
     else OtherMembers
 
+-- whether it names a command
+abbrev pub is_command : List ℕ → Bool
+is_command op =
+    bytes_eq op (codes "tenant-add") || bytes_eq op (codes "quota") || bytes_eq op (codes "key-add") || bytes_eq op (codes "key-remove")
+    || bytes_eq op (codes "usage") || bytes_eq op (codes "keys")
+    || bytes_eq op (codes "sweep") || bytes_eq op (codes "report") || bytes_eq op (codes "tenants")
+
 -- of a known command the name is right, so its other members are not
 abbrev pub flaw_of_command : List ℕ → Flaw
-flaw_of_command op =
-    if bytes_eq op (codes "tenant-add") then WrongMembers
-    else if bytes_eq op (codes "quota") then WrongMembers
-    else if bytes_eq op (codes "key-add") then WrongMembers
-    else if bytes_eq op (codes "key-remove") then WrongMembers
-    else if bytes_eq op (codes "usage") then WrongMembers
-    else if bytes_eq op (codes "sweep") then WrongMembers
-    else if bytes_eq op (codes "report") then WrongMembers
-    else UnknownCommand
+flaw_of_command op = if is_command op then WrongMembers else UnknownCommand
 
 abbrev pub flaw_of_content : Data → Option (List ℕ) → Flaw
 flaw_of_content d None = flaw_of_request d

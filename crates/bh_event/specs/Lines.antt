@@ -8,7 +8,7 @@ use Rattle.serde_json.specs.Data.{Data}
 use Rattle.serde_json.specs.Events.{members_len}
 use Rattle.serde_json.specs.Find.{get, as_object, as_str, as_number, as_u64}
 use Rattle.serde_json.specs.Read.{read}
-use Rattle.bh_event.specs.Events.{Order, AddTenant, SetQuota, AddKey, RemoveKey, ShowUsage, Message, Requested, Ordered, SweepOrdered, ReportOrdered, Arrival}
+use Rattle.bh_event.specs.Events.{Order, AddTenant, SetQuota, AddKey, RemoveKey, ShowUsage, ShowKeys, Message, Requested, Ordered, SweepOrdered, ReportOrdered, TenantsOrdered, Arrival}
 
 abbrev pub text_at : List ℕ → Data → Option (List ℕ)
 text_at key d = option_and_then as_str (get key d)
@@ -63,6 +63,10 @@ key_remove_in d =
 abbrev pub usage_in : Data → Option Order
 usage_in d = if has_members 3 d then option_map ShowUsage (text_at (codes "tenant") d) else None
 
+-- {"at":n,"op":"keys","tenant":t}
+abbrev pub keys_in : Data → Option Order
+keys_in d = if has_members 3 d then option_map ShowKeys (text_at (codes "tenant") d) else None
+
 -- the order that an object with this `op` tells
 abbrev pub order_named : Data → List ℕ → Option Order
 order_named d op =
@@ -71,6 +75,7 @@ order_named d op =
     else if bytes_eq op (codes "key-add") then key_add_in d
     else if bytes_eq op (codes "key-remove") then key_remove_in d
     else if bytes_eq op (codes "usage") then usage_in d
+    else if bytes_eq op (codes "keys") then keys_in d
     else None
 
 abbrev pub order_in : Data → Option Order
@@ -88,11 +93,16 @@ sweep_in d = if has_members 3 d then option_and_then sweep_limited (number_at (c
 abbrev pub report_in : Data → Option Message
 report_in d = if has_members 2 d then Some ReportOrdered else None
 
+-- {"at":n,"op":"tenants"}
+abbrev pub tenants_in : Data → Option Message
+tenants_in d = if has_members 2 d then Some TenantsOrdered else None
+
 -- what an object with this `op` asks about all tenants
 abbrev pub host_order_named : Data → List ℕ → Option Message
 host_order_named d op =
     if bytes_eq op (codes "sweep") then sweep_in d
     else if bytes_eq op (codes "report") then report_in d
+    else if bytes_eq op (codes "tenants") then tenants_in d
     else None
 
 abbrev pub host_order_in : Data → Option Message

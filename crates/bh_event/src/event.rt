@@ -30,6 +30,10 @@ pub enum Command {
     Usage {
         tenant: String,
     },
+    /// The names of a tenant's access keys are told.
+    Keys {
+        tenant: String,
+    },
 }
 
 impl Command {
@@ -43,6 +47,7 @@ impl Command {
             Command::KeyAdd { tenant, .. } => tenant.as_str(),
             Command::KeyRemove { tenant, .. } => tenant.as_str(),
             Command::Usage { tenant } => tenant.as_str(),
+            Command::Keys { tenant } => tenant.as_str(),
         }
     }
 }
@@ -58,6 +63,8 @@ pub enum Event {
     Sweep { reading: u64, limit: u32 },
     /// An operator asks how much all tenants together have stored.
     Report { reading: u64 },
+    /// An operator asks for all tenants.
+    Tenants { reading: u64 },
 }
 
 impl Event {
@@ -70,6 +77,7 @@ impl Event {
             Event::Operator { reading, .. } => *reading,
             Event::Sweep { reading, .. } => *reading,
             Event::Report { reading } => *reading,
+            Event::Tenants { reading } => *reading,
         }
     }
 }

@@ -32,7 +32,7 @@ impl Flaw {
             Flaw::OtherMembers => "it has other members beside `at` and the request",
             Flaw::OddDigits => "`hex` is not an even number of hexadecimal digits",
             Flaw::UnknownCommand => {
-                "`op` is none of tenant-add, quota, key-add, key-remove, usage, sweep, report"
+                "`op` is none of tenant-add, quota, key-add, key-remove, usage, keys, sweep, report, tenants"
             }
             Flaw::WrongMembers => {
                 "its command's members are missing, of another type or range, or more than those that it takes"
@@ -65,11 +65,27 @@ fn flaw_in(document: &Value) -> Flaw
         return Flaw::NoReading;
     }
     match text_at(document, "op") {
-        Some("tenant-add" | "quota" | "key-add" | "key-remove" | "usage" | "sweep" | "report") =>
-            Flaw::WrongMembers,
+        Some(op) if is_command(op) => Flaw::WrongMembers,
         Some(_) => Flaw::UnknownCommand,
         None => flaw_of_request(document),
     }
+}
+
+fn is_command(op: &str) -> bool
+    ensures { result ≡ spec.is_command op.now }
+{
+    matches!(
+        op,
+        "tenant-add"
+            | "quota"
+            | "key-add"
+            | "key-remove"
+            | "usage"
+            | "keys"
+            | "sweep"
+            | "report"
+            | "tenants"
+    )
 }
 
 fn flaw_of_request(document: &Value) -> Flaw

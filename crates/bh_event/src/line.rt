@@ -74,6 +74,7 @@ fn command_in(alloc: Global, document: &Value) -> Result<Option<Command>, AllocE
         Some("key-add") => key_add_in(alloc, document),
         Some("key-remove") => key_remove_in(alloc, document),
         Some("usage") => usage_in(alloc, document),
+        Some("keys") => keys_in(alloc, document),
         _ => Ok(None),
     }
 }
@@ -156,6 +157,19 @@ fn usage_in(alloc: Global, document: &Value) -> Result<Option<Command>, AllocErr
     Ok(Some(Command::Usage { tenant }))
 }
 
+fn keys_in(alloc: Global, document: &Value) -> Result<Option<Command>, AllocError>
+    ensures { IfOk result (λ found. option_map order_of found ≡ spec.keys_in (view document.now)) }
+{
+    if !has_members(document, 3) {
+        return Ok(None);
+    }
+    let Some(tenant) = text_at(document, "tenant") else {
+        return Ok(None);
+    };
+    let tenant = String::from_str(alloc, tenant)?;
+    Ok(Some(Command::Keys { tenant }))
+}
+
 /// What an operator asks about all tenants.
 fn host_order_in(document: &Value, reading: u64) -> Option<Event>
     ensures { option_map arrival result ≡ option_map (spec.arrival_at reading) (spec.host_order_in (view document.now)) }
@@ -163,6 +177,7 @@ fn host_order_in(document: &Value, reading: u64) -> Option<Event>
     match text_at(document, "op") {
         Some("sweep") => sweep_in(document, reading),
         Some("report") => report_in(document, reading),
+        Some("tenants") => tenants_in(document, reading),
         _ => None,
     }
 }
@@ -186,6 +201,15 @@ fn report_in(document: &Value, reading: u64) -> Option<Event>
         return None;
     }
     Some(Event::Report { reading })
+}
+
+fn tenants_in(document: &Value, reading: u64) -> Option<Event>
+    ensures { option_map arrival result ≡ option_map (spec.arrival_at reading) (spec.tenants_in (view document.now)) }
+{
+    if !has_members(document, 2) {
+        return None;
+    }
+    Some(Event::Tenants { reading })
 }
 
 pub(crate) fn has_members(document: &Value, count: usize) -> bool

@@ -7,7 +7,7 @@ use Rattle.bh_http.specs.declared.values.Allow.{Allow}
 use Rattle.bh_http.specs.declared.values.ContentRange.{ContentRange}
 use Rattle.bh_machine.specs.Refused.{is_step_refusal}
 use Rattle.bh_http.specs.Responses.{response_text, refusal_text}
-use Rattle.bh_model.specs.Operations.{Answer, Done, Removed, Stored, Copied, Head, Object, Buckets, Versioning, Objects, Versions, Uploads, Parts, Begun, PartStored, Completed, Lifecycle, Retention, Used}
+use Rattle.bh_model.specs.Operations.{Answer, Done, Removed, Stored, Copied, Head, Object, Buckets, Versioning, Objects, Versions, Uploads, Parts, Begun, PartStored, Completed, Lifecycle, Retention, Used, Keys}
 use Rattle.bh_model.specs.State.{Octets}
 use Rattle.bh_types.specs.declared.range.RangePlan.TheVariants.{Whole, Part}
 use Rattle.bh_types.specs.declared.refusal.Refusal.{Refusal}
@@ -49,6 +49,7 @@ answer_apart (Begun bucket key upload abort) body = refl
 answer_apart (PartStored checksum) body = refl
 answer_apart (Completed bucket key id checksum) body = refl
 answer_apart (Used usage) body = refl
+answer_apart (Keys names) body = refl
 
 pub refused_apart : (refusal : Refusal) (document : Octets) (range : Option ContentRange) (allow : Option Allow) (marker : Bool) (body : Octets) → is_step_refusal refusal ≡ true
     → is_fixed_response (response_text (record (refused refusal document) { content_range = range; allow = allow; delete_marker = marker; body = body })) ≡ false

@@ -1,4 +1,5 @@
 mod Apart
+mod Listing
 mod ToldApart
 mod Turning
 pub mod Running

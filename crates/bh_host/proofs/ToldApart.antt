@@ -1,7 +1,7 @@
 -- The reply to an event with a stamp is no fixed text.
-use Rattle.std.proofs.Common.{◌≡◌, ◌≢◌, ℕ, Bool, true, false, Option, Some, None, [], Ok, Err, Result, IfErr, refl, sym, ◌∙◌, ap, rules}
+use Rattle.std.proofs.Common.{◌≡◌, ◌≢◌, ℕ, List, Bool, true, false, Option, Some, None, [], Ok, Err, Result, IfErr, refl, sym, ◌∙◌, ap, rules}
 use Rattle.std.specs.Fmt.{digits}
-use Rattle.bh_event.specs.Events.{Order, AddTenant, SetQuota, AddKey, RemoveKey, ShowUsage, Message, Requested, Ordered, SweepOrdered, ReportOrdered, Arrival}
+use Rattle.bh_event.specs.Events.{Order, AddTenant, SetQuota, AddKey, RemoveKey, ShowUsage, ShowKeys, Message, Requested, Ordered, SweepOrdered, ReportOrdered, TenantsOrdered, Arrival}
 use Rattle.bh_http.specs.Responses.{response_text}
 use Rattle.bh_http.specs.Views.{Taken}
 use Rattle.bh_machine.specs.Machine.{Act, Asked, Commanded, owner_of, step}
@@ -10,7 +10,7 @@ use Rattle.bh_machine.proofs.Refused.{step_only}
 use Rattle.bh_model.specs.Operations.{Answer}
 use Rattle.bh_model.specs.State.{Octets, State}
 use Rattle.bh_storage.specs.Calls.{Seen}
-use Rattle.bh_storage.specs.Reports.{sweep_counts, store_counts}
+use Rattle.bh_storage.specs.Reports.{TenantTold, sweep_counts, store_counts, tenants_told}
 use Rattle.bh_storage.specs.declared.report.SweepReport.{SweepReport}
 use Rattle.bh_storage.specs.declared.report.StoreReport.{StoreReport}
 use Rattle.bh_tables.specs.Typed.{Tables}
@@ -18,7 +18,7 @@ use Rattle.bh_types.specs.Limits.{HostLimits}
 use Rattle.bh_types.specs.declared.refusal.Refusal.{Refusal}
 use Rattle.bh_types.specs.declared.rejection.Rejection.{Rejection}
 use Rattle.bh_view.specs.View.{view, limits_in, with_latest}
-use Rattle.bh_host.specs.Replies.{text, sweep_text, report_text, response_to, document_for, range_told, allow_told, marker_told, refusal_to, body_for, caller_of, clock_text, wanting_text}
+use Rattle.bh_host.specs.Replies.{text, sweep_text, report_text, tenants_text, response_to, document_for, range_told, allow_told, marker_told, refusal_to, body_for, caller_of, clock_text, wanting_text}
 use Rattle.bh_host.specs.Turns.{TurnedFor, Turns, AppliedTo, IsToldApart}
 use Rattle.bh_host.specs.declared.reply.Caller.TheVariants.{Request, Operator}
 use Rattle.bh_host.proofs.Apart.{is_fixed_response, is_fixed_line, answer_apart, refused_apart, line_apart}
@@ -44,17 +44,22 @@ ordered_apart (SetQuota tenant quota) (Ok a) free = refl
 ordered_apart (AddKey tenant name secret) (Ok a) free = refl
 ordered_apart (RemoveKey tenant name) (Ok a) free = refl
 ordered_apart (ShowUsage tenant) (Ok a) free = refl
+ordered_apart (ShowKeys tenant) (Ok a) free = refl
 ordered_apart (AddTenant tenant quota) (Err e) free = line_apart e.refusal free
 ordered_apart (SetQuota tenant quota) (Err e) free = line_apart e.refusal free
 ordered_apart (AddKey tenant name secret) (Err e) free = line_apart e.refusal free
 ordered_apart (RemoveKey tenant name) (Err e) free = line_apart e.refusal free
 ordered_apart (ShowUsage tenant) (Err e) free = line_apart e.refusal free
+ordered_apart (ShowKeys tenant) (Err e) free = line_apart e.refusal free
 
 sweep_apart : (report : SweepReport) → is_fixed_line (sweep_text report) ≡ false
 sweep_apart report = refl
 
 report_apart : (report : StoreReport) → is_fixed_line (report_text report) ≡ false
 report_apart report = refl
+
+tenants_apart : (tenants : List TenantTold) → is_fixed_line (tenants_text tenants) ≡ false
+tenants_apart tenants = refl
 
 clock_response : is_fixed_response (clock_text Request) ≡ true
 unfolding digits
@@ -102,6 +107,7 @@ told_apart limits (Ordered order) m stamped new reply (act, is, turned) =
     line_differs reply no
 told_apart limits (SweepOrdered limit) m stamped new reply swept = line_differs reply (ap is_fixed_line swept.told ∙ sweep_apart (sweep_counts m limit stamped))
 told_apart limits ReportOrdered m stamped new reply reported = line_differs reply (ap is_fixed_line reported.told ∙ report_apart (store_counts stamped))
+told_apart limits TenantsOrdered m stamped new reply listed = line_differs reply (ap is_fixed_line listed.told ∙ tenants_apart (tenants_told stamped))
 
 -- the same of a storage
 pub apart_on : {H : Type 0} (IsOpen : H → Type 0) (seen : H → Seen) (event : Arrival) (m : ℕ) (old new : H) (reply : Octets) → AppliedTo IsOpen seen event old new (Some m) reply

@@ -3,7 +3,7 @@ use Rattle.std.proofs.Common.{◌≡◌, ℕ, List, Option, Some, None, Ok, Err,
 use Rattle.std.specs.Prelude.{option_map}
 use Rattle.std.proofs.lemmas.Bool.{cases_Bool}
 use Rattle.std.proofs.lemmas.Option.{same_Some}
-use Rattle.bh_event.specs.Events.{Order, tenant_of, Message, Requested, Ordered, SweepOrdered, ReportOrdered, Arrival, arrival}
+use Rattle.bh_event.specs.Events.{Order, tenant_of, Message, Requested, Ordered, SweepOrdered, ReportOrdered, TenantsOrdered, Arrival, arrival}
 use Rattle.bh_event.specs.declared.event.Event.{Event}
 use Rattle.bh_event.specs.declared.event.Event.TheVariants.{Http}
 use Rattle.bh_http.specs.Credentials.{key_given}
@@ -187,12 +187,14 @@ turns_latest limits (Requested bytes) m old new reply (act, acted, turned) = tur
 turns_latest limits (Ordered order) m old new reply (act, acted, turned) = turned.latest
 turns_latest limits (SweepOrdered limit) m old new reply swept = swept.latest
 turns_latest limits ReportOrdered m old new reply reported = ap latest_of reported.same
+turns_latest limits TenantsOrdered m old new reply listed = ap latest_of listed.same
 
 pub turns_limits : (limits : HostLimits) (message : Message) (m : ℕ) (old new : Tables) (reply : List ℕ) → Turns limits message m old new reply → limits_in new ≡ limits_in old
 turns_limits limits (Requested bytes) m old new reply (act, acted, turned) = turned.same_limits
 turns_limits limits (Ordered order) m old new reply (act, acted, turned) = turned.same_limits
 turns_limits limits (SweepOrdered limit) m old new reply swept = swept.same_limits
 turns_limits limits ReportOrdered m old new reply reported = ap limits_in reported.same
+turns_limits limits TenantsOrdered m old new reply listed = ap limits_in listed.same
 
 -- from its stamp, and what it does after it
 pub applied : (limits : HostLimits) (event : Arrival) (m : ℕ) (old mid new : Tables) (reply : List ℕ) → limits ≡ limits_in old → Stamps event.reading m old mid

@@ -1,10 +1,10 @@
 -- The bytes that an act is answered with.
-use Rattle.std.specs.Prelude.{ℕ, Bool, true, false, [], ◌++◌, length, codes, decimal, if◌then◌else◌, Option, Some, None, Result, Ok, Err}
+use Rattle.std.specs.Prelude.{ℕ, Bool, true, false, List, [], ◌++◌, flat_map, length, codes, decimal, if◌then◌else◌, Option, Some, None, Result, Ok, Err}
 use Rattle.std.specs.Str.{bytes_eq}
 use Rattle.std.specs.Str.Lossy.{utf8_lossy}
 use Rattle.bh_docs.specs.Documents.{begun_text, buckets_text, completed_text, copied_text, error_text, versioning_text, lifecycle_text, usage_text, retention_text}
 use Rattle.bh_docs.specs.Pages.{objects_text, versions_text, uploads_text, parts_text}
-use Rattle.bh_event.specs.Events.{Order, AddTenant, AddKey, RemoveKey, ShowUsage, Message, Requested, Ordered, SweepOrdered, ReportOrdered, SetQuota}
+use Rattle.bh_event.specs.Events.{Order, AddTenant, AddKey, RemoveKey, ShowUsage, ShowKeys, Message, Requested, Ordered, SweepOrdered, ReportOrdered, TenantsOrdered, SetQuota}
 use Rattle.bh_http.specs.Answers.{bare, empty, with_document, refused, bare_refusal}
 use Rattle.bh_http.specs.Responses.{Sent, response_text, refusal_text}
 use Rattle.bh_http.specs.Views.{Taken}
@@ -13,7 +13,7 @@ use Rattle.bh_http.specs.declared.values.Allow.TheVariants.{Marker}
 use Rattle.bh_http.specs.declared.values.ContentRange.{ContentRange}
 use Rattle.bh_http.specs.declared.values.ContentRange.TheVariants.{Part as Satisfied, Unsatisfied}
 use Rattle.bh_http.specs.declared.values.ContentType.TheVariants.{OctetStream}
-use Rattle.bh_model.specs.Operations.{Answer, Done, Removed, Stored, Copied, Head, Object, Buckets, Versioning, Objects, Versions, Uploads, Parts, Begun, PartStored, Completed, Lifecycle, Retention, Used}
+use Rattle.bh_model.specs.Operations.{Answer, Done, Removed, Stored, Copied, Head, Object, Buckets, Versioning, Objects, Versions, Uploads, Parts, Begun, PartStored, Completed, Lifecycle, Retention, Used, Keys}
 use Rattle.bh_model.specs.State.{Octets}
 use Rattle.bh_operation.specs.Allowed.{allow_of}
 use Rattle.bh_operation.specs.Targets.{path_of}
@@ -29,6 +29,7 @@ use Rattle.bh_types.specs.declared.refusal.Refusal.TheVariants.{MethodNotAllowed
 use Rattle.bh_storage.specs.declared.error.Trouble.{Trouble}
 use Rattle.bh_storage.specs.declared.report.SweepReport.{SweepReport}
 use Rattle.bh_storage.specs.declared.report.StoreReport.{StoreReport}
+use Rattle.bh_storage.specs.Reports.{TenantTold}
 use Rattle.bh_machine.specs.Machine.{Act, Asked, Commanded}
 use Rattle.bh_host.specs.declared.reply.Caller.{Caller}
 use Rattle.bh_host.specs.declared.reply.Caller.TheVariants.{Request, Operator}
@@ -59,7 +60,7 @@ head_response id size checksum = record (bare 200) {
   version_id = id;
 }
 
--- the response to a request that was not refused
+-- the response to a request that was not refused; no operation tells the names of keys
 abbrev pub response_to : Answer → Sent
 response_to Done = empty 200
 response_to (Removed id marker) = record (bare 204) { version_id = id; delete_marker = marker }
@@ -83,6 +84,7 @@ response_to (Retention date) = with_document 200 (retention_text date)
 response_to (Begun bucket key upload abort) = record (with_document 200 (begun_text bucket key upload)) { abort_date = abort }
 response_to (PartStored checksum) = record (empty 200) { checksum = Some checksum }
 response_to (Used usage) = with_document 200 (usage_text usage)
+response_to (Keys names) = empty 200
 response_to (Completed bucket key id checksum) = record (with_document 200 (completed_text bucket checksum key)) { version_id = id }
 
 -- the methods that may be used: of a delete marker that was named, or of the target where the method was at fault
@@ -137,10 +139,20 @@ line_of (SetQuota tenant quota) = codes "quota " ++ (tenant ++ (codes " " ++ dec
 line_of (AddKey tenant name secret) = codes "key " ++ (tenant ++ (codes "$" ++ name))
 line_of (RemoveKey tenant name) = codes "removed " ++ (tenant ++ (codes "$" ++ name))
 line_of (ShowUsage tenant) = codes "usage " ++ tenant
+line_of (ShowKeys tenant) = codes "keys " ++ tenant
+
+-- of a line whose words are parted by spaces: one more
+abbrev pub next_word : Octets → Octets
+next_word word = codes " " ++ word
+
+-- how many names there are, and then each of them
+abbrev pub names_end : List Octets → Octets
+names_end names = codes " " ++ (decimal (length names) ++ flat_map next_word names)
 
 -- what the answer adds to it
 abbrev pub line_end : Answer → Octets
 line_end (Used usage) = codes " bytes " ++ (decimal usage.bytes ++ (codes " quota " ++ decimal usage.quota))
+line_end (Keys names) = names_end names
 line_end answer = []
 
 abbrev pub line : Order → Result Answer Rejection → Octets
@@ -166,12 +178,20 @@ report_text report =
     ++ (codes " stored "
     ++ (decimal report.stored ++ (codes " referred " ++ (decimal report.referred ++ (codes " clashes " ++ decimal report.clashes))))))
 
+-- the line that tells all tenants: how many there are, and then each with what it uses
+abbrev pub tenant_words : TenantTold → Octets
+tenant_words t = t.name ++ (codes " bytes " ++ (decimal t.used ++ (codes " quota " ++ (decimal t.quota ++ (codes " keys " ++ decimal t.keys)))))
+
+abbrev pub tenants_text : List TenantTold → Octets
+tenants_text tenants = codes "tenants " ++ (decimal (length tenants) ++ flat_map (λ t. next_word (tenant_words t)) tenants)
+
 -- who asks: a request, or an operator
 abbrev pub caller_of : Message → Caller
 caller_of (Requested bytes) = Request
 caller_of (Ordered order) = Operator
 caller_of (SweepOrdered limit) = Operator
 caller_of ReportOrdered = Operator
+caller_of TenantsOrdered = Operator
 
 -- the fixed texts: of a reading above its limit, and where memory or the store was wanting
 abbrev pub clock_text : Caller → Octets

@@ -1,7 +1,7 @@
 -- A list of events, and what each tenant is told, as if it were alone.
 use Rattle.std.specs.Prelude.{◌≡◌, ◌⊎◌, ◌++◌, ℕ, List, [], ◌∷◌, Option, Some, None, Ok}
 use Rattle.bh_types.specs.Limits.{HostLimits}
-use Rattle.bh_event.specs.Events.{Message, Requested, Ordered, SweepOrdered, ReportOrdered, Arrival}
+use Rattle.bh_event.specs.Events.{Message, Requested, Ordered, SweepOrdered, ReportOrdered, TenantsOrdered, Arrival}
 use Rattle.bh_model.specs.Runs as runs
 use Rattle.bh_model.specs.Runs.{Follows, stamp_of}
 use Rattle.bh_model.specs.State.{Octets, State}
@@ -46,7 +46,7 @@ pub record RanOn {H : Type 0} (IsOpen : H → Type 0) (seen : H → Seen) (left 
 
 -- ---- whose events they were, and what each tenant is told
 
--- a request or a command is one turn; a sweep and a report are nobody's, and none
+-- a request or a command is one turn; a sweep, a report and a list of tenants are nobody's, and none
 abbrev pub IsOneTurn : HostLimits → Message → ℕ → List ℕ → List Turn → Type 0
 IsOneTurn limits message m reply turns =
     (act : Act) × Acted limits message act × (turns ≡ record { act = act; stamp = m; reply = reply } ∷ [])
@@ -56,6 +56,7 @@ AreTurnsOf limits (Requested bytes) m reply turns = IsOneTurn limits (Requested 
 AreTurnsOf limits (Ordered order) m reply turns = IsOneTurn limits (Ordered order) m reply turns
 AreTurnsOf limits (SweepOrdered limit) m reply turns = turns ≡ []
 AreTurnsOf limits ReportOrdered m reply turns = turns ≡ []
+AreTurnsOf limits TenantsOrdered m reply turns = turns ≡ []
 
 -- an event with a stamp is its turns, and its stamp the last one from then on; one without got the fixed reply, and is none
 abbrev pub IsShown : HostLimits → Arrival → Told → List Turn → ℕ → ℕ → Type 0

@@ -4,7 +4,7 @@ use Rattle.bh_types.specs.Limits.{HostLimits}
 use Rattle.bh_types.specs.Rejections.{plain}
 use Rattle.bh_types.specs.declared.refusal.Refusal.{Refusal}
 use Rattle.bh_types.specs.declared.rejection.Rejection.{Rejection}
-use Rattle.bh_event.specs.Events.{Order, Message, Requested, Ordered, SweepOrdered, ReportOrdered, Arrival}
+use Rattle.bh_event.specs.Events.{Order, Message, Requested, Ordered, SweepOrdered, ReportOrdered, TenantsOrdered, Arrival}
 use Rattle.bh_http.specs.Reading.{Reads}
 use Rattle.bh_http.specs.Views.{Taken}
 use Rattle.bh_machine.specs.Machine.{Act, Asked, Commanded, Acted, owner_of, step}
@@ -12,14 +12,14 @@ use Rattle.bh_model.specs.Operations.{Answer}
 use Rattle.bh_model.specs.Runs.{last_reading, stamp_of, purged_tenant}
 use Rattle.bh_model.specs.State.{Octets}
 use Rattle.bh_storage.specs.Calls.{Seen, OthersSame}
-use Rattle.bh_storage.specs.Reports.{sweep_counts, store_counts}
+use Rattle.bh_storage.specs.Reports.{sweep_counts, store_counts, tenants_told}
 use Rattle.bh_storage.specs.declared.error.StepError.{StepError}
 use Rattle.bh_storage.specs.declared.error.StepError.TheVariants.{Refused, Failed}
 use Rattle.bh_tables.specs.Typed.{Tables}
 use Rattle.bh_view.specs.Becomes.{KeepsShared}
 use Rattle.bh_view.specs.Sweep.{swept}
 use Rattle.bh_view.specs.View.{view, latest_of, limits_in, with_latest, rows_purged}
-use Rattle.bh_host.specs.Replies.{text, sweep_text, report_text, caller_of, clock_text, wanting_text}
+use Rattle.bh_host.specs.Replies.{text, sweep_text, report_text, tenants_text, caller_of, clock_text, wanting_text}
 
 -- ---- an act at the stamp m, on a host with these limits. `stamped` is the tables before it with m as the last stamp
 
@@ -61,6 +61,11 @@ pub record Reported (stamped new : Tables) (reply : List ℕ) : Type 0 where
   pub told : reply ≡ report_text (store_counts stamped)
   pub same : new ≡ stamped
 
+-- a list of tenants tells each of them, and all tables stay
+pub record Listed (stamped new : Tables) (reply : List ℕ) : Type 0 where
+  pub told : reply ≡ tenants_text (tenants_told stamped)
+  pub same : new ≡ stamped
+
 abbrev pub Acts : HostLimits → Message → ℕ → Tables → Tables → List ℕ → Type 0
 Acts limits message m stamped new reply = (act : Act) × Acted limits message act × Turned limits act m stamped new reply
 
@@ -69,6 +74,7 @@ Turns limits (Requested bytes) m stamped new reply = Acts limits (Requested byte
 Turns limits (Ordered order) m stamped new reply = Acts limits (Ordered order) m stamped new reply
 Turns limits (SweepOrdered limit) m stamped new reply = Swept limit m stamped new reply
 Turns limits ReportOrdered m stamped new reply = Reported stamped new reply
+Turns limits TenantsOrdered m stamped new reply = Listed stamped new reply
 
 abbrev pub TurnsRequest : HostLimits → List ℕ → ℕ → Tables → Tables → List ℕ → Type 0
 TurnsRequest limits bytes m stamped new reply = (answer : Result Taken Refusal) × Reads limits bytes answer × Turned limits (Asked answer) m stamped new reply

@@ -12,8 +12,9 @@ ghost use Rattle.bh_types.specs.Rejections.{plain};
 ghost use Rattle.bh_view.specs.View.{latest_of};
 ghost use Rattle.bh_host.specs.Replies.{clock_text, reply_bytes};
 ghost use Rattle.bh_host.specs.Replies as reply;
-ghost use Rattle.bh_host.specs.Turns.{Turns, Turned, Swept, Reported, TurnsRequest, IsToldApart, WouldApply, AppliedTo};
+ghost use Rattle.bh_host.specs.Turns.{Turns, Turned, Swept, Reported, Listed, TurnsRequest, IsToldApart, WouldApply, AppliedTo};
 
+use crate::lists::tenants_line;
 use crate::reply::{
     Caller, Reply, order_text, refusal_line, refused_request_text, report_line, request_text,
     sweep_line, unread_text,
@@ -23,6 +24,7 @@ use bh_event::event::{Command, Event};
 use bh_http::credentials::{access_key_of, secret_of};
 use bh_http::read::read_request;
 use bh_http::request::Request;
+use bh_operation::routes::Routes;
 use bh_storage::error::Trouble;
 use bh_storage::storage::Storage;
 use bh_types::access_key::AccessKeyId;
@@ -42,6 +44,7 @@ pub struct Told {
 /// A request of the tenant of this access key.
 fn serve_tenant<H: Storage>(
     alloc: Global,
+    routes: &Routes,
     host: &mut H,
     key: &AccessKeyId,
     request: &Request,
@@ -58,8 +61,8 @@ fn serve_tenant<H: Storage>(
         (H.seen host.old).now (H.seen host.new).now bytes.items) }
 {
     host.purge(alloc, &key.tenant, at)?;
-    let outcome = requested(alloc, host, key, at, request);
-    request_text(alloc, request, outcome)
+    let outcome = requested(alloc, routes, host, key, at, request);
+    request_text(alloc, routes, request, outcome)
 }
 
 /// Why a request that belongs to nobody is refused.
@@ -75,6 +78,7 @@ fn stranger_refusal(request: &Request) -> Refusal
 /// A request that was read.
 fn serve_read<H: Storage>(
     alloc: Global,
+    routes: &Routes,
     host: &mut H,
     request: &Request,
     at: Moment,
@@ -89,10 +93,10 @@ fn serve_read<H: Storage>(
         (H.seen host.old).now (H.seen host.new).now bytes.items) }
 {
     match access_key_of(alloc, request)? {
-        Some(key) => serve_tenant(alloc, host, &key, request, at),
+        Some(key) => serve_tenant(alloc, routes, host, &key, request, at),
         None => {
             let rejection = Rejection::from(stranger_refusal(request));
-            Ok(refused_request_text(alloc, request, rejection)?)
+            Ok(refused_request_text(alloc, routes, request, rejection)?)
         }
     }
 }
@@ -100,6 +104,7 @@ fn serve_read<H: Storage>(
 /// A request, as its bytes are read.
 fn serve_request<H: Storage>(
     alloc: Global,
+    routes: &Routes,
     host: &mut H,
     bytes: &[u8],
     at: Moment,
@@ -113,8 +118,8 @@ fn serve_request<H: Storage>(
         → TurnsRequest (H.seen host.old).limits bytes.now at (H.seen host.old).now (H.seen host.new).now text.items) }
 {
     match read_request(bytes, &host.limits()) {
-        Ok(request) => serve_read(alloc, host, &request, at),
-        Err(refusal) => Ok(unread_text(alloc, refusal)?),
+        Ok(request) => serve_read(alloc, routes, host, &request, at),
+        Err(refusal) => Ok(unread_text(alloc, routes, refusal)?),
     }
 }
 
@@ -199,9 +204,23 @@ fn serve_report<H: Storage>(alloc: Global, host: &mut H) -> Result<Vec<u8>, Trou
     Ok(report_line(alloc, report)?.into_bytes())
 }
 
+/// A list of all tenants.
+fn serve_tenants<H: Storage>(alloc: Global, host: &mut H) -> Result<Vec<u8>, Trouble>
+    requires working { Clean H.IsIntact H.IsOpen host.old → IsWorking H.IsSound (H.seen host.old) }
+    ensures within { Within H.IsIntact H.IsOpen H.seen H.left host.old host.new }
+    ensures opens { OnOk result (H.IsOpen host.old → H.IsIntact host.new → H.IsOpen host.new) }
+    ensures working { OnOk result (Clean H.IsIntact H.IsOpen host.new → IsWorking H.IsSound (H.seen host.new)) }
+    ensures listed { IfOk result (λ bytes. Clean H.IsIntact H.IsOpen host.new
+        → Listed (H.seen host.old).now (H.seen host.new).now bytes.items) }
+{
+    let tenants = host.tenants(alloc)?;
+    Ok(tenants_line(alloc, &tenants)?.into_bytes())
+}
+
 /// What an event is answered, at its stamp.
 fn serve<H: Storage>(
     alloc: Global,
+    routes: &Routes,
     host: &mut H,
     event: &Event,
     at: Moment,
@@ -215,16 +234,18 @@ fn serve<H: Storage>(
         → Turns (H.seen host.old).limits (arrival event.now).message at (H.seen host.old).now (H.seen host.new).now bytes.items) }
 {
     match event {
-        Event::Http { bytes, .. } => serve_request(alloc, host, bytes, at),
+        Event::Http { bytes, .. } => serve_request(alloc, routes, host, bytes, at),
         Event::Operator { command, .. } => serve_command(alloc, host, command, at),
         Event::Sweep { limit, .. } => serve_sweep(alloc, host, *limit, at),
         Event::Report { .. } => serve_report(alloc, host),
+        Event::Tenants { .. } => serve_tenants(alloc, host),
     }
 }
 
 /// A transaction with one event: its stamp and its reply. After trouble it may be open still.
 fn try_apply<H: Storage>(
     alloc: Global,
+    routes: &Routes,
     host: &mut H,
     event: &Event,
 ) -> Result<(Moment, Vec<u8>), Trouble>
@@ -244,7 +265,7 @@ fn try_apply<H: Storage>(
 {
     host.begin()?;
     let stamp = host.stamp(event.reading())?;
-    let bytes = serve(alloc, host, event, stamp)?;
+    let bytes = serve(alloc, routes, host, event, stamp)?;
     host.commit()?;
     Ok((stamp, bytes))
 }
@@ -255,23 +276,28 @@ fn caller_of(event: &Event) -> Caller
 {
     match event {
         Event::Http { .. } => Caller::Request,
-        Event::Operator { .. } | Event::Sweep { .. } | Event::Report { .. } => Caller::Operator,
+        Event::Operator { .. }
+        | Event::Sweep { .. }
+        | Event::Report { .. }
+        | Event::Tenants { .. } => Caller::Operator,
     }
 }
 
-/// Applies one event in one transaction, and says what is answered. Requests are read by the host's limits.
+/// Applies one event in one transaction, and says what is answered. Requests are read by the host's limits, and their
+/// paths by these routes.
 ///
 /// A reading above 250,000,000,000 seconds is answered ClockOutOfRange, which takes no memory and leaves the host as
 /// it was. Where memory or the store is wanting, the answer is ServiceUnavailable to a request and Unavailable to an
 /// operator. In these cases there is no stamp, and all tables are as they were. Otherwise the event counts at its
 /// stamp, the greater of its reading and the last stamp, and its tenant is answered as its private machine answers.
 ///
-/// A sweep and a report belong to nobody: a sweep removes what is stale or unreferenced, of all tenants, up to its
-/// limit, and a report counts what is stored. Each tenant's answers stay those of its own machine.
+/// A sweep, a report and a list of tenants belong to nobody: a sweep removes what is stale or unreferenced, of all
+/// tenants, up to its limit, a report counts what is stored, and the list tells them by name. Each tenant's answers stay
+/// those of its own machine.
 ///
 /// All that is said of replies and of a crash holds also where the store reports faults; what is said of the tables
 /// holds while no fault has shut it.
-pub fn apply<H: Storage>(alloc: Global, host: &mut H, event: &Event) -> Told
+pub fn apply<H: Storage>(alloc: Global, routes: &Routes, host: &mut H, event: &Event) -> Told
     requires { Clean H.IsIntact H.IsOpen host.old → IsAtRest H.IsSound (H.seen host.old) }
     ensures intact { H.IsIntact host.new → H.IsIntact host.old }
     ensures opened { H.IsIntact host.new → H.IsOpen host.new → H.IsOpen host.old }
@@ -295,7 +321,7 @@ pub fn apply<H: Storage>(alloc: Global, host: &mut H, event: &Event) -> Told
             reply: Reply::ClockOutOfRange(caller_of(event)),
         };
     }
-    match try_apply(alloc, host, event) {
+    match try_apply(alloc, routes, host, event) {
         Ok((stamp, bytes)) => Told {
             stamp: Some(stamp),
             reply: Reply::Text(bytes),

@@ -8,19 +8,21 @@ ghost use Rattle.bh_host.specs.Runs.{HasRunOn, RanOn};
 
 use crate::event::{Told, apply};
 use bh_event::event::Event;
+use bh_operation::routes::Routes;
 use bh_storage::storage::Storage;
 use std::alloc::{AllocError, Global};
 
 /// Applies events in turn, and gives what each was answered. To each tenant the answers are those of a machine
 /// that it has to itself. Its vector is taken first: where memory is wanting for it, nothing is applied.
 ///
-/// A sweep and a report belong to nobody: a sweep removes what is stale or unreferenced, of all tenants, and a report
-/// changes nothing, so that each tenant's answers stay those of its own machine.
+/// A sweep, a report and a list of tenants belong to nobody: a sweep removes what is stale or unreferenced, of all
+/// tenants, and the others change nothing, so that each tenant's answers stay those of its own machine.
 ///
 /// A fault of the store takes nothing from what is said of the events before it, and what a crash may leave then, unless it
 /// might have been left before the run, is sound.
 pub fn run<H: Storage>(
     alloc: Global,
+    routes: &Routes,
     host: &mut H,
     events: &[Event],
 ) -> Result<Vec<Told>, AllocError>
@@ -39,7 +41,7 @@ pub fn run<H: Storage>(
 {
     let mut dones = Vec::with_capacity(alloc, events.len())?;
     for event in events {
-        let done = apply(alloc, host, event);
+        let done = apply(alloc, routes, host, event);
         dones.push_reserved(done);
     }
     Ok(dones)

@@ -5,6 +5,7 @@ mod answers;
 mod event;
 mod events;
 pub mod laws;
+mod lists;
 mod reply;
 mod serve;
 

@@ -13,6 +13,7 @@ ghost use Rattle.bh_host.specs.Replies as spec;
 ghost use Rattle.bh_host.specs.Turns.{Tells, TellsOrder};
 
 use crate::answers::response_to;
+use crate::lists::names_end;
 use bh_docs::reply::{Usage, error_document};
 use bh_event::event::Command;
 use bh_http::encode::response_bytes;
@@ -22,6 +23,7 @@ use bh_http::response::{Response, has_document};
 use bh_http::values::{Allow, ContentRange};
 use bh_operation::allow::allow_of;
 use bh_operation::path_of;
+use bh_operation::routes::Routes;
 use bh_storage::answer::Answer;
 use bh_storage::error::{StepError, Trouble};
 use bh_storage::report::{StoreReport, SweepReport};
@@ -93,6 +95,7 @@ fn wanting_bytes(caller: Caller) -> &'static [u8]
 #[tactic(auto, unfolding(crate::specs::Replies::text))]
 pub fn request_text(
     alloc: Global,
+    routes: &Routes,
     request: &Request,
     outcome: Result<Answer, StepError<Rejection>>,
 ) -> Result<Vec<u8>, Trouble>
@@ -101,7 +104,7 @@ pub fn request_text(
     match outcome {
         Ok(answer) => Ok(answer_text(alloc, request, answer)?),
         Err(StepError::Refused(rejection)) => {
-            Ok(refused_request_text(alloc, request, rejection)?)
+            Ok(refused_request_text(alloc, routes, request, rejection)?)
         }
         Err(StepError::Failed(trouble)) => Err(trouble),
     }
@@ -111,12 +114,13 @@ pub fn request_text(
 #[tactic(auto, unfolding(crate::specs::Replies::text))]
 pub fn refused_request_text(
     alloc: Global,
+    routes: &Routes,
     request: &Request,
     rejection: Rejection,
 ) -> Result<Vec<u8>, AllocError>
     ensures { IfOk result (λ bytes. bytes.items ≡ spec.text (Asked (Ok (request_view request.now))) (Err rejection)) }
 {
-    let response = refusal_to(alloc, request.target, rejection)?;
+    let response = refusal_to(alloc, routes, request.target, rejection)?;
     sent_text(alloc, request.method, response)
 }
 
@@ -150,12 +154,17 @@ fn sent_for(alloc: Global, method: &[u8], response: Response) -> Response
 }
 
 /// The response that refuses a request with this target.
-fn refusal_to(alloc: Global, target: &[u8], rejection: Rejection) -> Result<Response, AllocError>
+fn refusal_to(
+    alloc: Global,
+    routes: &Routes,
+    target: &[u8],
+    rejection: Rejection,
+) -> Result<Response, AllocError>
     ensures { IfOk result (λ response. response_view response ≡ spec.refusal_to target.now rejection) }
 {
     let mut response = response_with_document(alloc, target, rejection.refusal)?;
     response.content_range = range_told(rejection.detail);
-    response.allow = allow_told(target, rejection);
+    response.allow = allow_told(routes, target, rejection);
     response.delete_marker = marker_told(rejection.detail);
     Ok(response)
 }
@@ -177,12 +186,12 @@ fn response_with_document(
 }
 
 /// The methods to tell of with a refusal of this target.
-fn allow_told(target: &[u8], rejection: Rejection) -> Option<Allow>
+fn allow_told(routes: &Routes, target: &[u8], rejection: Rejection) -> Option<Allow>
     ensures { result ≡ spec.allow_told target.now rejection.refusal rejection.detail }
 {
     match (rejection.refusal, rejection.detail) {
         (_, Detail::NamedMarker) => Some(Allow::Marker),
-        (Refusal::MethodNotAllowed, _) => allow_of(target),
+        (Refusal::MethodNotAllowed, _) => allow_of(routes, target),
         _ => None,
     }
 }
@@ -206,10 +215,10 @@ fn range_told(detail: Detail) -> Option<ContentRange>
 
 /// The response that refuses bytes that are no request.
 #[tactic(auto, unfolding(crate::specs::Replies::text))]
-pub fn unread_text(alloc: Global, refusal: Refusal) -> Result<Vec<u8>, AllocError>
+pub fn unread_text(alloc: Global, routes: &Routes, refusal: Refusal) -> Result<Vec<u8>, AllocError>
     ensures { IfOk result (λ bytes. bytes.items ≡ spec.text (Asked (Err refusal)) (Err (plain refusal))) }
 {
-    let response = refusal_to(alloc, b"", Rejection::from(refusal))?;
+    let response = refusal_to(alloc, routes, b"", Rejection::from(refusal))?;
     response_bytes(alloc, &response)
 }
 
@@ -243,6 +252,7 @@ fn line_end(alloc: Global, answer: &Answer) -> Result<String, AllocError>
 {
     match answer {
         Answer::Used(usage) => used_end(alloc, usage),
+        Answer::Keys(names) => names_end(alloc, names),
         _ => Ok(String::new(alloc)),
     }
 }
@@ -263,6 +273,7 @@ fn line_of(alloc: Global, command: &Command) -> Result<String, AllocError>
         Command::KeyAdd { tenant, name, .. } => format!(in alloc; "key {tenant}${name}"),
         Command::KeyRemove { tenant, name } => format!(in alloc; "removed {tenant}${name}"),
         Command::Usage { tenant } => format!(in alloc; "usage {tenant}"),
+        Command::Keys { tenant } => format!(in alloc; "keys {tenant}"),
     }
 }
 

@@ -9,6 +9,7 @@ ghost use Rattle.bh_view.specs.View.{latest_of};
 use bh_http::credentials::secret_of;
 use bh_http::request::Request;
 use bh_operation::operation::operation_of;
+use bh_operation::routes::Routes;
 use bh_storage::answer::Answer;
 use bh_storage::error::StepError;
 use bh_storage::storage::Storage;
@@ -20,6 +21,7 @@ use std::alloc::Global;
 /// A request of a tenant whose stale uploads are gone.
 pub fn requested<H: Storage>(
     alloc: Global,
+    routes: &Routes,
     host: &mut H,
     key: &AccessKeyId,
     at: Moment,
@@ -37,6 +39,6 @@ pub fn requested<H: Storage>(
 {
     let secret = secret_of(request)?;
     host.authenticate(alloc, key, secret)?;
-    let operation = operation_of(alloc, request, &key.tenant)?;
+    let operation = operation_of(alloc, routes, request, &key.tenant)?;
     host.operate(alloc, &key.tenant, at, &operation, request.body)
 }

@@ -4,7 +4,7 @@ use Rattle.std.specs.Result.{IfOk}
 use Rattle.bh_types.specs.Limits.{HostLimits}
 use Rattle.bh_types.specs.Rejections.{plainly}
 use Rattle.bh_types.specs.declared.refusal.Refusal.{Refusal}
-use Rattle.bh_event.specs.Events.{Order, AddTenant, SetQuota, AddKey, RemoveKey, ShowUsage}
+use Rattle.bh_event.specs.Events.{Order, AddTenant, SetQuota, AddKey, RemoveKey, ShowUsage, ShowKeys}
 use Rattle.bh_model.specs.Operations.{Outcome, add_tenant, set_quota}
 use Rattle.bh_model.specs.QuotaLaws.{FitsQuota, UsesNoMore, IsBounded}
 use Rattle.bh_model.specs.Runs.{purged_tenant, settled, solo_state}
@@ -13,7 +13,7 @@ use Rattle.bh_operation.specs.declared.operation.Operation.{Operation}
 use Rattle.bh_model.proofs.BoundLemmas.{KeepsBound, changes_fit, settings_use_no_more, purged_fits, fits_later, purge_uses_no_more, changes_keep_bound, settings_keep_bound, used_stays_bounded}
 use Rattle.bh_machine.specs.Machine.{Act, Act.Asked, Act.Commanded, operated, ordered, change, step}
 use Rattle.bh_machine.specs.Bounded.{StepsKeepQuota, StepsStayBounded, RunsStayBounded}
-use Rattle.bh_machine.proofs.Changing.{plainly_holds, operated_as, asked_as, key_added_as, key_removed_as, usage_shown_as, ordered_as, settled_as, step_as}
+use Rattle.bh_machine.proofs.Changing.{plainly_holds, operated_as, asked_as, key_added_as, key_removed_as, usage_shown_as, keys_shown_as, ordered_as, settled_as, step_as}
 
 -- ---- against the quota
 
@@ -41,6 +41,7 @@ steps_keep_quota limits now (Commanded (SetQuota tenant quota)) s =
 steps_keep_quota limits now (Commanded (AddKey tenant name secret)) s = commanded limits now s (AddKey tenant name secret) (key_added_as FitsQuota now (changes_fit now) (purged_tenant s now) tenant name secret)
 steps_keep_quota limits now (Commanded (RemoveKey tenant name)) s = commanded limits now s (RemoveKey tenant name) (key_removed_as FitsQuota now (changes_fit now) (purged_tenant s now) tenant name)
 steps_keep_quota limits now (Commanded (ShowUsage tenant)) s = commanded limits now s (ShowUsage tenant) (usage_shown_as FitsQuota now (changes_fit now) (purged_tenant s now) tenant)
+steps_keep_quota limits now (Commanded (ShowKeys tenant)) s = commanded limits now s (ShowKeys tenant) (keys_shown_as FitsQuota now (changes_fit now) (purged_tenant s now) tenant)
 
 -- ---- against the greatest quota
 

@@ -11,12 +11,12 @@ use Rattle.bh_types.specs.declared.refusal.Refusal.{Refusal}
 use Rattle.bh_types.specs.declared.refusal.Refusal.TheVariants.{InvalidAccessKeyId, InvalidName, NoSuchLifecycleConfiguration}
 use Rattle.bh_types.specs.declared.wanted.Wanted.{Wanted}
 use Rattle.bh_docs.specs.Requests.{versioning_of, lifecycle_of, retention_of, complete_of}
-use Rattle.bh_event.specs.Events.{Order, AddTenant, SetQuota, AddKey, RemoveKey, ShowUsage}
+use Rattle.bh_event.specs.Events.{Order, AddTenant, SetQuota, AddKey, RemoveKey, ShowUsage, ShowKeys}
 use Rattle.bh_http.specs.Credentials.{key_given, secret_given}
 use Rattle.bh_http.specs.Views.{Taken}
 use Rattle.bh_model.specs.Credentials.{authenticate}
 use Rattle.bh_model.specs.Listings.{objects_listed, versions_listed, uploads_listed, parts_listed, list_objects, list_versions, list_uploads, list_parts}
-use Rattle.bh_model.specs.Operations.{Outcome, added_tenant, tenant_bucket, tell_usage, wanted_version, planned, create_bucket, head_bucket, delete_bucket, get_versioning, get_lifecycle, delete_lifecycle, put_object, copy_object, get_object, head_object, delete_object, get_retention}
+use Rattle.bh_model.specs.Operations.{Outcome, added_tenant, tenant_bucket, tell_usage, tell_keys, wanted_version, planned, create_bucket, head_bucket, delete_bucket, get_versioning, get_lifecycle, delete_lifecycle, put_object, copy_object, get_object, head_object, delete_object, get_retention}
 use Rattle.bh_model.specs.Uploads.{create_upload, upload_part, abort_upload}
 use Rattle.bh_model.specs.Runs.{purged_tenant, settled}
 use Rattle.bh_model.specs.State.{Octets, State}
@@ -44,6 +44,9 @@ module _ (R : Option State → Option State → Type 0) (now : ℕ) (all : Chang
 
   tells_usage : Holds (tell_usage s)
   tells_usage = then_holds (added_tenant s) _ (λ t. same)
+
+  tells_keys : Holds (tell_keys s)
+  tells_keys = then_holds (added_tenant s) _ (λ t. same)
 
   sets_versioning : (bucket body : Octets) → Holds (set_versioning bucket body s)
   sets_versioning bucket body = then_holds (versioning_of body) _ (λ mode. all.versioning_put bucket mode s)
@@ -131,6 +134,9 @@ module _ (R : Option State → Option State → Type 0) (now : ℕ) (all : Chang
   pub usage_shown_as : (tenant : Octets) → Holds (ordered (ShowUsage tenant) s)
   usage_shown_as tenant = then_holds (require (is_tenant_name tenant) InvalidName) _ (λ _. tells_usage)
 
+  pub keys_shown_as : (tenant : Octets) → Holds (ordered (ShowKeys tenant) s)
+  keys_shown_as tenant = then_holds (require (is_tenant_name tenant) InvalidName) _ (λ _. tells_keys)
+
   module _ (settings : Settings R) where
     pub ordered_as : (order : Order) → Holds (ordered order s)
     ordered_as (AddTenant tenant quota) = settings.tenant_added tenant quota s
@@ -138,6 +144,7 @@ module _ (R : Option State → Option State → Type 0) (now : ℕ) (all : Chang
     ordered_as (AddKey tenant name secret) = key_added_as tenant name secret
     ordered_as (RemoveKey tenant name) = key_removed_as tenant name
     ordered_as (ShowUsage tenant) = usage_shown_as tenant
+    ordered_as (ShowKeys tenant) = keys_shown_as tenant
 
     change_as : (limits : HostLimits) (act : Act) → Holds (change limits now act s)
     change_as limits (Asked answer) = asked_as limits answer

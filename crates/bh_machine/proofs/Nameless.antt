@@ -1,7 +1,7 @@
 -- An order that names no tenant.
 use Rattle.std.proofs.Common.{◌≡◌, false, Option, Some, None, Err, refl, rules, inl, inr}
 use Rattle.std.proofs.lemmas.Bool.{cases_Bool}
-use Rattle.bh_event.specs.Events.{Order, AddTenant, SetQuota, AddKey, RemoveKey, ShowUsage, tenant_of}
+use Rattle.bh_event.specs.Events.{Order, AddTenant, SetQuota, AddKey, RemoveKey, ShowUsage, ShowKeys, tenant_of}
 use Rattle.bh_model.specs.State.{Octets}
 use Rattle.bh_types.specs.AccessKeys.{tenant_named}
 use Rattle.bh_types.specs.Names.{is_tenant_name}
@@ -23,6 +23,7 @@ refused (SetQuota tenant quota) bad = rw bad refl
 refused (AddKey tenant name secret) bad = rw bad refl
 refused (RemoveKey tenant name) bad = rw bad refl
 refused (ShowUsage tenant) bad = rw bad refl
+refused (ShowKeys tenant) bad = rw bad refl
 
 -- it is refused as such
 pub nameless : (order : Order) → tenant_named (tenant_of order) ≡ None → ordered order None ≡ Err InvalidName

@@ -26,7 +26,7 @@ use Rattle.bh_types.specs.declared.rejection.Rejection.{Rejection}
 use Rattle.bh_types.proofs.Refusing.{then_only, if_only, require_only, ok_or_only, weaker_only}
 use Rattle.bh_docs.specs.Requests.{or_malformed, ranged, document_of, versioning_of, in_range, in_ranges, complete_of, lifecycle_of, date_told, retention_of}
 use Rattle.bh_docs.specs.Shapes.{Part as Shape, data_of, versioning_shape, complete_shape, lifecycle_shape, retention_shape}
-use Rattle.bh_event.specs.Events.{Order, AddTenant, SetQuota, AddKey, RemoveKey, ShowUsage, Message, Requested, Ordered, SweepOrdered, ReportOrdered}
+use Rattle.bh_event.specs.Events.{Order, AddTenant, SetQuota, AddKey, RemoveKey, ShowUsage, ShowKeys, Message, Requested, Ordered, SweepOrdered, ReportOrdered, TenantsOrdered}
 use Rattle.bh_http.specs.Credentials.{key_field, secret_field, secret_of_both, secret_given, key_given}
 use Rattle.bh_http.specs.Fields.{Occurrence, Missing, Once, Repeated}
 use Rattle.bh_http.specs.Refused.{is_reading_refusal}
@@ -36,7 +36,7 @@ use Rattle.bh_model.specs.Counting.{counts, can_give, can_number, after_entry, a
 use Rattle.bh_model.specs.Credentials.{authenticate, secret_of}
 use Rattle.bh_model.specs.Entries.{Version, LookupFault, has_id, lookup, opened, found_named}
 use Rattle.bh_model.specs.FinMaps.{is_empty}
-use Rattle.bh_model.specs.Operations.{Outcome, added_tenant, tenant_bucket, with_bucket, listed, not_found, wanted_version, source_refusal, source_version, out_of_range, planned, tell_usage, create_bucket, head_bucket, delete_bucket, get_versioning, with_object, with_copy, require_quota, put_object, copy_object, get_object, head_object, delete_object, get_lifecycle, delete_lifecycle, found_version, get_retention, put_retention}
+use Rattle.bh_model.specs.Operations.{Outcome, added_tenant, tenant_bucket, with_bucket, listed, not_found, wanted_version, source_refusal, source_version, out_of_range, planned, tell_usage, create_bucket, head_bucket, delete_bucket, get_versioning, with_object, with_copy, require_quota, put_object, copy_object, get_object, head_object, delete_object, get_lifecycle, delete_lifecycle, found_version, get_retention, put_retention, tell_keys}
 use Rattle.bh_model.specs.Parts.{Naming, ascends, is_checksum, checked, choice, chosen, are_large, completed}
 use Rattle.bh_model.specs.Quotas.{keeps_quota}
 use Rattle.bh_model.specs.Retention.{keeps_versions, can_retain, date_of, named_date, may_go, may_retain, first_date}
@@ -199,6 +199,9 @@ quota_only name b t = require_only may (keeps_quota t (with_bucket name b t)) Qu
 
 used_only : (s : Option State) → Only (tell_usage s)
 used_only s = then_only may (added_tenant s) _ (ok_or_only may s NoSuchTenant refl) (λ t. tt)
+
+keys_only : (s : Option State) → Only (tell_keys s)
+keys_only s = then_only may (added_tenant s) _ (ok_or_only may s NoSuchTenant refl) (λ t. tt)
 
 retained_only : (locked : Bool) (present date : Option ℕ) (now : ℕ) → Only (may_retain locked present date now)
 retained_only locked present date now =
@@ -478,6 +481,7 @@ ordered_only (RemoveKey tenant name) s =
     (λ _. then_only may (added_tenant s) _ (ok_or_only may s NoSuchTenant refl)
     (λ t. then_only may (require (is_some (get t.keys name)) NoSuchKeyName) _ (require_only may (is_some (get t.keys name)) NoSuchKeyName refl) (λ _. tt)))
 ordered_only (ShowUsage tenant) s = then_only may (require (is_tenant_name tenant) InvalidName) _ (require_only may (is_tenant_name tenant) InvalidName refl) (λ _. used_only s)
+ordered_only (ShowKeys tenant) s = then_only may (require (is_tenant_name tenant) InvalidName) _ (require_only may (is_tenant_name tenant) InvalidName refl) (λ _. keys_only s)
 
 -- ---- an act
 
@@ -494,6 +498,7 @@ change_told limits (Requested bytes) now act s (answer, reads, is) = subst (λ a
 change_told limits (Ordered order) now act s is = subst (λ a. MaySay (change limits now a s)) (sym is) (plainly_told (ordered order s) (ordered_only order s))
 change_told limits (SweepOrdered limit) now act s is = absurd is
 change_told limits ReportOrdered now act s is = absurd is
+change_told limits TenantsOrdered now act s is = absurd is
 
 pub step_only : StepRefusals
 step_only limits content now act s acted = settled_told (purged_tenant s now) (change limits now act (purged_tenant s now)) (change_told limits content now act (purged_tenant s now) acted)

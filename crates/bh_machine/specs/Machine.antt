@@ -10,14 +10,14 @@ use Rattle.bh_types.specs.declared.refusal.Refusal.TheVariants.{InvalidAccessKey
 use Rattle.bh_types.specs.declared.rejection.Rejection.{Rejection}
 use Rattle.bh_types.specs.declared.wanted.Wanted.{Wanted}
 use Rattle.bh_docs.specs.Requests.{versioning_of, lifecycle_of, retention_of, complete_of}
-use Rattle.bh_event.specs.Events.{Order, AddTenant, SetQuota, AddKey, RemoveKey, ShowUsage, tenant_of, Message, Requested, Ordered, SweepOrdered, ReportOrdered}
+use Rattle.bh_event.specs.Events.{Order, AddTenant, SetQuota, AddKey, RemoveKey, ShowUsage, ShowKeys, tenant_of, Message, Requested, Ordered, SweepOrdered, ReportOrdered, TenantsOrdered}
 use Rattle.bh_http.specs.Credentials.{owner, key_given, secret_given}
 use Rattle.bh_http.specs.Reading.{Reads}
 use Rattle.bh_http.specs.Views.{Taken}
 use Rattle.bh_model.specs.Credentials.{authenticate}
 use Rattle.bh_model.specs.Listings.{list_objects, list_versions, list_uploads, list_parts}
 use Rattle.bh_model.specs.Pages as pages
-use Rattle.bh_model.specs.Operations.{Answer, Outcome, add_tenant, set_quota, add_key, remove_key, tell_usage, show_usage, create_bucket, head_bucket, delete_bucket, list_buckets, get_versioning, put_versioning, get_lifecycle, put_lifecycle, delete_lifecycle, put_object, copy_object, get_object, head_object, delete_object, get_retention, put_retention}
+use Rattle.bh_model.specs.Operations.{Answer, Outcome, add_tenant, set_quota, add_key, remove_key, tell_usage, show_usage, show_keys, create_bucket, head_bucket, delete_bucket, list_buckets, get_versioning, put_versioning, get_lifecycle, put_lifecycle, delete_lifecycle, put_object, copy_object, get_object, head_object, delete_object, get_retention, put_retention}
 use Rattle.bh_model.specs.Parts.{Naming}
 use Rattle.bh_model.specs.Runs as runs
 use Rattle.bh_model.specs.State.{Octets, State}
@@ -36,12 +36,13 @@ pub data Act : Type 0 where
   Asked : (answer : Result Taken Refusal) → Act
   Commanded : (order : Order) → Act
 
--- the act that an event's message is; a sweep and a report are no act of a tenant or of anybody who asks for one
+-- the act that an event's message is; a sweep, a report and a list of tenants are no act of a tenant or of anybody who asks for one
 abbrev pub Acted : HostLimits → Message → Act → Type 0
 Acted limits (Requested bytes) act = (answer : Result Taken Refusal) × Reads limits bytes answer × (act ≡ Asked answer)
 Acted limits (Ordered order) act = act ≡ Commanded order
 Acted limits (SweepOrdered limit) act = ⊥
 Acted limits ReportOrdered act = ⊥
+Acted limits TenantsOrdered act = ⊥
 
 abbrev pub asker : Result Taken Refusal → Option Octets
 asker (Ok request) = owner request
@@ -144,6 +145,7 @@ ordered (SetQuota tenant quota) s = set_quota tenant quota s
 ordered (AddKey tenant name secret) s = add_key tenant name secret s
 ordered (RemoveKey tenant name) s = remove_key tenant name s
 ordered (ShowUsage tenant) s = show_usage tenant s
+ordered (ShowKeys tenant) s = show_keys tenant s
 
 -- what an act makes of its owner's state once that is purged
 abbrev pub change : HostLimits → ℕ → Act → Option State → Result Outcome Rejection

@@ -36,8 +36,9 @@ use Rattle.bh_model.specs.Usage.{Usage, usage_of}
 -- marker was made or taken out. `Head` and `Object` tell the whole object's size, `Object` with the bytes that its plan
 -- names. `Copied` tells the moment of the copy. Buckets are told with their moments, in the order of their names,
 -- and `Objects`, `Versions` and `Uploads` a page of a bucket's objects, of its versions and of its uploads; `Parts` a
--- page of an upload's parts. `Lifecycle` tells a bucket's rule, `Retention` a version's date, and `Used` what a tenant uses. `Begun` and `Completed` name the object of an upload;
--- `Begun` tells when the upload will be stale, where its bucket has a rule
+-- page of an upload's parts. `Lifecycle` tells a bucket's rule, `Retention` a version's date, `Used` what a tenant uses, and
+-- `Keys` the names of its access keys, to an operator alone. `Begun` and `Completed` name the object of an upload; `Begun`
+-- tells when the upload will be stale, where its bucket has a rule
 pub data Answer : Type 0 where
   Done : Answer
   Removed : (id : Option VersionId) (marker : Bool) → Answer
@@ -57,6 +58,7 @@ pub data Answer : Type 0 where
   PartStored : (checksum : Octets) → Answer
   Completed : (bucket key : Octets) (id : Option VersionId) (checksum : Octets) → Answer
   Used : (usage : Usage) → Answer
+  Keys : (names : List Octets) → Answer
 
 -- an answer, and the state afterwards
 abbrev pub Outcome : Type 0
@@ -148,6 +150,21 @@ abbrev pub show_usage : Octets → Option State → Result Outcome Refusal
 show_usage name s = do
   _ ← require (is_tenant_name name) InvalidName
   tell_usage s
+
+-- the names of a tenant's access keys, in byte order, without their secrets
+abbrev pub key_names : State → List Octets
+key_names t = map (λ e. e.0) (entries t.keys)
+
+abbrev pub tell_keys : Option State → Result Outcome Refusal
+tell_keys s = do
+  t ← added_tenant s
+  Ok (Keys (key_names t), s)
+
+-- the operator's command names the tenant
+abbrev pub show_keys : Octets → Option State → Result Outcome Refusal
+show_keys name s = do
+  _ ← require (is_tenant_name name) InvalidName
+  tell_keys s
 
 abbrev pub bucket_list : State → List (Octets × ℕ)
 bucket_list t = map (λ e. (e.0, e.1.created)) (entries t.buckets)

@@ -1,3 +1,4 @@
 pub mod Digits
 pub mod Refused
+pub mod Routed
 pub mod Texts

@@ -8,4 +8,5 @@ pub mod Pages
 pub mod Queries
 pub mod Refused
 pub mod Sources
+pub mod Routes
 pub mod Targets

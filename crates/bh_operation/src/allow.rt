@@ -1,7 +1,8 @@
 ghost use Rattle.std.specs.Prelude.{◌≡◌};
 ghost use Rattle.bh_operation.specs.Allowed as spec;
 
-use crate::target::{Kind, kind_of, path_of};
+use crate::routes::Routes;
+use crate::target::{Kind, path_of};
 use bh_http::values::Allow;
 
 fn allow_at(kind: Kind) -> Allow
@@ -16,8 +17,8 @@ fn allow_at(kind: Kind) -> Allow
 
 /// The methods that a target takes (RFC 9110, section 10.2.1), as an answer of MethodNotAllowed tells them: `None`
 /// where its path is of no kind.
-pub fn allow_of(target: &[u8]) -> Option<Allow>
+pub fn allow_of(routes: &Routes, target: &[u8]) -> Option<Allow>
     ensures { result ≡ spec.allow_of target.now }
 {
-    kind_of(path_of(target)).map(allow_at)
+    routes.kind_of(path_of(target)).map(allow_at)
 }

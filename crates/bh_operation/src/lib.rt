@@ -11,6 +11,7 @@ mod number;
 pub mod operation;
 pub mod page;
 mod query;
+pub mod routes;
 mod source;
 mod target;
 pub mod text;

@@ -12,6 +12,7 @@ use crate::page::{
     upload_marker, upload_page, version_marker,
 };
 use crate::query::{Parameter, Selector, parameters_in, selected, value_of};
+use crate::routes::Routes;
 use crate::source::{Source, source_in};
 use crate::target::{Target, routed, split_target, target_at};
 use crate::text::{Bytes, Text};
@@ -456,13 +457,14 @@ fn supported_operation(
 #[tactic(auto, unfolding(crate::specs::Operations::operation))]
 pub fn operation_of(
     alloc: Global,
+    routes: &Routes,
     request: &Request,
     caller: &TenantName,
 ) -> Result<Operation, RequestError>
     ensures { Gives (λ x. x) result (spec.operation caller.now (view request.now)) }
 {
     let (path, query) = split_target(request.target);
-    let kind = routed(path)?;
+    let kind = routed(routes, path)?;
     let target = target_at(alloc, kind, path)?;
     let parameters = parameters_in(alloc, query)?;
     let asked = Asked {

@@ -4,6 +4,7 @@ ghost use Rattle.std.specs.Option.{option_copied};
 ghost use Rattle.bh_types.specs.Outcomes.{Gives};
 ghost use Rattle.bh_operation.specs.Targets as spec;
 
+use crate::routes::Routes;
 use crate::text::Text;
 use bh_types::error::RequestError;
 use bh_types::refusal::Refusal;
@@ -124,36 +125,14 @@ pub fn text_of(bytes: &[u8]) -> Option<&str>
     }
 }
 
-/// What stands after the slash that a path begins with, as a bucket and a key.
-fn kind_in(rest: &[u8]) -> Option<Kind>
-    ensures { result ≡ spec.kind_in rest.now }
-{
-    let (bucket, key) = split_at_slash(rest);
-    match (bucket, key) {
-        ([], _) if rest.is_empty() => Some(Kind::Host),
-        ([], _) => None,
-        (_, []) => Some(Kind::Bucket),
-        _ => Some(Kind::Object),
-    }
-}
-
-/// What kind of target a path is: `/`, `/bucket`, `/bucket/` or `/bucket/key`, if it is a text of such a form.
-pub fn kind_of(path: &[u8]) -> Option<Kind>
-    ensures { result ≡ spec.kind_of path.now }
-{
-    text_of(path)?;
-    match path {
-        [b'/', rest @ ..] => kind_in(rest),
-        _ => None,
-    }
-}
-
 /// The kind of a path: InvalidUri where it has none.
 #[tactic(auto, unfolding(crate::specs::Targets::routed))]
-pub fn routed(path: &[u8]) -> Result<Kind, RequestError>
+pub fn routed(routes: &Routes, path: &[u8]) -> Result<Kind, RequestError>
     ensures { Gives (λ x. x) result (spec.routed path.now) }
 {
-    kind_of(path).ok_or(RequestError::Refused(Refusal::InvalidUri))
+    routes
+        .kind_of(path)
+        .ok_or(RequestError::Refused(Refusal::InvalidUri))
 }
 
 /// A name in a path, decoded: InvalidUri where it is at fault.

@@ -4,7 +4,7 @@ use Rattle.std.specs.Prelude.{◌≡◌, ◌≤◌, ℕ, ◌+◌, List, [], ◌�
 use Rattle.std.specs.Option.{option_or}
 use Rattle.std.specs.Str.{bytes_eq}
 use Rattle.std.specs.Io.KnownBytes.{Consumes}
-use Rattle.bh_event.specs.Events.{Arrival, Message, Requested, Ordered, SweepOrdered, ReportOrdered}
+use Rattle.bh_event.specs.Events.{Arrival, Message, Requested, Ordered, SweepOrdered, ReportOrdered, TenantsOrdered}
 use Rattle.bh_event.specs.Lines.{arrival_at, told_by}
 use Rattle.bh_link.specs.Taking.{all_of}
 use Rattle.bh_operator.specs.Lines.{line_in}
@@ -40,6 +40,7 @@ order_of (Requested bytes) = None
 order_of (Ordered order) = Some (Ordered order)
 order_of (SweepOrdered limit) = Some (SweepOrdered limit)
 order_of ReportOrdered = Some ReportOrdered
+order_of TenantsOrdered = Some TenantsOrdered
 
 -- it counts at a reading of the clock, whatever the line says
 abbrev pub order_at : ℕ → Arrival → Option Arrival

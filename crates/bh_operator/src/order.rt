@@ -138,5 +138,6 @@ fn order_at(reading: u64, told: Event) -> Option<Event>
         Event::Operator { command, .. } => Some(Event::Operator { reading, command }),
         Event::Sweep { limit, .. } => Some(Event::Sweep { reading, limit }),
         Event::Report { .. } => Some(Event::Report { reading }),
+        Event::Tenants { .. } => Some(Event::Tenants { reading }),
     }
 }

@@ -13,6 +13,7 @@ use bh_event::line::read_line;
 use bh_host::{Reply, apply};
 use bh_link::ends::Sink;
 use bh_link::link::Link;
+use bh_operation::routes::Routes;
 use bh_storage::storage::Storage;
 use memchr::memchr;
 use std::alloc::Global;
@@ -24,6 +25,7 @@ use std::alloc::Global;
 /// Of a line, its event and its reply nothing is held once the reply is written.
 pub(crate) fn answer_lines<H: Storage, W: Sink>(
     alloc: Global,
+    routes: &Routes,
     storage: &mut H,
     bytes: &[u8],
     writer: &mut Link<W>,
@@ -41,7 +43,7 @@ pub(crate) fn answer_lines<H: Storage, W: Sink>(
     let mut number = 1usize;
     while let Some(rest) = next {
         let (line, later) = cut_line(rest);
-        if let Some(bad_line) = answer_line(alloc, storage, number, line, writer)? {
+        if let Some(bad_line) = answer_line(alloc, routes, storage, number, line, writer)? {
             return Ok(Some(bad_line));
         }
         next = later;
@@ -64,6 +66,7 @@ fn cut_line(bytes: &[u8]) -> (&[u8], Option<&[u8]>)
 /// Answers one line; an empty line with nothing.
 fn answer_line<H: Storage, W: Sink>(
     alloc: Global,
+    routes: &Routes,
     storage: &mut H,
     number: usize,
     line: &[u8],
@@ -84,7 +87,7 @@ fn answer_line<H: Storage, W: Sink>(
     }
     match read_line(alloc, line)? {
         Some(event) => {
-            answer_event(alloc, storage, &event, writer)?;
+            answer_event(alloc, routes, storage, &event, writer)?;
             Ok(None)
         }
         None => {
@@ -98,6 +101,7 @@ fn answer_line<H: Storage, W: Sink>(
 /// Applies an event, and writes its reply and a line feed.
 fn answer_event<H: Storage, W: Sink>(
     alloc: Global,
+    routes: &Routes,
     storage: &mut H,
     event: &Event,
     writer: &mut Link<W>,
@@ -111,7 +115,7 @@ fn answer_event<H: Storage, W: Sink>(
     ensures going { OnOk result (writer.new.failed ≡ false) }
     ensures failed { IfErr result (λ e. writer.new.failed ≡ is_write e) }
 {
-    let told = apply(alloc, storage, event);
+    let told = apply(alloc, routes, storage, event);
     send_reply(&told.reply, writer)
 }
 

@@ -12,6 +12,7 @@ use bh_create::create;
 use bh_dispatch::storage::HostStorage;
 use bh_link::ends::Sink;
 use bh_link::link::Link;
+use bh_operation::routes::Routes;
 use bh_schema::host::Digester;
 use bh_storage::error::Trouble;
 use bh_types::block_digest::BlockDigest;
@@ -42,7 +43,8 @@ pub fn answer_script<W: Sink, D: Digester + Drop>(
     ensures failed { IfErr result (λ e. writer.new.failed ≡ is_write e) }
 {
     let mut storage = new_host(alloc, digester, digest, limits, tuning)?;
-    answer_lines(alloc, &mut storage, bytes, writer)
+    let routes = Routes::new(alloc)?;
+    answer_lines(alloc, &routes, &mut storage, bytes, writer)
 }
 
 /// A new host in memory.

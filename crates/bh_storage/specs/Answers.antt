@@ -6,7 +6,7 @@ use Rattle.bh_docs.specs.Pages.{page_view, versions_view, uploads_view, parts_vi
 use Rattle.bh_docs.specs.declared.reply.Usage.{Usage}
 use Rattle.bh_model.specs.Operations as model
 use Rattle.bh_storage.specs.declared.answer.Answer.{Answer}
-use Rattle.bh_storage.specs.declared.answer.Answer.TheVariants.{Done, Removed, Stored, Copied, Head, Found, Buckets, Versioning, Objects, Versions, Uploads, Parts, Begun, PartStored, Completed, Lifecycle, Retention, Used}
+use Rattle.bh_storage.specs.declared.answer.Answer.TheVariants.{Done, Removed, Stored, Copied, Head, Found, Buckets, Versioning, Objects, Versions, Uploads, Parts, Begun, PartStored, Completed, Lifecycle, Retention, Used, Keys}
 use Rattle.bh_storage.specs.declared.answer.RemovedEntry.{RemovedEntry}
 use Rattle.bh_storage.specs.declared.answer.StoredVersion.{StoredVersion}
 use Rattle.bh_storage.specs.declared.answer.CopiedVersion.{CopiedVersion}
@@ -58,3 +58,4 @@ answer_view (Begun upload) = begun_answer upload
 answer_view (PartStored checksum) = model.PartStored (string_bytes checksum)
 answer_view (Completed upload) = completed_answer upload
 answer_view (Used usage) = used_answer usage
+answer_view (Keys names) = model.Keys (map string_bytes names.items)

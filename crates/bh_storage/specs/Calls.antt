@@ -1,6 +1,6 @@
 -- What a call on the storage does, in the words that a host needs: what is seen and committed, the machine's steps, and
 -- what a crash leaves.
-use Rattle.std.specs.Prelude.{◌≡◌, ◌≢◌, ◌⊎◌, ℕ, Bool, true, false, Option, Result, Ok, Err}
+use Rattle.std.specs.Prelude.{◌≡◌, ◌≢◌, ◌⊎◌, ℕ, Bool, true, false, List, map, Option, Result, Ok, Err}
 use Rattle.bh_types.specs.Limits.{HostLimits}
 use Rattle.bh_model.specs.Runs.{stamp_of, purged_tenant}
 use Rattle.bh_model.specs.State.{Octets, State}
@@ -8,9 +8,10 @@ use Rattle.bh_tables.specs.Typed.{Tables}
 use Rattle.bh_view.specs.Becomes.{KeepsShared}
 use Rattle.bh_view.specs.Sweep.{swept}
 use Rattle.bh_view.specs.View.{view, latest_of, limits_in, with_latest, rows_purged}
-use Rattle.bh_storage.specs.Reports.{sweep_counts, store_counts}
+use Rattle.bh_storage.specs.Reports.{sweep_counts, store_counts, tenant_view, tenants_told}
 use Rattle.bh_storage.specs.declared.report.SweepReport.{SweepReport}
 use Rattle.bh_storage.specs.declared.report.StoreReport.{StoreReport}
+use Rattle.bh_storage.specs.declared.report.TenantReport.{TenantReport}
 use Rattle.bh_storage.specs.declared.error.StepError.{StepError}
 use Rattle.bh_storage.specs.declared.error.StepError.TheVariants.{Refused, Failed}
 
@@ -119,4 +120,9 @@ pub record Sweeps (at limit : ℕ) (report : SweepReport) (old new : Tables) : T
 -- what is stored is counted, and stays
 pub record Reports (report : StoreReport) (old new : Tables) : Type 0 where
   pub counted : report ≡ store_counts old
+  pub same : new ≡ old
+
+-- all tenants are told, and all tables stay
+pub record Lists (listed : List TenantReport) (old new : Tables) : Type 0 where
+  pub told : map tenant_view listed ≡ tenants_told old
   pub same : new ≡ old

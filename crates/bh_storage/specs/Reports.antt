@@ -1,11 +1,15 @@
--- What sweeps and reports count.
-use Rattle.std.specs.Prelude.{ℕ, nat_lt, length, filter}
+-- What sweeps, reports and lists of tenants tell.
+use Rattle.std.specs.Prelude.{ℕ, nat_lt, List, length, filter, map}
 use Rattle.std.specs.List.{sum_by}
+use Rattle.std.specs.String.{string_bytes}
+use Rattle.bh_model.specs.State.{Octets}
 use Rattle.bh_tables.specs.Bodies.{block_at, ref_name}
-use Rattle.bh_tables.specs.Typed.{BlockRow, RefRow, Tables}
+use Rattle.bh_tables.specs.Shown.{is_owned_key, tenants_by_name}
+use Rattle.bh_tables.specs.Typed.{BlockRow, RefRow, TenantRow, Tables, bytes_used}
 use Rattle.bh_view.specs.Sweep.{uploads_swept, blocks_swept, is_complete}
 use Rattle.bh_storage.specs.declared.report.SweepReport.{SweepReport}
 use Rattle.bh_storage.specs.declared.report.StoreReport.{StoreReport}
+use Rattle.bh_storage.specs.declared.report.TenantReport.{TenantReport}
 
 -- what a sweep at a moment with a limit removes
 abbrev pub sweep_counts : ℕ → ℕ → Tables → SweepReport
@@ -24,3 +28,26 @@ store_counts tables = record {
   referred = sum_by (λ (r : RefRow). length (block_at tables.blocks (ref_name r))) tables.refs;
   clashes = length (filter (λ (b : BlockRow). nat_lt 0 b.ord) tables.blocks);
 }
+
+-- a tenant as an operator is told of it: its name, its quota and the bytes that its versions and parts have, and how many access
+-- keys it has. None of its keys' names or secrets is told
+pub record TenantTold : Type 0 where
+  pub name : Octets
+  pub quota : ℕ
+  pub used : ℕ
+  pub keys : ℕ
+
+abbrev pub tenant_view : TenantReport → TenantTold
+tenant_view t = record { name = string_bytes t.name; quota = t.quota; used = t.used; keys = t.keys }
+
+abbrev pub tenant_told : Tables → TenantRow → TenantTold
+tenant_told tables t = record {
+  name = t.tenant;
+  quota = t.quota;
+  used = bytes_used tables.versions tables.parts t.tenant;
+  keys = length (filter (is_owned_key t.tenant) tables.keys);
+}
+
+-- all tenants, by name in byte order
+abbrev pub tenants_told : Tables → List TenantTold
+tenants_told tables = map (tenant_told tables) (tenants_by_name tables.tenants)

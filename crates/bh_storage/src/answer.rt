@@ -35,6 +35,8 @@ pub enum Answer {
     Completed(CompletedUpload),
     /// What a tenant uses.
     Used(Usage),
+    /// The names of a tenant's access keys, in byte order.
+    Keys(Vec<String>),
 }
 
 /// What a delete answers.

@@ -9,6 +9,18 @@ pub struct SweepReport {
     pub complete: bool,
 }
 
+/// A tenant, as an operator is told of it.
+#[derive(Drop)]
+pub struct TenantReport {
+    pub name: String,
+    /// The most that its versions and parts may take, in bytes.
+    pub quota: u64,
+    /// The bytes that they have.
+    pub used: u64,
+    /// How many access keys it has.
+    pub keys: u64,
+}
+
 /// How much all tenants together have stored.
 #[derive(Clone, Copy, PartialEq, Eq)]
 pub struct StoreReport {
@@ -17,7 +29,7 @@ pub struct StoreReport {
     /// Their bytes.
     pub stored: u64,
     /// The bytes of all bodies, in which a block counts as often as it is referred to.
-    pub referred: u64,
+    pub referred: u128,
     /// Blocks whose digest an earlier block of other bytes had.
     pub clashes: u64,
 }

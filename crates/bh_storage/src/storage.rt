@@ -6,11 +6,11 @@ ghost use Rattle.bh_model.specs.Runs.{last_reading};
 ghost use Rattle.bh_tables.specs.Typed.{Tables};
 ghost use Rattle.bh_view.specs.View.{view, latest_of};
 ghost use Rattle.bh_storage.specs.Answers.{answer_view};
-ghost use Rattle.bh_storage.specs.Calls.{Seen, Clean, Within, LeavesNothingNew, IsAtRest, IsWorking, Commits, TakesBack, Unless, Stamps, Purges, Carries, Decides, Sweeps, Reports};
+ghost use Rattle.bh_storage.specs.Calls.{Seen, Clean, Within, LeavesNothingNew, IsAtRest, IsWorking, Commits, TakesBack, Unless, Stamps, Purges, Carries, Decides, Sweeps, Reports, Lists};
 
 use crate::answer::Answer;
 use crate::error::{StepError, Trouble};
-use crate::report::{StoreReport, SweepReport};
+use crate::report::{StoreReport, SweepReport, TenantReport};
 use bh_event::event::Command;
 use bh_operation::operation::Operation;
 use bh_types::access_key::AccessKeyId;
@@ -144,7 +144,7 @@ pub trait Storage {
         ensures sweeps { IfOk result (λ report. Clean IsIntact IsOpen self.new
             → Sweeps at limit report (seen self.old).now (seen self.new).now) };
 
-    /// Counts what all tenants together have stored. The store refuses a sum of bytes of 2^63 or more.
+    /// Counts what all tenants together have stored.
     fn report(&mut self) -> Result<StoreReport, Trouble>
         requires { Clean IsIntact IsOpen self.old → IsWorking IsSound (seen self.old) }
         ensures within { Within IsIntact IsOpen seen left self.old self.new }
@@ -152,4 +152,13 @@ pub trait Storage {
         ensures working { OnOk result (Clean IsIntact IsOpen self.new → IsWorking IsSound (seen self.new)) }
         ensures reports { IfOk result (λ report. Clean IsIntact IsOpen self.new
             → Reports report (seen self.old).now (seen self.new).now) };
+
+    /// All tenants, by name in byte order.
+    fn tenants(&mut self, alloc: Global) -> Result<Vec<TenantReport>, Trouble>
+        requires { Clean IsIntact IsOpen self.old → IsWorking IsSound (seen self.old) }
+        ensures within { Within IsIntact IsOpen seen left self.old self.new }
+        ensures opens { OnOk result (IsOpen self.old → IsIntact self.new → IsOpen self.new) }
+        ensures working { OnOk result (Clean IsIntact IsOpen self.new → IsWorking IsSound (seen self.new)) }
+        ensures lists { IfOk result (λ listed. Clean IsIntact IsOpen self.new
+            → Lists listed.items (seen self.old).now (seen self.new).now) };
 }

@@ -4,3 +4,4 @@ pub mod Steps
 pub mod Complete
 pub mod Totals
 pub mod Measured
+pub mod Summing

@@ -1,8 +1,18 @@
--- What is stored, counted from the rows: a reference has the size of the block that it names.
+-- What is stored, counted from the rows.
+use Rattle.std.specs.Prelude.{ℕ, ◌<◌, ◌^◌, length}
 use Rattle.std.specs.List.{sum_by}
-use Rattle.bh_tables.specs.Typed.{RefRow, Tables}
+use Rattle.bh_tables.specs.Typed.{BlockRow, TenantRow, Tables, bytes_used}
 use Rattle.bh_storage.specs.Reports.{store_counts}
 use Rattle.bh_storage.specs.declared.report.StoreReport.{StoreReport}
 
+-- the bytes that a tenant's versions and parts have
+abbrev pub used_by : Tables → TenantRow → ℕ
+used_by tables t = bytes_used tables.versions tables.parts t.tenant
+
+-- what all bodies have is what the tenants use
 abbrev pub rows_counted : Tables → StoreReport
-rows_counted tables = record (store_counts tables) { referred = sum_by (λ (r : RefRow). r.size) tables.refs }
+rows_counted tables = record (store_counts tables) { referred = sum_by (used_by tables) tables.tenants }
+
+-- the store can count the blocks, and add up the bytes that they have: both are below 2^63
+abbrev pub AreCountable : Tables → Type 0
+AreCountable tables = (length tables.blocks < 2 ^ 63) × (sum_by (λ (b : BlockRow). length b.bytes) tables.blocks < 2 ^ 63)

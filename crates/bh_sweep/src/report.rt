@@ -1,11 +1,12 @@
 //! A report.
-ghost use Rattle.std.specs.Prelude.{◌≡◌, IfOk, OnOk};
+ghost use Rattle.std.specs.Prelude.{◌≡◌, IfOk, IfErr, OnOk};
 ghost use Rattle.bh_storage.specs.Calls.{Reports};
-ghost use Rattle.bh_schema.specs.Connections.{IsClean, tables, InTransaction, StaysWithin, StaysOpen, ChangesNothing};
+ghost use Rattle.bh_schema.specs.Connections.{IsClean, tables, InTransaction, StaysWithin, StaysOpen, ChangesNothing, IsTroubleIf};
 ghost use Rattle.bh_schema.specs.Working.{Works, StillWorks};
-ghost use Rattle.bh_sweep.specs.Counted.{rows_counted};
+ghost use Rattle.bh_schema.specs.Troubles.{trouble_of};
+ghost use Rattle.bh_sweep.specs.Counted.{rows_counted, AreCountable};
 
-use crate::rows::{block_count, clash_count, referred_total, stored_total};
+use crate::rows::{block_count, clash_count, stored_total, used_total};
 use bh_schema::trouble::or_trouble;
 use bh_storage::error::Trouble;
 use bh_storage::report::StoreReport;
@@ -18,10 +19,12 @@ fn count_rows<S: Alter>(connection: &mut Connection<S>) -> Result<StoreReport, E
     ensures same { OnOk result (ChangesNothing S.Store connection.old connection.new) }
     ensures counts { IfOk result (λ report. IsClean S.Store connection.new
         → report ≡ rows_counted (tables S.Store connection.old)) }
+    ensures trouble { IfErr result (IsTroubleIf S.Store connection.old connection.new
+        (AreCountable (tables S.Store connection.old))) }
 {
     let blocks = block_count(connection)?;
     let stored = stored_total(connection)?;
-    let referred = referred_total(connection)?;
+    let referred = used_total(connection)?;
     let clashes = clash_count(connection)?;
     Ok(StoreReport {
         blocks,
@@ -31,7 +34,8 @@ fn count_rows<S: Alter>(connection: &mut Connection<S>) -> Result<StoreReport, E
     })
 }
 
-/// Counts what all tenants together have stored. The store refuses a sum of bytes of 2^63 or more.
+/// Counts what all tenants together have stored. Its trouble is that of memory or the store, where there are fewer than 2^63
+/// blocks with fewer than 2^63 bytes; what refers to them may come to any number of bytes.
 pub fn report<S: Alter>(connection: &mut Connection<S>) -> Result<StoreReport, Trouble>
     requires { Works S.Store connection.old }
     ensures within { StaysWithin S.Store connection.old connection.new }
@@ -39,6 +43,8 @@ pub fn report<S: Alter>(connection: &mut Connection<S>) -> Result<StoreReport, T
     ensures working { OnOk result (StillWorks S.Store connection.old connection.new) }
     ensures reports { IfOk result (λ report. IsClean S.Store connection.new
         → Reports report (tables S.Store connection.old) (tables S.Store connection.new)) }
+    ensures trouble { IfErr result (λ trouble. (error : Error) × (trouble ≡ trouble_of error)
+        × IsTroubleIf S.Store connection.old connection.new (AreCountable (tables S.Store connection.old)) error) }
 {
     or_trouble(count_rows(connection))
 }

@@ -1,8 +1,11 @@
-//! The SQL texts over the blocks and references of all tenants, one call for each.
-ghost use Rattle.std.specs.Prelude.{◌≡◌, ◌∷◌, [], ◌<◌, ◌^◌, nat_lt, length, filter, IfOk, IfErr, OnOk};
+//! The SQL texts over the blocks of all tenants and what these use, one call for each.
+ghost use Rattle.std.specs.Prelude.{◌≡◌, ◌∷◌, [], ◌<◌, ◌^◌, List, true, nat_lt, length, filter, map, IfOk, IfErr, OnOk};
 ghost use Rattle.std.specs.List.{sum_by};
-ghost use Rattle.bh_tables.specs.Typed.{BlockRow, RefRow, number as stored};
-ghost use Rattle.bh_schema.specs.Connections.{IsClean, tables, InTransaction, StaysWithin, WasOpen, ChangesNothing, IsTroubleIf};
+ghost use Rattle.bh_rows.specs.Means.{is_trouble};
+ghost use Rattle.bh_tables.specs.Shown.{shown_used};
+ghost use Rattle.bh_tables.specs.Typed.{BlockRow, TenantRow, Tables, totals_of, number as stored};
+ghost use Rattle.bh_schema.specs.Connections.{IsClean, tables, InTransaction, StaysWithin, WasOpen, ChangesNothing, IsTrouble, IsTroubleIf};
+ghost use Rattle.bh_sweep.specs.Counted.{used_by};
 
 use bh_schema::rows::sizes::read_total;
 use sqlite::{Alter, Connection, Error, Row};
@@ -33,17 +36,16 @@ fn stored_rows<S: Alter>(connection: &mut Connection<S>) -> Result<Vec<Row>, Err
     connection.query_all("SELECT coalesce(sum(length(bytes)), 0) FROM blocks", &[])
 }
 
-fn referred_rows<S: Alter>(connection: &mut Connection<S>) -> Result<Vec<Row>, Error>
+fn used_rows<S: Alter>(connection: &mut Connection<S>) -> Result<Vec<Row>, Error>
     requires inside { InTransaction S.Store connection.old }
     ensures within { StaysWithin S.Store connection.old connection.new }
     ensures opens { OnOk result (WasOpen S.Store connection.old connection.new) }
     ensures same { OnOk result (ChangesNothing S.Store connection.old connection.new) }
     ensures rows { IfOk result (λ rows. IsClean S.Store connection.new
-        → rows.items ≡ (stored (sum_by (λ (r : RefRow). r.size) (tables S.Store connection.old).refs) ∷ []) ∷ []) }
-    ensures trouble { IfErr result (IsTroubleIf S.Store connection.old connection.new
-        (sum_by (λ (r : RefRow). r.size) (tables S.Store connection.old).refs < 2 ^ 63)) }
+        → rows.items ≡ map (shown_used (totals_of (tables S.Store connection.old))) (tables S.Store connection.old).tenants) }
+    ensures trouble { IfErr result (IsTrouble S.Store connection.old connection.new) }
 {
-    connection.query_all("SELECT coalesce(sum(size), 0) FROM refs", &[])
+    connection.query_all("SELECT used FROM tenants ORDER BY rowid", &[])
 }
 
 fn clash_rows<S: Alter>(connection: &mut Connection<S>) -> Result<Vec<Row>, Error>
@@ -89,19 +91,39 @@ pub fn stored_total<S: Alter>(connection: &mut Connection<S>) -> Result<u64, Err
     read_total(&rows)
 }
 
-/// The sizes of all references. The store refuses a sum of 2^63 or more.
-pub fn referred_total<S: Alter>(connection: &mut Connection<S>) -> Result<u64, Error>
+fn read_used(row: &Row) -> Result<u64, Error>
+    ensures read { IfOk result (λ used. (rows : Tables) (t : TenantRow) → row.now ≡ shown_used (totals_of rows) t → used ≡ used_by rows t) }
+    ensures trouble { IfErr result (λ e. (rows : Tables) (t : TenantRow) → row.now ≡ shown_used (totals_of rows) t → is_trouble e ≡ true) }
+{
+    row.get(0)
+}
+
+/// What tenants use, added up. Fewer than 2^64 numbers below 2^64 come to less than 2^128.
+fn add_used(rows: &[Row]) -> Result<u128, Error>
+    ensures read { IfOk result (λ n. (tables : Tables) (ts : List TenantRow)
+        → rows.now ≡ map (shown_used (totals_of tables)) ts → n ≡ sum_by (used_by tables) ts) }
+    ensures trouble { IfErr result (λ e. (tables : Tables) (ts : List TenantRow)
+        → rows.now ≡ map (shown_used (totals_of tables)) ts → is_trouble e ≡ true) }
+{
+    let mut total: u128 = 0;
+    for row in rows {
+        total += u128::from(read_used(row)?);
+    }
+    Ok(total)
+}
+
+/// What all tenants together use, in bytes.
+pub fn used_total<S: Alter>(connection: &mut Connection<S>) -> Result<u128, Error>
     requires inside { InTransaction S.Store connection.old }
     ensures within { StaysWithin S.Store connection.old connection.new }
     ensures opens { OnOk result (WasOpen S.Store connection.old connection.new) }
     ensures same { OnOk result (ChangesNothing S.Store connection.old connection.new) }
     ensures total { IfOk result (λ n. IsClean S.Store connection.new
-        → n ≡ sum_by (λ (r : RefRow). r.size) (tables S.Store connection.old).refs) }
-    ensures trouble { IfErr result (IsTroubleIf S.Store connection.old connection.new
-        (sum_by (λ (r : RefRow). r.size) (tables S.Store connection.old).refs < 2 ^ 63)) }
+        → n ≡ sum_by (used_by (tables S.Store connection.old)) (tables S.Store connection.old).tenants) }
+    ensures trouble { IfErr result (IsTrouble S.Store connection.old connection.new) }
 {
-    let rows = referred_rows(connection)?;
-    read_total(&rows)
+    let rows = used_rows(connection)?;
+    add_used(&rows)
 }
 
 /// How many blocks have an ordinal above 0: when they were stored, another block had their digest.

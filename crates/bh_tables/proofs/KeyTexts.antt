@@ -1,7 +1,8 @@
 -- The texts over access keys.
-use Rattle.std.proofs.Common.{◌≡◌, ℤ, codes, List, [], ◌∷◌, ◌&&◌, true, false, refl, ap, ◌∙◌}
+use Rattle.std.proofs.Common.{◌≡◌, ℤ, pos, codes, List, [], ◌∷◌, ◌&&◌, true, false, refl, ap, ◌∙◌}
 use Rattle.std.specs.List.{list_any}
-use Rattle.sqlite.specs.declared.types.Value.TheVariants.{Null, Text}
+use Rattle.sqlite.specs.Collation.TheVariants.{Binary}
+use Rattle.sqlite.specs.declared.types.Value.TheVariants.{Null, Int, Text}
 use Rattle.sqlite.specs.Edit.{next_rowid}
 use Rattle.sqlite.specs.Effect.{Database}
 use Rattle.sqlite.specs.Listing.{understood}
@@ -12,15 +13,16 @@ use Rattle.sqlite_sql.specs.declared.ops.CompareOp.TheVariants.{Eq}
 use Rattle.sqlite_value.specs.Keys.{plain, first_key}
 use Rattle.sqlite_schema.specs.Rules.{agree}
 use Rattle.sqlite_tied.specs.Compute.{everything}
-use Rattle.sqlite_typed.proofs.TestLemmas.{at_texts, last_term, then_term}
+use Rattle.sqlite_typed.proofs.TestLemmas.{at_texts, last_term, then_term, then_key, last_key}
+use Rattle.sqlite_value.proofs.OrderLemmas.{value_cmp-Int, value_cmp-Text}
 use Rattle.bh_rows.specs.Form.{put}
 use Rattle.bh_rows.specs.Keys.{AreUnused}
-use Rattle.bh_rows.specs.Scan.{no_limit}
-use Rattle.bh_rows.specs.Texts.{MayAdd, InsertText, DeleteText, SelectText}
+use Rattle.bh_rows.specs.Scan.{by_rowid, no_limit}
+use Rattle.bh_rows.specs.Texts.{MayAdd, InsertText, DeleteText, SelectText, SortedText, SumText}
 use Rattle.bh_rows.proofs.FormLemmas.{any_typed}
 use Rattle.bh_tables.specs.Schema.{Octets, host_schema, keys_table, at}
 use Rattle.bh_tables.specs.Typed.{Totals, KeyRow, key_form, tenant_form, IsHostBy, tables_in}
-use Rattle.bh_tables.specs.Shown.{is_key, is_tenant, shown_secret}
+use Rattle.bh_tables.specs.Shown.{is_key, is_owned_key, is_tenant, by_key_name, shown_key, shown_secret}
 use Rattle.bh_tables.proofs.Terms.{is}
 
 -- ---- a key of a tenant, whose name no other key of the tenant has, may be added
@@ -54,6 +56,35 @@ secret_shown tenant name = record {
   accepts = refl;
   tests = λ id k. then_term (at_texts false Eq k.tenant tenant) (last_term (at_texts false Eq k.name name));
   shows = λ id k. refl;
+}
+
+pub keys_listed : (tenant : Octets) → SortedText key_form host_schema 3 (codes "SELECT name FROM keys WHERE tenant = ?1 ORDER BY name, rowid") (Text tenant ∷ []) (is_owned_key tenant) shown_key by_key_name no_limit
+unfolding understood everything
+keys_listed tenant = record {
+  test = is 1 0 ∷ [];
+  show = col 1 2 ∷ [];
+  keys = (col 1 2, record { collation = Binary; descending = false }) ∷ by_rowid;
+  names = codes "name" ∷ [];
+  means = record { is = refl; plain = (refl, refl); unlisted = refl; whole = refl; given = refl };
+  low = refl;
+  accepts = refl;
+  tests = λ id k. last_term (at_texts false Eq k.tenant tenant);
+  shows = λ id k. refl;
+  orders = λ a b. then_key (value_cmp-Text a.1.name b.1.name) (last_key (value_cmp-Int a.0 b.0));
+}
+
+-- 1 for each row
+pub keys_counted : (tenant : Octets) → SumText key_form host_schema 3 (codes "SELECT coalesce(sum(1), 0) FROM keys WHERE tenant = ?1") (Text tenant ∷ []) (is_owned_key tenant) (λ _. 1)
+unfolding understood everything
+keys_counted tenant = record {
+  test = is 1 0 ∷ [];
+  argument = lit (Int (pos 1));
+  names = codes "coalesce(sum(1), 0)" ∷ [];
+  means = record { is = refl; plain = (refl, refl); unlisted = refl; whole = refl; given = refl };
+  low = refl;
+  accepts = refl;
+  tests = λ id k. last_term (at_texts false Eq k.tenant tenant);
+  reads = λ id k. refl;
 }
 
 pub key_inserted : (tenant name secret : Octets) → InsertText key_form host_schema 2 (at 3 keys_table) (codes "INSERT INTO keys (tenant, name, secret) VALUES (?1, ?2, ?3)") (Text tenant ∷ Text name ∷ Text secret ∷ [])

@@ -18,7 +18,7 @@ use Rattle.sqlite_typed.proofs.TestLemmas.{at_texts, at_blobs, at_ints, last_ter
 use Rattle.bh_rows.specs.Form.{put}
 use Rattle.bh_rows.specs.Keys.{AreUnused}
 use Rattle.bh_rows.specs.Scan.{by_rowid, no_limit}
-use Rattle.bh_rows.specs.Texts.{MayAdd, InsertText, DeleteText, SelectText, SortedText, SumText}
+use Rattle.bh_rows.specs.Texts.{MayAdd, InsertText, DeleteText, SelectText, SortedText}
 use Rattle.bh_rows.proofs.FormLemmas.{any_typed}
 use Rattle.bh_tables.specs.Schema.{host_schema, refs_table, at}
 use Rattle.bh_tables.specs.Typed.{Totals, RefRow, block_form, ref_form, ref_columns, number, IsHostBy, tables_in}
@@ -80,19 +80,6 @@ refs_deleted q = record {
   means = record { is = refl; plain = (refl, refl); unlisted = refl; whole = refl; given = refl };
   accepts = refl;
   tests = λ id r. then_term (at_texts false Eq r.tenant q.0) (last_term (at_ints false Eq (pos r.body) (pos q.1)));
-}
-
-pub refs_summed : SumText ref_form host_schema 12 (codes "SELECT coalesce(sum(size), 0) FROM refs") [] (λ _. true) (λ r. r.size)
-unfolding understood everything
-refs_summed = record {
-  test = [];
-  argument = col 1 6;
-  names = codes "coalesce(sum(size), 0)" ∷ [];
-  means = record { is = refl; plain = (refl, refl); unlisted = refl; whole = refl; given = refl };
-  low = refl;
-  accepts = refl;
-  tests = λ id r. refl;
-  reads = λ id r. refl;
 }
 
 pub bytes_shown : (q : Name) → SelectText block_form host_schema 10 (codes "SELECT bytes FROM blocks WHERE digest = ?1 AND ord = ?2 ORDER BY rowid") (Blob q.0 ∷ number q.1 ∷ []) (is_block q) shown_bytes no_limit

@@ -1,5 +1,6 @@
 -- The texts that set what is kept of other rows: of a tenant the bytes that it uses, of an upload those of its parts.
 use Rattle.std.proofs.Common.{inl, inr, ◌≡◌, ◌<◌, ◌^◌, ℕ, ℤ, pos, ◌+ℤ◌, ◌-ℤ◌, codes, true, false, [], ◌∷◌, ◌&&◌, arith, refl, sym, ap, ◌∙◌}
+use Rattle.sqlite.specs.Collation.TheVariants.{Binary}
 use Rattle.sqlite.specs.declared.types.Value.TheVariants.{Null, Int, Text, Blob}
 use Rattle.sqlite.specs.Listing.{understood}
 use Rattle.sqlite.specs.Term.{lit, col, op2}
@@ -9,12 +10,13 @@ use Rattle.sqlite_sql.specs.declared.ops.CompareOp.TheVariants.{Eq}
 use Rattle.sqlite_sql.specs.Ops.{binary, int_arith}
 use Rattle.sqlite_schema.specs.Rules.{passes_checks}
 use Rattle.sqlite_tied.specs.Compute.{everything}
-use Rattle.sqlite_typed.proofs.TestLemmas.{at_texts, at_ints, last_term, then_term}
-use Rattle.bh_rows.specs.Scan.{no_limit}
-use Rattle.bh_rows.specs.Texts.{InsertText, UpdateText, SelectText}
+use Rattle.sqlite_typed.proofs.TestLemmas.{at_texts, at_ints, last_term, then_term, then_key, last_key}
+use Rattle.sqlite_value.proofs.OrderLemmas.{value_cmp-Int, value_cmp-Text}
+use Rattle.bh_rows.specs.Scan.{by_rowid, no_limit}
+use Rattle.bh_rows.specs.Texts.{InsertText, UpdateText, SelectText, SortedText}
 use Rattle.bh_tables.specs.Schema.{Octets, is_natural, is_small, host_schema, tenants_table, uploads_table, at}
 use Rattle.bh_tables.specs.Typed.{Totals, tenant_form, TenantColumns, stored_tenant_form, tenant_columns, UploadRow, UploadColumns, stored_upload_form, upload_form, upload_columns, number}
-use Rattle.bh_tables.specs.Shown.{is_tenant, shown_account, is_upload, shown_kept}
+use Rattle.bh_tables.specs.Shown.{is_tenant, by_tenant, shown_account, shown_quota, shown_used, is_upload, shown_kept}
 use Rattle.bh_tables.proofs.Checked.{check_at}
 use Rattle.bh_tables.proofs.UseTexts.{IsKept, kept_by, taken, added, taken_after}
 use Rattle.bh_tables.proofs.Terms.{is}
@@ -47,6 +49,34 @@ tenant_inserted tenant quota = record {
   means = record { is = refl; plain = (refl, refl); unlisted = refl; whole = refl; given = refl };
   gives = refl;
   accepts = refl;
+}
+
+pub tenants_listed : (sums : Totals) → SortedText (tenant_form sums) host_schema 1 (codes "SELECT tenant, quota, used FROM tenants ORDER BY tenant, rowid") [] (λ _. true) (shown_quota sums) by_tenant no_limit
+unfolding understood everything
+tenants_listed sums = record {
+  test = [];
+  show = col 1 1 ∷ col 1 2 ∷ col 1 6 ∷ [];
+  keys = (col 1 1, record { collation = Binary; descending = false }) ∷ by_rowid;
+  names = codes "tenant" ∷ codes "quota" ∷ codes "used" ∷ [];
+  means = record { is = refl; plain = (refl, refl); unlisted = refl; whole = refl; given = refl };
+  low = refl;
+  accepts = refl;
+  tests = λ id t. refl;
+  shows = λ id t. refl;
+  orders = λ a b. then_key (value_cmp-Text a.1.tenant b.1.tenant) (last_key (value_cmp-Int a.0 b.0));
+}
+
+pub all_used_shown : (sums : Totals) → SelectText (tenant_form sums) host_schema 1 (codes "SELECT used FROM tenants ORDER BY rowid") [] (λ _. true) (shown_used sums) no_limit
+unfolding understood everything
+all_used_shown sums = record {
+  test = [];
+  show = col 1 6 ∷ [];
+  names = codes "used" ∷ [];
+  means = record { is = refl; plain = (refl, refl); unlisted = refl; whole = refl; given = refl };
+  low = refl;
+  accepts = refl;
+  tests = λ id t. refl;
+  shows = λ id t. refl;
 }
 
 pub account_shown : (sums : Totals) (tenant : Octets) → SelectText (tenant_form sums) host_schema 1 (codes "SELECT quota, next_version, next_upload, next_entry, used FROM tenants WHERE tenant = ?1 ORDER BY rowid") (Text tenant ∷ []) (is_tenant tenant) (shown_account sums) no_limit

@@ -176,6 +176,9 @@ is_current tenant versions v = bytes_eq v.tenant tenant && (int_eq (pos v.marker
 abbrev pub current_versions : Octets → List VersionRow → List VersionRow
 current_versions tenant versions = filter (is_current tenant versions) versions
 
+abbrev pub is_owned_key : Octets → KeyRow → Bool
+is_owned_key tenant k = bytes_eq k.tenant tenant
+
 abbrev pub is_owned_upload : Octets → UploadRow → Bool
 is_owned_upload tenant u = bytes_eq u.tenant tenant
 
@@ -189,6 +192,19 @@ is_owned_bucket tenant b = bytes_eq b.tenant tenant
 abbrev pub by_bucket : BucketRow → BucketRow → Ordering
 by_bucket a b = bytes_cmp a.bucket b.bucket
 
+abbrev pub by_key_name : KeyRow → KeyRow → Ordering
+by_key_name a b = bytes_cmp a.name b.name
+
+abbrev pub by_tenant : TenantRow → TenantRow → Ordering
+by_tenant a b = bytes_cmp a.tenant b.tenant
+
+-- a tenant's keys, and all tenants, in that order
+abbrev pub keys_by_name : Octets → List KeyRow → List KeyRow
+keys_by_name tenant keys = sort_by by_key_name (filter (is_owned_key tenant) keys)
+
+abbrev pub tenants_by_name : List TenantRow → List TenantRow
+tenants_by_name tenants = sort_by by_tenant tenants
+
 -- ---- the columns that are asked for
 
 abbrev pub shown_latest : HostRow → Row
@@ -200,6 +216,17 @@ shown_tenant t = number t.quota ∷ number t.next_version ∷ number t.next_uplo
 -- the same, with the bytes that it uses
 abbrev pub shown_account : Totals → TenantRow → Row
 shown_account sums t = number t.quota ∷ number t.next_version ∷ number t.next_upload ∷ number t.next_entry ∷ Int (sums.used t.tenant) ∷ []
+
+-- in a list of all tenants
+abbrev pub shown_quota : Totals → TenantRow → Row
+shown_quota sums t = Text t.tenant ∷ number t.quota ∷ Int (sums.used t.tenant) ∷ []
+
+-- the bytes that a tenant uses, alone
+abbrev pub shown_used : Totals → TenantRow → Row
+shown_used sums t = Int (sums.used t.tenant) ∷ []
+
+abbrev pub shown_key : KeyRow → Row
+shown_key k = Text k.name ∷ []
 
 abbrev pub shown_secret : KeyRow → Row
 shown_secret k = Text k.secret ∷ []

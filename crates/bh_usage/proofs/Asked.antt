@@ -10,7 +10,7 @@ use Rattle.bh_view.specs.Bodies.{HasBodies}
 use Rattle.bh_view.specs.Sound.{IsSound}
 use Rattle.bh_view.specs.View.{limits_in}
 use Rattle.bh_schema.specs.Layer.{Standing, standing, IsIntact, IsStateClean, IsInside, StateWithin}
-use Rattle.bh_schema.specs.Working.{IsWorking, StillWorking}
+use Rattle.bh_schema.specs.Working.{tables_at, IsWorking, StillWorking}
 
 still_working : (old new : State) → standing new ≡ standing old → IsWorking old → StillWorking old new
 still_working old new same was = λ digest. record {
@@ -22,6 +22,10 @@ still_working old new same was = λ digest. record {
   limits = ap (λ (x : Standing). limits_in (tables_in x.now)) same;
   digests = λ named. subst (λ (x : Standing). AreDigests digest (tables_in x.now).blocks) (sym same) named;
 }
+
+-- so its tables are what they were
+pub same_tables : (old new : State) → standing new ≡ standing old → tables_at new ≡ tables_at old
+same_tables old new same = ap (λ (x : Standing). tables_in x.now) same
 
 module _ (old middle : State) (within : StateWithin old middle) where
   -- a transaction goes on

@@ -1,7 +1,12 @@
-//! What a tenant uses, counted from its own rows.
+//! What a tenant uses and which access keys it has, from its own rows; and all tenants, from theirs.
 #![tactic(auto)]
 
 mod counts;
+mod listing;
+mod naming;
+mod rows;
 mod tell;
 
+pub use listing::tenants;
+pub use naming::keys;
 pub use tell::usage;

@@ -18,7 +18,7 @@ use bh_types::refusal::Refusal;
 use sqlite::{Alter, Connection};
 
 /// A tenant's quota and what it uses of it, in bytes: NoSuchTenant.
-fn account_of<S: Alter>(
+pub(crate) fn account_of<S: Alter>(
     connection: &mut Connection<S>,
     tenant: &TenantName,
 ) -> Result<TenantAccount, StepError<Refusal>>

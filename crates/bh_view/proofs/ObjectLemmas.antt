@@ -59,7 +59,7 @@ objects_deleted rows at d =
     ∙ ap (λ l. set_at (objects_of rows) at (non_empty l)) (ap (map entry_of) (sort_by-filter newer newer_total (λ v. not (t v)) (at_key at rows)) ∙ sym (filter-map (λ e. not (d e)) entry_of (sort_by newer (at_key at rows))))
     ∙ ap (λ l. set_at (objects_of rows) at (non_empty (delete_where d l))) (sym (entries_at-objects_of rows at))
 
-sum_map : {A B : Type 0} (f : B → ℕ) (g : A → B) (xs : List A) → sum_by f (map g xs) ≡ sum_by (λ x. f (g x)) xs
+pub sum_map : {A B : Type 0} (f : B → ℕ) (g : A → B) (xs : List A) → sum_by f (map g xs) ≡ sum_by (λ x. f (g x)) xs
 sum_map f g [] = refl
 sum_map f g (x ∷ xs) = sum_by-cons f (g x) (map g xs) ∙ ap (λ n. f (g x) + n) (sum_map f g xs) ∙ sym (sum_by-cons (λ x. f (g x)) x xs)
 

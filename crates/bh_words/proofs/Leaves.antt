@@ -31,7 +31,9 @@ leaf-fine subcommand.TenantAdd = record { fine = ((refl, inl (refl, refl), tt), 
 leaf-fine subcommand.Quota = record { fine = ((refl, inl (refl, refl), tt), ((refl, inl (refl, refl), tt), ((refl, inl (refl, refl), tt), ((refl, inl (refl, refl), tt), ((refl, inl (refl, refl), tt), ((refl, inr (inl (refl, refl, refl)), tt), ((refl, inr (inr refl), tt), tt))))))); once = refl; negates = refl }
 leaf-fine subcommand.KeyAdd = record { fine = ((refl, inl (refl, refl), tt), ((refl, inl (refl, refl), tt), ((refl, inl (refl, refl), tt), ((refl, inl (refl, refl), tt), ((refl, inl (refl, refl), tt), ((refl, inl (refl, refl), tt), ((refl, inr (inl (refl, refl, refl)), tt), ((refl, inr (inr refl), tt), tt)))))))); once = refl; negates = refl }
 leaf-fine subcommand.KeyRemove = record { fine = ((refl, inl (refl, refl), tt), ((refl, inl (refl, refl), tt), ((refl, inl (refl, refl), tt), ((refl, inl (refl, refl), tt), ((refl, inl (refl, refl), tt), ((refl, inr (inl (refl, refl, refl)), tt), ((refl, inr (inr refl), tt), tt))))))); once = refl; negates = refl }
+leaf-fine subcommand.Keys = record { fine = ((refl, inl (refl, refl), tt), ((refl, inl (refl, refl), tt), ((refl, inl (refl, refl), tt), ((refl, inl (refl, refl), tt), ((refl, inr (inl (refl, refl, refl)), tt), ((refl, inr (inr refl), tt), tt)))))); once = refl; negates = refl }
 leaf-fine subcommand.Usage = record { fine = ((refl, inl (refl, refl), tt), ((refl, inl (refl, refl), tt), ((refl, inl (refl, refl), tt), ((refl, inl (refl, refl), tt), ((refl, inr (inl (refl, refl, refl)), tt), ((refl, inr (inr refl), tt), tt)))))); once = refl; negates = refl }
+leaf-fine subcommand.Tenants = record { fine = ((refl, inl (refl, refl), tt), ((refl, inl (refl, refl), tt), ((refl, inl (refl, refl), tt), ((refl, inr (inl (refl, refl, refl)), tt), ((refl, inr (inr refl), tt), tt))))); once = refl; negates = refl }
 leaf-fine subcommand.Report = record { fine = ((refl, inl (refl, refl), tt), ((refl, inl (refl, refl), tt), ((refl, inl (refl, refl), tt), ((refl, inr (inl (refl, refl, refl)), tt), ((refl, inr (inr refl), tt), tt))))); once = refl; negates = refl }
 leaf-fine subcommand.Check = record { fine = ((refl, inl (refl, refl), tt), ((refl, inr (inr refl), tt), tt)); once = refl; negates = refl }
 leaf-fine subcommand.Sweep = record { fine = ((refl, inl (refl, refl), tt), ((refl, inl (refl, refl), tt), ((refl, inl (refl, refl), tt), ((refl, inl (refl, refl), tt), ((refl, inr (inl (refl, refl, refl)), tt), ((refl, inr (inr refl), tt), tt)))))); once = refl; negates = refl }
@@ -134,6 +136,16 @@ leaf-told subcommand.KeyRemove words e =
     let leap = leap-given (rows_of_words subcommand.KeyRemove words) _ _ days.1 days_n.1 in
     let clock = clock-given (rows_of_words subcommand.KeyRemove words) _ leap in
     rw (file.1, tenant.1, name.1, clock) refl
+leaf-told subcommand.Keys words e =
+    let fine = leaf-fine subcommand.Keys in
+    let s = leaf subcommand.Keys in
+    let file = required-value s words (codes "file") _ fine e refl refl in
+    let tenant = required-value s words (codes "tenant") _ fine e refl refl in
+    let days = default-value s words (codes "clock-leap") _ fine e refl refl in
+    let days_n = number_in 32 0 3_000_000 days.0 (omega arith) days.2 in
+    let leap = leap-given (rows_of_words subcommand.Keys words) _ _ days.1 days_n.1 in
+    let clock = clock-given (rows_of_words subcommand.Keys words) _ leap in
+    rw (file.1, tenant.1, clock) refl
 leaf-told subcommand.Usage words e =
     let fine = leaf-fine subcommand.Usage in
     let s = leaf subcommand.Usage in
@@ -144,6 +156,15 @@ leaf-told subcommand.Usage words e =
     let leap = leap-given (rows_of_words subcommand.Usage words) _ _ days.1 days_n.1 in
     let clock = clock-given (rows_of_words subcommand.Usage words) _ leap in
     rw (file.1, tenant.1, clock) refl
+leaf-told subcommand.Tenants words e =
+    let fine = leaf-fine subcommand.Tenants in
+    let s = leaf subcommand.Tenants in
+    let file = required-value s words (codes "file") _ fine e refl refl in
+    let days = default-value s words (codes "clock-leap") _ fine e refl refl in
+    let days_n = number_in 32 0 3_000_000 days.0 (omega arith) days.2 in
+    let leap = leap-given (rows_of_words subcommand.Tenants words) _ _ days.1 days_n.1 in
+    let clock = clock-given (rows_of_words subcommand.Tenants words) _ leap in
+    rw (file.1, clock) refl
 leaf-told subcommand.Report words e =
     let fine = leaf-fine subcommand.Report in
     let s = leaf subcommand.Report in

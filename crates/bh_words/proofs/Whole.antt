@@ -137,10 +137,16 @@ subs_told = (
           (
             inl (leaf-told chosen.KeyRemove),
             (
-              inl (leaf-told chosen.Usage),
+              inl (leaf-told chosen.Keys),
               (
-                inl (leaf-told chosen.Report),
-                (inl (leaf-told chosen.Check), (inl (leaf-told chosen.Sweep), (inl (leaf-told chosen.Backup), (inl (leaf-told chosen.Serve), (inl (leaf-told chosen.Tell), (inr (refl, refl), tt)))))),
+                inl (leaf-told chosen.Usage),
+                (
+                  inl (leaf-told chosen.Tenants),
+                  (
+                    inl (leaf-told chosen.Report),
+                    (inl (leaf-told chosen.Check), (inl (leaf-told chosen.Sweep), (inl (leaf-told chosen.Backup), (inl (leaf-told chosen.Serve), (inl (leaf-told chosen.Tell), (inr (refl, refl), tt)))))),
+                  ),
+                ),
               ),
             ),
           ),

@@ -15,7 +15,9 @@ word subcommand.TenantAdd = codes "tenant-add"
 word subcommand.Quota = codes "quota"
 word subcommand.KeyAdd = codes "key-add"
 word subcommand.KeyRemove = codes "key-remove"
+word subcommand.Keys = codes "keys"
 word subcommand.Usage = codes "usage"
+word subcommand.Tenants = codes "tenants"
 word subcommand.Report = codes "report"
 word subcommand.Check = codes "check"
 word subcommand.Sweep = codes "sweep"
@@ -31,7 +33,9 @@ options subcommand.TenantAdd = File ∷ Tenant ∷ Quota ∷ At ∷ ClockLeap �
 options subcommand.Quota = File ∷ Tenant ∷ Quota ∷ At ∷ ClockLeap ∷ Force ∷ []
 options subcommand.KeyAdd = File ∷ Tenant ∷ Name ∷ Secret ∷ At ∷ ClockLeap ∷ Force ∷ []
 options subcommand.KeyRemove = File ∷ Tenant ∷ Name ∷ At ∷ ClockLeap ∷ Force ∷ []
+options subcommand.Keys = File ∷ Tenant ∷ At ∷ ClockLeap ∷ Force ∷ []
 options subcommand.Usage = File ∷ Tenant ∷ At ∷ ClockLeap ∷ Force ∷ []
+options subcommand.Tenants = File ∷ At ∷ ClockLeap ∷ Force ∷ []
 options subcommand.Report = File ∷ At ∷ ClockLeap ∷ Force ∷ []
 options subcommand.Check = File ∷ []
 options subcommand.Sweep = File ∷ Limit ∷ At ∷ ClockLeap ∷ Force ∷ []
@@ -41,7 +45,7 @@ options subcommand.Tell = Port ∷ SecretFile ∷ Order ∷ []
 
 abbrev pub subcommands : List Subcommand
 subcommands = subcommand.Script ∷ subcommand.Init ∷ subcommand.TenantAdd ∷ subcommand.Quota ∷ subcommand.KeyAdd
-    ∷ subcommand.KeyRemove ∷ subcommand.Usage ∷ subcommand.Report ∷ subcommand.Check ∷ subcommand.Sweep ∷ subcommand.Backup ∷ subcommand.Serve ∷ subcommand.Tell ∷ []
+    ∷ subcommand.KeyRemove ∷ subcommand.Keys ∷ subcommand.Usage ∷ subcommand.Tenants ∷ subcommand.Report ∷ subcommand.Check ∷ subcommand.Sweep ∷ subcommand.Backup ∷ subcommand.Serve ∷ subcommand.Tell ∷ []
 
 -- a command of these options
 abbrev pub shape : Text → List OptionName → Shape

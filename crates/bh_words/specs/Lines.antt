@@ -27,7 +27,9 @@ pub data CommandLine : Type 0 where
   Quota : (file : Octets) (tenant : Octets) (quota : ℕ) (clock : ClockGiven) → CommandLine
   KeyAdd : (file : Octets) (tenant : Octets) (name : Octets) (secret : Secret) (clock : ClockGiven) → CommandLine
   KeyRemove : (file : Octets) (tenant : Octets) (name : Octets) (clock : ClockGiven) → CommandLine
+  Keys : (file : Octets) (tenant : Octets) (clock : ClockGiven) → CommandLine
   Usage : (file : Octets) (tenant : Octets) (clock : ClockGiven) → CommandLine
+  Tenants : (file : Octets) (clock : ClockGiven) → CommandLine
   Report : (file : Octets) (clock : ClockGiven) → CommandLine
   Check : (file : Octets) → CommandLine
   Sweep : (file : Octets) (limit : ℕ) (clock : ClockGiven) → CommandLine
@@ -47,7 +49,9 @@ command_line (line.TenantAdd file tenant quota clock) = TenantAdd (string_bytes 
 command_line (line.Quota file tenant quota clock) = Quota (string_bytes file) (string_bytes tenant) quota clock
 command_line (line.KeyAdd file tenant name s clock) = KeyAdd (string_bytes file) (string_bytes tenant) (string_bytes name) (secret s) clock
 command_line (line.KeyRemove file tenant name clock) = KeyRemove (string_bytes file) (string_bytes tenant) (string_bytes name) clock
+command_line (line.Keys file tenant clock) = Keys (string_bytes file) (string_bytes tenant) clock
 command_line (line.Usage file tenant clock) = Usage (string_bytes file) (string_bytes tenant) clock
+command_line (line.Tenants file clock) = Tenants (string_bytes file) clock
 command_line (line.Report file clock) = Report (string_bytes file) clock
 command_line (line.Check file) = Check (string_bytes file)
 command_line (line.Sweep file limit clock) = Sweep (string_bytes file) limit clock

@@ -163,12 +163,25 @@ key_remove rows = do
   clock ← clock_at rows
   Some (line.KeyRemove file tenant name clock)
 
+abbrev pub keys : List Row → Option CommandLine
+keys rows = do
+  file ← text_at option.File rows
+  tenant ← text_at option.Tenant rows
+  clock ← clock_at rows
+  Some (line.Keys file tenant clock)
+
 abbrev pub usage : List Row → Option CommandLine
 usage rows = do
   file ← text_at option.File rows
   tenant ← text_at option.Tenant rows
   clock ← clock_at rows
   Some (line.Usage file tenant clock)
+
+abbrev pub tenants : List Row → Option CommandLine
+tenants rows = do
+  file ← text_at option.File rows
+  clock ← clock_at rows
+  Some (line.Tenants file clock)
 
 abbrev pub report : List Row → Option CommandLine
 report rows = do
@@ -217,7 +230,9 @@ line_at subcommand.TenantAdd = tenant_add
 line_at subcommand.Quota = quota
 line_at subcommand.KeyAdd = key_add
 line_at subcommand.KeyRemove = key_remove
+line_at subcommand.Keys = keys
 line_at subcommand.Usage = usage
+line_at subcommand.Tenants = tenants
 line_at subcommand.Report = report
 line_at subcommand.Check = check
 line_at subcommand.Sweep = sweep

@@ -38,14 +38,16 @@ fn with_subcommands<'a>(
     Ok(command)
 }
 
-static SUBCOMMANDS: [Subcommand; 13] = [
+static SUBCOMMANDS: [Subcommand; 15] = [
     Subcommand::Script,
     Subcommand::Init,
     Subcommand::TenantAdd,
     Subcommand::Quota,
     Subcommand::KeyAdd,
     Subcommand::KeyRemove,
+    Subcommand::Keys,
     Subcommand::Usage,
+    Subcommand::Tenants,
     Subcommand::Report,
     Subcommand::Check,
     Subcommand::Sweep,

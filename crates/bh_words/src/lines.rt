@@ -74,10 +74,21 @@ pub enum Line {
         name: String,
         clock: ClockGiven,
     },
+    /// The names of a tenant's access keys.
+    Keys {
+        file: String,
+        tenant: String,
+        clock: ClockGiven,
+    },
     /// How many bytes a tenant uses.
     Usage {
         file: String,
         tenant: String,
+        clock: ClockGiven,
+    },
+    /// All tenants, and what each uses.
+    Tenants {
+        file: String,
         clock: ClockGiven,
     },
     /// How many blocks are stored, and what refers to them.

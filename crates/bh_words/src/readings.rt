@@ -34,7 +34,9 @@ fn line_of(
         Subcommand::Quota => quota(alloc, given),
         Subcommand::KeyAdd => key_add(alloc, given),
         Subcommand::KeyRemove => key_remove(alloc, given),
+        Subcommand::Keys => keys(alloc, given),
         Subcommand::Usage => usage(alloc, given),
+        Subcommand::Tenants => tenants(alloc, given),
         Subcommand::Report => report(alloc, given),
         Subcommand::Check => check(alloc, given),
         Subcommand::Sweep => sweep(alloc, given),
@@ -132,6 +134,19 @@ fn key_remove(alloc: Global, given: &ArgMatches<'_>) -> Result<Line, GivenError>
     })
 }
 
+fn keys(alloc: Global, given: &ArgMatches<'_>) -> Result<Line, GivenError>
+    ensures { spec.Gives command_line result (spec.keys (spec.rows_in given.now)) }
+{
+    let file = text(alloc, given, OptionName::File)?;
+    let tenant = text(alloc, given, OptionName::Tenant)?;
+    let clock = needed(clock(given))?;
+    Ok(Line::Keys {
+        file,
+        tenant,
+        clock,
+    })
+}
+
 fn usage(alloc: Global, given: &ArgMatches<'_>) -> Result<Line, GivenError>
     ensures { spec.Gives command_line result (spec.usage (spec.rows_in given.now)) }
 {
@@ -143,6 +158,14 @@ fn usage(alloc: Global, given: &ArgMatches<'_>) -> Result<Line, GivenError>
         tenant,
         clock,
     })
+}
+
+fn tenants(alloc: Global, given: &ArgMatches<'_>) -> Result<Line, GivenError>
+    ensures { spec.Gives command_line result (spec.tenants (spec.rows_in given.now)) }
+{
+    let file = text(alloc, given, OptionName::File)?;
+    let clock = needed(clock(given))?;
+    Ok(Line::Tenants { file, clock })
 }
 
 fn report(alloc: Global, given: &ArgMatches<'_>) -> Result<Line, GivenError>

@@ -14,7 +14,9 @@ pub(crate) enum Subcommand {
     Quota,
     KeyAdd,
     KeyRemove,
+    Keys,
     Usage,
+    Tenants,
     Report,
     Check,
     Sweep,
@@ -66,7 +68,7 @@ static KEY_REMOVE: [OptionName; 6] = [
     OptionName::Force,
 ];
 
-static USAGE: [OptionName; 5] = [
+static ONE_TENANT: [OptionName; 5] = [
     OptionName::File,
     OptionName::Tenant,
     OptionName::At,
@@ -74,7 +76,7 @@ static USAGE: [OptionName; 5] = [
     OptionName::Force,
 ];
 
-static REPORT: [OptionName; 4] = [
+static ALL_TENANTS: [OptionName; 4] = [
     OptionName::File,
     OptionName::At,
     OptionName::ClockLeap,
@@ -121,7 +123,9 @@ impl Subcommand {
             Subcommand::Quota => "quota",
             Subcommand::KeyAdd => "key-add",
             Subcommand::KeyRemove => "key-remove",
+            Subcommand::Keys => "keys",
             Subcommand::Usage => "usage",
+            Subcommand::Tenants => "tenants",
             Subcommand::Report => "report",
             Subcommand::Check => "check",
             Subcommand::Sweep => "sweep",
@@ -141,7 +145,9 @@ impl Subcommand {
             Subcommand::Quota => "Sets a tenant's quota",
             Subcommand::KeyAdd => "Adds an access key to a tenant",
             Subcommand::KeyRemove => "Removes an access key of a tenant",
+            Subcommand::Keys => "Names a tenant's access keys",
             Subcommand::Usage => "Says how many bytes a tenant uses",
+            Subcommand::Tenants => "Names all tenants, and says what each uses",
             Subcommand::Report => "Says how many blocks are stored",
             Subcommand::Check => "Says whether all that a file holds is sound",
             Subcommand::Sweep => "Removes stale uploads and blocks that nothing refers to",
@@ -162,8 +168,8 @@ impl Subcommand {
             Subcommand::TenantAdd | Subcommand::Quota => &TENANT_QUOTA,
             Subcommand::KeyAdd => &KEY_ADD,
             Subcommand::KeyRemove => &KEY_REMOVE,
-            Subcommand::Usage => &USAGE,
-            Subcommand::Report => &REPORT,
+            Subcommand::Keys | Subcommand::Usage => &ONE_TENANT,
+            Subcommand::Tenants | Subcommand::Report => &ALL_TENANTS,
             Subcommand::Check => &CHECK,
             Subcommand::Sweep => &SWEEP,
             Subcommand::Backup => &BACKUP,
@@ -183,7 +189,9 @@ impl Subcommand {
             "quota" => Some(Subcommand::Quota),
             "key-add" => Some(Subcommand::KeyAdd),
             "key-remove" => Some(Subcommand::KeyRemove),
+            "keys" => Some(Subcommand::Keys),
             "usage" => Some(Subcommand::Usage),
+            "tenants" => Some(Subcommand::Tenants),
             "report" => Some(Subcommand::Report),
             "check" => Some(Subcommand::Check),
             "sweep" => Some(Subcommand::Sweep),

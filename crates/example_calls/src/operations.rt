@@ -8,6 +8,7 @@ use bh_http::read::read_request;
 use bh_http::request::{Fields, Request};
 use bh_operation::allow::allow_of;
 use bh_operation::operation::{Operation, operation_of};
+use bh_operation::routes::Routes;
 use bh_types::error::RequestError;
 use bh_types::limits::Limits;
 use bh_types::names::TenantName;
@@ -24,7 +25,8 @@ pub fn answer(alloc: Global, call: &str, input: &str) -> Answer {
 
 /// The methods of a target.
 fn allow(alloc: Global, input: &str) -> Answer {
-    let allow = allow_of(input.as_bytes());
+    let routes = Routes::new(alloc)?;
+    let allow = allow_of(&routes, input.as_bytes());
     text(alloc, allow.map_or("none", |allow| allow.as_str()))
 }
 
@@ -63,7 +65,8 @@ pub fn asks_of_target(alloc: Global, target: &[u8]) -> Answer {
 
 fn asked(alloc: Global, request: &Request) -> Answer {
     let green = TenantName::read(alloc, "green")?.ok_or(Fault::Form)?;
-    outcome_text(alloc, operation_of(alloc, request, &green))
+    let routes = Routes::new(alloc)?;
+    outcome_text(alloc, operation_of(alloc, &routes, request, &green))
 }
 
 fn outcome_text(alloc: Global, outcome: Result<Operation, RequestError>) -> Answer {

@@ -101,6 +101,7 @@ fn line(alloc: Global, input: &[u8]) -> Answer {
         Some(Event::Operator { reading, command }) => command_text(alloc, reading, &command),
         Some(Event::Sweep { reading, limit }) => sweep_text(alloc, reading, limit),
         Some(Event::Report { reading }) => Ok(format!(in alloc; "at {reading}: report")?),
+        Some(Event::Tenants { reading }) => Ok(format!(in alloc; "at {reading}: tenants")?),
         None => text(alloc, "none"),
     }
 }
@@ -125,6 +126,7 @@ fn command_text(alloc: Global, reading: u64, command: &Command) -> Answer {
         } => ("key-add", tenant.as_str(), name.as_str(), secret.as_str()),
         Command::KeyRemove { tenant, name } => ("key-remove", tenant.as_str(), name.as_str(), ""),
         Command::Usage { tenant } => ("usage", tenant.as_str(), "", ""),
+        Command::Keys { tenant } => ("keys", tenant.as_str(), "", ""),
     };
     Ok(format!(in alloc; "at {reading}: {what} {tenant} {name} {secret}")?)
 }

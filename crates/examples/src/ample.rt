@@ -15,6 +15,7 @@ use bh_dispatch::storage::HostStorage;
 use bh_event::event::Event;
 use bh_event::line::read_line;
 use bh_host::{Told, apply};
+use bh_operation::routes::Routes;
 use bh_storage::storage::Storage;
 use bh_types::block_digest::BlockDigest;
 use example_calls::answer::Fault;
@@ -63,6 +64,7 @@ fn at(event: Event, reading: u64) -> Event {
         } => Event::Operator { reading, command },
         Event::Sweep { reading: _, limit } => Event::Sweep { reading, limit },
         Event::Report { reading: _ } => Event::Report { reading },
+        Event::Tenants { reading: _ } => Event::Tenants { reading },
     }
 }
 
@@ -102,24 +104,36 @@ fn is_whole(passed: &Passed, told: &Told) -> bool {
 }
 
 /// Whether an event is answered as told, over a connection if it is a request.
-fn is_alike<H: Storage>(alloc: Global, host: &mut H, event: &Event, told: &Told) -> bool
+fn is_alike<H: Storage>(
+    alloc: Global,
+    routes: &Routes,
+    host: &mut H,
+    event: &Event,
+    told: &Told,
+) -> bool
     requires { Clean H.IsIntact H.IsOpen host.old → IsAtRest H.IsSound (H.seen host.old) }
     ensures { Clean H.IsIntact H.IsOpen host.new → IsAtRest H.IsSound (H.seen host.new) }
 {
     let Event::Http { reading, bytes } = event else {
-        let found = apply(alloc, host, event);
+        let found = apply(alloc, routes, host, event);
         return is_told(found.stamp, found.reply.bytes(), told);
     };
     let asked = Asked {
         reading: *reading,
         bytes: bytes.as_slice(),
     };
-    let passed = serve(alloc, host, asked, WHOLE);
+    let passed = serve(alloc, routes, host, asked, WHOLE);
     is_whole(&passed, told)
 }
 
 /// How many events are answered as told, up to the first that isn't.
-fn all_alike<H: Storage>(alloc: Global, host: &mut H, events: &[Event], told: &[Told]) -> Count
+fn all_alike<H: Storage>(
+    alloc: Global,
+    routes: &Routes,
+    host: &mut H,
+    events: &[Event],
+    told: &[Told],
+) -> Count
     requires { Clean H.IsIntact H.IsOpen host.old → IsAtRest H.IsSound (H.seen host.old) }
 {
     let mut runs = 0u64;
@@ -128,7 +142,7 @@ fn all_alike<H: Storage>(alloc: Global, host: &mut H, events: &[Event], told: &[
         let Some(told) = answers.next() else {
             break;
         };
-        if !is_alike(alloc, host, event, told) {
+        if !is_alike(alloc, routes, host, event, told) {
             break;
         }
         runs = runs.saturating_add(1);
@@ -139,6 +153,7 @@ fn all_alike<H: Storage>(alloc: Global, host: &mut H, events: &[Event], told: &[
 
 /// How many events a new host answers as told, up to the first that it doesn't, and the rows of its tables afterwards.
 fn served(alloc: Global, events: &[Event], told: &[Told]) -> Result<(Count, String), Fault> {
+    let routes = Routes::new(alloc)?;
     let connection = Connection::open_in_memory(alloc)?;
     let (limits, tuning) = settings().ok_or(Fault::Form)?;
     match create(
@@ -150,7 +165,7 @@ fn served(alloc: Global, events: &[Event], told: &[Told]) -> Result<(Count, Stri
     ) {
         Ok(host) => {
             let mut storage = HostStorage { host };
-            let count = all_alike(alloc, &mut storage, events, told);
+            let count = all_alike(alloc, &routes, &mut storage, events, told);
             let rows = rows_of(alloc, &mut storage.host.connection)?;
             Ok((count, rows))
         }

@@ -13,6 +13,7 @@ use bh_create::create;
 use bh_dispatch::storage::HostStorage;
 use bh_event::event::Event;
 use bh_host::run;
+use bh_operation::routes::Routes;
 use bh_storage::storage::Storage;
 use bh_types::block_digest::BlockDigest;
 use example_calls::answer::Fault;
@@ -37,18 +38,20 @@ struct Ending {
 
 fn pass<H: Storage>(
     alloc: Global,
+    routes: &Routes,
     host: &mut H,
     turn: Turn<'_>,
     cut: Cut,
 ) -> Result<Passed, AllocError>
     requires { Clean H.IsIntact H.IsOpen host.old → IsAtRest H.IsSound (H.seen host.old) }
 {
-    run(alloc, host, turn.before)?;
-    Ok(serve(alloc, host, turn.asked, cut))
+    run(alloc, routes, host, turn.before)?;
+    Ok(serve(alloc, routes, host, turn.asked, cut))
 }
 
 /// A request's connection to a new host that has had the events before it.
 fn ending_of(alloc: Global, turn: Turn<'_>, cut: Cut) -> Result<Ending, Fault> {
+    let routes = Routes::new(alloc)?;
     let connection = Connection::open_in_memory(alloc)?;
     let Some((limits, tuning)) = settings() else {
         return Err(Fault::Form);
@@ -62,7 +65,7 @@ fn ending_of(alloc: Global, turn: Turn<'_>, cut: Cut) -> Result<Ending, Fault> {
     ) {
         Ok(host) => {
             let mut storage = HostStorage { host };
-            let passed = pass(alloc, &mut storage, turn, cut)?;
+            let passed = pass(alloc, &routes, &mut storage, turn, cut)?;
             let rows = rows_of(alloc, &mut storage.host.connection)?;
             Ok(Ending { passed, rows })
         }

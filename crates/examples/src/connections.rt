@@ -13,6 +13,7 @@ use bh_event::event::Event;
 use bh_host::apply;
 use bh_link::ends::Untold;
 use bh_link::link::Link;
+use bh_operation::routes::Routes;
 use bh_script::input::read_script;
 use bh_storage::storage::Storage;
 use bh_types::block_digest::BlockDigest;
@@ -36,7 +37,10 @@ fn request<'a>(alloc: Global, event: &'a Event, cut: &str) -> Option<Request<'a>
             reader: Link::new(Untold(reader(bytes.as_slice(), cut.reads))),
             writer: Link::new(Untold(Narrow::new(alloc, cut))),
         }),
-        Event::Operator { .. } | Event::Sweep { .. } | Event::Report { .. } => None,
+        Event::Operator { .. }
+        | Event::Sweep { .. }
+        | Event::Report { .. }
+        | Event::Tenants { .. } => None,
     }
 }
 
@@ -75,6 +79,7 @@ fn requests<'a>(
 /// Adds what an operator is answered, and a line's end; nothing of a request.
 fn order_one<H: Storage>(
     alloc: Global,
+    routes: &Routes,
     host: &mut H,
     event: &Event,
     text: &mut Vec<u8>,
@@ -85,7 +90,7 @@ fn order_one<H: Storage>(
     if let Event::Http { .. } = event {
         return Ok(());
     }
-    let told = apply(alloc, host, event);
+    let told = apply(alloc, routes, host, event);
     text.extend_from_slice(told.reply.bytes())?;
     text.push(b'\n')?;
     Ok(())
@@ -94,6 +99,7 @@ fn order_one<H: Storage>(
 /// What an operator is answered, a line's end after each answer.
 fn order<H: Storage>(
     alloc: Global,
+    routes: &Routes,
     host: &mut H,
     events: &[Event],
     text: &mut Vec<u8>,
@@ -102,7 +108,7 @@ fn order<H: Storage>(
     ensures { Clean H.IsIntact H.IsOpen host.new → IsAtRest H.IsSound (H.seen host.new) }
 {
     for event in events {
-        order_one(alloc, host, event, text)?;
+        order_one(alloc, routes, host, event, text)?;
     }
     Ok(())
 }
@@ -127,6 +133,7 @@ fn tell(alloc: Global, served: Served, arrival: Request<'_>, text: &mut Vec<u8>)
 /// What a script is answered whose operator's commands come first, and its requests over connections.
 fn answers<H: Storage>(
     alloc: Global,
+    routes: &Routes,
     host: &mut H,
     events: &[Event],
     cuts: &str,
@@ -134,9 +141,9 @@ fn answers<H: Storage>(
     requires { Clean H.IsIntact H.IsOpen host.old → IsAtRest H.IsSound (H.seen host.old) }
 {
     let mut text = Vec::new(alloc);
-    order(alloc, host, events, &mut text)?;
+    order(alloc, routes, host, events, &mut text)?;
     let mut arrivals = requests(alloc, events, cuts)?;
-    let serveds = serve_each(alloc, host, arrivals.as_mut_slice())?;
+    let serveds = serve_each(alloc, routes, host, arrivals.as_mut_slice())?;
     for (served, arrival) in serveds.into_iter().zip(arrivals) {
         tell(alloc, served, arrival, &mut text)?;
     }
@@ -152,6 +159,7 @@ fn stored(rt: &(impl Files + AllocGlobal), name: &str, ending: &str) -> io::Resu
 }
 
 fn answered(alloc: Global, events: &[Event], cuts: &str) -> io::Result<Vec<u8>> {
+    let routes = Routes::new(alloc)?;
     let connection = Connection::open_in_memory(alloc)?;
     match create(
         connection,
@@ -160,7 +168,7 @@ fn answered(alloc: Global, events: &[Event], cuts: &str) -> io::Result<Vec<u8>> 
         Limits::default(),
         Tuning::default(),
     ) {
-        Ok(host) => answers(alloc, &mut HostStorage { host }, events, cuts),
+        Ok(host) => answers(alloc, &routes, &mut HostStorage { host }, events, cuts),
         Err(_) => Ok(Vec::new(alloc)),
     }
 }

@@ -7,6 +7,7 @@ use bh_create::create;
 use bh_dispatch::storage::HostStorage;
 use bh_event::event::Event;
 use bh_host::{Told, run};
+use bh_operation::routes::Routes;
 use bh_schema::host::Digester;
 use bh_script::input::read_script;
 use bh_storage::error::Trouble;
@@ -28,6 +29,7 @@ pub fn answers<D: Digester + Drop>(
     digester: D,
     events: &[Event],
 ) -> Result<Option<(Vec<Told>, Connection<MemStore>)>, Trouble> {
+    let routes = Routes::new(alloc)?;
     let connection = Connection::open_in_memory(alloc)?;
     let Some((limits, tuning)) = settings() else {
         return Ok(None);
@@ -37,7 +39,7 @@ pub fn answers<D: Digester + Drop>(
         return Ok(None);
     };
     let mut storage = HostStorage { host };
-    let dones = run(alloc, &mut storage, events)?;
+    let dones = run(alloc, &routes, &mut storage, events)?;
     Ok(Some((dones, storage.host.into_connection())))
 }
 

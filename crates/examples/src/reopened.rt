@@ -12,6 +12,7 @@ use bh_dispatch::storage::HostStorage;
 use bh_event::event::Event;
 use bh_host::Told;
 use bh_open::Opened;
+use bh_operation::routes::Routes;
 use bh_types::block_digest::BlockDigest;
 use example_calls::answer::Fault;
 use sqlite::{Connection, FileStore, Files};
@@ -44,8 +45,9 @@ fn reopen<D: Crash + Drop>(
     let Ok(host) = create(connection, Sha256Digester, digest, limits, tuning) else {
         return Err(Fault::Memory);
     };
+    let routes = Routes::new(alloc)?;
     let mut storage = HostStorage { host };
-    if answered(alloc, &mut storage, events, answers)? != events.len() {
+    if answered(alloc, &routes, &mut storage, events, answers)? != events.len() {
         return Err(Fault::Form);
     }
     match stop_and_open_host(alloc, storage.host, options(), tuning) {

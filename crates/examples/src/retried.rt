@@ -11,6 +11,7 @@ use bh_create::create;
 use bh_dispatch::storage::HostStorage;
 use bh_event::event::Event;
 use bh_host::{Told, apply};
+use bh_operation::routes::Routes;
 use bh_script::input::{read_all, read_script};
 use bh_storage::storage::Storage;
 use bh_types::block_digest::BlockDigest;
@@ -21,24 +22,29 @@ use std::io;
 use std::io::Write;
 
 /// The answer to an event, asked once more where it has no stamp.
-fn answer<H: Storage>(alloc: Global, host: &mut H, event: &Event) -> Told
+fn answer<H: Storage>(alloc: Global, routes: &Routes, host: &mut H, event: &Event) -> Told
     requires { Clean H.IsIntact H.IsOpen host.old → IsAtRest H.IsSound (H.seen host.old) }
     ensures { Clean H.IsIntact H.IsOpen host.new → IsAtRest H.IsSound (H.seen host.new) }
 {
-    let done = apply(alloc, host, event);
+    let done = apply(alloc, routes, host, event);
     match done.stamp {
         Some(_) => done,
-        None => apply(alloc, host, event),
+        None => apply(alloc, routes, host, event),
     }
 }
 
 /// What the events are answered, a line's end after each.
-fn answers<H: Storage>(alloc: Global, host: &mut H, events: &[Event]) -> io::Result<Vec<u8>>
+fn answers<H: Storage>(
+    alloc: Global,
+    routes: &Routes,
+    host: &mut H,
+    events: &[Event],
+) -> io::Result<Vec<u8>>
     requires { Clean H.IsIntact H.IsOpen host.old → IsAtRest H.IsSound (H.seen host.old) }
 {
     let mut text = Vec::new(alloc);
     for event in events {
-        let done = answer(alloc, host, event);
+        let done = answer(alloc, routes, host, event);
         text.extend_from_slice(done.reply.bytes())?;
         text.extend_from_slice(b"\n")?;
     }
@@ -52,6 +58,7 @@ pub fn retry(rt: &(impl Input + Print + AllocGlobal)) -> io::Result<bool> {
         return Ok(false);
     };
     let script = read_script(alloc, bytes.as_slice())?;
+    let routes = Routes::new(alloc)?;
     let connection = Connection::open_in_memory(alloc)?;
     match create(
         connection,
@@ -62,7 +69,7 @@ pub fn retry(rt: &(impl Input + Print + AllocGlobal)) -> io::Result<bool> {
     ) {
         Ok(host) => {
             let mut storage = HostStorage { host };
-            let text = answers(alloc, &mut storage, script.events.as_slice())?;
+            let text = answers(alloc, &routes, &mut storage, script.events.as_slice())?;
             io::writer(rt).write_all(text.as_slice())?;
             Ok(true)
         }

@@ -6,6 +6,7 @@ use crate::ends::{Cut, Narrow, reader};
 use bh_connection::{Served, serve_connection};
 use bh_link::ends::Untold;
 use bh_link::link::Link;
+use bh_operation::routes::Routes;
 use bh_storage::storage::Storage;
 use std::alloc::Global;
 
@@ -25,13 +26,19 @@ pub struct Passed {
 }
 
 /// Serves a request over a connection that is cut so.
-pub fn serve<H: Storage>(alloc: Global, host: &mut H, asked: Asked<'_>, cut: Cut) -> Passed
+pub fn serve<H: Storage>(
+    alloc: Global,
+    routes: &Routes,
+    host: &mut H,
+    asked: Asked<'_>,
+    cut: Cut,
+) -> Passed
     requires { Clean H.IsIntact H.IsOpen host.old → IsAtRest H.IsSound (H.seen host.old) }
     ensures { Clean H.IsIntact H.IsOpen host.new → IsAtRest H.IsSound (H.seen host.new) }
 {
     let mut input = Link::new(Untold(reader(asked.bytes, cut.reads)));
     let mut output = Link::new(Untold(Narrow::new(alloc, cut)));
-    let served = serve_connection(alloc, host, asked.reading, &mut input, &mut output);
+    let served = serve_connection(alloc, routes, host, asked.reading, &mut input, &mut output);
     Passed {
         served,
         out: output.into_inner().0.held,

@@ -13,6 +13,7 @@ use bh_dispatch::storage::HostStorage;
 use bh_event::event::Event;
 use bh_host::{Told, apply};
 use bh_open::{NoHost, open_host};
+use bh_operation::routes::Routes;
 use bh_storage::storage::Storage;
 use bh_types::block_digest::BlockDigest;
 use example_calls::answer::Fault;
@@ -60,6 +61,7 @@ pub fn expect(alloc: Global, events: &[Event]) -> Result<Expected<'_>, Fault> {
 /// How many events are answered before the first that is told of trouble, if each is answered as these are told.
 pub fn answered<H: Storage>(
     alloc: Global,
+    routes: &Routes,
     host: &mut H,
     events: &[Event],
     answers: &[Told],
@@ -68,7 +70,7 @@ pub fn answered<H: Storage>(
 {
     let mut count = 0usize;
     for event in events {
-        let found = apply(alloc, host, event);
+        let found = apply(alloc, routes, host, event);
         if found.reply.trouble().is_some() {
             return Ok(count);
         }
@@ -88,13 +90,14 @@ fn run_on<S: Alter + Drop>(
     connection: Connection<S>,
     expected: &Expected<'_>,
 ) -> Result<(Option<usize>, S), Fault> {
+    let routes = Routes::new(alloc)?;
     let (limits, tuning) = settings().ok_or(Fault::Form)?;
     let digest = BlockDigest::Sha256;
     match create(connection, Sha256Digester, digest, limits, tuning) {
         Ok(host) => {
             let mut storage = HostStorage { host };
             let answers = expected.answers.as_slice();
-            let count = answered(alloc, &mut storage, expected.events, answers)?;
+            let count = answered(alloc, &routes, &mut storage, expected.events, answers)?;
             Ok((Some(count), storage.host.into_connection().into_store()))
         }
         Err(error) => Ok((None, error.connection.into_store())),

@@ -19,6 +19,14 @@ returns-in_err-storage-clause-answers g c =
     by_new_host c.args.limits c.args.digest c.args.bytes.now first first c.from_residual.result old old refl
     (text, answers_failing 1 (lines c.args.bytes.now) first, fails c.from_residual.result old old text c.from_residual.ensures.0 (nothing_sent old text))
 
+pub returns-in_err-routes-clause-answers : goal.returns-in_err-routes-clause-answers
+returns-in_err-routes-clause-answers g c =
+    let old = g.W.Sink.contents c.args.writer.now.inner in
+    let first = first_tables c.args.limits c.args.digest in
+    let text = failing_text 1 (lines c.args.bytes.now) in
+    by_new_host c.args.limits c.args.digest c.args.bytes.now first first c.from_residual-in_err-routes.result old old refl
+    (text, answers_failing 1 (lines c.args.bytes.now) first, fails c.from_residual-in_err-routes.result old old text c.from_residual-in_err-routes.ensures.0 (nothing_sent old text))
+
 pub returns-clause-answers : goal.returns-clause-answers
 returns-clause-answers g c =
     let made = c.in_ok-storage.ensures in
@@ -33,6 +41,15 @@ returns-in_err-storage-clause-alone g c =
     script_alone c.args.limits c.args.digest c.args.bytes.now c.from_residual.result old old
     (by_new_host c.args.limits c.args.digest c.args.bytes.now first first c.from_residual.result old old refl
     (text, answers_failing 1 (lines c.args.bytes.now) first, fails c.from_residual.result old old text c.from_residual.ensures.0 (nothing_sent old text)))
+
+pub returns-in_err-routes-clause-alone : goal.returns-in_err-routes-clause-alone
+returns-in_err-routes-clause-alone g c =
+    let old = g.W.Sink.contents c.args.writer.now.inner in
+    let first = first_tables c.args.limits c.args.digest in
+    let text = failing_text 1 (lines c.args.bytes.now) in
+    script_alone c.args.limits c.args.digest c.args.bytes.now c.from_residual-in_err-routes.result old old
+    (by_new_host c.args.limits c.args.digest c.args.bytes.now first first c.from_residual-in_err-routes.result old old refl
+    (text, answers_failing 1 (lines c.args.bytes.now) first, fails c.from_residual-in_err-routes.result old old text c.from_residual-in_err-routes.ensures.0 (nothing_sent old text)))
 
 pub returns-clause-alone : goal.returns-clause-alone
 returns-clause-alone g c =

@@ -1,7 +1,7 @@
 use Rattle.std.proofs.Common.{refl, sym}
 use Rattle.sqlite.specs.Held.{state}
-use Rattle.bh_event.specs.Events.{ShowUsage}
-use Rattle.bh_model.specs.Operations.{show_usage}
+use Rattle.bh_event.specs.Events.{ShowUsage, ShowKeys}
+use Rattle.bh_model.specs.Operations.{show_usage, show_keys}
 use Rattle.bh_machine.proofs.Bounded.{ordered_bounded}
 use Rattle.bh_storage.specs.Answers.{answer_view}
 use Rattle.bh_schema.proofs.Storing.{both, parts, keeps}
@@ -32,3 +32,28 @@ returns-in-Usage-clause-carries g c clean =
     let t = c.as_str.result.now in
     rw (c.in-Usage.is, sym c.as_str.ensures.value) (carried digest c.args.self.now.host.limits old new answer_view t (show_usage t) c.show_usage.result
     (c.requires (parts (h.within.follows.clean (both clean)))) clean (by_any digest old new c.show_usage.result h.working) (h.carries (both clean)))
+
+pub show_keys-requires : goal.show_keys-requires
+show_keys-requires g c clean = seen_working g.D.Digester.digest_of c.args.self.now.host.limits (state g.S.Store c.args.self.now.host.connection) (c.requires (parts clean))
+
+pub returns-in-Keys-clause-within : goal.returns-in-Keys-clause-within
+returns-in-Keys-clause-within g c = stored g.S.Store c.args.self.now _ (keeps g.S.Store c.args.self.now.host _ refl c.show_keys.ensures.within)
+
+pub returns-in-Keys-clause-working : goal.returns-in-Keys-clause-working
+returns-in-Keys-clause-working g c =
+    let digest = g.D.Digester.digest_of in
+    let old = state g.S.Store c.args.self.now.host.connection in
+    let new = state g.S.Store c.show_keys.new.connection in
+    let h = c.show_keys.ensures in
+    let t = c.as_str-in-Keys.result.now in
+    still_working digest c.args.self.now.host.limits old new answer_view t (show_keys t) c.show_keys.result (λ s bound. ordered_bounded s bound (ShowKeys t)) (λ clean. c.requires (parts (h.within.follows.clean (both clean)))) (by_any digest old new c.show_keys.result h.working) h.carries
+
+pub returns-in-Keys-clause-carries : goal.returns-in-Keys-clause-carries
+returns-in-Keys-clause-carries g c clean =
+    let digest = g.D.Digester.digest_of in
+    let old = state g.S.Store c.args.self.now.host.connection in
+    let new = state g.S.Store c.show_keys.new.connection in
+    let h = c.show_keys.ensures in
+    let t = c.as_str-in-Keys.result.now in
+    rw (c.in-Keys.is, sym c.as_str-in-Keys.ensures.value) (carried digest c.args.self.now.host.limits old new answer_view t (show_keys t) c.show_keys.result
+    (c.requires (parts (h.within.follows.clean (both clean)))) clean (by_any digest old new c.show_keys.result h.working) (h.carries (both clean)))

@@ -1,8 +1,9 @@
 use Rattle.std.proofs.Common.{refl}
 use Rattle.sqlite.specs.Held.{state}
+use Rattle.bh_storage.specs.Calls.{Reports}
 use Rattle.bh_schema.specs.Layer.{IsIntact, IsOpen}
 use Rattle.bh_schema.proofs.Storing.{AreBoth, both, parts, keeps}
-use Rattle.bh_dispatch.proofs.Storing.{IsAtWork, seen_working, stored, reported_works, reports_after, opened_ok}
+use Rattle.bh_dispatch.proofs.Storing.{IsAtWork, seen_working, stored, told_works, told_after, opened_ok}
 use Rattle.bh_dispatch.proofs.storage.HostStorageStorage.report.Goals as goal
 
 pub report-requires : goal.report-requires
@@ -19,6 +20,6 @@ returns g c =
     record {
       within = stored g.S.Store c.args.self.now _ (keeps g.S.Store c.args.self.now.host _ refl h.within);
       opens = opened_ok (IsIntact new) (IsOpen old) (IsOpen new) c.report.result h.opens;
-      working = reported_works digest l old new c.report.result was h.working h.reports;
-      reports = reports_after digest l old new c.report.result was h.working h.reports;
+      working = told_works Reports (λ x a b told. told.same) digest l old new c.report.result was h.working h.reports;
+      reports = told_after Reports (λ x a b told. told.same) digest l old new c.report.result was h.working h.reports;
     }

@@ -1,0 +1,19 @@
+use Rattle.std.proofs.Common.{ap, map}
+use Rattle.sqlite.specs.Held.{state}
+use Rattle.bh_tables.specs.Shown.{shown_used}
+use Rattle.bh_tables.specs.Typed.{totals_of, tables}
+use Rattle.bh_tables.proofs.Places.{tenants}
+use Rattle.bh_tables.proofs.Statements.{all_pass}
+use Rattle.bh_tables.proofs.UsedTexts.{all_used_shown}
+use Rattle.bh_schema.specs.Layer.{standing}
+use Rattle.bh_schema.proofs.Calls.{selected, asked}
+use Rattle.bh_sweep.proofs.rows.used_rows.Goals as goal
+
+pub returns : goal.returns
+unfolding standing
+returns g c =
+    let h = c.query_all.ensures in
+    let old = state g.S.Store c.args.connection.now in
+    let all = selected tenants old (state g.S.Store c.query_all.new.self) c.requires.inside (λ v. v.items) c.query_all.result (all_used_shown (totals_of (tables old))) h.ok h.err h.survives in
+    let q = asked _ _ (λ t. ap (map (shown_used (totals_of (tables old)))) (all_pass t.tenants)) all in
+    record { within = q.within; opens = q.opens; same = q.same; rows = q.rows; trouble = q.trouble }

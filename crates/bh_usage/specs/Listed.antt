@@ -1,0 +1,27 @@
+-- What the columns of listed keys and tenants stand for.
+use Rattle.std.specs.Prelude.{ℕ, length, filter}
+use Rattle.std.specs.String.{string_bytes}
+use Rattle.bh_model.specs.State.{Octets}
+use Rattle.bh_tables.specs.Typed.{KeyRow, TenantRow, Tables, bytes_used}
+use Rattle.bh_tables.specs.Shown.{is_owned_key}
+use Rattle.bh_storage.specs.Reports.{TenantTold}
+use Rattle.bh_usage.specs.declared.rows.ListedTenant.{ListedTenant}
+
+abbrev pub name_in : KeyRow → Octets
+name_in k = k.name
+
+-- a tenant's name, its quota, and the bytes that its versions and parts have
+pub record Quota : Type 0 where
+  pub name : Octets
+  pub quota : ℕ
+  pub used : ℕ
+
+abbrev pub tenant_seen : ListedTenant → Quota
+tenant_seen t = record { name = string_bytes t.name; quota = t.quota; used = t.used }
+
+abbrev pub quota_in_row : Tables → TenantRow → Quota
+quota_in_row tables t = record { name = t.tenant; quota = t.quota; used = bytes_used tables.versions tables.parts t.tenant }
+
+-- as it is told, with how many access keys these tables have of it
+abbrev pub told_with : Tables → Quota → TenantTold
+told_with tables q = record { name = q.name; quota = q.quota; used = q.used; keys = length (filter (is_owned_key q.name) tables.keys) }

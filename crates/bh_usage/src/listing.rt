@@ -1,0 +1,86 @@
+ghost use Rattle.std.specs.Prelude.{◌≡◌, map, IfOk, OnOk};
+ghost use Rattle.bh_storage.specs.Calls.{Lists};
+ghost use Rattle.bh_storage.specs.Reports.{tenant_view, tenants_told};
+ghost use Rattle.bh_schema.specs.Connections.{IsClean, tables, InTransaction, StaysWithin, StaysOpen, ChangesNothing};
+ghost use Rattle.bh_schema.specs.Working.{Works, StillWorks};
+ghost use Rattle.bh_usage.specs.Listed.{tenant_seen, told_with};
+
+use crate::rows::{ListedTenant, key_count, tenant_list};
+use bh_schema::trouble::or_trouble;
+use bh_storage::error::Trouble;
+use bh_storage::report::TenantReport;
+use sqlite::{Alter, Connection, Error};
+use std::alloc::Global;
+
+/// A tenant, with how many access keys it has.
+fn with_keys<S: Alter>(
+    connection: &mut Connection<S>,
+    alloc: Global,
+    listed: &ListedTenant,
+) -> Result<TenantReport, Error>
+    requires inside { InTransaction S.Store connection.old }
+    ensures within { StaysWithin S.Store connection.old connection.new }
+    ensures opens { OnOk result (StaysOpen S.Store connection.old connection.new) }
+    ensures same { OnOk result (ChangesNothing S.Store connection.old connection.new) }
+    ensures told { IfOk result (λ told. IsClean S.Store connection.new
+        → tenant_view told ≡ told_with (tables S.Store connection.old) (tenant_seen listed.now)) }
+{
+    let keys = key_count(connection, listed.name.as_str())?;
+    let name = String::from_str(alloc, listed.name.as_str())?;
+    Ok(TenantReport {
+        name,
+        quota: listed.quota,
+        used: listed.used,
+        keys,
+    })
+}
+
+fn all_with_keys<S: Alter>(
+    connection: &mut Connection<S>,
+    alloc: Global,
+    listed: &[ListedTenant],
+) -> Result<Vec<TenantReport>, Error>
+    requires inside { InTransaction S.Store connection.old }
+    ensures within { StaysWithin S.Store connection.old connection.new }
+    ensures opens { OnOk result (StaysOpen S.Store connection.old connection.new) }
+    ensures same { OnOk result (ChangesNothing S.Store connection.old connection.new) }
+    ensures told { IfOk result (λ all. IsClean S.Store connection.new
+        → map tenant_view all.items ≡ map (λ t. told_with (tables S.Store connection.old) (tenant_seen t)) listed.now) }
+{
+    let mut all = Vec::new(alloc);
+    for tenant in listed {
+        let told = with_keys(connection, alloc, tenant)?;
+        all.push(told)?;
+    }
+    Ok(all)
+}
+
+fn read_all<S: Alter>(
+    connection: &mut Connection<S>,
+    alloc: Global,
+) -> Result<Vec<TenantReport>, Error>
+    requires inside { InTransaction S.Store connection.old }
+    ensures within { StaysWithin S.Store connection.old connection.new }
+    ensures opens { OnOk result (StaysOpen S.Store connection.old connection.new) }
+    ensures same { OnOk result (ChangesNothing S.Store connection.old connection.new) }
+    ensures told { IfOk result (λ all. IsClean S.Store connection.new
+        → map tenant_view all.items ≡ tenants_told (tables S.Store connection.old)) }
+{
+    let listed = tenant_list(connection, alloc)?;
+    all_with_keys(connection, alloc, &listed)
+}
+
+/// All tenants, by name in byte order.
+pub fn tenants<S: Alter>(
+    connection: &mut Connection<S>,
+    alloc: Global,
+) -> Result<Vec<TenantReport>, Trouble>
+    requires { Works S.Store connection.old }
+    ensures within { StaysWithin S.Store connection.old connection.new }
+    ensures opens { OnOk result (StaysOpen S.Store connection.old connection.new) }
+    ensures working { OnOk result (StillWorks S.Store connection.old connection.new) }
+    ensures lists { IfOk result (λ listed. IsClean S.Store connection.new
+        → Lists listed.items (tables S.Store connection.old) (tables S.Store connection.new)) }
+{
+    or_trouble(read_all(connection, alloc))
+}
