@@ -1,14 +1,12 @@
 -- What an upload's rows say of its completion is what the machine says of its parts.
-use Rattle.std.proofs.Common.{◌≡◌, ℕ, ◌+◌, ◌-◌, ◌<◌, nat_le, Bool, true, false, ◌&&◌, ◌||◌, cond, List, [], ◌∷◌, map, length, take, drop, get_or, arith, bytes_eq, Option, Some, None, option_map, unwrap_or, ok_or, Result, Ok, Err, refl, sym, ap, subst, ◌∙◌, nat_cmp}
+use Rattle.std.proofs.Common.{◌≡◌, ℕ, ◌-◌, ◌<◌, nat_le, Bool, true, false, ◌&&◌, ◌||◌, cond, List, [], ◌∷◌, map, length, take, get_or, bytes_eq, Option, Some, None, ok_or, Result, Ok, Err, refl, sym, ap, subst, ◌∙◌, nat_cmp}
 use Rattle.std.specs.Prelude.{position, slice_get, option_and_then}
 use Rattle.std.specs.List.{All, find, list_all, list_any, filter_map, take-map}
-use Rattle.std.specs.Option.{option_or}
 use Rattle.std.specs.String.{string_bytes}
 use Rattle.std.specs.FinMap.{FinMap, get}
-use Rattle.std.proofs.Math.Seq.{drop-nil}
 use Rattle.std.proofs.lemmas.Bool.{eqb-true}
 use Rattle.std.proofs.lemmas.Option.{none-some, slice_get-get_or, get_or_from_slice_get, slice_get_within}
-use Rattle.std.proofs.lemmas.List.{length-map, length-drop, get_or-drop}
+use Rattle.std.proofs.lemmas.List.{length-map}
 use Rattle.std.proofs.lemmas.List.Elements.{All-get_or}
 use Rattle.std.proofs.lemmas.List.Quantifiers.{position-Some}
 use Rattle.bh_types.specs.declared.refusal.Refusal.{Refusal}
@@ -19,7 +17,7 @@ use Rattle.bh_model.specs.State.{Octets, Part}
 use Rattle.bh_model.specs.Parts.{Naming, ascends, is_checksum, checked, choice, chosen, joined}
 use Rattle.bh_model.specs.Parts as machine
 use Rattle.bh_core.specs.declared.parts.PartRow.{PartRow}
-use Rattle.bh_core.specs.Completions.{is_numbered, place_from, has_sum, has_sum_at, chosen_place, chosen_places, is_large, are_large, TellParts, IsRowOf, part_at, joined_at, CompleteIsJoined}
+use Rattle.bh_core.specs.Completions.{is_numbered, place_of, has_sum, has_sum_at, chosen_place, chosen_places, is_large, are_large, TellParts, IsRowOf, part_at, joined_at, CompleteIsJoined}
 use Rattle.bh_core.proofs.Finding.{at_position}
 
 none_any : {X : Type 0} (p : X → Bool) (xs : List X) → find p xs ≡ None → list_any p xs ≡ false
@@ -47,24 +45,9 @@ module _ (number : ℕ) (rows : List PartRow) (d : PartRow) where
   first_at : (at : ℕ) → position (is_numbered number) rows ≡ Some at → IsNumberedAt rows number at
   first_at at h = let found = position-Some (is_numbered number) rows at d h in numbered_at at found.0 found.1
 
-  later_at : (from i : ℕ) → position (is_numbered number) (drop from rows) ≡ Some i → IsNumberedAt rows number (from + i)
-  later_at from i h =
-      let found = position-Some (is_numbered number) (drop from rows) i d h in
-      numbered_at (from + i) (omega (arith, found.0, length-drop from rows)) (ap (is_numbered number) (sym (get_or-drop from rows i d)) ∙ found.1)
-
-  either_at : (from at : ℕ) (later first : Option ℕ) → position (is_numbered number) (drop from rows) ≡ later → position (is_numbered number) rows ≡ first
-      → option_or (option_map (λ i. from + i) later) first ≡ Some at → IsNumberedAt rows number at
-  either_at from at None first h k e = first_at at (k ∙ e)
-  either_at from at (Some i) first h k e = subst (IsNumberedAt rows number) (ap (λ o. unwrap_or o 0) e) (later_at from i h)
-
-found_at : (number : ℕ) (rows : List PartRow) (from at : ℕ) → place_from rows from number ≡ Some at → IsNumberedAt rows number at
-found_at number [] from at h = absurd (none-some at (sym (ap (λ l. option_or (option_map (λ i. from + i) (position (is_numbered number) l)) None) (drop-nil from)) ∙ h))
-found_at number (row ∷ rows) from at h = either_at number (row ∷ rows) row from at _ _ refl refl h
-
--- a number that no place is found for is that of no row
-either_nowhere : (from : ℕ) (later first : Option ℕ) → option_or (option_map (λ i. from + i) later) first ≡ None → first ≡ None
-either_nowhere from None first h = h
-either_nowhere from (Some i) first h = absurd (none-some (from + i) (sym h))
+found_at : (number : ℕ) (rows : List PartRow) (at : ℕ) → place_of rows number ≡ Some at → IsNumberedAt rows number at
+found_at number [] at h = absurd (none-some at h)
+found_at number (row ∷ rows) at h = first_at number (row ∷ rows) row at h
 
 -- two outcomes are those of the same case
 abbrev Same : {A B : Type 0} → (A → B → Type 0) → Result A Refusal → Result B Refusal → Type 0
@@ -96,18 +79,16 @@ module _ (rows : List PartRow) (parts : FinMap nat_cmp Part) where
         rw (there, sym (ap (get parts) number) ∙ is_part, same_sum row p n.checksum of.1)
         (if_sum at p (has_sum row n.checksum) (rw there is_part, λ least. rw (there) (ap (nat_le least) of.0)))
 
-    at_place : (n : Naming) (from : ℕ) (place : Option ℕ) → place_from rows from n.number ≡ place
+    at_place : (n : Naming) (place : Option ℕ) → place_of rows n.number ≡ place
         → Same IsPartAt (ok_or place InvalidPart >>= (λ at. require (has_sum_at rows n.checksum at) InvalidPart >>= (λ _. Ok at))) (choice parts n)
-    at_place n from None h =
-        let nowhere : position (is_numbered n.number) rows ≡ None = either_nowhere from (position (is_numbered n.number) (drop from rows)) (position (is_numbered n.number) rows) h in
-        rw (told.no_other n.number (nowhere_any (is_numbered n.number) rows nowhere)) refl
-    at_place n from (Some at) h =
-        let found = found_at n.number rows from at h in
+    at_place n None h = rw (told.no_other n.number (nowhere_any (is_numbered n.number) rows h)) refl
+    at_place n (Some at) h =
+        let found = found_at n.number rows at h in
         let part = all_at (λ row. (p : Part) × (get parts row.number ≡ Some p) × IsRowOf p row) rows at found.0 told.tells found.1 in
         at_row n at found.0 part.0 found.1 found.2 part.1 part.2
 
-    place_alike : (n : Naming) (from : ℕ) → Same IsPartAt (chosen_place rows from n) (choice parts n)
-    place_alike n from = at_place n from (place_from rows from n.number) refl
+    place_alike : (n : Naming) → Same IsPartAt (chosen_place rows n) (choice parts n)
+    place_alike n = at_place n (place_of rows n.number) refl
 
     joined_alike : (at : ℕ) (p : Part) (places : Result (List ℕ) Refusal) (ps : Result (List Part) Refusal) → IsPartAt at p → Same ArePartsAt places ps
         → Same ArePartsAt (places >>= (λ rest. Ok (at ∷ rest))) (ps >>= (λ ps. Ok (p ∷ ps)))
@@ -125,9 +106,9 @@ module _ (rows : List PartRow) (parts : FinMap nat_cmp Part) where
     cons_alike (Ok at) (Err f) places ps h k = absurd h
     cons_alike (Err e) (Ok p) places ps h k = absurd h
 
-    places_alike : (names : List Naming) (from : ℕ) → Same ArePartsAt (chosen_places rows from names) (chosen parts names)
-    places_alike [] from = (refl, λ least. refl)
-    places_alike (n ∷ names) from = cons_alike (chosen_place rows from n) (choice parts n) (λ at. chosen_places rows (at + 1) names) (chosen parts names) (place_alike n from) (λ at. places_alike names (at + 1))
+    places_alike : (names : List Naming) → Same ArePartsAt (chosen_places rows names) (chosen parts names)
+    places_alike [] = (refl, λ least. refl)
+    places_alike (n ∷ names) = cons_alike (chosen_place rows n) (choice parts n) (λ at. chosen_places rows names) (chosen parts names) (place_alike n) (λ at. places_alike names)
 
   all_tested : {X : Type 0} (test : X → Bool) (xs : List X) → list_all test xs ≡ list_all (λ b. b) (map test xs)
   all_tested test [] = refl
@@ -164,4 +145,4 @@ in_order_alike false e ps places view h = refl
 pub complete_is_joined : CompleteIsJoined
 complete_is_joined least rows parts names told =
     in_order_alike (ascends (map (λ n. n.number) names)) InvalidPartOrder _ _ (joined_at rows parts)
-    (last_alike rows parts least (chosen_places rows 0 names) (chosen parts names) (places_alike rows parts told names 0))
+    (last_alike rows parts least (chosen_places rows names) (chosen parts names) (places_alike rows parts told names))

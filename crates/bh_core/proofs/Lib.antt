@@ -2,4 +2,5 @@ pub mod Choosing
 pub mod Completing
 pub mod Cutting
 pub mod Finding
+pub mod Ordered
 pub mod Writing

@@ -1,7 +1,7 @@
 -- Which of an upload's parts, of which no bytes are known, it is completed with, and how that is the machine's case.
-use Rattle.std.specs.Prelude.{◌≡◌, ℕ, ◌+◌, ◌-◌, ◌==◌, Bool, true, false, nat_le, bytes_eq, List, [], ◌∷◌, map, length, take, drop, position, slice_get, All, Option, Some, None, option_map, option_and_then, ok_or, Result, Ok}
+use Rattle.std.specs.Prelude.{◌≡◌, ℕ, ◌-◌, ◌==◌, Bool, true, false, nat_le, bytes_eq, List, [], ◌∷◌, map, length, take, position, slice_get, All, Option, Some, None, option_and_then, ok_or, Result, Ok}
 use Rattle.std.specs.List.{list_all, list_any, filter_map}
-use Rattle.std.specs.Option.{option_or, option_map_or}
+use Rattle.std.specs.Option.{option_map_or}
 use Rattle.std.specs.Ordering.{nat_cmp}
 use Rattle.std.specs.FinMap.{FinMap, get}
 use Rattle.std.specs.String.{string_bytes}
@@ -16,10 +16,9 @@ use Rattle.bh_core.specs.declared.parts.PartRow.{PartRow}
 abbrev pub is_numbered : ℕ → PartRow → Bool
 is_numbered number row = row.number == number
 
--- the first place of a number from a place on, or else the first of all: where the rows stand in the order of their
--- numbers, and numbers that ascend are looked for, each from the place after the one before, it is the first
-abbrev pub place_from : List PartRow → ℕ → ℕ → Option ℕ
-place_from rows from number = option_or (option_map (λ i. from + i) (position (is_numbered number) (drop from rows))) (position (is_numbered number) rows)
+-- where the part of a number stands, from 0, if it is there
+abbrev pub place_of : List PartRow → ℕ → Option ℕ
+place_of rows number = position (is_numbered number) rows
 
 -- whether a row has the checksum that may be given
 abbrev pub has_sum : PartRow → Option Octets → Bool
@@ -30,17 +29,17 @@ abbrev pub has_sum_at : List PartRow → Option Octets → ℕ → Bool
 has_sum_at rows given at = option_map_or (λ row. has_sum row given) (slice_get rows at) false
 
 -- the place of the part that is named, where it is there and has the checksum given
-abbrev pub chosen_place : List PartRow → ℕ → Naming → Result ℕ Refusal
-chosen_place rows from n = do
-  at ← ok_or (place_from rows from n.number) InvalidPart
+abbrev pub chosen_place : List PartRow → Naming → Result ℕ Refusal
+chosen_place rows n = do
+  at ← ok_or (place_of rows n.number) InvalidPart
   _ ← require (has_sum_at rows n.checksum at) InvalidPart
   Ok at
 
-abbrev pub chosen_places : List PartRow → ℕ → List Naming → Result (List ℕ) Refusal
-chosen_places rows from [] = Ok []
-chosen_places rows from (n ∷ ns) = do
-  at ← chosen_place rows from n
-  rest ← chosen_places rows (at + 1) ns
+abbrev pub chosen_places : List PartRow → List Naming → Result (List ℕ) Refusal
+chosen_places rows [] = Ok []
+chosen_places rows (n ∷ ns) = do
+  at ← chosen_place rows n
+  rest ← chosen_places rows ns
   Ok (at ∷ rest)
 
 abbrev pub is_large : ℕ → List PartRow → ℕ → Bool
@@ -55,9 +54,19 @@ are_large least rows places = list_all (is_large least rows) (take (length place
 abbrev pub complete_plan : ℕ → List PartRow → List Naming → Result (List ℕ) Refusal
 complete_plan least rows names = do
   _ ← require (ascends (map (λ n. n.number) names)) InvalidPartOrder
-  places ← chosen_places rows 0 names
+  places ← chosen_places rows names
   _ ← require (are_large least rows places) EntityTooSmall
   Ok places
+
+-- ---- where a part is looked for
+
+-- the parts stand in the order of their numbers
+abbrev pub are_ordered : List PartRow → Bool
+are_ordered rows = ascends (map (λ (row : PartRow). row.number) rows)
+
+-- from any place on, where the parts are ordered, and else from the first
+abbrev pub IsStart : List PartRow → ℕ → Type 0
+IsStart rows from = are_ordered rows ≡ false → from ≡ 0
 
 -- ---- the machine's case
 

@@ -1,4 +1,4 @@
-ghost use Rattle.std.specs.Prelude.{◌≡◌, ◌<◌, ◌≤◌, length, map, position, option_map, All, IfOk, IfSome};
+ghost use Rattle.std.specs.Prelude.{◌≡◌, ◌<◌, ◌≤◌, ◌+◌, false, length, map, option_map, All, IfOk, IfSome};
 ghost use Rattle.std.specs.List.{list_all};
 ghost use Rattle.std.specs.String.{string_bytes};
 ghost use Rattle.bh_types.specs.Outcomes.{Gives};
@@ -51,9 +51,10 @@ fn chosen_places(
     parts: &[PartRow],
     named: &[Named],
 ) -> Result<Vec<usize>, RequestError>
-    ensures plan { Gives (λ v. v.items) result (spec.chosen_places parts.now 0 (map naming_of named.now)) }
+    ensures plan { Gives (λ v. v.items) result (spec.chosen_places parts.now (map naming_of named.now)) }
     ensures bound { IfOk result (λ v. All (λ at. at < length parts.now) v.items) }
 {
+    let ordered = are_ordered(parts);
     let mut places = Vec::new(alloc);
     let mut from = 0;
     for name in named {
@@ -61,14 +62,36 @@ fn chosen_places(
         if places.push(at).is_err() {
             return Err(RequestError::OutOfMemory);
         }
-        from = at + 1;
+        from = start_after(at, ordered);
     }
     Ok(places)
 }
 
+/// Whether the parts stand in the order of their numbers.
+fn are_ordered(parts: &[PartRow]) -> bool
+    ensures { result ≡ spec.are_ordered parts.now }
+{
+    match parts {
+        [first, rest @ ..] => match rest {
+            [second, ..] => first.number < second.number && are_ordered(rest),
+            [] => true,
+        },
+        [] => true,
+    }
+}
+
+/// Where the next part is looked for: parts that are named stand one behind another where all are ordered.
+fn start_after(at: usize, ordered: bool) -> usize
+    ensures within { result ≤ at + 1 }
+    ensures first { ordered ≡ false → result ≡ 0 }
+{
+    if ordered { at.saturating_add(1) } else { 0 }
+}
+
 fn chosen_place(parts: &[PartRow], from: usize, name: &Named) -> Result<usize, Refusal>
-    requires { from ≤ length parts.now }
-    ensures place { result ≡ spec.chosen_place parts.now from (naming_of name.now) }
+    requires within { from ≤ length parts.now }
+    requires start { spec.IsStart parts.now from }
+    ensures place { result ≡ spec.chosen_place parts.now (naming_of name.now) }
     ensures bound { IfOk result (λ at. at < length parts.now) }
 {
     match place_from(parts, from, name.number) {
@@ -77,9 +100,11 @@ fn chosen_place(parts: &[PartRow], from: usize, name: &Named) -> Result<usize, R
     }
 }
 
+/// Where the part of a number stands; it is looked for from a place on, and then among all.
 fn place_from(parts: &[PartRow], from: usize, number: u32) -> Option<usize>
-    requires { from ≤ length parts.now }
-    ensures place { result ≡ spec.place_from parts.now from number }
+    requires within { from ≤ length parts.now }
+    requires start { spec.IsStart parts.now from }
+    ensures place { result ≡ spec.place_of parts.now number }
     ensures bound { IfSome result (λ at. at < length parts.now) }
 {
     match place_of(&parts[from..], number) {
@@ -89,7 +114,7 @@ fn place_from(parts: &[PartRow], from: usize, number: u32) -> Option<usize>
 }
 
 fn place_of(parts: &[PartRow], number: u32) -> Option<usize>
-    ensures place { result ≡ position (spec.is_numbered number) parts.now }
+    ensures place { result ≡ spec.place_of parts.now number }
     ensures bound { IfSome result (λ at. at < length parts.now) }
 {
     parts.iter().position(|p| p.number == number)

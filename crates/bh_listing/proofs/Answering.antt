@@ -26,11 +26,13 @@ use Rattle.bh_objects.proofs.Putting.{has_bucket}
 use Rattle.bh_pages.specs.declared.gathering.Asked.{Asked}
 use Rattle.bh_pages.specs.declared.gathering.Listed as program
 use Rattle.bh_pages.specs.Seen.{seen_entry, token_of}
-use Rattle.bh_listing.specs.Rows.{version_order, row_shown, bucket_rows, entries_of}
+use Rattle.bh_pages.specs.Reading.{listing}
+use Rattle.bh_pages.proofs.Taking.{all_to_come}
+use Rattle.bh_listing.specs.Rows.{version_order, row_shown, bucket_rows}
 use Rattle.bh_listing.specs.Told.{asked_view}
 use Rattle.bh_listing.proofs.Small.{small_keys, all_turned, entries_apart}
 use Rattle.bh_listing.proofs.Viewed.{entries_are}
-use Rattle.bh_listing.proofs.Looping.{past_nat, upto_nat}
+use Rattle.bh_listing.proofs.Looping.{past_nat, upto_nat, shown_rows, are_rows}
 use Rattle.bh_listing.proofs.Telling.{is_less}
 
 -- ---- one entry more than a page takes is all that the page asks for
@@ -74,14 +76,15 @@ module _ (tables : Tables) (t b : Octets) (sound : IsSound tables) where
       (all-filter (λ (v : VersionRow). v.size ≡ length v.bytes) (λ (v : VersionRow). bytes_eq v.bucket b) (rows_of t tables).versions (all_turned (λ v good. good.size) (rows_of t tables).versions (sound.tenants t).versions.each))
 
   pub lists : (mode : BucketState) → mode_in b (view tables t) ≡ Ok mode → (asked : Asked) (es : List (Listed ObjectItem))
-      → es ≡ take (suc asked.max) (entries_of asked.prefix.now asked.delimiter.now (token_of asked) (map row_shown (bucket_rows t b asked.prefix.now tables.versions)))
+      → es ≡ take (suc asked.max) (listing asked (map row_shown (bucket_rows t b asked.prefix.now tables.versions)))
       → objects_listed b (asked_view asked) (token_of asked) (view tables t) ≡ Ok (objects_told b (asked_view asked) (paged asked.max es))
   lists mode found asked es are =
       let h = has_bucket b (view tables t) mode found in
       let here : get (buckets_of (rows_of t tables)) b ≡ Some h.bucket = ap (λ (x : State). get x.buckets b) (own_row tables t h.state h.added).2 ∙ h.there in
-      let whole = entries_of asked.prefix.now asked.delimiter.now (token_of asked) (map row_shown (bucket_rows t b asked.prefix.now tables.versions)) in
+      let whole = listing asked (shown_rows asked t b tables.versions) in
       let same : whole ≡ entries_after asked.prefix.now asked.delimiter.now (λ (o : ObjectItem). o.key) (after_name (λ (o : ObjectItem). o.key) (token_of asked)) (objects_in (entries h.bucket.objects)) =
-      entries_are t b asked.prefix.now asked.delimiter.now (token_of asked) tables.versions (small_keys tables sound) sizes (entries_apart (objects_of own))
+      sym (all_to_come asked (shown_rows asked t b tables.versions) (are_rows asked t b tables.versions (small_keys tables sound)))
+      ∙ entries_are t b asked.prefix.now asked.delimiter.now (token_of asked) tables.versions (small_keys tables sound) sizes (entries_apart (objects_of own))
       ∙ ap (λ m. entries_after asked.prefix.now asked.delimiter.now (λ (o : ObjectItem). o.key) (after_name (λ (o : ObjectItem). o.key) (token_of asked)) (objects_in (entries m))) (objects_shown (rows_of t tables) b h.bucket here) in
       let told : objects_listed b (asked_view asked) (token_of asked) (view tables t) ≡ Ok (objects_told b (asked_view asked) (paged asked.max (entries_after asked.prefix.now asked.delimiter.now (λ (o : ObjectItem). o.key) (after_name (λ (o : ObjectItem). o.key) (token_of asked)) (objects_in (entries h.bucket.objects))))) =
       told_in b (asked_view asked) (token_of asked) (view tables t) h.state h.bucket h.added h.there in
@@ -89,10 +92,10 @@ module _ (tables : Tables) (t b : Octets) (sound : IsSound tables) where
 
   -- the same of what a call has at hand
   pub list_is : (mode : BucketState) → mode_in b (view tables t) ≡ Ok mode → (asked : Asked) (current : Tables) (tenant bucket name : Octets) → current ≡ tables → tenant ≡ t → bucket ≡ b → name ≡ b
-      → (es slice : List program.Listed) → slice ≡ es → map seen_entry es ≡ take (suc asked.max) (entries_of asked.prefix.now asked.delimiter.now (token_of asked) (map row_shown (bucket_rows tenant bucket asked.prefix.now current.versions)))
+      → (es slice : List program.Listed) → slice ≡ es → map seen_entry es ≡ take (suc asked.max) (listing asked (map row_shown (bucket_rows tenant bucket asked.prefix.now current.versions)))
       → (page : ObjectsListed) → page ≡ objects_told name (asked_view asked) (paged asked.max (map seen_entry slice)) → objects_listed b (asked_view asked) (token_of asked) (view tables t) ≡ Ok page
   list_is mode found asked current tenant bucket name is_now is_t is_b is_name es slice is_slice gathered page told =
-      lists mode found asked (map seen_entry es) (gathered ∙ (λ i. take (suc asked.max) (entries_of asked.prefix.now asked.delimiter.now (token_of asked) (map row_shown (bucket_rows (is_t i) (is_b i) asked.prefix.now ((is_now i).versions))))))
+      lists mode found asked (map seen_entry es) (gathered ∙ (λ i. take (suc asked.max) (listing asked (map row_shown (bucket_rows (is_t i) (is_b i) asked.prefix.now ((is_now i).versions))))))
       ∙ ap (λ p. Ok p) (sym (told ∙ (λ i. objects_told (is_name i) (asked_view asked) (paged asked.max (map seen_entry (is_slice i))))))
 
 -- the machine's step, where no row changed

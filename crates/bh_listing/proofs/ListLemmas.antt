@@ -12,10 +12,9 @@ use Rattle.bh_tables.specs.Typed.{VersionRow}
 use Rattle.bh_view.proofs.ObjectLemmas.{newer_total}
 use Rattle.bh_view.proofs.SortLemmas.{AtMost, up-sort_by, sort_by-filter}
 use Rattle.bh_model.specs.Pages.{begins, is_upto}
-use Rattle.bh_pages.specs.Gathered.{past_name, rows_from}
+use Rattle.bh_pages.specs.Gathered.{InOrder, past_name, rows_from}
 use Rattle.bh_pages.specs.Seen.{Shown}
 use Rattle.bh_pages.proofs.Bytes.{upto_trans, begins_between}
-use Rattle.bh_pages.proofs.Skipping.{InOrder}
 use Rattle.bh_listing.proofs.RowLemmas.{take_map}
 use Rattle.bh_listing.specs.Rows.{version_order, is_listed, listed_rows, row_shown, bucket_rows, AreSmallKeys}
 

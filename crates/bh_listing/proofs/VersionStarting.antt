@@ -26,7 +26,8 @@ use Rattle.bh_pages.specs.Seen.{token_of}
 use Rattle.bh_pages.specs.Versions.{Numbered, row_key, at_key, is_from, nothing_after, versions_to_come, items_next, id_in}
 use Rattle.bh_pages.specs.declared.gathering.Asked.{Asked}
 use Rattle.bh_pages.proofs.Bytes.{same_is, none_some, some_same}
-use Rattle.bh_pages.proofs.VersionRows.{IsStrict, filter_swap, filter_twice}
+use Rattle.bh_pages.specs.Versions.{IsStrict}
+use Rattle.bh_pages.proofs.VersionRows.{filter_swap, filter_twice}
 use Rattle.bh_pages.proofs.VersionLists.{start_first, start_past, start_one, not_under, not_among}
 use Rattle.bh_listing.specs.Rows.{version_order}
 use Rattle.bh_listing.specs.Versions.{row_numbered, own_rows, Beginning, past_marker, past_entry, marked, listed_from, versions_of_rows}

@@ -23,7 +23,8 @@ use Rattle.bh_pages.specs.Gathered.{past_name}
 use Rattle.bh_pages.specs.Versions.{Numbered, row_key, spot, is_from, is_older, at_key, items_next, stored_of}
 use Rattle.bh_pages.proofs.Bytes.{upto_trans, same_is}
 use Rattle.bh_pages.proofs.Keyed.{AreApart}
-use Rattle.bh_pages.proofs.VersionRows.{IsStrict, precedes, filter_same, filter_twice}
+use Rattle.bh_pages.specs.Versions.{IsStrict}
+use Rattle.bh_pages.proofs.VersionRows.{precedes, filter_same, filter_twice}
 use Rattle.bh_pages.proofs.VersionLists.{marked, items_marked, flat_items, keys_marked}
 use Rattle.bh_listing.specs.Rows.{version_order, is_listed, listed_rows, AreSmallKeys}
 use Rattle.bh_listing.specs.Versions.{is_older_of, older_rows, row_numbered, own_rows}

@@ -15,14 +15,19 @@ use Rattle.bh_view.proofs.Keys.{octets}
 use Rattle.bh_view.proofs.GroupListingLemmas.{flat}
 use Rattle.bh_view.proofs.VersionListing.{versions_listed}
 use Rattle.bh_view.proofs.SortLemmas.{sort_by-filter}
-use Rattle.bh_model.specs.Pages.{begins, after_name, entries_after, ObjectItem, object_of, objects_in}
-use Rattle.bh_pages.specs.Gathered.{past_name}
+use Rattle.bh_model.specs.Pages.{Listed, begins, after_name, entries_after, ObjectItem, object_of, objects_in}
+use Rattle.bh_pages.specs.Gathered.{past_name, to_come, nothing_gathered}
 use Rattle.bh_pages.proofs.Bytes.{upto_begun, before_past_name, begins_between}
 use Rattle.bh_pages.proofs.Defined.{listed_as_defined}
-use Rattle.bh_pages.specs.Seen.{Shown, item_of}
+use Rattle.bh_pages.specs.Seen.{Shown, item_of, item_in}
 use Rattle.bh_pages.proofs.Keyed.{shown_entry, rows_of, AreApart}
-use Rattle.bh_listing.specs.Rows.{version_order, row_shown, is_listed, bucket_rows, entries_of, AreSmallKeys}
+use Rattle.bh_listing.specs.Rows.{version_order, row_shown, is_listed, bucket_rows, AreSmallKeys}
 use Rattle.bh_listing.proofs.ListLemmas.{both2, order_total, not_upto_lt}
+
+-- what is to come of rows of which none is read
+abbrev pub entries_of : Octets → Octets → Option Octets → List Shown → List (Listed ObjectItem)
+entries_of prefix delimiter token rows =
+    to_come (λ (r : Shown). r.0) item_in prefix delimiter (λ (o : ObjectItem). o.key) (after_name (λ (o : ObjectItem). o.key) token) nothing_gathered rows
 
 abbrev shown_pair : Octets × Entry → Shown
 shown_pair p = shown_entry p.0 p.1

@@ -1,5 +1,5 @@
 -- The rows of a bucket's versions in the order of a listing, and what is read of each.
-use Rattle.std.specs.Prelude.{ℕ, pos, Bool, ◌&&◌, ◌<◌, List, [], ◌∷◌, filter, take, Option}
+use Rattle.std.specs.Prelude.{ℕ, pos, Bool, ◌&&◌, ◌<◌, List, [], ◌∷◌, filter, take}
 use Rattle.std.specs.List.{AllByRecursion}
 use Rattle.std.specs.Ordering.{ordering_then, int_cmp}
 use Rattle.std.specs.declared.cmp.Ordering.{Ordering}
@@ -7,9 +7,8 @@ use Rattle.sqlite.specs.declared.types.Value.TheVariants.{Text, Blob}
 use Rattle.sqlite.specs.Order.{Row}
 use Rattle.sqlite_keyed.specs.Lists.{sort_by}
 use Rattle.sqlite_typed.specs.Tests.{bytes_cmp, bytes_eq, bytes_le, bytes_lt}
-use Rattle.bh_model.specs.Pages.{Listed, after_name, ObjectItem}
-use Rattle.bh_pages.specs.Gathered.{past_name, to_come, nothing_gathered}
-use Rattle.bh_pages.specs.Seen.{Shown, item_of, item_in}
+use Rattle.bh_pages.specs.Gathered.{past_name}
+use Rattle.bh_pages.specs.Seen.{Shown, item_of}
 use Rattle.bh_tables.specs.Schema.{Octets}
 use Rattle.bh_tables.specs.Typed.{VersionRow, number}
 
@@ -39,8 +38,3 @@ bucket_rows tenant bucket prefix versions = sort_by version_order (filter (is_li
 -- no key has a byte of 255, as no text of UTF-8 has
 abbrev pub AreSmallKeys : List VersionRow → Type 0
 AreSmallKeys versions = AllByRecursion (λ v. AllByRecursion (λ b. b < 255) v.okey) versions
-
--- what a listing of objects may show of these rows, after a marker
-abbrev pub entries_of : Octets → Octets → Option Octets → List Shown → List (Listed ObjectItem)
-entries_of prefix delimiter token rows =
-    to_come (λ (r : Shown). r.0) item_in prefix delimiter (λ o. o.key) (after_name (λ (o : ObjectItem). o.key) token) nothing_gathered rows

@@ -1,5 +1,5 @@
 -- The rows of a listing of versions, and what contracts see of the page that is asked for.
-use Rattle.std.specs.Prelude.{◌≡◌, ℕ, pos, Bool, true, false, ◌&&◌, int_lt, List, [], ◌∷◌, map, filter, take, Option, Some, None, option_map, if◌then◌else◌}
+use Rattle.std.specs.Prelude.{ℕ, pos, Bool, false, ◌&&◌, int_lt, List, [], ◌∷◌, map, filter, take, Option, Some, None, option_map, if◌then◌else◌}
 use Rattle.sqlite.specs.declared.types.Value.TheVariants.{Text, Blob}
 use Rattle.sqlite.specs.Order.{Row}
 use Rattle.sqlite_keyed.specs.Lists.{sort_by}
@@ -7,7 +7,7 @@ use Rattle.sqlite_typed.specs.Tests.{bytes_eq}
 use Rattle.bh_types.specs.declared.id.VersionId.{VersionId}
 use Rattle.bh_types.specs.declared.wanted.Wanted.{Wanted}
 use Rattle.bh_types.specs.declared.wanted.Wanted.TheVariants.{Current, Named, Unknown}
-use Rattle.bh_model.specs.Pages.{Listed, VersionItem, VersionPlace, begins, is_upto, versions_after, entries_after, passes_version}
+use Rattle.bh_model.specs.Pages.{Listed, VersionItem, VersionPlace, begins, versions_after, entries_after, passes_version}
 use Rattle.bh_pages.specs.Gathered.{start_of}
 use Rattle.bh_pages.specs.Seen.{token_of}
 use Rattle.bh_pages.specs.Versions.{Numbered, row_key, Place, at_key, after_entry, is_from, nothing_after, versions_to_come, id_in, stored_of, items_next, seen_place}
@@ -67,11 +67,6 @@ past_marker asked = record { place = at_key (start_of asked.prefix.now (token_of
 -- after an entry of a key
 abbrev pub past_entry : Octets → ℕ → Beginning
 past_entry key seq = record { place = after_entry key seq; key = Some key }
-
--- no earlier than the prefix, or after an entry of a key under it
-abbrev pub IsUnder : Octets → Octets → Option ℕ → Type 0
-IsUnder prefix key None = is_upto prefix key ≡ true
-IsUnder prefix key (Some seq) = begins prefix key ≡ true
 
 -- the marker's key and an id, where the page comes after one version of a key under the prefix
 abbrev pub marked : Octets → Option Octets → Wanted → Option (Octets × VersionId)

@@ -1,13 +1,15 @@
 //! The objects of a bucket, a page at a time.
 
-ghost use Rattle.std.specs.Prelude.{◌≡◌, suc, map, take, IfOk, OnOk};
+ghost use Rattle.std.specs.Prelude.{map, IfOk, OnOk};
 ghost use Rattle.bh_schema.specs.Connections.{IsClean, tables, StaysWithin, StaysOpen, ChangesNothing};
 ghost use Rattle.bh_schema.specs.Working.{Works, StillWorks};
 ghost use Rattle.bh_model.specs.Listings.{list_objects};
 ghost use Rattle.bh_model.specs.Operations.{Objects};
 ghost use Rattle.bh_storage.specs.Calls.{Unless, Carries};
+ghost use Rattle.bh_pages.specs.Gathered.{IsPage};
+ghost use Rattle.bh_pages.specs.Reading.{listing};
 ghost use Rattle.bh_pages.specs.Seen.{seen_entry, token_of};
-ghost use Rattle.bh_listing.specs.Rows.{row_shown, bucket_rows, entries_of};
+ghost use Rattle.bh_listing.specs.Rows.{row_shown, bucket_rows};
 ghost use Rattle.bh_docs.specs.Pages.{page_view};
 ghost use Rattle.bh_listing.specs.Told.{asked_view};
 
@@ -37,9 +39,9 @@ fn gather_objects<S: Alter>(
     ensures opens { OnOk result (StaysOpen S.Store connection.old connection.new) }
     ensures same { OnOk result (ChangesNothing S.Store connection.old connection.new) }
     ensures gathered { IfOk result (λ entries. IsClean S.Store connection.new
-        → map seen_entry entries.items ≡ take (suc asked.now.max)
-        (entries_of asked.now.prefix.now asked.now.delimiter.now (token_of asked.now)
-        (map row_shown (bucket_rows tenant.now bucket.now asked.now.prefix.now (tables S.Store connection.old).versions)))) }
+        → IsPage asked.now.max (map seen_entry entries.items)
+        (listing asked.now (map row_shown
+        (bucket_rows tenant.now bucket.now asked.now.prefix.now (tables S.Store connection.old).versions)))) }
 {
     let upto = past(alloc, asked.prefix, 255)?;
     let mut reading = Reading::begin(alloc, asked)?;

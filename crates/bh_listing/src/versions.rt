@@ -1,6 +1,6 @@
 //! The versions and delete markers of a bucket, a page at a time.
 
-ghost use Rattle.std.specs.Prelude.{◌≡◌, suc, map, option_map, take, Some, IfOk, OnOk};
+ghost use Rattle.std.specs.Prelude.{◌≡◌, map, option_map, Some, IfOk, OnOk};
 ghost use Rattle.bh_types.specs.declared.wanted.Wanted.TheVariants.{Named};
 ghost use Rattle.bh_view.specs.Wanted.{wanted_row};
 ghost use Rattle.bh_schema.specs.Connections.{IsClean, tables, StaysWithin, StaysOpen, ChangesNothing};
@@ -9,10 +9,12 @@ ghost use Rattle.bh_model.specs.Listings.{list_versions};
 ghost use Rattle.bh_model.specs.Operations.{Versions};
 ghost use Rattle.bh_storage.specs.Calls.{Unless, Carries};
 ghost use Rattle.bh_pages.specs.Seen.{token_of};
+ghost use Rattle.bh_pages.specs.Places.{IsUnder};
+ghost use Rattle.bh_pages.specs.Gathered.{IsPage};
 ghost use Rattle.bh_pages.specs.Versions.{seen_entry};
 ghost use Rattle.bh_docs.specs.Pages.{versions_view};
 ghost use Rattle.bh_listing.specs.Told.{asked_view};
-ghost use Rattle.bh_listing.specs.Versions.{own_rows, versions_of_rows, listed_from, seen_start, past_marker, past_entry, marked, IsUnder, place_view};
+ghost use Rattle.bh_listing.specs.Versions.{own_rows, versions_of_rows, listed_from, seen_start, past_marker, past_entry, marked, place_view};
 
 use crate::lines::lines_at;
 use crate::told_versions::told_versions;
@@ -151,7 +153,7 @@ fn gather_versions<S: Alter>(
     ensures opens { OnOk result (StaysOpen S.Store connection.old connection.new) }
     ensures same { OnOk result (ChangesNothing S.Store connection.old connection.new) }
     ensures gathered { IfOk result (λ entries. IsClean S.Store connection.new
-        → map seen_entry entries.items ≡ take (suc asked.now.max)
+        → IsPage asked.now.max (map seen_entry entries.items)
         (listed_from asked.now (seen_start start) (own_rows tenant.now bucket.now (tables S.Store connection.old).versions))) }
 {
     let upto = past(alloc, asked.prefix, 255)?;
@@ -188,7 +190,7 @@ fn page_entries<S: Alter>(
     ensures opens { OnOk result (StaysOpen S.Store connection.old connection.new) }
     ensures same { OnOk result (ChangesNothing S.Store connection.old connection.new) }
     ensures gathered { IfOk result (λ entries. IsClean S.Store connection.new
-        → map seen_entry entries.items ≡ take (suc asked.now.max)
+        → IsPage asked.now.max (map seen_entry entries.items)
         (versions_of_rows asked.now version (own_rows tenant.now bucket.now (tables S.Store connection.old).versions))) }
 {
     let start = start_of(connection, alloc, tenant, bucket, asked, version)?;

@@ -13,8 +13,8 @@ use Rattle.bh_model.specs.Uploads.{find_upload}
 -- Amazon S3 API Reference, ListObjectsV2
 abbrev pub objects_listed : Octets → Asked → Option Octets → Option State → Result ObjectsListed Refusal
 objects_listed name asked token s = do
-  f ← tenant_bucket name s
-  Ok (objects_told name asked (objects_page asked token (entries f.1.objects)))
+  (_, b) ← tenant_bucket name s
+  Ok (objects_told name asked (objects_page asked token (entries b.objects)))
 
 abbrev pub list_objects : Octets → Asked → Option Octets → Option State → Result Outcome Refusal
 list_objects name asked token s = do
@@ -25,8 +25,8 @@ list_objects name asked token s = do
 -- Amazon S3 API Reference, ListObjectVersions
 abbrev pub versions_listed : Octets → Asked → Option VersionPlace → Option State → Result VersionsListed Refusal
 versions_listed name asked marker s = do
-  f ← tenant_bucket name s
-  Ok (versions_told name asked (versions_page asked marker (entries f.1.objects)))
+  (_, b) ← tenant_bucket name s
+  Ok (versions_told name asked (versions_page asked marker (entries b.objects)))
 
 abbrev pub list_versions : Octets → Asked → Option VersionPlace → Option State → Result Outcome Refusal
 list_versions name asked marker s = do
@@ -37,8 +37,8 @@ list_versions name asked marker s = do
 -- Amazon S3 API Reference, ListMultipartUploads
 abbrev pub uploads_listed : Octets → Asked → Option UploadPlace → Option State → Result UploadsListed Refusal
 uploads_listed name asked marker s = do
-  f ← tenant_bucket name s
-  Ok (uploads_told name asked (uploads_page asked marker (entries f.1.uploads)))
+  (_, b) ← tenant_bucket name s
+  Ok (uploads_told name asked (uploads_page asked marker (entries b.uploads)))
 
 abbrev pub list_uploads : Octets → Asked → Option UploadPlace → Option State → Result Outcome Refusal
 list_uploads name asked marker s = do

@@ -135,9 +135,9 @@ head_bucket name s = do
 -- Amazon S3 API Reference, DeleteBucket; uploads keep a bucket too
 abbrev pub delete_bucket : Octets → Option State → Result Outcome Refusal
 delete_bucket name s = do
-  f ← tenant_bucket name s
-  _ ← require (is_empty f.1.objects && is_empty f.1.uploads) BucketNotEmpty
-  Ok (Removed None false, Some (record f.0 { buckets = remove f.0.buckets name }))
+  (t, b) ← tenant_bucket name s
+  _ ← require (is_empty b.objects && is_empty b.uploads) BucketNotEmpty
+  Ok (Removed None false, Some (record t { buckets = remove t.buckets name }))
 
 -- what a tenant uses, as it or the operator asks for it
 abbrev pub tell_usage : Option State → Result Outcome Refusal
@@ -176,36 +176,36 @@ list_buckets s = Ok (Buckets (option_map_or bucket_list s []), s)
 -- Amazon S3 API Reference, GetBucketVersioning
 abbrev pub get_versioning : Octets → Option State → Result Outcome Refusal
 get_versioning name s = do
-  f ← tenant_bucket name s
-  Ok (Versioning f.1.mode, s)
+  (_, b) ← tenant_bucket name s
+  Ok (Versioning b.mode, s)
 
 -- Amazon S3 API Reference, PutBucketVersioning
 abbrev pub put_versioning : Octets → BucketState → Option State → Result Outcome Refusal
 put_versioning name mode s = do
-  f ← tenant_bucket name s
-  _ ← require (keeps_versions f.1.locked mode) InvalidBucketState
-  Ok (Done, Some (with_bucket name (record f.1 { mode = mode }) f.0))
+  (t, b) ← tenant_bucket name s
+  _ ← require (keeps_versions b.locked mode) InvalidBucketState
+  Ok (Done, Some (with_bucket name (record b { mode = mode }) t))
 
 -- Amazon S3 API Reference, GetBucketLifecycleConfiguration
 abbrev pub get_lifecycle : Octets → Option State → Result Outcome Refusal
 get_lifecycle name s = do
-  f ← tenant_bucket name s
-  days ← ok_or f.1.days NoSuchLifecycleConfiguration
+  (_, b) ← tenant_bucket name s
+  days ← ok_or b.days NoSuchLifecycleConfiguration
   Ok (Lifecycle days, s)
 
 -- the rule makes uploads stale that were begun before it, too
 -- Amazon S3 API Reference, PutBucketLifecycleConfiguration
 abbrev pub put_lifecycle : Octets → ℕ → Option State → Result Outcome Refusal
 put_lifecycle name days s = do
-  f ← tenant_bucket name s
-  Ok (Done, Some (with_bucket name (record f.1 { days = Some days }) f.0))
+  (t, b) ← tenant_bucket name s
+  Ok (Done, Some (with_bucket name (record b { days = Some days }) t))
 
 -- a bucket without a rule stays as it is
 -- Amazon S3 API Reference, DeleteBucketLifecycle
 abbrev pub delete_lifecycle : Octets → Option State → Result Outcome Refusal
 delete_lifecycle name s = do
-  f ← tenant_bucket name s
-  Ok (Removed None false, Some (with_bucket name (record f.1 { days = None }) f.0))
+  (t, b) ← tenant_bucket name s
+  Ok (Removed None false, Some (with_bucket name (record b { days = None }) t))
 
 -- the bucket with a new entry in front of its key's, whose id depends on the next version number
 abbrev pub with_content : ℕ → Octets → ℕ → Content → Bucket → Bucket
@@ -230,12 +230,12 @@ with_new_date key next date b = with_date key (new_id b.mode next) date b
 -- Amazon S3 API Reference, PutObject
 abbrev pub put_object : ℕ → Octets → Octets → Octets → Option Octets → Option (Option ℕ) → Option State → Result Outcome Refusal
 put_object moment name key bytes given date s = do
-  f ← tenant_bucket name s
+  (t, b) ← tenant_bucket name s
   _ ← require (is_checksum given bytes) BadDigest
-  until ← first_date f.1.locked date moment
-  _ ← require_quota name (with_object moment key f.0.next_version bytes f.1) f.0
-  c ← after_entry f.1.mode (counts f.0)
-  Ok (stored bytes f.0.next_version f.1, Some (with_bucket name (with_new_date key f.0.next_version until (with_object moment key f.0.next_version bytes f.1)) (with_counts c f.0)))
+  until ← first_date b.locked date moment
+  _ ← require_quota name (with_object moment key t.next_version bytes b) t
+  c ← after_entry b.mode (counts t)
+  Ok (stored bytes t.next_version b, Some (with_bucket name (with_new_date key t.next_version until (with_object moment key t.next_version bytes b)) (with_counts c t)))
 
 -- which marker was met, by how its version was asked for
 abbrev pub marker_met : Refusal → Detail
@@ -253,9 +253,9 @@ found_version key wanted b = result_map_both (λ v. v) not_found (lookup wanted 
 -- with its bucket
 abbrev pub wanted_version : Octets → Octets → Wanted → Option State → Result (Bucket × Version) Rejection
 wanted_version name key wanted s = do
-  f ← plainly (tenant_bucket name s)
-  v ← found_version key wanted f.1
-  Ok (f.1, v)
+  (_, b) ← plainly (tenant_bucket name s)
+  v ← found_version key wanted b
+  Ok (b, v)
 
 -- a delete marker is no source of a copy: where it is named by its id, the request is at fault
 abbrev pub source_refusal : Refusal → Refusal
@@ -279,12 +279,12 @@ copied moment v next b = Copied (id_told b.mode (new_id b.mode next)) moment v.c
 -- Amazon S3 API Reference, CopyObject
 abbrev pub copy_object : ℕ → Octets → Octets → Octets → Octets → Wanted → Option (Option ℕ) → Option State → Result Outcome Refusal
 copy_object moment name key source_name source_key wanted date s = do
-  f ← tenant_bucket name s
+  (t, b) ← tenant_bucket name s
   v ← source_version source_name source_key wanted s
-  until ← first_date f.1.locked date moment
-  _ ← require_quota name (with_copy moment key f.0.next_version v f.1) f.0
-  c ← after_entry f.1.mode (counts f.0)
-  Ok (copied moment v f.0.next_version f.1, Some (with_bucket name (with_new_date key f.0.next_version until (with_copy moment key f.0.next_version v f.1)) (with_counts c f.0)))
+  until ← first_date b.locked date moment
+  _ ← require_quota name (with_copy moment key t.next_version v b) t
+  c ← after_entry b.mode (counts t)
+  Ok (copied moment v t.next_version b, Some (with_bucket name (with_new_date key t.next_version until (with_copy moment key t.next_version v b)) (with_counts c t)))
 
 -- a range in which no byte is tells the object's size
 abbrev pub out_of_range : ℕ → Refusal → Rejection
@@ -300,16 +300,16 @@ shown b v plan = Object (id_told b.mode v.id) (length v.bytes) plan (cut plan v.
 -- Amazon S3 API Reference, GetObject
 abbrev pub get_object : Octets → Octets → Wanted → Option Octets → Option State → Result Outcome Rejection
 get_object name key wanted range s = do
-  f ← wanted_version name key wanted s
-  plan ← planned range (length f.1.bytes)
-  Ok (shown f.0 f.1 plan, s)
+  (b, v) ← wanted_version name key wanted s
+  plan ← planned range (length v.bytes)
+  Ok (shown b v plan, s)
 
 -- a range is not looked at
 -- Amazon S3 API Reference, HeadObject
 abbrev pub head_object : Octets → Octets → Wanted → Option State → Result Outcome Rejection
 head_object name key wanted s = do
-  f ← wanted_version name key wanted s
-  Ok (Head (id_told f.0.mode f.1.id) (length f.1.bytes) f.1.checksum, s)
+  (b, v) ← wanted_version name key wanted s
+  Ok (Head (id_told b.mode v.id) (length v.bytes) v.checksum, s)
 
 -- ---- what a delete tells: the id of the marker that it made, or of the entry that it took out by its id
 
@@ -334,10 +334,10 @@ with_deleted moment key wanted next b = without_date key wanted (with_entries ke
 -- Amazon S3 API Reference, DeleteObject
 abbrev pub delete_object : ℕ → Octets → Octets → Wanted → Option State → Result Outcome Refusal
 delete_object moment name key wanted s = do
-  f ← tenant_bucket name s
-  _ ← require (may_go (named_date key wanted f.1) moment) AccessDenied
-  c ← after_delete f.1.mode wanted (counts f.0)
-  Ok (removed f.1.mode wanted f.0.next_version (listed key f.1), Some (with_bucket name (with_deleted moment key wanted f.0.next_version f.1) (with_counts c f.0)))
+  (t, b) ← tenant_bucket name s
+  _ ← require (may_go (named_date key wanted b) moment) AccessDenied
+  c ← after_delete b.mode wanted (counts t)
+  Ok (removed b.mode wanted t.next_version (listed key b), Some (with_bucket name (with_deleted moment key wanted t.next_version b) (with_counts c t)))
 
 -- ---- retention
 
@@ -345,13 +345,13 @@ delete_object moment name key wanted s = do
 -- Amazon S3 API Reference, GetObjectRetention
 abbrev pub get_retention : Octets → Octets → Wanted → Option State → Result Outcome Rejection
 get_retention name key wanted s = do
-  f ← wanted_version name key wanted s
-  Ok (Retention (date_of key f.1.id f.0), s)
+  (b, v) ← wanted_version name key wanted s
+  Ok (Retention (date_of key v.id b), s)
 
 -- Amazon S3 API Reference, PutObjectRetention
 abbrev pub put_retention : ℕ → Octets → Octets → Wanted → ℕ → Option State → Result Outcome Rejection
 put_retention moment name key wanted date s = do
-  f ← plainly (tenant_bucket name s)
-  v ← found_version key wanted f.1
-  _ ← plainly (may_retain (can_retain f.1.locked v.id) (date_of key v.id f.1) (Some date) moment)
-  Ok (Done, Some (with_bucket name (with_date key v.id (Some date) f.1) f.0))
+  (t, b) ← plainly (tenant_bucket name s)
+  v ← found_version key wanted b
+  _ ← plainly (may_retain (can_retain b.locked v.id) (date_of key v.id b) (Some date) moment)
+  Ok (Done, Some (with_bucket name (with_date key v.id (Some date) b) t))

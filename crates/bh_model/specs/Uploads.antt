@@ -54,8 +54,8 @@ found_upload key (Some id) t b =
 -- where the text that a request gives is no id, no upload has it
 abbrev pub find_upload : Octets → Octets → Option UploadId → Option State → Result FoundUpload Refusal
 find_upload name key upload s = do
-  f ← tenant_bucket name s
-  ok_or (found_upload key upload f.0 f.1) NoSuchUpload
+  (t, b) ← tenant_bucket name s
+  ok_or (found_upload key upload t b) NoSuchUpload
 
 -- ---- operations
 
@@ -65,9 +65,9 @@ new_upload key begun = record { key = key; begun = begun; parts = empty }
 -- Amazon S3 API Reference, CreateMultipartUpload: x-amz-abort-date
 abbrev pub create_upload : ℕ → Octets → Octets → Option State → Result Outcome Refusal
 create_upload moment name key s = do
-  f ← tenant_bucket name s
-  c ← after_begin (counts f.0)
-  Ok (Begun name key (record { number = f.0.next_upload }) (option_map (abort_moment moment) f.1.days), Some (with_bucket name (with_upload f.0.next_upload (new_upload key moment) f.1) (with_counts c f.0)))
+  (t, b) ← tenant_bucket name s
+  c ← after_begin (counts t)
+  Ok (Begun name key (record { number = t.next_upload }) (option_map (abort_moment moment) b.days), Some (with_bucket name (with_upload t.next_upload (new_upload key moment) b) (with_counts c t)))
 
 -- the bucket of an upload with one more part in it, in place of one of the same number
 abbrev pub with_stored : FoundUpload → ℕ → Part → Bucket

@@ -7,9 +7,9 @@ use Rattle.std.proofs.Math.Seq.{take-append_seam}
 use Rattle.std.proofs.lemmas.Bool.Decides.{nat_tests}
 use Rattle.bh_model.specs.State.{Octets}
 use Rattle.bh_model.specs.Pages.{Listed, Listed.Common, is_name, is_upto, begins, rolled}
-use Rattle.bh_pages.specs.Gathered.{Gathered, with_row, with_rows, to_come, rows_from, place_after, place_past, past_key, past_name}
+use Rattle.bh_pages.specs.Gathered.{InOrder, Gathered, with_row, with_rows, to_come, rows_from, place_after, place_past, past_key, past_name}
 use Rattle.bh_pages.proofs.Bytes.{upto_trans, upto_begun, upto_past_key, upto_other, before_past_name, rolled_begins, some_same}
-use Rattle.bh_pages.proofs.Skipping.{InOrder, rows_step, rows_key, turned_key, place_step}
+use Rattle.bh_pages.proofs.Skipping.{rows_step, rows_all, rows_key, turned_key, place_step}
 
 module _ {R : Type 0} (row_key : R → Octets) where
   pub all_filter : (P : R → Type 0) (p : R → Bool) (rows : List R) → AllByRecursion P rows → AllByRecursion P (filter p rows)
@@ -71,7 +71,7 @@ module _ {R T : Type 0} (row_key : R → Octets) (item : R → Option T) (prefix
       go (Some p) is = elim (is_name p g.name || not (passes (Common p))) as (λ t. is_upto prefix (cond t (past_name p) (past_key j)) ≡ true) [ true ↦ by_name p is | false ↦ by_key ]
 
   module _ (max : ℕ) (full : List (Listed T)) (g : Gathered T) (at0 : Octets) (n : ℕ)
-      (inv : take (suc max) full ≡ take (suc max) (g.entries ++ come g (rows_from row_key at0 rows))) (short : length g.entries ≤ suc max) where
+      (inv : full ≡ g.entries ++ come g (rows_from row_key at0 rows)) (short : length g.entries ≤ suc max) where
     abbrev chunk : List R
     chunk = take n (rows_from row_key at0 rows)
 
@@ -81,10 +81,13 @@ module _ {R T : Type 0} (row_key : R → Octets) (item : R → Option T) (prefix
     split : chunk ++ rest ≡ rows_from row_key at0 rows
     split = take-append-drop n (rows_from row_key at0 rows)
 
+    parted : full ≡ g.entries ++ come g (chunk ++ rest)
+    parted = inv ∙ ap (λ l. g.entries ++ come g l) (sym split)
+
     stepped : (take (suc max) full ≡ take (suc max) ((rowed max g chunk).entries ++ come (rowed max g chunk) rest)) × (length (rowed max g chunk).entries ≤ suc max)
     stepped =
         let it = rows_step row_key item prefix delimiter item_key passes max g chunk rest short in
-        (inv ∙ ap (λ l. take (suc max) (g.entries ++ come g l)) (sym split) ∙ it.0, it.1)
+        (ap (take (suc max)) parted ∙ it.0, it.1)
 
     pub chunk_short : length (rowed max g chunk).entries ≤ suc max
     chunk_short = stepped.1
@@ -111,9 +114,9 @@ module _ {R T : Type 0} (row_key : R → Octets) (item : R → Option T) (prefix
 
     -- or reading goes on from that place
     pub chunk_next : length (rowed max g chunk).entries ≤ max → (j : Octets) → (rowed max g chunk).key ≡ Some j → length chunk ≢ 0
-        → take (suc max) full ≡ take (suc max) ((rowed max g chunk).entries ++ come (rowed max g chunk) (rows_from row_key (place (rowed max g chunk) j) rows))
+        → full ≡ (rowed max g chunk).entries ++ come (rowed max g chunk) (rows_from row_key (place (rowed max g chunk) j) rows)
     chunk_next few j is some =
-        stepped.0 ∙ ap (λ l. take (suc max) ((rowed max g chunk).entries ++ l)) (first chunk split is some few (chunk_in_order))
+        parted ∙ rows_all row_key item prefix delimiter item_key passes max g chunk rest few ∙ ap (λ l. (rowed max g chunk).entries ++ l) (first chunk split is some few (chunk_in_order))
       where
         chunk_in_order : InOrder row_key (rows_from row_key at0 rows)
         chunk_in_order = order_filter row_key (λ r. is_upto at0 (row_key r)) rows up

@@ -76,6 +76,17 @@ module _ {T : Type 0} (by_number : ℕ → ℕ → Ordering) (numbers : IsTotalO
           let small : length (turn g x).entries ≤ suc max = fits max (length g.entries) (length (turn g x).entries) e (item_grown g x) in
           (ap (take (suc max)) (item_step g x (chunk ++ rest)) ∙ (more small).0, (more small).1)
 
+  -- a page that has room has taken them all
+  items_all : (max : ℕ) (g : Gathered T) (chunk rest : List T) → length (gathered max g chunk).entries ≤ max → g.entries ++ come g (chunk ++ rest) ≡ (gathered max g chunk).entries ++ come (gathered max g chunk) rest
+  items_all max g [] rest few = refl
+  items_all max g (x ∷ chunk) rest few = go (nat_lt max (length g.entries)) refl few (items_all max (turn g x) chunk rest)
+    where
+      go : (t : Bool) → nat_lt max (length g.entries) ≡ t → length (cond t g (gathered max (turn g x) chunk)).entries ≤ max
+          → (length (gathered max (turn g x) chunk).entries ≤ max → (turn g x).entries ++ come (turn g x) (chunk ++ rest) ≡ (gathered max (turn g x) chunk).entries ++ come (gathered max (turn g x) chunk) rest)
+          → g.entries ++ come g (x ∷ (chunk ++ rest)) ≡ (cond t g (gathered max (turn g x) chunk)).entries ++ come (cond t g (gathered max (turn g x) chunk)) rest
+      go true e few more = absurd (over max (length g.entries) e few)
+      go false e few more = item_step g x (chunk ++ rest) ∙ more few
+
   -- ---- after the last item of a chunk that leaves room, its rolled-up name is listed or not let through
 
   abbrev IsDone : Octets → Option Octets → Type 0
@@ -165,8 +176,7 @@ module _ {T : Type 0} (by_number : ℕ → ℕ → Ordering) (numbers : IsTotalO
 
     -- the items that are read at a place: later ones of a key, or all
     abbrev pub items_at : Octets → Option ℕ → List T
-    items_at key None = from (at_key key)
-    items_at key (Some n) = filter (is_behind key n) items
+    items_at key after = places.rows_at by_number item_key number key after items
 
     abbrev left_over : ℕ → Octets → Option ℕ → List T
     left_over n key None = drop n (from (at_key key))
@@ -182,15 +192,15 @@ module _ {T : Type 0} (by_number : ℕ → ℕ → Ordering) (numbers : IsTotalO
         ∙ ap (λ l. l ++ from (at_key (past_key key))) (take-append-drop n (filter (is_behind key m) items)) ∙ sym (behind_split by_number numbers item_key number key m items up)
 
     module _ (max : ℕ) (full : List (Listed T)) (g : Gathered T) (key : Octets) (after : Option ℕ) (n : ℕ)
-        (inv : take (suc max) full ≡ take (suc max) (g.entries ++ come g (from (placed key after)))) (short : length g.entries ≤ suc max) where
+        (inv : full ≡ g.entries ++ come g (from (placed key after))) (short : length g.entries ≤ suc max) where
       abbrev chunk : List T
       chunk = take n (items_at key after)
 
-      stepped : (take (suc max) full ≡ take (suc max) ((gathered max g chunk).entries ++ come (gathered max g chunk) (left_over n key after))) × (length (gathered max g chunk).entries ≤ suc max)
-      stepped = let it = items_step max g chunk (left_over n key after) short in (inv ∙ ap (λ l. take (suc max) (g.entries ++ come g l)) (sym (split n key after)) ∙ it.0, it.1)
+      parted : full ≡ g.entries ++ come g (chunk ++ left_over n key after)
+      parted = inv ∙ ap (λ l. g.entries ++ come g l) (sym (split n key after))
 
-      pub chunk_short : length (gathered max g chunk).entries ≤ suc max
-      chunk_short = stepped.1
+      stepped : (take (suc max) full ≡ take (suc max) ((gathered max g chunk).entries ++ come (gathered max g chunk) (left_over n key after))) × (length (gathered max g chunk).entries ≤ suc max)
+      stepped = let it = items_step max g chunk (left_over n key after) short in (ap (take (suc max)) parted ∙ it.0, it.1)
 
       -- the page is full
       pub chunk_full : max < length (gathered max g chunk).entries → take (suc max) full ≡ (gathered max g chunk).entries
@@ -215,8 +225,8 @@ module _ {T : Type 0} (by_number : ℕ → ℕ → Ordering) (numbers : IsTotalO
           nothing (Some m) is few = absurd (none_some (sym is))
 
       -- no later items of the key are left
-      pub chunk_past : (m : ℕ) → after ≡ Some m → length chunk < n → take (suc max) full ≡ take (suc max) ((gathered max g chunk).entries ++ come (gathered max g chunk) (from (at_key (past_key key))))
-      chunk_past m is few = stepped.0 ∙ ap (λ l. take (suc max) ((gathered max g chunk).entries ++ come (gathered max g chunk) l)) (keys after is few)
+      pub chunk_past : length (gathered max g chunk).entries ≤ max → (m : ℕ) → after ≡ Some m → length chunk < n → full ≡ (gathered max g chunk).entries ++ come (gathered max g chunk) (from (at_key (past_key key)))
+      chunk_past room m is few = parted ∙ items_all max g chunk (left_over n key after) room ∙ ap (λ l. (gathered max g chunk).entries ++ come (gathered max g chunk) l) (keys after is few)
         where
           keys : (o : Option ℕ) → o ≡ Some m → length (take n (items_at key o)) < n → left_over n key o ≡ from (at_key (past_key key))
           keys None is few = absurd (none_some is)
@@ -224,7 +234,7 @@ module _ {T : Type 0} (by_number : ℕ → ℕ → Ordering) (numbers : IsTotalO
 
       -- or reading goes on past the last item
       pub chunk_on : (x : T) → last_of chunk ≡ Some x → length (gathered max g chunk).entries ≤ max → (begins prefix (item_key x) ≡ true) × AllByRecursion (λ b. b < 255) (item_key x)
-          → take (suc max) full ≡ take (suc max) ((gathered max g chunk).entries ++ come (gathered max g chunk) (from (past_row (item_key x) (number x) (rolled prefix delimiter (item_key x)))))
+          → full ≡ (gathered max g chunk).entries ++ come (gathered max g chunk) (from (past_row (item_key x) (number x) (rolled prefix delimiter (item_key x))))
       chunk_on x last few good =
-          stepped.0 ∙ ap (λ l. take (suc max) ((gathered max g chunk).entries ++ l))
+          parted ∙ items_all max g chunk (left_over n key after) few ∙ ap (λ l. (gathered max g chunk).entries ++ l)
           (next_is (placed key after) chunk (left_over n key after) x (gathered max g chunk) (split n key after) last (last_turned max g chunk x last few) good)

@@ -7,13 +7,8 @@ use Rattle.std.proofs.lemmas.Bool.Decides.{nat_tests}
 use Rattle.std.proofs.lemmas.List.Elements.{filter-append}
 use Rattle.bh_model.specs.State.{Octets}
 use Rattle.bh_model.specs.Pages.{Listed, Listed.Single, Listed.Common, is_name, is_upto, same, begins, rolled, as_listed, joined, entry_of}
-use Rattle.bh_pages.specs.Gathered.{Gathered, in_front, with_entry, with_item, with_row, items_after, to_come, rows_from, with_rows, place_past, place_after, past_key, past_name}
+use Rattle.bh_pages.specs.Gathered.{InOrder, Gathered, in_front, with_entry, with_item, with_row, items_after, to_come, rows_from, with_rows, place_past, place_after, past_key, past_name}
 use Rattle.bh_pages.proofs.Bytes.{upto_trans, upto_self, not_upto, from_past_key, past_key_above, begins_between, before_past_name, rolled_begins, rolled_again, upto_past_key, same_is, upto_begun, upto_other, before_past_key}
-
--- in the order of their keys
-abbrev pub InOrder : {R : Type 0} → (R → Octets) → List R → Type 0
-InOrder key [] = Unit {0}
-InOrder key (r ∷ rows) = AllByRecursion (λ s. is_upto (key r) (key s) ≡ true) rows × InOrder key rows
 
 module _ {R T : Type 0} (row_key : R → Octets) (item : R → Option T) (prefix delimiter : Octets) (item_key : T → Octets) (passes : Listed T → Bool) where
   abbrev come : Gathered T → List R → List (Listed T)
@@ -229,6 +224,20 @@ module _ {R T : Type 0} (row_key : R → Octets) (item : R → Option T) (prefix
         where
           fits : (a b : ℕ) → nat_lt max a ≡ false → b ≤ suc a → b ≤ suc max
           fits a b h k = grind (arith, nat_tests, h, k)
+
+  -- a page that has room has taken them all
+  pub rows_all : (max : ℕ) (g : Gathered T) (chunk rest : List R) → length (rowed max g chunk).entries ≤ max → g.entries ++ come g (chunk ++ rest) ≡ (rowed max g chunk).entries ++ come (rowed max g chunk) rest
+  rows_all max g [] rest few = refl
+  rows_all max g (r ∷ chunk) rest few = go (nat_lt max (length g.entries)) refl few (rows_all max (turn g r) chunk rest)
+    where
+      go : (t : Bool) → nat_lt max (length g.entries) ≡ t → length (cond t g (rowed max (turn g r) chunk)).entries ≤ max
+          → (length (rowed max (turn g r) chunk).entries ≤ max → (turn g r).entries ++ come (turn g r) (chunk ++ rest) ≡ (rowed max (turn g r) chunk).entries ++ come (rowed max (turn g r) chunk) rest)
+          → g.entries ++ come g (r ∷ (chunk ++ rest)) ≡ (cond t g (rowed max (turn g r) chunk)).entries ++ come (cond t g (rowed max (turn g r) chunk)) rest
+      go true e few more = absurd (over max (length g.entries) e few)
+        where
+          over : (a b : ℕ) → nat_lt a b ≡ true → b ≤ a → ⊥
+          over a b h k = grind (arith, nat_tests, h, k)
+      go false e few more = row_step g r (chunk ++ rest) ∙ more few
 
   -- the last key of the rows that were taken, if the page is not full
   pub rows_key : (max : ℕ) (g : Gathered T) (k : Octets) (chunk rest : List R) → g.key ≡ Some k → InOrder row_key (chunk ++ rest) → AllByRecursion (λ r. is_upto k (row_key r) ≡ true) (chunk ++ rest)

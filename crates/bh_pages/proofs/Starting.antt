@@ -5,9 +5,9 @@ use Rattle.std.specs.Ordering.{is_le, is_lt, ordering_reverse}
 use Rattle.std.proofs.lemmas.Cmp.{nat_list_cmp_total}
 use Rattle.bh_model.specs.State.{Octets, octets_cmp}
 use Rattle.bh_model.specs.Pages.{Listed, begins, is_before, is_upto, same, rolled, as_listed, after_name, name_of, entry_of}
-use Rattle.bh_pages.specs.Gathered.{nothing_gathered, to_come, rows_from, past_key, start_of}
+use Rattle.bh_pages.specs.Gathered.{InOrder, nothing_gathered, to_come, rows_from, past_key, start_of}
 use Rattle.bh_pages.proofs.Bytes.{upto_trans, upto_begun, upto_other, upto_self, from_past_key, rolled_begins, same_is, upto_past_key}
-use Rattle.bh_pages.proofs.Skipping.{InOrder, AreIdle, not_passed, rows_skipped, all_from}
+use Rattle.bh_pages.proofs.Skipping.{AreIdle, not_passed, rows_skipped, all_from}
 
 no_less : (o : Ordering) → is_le o ≡ true → is_lt (ordering_reverse o) ≡ false
 no_less Less h = refl

@@ -12,10 +12,10 @@ use Rattle.bh_model.specs.State.{Octets, octets_cmp, Entry}
 use Rattle.bh_model.specs.Entries.{same_id}
 use Rattle.bh_model.specs.Pages.{Listed, VersionItem, VersionPlace, begins, is_upto, is_before, is_name, same, joined, after_id, after_version, versions_after, version_item, all_versions, passes_version, entries_after, key_of}
 use Rattle.bh_pages.specs.Gathered.{past_key, start_of}
-use Rattle.bh_pages.specs.Versions.{Numbered, row_key, spot, is_from, is_older, at_key, after_entry, version_after, items_next, nothing_after, version_entry, versions_to_come}
+use Rattle.bh_pages.specs.Versions.{Numbered, row_key, spot, is_from, is_older, at_key, after_entry, version_after, items_next, nothing_after, version_entry, versions_to_come, IsStrict}
 use Rattle.bh_pages.proofs.Bytes.{upto_begun, same_is}
 use Rattle.bh_pages.proofs.Keyed.{AreOthers, AreApart}
-use Rattle.bh_pages.proofs.VersionRows.{IsStrict, precedes, precedes_key, all_map, filter_none, filter_whole, filter_all, filter_passes, filter_same, filter_swap, filter_twice, strict_filter, before_upto, past_is_after, older_split}
+use Rattle.bh_pages.proofs.VersionRows.{precedes, precedes_key, all_map, filter_none, filter_whole, filter_all, filter_passes, filter_same, filter_swap, filter_twice, strict_filter, before_upto, past_is_after, older_split}
 
 -- ---- keys that a test lets through
 

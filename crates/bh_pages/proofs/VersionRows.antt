@@ -9,7 +9,7 @@ use Rattle.bh_model.specs.State.{Octets}
 use Rattle.bh_model.specs.Pages.{is_upto, same, last_of}
 use Rattle.bh_pages.specs.Gathered.{past_key}
 use Rattle.bh_pages.specs.Places as places
-use Rattle.bh_pages.specs.Versions.{Numbered, row_key, falling, entry_number, Spot, Place, is_from, is_older, at_key, after_entry}
+use Rattle.bh_pages.specs.Versions.{Numbered, row_key, falling, entry_number, IsStrict, Spot, Place, is_from, is_older, at_key, after_entry}
 use Rattle.bh_pages.proofs.Placing as placing
 pub use Rattle.bh_pages.proofs.Filters.{all_map, filter_none, filter_whole, filter_all, filter_passes, filter_narrow, filter_same, filter_swap, filter_twice, all_front, last_all}
 pub use Rattle.bh_pages.proofs.Before.{less_not_same, before_upto, past_is_after}
@@ -19,9 +19,6 @@ falling_total = on_total (λ n. pos n) (back_total int_cmp_total)
 
 abbrev pub precedes : Spot → Spot → Bool
 precedes = places.precedes falling
-
-abbrev pub IsStrict : List Numbered → Type 0
-IsStrict = places.IsStrict falling row_key entry_number
 
 pub not_back : (a b : Spot) → precedes a b ≡ true → precedes b a ≡ false
 not_back = placing.not_back falling falling_total row_key entry_number

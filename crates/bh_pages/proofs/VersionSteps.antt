@@ -10,10 +10,11 @@ use Rattle.std.proofs.Math.Seq.{take-append_seam}
 use Rattle.bh_model.specs.State.{Octets, octets_cmp}
 use Rattle.bh_model.specs.Pages.{Listed, Listed.Common, VersionItem, begins, is_upto, is_before, is_name, same, joined, as_listed, rolled, last_of, passes_version}
 use Rattle.bh_pages.specs.Gathered.{Gathered, with_entry, past_key, past_name}
-use Rattle.bh_pages.specs.Versions.{Numbered, row_key, spot, Place, is_from, is_older, at_key, after_entry, past_row, version_after, items_next, version_entry, with_passing, with_version, with_versions, versions_to_come}
+use Rattle.bh_pages.specs.Versions as spec
+use Rattle.bh_pages.specs.Versions.{Numbered, row_key, spot, Place, IsStrict, is_from, is_older, at_key, after_entry, past_row, version_after, items_next, version_entry, with_passing, with_version, with_versions, versions_to_come}
 use Rattle.bh_pages.proofs.Bytes.{upto_trans, upto_begun, same_is, before_past_name, begins_between, rolled_begins, rolled_again, some_same, none_some}
 use Rattle.bh_pages.proofs.Skipping.{entry_step, key_kept, grown}
-use Rattle.bh_pages.proofs.VersionRows.{IsStrict, precedes_key, all_map, filter_narrow, filter_whole, filter_passes, before_upto, rest_is, older_split, strict_filter}
+use Rattle.bh_pages.proofs.VersionRows.{precedes_key, all_map, filter_narrow, filter_whole, filter_passes, before_upto, rest_is, older_split, strict_filter}
 
 pub over : (a b : ℕ) → nat_lt a b ≡ true → b ≤ a → ⊥
 over a b h k = grind (arith, nat_tests, h, k)
@@ -107,6 +108,17 @@ module _ (prefix delimiter : Octets) (marker : Option Octets) where
       go false e more =
           let small : length (turn g r).entries ≤ suc max = fits max (length g.entries) (length (turn g r).entries) e (row_grown g r) in
           (ap (take (suc max)) (version_step g r (chunk ++ rest)) ∙ (more small).0, (more small).1)
+
+  -- a page that has room has taken them all
+  versions_all : (max : ℕ) (g : Gathered VersionItem) (chunk rest : List Numbered) → length (rowed max g chunk).entries ≤ max → g.entries ++ come g (chunk ++ rest) ≡ (rowed max g chunk).entries ++ come (rowed max g chunk) rest
+  versions_all max g [] rest few = refl
+  versions_all max g (r ∷ chunk) rest few = go (nat_lt max (length g.entries)) refl few (versions_all max (turn g r) chunk rest)
+    where
+      go : (t : Bool) → nat_lt max (length g.entries) ≡ t → length (cond t g (rowed max (turn g r) chunk)).entries ≤ max
+          → (length (rowed max (turn g r) chunk).entries ≤ max → (turn g r).entries ++ come (turn g r) (chunk ++ rest) ≡ (rowed max (turn g r) chunk).entries ++ come (rowed max (turn g r) chunk) rest)
+          → g.entries ++ come g (r ∷ (chunk ++ rest)) ≡ (cond t g (rowed max (turn g r) chunk)).entries ++ come (cond t g (rowed max (turn g r) chunk)) rest
+      go true e few more = absurd (over max (length g.entries) e few)
+      go false e few more = version_step g r (chunk ++ rest) ∙ more few
 
   -- ---- after the last row of a chunk that leaves room, its rolled-up name is listed or not let through
 
@@ -203,8 +215,7 @@ module _ (prefix delimiter : Octets) (marker : Option Octets) where
 
     -- the rows that are read at a place: older ones of a key, or all
     abbrev pub rows_at : Octets → Option ℕ → List Numbered
-    rows_at key None = from (at_key key)
-    rows_at key (Some seq) = filter (is_older key seq) rows
+    rows_at key older = spec.rows_at key older rows
 
     abbrev left_over : ℕ → Octets → Option ℕ → List Numbered
     left_over n key None = drop n (from (at_key key))
@@ -220,15 +231,15 @@ module _ (prefix delimiter : Octets) (marker : Option Octets) where
         ∙ ap (λ l. l ++ from (at_key (past_key key))) (take-append-drop n (filter (is_older key seq) rows)) ∙ sym (older_split key seq rows up)
 
     module _ (max : ℕ) (full : List (Listed VersionItem)) (g : Gathered VersionItem) (key : Octets) (older : Option ℕ) (n : ℕ)
-        (inv : take (suc max) full ≡ take (suc max) (g.entries ++ come g (from (placed key older)))) (short : length g.entries ≤ suc max) where
+        (inv : full ≡ g.entries ++ come g (from (placed key older))) (short : length g.entries ≤ suc max) where
       abbrev chunk : List Numbered
       chunk = take n (rows_at key older)
 
-      stepped : (take (suc max) full ≡ take (suc max) ((rowed max g chunk).entries ++ come (rowed max g chunk) (left_over n key older))) × (length (rowed max g chunk).entries ≤ suc max)
-      stepped = let it = versions_step max g chunk (left_over n key older) short in (inv ∙ ap (λ l. take (suc max) (g.entries ++ come g l)) (sym (split n key older)) ∙ it.0, it.1)
+      parted : full ≡ g.entries ++ come g (chunk ++ left_over n key older)
+      parted = inv ∙ ap (λ l. g.entries ++ come g l) (sym (split n key older))
 
-      pub chunk_short : length (rowed max g chunk).entries ≤ suc max
-      chunk_short = stepped.1
+      stepped : (take (suc max) full ≡ take (suc max) ((rowed max g chunk).entries ++ come (rowed max g chunk) (left_over n key older))) × (length (rowed max g chunk).entries ≤ suc max)
+      stepped = let it = versions_step max g chunk (left_over n key older) short in (ap (take (suc max)) parted ∙ it.0, it.1)
 
       -- the page is full
       pub chunk_full : max < length (rowed max g chunk).entries → take (suc max) full ≡ (rowed max g chunk).entries
@@ -253,8 +264,8 @@ module _ (prefix delimiter : Octets) (marker : Option Octets) where
           nothing (Some seq) is few = absurd (none_some (sym is))
 
       -- no older rows of the key are left
-      pub chunk_past : (seq : ℕ) → older ≡ Some seq → length chunk < n → take (suc max) full ≡ take (suc max) ((rowed max g chunk).entries ++ come (rowed max g chunk) (from (at_key (past_key key))))
-      chunk_past seq is few = stepped.0 ∙ ap (λ l. take (suc max) ((rowed max g chunk).entries ++ come (rowed max g chunk) l)) (keys older is few)
+      pub chunk_past : length (rowed max g chunk).entries ≤ max → (seq : ℕ) → older ≡ Some seq → length chunk < n → full ≡ (rowed max g chunk).entries ++ come (rowed max g chunk) (from (at_key (past_key key)))
+      chunk_past room seq is few = parted ∙ versions_all max g chunk (left_over n key older) room ∙ ap (λ l. (rowed max g chunk).entries ++ come (rowed max g chunk) l) (keys older is few)
         where
           keys : (o : Option ℕ) → o ≡ Some seq → length (take n (rows_at key o)) < n → left_over n key o ≡ from (at_key (past_key key))
           keys None is few = absurd (none_some is)
@@ -262,7 +273,7 @@ module _ (prefix delimiter : Octets) (marker : Option Octets) where
 
       -- or reading goes on past the last row
       pub chunk_on : (r : Numbered) → last_of chunk ≡ Some r → length (rowed max g chunk).entries ≤ max → (begins prefix (row_key r) ≡ true) × AllByRecursion (λ b. b < 255) (row_key r)
-          → take (suc max) full ≡ take (suc max) ((rowed max g chunk).entries ++ come (rowed max g chunk) (from (past_row (row_key r) r.0 (rolled prefix delimiter (row_key r)))))
+          → full ≡ (rowed max g chunk).entries ++ come (rowed max g chunk) (from (past_row (row_key r) r.0 (rolled prefix delimiter (row_key r))))
       chunk_on r last few good =
-          stepped.0 ∙ ap (λ l. take (suc max) ((rowed max g chunk).entries ++ l))
+          parted ∙ versions_all max g chunk (left_over n key older) few ∙ ap (λ l. (rowed max g chunk).entries ++ l)
           (next_is (placed key older) chunk (left_over n key older) r (rowed max g chunk) (split n key older) last (last_turned max g chunk r last few) good)

@@ -1,9 +1,9 @@
 -- What is gathered of a page, row by row in the order of the keys. A row shows its key, and may show an item of it: of the rows
 -- of one key the first decides.
-use Rattle.std.specs.Prelude.{ℕ, nat_lt, Bool, not, ◌||◌, List, [], ◌∷◌, ◌++◌, length, map, Option, Some, None, if◌then◌else◌}
-use Rattle.std.specs.List.{filter}
+use Rattle.std.specs.Prelude.{◌≡◌, ℕ, suc, ◌<◌, ◌≤◌, nat_lt, Bool, true, not, ◌||◌, List, [], ◌∷◌, ◌++◌, length, map, take, Option, Some, None, if◌then◌else◌}
+use Rattle.std.specs.List.{filter, AllByRecursion}
 use Rattle.bh_model.specs.State.{Octets}
-use Rattle.bh_model.specs.Pages.{Listed, Listed.Single, Listed.Common, is_name, is_upto, joined, entry_of, rolled}
+use Rattle.bh_model.specs.Pages.{Listed, Listed.Single, Listed.Common, is_name, is_upto, begins, joined, entry_of, rolled}
 
 -- the least text after a text, and a text after all that begin with it and have no byte of 255 there
 abbrev pub past_key : Octets → Octets
@@ -17,6 +17,15 @@ abbrev pub start_of : Octets → Option Octets → Octets
 start_of prefix None = prefix
 start_of prefix (Some marker) = if is_upto prefix marker then past_key marker else prefix
 
+-- a key under a prefix, without a byte of 255, as no text of UTF-8 has one
+abbrev pub IsKeyUnder : Octets → Octets → Type 0
+IsKeyUnder prefix key = (begins prefix key ≡ true) × AllByRecursion (λ b. b < 255) key
+
+-- in the order of their keys
+abbrev pub InOrder : {R : Type 0} → (R → Octets) → List R → Type 0
+InOrder row_key [] = Unit {0}
+InOrder row_key (r ∷ rows) = AllByRecursion (λ s. is_upto (row_key r) (row_key s) ≡ true) rows × InOrder row_key rows
+
 -- the rows from this text on
 abbrev pub rows_from : {R : Type 0} → (R → Octets) → Octets → List R → List R
 rows_from row_key from rows = filter (λ r. is_upto from (row_key r)) rows
@@ -27,6 +36,20 @@ pub record Gathered (T : Type 0) : Type 0 where
   -- the rolled-up name that was listed last, if nothing was listed since
   pub name : Option Octets
   pub entries : List (Listed T)
+
+-- ---- how a page stands to the listing that it is of
+
+module _ {T : Type 0} where
+  -- it has room, and the entries that it has are those of the listing up to what is still to come
+  pub record IsBeginning (max : ℕ) (shown to_come listing : List (Listed T)) : Type 0 where
+    pub room : length shown ≤ max
+    pub whole : shown ++ to_come ≡ listing
+
+  -- it has all that it takes, and one entry more, if there is one
+  abbrev pub IsPage : ℕ → List (Listed T) → List (Listed T) → Type 0
+  IsPage max shown listing = shown ≡ take (suc max) listing
+
+-- ---- what is gathered, row by row
 
 module _ {T : Type 0} where
   abbrev pub nothing_gathered : Gathered T

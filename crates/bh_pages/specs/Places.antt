@@ -4,7 +4,7 @@ use Rattle.std.specs.List.{filter, AllByRecursion}
 use Rattle.std.specs.Ordering.{is_lt, ordering_then}
 use Rattle.std.specs.declared.cmp.Ordering.{Ordering}
 use Rattle.bh_model.specs.State.{Octets, octets_cmp}
-use Rattle.bh_model.specs.Pages.{Listed, is_upto, same, joined, entry_of}
+use Rattle.bh_model.specs.Pages.{Listed, begins, is_upto, same, joined, entry_of}
 use Rattle.bh_pages.specs.Gathered.{Gathered, with_entry, past_key, past_name}
 
 -- a key and a number of it
@@ -31,6 +31,11 @@ past_row key n (Some name) = at_key (past_name name)
 abbrev pub past_few : Place → Option Place
 past_few place = option_map (λ _. at_key (past_key place.key)) place.after
 
+-- no earlier than the prefix, or after an entry of a key under it
+abbrev pub IsUnder : Octets → Octets → Option ℕ → Type 0
+IsUnder prefix key None = is_upto prefix key ≡ true
+IsUnder prefix key (Some n) = begins prefix key ≡ true
+
 module _ (by_number : ℕ → ℕ → Ordering) where
   abbrev pub spot_order : Spot → Spot → Ordering
   spot_order a b = ordering_then (octets_cmp a.0 b.0) (by_number a.1 b.1)
@@ -52,6 +57,11 @@ module _ (by_number : ℕ → ℕ → Ordering) where
     -- of this key, after this number
     abbrev pub is_behind : Octets → ℕ → R → Bool
     is_behind key n r = same (row_key r) key && is_lt (by_number n (number r))
+
+    -- the rows that are read at a place: of a key those after a number, or all from a key on
+    abbrev pub rows_at : Octets → Option ℕ → List R → List R
+    rows_at key None rows = filter (is_from (at_key key)) rows
+    rows_at key (Some n) rows = filter (is_behind key n) rows
 
     -- each row stands before those that follow it
     abbrev pub IsStrict : List R → Type 0

@@ -1,13 +1,13 @@
 -- What is gathered of a page of uploads, row by row in the order of keys, those of a key in the order of their numbers.
-use Rattle.std.specs.Prelude.{◌≡◌, ℕ, nat_lt, Bool, true, false, List, [], length, map, Option, Some, None, option_map, is_none, IfSome}
+use Rattle.std.specs.Prelude.{◌≡◌, ℕ, nat_lt, Bool, true, false, List, [], length, map, filter, take, Option, Some, None, option_map, is_none, IfSome}
 use Rattle.std.specs.List.{AllByRecursion}
 use Rattle.std.specs.Ordering.{nat_cmp}
 use Rattle.bh_model.specs.State.{Octets}
 use Rattle.bh_model.specs.Pages.{Listed, Listed.Single, Listed.Common, UploadItem, begins, is_before, rolled, last_of}
-use Rattle.bh_pages.specs.Gathered.{Gathered}
+use Rattle.bh_pages.specs.Gathered.{IsKeyUnder, IsBeginning, IsPage, Gathered}
 use Rattle.bh_pages.specs.Seen.{token_of}
 use Rattle.bh_pages.specs.Places as places
-use Rattle.bh_pages.specs.Places.{Place, past_row, past_few}
+use Rattle.bh_pages.specs.Places.{Place, IsUnder, past_row, past_few}
 use Rattle.bh_pages.specs.Versions.{seen_place}
 use Rattle.bh_pages.specs.declared.gathering.Asked.{Asked}
 use Rattle.bh_pages.specs.declared.uploads.UploadLine.{UploadLine}
@@ -80,9 +80,31 @@ pub record GoesOn (asked : Asked) (old : Place) (lines : List UploadLine) (count
   pub few : nat_lt (length lines) count ≡ true → new ≡ past_few old
   pub on : nat_lt (length lines) count ≡ false → IfSome new (PastLast asked lines) × (is_none new ≡ false)
 
--- the rows were taken in; the page is full, or reading has ended, or goes on at a place
-pub record TookUploads (asked : Asked) (old : UploadReading) (lines : List UploadLine) (new : UploadReading) (ended : Bool) : Type 0 where
-  pub added : seen new.gathering ≡ uploads_added asked (seen old.gathering) (map seen_line lines)
-  pub next : Option Place
-  pub full : nat_lt asked.max (length new.gathering.entries.items) ≡ true → ended ≡ true
-  pub ends : nat_lt asked.max (length new.gathering.entries.items) ≡ false → (ended ≡ is_none next) × GoesOn asked (seen_place old.place) lines old.count next × IfSome next (λ place. seen_place new.place ≡ place)
+-- the uploads of a bucket under a prefix, in the order of their keys, those of a key in the order of their numbers
+pub record AreRows (prefix : Octets) (rows : List UploadItem) : Type 0 where
+  pub in_order : IsStrict rows
+  pub under : AllByRecursion (λ (u : UploadItem). IsKeyUnder prefix u.key) rows
+
+-- the page has some entries of a listing, and what the uploads from its place on still show makes up the listing
+pub record IsUnderway (asked : Asked) (rows : List UploadItem) (listing : List (Listed UploadItem)) (reading : UploadReading) : Type 0 where
+  pub low : IsUnder asked.prefix.now reading.place.key.items reading.place.after
+  pub part : IsBeginning asked.max (map seen_entry reading.gathering.entries.items)
+      (uploads_to_come asked (seen reading.gathering) (filter (is_from (seen_place reading.place)) rows)) listing
+
+-- whether reading has ended
+abbrev pub Stands : Bool → Asked → List UploadItem → List (Listed UploadItem) → UploadReading → Type 0
+Stands true asked rows listing reading = IsPage asked.max (map seen_entry reading.gathering.entries.items) listing
+Stands false asked rows listing reading = IsUnderway asked rows listing reading
+
+-- the uploads that are read at a place: of a key the later ones, or all from a key on
+abbrev pub rows_at : Octets → Option ℕ → List UploadItem → List UploadItem
+rows_at = places.rows_at nat_cmp upload_key upload_number
+
+-- these are the first of them, so many as are read at once
+abbrev pub AreNext : List UploadItem → UploadReading → List UploadLine → Type 0
+AreNext rows reading lines = map seen_line lines ≡ take reading.count (rows_at reading.place.key.items reading.place.after rows)
+
+-- after the next uploads the page is read, if reading has ended, and else still underway
+abbrev pub TookUploads : Asked → UploadReading → List UploadLine → UploadReading → Bool → Type 0
+TookUploads asked old lines new ended = (rows : List UploadItem) (listing : List (Listed UploadItem))
+    → AreRows asked.prefix.now rows → IsUnderway asked rows listing old → AreNext rows old lines → Stands ended asked rows listing new

@@ -1,5 +1,5 @@
 -- What is gathered of a page of versions, row by row in the order of keys, those of a key by falling entry numbers.
-use Rattle.std.specs.Prelude.{◌≡◌, ℕ, zero, suc, pos, nat_lt, Bool, true, false, not, ◌&&◌, int_lt, List, [], ◌∷◌, length, map, Option, Some, None, option_map, is_none, IfSome, if◌then◌else◌, string_bytes}
+use Rattle.std.specs.Prelude.{◌≡◌, ℕ, zero, suc, pos, nat_lt, Bool, true, false, not, ◌&&◌, int_lt, List, [], ◌∷◌, length, map, take, Option, Some, None, option_map, is_none, IfSome, if◌then◌else◌, string_bytes}
 use Rattle.std.specs.List.{filter, AllByRecursion}
 use Rattle.std.specs.Ordering.{int_cmp}
 use Rattle.std.specs.declared.cmp.Ordering.{Ordering}
@@ -7,9 +7,9 @@ use Rattle.bh_types.specs.declared.id.VersionId.{VersionId}
 use Rattle.bh_types.specs.declared.id.VersionId.TheVariants.{Null, Numbered as Given}
 use Rattle.bh_model.specs.State.{Octets}
 use Rattle.bh_model.specs.Pages.{Listed, Listed.Single, Listed.Common, begins, is_name, same, joined, entry_of, rolled, last_of, StoredItem, VersionItem, passes_version}
-use Rattle.bh_pages.specs.Gathered.{Gathered, with_entry}
+use Rattle.bh_pages.specs.Gathered.{IsKeyUnder, IsBeginning, IsPage, Gathered, with_entry}
 use Rattle.bh_pages.specs.Places as places
-pub use Rattle.bh_pages.specs.Places.{Spot, Place, at_key, after_entry, past_row, past_few}
+pub use Rattle.bh_pages.specs.Places.{Spot, Place, IsUnder, at_key, after_entry, past_row, past_few}
 use Rattle.bh_pages.specs.Seen.{token_of}
 use Rattle.bh_pages.specs.declared.gathering.Asked.{Asked}
 use Rattle.bh_pages.specs.declared.versions.Place as program
@@ -48,6 +48,9 @@ spot = places.spot falling row_key entry_number
 
 abbrev pub is_from : Place → Numbered → Bool
 is_from = places.is_from falling row_key entry_number
+
+abbrev pub IsStrict : List Numbered → Type 0
+IsStrict = places.IsStrict falling row_key entry_number
 
 -- the older entries of a key
 abbrev pub is_older : Octets → ℕ → Numbered → Bool
@@ -133,9 +136,32 @@ pub record GoesOn (asked : Asked) (old : Place) (lines : List VersionLine) (coun
   pub few : nat_lt (length lines) count ≡ true → new ≡ past_few old
   pub on : nat_lt (length lines) count ≡ false → IfSome new (PastLast asked lines) × (is_none new ≡ false)
 
--- the rows were taken in; the page is full, or reading has ended, or goes on at a place
-pub record TookVersions (asked : Asked) (old : VersionReading) (lines : List VersionLine) (new : VersionReading) (ended : Bool) : Type 0 where
-  pub added : seen new.gathering ≡ rows_added asked (seen old.gathering) (map seen_line lines)
-  pub next : Option Place
-  pub full : nat_lt asked.max (length new.gathering.entries.items) ≡ true → ended ≡ true
-  pub ends : nat_lt asked.max (length new.gathering.entries.items) ≡ false → (ended ≡ is_none next) × GoesOn asked (seen_place old.place) lines old.count next × IfSome next (λ place. seen_place new.place ≡ place)
+-- the rows of a bucket under a prefix, in the order of their keys, those of a key by falling numbers
+pub record AreRows (prefix : Octets) (rows : List Numbered) : Type 0 where
+  pub in_order : IsStrict rows
+  pub under : AllByRecursion (λ r. IsKeyUnder prefix (row_key r)) rows
+
+-- the page has some entries of a listing, and what the rows from its place on still show makes up the listing
+pub record IsUnderway (asked : Asked) (rows : List Numbered) (listing : List (Listed VersionItem)) (reading : VersionReading) : Type 0 where
+  pub low : IsUnder asked.prefix.now reading.place.key.items reading.place.after
+  pub part : IsBeginning asked.max (map seen_entry reading.gathering.entries.items)
+      (versions_to_come asked.prefix.now asked.delimiter.now (token_of asked) (seen reading.gathering) (filter (is_from (seen_place reading.place)) rows)) listing
+
+-- whether reading has ended
+abbrev pub Stands : Bool → Asked → List Numbered → List (Listed VersionItem) → VersionReading → Type 0
+Stands true asked rows listing reading = IsPage asked.max (map seen_entry reading.gathering.entries.items) listing
+Stands false asked rows listing reading = IsUnderway asked rows listing reading
+
+-- the rows that are read at a place: of a key the older ones, or all from a key on
+abbrev pub rows_at : Octets → Option ℕ → List Numbered → List Numbered
+rows_at key None rows = filter (is_from (at_key key)) rows
+rows_at key (Some seq) rows = filter (is_older key seq) rows
+
+-- these are the first of them, so many as are read at once
+abbrev pub AreNext : List Numbered → VersionReading → List VersionLine → Type 0
+AreNext rows reading lines = map seen_line lines ≡ take reading.count (rows_at reading.place.key.items reading.place.after rows)
+
+-- after the next rows the page is read, if reading has ended, and else still underway
+abbrev pub TookVersions : Asked → VersionReading → List VersionLine → VersionReading → Bool → Type 0
+TookVersions asked old lines new ended = (rows : List Numbered) (listing : List (Listed VersionItem))
+    → AreRows asked.prefix.now rows → IsUnderway asked rows listing old → AreNext rows old lines → Stands ended asked rows listing new

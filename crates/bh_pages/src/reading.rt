@@ -1,9 +1,8 @@
 //! A page that is read a few rows at a time.
 
 ghost use Rattle.std.specs.Prelude.{◌≡◌, IfOk, OnOk};
-ghost use Rattle.bh_pages.specs.Gathered.{nothing_gathered, start_of};
-ghost use Rattle.bh_pages.specs.Seen.{seen, token_of};
-ghost use Rattle.bh_pages.specs.Reading.{IsCount, GoesOn, AreUnder, Took};
+ghost use Rattle.bh_pages.specs.Seen.{seen};
+ghost use Rattle.bh_pages.specs.Reading.{IsCount, GoesOn, AreRows, IsUnderway, Took};
 
 use crate::gathering::{Asked, Gathering, Line, Listed};
 use std::alloc::{AllocError, Global};
@@ -50,8 +49,7 @@ fn past_last(alloc: Global, asked: &Asked<'_>, gathering: &Gathering) -> Result<
 impl Reading {
     /// Nothing is read. An error says that memory ran out.
     pub fn begin(alloc: Global, asked: &Asked<'_>) -> Result<Reading, AllocError>
-        ensures gathering { IfOk result (λ reading. seen reading.gathering ≡ nothing_gathered) }
-        ensures from { IfOk result (λ reading. reading.from.items ≡ start_of asked.now.prefix.now (token_of asked.now)) }
+        ensures underway { IfOk result (λ reading. (rows : _) → AreRows asked.now.prefix.now rows → IsUnderway asked.now rows reading) }
         ensures count { IfOk result (λ reading. IsCount reading.count) }
     {
         Ok(Reading {
@@ -69,7 +67,7 @@ impl Reading {
         asked: &Asked<'_>,
         lines: &[Line],
     ) -> Result<bool, AllocError>
-        ensures took { AreUnder asked.now lines.now → IfOk result (Took asked.now self.old lines.now self.new) }
+        ensures took { IfOk result (Took asked.now self.old lines.now self.new) }
         ensures count { OnOk result (IsCount self.old.count → IsCount self.new.count) }
     {
         let before = self.gathering.entries.len();

@@ -188,7 +188,7 @@ impl UploadReading {
         asked: &Asked<'_>,
         lines: &[UploadLine],
     ) -> Result<bool, AllocError>
-        ensures took { spec.AreUnder asked.now lines.now → IfOk result (spec.TookUploads asked.now self.old lines.now self.new) }
+        ensures took { IfOk result (spec.TookUploads asked.now self.old lines.now self.new) }
         ensures count { OnOk result (IsCount self.old.count → IsCount self.new.count) }
     {
         let before = self.gathering.entries.len();

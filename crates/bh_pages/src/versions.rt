@@ -247,7 +247,7 @@ impl VersionReading {
         asked: &Asked<'_>,
         lines: &[VersionLine],
     ) -> Result<bool, AllocError>
-        ensures took { spec.AreUnder asked.now lines.now → IfOk result (spec.TookVersions asked.now self.old lines.now self.new) }
+        ensures took { IfOk result (spec.TookVersions asked.now self.old lines.now self.new) }
         ensures count { OnOk result (IsCount self.old.count → IsCount self.new.count) }
     {
         let before = self.gathering.entries.len();

@@ -6,7 +6,7 @@ ghost use Rattle.bh_model.specs.Runs.{last_reading};
 ghost use Rattle.bh_tables.specs.Typed.{Tables};
 ghost use Rattle.bh_view.specs.View.{view, latest_of};
 ghost use Rattle.bh_storage.specs.Answers.{answer_view};
-ghost use Rattle.bh_storage.specs.Calls.{Seen, Clean, Within, LeavesNothingNew, IsAtRest, IsWorking, Commits, TakesBack, Unless, Stamps, Purges, Carries, Decides, Sweeps, Reports, Lists};
+ghost use Rattle.bh_storage.specs.Calls.{Seen, Clean, Within, GoesOn, LeavesNothingNew, IsAtRest, IsWorking, Commits, TakesBack, Unless, Stamps, Purges, Carries, Decides, Sweeps, Reports, Lists};
 
 use crate::answer::Answer;
 use crate::error::{StepError, Trouble};
@@ -80,17 +80,13 @@ pub trait Storage {
     fn stamp(&mut self, reading: u64) -> Result<Moment, Trouble>
         requires in_range { reading ≤ last_reading }
         requires working { Clean IsIntact IsOpen self.old → IsWorking IsSound (seen self.old) }
-        ensures within { Within IsIntact IsOpen seen left self.old self.new }
-        ensures opens { OnOk result (IsOpen self.old → IsIntact self.new → IsOpen self.new) }
-        ensures working { OnOk result (Clean IsIntact IsOpen self.new → IsWorking IsSound (seen self.new)) }
+        ensures goes_on { GoesOn IsIntact IsOpen IsSound seen left (OnOk result) self.old self.new }
         ensures stamps { IfOk result (λ m. Clean IsIntact IsOpen self.new → Stamps reading m (seen self.old).now (seen self.new).now) };
 
     /// Takes away a tenant's uploads that are stale at a moment.
     fn purge(&mut self, alloc: Global, tenant: &TenantName, at: Moment) -> Result<(), Trouble>
         requires { Clean IsIntact IsOpen self.old → IsWorking IsSound (seen self.old) }
-        ensures within { Within IsIntact IsOpen seen left self.old self.new }
-        ensures opens { OnOk result (IsOpen self.old → IsIntact self.new → IsOpen self.new) }
-        ensures working { OnOk result (Clean IsIntact IsOpen self.new → IsWorking IsSound (seen self.new)) }
+        ensures goes_on { GoesOn IsIntact IsOpen IsSound seen left (OnOk result) self.old self.new }
         ensures purges { OnOk result (Clean IsIntact IsOpen self.new → Purges tenant.now at (seen self.old).now (seen self.new).now) };
 
     /// Whether an access key has this secret: InvalidAccessKeyId, AccessDenied.
@@ -101,9 +97,7 @@ pub trait Storage {
         secret: &[u8],
     ) -> Result<(), StepError<Refusal>>
         requires { Clean IsIntact IsOpen self.old → IsWorking IsSound (seen self.old) }
-        ensures within { Within IsIntact IsOpen seen left self.old self.new }
-        ensures opens { Unless result (IsOpen self.old → IsIntact self.new → IsOpen self.new) }
-        ensures working { Unless result (Clean IsIntact IsOpen self.new → IsWorking IsSound (seen self.new)) }
+        ensures goes_on { GoesOn IsIntact IsOpen IsSound seen left (Unless result) self.old self.new }
         ensures decides { Clean IsIntact IsOpen self.new
             → Decides (λ _. tt) (machine.authenticate key.now secret.now (view (seen self.old).now key.now.tenant)) (seen self.old).now (seen self.new).now result };
 
@@ -118,9 +112,7 @@ pub trait Storage {
     ) -> Result<Answer, StepError<Rejection>>
         requires working { Clean IsIntact IsOpen self.old → IsWorking IsSound (seen self.old) }
         requires early { Clean IsIntact IsOpen self.old → at ≤ latest_of (seen self.old).now }
-        ensures within { Within IsIntact IsOpen seen left self.old self.new }
-        ensures opens { Unless result (IsOpen self.old → IsIntact self.new → IsOpen self.new) }
-        ensures working { Unless result (Clean IsIntact IsOpen self.new → IsWorking IsSound (seen self.new)) }
+        ensures goes_on { GoesOn IsIntact IsOpen IsSound seen left (Unless result) self.old self.new }
         ensures carries { Clean IsIntact IsOpen self.new
             → Carries answer_view tenant.now (operated (seen self.old).limits at body.now operation.now)
             (seen self.old).now (seen self.new).now result };
@@ -128,9 +120,7 @@ pub trait Storage {
     /// Carries out an operator's command on the tenant that it names.
     fn command(&mut self, alloc: Global, command: &Command) -> Result<Answer, StepError<Refusal>>
         requires { Clean IsIntact IsOpen self.old → IsWorking IsSound (seen self.old) }
-        ensures within { Within IsIntact IsOpen seen left self.old self.new }
-        ensures opens { Unless result (IsOpen self.old → IsIntact self.new → IsOpen self.new) }
-        ensures working { Unless result (Clean IsIntact IsOpen self.new → IsWorking IsSound (seen self.new)) }
+        ensures goes_on { GoesOn IsIntact IsOpen IsSound seen left (Unless result) self.old self.new }
         ensures carries { Clean IsIntact IsOpen self.new
             → Carries answer_view (tenant_of (order_of command.now)) (ordered (order_of command.now)) (seen self.old).now (seen self.new).now result };
 
@@ -138,27 +128,21 @@ pub trait Storage {
     /// number, and then blocks that nothing refers to by digest and ordinal.
     fn sweep(&mut self, alloc: Global, at: Moment, limit: u32) -> Result<SweepReport, Trouble>
         requires { Clean IsIntact IsOpen self.old → IsWorking IsSound (seen self.old) }
-        ensures within { Within IsIntact IsOpen seen left self.old self.new }
-        ensures opens { OnOk result (IsOpen self.old → IsIntact self.new → IsOpen self.new) }
-        ensures working { OnOk result (Clean IsIntact IsOpen self.new → IsWorking IsSound (seen self.new)) }
+        ensures goes_on { GoesOn IsIntact IsOpen IsSound seen left (OnOk result) self.old self.new }
         ensures sweeps { IfOk result (λ report. Clean IsIntact IsOpen self.new
             → Sweeps at limit report (seen self.old).now (seen self.new).now) };
 
     /// Counts what all tenants together have stored.
     fn report(&mut self) -> Result<StoreReport, Trouble>
         requires { Clean IsIntact IsOpen self.old → IsWorking IsSound (seen self.old) }
-        ensures within { Within IsIntact IsOpen seen left self.old self.new }
-        ensures opens { OnOk result (IsOpen self.old → IsIntact self.new → IsOpen self.new) }
-        ensures working { OnOk result (Clean IsIntact IsOpen self.new → IsWorking IsSound (seen self.new)) }
+        ensures goes_on { GoesOn IsIntact IsOpen IsSound seen left (OnOk result) self.old self.new }
         ensures reports { IfOk result (λ report. Clean IsIntact IsOpen self.new
             → Reports report (seen self.old).now (seen self.new).now) };
 
     /// All tenants, by name in byte order.
     fn tenants(&mut self, alloc: Global) -> Result<Vec<TenantReport>, Trouble>
         requires { Clean IsIntact IsOpen self.old → IsWorking IsSound (seen self.old) }
-        ensures within { Within IsIntact IsOpen seen left self.old self.new }
-        ensures opens { OnOk result (IsOpen self.old → IsIntact self.new → IsOpen self.new) }
-        ensures working { OnOk result (Clean IsIntact IsOpen self.new → IsWorking IsSound (seen self.new)) }
+        ensures goes_on { GoesOn IsIntact IsOpen IsSound seen left (OnOk result) self.old self.new }
         ensures lists { IfOk result (λ listed. Clean IsIntact IsOpen self.new
             → Lists listed.items (seen self.old).now (seen self.new).now) };
 }

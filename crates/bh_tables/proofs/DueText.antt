@@ -1,6 +1,6 @@
 -- The text that asks for the uploads of all tenants that are older than the rules of their buckets let them be, by tenant and
 -- number and up to a limit.
-use Rattle.std.proofs.Common.{◌≡◌, inl, inr, ℕ, pos, codes, Bool, true, false, List, [], ◌∷◌, ◌||◌, ◌&&◌, map, map-id, filter, take, None, Ok, Err, Result, IfOk, IfErr, refl, sym, ap, ◌∙◌, int_cmp, Ordering}
+use Rattle.std.proofs.Common.{◌≡◌, inl, inr, ℕ, pos, codes, Bool, true, false, List, [], ◌∷◌, ◌||◌, ◌&&◌, map, map-id, filter, take, Option, None, unwrap_or, Ok, Err, Result, IfOk, IfErr, refl, sym, ap, ◌∙◌, int_cmp, Ordering}
 use Rattle.std.specs.List.{list_any, list_all}
 use Rattle.std.specs.Ordering.{ordering_then}
 use Rattle.std.proofs.lemmas.List.{take-map}
@@ -16,6 +16,7 @@ use Rattle.sqlite.specs.Program.{overlay, ProgramOverflows}
 use Rattle.sqlite.specs.Listing.{understood}
 use Rattle.sqlite.specs.State.{State, HasCleanDisk, Survives, Shown, FailsToQuery, CommitsShowing}
 use Rattle.sqlite.proofs.Callers.{reads_as}
+use Rattle.sqlite_sql.specs.Ops.{truth, binary}
 use Rattle.sqlite_sql.specs.declared.ops.ArithOp.TheVariants.{Add, Mul}
 use Rattle.sqlite_sql.specs.declared.ops.BinaryOp.TheVariants.{Compare, Arith}
 use Rattle.sqlite_sql.specs.declared.ops.CompareOp.TheVariants.{Eq, Lt}
@@ -24,6 +25,7 @@ use Rattle.sqlite_value.proofs.OrderLemmas.{value_cmp-Int, value_cmp-Text}
 use Rattle.sqlite_keyed.specs.Lists.{sort_by}
 use Rattle.sqlite_rules.proofs.ListLemmas.{any_has}
 use Rattle.sqlite_typing.specs.Types.{accepts_program}
+use Rattle.sqlite_typed.specs.Columns.{or_null}
 use Rattle.sqlite_typed.specs.Tests.{bytes_eq, bytes_cmp}
 use Rattle.sqlite_typed.proofs.AnswerLemmas.{Source, at_end, last_table, then_exists, at_exists, answer_sorted, no_tie, no_tie_after}
 use Rattle.sqlite_typed.proofs.TestLemmas.{at_texts, last_term, then_term, then_key, last_key}
@@ -36,11 +38,22 @@ use Rattle.bh_rows.proofs.ScanLemmas.{then_assoc, sorted_typed}
 use Rattle.bh_rows.proofs.TotalLemmas.{body_asks}
 use Rattle.bh_tables.specs.Schema.{host_schema}
 use Rattle.bh_tables.specs.Typed.{Totals, BucketRow, UploadRow, bucket_form, upload_form, number, IsHostBy, IsReadyBy, tables}
-use Rattle.bh_tables.specs.Due.{is_past, is_past_in, by_owner, past_uploads, shown_owner}
+use Rattle.bh_tables.specs.Due.{by_owner, shown_owner}
 use Rattle.bh_tables.proofs.Statements.{Shows}
 
 abbrev sql : List ℕ
 sql = codes "SELECT tenant, upload FROM uploads WHERE EXISTS (SELECT 1 FROM buckets WHERE buckets.tenant = uploads.tenant AND buckets.bucket = uploads.bucket AND uploads.begun + 86400 * buckets.days < ?1) ORDER BY tenant, upload, rowid LIMIT ?2"
+
+-- ---- what SQL makes of it: an integer that is too wide is none, and `days` may be NULL
+
+abbrev pub is_past_asked : ℕ → ℕ → Option ℕ → Bool
+is_past_asked moment begun days = unwrap_or (truth (binary (Compare Lt Binary) (binary (Arith Add) (number begun) (binary (Arith Mul) (number 86400) (or_null number days))) (number moment))) false
+
+abbrev pub is_past_asked_in : ℕ → List BucketRow → UploadRow → Bool
+is_past_asked_in moment buckets u = list_any (λ (b : BucketRow). bytes_eq b.tenant u.tenant && (bytes_eq b.bucket u.bucket && is_past_asked moment u.begun b.days)) buckets
+
+abbrev pub asked_uploads : ℕ → ℕ → List BucketRow → List UploadRow → List UploadRow
+asked_uploads limit moment buckets uploads = take limit (sort_by by_owner (filter (is_past_asked_in moment buckets) uploads))
 
 abbrev rules_it : List Term
 rules_it =
@@ -80,10 +93,10 @@ module _ (sums : Totals) (db : Trees) (uploads : AreRows (upload_form sums) (db 
   given = number moment ∷ number limit ∷ []
 
   abbrev passes : UploadRow → Bool
-  passes = is_past_in moment (typed bucket_form (db 5))
+  passes = is_past_asked_in moment (typed bucket_form (db 5))
 
   abbrev rules : UploadRow → BucketRow → Bool
-  rules u b = bytes_eq b.tenant u.tenant && (bytes_eq b.bucket u.bucket && is_past moment u.begun b.days)
+  rules u b = bytes_eq b.tenant u.tenant && (bytes_eq b.bucket u.bucket && is_past_asked moment u.begun b.days)
 
   abbrev source : Source db past.from (Entry UploadRow)
   source = last_table db 16 (put (upload_form sums)) (λ e. e.0) (entries (upload_form sums) (db 16)) (stored (upload_form sums) (db 16) uploads) (keyed (upload_form sums) (db 16) uploads) (then_exists db 5 rules_it (at_end db))
@@ -116,10 +129,10 @@ module _ {sums : Totals} (old new : State) (ready : IsReadyBy sums old) (moment 
   abbrev params : Row
   params = number moment ∷ number limit ∷ []
 
-  shows : (rows : List Row) → IsHostBy sums old.now → Shown sql params old new rows → rows ≡ map shown_owner (past_uploads limit moment (tables old).buckets (tables old).uploads)
+  shows : (rows : List Row) → IsHostBy sums old.now → Shown sql params old new rows → rows ≡ map shown_owner (asked_uploads limit moment (tables old).buckets (tables old).uploads)
   shows rows was h =
       let db = old.now.trees in
-      let m = is_past_in moment (tables old).buckets in
+      let m = is_past_asked_in moment (tables old).buckets in
       let read = reads_as sql params old new host_schema was.schema _ means.is means.plain means.unlisted rows h in
       answered sums (overlay db []) was.held.uploads was.held.buckets moment limit rows (read.answer Null)
       ∙ ap (λ l. take limit (map (λ (e : Entry UploadRow). shown_owner e.1) l)) (in_order sums (overlay db []) was.held.uploads was.held.buckets moment limit (filter (λ e. m e.1) (entries (upload_form sums) (db 16))))
@@ -128,12 +141,12 @@ module _ {sums : Totals} (old new : State) (ready : IsReadyBy sums old) (moment 
 
   -- whose they are, and their numbers
   pub past_shown : {X : Type 0} (rows_in : X → List Row) (result : Result X Error) → (HasCleanDisk new → IfOk result (λ x. Shown sql params old new (rows_in x))) → (HasCleanDisk new → IfErr result (FailsToQuery sql params old new))
-      → Survives old new (CommitsShowing sql params old) → Shows old new rows_in (λ t. map shown_owner (past_uploads limit moment t.buckets t.uploads)) result
+      → Survives old new (CommitsShowing sql params old) → Shows old new rows_in (λ t. map shown_owner (asked_uploads limit moment t.buckets t.uploads)) result
   past_shown rows_in result ok err survives = record {
     asks = body_asks sql host_schema past _ 2 means params old new (λ clean up. (ready clean up).schema) refl (accepted moment limit) (λ clean up. never_wide old.now.trees params) rows_in result ok err survives;
     rows = λ clean. go result ok clean;
   }
     where
-      go : (r : Result _ Error) → (HasCleanDisk new → IfOk r (λ x. Shown sql params old new (rows_in x))) → HasCleanDisk new → IfOk r (λ x. rows_in x ≡ map shown_owner (past_uploads limit moment (tables old).buckets (tables old).uploads))
+      go : (r : Result _ Error) → (HasCleanDisk new → IfOk r (λ x. Shown sql params old new (rows_in x))) → HasCleanDisk new → IfOk r (λ x. rows_in x ≡ map shown_owner (asked_uploads limit moment (tables old).buckets (tables old).uploads))
       go (Err e) ok clean = tt
       go (Ok x) ok clean = shows (rows_in x) (ready (clean_before old new _ survives clean) (shown_open sql params old new _ (ok clean))) (ok clean)

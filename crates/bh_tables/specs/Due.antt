@@ -1,23 +1,18 @@
--- The text that asks for the uploads of all tenants that are older than the rules of their buckets let them be.
-use Rattle.std.specs.Prelude.{ℕ, Bool, ◌&&◌, pos, List, [], ◌∷◌, filter, take, Option, unwrap_or, false}
+-- The uploads of all tenants that are older than the rules of their buckets let them be.
+use Rattle.std.specs.Prelude.{ℕ, ◌+◌, ◌*◌, nat_lt, Bool, false, ◌&&◌, pos, List, [], ◌∷◌, filter, take, Option, Some, None}
 use Rattle.std.specs.List.{list_any}
 use Rattle.std.specs.Ordering.{int_cmp, ordering_then}
 use Rattle.std.specs.declared.cmp.Ordering.{Ordering}
-use Rattle.sqlite.specs.Collation.TheVariants.{Binary}
 use Rattle.sqlite.specs.Order.{Row}
 use Rattle.sqlite.specs.declared.types.Value.TheVariants.{Text}
-use Rattle.sqlite_sql.specs.Ops.{truth, binary}
-use Rattle.sqlite_sql.specs.declared.ops.ArithOp.TheVariants.{Add, Mul}
-use Rattle.sqlite_sql.specs.declared.ops.BinaryOp.TheVariants.{Compare, Arith}
-use Rattle.sqlite_sql.specs.declared.ops.CompareOp.TheVariants.{Lt}
 use Rattle.sqlite_keyed.specs.Lists.{sort_by}
-use Rattle.sqlite_typed.specs.Columns.{or_null}
 use Rattle.sqlite_typed.specs.Tests.{bytes_eq, bytes_cmp}
 use Rattle.bh_tables.specs.Typed.{BucketRow, UploadRow, number}
 
--- SQL's `begun + 86400 * days < moment`, where `days` may be NULL
+-- begun so many days before a moment as a rule says, if there is one; a day has 86,400 seconds
 abbrev pub is_past : ℕ → ℕ → Option ℕ → Bool
-is_past moment begun days = unwrap_or (truth (binary (Compare Lt Binary) (binary (Arith Add) (number begun) (binary (Arith Mul) (number 86400) (or_null number days))) (number moment))) false
+is_past moment begun None = false
+is_past moment begun (Some days) = nat_lt (begun + 86400 * days) moment
 
 -- so it is by the rule of the upload's bucket
 abbrev pub is_past_in : ℕ → List BucketRow → UploadRow → Bool

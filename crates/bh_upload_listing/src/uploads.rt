@@ -1,17 +1,18 @@
 //! The uploads of a bucket, a page at a time.
 
-ghost use Rattle.std.specs.Prelude.{◌≡◌, ◌^◌, min, suc, map, option_map, take, IfOk, OnOk};
+ghost use Rattle.std.specs.Prelude.{◌≡◌, ◌^◌, min, map, option_map, IfOk, OnOk};
 ghost use Rattle.bh_schema.specs.Connections.{IsClean, tables, StaysWithin, StaysOpen, ChangesNothing};
 ghost use Rattle.bh_schema.specs.Working.{Works, StillWorks};
 ghost use Rattle.bh_model.specs.Listings.{list_uploads};
 ghost use Rattle.bh_model.specs.Operations.{Uploads};
 ghost use Rattle.bh_storage.specs.Calls.{Unless, Carries};
 ghost use Rattle.bh_pages.specs.Seen.{token_of};
+ghost use Rattle.bh_pages.specs.Places.{IsUnder};
+ghost use Rattle.bh_pages.specs.Gathered.{IsPage};
 ghost use Rattle.bh_pages.specs.Uploads.{seen_entry};
 ghost use Rattle.bh_pages.specs.Versions.{seen_place};
 ghost use Rattle.bh_docs.specs.Pages.{uploads_view};
 ghost use Rattle.bh_listing.specs.Told.{asked_view};
-ghost use Rattle.bh_listing.specs.Versions.{IsUnder};
 ghost use Rattle.bh_upload_listing.specs.Rows.{own_items};
 ghost use Rattle.bh_upload_listing.specs.Places.{place_view, uploads_of_items, marked, place_by, listed_from};
 
@@ -96,7 +97,7 @@ fn gather_uploads<S: Alter>(
     ensures opens { OnOk result (StaysOpen S.Store connection.old connection.new) }
     ensures same { OnOk result (ChangesNothing S.Store connection.old connection.new) }
     ensures gathered { IfOk result (λ entries. IsClean S.Store connection.new
-        → map seen_entry entries.items ≡ take (suc asked.now.max)
+        → IsPage asked.now.max (map seen_entry entries.items)
         (listed_from asked.now (seen_place place) (own_items tenant.now bucket.now (tables S.Store connection.old).uploads))) }
 {
     let upto = past(alloc, asked.prefix, 255)?;
@@ -133,7 +134,7 @@ fn page_entries<S: Alter>(
     ensures opens { OnOk result (StaysOpen S.Store connection.old connection.new) }
     ensures same { OnOk result (ChangesNothing S.Store connection.old connection.new) }
     ensures gathered { IfOk result (λ entries. IsClean S.Store connection.new
-        → map seen_entry entries.items ≡ take (suc asked.now.max)
+        → IsPage asked.now.max (map seen_entry entries.items)
         (uploads_of_items asked.now upload (own_items tenant.now bucket.now (tables S.Store connection.old).uploads))) }
 {
     let place = start_place(alloc, asked, upload)?;

@@ -5,6 +5,7 @@ ghost use Rattle.std.specs.String.{string_bytes};
 ghost use Rattle.bh_tables.specs.Due.{shown_owner, past_uploads};
 ghost use Rattle.bh_tables.specs.Typed.{UploadRow as Stored};
 ghost use Rattle.bh_view.specs.Grouped.{same_number};
+ghost use Rattle.bh_view.specs.Sound.{IsSound};
 ghost use Rattle.bh_view.specs.View.{without_uploads};
 ghost use Rattle.bh_view.specs.Sweep.{is_due, uploads_swept, without_each};
 ghost use Rattle.bh_schema.specs.Connections.{IsClean, tables, InTransaction, StaysWithin, WasOpen, StaysOpen, ChangesNothing, IsTrouble};
@@ -49,7 +50,8 @@ fn past_rows<S: Alter>(
     ensures within { StaysWithin S.Store connection.old connection.new }
     ensures opens { OnOk result (WasOpen S.Store connection.old connection.new) }
     ensures same { OnOk result (ChangesNothing S.Store connection.old connection.new) }
-    ensures rows { IfOk result (λ rows. IsClean S.Store connection.new → rows.items ≡ map shown_owner
+    ensures rows { IfOk result (λ rows. IsClean S.Store connection.new → IsSound (tables S.Store connection.old)
+        → rows.items ≡ map shown_owner
         (past_uploads limit moment (tables S.Store connection.old).buckets (tables S.Store connection.old).uploads)) }
     ensures trouble { IfErr result (IsTrouble S.Store connection.old connection.new) }
 {

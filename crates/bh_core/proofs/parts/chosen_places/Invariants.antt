@@ -8,5 +8,7 @@ use Rattle.bh_core.proofs.parts.chosen_places.Given as goal
 abbrev pub invariant-loop-name : goal.invariant-loop-name
 invariant-loop-name l =
     (l.from ≤ length l.parts)
+    × spec.IsStart l.parts l.from
+    × (l.ordered ≡ spec.are_ordered l.parts)
     × All (λ at. at < length l.parts) l.places.items
-    × (spec.chosen_places l.parts 0 (map naming_of l.named) ≡ continued l.parts l.named l.name-index l.from l.places.items)
+    × (spec.chosen_places l.parts (map naming_of l.named) ≡ continued l.parts l.named l.name-index l.places.items)

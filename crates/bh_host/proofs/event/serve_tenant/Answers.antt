@@ -17,11 +17,11 @@ returns-clause-turned g c =
     let now = Clean g.H.Storage.IsIntact g.H.Storage.IsOpen new in
     let turned : List ℕ → Type 0 = λ bytes. now → Turned (seen c.args.host.now).limits (Asked (Ok r)) c.args.at (seen c.args.host.now).now (seen new).now bytes in
     let outcome = c.requested-outcome.ensures in
-    let purge = c.in_ok-purge.ensures in
+    let purge = c.in_ok-purge.ensures.goes_on in
     if_asked c.request_text.result answer_view (Asked (Ok r)) c.requested-outcome.result (now → IsWorking g.H.Storage.IsSound (seen new)) turned c.request_text.ensures outcome.working
     (λ bytes working told clean.
     let mid : Clean g.H.Storage.IsIntact g.H.Storage.IsOpen c.purge.new.self = (outcome.within.intact clean.0, outcome.within.opened clean.0 clean.1) in
     let old : Clean g.H.Storage.IsIntact g.H.Storage.IsOpen c.args.host.now = (purge.within.intact mid.0, purge.within.opened mid.0 mid.1) in
     let limits = limits_stay (seen c.args.host.now) (seen new) (c.requires.working old) (working clean) (outcome.within.limits ∙ purge.within.limits) in
-    turned_request (seen c.args.host.now).limits answer_view key c.args.at r _ (seen c.purge.new.self).now _ c.requested-outcome.result bytes c.requires.keyed (purge.purges mid)
+    turned_request (seen c.args.host.now).limits answer_view key c.args.at r _ (seen c.purge.new.self).now _ c.requested-outcome.result bytes c.requires.keyed (c.in_ok-purge.ensures.purges mid)
     (subst (λ l. Carries answer_view key.tenant (requested l c.args.at r) (seen c.purge.new.self).now (seen new).now c.requested-outcome.result) purge.within.limits (outcome.carries clean)) limits told)

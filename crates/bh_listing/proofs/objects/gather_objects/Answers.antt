@@ -1,10 +1,11 @@
-use Rattle.std.proofs.Common.{◌≤◌, ◌<◌, ℕ, ap, sym, ◌∙◌, subst, arith, map}
+use Rattle.std.proofs.Common.{◌≤◌, ◌<◌, ℕ, ap, ◌∙◌, subst, arith, map}
 use Rattle.sqlite.specs.Held.{state}
 use Rattle.bh_tables.specs.Typed.{Tables}
 use Rattle.bh_schema.specs.Working.{tables_at}
 use Rattle.bh_objects.proofs.Working.{same_tables}
-use Rattle.bh_pages.specs.Seen.{seen, seen_entry}
-use Rattle.bh_listing.proofs.Looping.{HasRead, begin_reading, lines_are, turn_under, turn_ended, turn_on, none_so_far, within_so_far, more_so_far, still_inside}
+use Rattle.bh_pages.specs.Seen.{seen_entry}
+use Rattle.bh_pages.specs.Reading.{Stands}
+use Rattle.bh_listing.proofs.Looping.{shown_rows, are_rows, are_next, lines_are, none_so_far, within_so_far, more_so_far, still_inside}
 use Rattle.bh_listing.proofs.Small.{small_keys}
 use Rattle.bh_listing.proofs.objects.gather_objects.Goals as goal
 
@@ -15,8 +16,8 @@ reading-init g c =
       far = none_so_far old c.requires.working;
       upto = c.in_ok-upto.ensures;
       count = c.in_ok-reading.ensures.count;
-      read = λ clean. subst (HasRead c.args.asked.now c.args.tenant.now c.args.bucket.now (tables_at old).versions (seen c.in_ok-reading.reading.gathering)) (sym c.in_ok-reading.ensures.from)
-          (begin_reading c.args.asked.now c.args.tenant.now c.args.bucket.now (tables_at old).versions (small_keys (tables_at old) (c.requires.working clean).sound) c.in_ok-reading.reading.gathering c.in_ok-reading.ensures.gathering);
+      read = λ clean. c.in_ok-reading.ensures.underway (shown_rows c.args.asked.now c.args.tenant.now c.args.bucket.now (tables_at old).versions)
+          (are_rows c.args.asked.now c.args.tenant.now c.args.bucket.now (tables_at old).versions (small_keys (tables_at old) (c.requires.working clean).sound));
     }
 
 pub version_lines-requires-clause-inside : goal.version_lines-requires-clause-inside
@@ -53,13 +54,14 @@ returns-then-branch-clause-gathered g c = λ clean.
     let old = state g.S.Store c.args.connection.now in
     let before = c.in_ok-lines.ensures.within.follows.clean clean in
     let small = small_keys (tables_at old) (c.requires.working (c.reading.invariant.far.within.follows.clean before)).sound in
+    let rows = shown_rows c.args.asked.now c.args.tenant.now c.args.bucket.now (tables_at old).versions in
     let had = c.reading.invariant.read before in
     let are = lines_are c.args.asked.now c.args.tenant.now c.args.bucket.now (tables_at (state g.S.Store c.reading.connection)).versions (tables_at old).versions c.reading.reading.from.items c.as_slice.result.now c.in_ok-upto.upto.items c.as_slice-in-reading.result.now
     c.in_ok-lines.lines.items c.as_slice-in-reading-2.result.now c.reading.reading.count c.as_slice.ensures.value c.as_slice-in-reading.ensures.value c.reading.invariant.upto c.as_slice-in-reading-2.ensures.value
     (ap (λ (t : Tables). t.versions) (same_tables old (state g.S.Store c.reading.connection) (c.reading.invariant.far.same before.intact))) (c.in_ok-lines.ensures.lines clean) in
-    let took = c.in_ok-take.ensures.took (turn_under c.args.asked.now c.args.tenant.now c.args.bucket.now (tables_at old).versions small c.reading.reading had c.reading.invariant.count c.as_slice-in-reading-2.result.now are) in
-    ap (λ v. map seen_entry v.items) c.into_entries.ensures
-    ∙ turn_ended c.args.asked.now c.args.tenant.now c.args.bucket.now (tables_at old).versions small c.reading.reading had c.reading.invariant.count c.as_slice-in-reading-2.result.now are c.take.new.self c.in_ok-take.field-0 took c.if-branch.true
+    let next = are_next c.args.asked.now c.args.tenant.now c.args.bucket.now (tables_at old).versions c.reading.reading had c.as_slice-in-reading-2.result.now are in
+    let took = c.in_ok-take.ensures.took rows (are_rows c.args.asked.now c.args.tenant.now c.args.bucket.now (tables_at old).versions small) had next in
+    ap (λ v. map seen_entry v.items) c.into_entries.ensures ∙ subst (λ e. Stands e c.args.asked.now rows c.take.new.self) c.if-branch.true took
 
 pub reading-preserved : goal.reading-preserved
 reading-preserved g c =
@@ -71,12 +73,14 @@ reading-preserved g c =
       read = λ clean.
           let before = c.in_ok-lines.ensures.within.follows.clean clean in
           let small = small_keys (tables_at old) (c.requires.working (c.reading.invariant.far.within.follows.clean before)).sound in
+          let rows = shown_rows c.args.asked.now c.args.tenant.now c.args.bucket.now (tables_at old).versions in
           let had = c.reading.invariant.read before in
           let are = lines_are c.args.asked.now c.args.tenant.now c.args.bucket.now (tables_at (state g.S.Store c.reading.connection)).versions (tables_at old).versions c.reading.reading.from.items c.as_slice.result.now c.in_ok-upto.upto.items c.as_slice-in-reading.result.now
           c.in_ok-lines.lines.items c.as_slice-in-reading-2.result.now c.reading.reading.count c.as_slice.ensures.value c.as_slice-in-reading.ensures.value c.reading.invariant.upto c.as_slice-in-reading-2.ensures.value
           (ap (λ (t : Tables). t.versions) (same_tables old (state g.S.Store c.reading.connection) (c.reading.invariant.far.same before.intact))) (c.in_ok-lines.ensures.lines clean) in
-          let took = c.in_ok-take.ensures.took (turn_under c.args.asked.now c.args.tenant.now c.args.bucket.now (tables_at old).versions small c.reading.reading had c.reading.invariant.count c.as_slice-in-reading-2.result.now are) in
-          turn_on c.args.asked.now c.args.tenant.now c.args.bucket.now (tables_at old).versions small c.reading.reading had c.reading.invariant.count c.as_slice-in-reading-2.result.now are c.take.new.self c.in_ok-take.field-0 took c.if-branch.false;
+          let next = are_next c.args.asked.now c.args.tenant.now c.args.bucket.now (tables_at old).versions c.reading.reading had c.as_slice-in-reading-2.result.now are in
+          let took = c.in_ok-take.ensures.took rows (are_rows c.args.asked.now c.args.tenant.now c.args.bucket.now (tables_at old).versions small) had next in
+          subst (λ e. Stands e c.args.asked.now rows c.take.new.self) c.if-branch.false took;
     }
 
 pub returns-clause-within : goal.returns-clause-within

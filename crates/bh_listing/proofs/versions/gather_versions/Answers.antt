@@ -1,12 +1,12 @@
-use Rattle.std.proofs.Common.{◌≤◌, ◌<◌, ℕ, ap, sym, ◌∙◌, subst, arith, map}
+use Rattle.std.proofs.Common.{◌≤◌, ◌<◌, ℕ, ap, ◌∙◌, subst, arith, map}
 use Rattle.sqlite.specs.Held.{state}
 use Rattle.bh_tables.specs.Typed.{Tables}
 use Rattle.bh_schema.specs.Working.{tables_at}
 use Rattle.bh_objects.proofs.Working.{same_tables}
-use Rattle.bh_pages.specs.Versions.{seen, seen_entry, seen_place}
-use Rattle.bh_listing.specs.Versions.{seen_start}
+use Rattle.bh_pages.specs.Versions.{seen_entry, Stands}
+use Rattle.bh_listing.specs.Versions.{seen_start, own_rows, listed_from}
 use Rattle.bh_listing.proofs.Looping.{none_so_far, within_so_far, more_so_far, still_inside}
-use Rattle.bh_listing.proofs.VersionLooping.{HasRead, begin_reading, lines_are, turn_under, turn_ended, turn_on}
+use Rattle.bh_listing.proofs.VersionLooping.{under_rows, begin_reading, are_rows, are_next, lines_are}
 use Rattle.bh_listing.proofs.VersionStarting.{own_strict}
 use Rattle.bh_listing.proofs.Small.{small_keys}
 use Rattle.bh_listing.proofs.versions.gather_versions.Goals as goal
@@ -18,8 +18,8 @@ reading-init g c =
       far = none_so_far old c.requires.working;
       upto = c.in_ok-upto.ensures;
       count = c.begin-reading.ensures.count;
-      read = λ clean. subst (λ p. HasRead c.args.asked.now (seen_start c.args.start) c.args.tenant.now c.args.bucket.now (tables_at old).versions (seen c.begin-reading.result.gathering) (seen_place p)) (sym c.begin-reading.ensures.place)
-          (begin_reading c.args.asked.now (seen_start c.args.start) c.args.tenant.now c.args.bucket.now (tables_at old).versions c.requires.under c.begin-reading.result.gathering c.begin-reading.ensures.gathering);
+      read = λ clean. begin_reading c.args.asked.now c.args.tenant.now c.args.bucket.now (tables_at old).versions c.args.start.place (seen_start c.args.start).key c.requires.under
+          c.begin-reading.result c.begin-reading.ensures.gathering c.begin-reading.ensures.place;
     }
 
 pub lines_at-requires-clause-inside : goal.lines_at-requires-clause-inside
@@ -58,12 +58,15 @@ returns-then-branch-clause-gathered g c = λ clean.
     let sound = (c.requires.working (c.reading.invariant.far.within.follows.clean before)).sound in
     let small = small_keys (tables_at old) sound in
     let strict = own_strict (tables_at old) c.args.tenant.now c.args.bucket.now sound in
+    let rows = under_rows c.args.asked.now c.args.tenant.now c.args.bucket.now (tables_at old).versions in
+    let listing = listed_from c.args.asked.now (seen_start c.args.start) (own_rows c.args.tenant.now c.args.bucket.now (tables_at old).versions) in
     let had = c.reading.invariant.read before in
     let are = lines_are c.args.asked.now c.args.tenant.now c.args.bucket.now (tables_at (state g.S.Store c.reading.connection)).versions (tables_at old).versions c.reading.reading.place.key.items c.reading.reading.place.after
     c.in_ok-upto.upto.items c.as_slice.result.now c.in_ok-lines.lines.items c.as_slice-in-reading.result.now c.reading.reading.count c.as_slice.ensures.value c.reading.invariant.upto c.as_slice-in-reading.ensures.value
     (ap (λ (t : Tables). t.versions) (same_tables old (state g.S.Store c.reading.connection) (c.reading.invariant.far.same before.intact))) (c.in_ok-lines.ensures.lines clean) in
-    let took = c.in_ok-take.ensures.took (turn_under c.args.asked.now (seen_start c.args.start) c.args.tenant.now c.args.bucket.now (tables_at old).versions small strict c.reading.reading had c.as_slice-in-reading.result.now are) in
-    ap (λ v. map seen_entry v.items) c.into_entries.ensures ∙ turn_ended c.args.asked.now (seen_start c.args.start) c.args.tenant.now c.args.bucket.now (tables_at old).versions small strict c.reading.reading had c.as_slice-in-reading.result.now are c.take.new.self c.in_ok-take.field-0 took c.if-branch.true
+    let next = are_next c.args.asked.now c.args.tenant.now c.args.bucket.now (tables_at old).versions small listing c.reading.reading had c.as_slice-in-reading.result.now are in
+    let took = c.in_ok-take.ensures.took rows listing (are_rows c.args.asked.now c.args.tenant.now c.args.bucket.now (tables_at old).versions small strict) had next in
+    ap (λ v. map seen_entry v.items) c.into_entries.ensures ∙ subst (λ e. Stands e c.args.asked.now rows listing c.take.new.self) c.if-branch.true took
 
 pub reading-preserved : goal.reading-preserved
 reading-preserved g c =
@@ -77,12 +80,15 @@ reading-preserved g c =
           let sound = (c.requires.working (c.reading.invariant.far.within.follows.clean before)).sound in
           let small = small_keys (tables_at old) sound in
           let strict = own_strict (tables_at old) c.args.tenant.now c.args.bucket.now sound in
+          let rows = under_rows c.args.asked.now c.args.tenant.now c.args.bucket.now (tables_at old).versions in
+          let listing = listed_from c.args.asked.now (seen_start c.args.start) (own_rows c.args.tenant.now c.args.bucket.now (tables_at old).versions) in
           let had = c.reading.invariant.read before in
           let are = lines_are c.args.asked.now c.args.tenant.now c.args.bucket.now (tables_at (state g.S.Store c.reading.connection)).versions (tables_at old).versions c.reading.reading.place.key.items c.reading.reading.place.after
           c.in_ok-upto.upto.items c.as_slice.result.now c.in_ok-lines.lines.items c.as_slice-in-reading.result.now c.reading.reading.count c.as_slice.ensures.value c.reading.invariant.upto c.as_slice-in-reading.ensures.value
           (ap (λ (t : Tables). t.versions) (same_tables old (state g.S.Store c.reading.connection) (c.reading.invariant.far.same before.intact))) (c.in_ok-lines.ensures.lines clean) in
-          let took = c.in_ok-take.ensures.took (turn_under c.args.asked.now (seen_start c.args.start) c.args.tenant.now c.args.bucket.now (tables_at old).versions small strict c.reading.reading had c.as_slice-in-reading.result.now are) in
-          turn_on c.args.asked.now (seen_start c.args.start) c.args.tenant.now c.args.bucket.now (tables_at old).versions small strict c.reading.reading had c.as_slice-in-reading.result.now are c.take.new.self c.in_ok-take.field-0 took c.if-branch.false;
+          let next = are_next c.args.asked.now c.args.tenant.now c.args.bucket.now (tables_at old).versions small listing c.reading.reading had c.as_slice-in-reading.result.now are in
+          let took = c.in_ok-take.ensures.took rows listing (are_rows c.args.asked.now c.args.tenant.now c.args.bucket.now (tables_at old).versions small strict) had next in
+          subst (λ e. Stands e c.args.asked.now rows listing c.take.new.self) c.if-branch.false took;
     }
 
 pub returns-clause-within : goal.returns-clause-within

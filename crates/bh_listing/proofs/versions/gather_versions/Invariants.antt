@@ -4,17 +4,17 @@ use Rattle.bh_schema.specs.Connections.{IsClean}
 use Rattle.bh_schema.specs.Working.{tables_at}
 use Rattle.bh_pages.specs.Gathered.{past_name}
 use Rattle.bh_pages.specs.Reading.{IsCount}
-use Rattle.bh_pages.specs.Versions.{seen, seen_place}
-use Rattle.bh_listing.specs.Versions.{seen_start}
+use Rattle.bh_pages.specs.Versions.{IsUnderway}
+use Rattle.bh_listing.specs.Versions.{seen_start, own_rows, listed_from}
 use Rattle.bh_listing.proofs.Looping.{SoFar}
-use Rattle.bh_listing.proofs.VersionLooping.{HasRead}
+use Rattle.bh_listing.proofs.VersionLooping.{under_rows}
 use Rattle.bh_listing.proofs.versions.gather_versions.Given as goal
 
--- nothing changed, and what is listed and what is left make up the listing
+-- nothing changed, and the page is underway
 abbrev pub invariant-reading : goal.invariant-reading
 invariant-reading g l = record {
   far : SoFar (state g.S.Store l.fn.connection) (state g.S.Store l.connection);
   upto : l.upto.items ≡ past_name l.asked.prefix.now;
   count : IsCount l.reading.count;
-  read : IsClean g.S.Store l.connection → HasRead l.asked (seen_start l.fn.start) l.tenant l.bucket (tables_at (state g.S.Store l.fn.connection)).versions (seen l.reading.gathering) (seen_place l.reading.place);
+  read : IsClean g.S.Store l.connection → IsUnderway l.asked (under_rows l.asked l.tenant l.bucket (tables_at (state g.S.Store l.fn.connection)).versions) (listed_from l.asked (seen_start l.fn.start) (own_rows l.tenant l.bucket (tables_at (state g.S.Store l.fn.connection)).versions)) l.reading;
 }

@@ -3,7 +3,8 @@ use Rattle.sqlite.specs.Held.{state}
 use Rattle.bh_schema.specs.Working.{tables_at}
 use Rattle.bh_pages.specs.Seen.{token_of}
 use Rattle.bh_pages.proofs.Starting.{start_low}
-use Rattle.bh_listing.specs.Versions.{Beginning, IsUnder, listed_from, own_rows}
+use Rattle.bh_pages.specs.Places.{IsUnder}
+use Rattle.bh_listing.specs.Versions.{Beginning, listed_from, own_rows}
 use Rattle.bh_listing.proofs.VersionStarting.{begins_unmarked, begins_missing, begins_there}
 use Rattle.bh_listing.proofs.versions.start_of.Goals as goal
 

@@ -4,17 +4,19 @@ use Rattle.bh_schema.specs.Connections.{IsClean}
 use Rattle.bh_schema.specs.Working.{tables_at}
 use Rattle.bh_pages.specs.Gathered.{past_name}
 use Rattle.bh_pages.specs.Reading.{IsCount}
-use Rattle.bh_pages.specs.Uploads.{seen}
+use Rattle.bh_pages.specs.Uploads.{IsUnderway}
 use Rattle.bh_pages.specs.Versions.{seen_place}
 use Rattle.bh_listing.proofs.Looping.{SoFar}
-use Rattle.bh_upload_listing.proofs.Looping.{HasRead}
+use Rattle.bh_upload_listing.specs.Rows.{own_items}
+use Rattle.bh_upload_listing.specs.Places.{listed_from}
+use Rattle.bh_upload_listing.proofs.Looping.{under_items}
 use Rattle.bh_upload_listing.proofs.uploads.gather_uploads.Given as goal
 
--- nothing changed, and what is listed and what is left make up the listing
+-- nothing changed, and the page is underway
 abbrev pub invariant-reading : goal.invariant-reading
 invariant-reading g l = record {
   far : SoFar (state g.S.Store l.fn.connection) (state g.S.Store l.connection);
   upto : l.upto.items ≡ past_name l.asked.prefix.now;
   count : IsCount l.reading.count;
-  read : IsClean g.S.Store l.connection → HasRead l.asked (seen_place l.fn.place) l.tenant l.bucket (tables_at (state g.S.Store l.fn.connection)).uploads (seen l.reading.gathering) (seen_place l.reading.place);
+  read : IsClean g.S.Store l.connection → IsUnderway l.asked (under_items l.asked l.tenant l.bucket (tables_at (state g.S.Store l.fn.connection)).uploads) (listed_from l.asked (seen_place l.fn.place) (own_items l.tenant l.bucket (tables_at (state g.S.Store l.fn.connection)).uploads)) l.reading;
 }

@@ -1,7 +1,23 @@
+use Rattle.std.proofs.Common.{◌≡◌, ℕ, List, map, Result, Ok, Err, IfOk, ap, ◌∙◌}
 use Rattle.sqlite.specs.Held.{state}
-use Rattle.bh_tables.proofs.DueText.{past_shown}
+use Rattle.sqlite.specs.Order.{Row}
+use Rattle.sqlite.specs.declared.error.Error.{Error}
+use Rattle.bh_tables.specs.Due.{shown_owner, past_uploads}
+use Rattle.bh_tables.specs.Typed.{Tables}
+use Rattle.bh_tables.proofs.DueText.{asked_uploads, past_shown}
+use Rattle.bh_view.specs.Sound.{IsSound}
+use Rattle.bh_view.proofs.DueLemmas.{asked_are_past}
+use Rattle.bh_schema.specs.Layer.{IsStateClean}
+use Rattle.bh_schema.specs.Working.{tables_at}
 use Rattle.bh_schema.proofs.Calls.{question, ready}
 use Rattle.bh_uploads.proofs.stale.past_rows.Goals as goal
+
+-- in sound tables they are those that SQL finds
+as_past : {X : Type 0} (rows_in : X → List Row) (clean : Type 0) (tables : Tables) (moment limit : ℕ) (result : Result X Error)
+    → IfOk result (λ x. clean → rows_in x ≡ map shown_owner (asked_uploads limit moment tables.buckets tables.uploads))
+    → IfOk result (λ x. clean → IsSound tables → rows_in x ≡ map shown_owner (past_uploads limit moment tables.buckets tables.uploads))
+as_past rows_in clean tables moment limit (Ok x) h = λ is sound. h is ∙ ap (map shown_owner) (asked_are_past tables sound moment limit)
+as_past rows_in clean tables moment limit (Err e) h = tt
 
 pub returns : goal.returns
 returns g c =
@@ -9,4 +25,10 @@ returns g c =
     let old = state g.S.Store c.args.connection.now in
     let new = state g.S.Store c.query_all.new.self in
     let q = question old new (λ v. v.items) _ c.query_all.result c.requires.inside (past_shown old new (ready old c.requires.inside) c.args.moment c.args.limit (λ v. v.items) c.query_all.result h.ok h.err h.survives) in
-    record { within = q.within; opens = q.opens; same = q.same; rows = q.rows; trouble = q.trouble }
+    record {
+      within = q.within;
+      opens = q.opens;
+      same = q.same;
+      rows = as_past (λ v. v.items) (IsStateClean new) (tables_at old) c.args.moment c.args.limit c.query_all.result q.rows;
+      trouble = q.trouble;
+    }

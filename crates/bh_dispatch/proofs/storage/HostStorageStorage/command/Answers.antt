@@ -4,24 +4,26 @@ use Rattle.bh_event.specs.Events.{ShowUsage, ShowKeys}
 use Rattle.bh_model.specs.Operations.{show_usage, show_keys}
 use Rattle.bh_machine.proofs.Bounded.{ordered_bounded}
 use Rattle.bh_storage.specs.Answers.{answer_view}
+use Rattle.bh_schema.specs.Layer.{IsIntact, IsOpen}
 use Rattle.bh_schema.proofs.Storing.{both, parts, keeps}
-use Rattle.bh_dispatch.proofs.Storing.{seen_working, still_working, carried, stored, by_any}
+use Rattle.bh_dispatch.proofs.Storing.{seen_working, still_working, carried, stored, opened, by_any}
 use Rattle.bh_dispatch.proofs.storage.HostStorageStorage.command.Goals as goal
 
 pub show_usage-requires : goal.show_usage-requires
 show_usage-requires g c clean = seen_working g.D.Digester.digest_of c.args.self.now.host.limits (state g.S.Store c.args.self.now.host.connection) (c.requires (parts clean))
 
-pub returns-in-Usage-clause-within : goal.returns-in-Usage-clause-within
-returns-in-Usage-clause-within g c = stored g.S.Store c.args.self.now _ (keeps g.S.Store c.args.self.now.host _ refl c.show_usage.ensures.within)
-
-pub returns-in-Usage-clause-working : goal.returns-in-Usage-clause-working
-returns-in-Usage-clause-working g c =
+pub returns-in-Usage-clause-goes_on : goal.returns-in-Usage-clause-goes_on
+returns-in-Usage-clause-goes_on g c =
     let digest = g.D.Digester.digest_of in
     let old = state g.S.Store c.args.self.now.host.connection in
     let new = state g.S.Store c.show_usage.new.connection in
     let h = c.show_usage.ensures in
     let t = c.as_str.result.now in
-    still_working digest c.args.self.now.host.limits old new answer_view t (show_usage t) c.show_usage.result (λ s bound. ordered_bounded s bound (ShowUsage t)) (λ clean. c.requires (parts (h.within.follows.clean (both clean)))) (by_any digest old new c.show_usage.result h.working) h.carries
+    record {
+      within = stored g.S.Store c.args.self.now _ (keeps g.S.Store c.args.self.now.host _ refl h.within);
+      opens = opened (IsIntact new) (IsOpen old) (IsOpen new) c.show_usage.result h.opens;
+      working = still_working digest c.args.self.now.host.limits old new answer_view t (show_usage t) c.show_usage.result (λ s bound. ordered_bounded s bound (ShowUsage t)) (λ clean. c.requires (parts (h.within.follows.clean (both clean)))) (by_any digest old new c.show_usage.result h.working) h.carries;
+    }
 
 pub returns-in-Usage-clause-carries : goal.returns-in-Usage-clause-carries
 returns-in-Usage-clause-carries g c clean =
@@ -36,17 +38,18 @@ returns-in-Usage-clause-carries g c clean =
 pub show_keys-requires : goal.show_keys-requires
 show_keys-requires g c clean = seen_working g.D.Digester.digest_of c.args.self.now.host.limits (state g.S.Store c.args.self.now.host.connection) (c.requires (parts clean))
 
-pub returns-in-Keys-clause-within : goal.returns-in-Keys-clause-within
-returns-in-Keys-clause-within g c = stored g.S.Store c.args.self.now _ (keeps g.S.Store c.args.self.now.host _ refl c.show_keys.ensures.within)
-
-pub returns-in-Keys-clause-working : goal.returns-in-Keys-clause-working
-returns-in-Keys-clause-working g c =
+pub returns-in-Keys-clause-goes_on : goal.returns-in-Keys-clause-goes_on
+returns-in-Keys-clause-goes_on g c =
     let digest = g.D.Digester.digest_of in
     let old = state g.S.Store c.args.self.now.host.connection in
     let new = state g.S.Store c.show_keys.new.connection in
     let h = c.show_keys.ensures in
     let t = c.as_str-in-Keys.result.now in
-    still_working digest c.args.self.now.host.limits old new answer_view t (show_keys t) c.show_keys.result (λ s bound. ordered_bounded s bound (ShowKeys t)) (λ clean. c.requires (parts (h.within.follows.clean (both clean)))) (by_any digest old new c.show_keys.result h.working) h.carries
+    record {
+      within = stored g.S.Store c.args.self.now _ (keeps g.S.Store c.args.self.now.host _ refl h.within);
+      opens = opened (IsIntact new) (IsOpen old) (IsOpen new) c.show_keys.result h.opens;
+      working = still_working digest c.args.self.now.host.limits old new answer_view t (show_keys t) c.show_keys.result (λ s bound. ordered_bounded s bound (ShowKeys t)) (λ clean. c.requires (parts (h.within.follows.clean (both clean)))) (by_any digest old new c.show_keys.result h.working) h.carries;
+    }
 
 pub returns-in-Keys-clause-carries : goal.returns-in-Keys-clause-carries
 returns-in-Keys-clause-carries g c clean =

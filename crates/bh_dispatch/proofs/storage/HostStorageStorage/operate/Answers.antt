@@ -25,10 +25,12 @@ returns g c =
     let new = state g.S.Store c.operate.new.connection in
     let h = c.operate.ensures in
     record {
-      within = stored g.S.Store c.args.self.now _ (keeps g.S.Store c.args.self.now.host _ refl h.within);
-      opens = opened (IsIntact new) (IsOpen old) (IsOpen new) c.operate.result h.opens;
-      working = still_working g.D.Digester.digest_of l old new answer_view c.args.tenant.now (operated l c.args.at c.args.body.now c.args.operation.now) c.operate.result
-          (λ s bound. operated_bounded s bound l c.args.at c.args.body.now c.args.operation.now) (λ clean. c.requires.working (parts (h.within.follows.clean (both clean)))) h.working h.carries;
+      goes_on = record {
+        within = stored g.S.Store c.args.self.now _ (keeps g.S.Store c.args.self.now.host _ refl h.within);
+        opens = opened (IsIntact new) (IsOpen old) (IsOpen new) c.operate.result h.opens;
+        working = still_working g.D.Digester.digest_of l old new answer_view c.args.tenant.now (operated l c.args.at c.args.body.now c.args.operation.now) c.operate.result
+            (λ s bound. operated_bounded s bound l c.args.at c.args.body.now c.args.operation.now) (λ clean. c.requires.working (parts (h.within.follows.clean (both clean)))) h.working h.carries;
+      };
       carries = λ clean. rw (limits_seen l old) (carried g.D.Digester.digest_of l old new answer_view c.args.tenant.now (operated l c.args.at c.args.body.now c.args.operation.now) c.operate.result
           (c.requires.working (parts (h.within.follows.clean (both clean)))) clean h.working (h.carries (both clean)));
     }

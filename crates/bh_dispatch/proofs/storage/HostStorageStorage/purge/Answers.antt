@@ -17,8 +17,10 @@ returns g c =
     let h = c.purge.ensures in
     let was : AreBoth new → IsAtWork digest l old = λ clean. c.requires (parts (h.within.follows.clean (both clean))) in
     record {
-      within = stored g.S.Store c.args.self.now _ (keeps g.S.Store c.args.self.now.host _ refl h.within);
-      opens = opened_ok (IsIntact new) (IsOpen old) (IsOpen new) c.purge.result h.opens;
-      working = works_after digest l old new c.purge.result c.args.tenant.now c.args.at was h.working h.purges;
+      goes_on = record {
+        within = stored g.S.Store c.args.self.now _ (keeps g.S.Store c.args.self.now.host _ refl h.within);
+        opens = opened_ok (IsIntact new) (IsOpen old) (IsOpen new) c.purge.result h.opens;
+        working = works_after digest l old new c.purge.result c.args.tenant.now c.args.at was h.working h.purges;
+      };
       purges = purged_after digest l old new c.purge.result c.args.tenant.now c.args.at was h.working h.purges;
     }

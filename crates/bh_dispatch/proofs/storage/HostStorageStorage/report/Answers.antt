@@ -18,8 +18,10 @@ returns g c =
     let h = c.report.ensures in
     let was : AreBoth new → IsAtWork digest l old = λ clean. c.requires (parts (h.within.follows.clean (both clean))) in
     record {
-      within = stored g.S.Store c.args.self.now _ (keeps g.S.Store c.args.self.now.host _ refl h.within);
-      opens = opened_ok (IsIntact new) (IsOpen old) (IsOpen new) c.report.result h.opens;
-      working = told_works Reports (λ x a b told. told.same) digest l old new c.report.result was h.working h.reports;
+      goes_on = record {
+        within = stored g.S.Store c.args.self.now _ (keeps g.S.Store c.args.self.now.host _ refl h.within);
+        opens = opened_ok (IsIntact new) (IsOpen old) (IsOpen new) c.report.result h.opens;
+        working = told_works Reports (λ x a b told. told.same) digest l old new c.report.result was h.working h.reports;
+      };
       reports = told_after Reports (λ x a b told. told.same) digest l old new c.report.result was h.working h.reports;
     }

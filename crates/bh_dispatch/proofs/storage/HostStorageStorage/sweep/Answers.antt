@@ -17,8 +17,10 @@ returns g c =
     let h = c.sweep.ensures in
     let was : AreBoth new → IsAtWork digest l old = λ clean. c.requires (parts (h.within.follows.clean (both clean))) in
     record {
-      within = stored g.S.Store c.args.self.now _ (keeps g.S.Store c.args.self.now.host _ refl h.within);
-      opens = opened_ok (IsIntact new) (IsOpen old) (IsOpen new) c.sweep.result h.opens;
-      working = swept_works digest l old new c.sweep.result c.args.at c.args.limit was (h.working digest) h.swept;
+      goes_on = record {
+        within = stored g.S.Store c.args.self.now _ (keeps g.S.Store c.args.self.now.host _ refl h.within);
+        opens = opened_ok (IsIntact new) (IsOpen old) (IsOpen new) c.sweep.result h.opens;
+        working = swept_works digest l old new c.sweep.result c.args.at c.args.limit was (h.working digest) h.swept;
+      };
       sweeps = sweeps_after digest l old new c.sweep.result c.args.at c.args.limit was (h.working digest) h.swept h.uploads h.blocks h.complete (h.purged digest);
     }

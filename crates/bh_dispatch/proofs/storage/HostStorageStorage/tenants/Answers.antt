@@ -19,8 +19,10 @@ returns g c =
     let h = c.tenants.ensures in
     let was : AreBoth new → IsAtWork digest l old = λ clean. c.requires (parts (h.within.follows.clean (both clean))) in
     record {
-      within = stored g.S.Store c.args.self.now _ (keeps g.S.Store c.args.self.now.host _ refl h.within);
-      opens = opened_ok (IsIntact new) (IsOpen old) (IsOpen new) c.tenants.result h.opens;
-      working = told_works (λ (listed : Vec TenantReport Global). Lists listed.items) (λ x a b told. told.same) digest l old new c.tenants.result was h.working h.lists;
+      goes_on = record {
+        within = stored g.S.Store c.args.self.now _ (keeps g.S.Store c.args.self.now.host _ refl h.within);
+        opens = opened_ok (IsIntact new) (IsOpen old) (IsOpen new) c.tenants.result h.opens;
+        working = told_works (λ (listed : Vec TenantReport Global). Lists listed.items) (λ x a b told. told.same) digest l old new c.tenants.result was h.working h.lists;
+      };
       lists = told_after (λ (listed : Vec TenantReport Global). Lists listed.items) (λ x a b told. told.same) digest l old new c.tenants.result was h.working h.lists;
     }
