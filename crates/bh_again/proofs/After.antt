@@ -15,9 +15,10 @@ use Rattle.bh_tables.specs.Typed.{Tables}
 use Rattle.bh_tables.proofs.HostTests.{others_open, other_schema}
 use Rattle.bh_view.specs.Bodies.{IsSoundHost}
 use Rattle.bh_storage.specs.Calls.{IsAtRest}
+use Rattle.bh_cache.specs.Kept.{KeptBlocks}
 use Rattle.bh_schema.specs.Layer.{standing}
 use Rattle.bh_schema.specs.declared.host.Host.{Host}
-use Rattle.bh_schema.specs.Storage.{IsOpen, seen, seen_in, left, left_in}
+use Rattle.bh_schema.specs.Storage.{IsOpen, seen, seen_in, beside, left, left_in}
 use Rattle.bh_schema.proofs.Storing.{sound_host}
 use Rattle.bh_open.specs.Versions.{IsTypedIfFirst}
 use Rattle.bh_open.specs.declared.open.Opened.{Opened}
@@ -39,9 +40,9 @@ second_back opened db is it = subst (λ (x : Tables). CameBack x opened) (second
 sound_schema : (digest : Octets → Octets) (db : Database) → IsSoundHost digest (tables_shown db) → db.schema ≡ host_schema
 sound_schema digest db sound = (sound_host db sound.sound).schema
 
-kept_shown : (l : HostLimits) (s : State) → (seen_in l s).kept ≡ tables_shown (standing s).kept
-unfolding seen_in
-kept_shown l s = refl
+kept_shown : (kept : KeptBlocks) (l : HostLimits) (s : State) → (beside kept (seen_in l s)).kept ≡ tables_shown (standing s).kept
+unfolding seen_in beside
+kept_shown kept l s = refl
 
 module _ {D G : Type 0} {g : Ghosts D} (host : Host (FileStore D g) G) where
   left_shown : (db : Database) → IsLeft host db → left over_files host (tables_shown db)
@@ -75,7 +76,7 @@ module _ {D G : Type 0} {g : Ghosts D} (digest : Octets → Octets) (event : Arr
   came_back : IsOpen over_files new → CameBack (seen over_files new).now opened
   came_back up =
       let it = ready (again.intact clean, up) in
-      let shown : tables_shown (kept_of new) ≡ (seen over_files new).now = sym (kept_shown new.limits (file_state new.connection)) ∙ it.committed in
+      let shown : tables_shown (kept_of new) ≡ (seen over_files new).now = sym (kept_shown new.cache new.limits (file_state new.connection)) ∙ it.committed in
       let schema = sound_schema digest (kept_of new) (subst (IsSoundHost digest) (sym shown) it.sound) in
       subst (λ (x : Tables). CameBack x opened) shown (second_back opened (kept_of new) schema (again.came_back clean up))
 

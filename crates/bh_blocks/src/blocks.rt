@@ -1,4 +1,4 @@
-ghost use Rattle.std.specs.Prelude.{◌≡◌, ◌++◌, ◌∷◌, [], ◌<◌, ◌^◌, List, length, true, map, option_map, IfSome, IfOk, IfErr, OnOk};
+ghost use Rattle.std.specs.Prelude.{◌≡◌, ◌++◌, ◌∷◌, [], ◌<◌, ◌^◌, List, length, true, map, option_map, Contains, IfSome, IfOk, IfErr, OnOk};
 ghost use Rattle.bh_rows.specs.Means.{is_trouble};
 ghost use Rattle.bh_tables.specs.Schema.{Octets};
 ghost use Rattle.bh_tables.specs.Typed.{BlockRow, rebodied};
@@ -6,11 +6,13 @@ ghost use Rattle.bh_tables.specs.Shown.{shown_ord};
 ghost use Rattle.bh_view.specs.Blocks.{least, free_ord as the_free, copy_in};
 ghost use Rattle.bh_view.specs.Bodies.{body_stored};
 ghost use Rattle.bh_schema.specs.Connections.{IsClean, tables, InTransaction, StaysWithin, WasOpen, StaysOpen, ChangesNothing, Becomes, IsTrouble};
+ghost use Rattle.bh_cache.specs.Kept.{AreCopies};
 ghost use Rattle.bh_blocks.specs.Named.{body_at, placed_at};
 
 use crate::refs::{Place, insert_ref, refer};
 use crate::rows::{copy_rows, in_range, insert_block, ord_rows, read_ord};
 use crate::uses::insert_use;
+use bh_cache::blocks::{BlockCache, BlockName};
 use bh_schema::host::Digester;
 use sqlite::{Alter, Connection, Error, ErrorCode, Row};
 
@@ -34,6 +36,43 @@ fn find_copy<S: Alter>(
         None => Ok(None),
         Some(row) => Ok(Some(read_ord(row)?)),
     }
+}
+
+/// Whether the first block of a digest is kept in memory and has these bytes.
+fn is_kept(cache: &BlockCache, digest: &[u8], bytes: &[u8]) -> bool
+    ensures { result ≡ true → Contains cache.now.entries ((digest.now, 0), bytes.now) }
+{
+    let Some(name) = BlockName::new(digest, 0) else {
+        return false;
+    };
+    match cache.kept(&name) {
+        Some(kept) => kept == bytes,
+        None => false,
+    }
+}
+
+/// The ordinal of the block of a digest that holds these bytes, if there is one. No row is read where it is kept in memory and the
+/// first of its digest.
+fn find_kept<S: Alter>(
+    connection: &mut Connection<S>,
+    cache: &BlockCache,
+    digest: &[u8],
+    bytes: &[u8],
+) -> Result<Option<u64>, Error>
+    requires inside { InTransaction S.Store connection.old }
+    requires copies { IsClean S.Store connection.old → AreCopies cache.now (tables S.Store connection.old).blocks }
+    ensures within { StaysWithin S.Store connection.old connection.new }
+    ensures opens { OnOk result (StaysOpen S.Store connection.old connection.new) }
+    ensures same { OnOk result (ChangesNothing S.Store connection.old connection.new) }
+    ensures found { IfOk result (λ found. IsClean S.Store connection.new
+        → found ≡ option_map (λ (b : BlockRow). b.ord) (copy_in digest.now bytes.now (tables S.Store connection.old).blocks)) }
+    ensures small { IfOk result (λ found. IfSome found (λ ord. ord < 2 ^ 63)) }
+    ensures trouble { IfErr result (IsTrouble S.Store connection.old connection.new) }
+{
+    if is_kept(cache, digest, bytes) {
+        return Ok(Some(0));
+    }
+    find_copy(connection, digest, bytes)
 }
 
 /// The least number that no row has, of rows by ordinal.
@@ -117,17 +156,19 @@ fn store_new<S: Alter>(
 }
 
 /// Stores one piece of a body at its place: a reference to the block of its bytes, which is added unless one holds
-/// equal bytes. The bytes have this digest.
+/// equal bytes. The bytes have this digest. The cache is asked before the rows.
 ///
 /// A new block gets the least ordinal that no block of its digest has, and is written with its count of uses. After an
 /// error the transaction is to be taken back.
 pub fn store_named<S: Alter>(
     connection: &mut Connection<S>,
+    cache: &BlockCache,
     at: &Place<'_>,
     digest: &[u8; 32],
     bytes: &[u8],
 ) -> Result<(), Error>
     requires inside { InTransaction S.Store connection.old }
+    requires copies { IsClean S.Store connection.old → AreCopies cache.now (tables S.Store connection.old).blocks }
     requires body { at.now.body < 2 ^ 63 }
     requires place { at.now.place < 2 ^ 63 }
     ensures within { StaysWithin S.Store connection.old connection.new }
@@ -135,7 +176,7 @@ pub fn store_named<S: Alter>(
     ensures stored { (digest_of : Octets → Octets) → digest.now ≡ digest_of bytes.now → OnOk result (Becomes S.Store connection.old connection.new
         (body_stored digest_of (body_at at.now) at.now.place (bytes.now ∷ []))) }
 {
-    match find_copy(connection, digest, bytes)? {
+    match find_kept(connection, cache, digest, bytes)? {
         Some(ord) => refer(connection, at, digest, ord, bytes.len() as u64),
         None => store_new(connection, at, digest, bytes),
     }
@@ -144,11 +185,13 @@ pub fn store_named<S: Alter>(
 /// The same, of any bytes.
 pub fn store_piece<S: Alter, D: Digester>(
     connection: &mut Connection<S>,
+    cache: &BlockCache,
     digester: &D,
     at: &Place<'_>,
     bytes: &[u8],
 ) -> Result<(), Error>
     requires inside { InTransaction S.Store connection.old }
+    requires copies { IsClean S.Store connection.old → AreCopies cache.now (tables S.Store connection.old).blocks }
     requires body { at.now.body < 2 ^ 63 }
     requires place { at.now.place < 2 ^ 63 }
     ensures within { StaysWithin S.Store connection.old connection.new }
@@ -157,5 +200,5 @@ pub fn store_piece<S: Alter, D: Digester>(
         (body_stored D.digest_of (body_at at.now) at.now.place (bytes.now ∷ []))) }
 {
     let digest = digester.digest(bytes);
-    store_named(connection, at, &digest, bytes)
+    store_named(connection, cache, at, &digest, bytes)
 }

@@ -9,6 +9,7 @@ ghost use Rattle.bh_tables.specs.Shown.{ref_name, shown_ref};
 ghost use Rattle.bh_view.specs.Blocks.{AreDigests};
 ghost use Rattle.bh_view.specs.Bodies.{pieces, body_stored, body_again, body_copied, bodies_joined, body_dropped, AddsBody};
 ghost use Rattle.bh_schema.specs.Connections.{IsOpen, IsClean, stands, tables, InTransaction, InMidst, Turns, StaysWithin, StaysOpen, ChangesNothing, Becomes, IsTrouble, IsTroubleIf};
+ghost use Rattle.bh_cache.specs.Kept.{AreCopies};
 ghost use Rattle.bh_blocks.specs.Named.{body_at};
 ghost use Rattle.bh_blocks.specs.Added.{IsNewBody, bytes_in};
 ghost use Rattle.bh_blocks.specs.Uses.{IsUsed, AreUsed};
@@ -17,6 +18,7 @@ use crate::blocks::{store_named, store_piece};
 use crate::refs::{Place, delete_refs, read_ref, ref_rows, refer};
 use crate::rows::in_range;
 use crate::uses::lower_uses;
+use bh_cache::blocks::BlockCache;
 use bh_schema::host::Digester;
 use sqlite::{Alter, Connection, Error, Row};
 use std::alloc::Global;
@@ -35,6 +37,7 @@ fn cut_off(bytes: &[u8], size: u64) -> (&[u8], &[u8])
 /// No reference of a body of this name is to be there yet. After an error the transaction is to be taken back.
 fn store_pieces<S: Alter, D: Digester>(
     connection: &mut Connection<S>,
+    cache: &BlockCache,
     digester: &D,
     block_size: u64,
     tenant: &str,
@@ -42,6 +45,7 @@ fn store_pieces<S: Alter, D: Digester>(
     bytes: &[u8],
 ) -> Result<(), Error>
     requires inside { InTransaction S.Store connection.old }
+    requires copies { IsClean S.Store connection.old → AreCopies cache.now (tables S.Store connection.old).blocks }
     requires size { 1 ≤ block_size }
     requires small { body < 2 ^ 63 }
     ensures within { StaysWithin S.Store connection.old connection.new }
@@ -58,7 +62,7 @@ fn store_pieces<S: Alter, D: Digester>(
             body,
             place,
         };
-        store_piece(connection, digester, &at, piece)?;
+        store_piece(connection, cache, digester, &at, piece)?;
         place += 1;
         rest = more;
     }
@@ -78,6 +82,7 @@ fn is_one_piece(bytes: &[u8], size: u64) -> bool
 /// Stores a body as one block. Its SHA-256 digest (FIPS 180-4) is known.
 fn store_whole<S: Alter, D: Digester>(
     connection: &mut Connection<S>,
+    cache: &BlockCache,
     digester: &D,
     tenant: &str,
     body: u64,
@@ -85,6 +90,7 @@ fn store_whole<S: Alter, D: Digester>(
     checksum: &[u8; 32],
 ) -> Result<(), Error>
     requires inside { InTransaction S.Store connection.old }
+    requires copies { IsClean S.Store connection.old → AreCopies cache.now (tables S.Store connection.old).blocks }
     requires small { body < 2 ^ 63 }
     requires known { checksum.now ≡ sha256 bytes.now }
     ensures within { StaysWithin S.Store connection.old connection.new }
@@ -98,7 +104,7 @@ fn store_whole<S: Alter, D: Digester>(
         body,
         place: 0,
     };
-    store_named(connection, &at, &digest, bytes)
+    store_named(connection, cache, &at, &digest, bytes)
 }
 
 /// Stores a body, cut into blocks of a size. Its SHA-256 digest (FIPS 180-4) is known, so a body of one block is not
@@ -107,6 +113,7 @@ fn store_whole<S: Alter, D: Digester>(
 /// No reference of a body of this name is to be there yet. After an error the transaction is to be taken back.
 pub fn store_body<S: Alter, D: Digester>(
     connection: &mut Connection<S>,
+    cache: &BlockCache,
     digester: &D,
     block_size: u64,
     tenant: &str,
@@ -115,6 +122,7 @@ pub fn store_body<S: Alter, D: Digester>(
     checksum: &[u8; 32],
 ) -> Result<(), Error>
     requires inside { InTransaction S.Store connection.old }
+    requires copies { IsClean S.Store connection.old → AreCopies cache.now (tables S.Store connection.old).blocks }
     requires size { 1 ≤ block_size }
     requires small { body < 2 ^ 63 }
     requires known { checksum.now ≡ sha256 bytes.now }
@@ -127,9 +135,9 @@ pub fn store_body<S: Alter, D: Digester>(
         → AddsBody D.digest_of (tenant.now, body) bytes.now (tables S.Store connection.old) (tables S.Store connection.new)) }
 {
     if is_one_piece(bytes, block_size) {
-        return store_whole(connection, digester, tenant, body, bytes, checksum);
+        return store_whole(connection, cache, digester, tenant, body, bytes, checksum);
     }
-    store_pieces(connection, digester, block_size, tenant, body, bytes)
+    store_pieces(connection, cache, digester, block_size, tenant, body, bytes)
 }
 
 /// Refers to the block that a row of references names once more.

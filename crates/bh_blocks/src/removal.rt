@@ -1,16 +1,19 @@
-ghost use Rattle.std.specs.Prelude.{◌≡◌, ◌<◌, ◌^◌, List, map, length, true, false, IfOk, IfErr, OnOk};
+ghost use Rattle.std.specs.Prelude.{◌≡◌, ◌≢◌, ◌<◌, ◌^◌, List, Contains, map, length, true, false, IfOk, IfErr, OnOk};
 ghost use Rattle.std.specs.List.{AllByRecursion, list_any};
 ghost use Rattle.sqlite_keyed.specs.Lists.{delete_where};
 ghost use Rattle.bh_tables.specs.Schema.{Octets};
 ghost use Rattle.bh_tables.specs.Typed.{BlockRow, rebodied};
-ghost use Rattle.bh_tables.specs.Shown.{block_name, is_block, is_use, is_unreferenced, shown_name, unreferenced};
+ghost use Rattle.bh_tables.specs.Shown.{Name, block_name, is_block, is_use, is_unreferenced, shown_name, unreferenced};
 ghost use Rattle.bh_view.specs.Blocks.{blocks_without, AreDigests};
 ghost use Rattle.bh_view.specs.Sound.{IsSound};
 ghost use Rattle.bh_view.specs.Becomes.{KeepsBodies};
 ghost use Rattle.bh_schema.specs.Connections.{IsOpen, IsClean, tables, InTransaction, StaysWithin, WasOpen, StaysOpen, ChangesNothing, Becomes, IsTrouble, IsTroubleIf};
+ghost use Rattle.bh_cache.specs.Kept.{Agrees};
+ghost use Rattle.bh_blocks.specs.Named.{stored_name};
 
-use crate::rows::{delete_block, read_name};
+use crate::rows::{StoredName, delete_block, read_name};
 use crate::uses::{delete_use, unreferenced_rows};
+use bh_cache::blocks::{BlockCache, BlockName};
 use sqlite::{Alter, Connection, Error, Row};
 
 /// Takes a block away with its count of uses. A block that a reference names is refused.
@@ -33,8 +36,23 @@ fn remove_block<S: Alter>(
     Ok(())
 }
 
-/// Takes the block away that a row names.
-fn remove_named<S: Alter>(connection: &mut Connection<S>, row: &Row) -> Result<(), Error>
+/// A block that goes is no longer kept in memory.
+fn forget(cache: &mut BlockCache, name: &StoredName)
+    ensures { (e : Name × Octets) → Contains cache.new.entries e → Contains cache.old.entries e × (e.0 ≢ stored_name name.now) }
+{
+    match BlockName::new(&name.digest, name.ord) {
+        Some(name) => cache.forget(&name),
+        // No block has a digest of another length.
+        None => cache.clear(),
+    }
+}
+
+/// Takes the block away that a row names, with what is kept of it in memory.
+fn remove_named<S: Alter>(
+    connection: &mut Connection<S>,
+    cache: &mut BlockCache,
+    row: &Row,
+) -> Result<(), Error>
     requires inside { InTransaction S.Store connection.old }
     ensures within { StaysWithin S.Store connection.old connection.new }
     ensures opens { OnOk result (StaysOpen S.Store connection.old connection.new) }
@@ -43,13 +61,21 @@ fn remove_named<S: Alter>(connection: &mut Connection<S>, row: &Row) -> Result<(
         (λ rows. rebodied rows rows.refs (delete_where (is_block (block_name b)) rows.blocks))) }
     ensures trouble { IfErr result (λ e. (b : BlockRow) → row.now ≡ shown_name b → IsTroubleIf S.Store connection.old connection.new
         (is_unreferenced (tables S.Store connection.old).refs b ≡ true) e) }
+    ensures kept { OnOk result ((b : BlockRow) → row.now ≡ shown_name b → IsClean S.Store connection.new
+        → Agrees cache.old (tables S.Store connection.old).blocks → Agrees cache.new (tables S.Store connection.new).blocks) }
 {
     let name = read_name(row)?;
-    remove_block(connection, &name.digest, name.ord)
+    remove_block(connection, &name.digest, name.ord)?;
+    forget(cache, &name);
+    Ok(())
 }
 
-/// Takes the blocks away that rows name.
-fn remove_all<S: Alter>(connection: &mut Connection<S>, rows: &[Row]) -> Result<(), Error>
+/// Takes the blocks away that rows name, with what is kept of them in memory.
+fn remove_all<S: Alter>(
+    connection: &mut Connection<S>,
+    cache: &mut BlockCache,
+    rows: &[Row],
+) -> Result<(), Error>
     requires inside { InTransaction S.Store connection.old }
     ensures within { StaysWithin S.Store connection.old connection.new }
     ensures opens { OnOk result (StaysOpen S.Store connection.old connection.new) }
@@ -58,17 +84,20 @@ fn remove_all<S: Alter>(connection: &mut Connection<S>, rows: &[Row]) -> Result<
     ensures trouble { IfErr result (λ e. (gone : List BlockRow) → rows.now ≡ map shown_name gone
         → IsTroubleIf S.Store connection.old connection.new
         (IsOpen S.Store connection.old × AllByRecursion (λ b. is_unreferenced (tables S.Store connection.old).refs b ≡ true) gone) e) }
+    ensures kept { OnOk result ((gone : List BlockRow) → rows.now ≡ map shown_name gone → IsClean S.Store connection.new
+        → Agrees cache.old (tables S.Store connection.old).blocks → Agrees cache.new (tables S.Store connection.new).blocks) }
 {
     for row in rows {
-        remove_named(connection, row)?;
+        remove_named(connection, cache, row)?;
     }
     Ok(())
 }
 
 /// Takes the first blocks away, by digest and ordinal, that no reference names, at most `limit` of them, and tells
-/// how many. After an error the transaction is to be taken back.
+/// how many; nothing is kept of them in memory. After an error the transaction is to be taken back.
 pub fn remove_unreferenced<S: Alter>(
     connection: &mut Connection<S>,
+    cache: &mut BlockCache,
     limit: u32,
 ) -> Result<usize, Error>
     requires inside { InTransaction S.Store connection.old }
@@ -81,10 +110,12 @@ pub fn remove_unreferenced<S: Alter>(
     ensures keeps { (digest : Octets → Octets) → OnOk result (IsClean S.Store connection.new
         → IsSound (tables S.Store connection.old) → AreDigests digest (tables S.Store connection.old).blocks
         → KeepsBodies digest (tables S.Store connection.old) (tables S.Store connection.new)) }
+    ensures kept { OnOk result (IsClean S.Store connection.new
+        → Agrees cache.old (tables S.Store connection.old).blocks → Agrees cache.new (tables S.Store connection.new).blocks) }
     ensures trouble { IfErr result (IsTrouble S.Store connection.old connection.new) }
 {
     let rows = unreferenced_rows(connection, u64::from(limit))?;
-    remove_all(connection, &rows)?;
+    remove_all(connection, cache, &rows)?;
     Ok(rows.len())
 }
 

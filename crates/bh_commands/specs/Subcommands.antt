@@ -15,6 +15,7 @@ use Rattle.bh_tables.specs.Typed.{Tables}
 use Rattle.bh_view.specs.Bodies.{IsSoundHost}
 use Rattle.bh_view.specs.View.{latest_of}
 use Rattle.bh_storage.specs.Calls.{IsAtRest}
+use Rattle.bh_cache.specs.Kept.{no_blocks}
 use Rattle.bh_schema.specs.Layer.{standing, IsOpen, IsStateClean, KeepsDisk, LeavesNothingNew, Unwinds}
 use Rattle.bh_schema.specs.Storage.{seen_in}
 use Rattle.bh_schema.specs.Storage as storage
@@ -97,9 +98,9 @@ abbrev pub Makes : HostLimits → BlockDigest → State → State → Printed �
 Makes limits digest old new printed = IsNotMade old new printed ⊎ IsMade limits digest old new printed
 
 module _ {S : Type 0} (g : Ghosts S) where
-  -- the host of a database that was opened, by a digester, and by that of a function
+  -- the host of a database that was opened, by a digester, and by that of a function: it keeps no block in memory yet
   abbrev pub host_with : {D : Type 0} → Opened S → D → HostStorage S D
-  host_with opened digester = record { host = record { connection = opened.connection; digester = digester; limits = opened.limits; tuning = opened.tuning } }
+  host_with opened digester = record { host = record { connection = opened.connection; digester = digester; limits = opened.limits; cache = no_blocks opened.tuning } }
 
   abbrev pub host_by : (digest : BlockDigest) → Opened S → HostStorage S (digester_of digest)
   host_by digest opened = host_with opened (the_digester digest)

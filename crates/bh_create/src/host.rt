@@ -3,10 +3,12 @@ ghost use Rattle.sqlite.specs.Held.{state};
 ghost use Rattle.bh_types.specs.declared.refusal.Refusal.TheVariants as refusal;
 ghost use Rattle.bh_rows.specs.Means.{is_trouble};
 ghost use Rattle.bh_tables.specs.Schema.{no_schema};
+ghost use Rattle.bh_cache.specs.Kept.{no_blocks};
 ghost use Rattle.bh_schema.specs.Layer.{standing, IsIntact, IsStateClean, taken_back, KeepsDisk};
 ghost use Rattle.bh_create.specs.Creation.{IsEmpty, IsNewHost};
 
 use crate::fill::make;
+use bh_cache::blocks::BlockCache;
 use bh_schema::host::{Digester, Host};
 use bh_types::block_digest::BlockDigest;
 use bh_types::limits::{Limits, Tuning};
@@ -34,7 +36,7 @@ fn is_empty(schema: &Schema) -> bool
 }
 
 /// A new host in an empty database: it has these limits and no tenant, keeps which function names its blocks, its last
-/// stamp is 0 (seconds since 1970), and it is committed, so that a crash leaves it.
+/// stamp is 0 (seconds since 1970), and it is committed, so that a crash leaves it. No block is kept in memory.
 ///
 /// `NotAHostFile` where the database has a table, an index or a view, and then the connection is as it was.
 /// `Unavailable` where memory or the store was wanting, or a transaction was open, or a limit on the steps of a
@@ -46,7 +48,7 @@ pub fn create<S: Alter + Drop, D: Digester + Drop>(
     limits: Limits,
     tuning: Tuning,
 ) -> Result<Host<S, D>, CreateError<S, D>>
-    ensures given { IfOk result (λ host. (host.limits ≡ limits) × (host.tuning ≡ tuning) × (host.digester ≡ digester)) }
+    ensures given { IfOk result (λ host. (host.limits ≡ limits) × (host.cache ≡ no_blocks tuning) × (host.digester ≡ digester)) }
     ensures empty { IfOk result (λ host. IsEmpty (state S.Store connection)) }
     ensures follows { IfOk result (λ host. KeepsDisk (state S.Store connection) (state S.Store host.connection)) }
     ensures made { IfOk result (λ host. IsStateClean (state S.Store host.connection)
@@ -77,7 +79,7 @@ pub fn create<S: Alter + Drop, D: Digester + Drop>(
             connection,
             digester,
             limits,
-            tuning,
+            cache: BlockCache::new(tuning),
         }),
         Err(error) => Err(CreateError {
             refusal: Refusal::Unavailable,

@@ -20,10 +20,12 @@ use Rattle.bh_storage.specs.declared.error.StepError.{StepError}
 use Rattle.bh_storage.specs.declared.error.StepError.TheVariants.{Refused, Failed}
 use Rattle.bh_storage.specs.declared.report.SweepReport.{SweepReport}
 use Rattle.bh_storage.specs.Calls as calls
+use Rattle.bh_cache.specs.Kept.{KeptBlocks, Agrees}
 use Rattle.bh_schema.specs.Layer.{IsStateClean}
-use Rattle.bh_schema.specs.Storage.{seen_in, IsIntact, IsOpen, seen, left, Keeps}
+use Rattle.bh_schema.specs.Storage.{seen_in, beside, IsIntact, IsOpen, seen, left, Keeps}
 use Rattle.bh_schema.specs.Working.{tables_at, IsWorking, StillWorking, StillWorkingBy}
-use Rattle.bh_schema.proofs.Storing.{AreBoth, both, inside_of, shows_in, holds_seen, same_limits}
+use Rattle.bh_cache.proofs.Agreeing.{agrees_grown}
+use Rattle.bh_schema.proofs.Storing.{AreBoth, both, inside_of, shows_in, holds_seen, same_limits, beside_agreed, works_agreed, plain, under}
 use Rattle.bh_operation.specs.declared.operation.Operation.{Operation}
 use Rattle.bh_dispatch.specs.Stored.{StoresBody}
 use Rattle.bh_dispatch.specs.declared.storage.HostStorage.{HostStorage}
@@ -171,6 +173,10 @@ module _ {X E : Type 0} (Told : X → Tables → Tables → Type 0) (stays : (x 
   told_after (Ok x) was still h = λ clean. rw (shows_in l old (was clean), (shown_now l new (still (both clean) digest).is).0) (h (both clean))
   told_after (Err e) was still h = tt
 
+  pub told_blocks : (result : Result X E) → IfOk result (λ x. IsStateClean new → Told x (tables_at old) (tables_at new)) → OnOk result (IsStateClean new → (tables_at new).blocks ≡ (tables_at old).blocks)
+  told_blocks (Ok x) h = λ clean. ap (λ (t : Tables). t.blocks) (stays x (tables_at old) (tables_at new) (h clean))
+  told_blocks (Err e) h = tt
+
 pub opened_ok : {X E : Type 0} (I A B : Type 0) (result : Result X E) → OnOk result (I → A → B) → OnOk result (A → I → B)
 opened_ok I A B (Ok x) h = λ up intact. h intact up
 opened_ok I A B (Err e) h = tt
@@ -194,3 +200,82 @@ module _ (digest : Octets → Octets) (size : ℕ) (body : Octets) (old new : St
   pub stores_none : {X E : Type 0} (result : Result X E) (is own : Operation) → is ≡ own → StoredBy own → OnOk result (StoredBy is)
   stores_none (Ok x) is own same h = subst StoredBy (sym same) h
   stores_none (Err e) is own same h = tt
+
+-- ---- beside blocks that are kept in memory
+
+pub limits_shown : (kept : KeptBlocks) (l : HostLimits) (s : State) → (beside kept (seen_in l s)).limits ≡ l
+unfolding seen_in beside
+limits_shown kept l s = refl
+
+-- what is kept agrees with the rows
+pub agrees_seen : {digest : Octets → Octets} (kept : KeptBlocks) (l : HostLimits) (s : State) → calls.IsWorking (IsSoundHost digest) (beside kept (seen_in l s)) → Agrees kept (tables_at s).blocks
+agrees_seen kept l s working = subst (λ (t : Tables). Agrees kept t.blocks) (shows_in l s (under _ _ working)) (works_agreed _ _ working)
+
+module _ (digest : Octets → Octets) (before after : KeptBlocks) (l : HostLimits) (old new : State) (was : AreBoth new → calls.IsWorking (IsSoundHost digest) (beside before (seen_in l old))) where
+  plain_now : IsAtWork digest l new → Agrees after (tables_at new).blocks → beside after (seen_in l new) ≡ seen_in l new
+  plain_now working agrees = beside_agreed after (seen_in l new) (subst (λ (t : Tables). Agrees after t.blocks) (sym (shows_in l new working)) agrees)
+
+  at_work : IsAtWork digest l new → Agrees after (tables_at new).blocks → calls.IsWorking (IsSoundHost digest) (beside after (seen_in l new))
+  at_work working agrees = subst (calls.IsWorking (IsSoundHost digest)) (sym (plain_now working agrees)) working
+
+  told : (P : Tables → Tables → Type 0) → AreBoth new → IsAtWork digest l new → Agrees after (tables_at new).blocks → P (seen_in l old).now (seen_in l new).now → P (beside before (seen_in l old)).now (beside after (seen_in l new)).now
+  told P clean working agrees h = rw (plain _ _ (was clean), plain_now working agrees) h
+
+  -- of a step
+  module _ {X E : Type 0} where
+    pub works_beside : (result : Result X (StepError E)) → calls.Unless result (AreBoth new → IsAtWork digest l new) → calls.Unless result (IsStateClean new → Agrees after (tables_at new).blocks)
+        → calls.Unless result (AreBoth new → calls.IsWorking (IsSoundHost digest) (beside after (seen_in l new)))
+    works_beside (Ok x) working agrees = λ clean. at_work (working clean) (agrees (both clean))
+    works_beside (Err (Refused r)) working agrees = λ clean. at_work (working clean) (agrees (both clean))
+    works_beside (Err (Failed trouble)) working agrees = tt
+
+    pub carries_beside : {Y : Type 0} (shown : X → Y) (t : Octets) (step : Option Machine → Result (Y × Option Machine) E) (result : Result X (StepError E)) → AreBoth new
+        → calls.Unless result (AreBoth new → IsAtWork digest l new) → calls.Unless result (IsStateClean new → Agrees after (tables_at new).blocks)
+        → calls.Carries shown t step (seen_in l old).now (seen_in l new).now result → calls.Carries shown t step (beside before (seen_in l old)).now (beside after (seen_in l new)).now result
+    carries_beside shown t step (Ok x) clean working agrees h = told (λ a b. calls.Carries shown t step a b (Ok x)) clean (working clean) (agrees (both clean)) h
+    carries_beside shown t step (Err (Refused r)) clean working agrees h = told (λ a b. calls.Carries shown t step a b (Err (Refused r))) clean (working clean) (agrees (both clean)) h
+    carries_beside shown t step (Err (Failed trouble)) clean working agrees h = tt
+
+  -- of another call
+  module _ {X E : Type 0} (result : Result X E) (working : OnOk result (AreBoth new → IsAtWork digest l new)) (agrees : OnOk result (IsStateClean new → Agrees after (tables_at new).blocks)) where
+    pub works_after_all : OnOk result (AreBoth new → calls.IsWorking (IsSoundHost digest) (beside after (seen_in l new)))
+    works_after_all = go result working agrees
+      where
+        go : (r : Result X E) → OnOk r (AreBoth new → IsAtWork digest l new) → OnOk r (IsStateClean new → Agrees after (tables_at new).blocks) → OnOk r (AreBoth new → calls.IsWorking (IsSoundHost digest) (beside after (seen_in l new)))
+        go (Ok x) w a = λ clean. at_work (w clean) (a (both clean))
+        go (Err e) w a = tt
+
+    pub shown_beside : (P : Tables → Tables → Type 0) → OnOk result (AreBoth new → P (seen_in l old).now (seen_in l new).now) → OnOk result (AreBoth new → P (beside before (seen_in l old)).now (beside after (seen_in l new)).now)
+    shown_beside P h = go result working agrees h
+      where
+        go : (r : Result X E) → OnOk r (AreBoth new → IsAtWork digest l new) → OnOk r (IsStateClean new → Agrees after (tables_at new).blocks) → OnOk r (AreBoth new → P (seen_in l old).now (seen_in l new).now)
+            → OnOk r (AreBoth new → P (beside before (seen_in l old)).now (beside after (seen_in l new)).now)
+        go (Ok x) w a h = λ clean. told P clean (w clean) (a (both clean)) (h clean)
+        go (Err e) w a h = tt
+
+    pub told_beside : (P : X → Tables → Tables → Type 0) → IfOk result (λ x. AreBoth new → P x (seen_in l old).now (seen_in l new).now) → IfOk result (λ x. AreBoth new → P x (beside before (seen_in l old)).now (beside after (seen_in l new)).now)
+    told_beside P h = go result working agrees h
+      where
+        go : (r : Result X E) → OnOk r (AreBoth new → IsAtWork digest l new) → OnOk r (IsStateClean new → Agrees after (tables_at new).blocks) → IfOk r (λ x. AreBoth new → P x (seen_in l old).now (seen_in l new).now)
+            → IfOk r (λ x. AreBoth new → P x (beside before (seen_in l old)).now (beside after (seen_in l new)).now)
+        go (Ok x) w a h = λ clean. told (P x) clean (w clean) (a (both clean)) (h clean)
+        go (Err e) w a h = tt
+
+-- a step of a tenant takes no block away
+pub kept_carried : {X Y E : Type 0} (kept : KeptBlocks) (shown : X → Y) (t : Octets) (step : Option Machine → Result (Y × Option Machine) E) (result : Result X (StepError E)) (old new : State)
+    → (IsStateClean new → Agrees kept (tables_at old).blocks) → (IsStateClean new → calls.Carries shown t step (tables_at old) (tables_at new) result) → calls.Unless result (IsStateClean new → Agrees kept (tables_at new).blocks)
+kept_carried kept shown t step (Ok x) old new agrees carries = λ clean.
+    let shared = (carries clean).shared in subst (Agrees kept) (sym shared.grown) (agrees_grown kept (tables_at old).blocks shared.added (agrees clean))
+kept_carried kept shown t step (Err (Refused r)) old new agrees carries = λ clean. subst (λ (x : Tables). Agrees kept x.blocks) (sym (carries clean).1) (agrees clean)
+kept_carried kept shown t step (Err (Failed trouble)) old new agrees carries = tt
+
+-- the blocks stay
+pub kept_ok : {X E : Type 0} (kept : KeptBlocks) (result : Result X E) (old new : State) → (IsStateClean new → Agrees kept (tables_at old).blocks) → OnOk result (IsStateClean new → (tables_at new).blocks ≡ (tables_at old).blocks)
+    → OnOk result (IsStateClean new → Agrees kept (tables_at new).blocks)
+kept_ok kept (Ok x) old new agrees same = λ clean. subst (Agrees kept) (sym (same clean)) (agrees clean)
+kept_ok kept (Err e) old new agrees same = tt
+
+-- those of a purge do
+pub purged_blocks : (t : Octets) (at : ℕ) (x : Tables) → (rows_purged t at x).blocks ≡ x.blocks
+unfolding rows_purged
+purged_blocks t at x = refl

@@ -11,6 +11,7 @@ ghost use Rattle.bh_view.specs.View.{latest_of};
 ghost use Rattle.bh_storage.specs.Answers.{answer_view};
 ghost use Rattle.bh_storage.specs.Calls.{Unless, Carries};
 ghost use Rattle.bh_schema.specs.Connections.{IsClean, tables, StaysWithin, StaysOpen};
+ghost use Rattle.bh_cache.specs.Kept.{Agrees, AreCopies};
 ghost use Rattle.bh_schema.specs.Working.{Works, StillWorks, StillWorksBy};
 ghost use Rattle.bh_dispatch.specs.Stored.{StoresBody};
 
@@ -24,6 +25,7 @@ use bh_operation::operation::{CopySource, Operation};
 use bh_operation::page::{Page, VersionMarker};
 use bh_operation::text::Bytes;
 use bh_pages::gathering::Asked;
+use bh_cache::blocks::BlockCache;
 use bh_schema::host::Digester;
 use bh_storage::answer::Answer;
 use bh_storage::error::{StepError, Trouble};
@@ -157,6 +159,7 @@ fn set_versioning<S: Alter>(
 
 fn put_object<S: Alter, D: Digester>(
     connection: &mut Connection<S>,
+    cache: &BlockCache,
     alloc: Global,
     digester: &D,
     block_size: u64,
@@ -164,6 +167,7 @@ fn put_object<S: Alter, D: Digester>(
     given: Option<&[u8]>,
 ) -> Result<Answer, StepError<Rejection>>
     requires working { Works S.Store connection.old }
+    requires copies { IsClean S.Store connection.old → AreCopies cache.now (tables S.Store connection.old).blocks }
     requires digests { IsClean S.Store connection.old → AreDigests D.digest_of (tables S.Store connection.old).blocks }
     requires positive { 1 ≤ block_size }
     requires early { IsClean S.Store connection.old → object.now.at ≤ latest_of (tables S.Store connection.old) }
@@ -176,7 +180,9 @@ fn put_object<S: Alter, D: Digester>(
     ensures blocks { OnOk result (IsClean S.Store connection.new
         → StoresPieces D.digest_of block_size object.now.bytes.now (tables S.Store connection.old) (tables S.Store connection.new)) }
 {
-    answers::stored(objects::put_object(connection, alloc, digester, block_size, object, given))
+    answers::stored(objects::put_object(
+        connection, cache, alloc, digester, block_size, object, given,
+    ))
 }
 
 fn copy_object<S: Alter>(
@@ -212,22 +218,27 @@ fn copy_object<S: Alter>(
 
 fn get_object<S: Alter>(
     connection: &mut Connection<S>,
+    cache: &mut BlockCache,
     alloc: Global,
     tenant: &TenantName,
     object: &ObjectName,
     version: Wanted,
     range: Option<&[u8]>,
 ) -> Result<Answer, StepError<Rejection>>
-    requires { Works S.Store connection.old }
+    requires working { Works S.Store connection.old }
+    requires kept { IsClean S.Store connection.old → Agrees cache.old (tables S.Store connection.old).blocks }
     ensures within { StaysWithin S.Store connection.old connection.new }
     ensures opens { Unless result (StaysOpen S.Store connection.old connection.new) }
     ensures working { Unless result (StillWorks S.Store connection.old connection.new) }
     ensures carries { IsClean S.Store connection.new
         → Carries answer_view tenant.now (machine.get_object object.now.bucket object.now.key version (option_copied range.entry))
         (tables S.Store connection.old) (tables S.Store connection.new) result }
+    ensures kept { Unless result (IsClean S.Store connection.new → Agrees cache.new (tables S.Store connection.new).blocks) }
 {
     let (bucket, key) = (&object.bucket, &object.key);
-    match gets::get_object(connection, alloc, tenant, bucket, key, version, range) {
+    match gets::get_object(
+        connection, cache, alloc, tenant, bucket, key, version, range,
+    ) {
         Ok(found) => Ok(Answer::Found(found)),
         Err(error) => Err(error),
     }
@@ -404,6 +415,7 @@ fn operate_bucket<S: Alter>(
 /// Carries out an operation on an object. Another is trouble: `operate` sends none here.
 fn operate_object<S: Alter, D: Digester>(
     connection: &mut Connection<S>,
+    cache: &mut BlockCache,
     alloc: Global,
     digester: &D,
     block_size: u64,
@@ -413,6 +425,7 @@ fn operate_object<S: Alter, D: Digester>(
     body: &[u8],
 ) -> Result<Answer, StepError<Rejection>>
     requires working { Works S.Store connection.old }
+    requires kept { IsClean S.Store connection.old → Agrees cache.old (tables S.Store connection.old).blocks }
     requires digests { IsClean S.Store connection.old → AreDigests D.digest_of (tables S.Store connection.old).blocks }
     requires positive { 1 ≤ block_size }
     requires early { IsClean S.Store connection.old → at ≤ latest_of (tables S.Store connection.old) }
@@ -424,6 +437,7 @@ fn operate_object<S: Alter, D: Digester>(
         (tables S.Store connection.old) (tables S.Store connection.new) result }
     ensures blocks { OnOk result (IsClean S.Store connection.new
         → StoresBody D.digest_of block_size body.now operation.now (tables S.Store connection.old) (tables S.Store connection.new)) }
+    ensures kept { Unless result (IsClean S.Store connection.new → Agrees cache.new (tables S.Store connection.new).blocks) }
 {
     match operation {
         Operation::PutObject {
@@ -440,7 +454,9 @@ fn operate_object<S: Alter, D: Digester>(
                 bytes: body,
                 date: *date,
             };
-            put_object(connection, alloc, digester, block_size, &object, given)
+            put_object(
+                connection, cache, alloc, digester, block_size, &object, given,
+            )
         }
         Operation::CopyObject {
             object,
@@ -451,7 +467,10 @@ fn operate_object<S: Alter, D: Digester>(
             object,
             version,
             range,
-        } => { get_object(connection, alloc, tenant, object, *version, bytes_of(range)) }
+        } => {
+            let range = bytes_of(range);
+            get_object(connection, cache, alloc, tenant, object, *version, range)
+        }
         Operation::HeadObject { object, version } => {
             head_object(connection, tenant, object, *version)
         }
@@ -465,6 +484,7 @@ fn operate_object<S: Alter, D: Digester>(
 /// Carries out an operation on a multipart upload. Another is trouble: `operate` sends none here.
 fn operate_upload<S: Alter, D: Digester>(
     connection: &mut Connection<S>,
+    cache: &BlockCache,
     alloc: Global,
     digester: &D,
     block_size: u64,
@@ -475,6 +495,7 @@ fn operate_upload<S: Alter, D: Digester>(
     body: &[u8],
 ) -> Result<Answer, StepError<Rejection>>
     requires working { Works S.Store connection.old }
+    requires copies { IsClean S.Store connection.old → AreCopies cache.now (tables S.Store connection.old).blocks }
     requires digests { IsClean S.Store connection.old → AreDigests D.digest_of (tables S.Store connection.old).blocks }
     requires positive { 1 ≤ block_size }
     requires early { IsClean S.Store connection.old → at ≤ latest_of (tables S.Store connection.old) }
@@ -510,6 +531,7 @@ fn operate_upload<S: Alter, D: Digester>(
             };
             uploads::put_part(
                 connection,
+                cache,
                 alloc,
                 digester,
                 block_size,
@@ -533,9 +555,10 @@ fn operate_upload<S: Alter, D: Digester>(
 }
 
 /// Carries out an operation of a tenant, on a host with these limits and at a moment that is not after the last stamp.
-/// Bytes are stored in blocks of at most this size.
+/// Bytes are stored in blocks of at most this size, and blocks that are read are kept in memory.
 pub fn operate<S: Alter, D: Digester>(
     connection: &mut Connection<S>,
+    cache: &mut BlockCache,
     alloc: Global,
     digester: &D,
     block_size: u64,
@@ -546,6 +569,7 @@ pub fn operate<S: Alter, D: Digester>(
     body: &[u8],
 ) -> Result<Answer, StepError<Rejection>>
     requires working { Works S.Store connection.old }
+    requires kept { IsClean S.Store connection.old → Agrees cache.old (tables S.Store connection.old).blocks }
     requires digests { IsClean S.Store connection.old → AreDigests D.digest_of (tables S.Store connection.old).blocks }
     requires positive { 1 ≤ block_size }
     requires early { IsClean S.Store connection.old → at ≤ latest_of (tables S.Store connection.old) }
@@ -557,6 +581,7 @@ pub fn operate<S: Alter, D: Digester>(
         (tables S.Store connection.old) (tables S.Store connection.new) result }
     ensures blocks { OnOk result (IsClean S.Store connection.new
         → StoresBody D.digest_of block_size body.now operation.now (tables S.Store connection.old) (tables S.Store connection.new)) }
+    ensures kept { Unless result (IsClean S.Store connection.new → Agrees cache.new (tables S.Store connection.new).blocks) }
 {
     match operation {
         Operation::ListBuckets
@@ -579,7 +604,7 @@ pub fn operate<S: Alter, D: Digester>(
         | Operation::HeadObject { .. }
         | Operation::DeleteObject { .. } => {
             operate_object(
-                connection, alloc, digester, block_size, tenant, at, operation, body,
+                connection, cache, alloc, digester, block_size, tenant, at, operation, body,
             )
         }
         Operation::CreateMultipartUpload(_)
@@ -588,7 +613,7 @@ pub fn operate<S: Alter, D: Digester>(
         | Operation::CompleteMultipartUpload { .. }
         | Operation::AbortMultipartUpload { .. } => {
             operate_upload(
-                connection, alloc, digester, block_size, limits, tenant, at, operation, body,
+                connection, cache, alloc, digester, block_size, limits, tenant, at, operation, body,
             )
         }
         Operation::GetRetention { .. } | Operation::PutRetention { .. } => {

@@ -3,13 +3,14 @@ ghost use Rattle.std.specs.Prelude.{◌≡◌, ◌≤◌};
 use crate::{answers, commands, operations};
 use bh_event::event::Command;
 use bh_operation::operation::Operation;
+use bh_cache::blocks::BlockCache;
 use bh_schema::host::{Digester, Host};
 use bh_storage::answer::Answer;
 use bh_storage::error::{StepError, Trouble};
 use bh_storage::report::{StoreReport, SweepReport, TenantReport};
 use bh_storage::storage::Storage;
 use bh_types::access_key::AccessKeyId;
-use bh_types::limits::{Limits, Tuning};
+use bh_types::limits::Limits;
 use bh_types::moment::Moment;
 use bh_types::names::TenantName;
 use bh_types::refusal::Refusal;
@@ -18,10 +19,11 @@ use sqlite::Alter;
 use std::alloc::Global;
 
 /// The size of the blocks that bytes are stored in.
-fn block_size_of(tuning: &Tuning) -> u64
-    ensures is { result ≡ tuning.now.block_size }
+fn block_size_of(cache: &BlockCache) -> u64
+    ensures is { result ≡ cache.now.tuning.block_size }
     ensures positive { 1 ≤ result }
 {
+    let tuning = cache.tuning();
     tuning.block_size
 }
 
@@ -87,9 +89,10 @@ impl<S: Alter + Drop, D: Digester + Drop> Storage for HostStorage<S, D> {
         operation: &Operation,
         body: &[u8],
     ) -> Result<Answer, StepError<Rejection>> {
-        let block_size = block_size_of(&self.host.tuning);
+        let block_size = block_size_of(&self.host.cache);
         operations::operate(
             &mut self.host.connection,
+            &mut self.host.cache,
             alloc,
             &self.host.digester,
             block_size,
@@ -114,7 +117,8 @@ impl<S: Alter + Drop, D: Digester + Drop> Storage for HostStorage<S, D> {
     }
 
     fn sweep(&mut self, alloc: Global, at: Moment, limit: u32) -> Result<SweepReport, Trouble> {
-        bh_sweep::sweep::sweep(&mut self.host.connection, alloc, at, limit)
+        let host = &mut self.host;
+        bh_sweep::sweep::sweep(&mut host.connection, &mut host.cache, alloc, at, limit)
     }
 
     fn report(&mut self) -> Result<StoreReport, Trouble> {

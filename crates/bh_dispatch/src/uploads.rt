@@ -11,6 +11,7 @@ ghost use Rattle.bh_view.specs.View.{latest_of};
 ghost use Rattle.bh_storage.specs.Answers.{answer_view};
 ghost use Rattle.bh_storage.specs.Calls.{Unless, Carries};
 ghost use Rattle.bh_schema.specs.Connections.{IsClean, tables, StaysWithin, StaysOpen};
+ghost use Rattle.bh_cache.specs.Kept.{AreCopies};
 ghost use Rattle.bh_schema.specs.Working.{Works, StillWorks, StillWorksBy};
 
 use crate::answers;
@@ -18,6 +19,7 @@ use bh_docs::read_complete;
 use bh_operation::address::ObjectName;
 use bh_operation::page::{Page, PartPage, UploadMarker};
 use bh_pages::gathering::Asked;
+use bh_cache::blocks::BlockCache;
 use bh_schema::host::Digester;
 use bh_storage::answer::Answer;
 use bh_storage::error::{StepError, Trouble};
@@ -62,6 +64,7 @@ pub fn begin_upload<S: Alter>(
 
 pub fn put_part<S: Alter, D: Digester>(
     connection: &mut Connection<S>,
+    cache: &BlockCache,
     alloc: Global,
     digester: &D,
     block_size: u64,
@@ -69,6 +72,7 @@ pub fn put_part<S: Alter, D: Digester>(
     given: Option<&[u8]>,
 ) -> Result<Answer, StepError<Rejection>>
     requires working { Works S.Store connection.old }
+    requires copies { IsClean S.Store connection.old → AreCopies cache.now (tables S.Store connection.old).blocks }
     requires digests { IsClean S.Store connection.old → AreDigests D.digest_of (tables S.Store connection.old).blocks }
     requires positive { 1 ≤ block_size }
     requires early { IsClean S.Store connection.old → part.now.at ≤ latest_of (tables S.Store connection.old) }
@@ -83,7 +87,9 @@ pub fn put_part<S: Alter, D: Digester>(
     ensures blocks { OnOk result (IsClean S.Store connection.new
         → StoresPieces D.digest_of block_size part.now.bytes.now (tables S.Store connection.old) (tables S.Store connection.new)) }
 {
-    answers::part_stored(parts::put_part(connection, alloc, digester, block_size, part, given))
+    answers::part_stored(parts::put_part(
+        connection, cache, alloc, digester, block_size, part, given,
+    ))
 }
 
 /// The document names the parts; all but the last have the limits' least size.

@@ -5,7 +5,7 @@ use Rattle.bh_types.specs.declared.refusal.Refusal.{Refusal}
 use Rattle.bh_types.specs.declared.rejection.Rejection.{Rejection}
 use Rattle.bh_model.specs.State.{Octets}
 use Rattle.bh_tables.specs.Typed.{BucketRow, LockRow, RetainRow, Tables, raw, tables_in}
-use Rattle.bh_storage.specs.Calls.{Unless}
+use Rattle.bh_storage.specs.Calls.{Unless, Decides}
 use Rattle.bh_storage.specs.Errors.{step_rejected}
 use Rattle.bh_storage.specs.declared.error.StepError.{StepError}
 use Rattle.bh_storage.specs.declared.error.StepError.TheVariants.{Refused, Failed}
@@ -113,6 +113,12 @@ any_unless (Err (Failed trouble)) P p = tt
 pub unless_then : {E : Type 0} (P Q : Type 0) (error : StepError E) → (P → Q) → Unless {X = Unit {0}} {E = E} (Err error) P → Unless {X = Unit {0}} {E = E} (Err error) Q
 unless_then P Q (Refused r) f p = f p
 unless_then P Q (Failed trouble) f p = tt
+
+-- a question that refuses leaves the tables
+pub refused_same : {X Y E : Type 0} (shown : X → Y) (answer : Result Y E) (old new : State) (error : StepError E) → (IsStateClean new → Decides shown answer (tables_at old) (tables_at new) (Err error))
+    → Unless {X = Unit {0}} {E = E} (Err error) (IsStateClean new → tables_at new ≡ tables_at old)
+refused_same shown answer old new (Refused r) h = λ clean. (h clean).1
+refused_same shown answer old new (Failed trouble) h = tt
 
 -- where a refusal becomes one that may tell more
 pub rejected_then : (P Q : Type 0) (error : StepError Refusal) → (P → Q) → Unless {X = Unit {0}} {E = Refusal} (Err error) P → Unless {X = Unit {0}} {E = Rejection} (Err (step_rejected error)) Q

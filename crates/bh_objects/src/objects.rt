@@ -12,6 +12,7 @@ ghost use Rattle.bh_view.specs.Bodies.{StoresPieces};
 ghost use Rattle.bh_view.specs.Put.{row_number};
 ghost use Rattle.bh_view.specs.View.{view, latest_of};
 ghost use Rattle.bh_schema.specs.Connections.{IsClean, tables, StaysWithin, StaysOpen};
+ghost use Rattle.bh_cache.specs.Kept.{AreCopies};
 ghost use Rattle.bh_schema.specs.Working.{Works, StillWorksBy};
 ghost use Rattle.bh_objects.specs.Found.{Answers, counts_in, mode_in, sum_given};
 ghost use Rattle.bh_objects.specs.Dates.{IsPlaced};
@@ -21,6 +22,7 @@ use crate::ids::new_id_told;
 use crate::quotas::{NewEntry, new_entry};
 use crate::reads::{Numbers, bucket_state};
 use crate::writes::{NewObject, write_object};
+use bh_cache::blocks::BlockCache;
 use bh_schema::host::Digester;
 use bh_storage::answer::StoredVersion;
 use bh_storage::error::StepError;
@@ -73,6 +75,7 @@ pub fn checked_sum(
 /// CounterExhausted. The bytes are stored in blocks of at most this size.
 fn store_object<S: Alter, D: Digester>(
     connection: &mut Connection<S>,
+    cache: &BlockCache,
     digester: &D,
     block_size: u64,
     object: &NewObject<'_>,
@@ -80,6 +83,7 @@ fn store_object<S: Alter, D: Digester>(
     checksum: &Checksum,
 ) -> Result<Numbers, StepError<Refusal>>
     requires working { Works S.Store connection.old }
+    requires copies { IsClean S.Store connection.old → AreCopies cache.now (tables S.Store connection.old).blocks }
     requires digests { IsClean S.Store connection.old → AreDigests D.digest_of (tables S.Store connection.old).blocks }
     requires positive { 1 ≤ block_size }
     requires early { IsClean S.Store connection.old → object.now.at ≤ latest_of (tables S.Store connection.old) }
@@ -114,7 +118,7 @@ fn store_object<S: Alter, D: Digester>(
     )?;
     let NewEntry { numbers, .. } = entry;
     write_object(
-        connection, digester, block_size, object, mode, entry, checksum,
+        connection, cache, digester, block_size, object, mode, entry, checksum,
     )?;
     Ok(numbers)
 }
@@ -124,6 +128,7 @@ fn store_object<S: Alter, D: Digester>(
 /// of at most this size.
 pub fn put_object<S: Alter, D: Digester>(
     connection: &mut Connection<S>,
+    cache: &BlockCache,
     alloc: Global,
     digester: &D,
     block_size: u64,
@@ -131,6 +136,7 @@ pub fn put_object<S: Alter, D: Digester>(
     given: Option<&[u8]>,
 ) -> Result<StoredVersion, StepError<Refusal>>
     requires working { Works S.Store connection.old }
+    requires copies { IsClean S.Store connection.old → AreCopies cache.now (tables S.Store connection.old).blocks }
     requires digests { IsClean S.Store connection.old → AreDigests D.digest_of (tables S.Store connection.old).blocks }
     requires positive { 1 ≤ block_size }
     requires early { IsClean S.Store connection.old → object.now.at ≤ latest_of (tables S.Store connection.old) }
@@ -154,7 +160,9 @@ pub fn put_object<S: Alter, D: Digester>(
         object.date,
         object.at,
     )?;
-    let numbers = store_object(connection, digester, block_size, object, mode, &checksum)?;
+    let numbers = store_object(
+        connection, cache, digester, block_size, object, mode, &checksum,
+    )?;
     add_date(connection, object.tenant, numbers.before.entry, until)?;
     Ok(StoredVersion {
         id: new_id_told(mode, numbers.before.version),

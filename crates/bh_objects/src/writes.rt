@@ -6,6 +6,7 @@ ghost use Rattle.bh_types.specs.Checksums.{checksum_text};
 ghost use Rattle.bh_model.specs.State.{Content.Marker, Content.Body};
 ghost use Rattle.bh_tables.specs.Shown.{is_tenant};
 ghost use Rattle.bh_schema.specs.Connections.{IsClean, tables, InTransaction, StaysWithin, StaysOpen, Becomes};
+ghost use Rattle.bh_cache.specs.Kept.{AreCopies};
 ghost use Rattle.bh_schema.specs.Written.{bytes_of_id, with_version as row_added};
 ghost use Rattle.bh_objects.specs.Found.{IsKeyText, IsHeld};
 ghost use Rattle.bh_objects.specs.Writes.{with_counters, without_entry, without_null, without_null_version, without_replaced, with_room, with_version, with_columns};
@@ -17,6 +18,7 @@ use crate::objects::Checksum;
 use crate::quotas::{NewEntry, Replaced, as_replaced};
 use crate::reads::Numbers;
 use bh_blocks::bodies::{drop_body, store_body};
+use bh_cache::blocks::BlockCache;
 use bh_schema::host::Digester;
 use bh_schema::rows;
 use bh_schema::rows::versions::{NewMarker, NewVersion};
@@ -323,6 +325,7 @@ fn add_object<S: Alter>(
 /// size, before what it replaces goes, and then its row with the counters.
 pub fn write_object<S: Alter, D: Digester>(
     connection: &mut Connection<S>,
+    cache: &BlockCache,
     digester: &D,
     block_size: u64,
     object: &NewObject<'_>,
@@ -331,6 +334,7 @@ pub fn write_object<S: Alter, D: Digester>(
     checksum: &Checksum,
 ) -> Result<(), Trouble>
     requires inside { InTransaction S.Store connection.old }
+    requires copies { IsClean S.Store connection.old → AreCopies cache.now (tables S.Store connection.old).blocks }
     requires positive { 1 ≤ block_size }
     requires digest { checksum.now.digest ≡ sha256 object.now.bytes.now }
     requires checksum { string_bytes checksum.now.text ≡ checksum_text object.now.bytes.now }
@@ -346,6 +350,7 @@ pub fn write_object<S: Alter, D: Digester>(
     let NewEntry { numbers, replaced } = entry;
     or_trouble(store_body(
         connection,
+        cache,
         digester,
         block_size,
         object.tenant.as_str(),

@@ -10,6 +10,7 @@ ghost use Rattle.bh_view.specs.Bodies.{IsSoundHost};
 ghost use Rattle.bh_view.specs.View.{latest_of};
 ghost use Rattle.bh_storage.specs.Calls.{IsAtRest};
 ghost use Rattle.bh_schema.specs.Connections.{IsIntact, IsOpen, IsClean, stands, tables};
+ghost use Rattle.bh_cache.specs.Kept.{no_blocks};
 ghost use Rattle.bh_schema.specs.Layer.{taken_back, KeepsDisk, LeavesNothingNew};
 ghost use Rattle.bh_schema.specs.Storage.{seen_in};
 ghost use Rattle.bh_migration.specs.Migration.{Settles};
@@ -20,6 +21,7 @@ use crate::found::{FoundHost, HostVersion, NoHost};
 use crate::row::{found_in, host_rows};
 use crate::tables::{version_of, why_none};
 use bh_migration::bring_over;
+use bh_cache::blocks::BlockCache;
 use bh_schema::host::{Digester, Host};
 use bh_schema::rows::transactions::{begin, take_back};
 use bh_types::block_digest::BlockDigest;
@@ -57,13 +59,13 @@ pub struct Opened<S: Alter + Drop> {
 }
 
 impl<S: Alter + Drop> Opened<S> {
-    /// The host. The digester is to be of the function that names its blocks.
+    /// The host, which keeps no block in memory yet. The digester is to be of the function that names its blocks.
     pub fn into_host<D: Digester + Drop>(self, digester: D) -> Host<S, D>
         ensures { result ≡ record {
           connection = self.connection;
           digester = digester;
           limits = self.limits;
-          tuning = self.tuning;
+          cache = no_blocks self.tuning;
         } }
     {
         let Opened {
@@ -77,7 +79,7 @@ impl<S: Alter + Drop> Opened<S> {
             connection,
             digester,
             limits,
-            tuning,
+            cache: BlockCache::new(tuning),
         }
     }
 }

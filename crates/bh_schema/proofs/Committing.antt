@@ -15,9 +15,10 @@ use Rattle.bh_tables.specs.Typed.{Tables}
 use Rattle.bh_tables.specs.Hosts.{tables_shown}
 use Rattle.bh_view.specs.Bodies.{IsSoundHost}
 use Rattle.bh_storage.specs.Calls.{IsAtRest, IsWorking, Commits, TakesBack}
+use Rattle.bh_cache.specs.Kept.{KeptBlocks, no_blocks}
 use Rattle.bh_schema.specs.Layer.{Standing, standing, IsOpen, Leaves, begun, committed, taken_back, Unwinds}
-use Rattle.bh_schema.specs.Storage.{shown, seen_in, left_in}
-use Rattle.bh_schema.proofs.Storing.{left_kept}
+use Rattle.bh_schema.specs.Storage.{shown, seen_in, beside, left_in}
+use Rattle.bh_schema.proofs.Storing.{left_kept, plain, plain_after}
 
 -- what a `?` hands on after an error
 pub fails_on : {X E : Type 0} (r : Result X E) (P : Type 0) → P → OnErr r P
@@ -30,27 +31,37 @@ on_err (Err e) Q P h p = p
 
 -- ---- states
 
-module _ (l : HostLimits) (old new : State) where
-  pub begun_works : {digest : Octets → Octets} → IsAtRest (IsSoundHost digest) (seen_in l old) → standing new ≡ begun (standing old) → IsWorking (IsSoundHost digest) (seen_in l new)
-  unfolding seen_in
-  begun_works {digest} rest is = subst (λ x. IsWorking (IsSoundHost digest) (shown l x)) (sym is) (record { inside = refl; sound = rest.sound; limits = rest.limits })
+module _ (kept : KeptBlocks) (l : HostLimits) (old new : State) where
+  pub begun_works : {digest : Octets → Octets} → IsAtRest (IsSoundHost digest) (beside kept (seen_in l old)) → standing new ≡ begun (standing old) → IsWorking (IsSoundHost digest) (beside kept (seen_in l new))
+  unfolding seen_in beside
+  begun_works {digest} rest is = subst (λ x. IsWorking (IsSoundHost digest) (beside kept (shown l x))) (sym is) (record { inside = refl; sound = rest.sound; limits = rest.limits })
 
-  pub begun_shows : standing new ≡ begun (standing old) → (seen_in l new).now ≡ (seen_in l old).now
-  unfolding seen_in
-  begun_shows is = ap (λ (x : Standing). tables_shown x.now) is
+  pub begun_shows : standing new ≡ begun (standing old) → (beside kept (seen_in l new)).now ≡ (beside kept (seen_in l old)).now
+  unfolding seen_in beside
+  begun_shows is = ap (λ (x : Standing). (beside kept (shown l x)).now) is
 
-  pub unwound_kept : Unwinds (standing old) (standing new) → (seen_in l new).kept ≡ (seen_in l old).kept
-  unfolding seen_in
+  pub unwound_kept : Unwinds (standing old) (standing new) → (beside kept (seen_in l new)).kept ≡ (beside kept (seen_in l old)).kept
+  unfolding seen_in beside
   unwound_kept (inl same) = ap (λ (x : Standing). tables_shown x.kept) same
   unwound_kept (inr back) = ap (λ (x : Standing). tables_shown x.kept) back
 
-  pub commit_shows : standing new ≡ committed (standing old) → Commits (seen_in l old) (seen_in l new)
+  commit_shown : standing new ≡ committed (standing old) → Commits (seen_in l old) (seen_in l new)
   unfolding seen_in
-  commit_shows is = record { now = ap (λ (x : Standing). tables_shown x.now) is; kept = ap (λ (x : Standing). tables_shown x.kept) is; outside = ap (λ (x : Standing). x.inside) is }
+  commit_shown is = record { now = ap (λ (x : Standing). tables_shown x.now) is; kept = ap (λ (x : Standing). tables_shown x.kept) is; outside = ap (λ (x : Standing). x.inside) is }
 
-  pub back_shows : standing new ≡ taken_back (standing old) → TakesBack (seen_in l old) (seen_in l new)
+  pub commit_shows : {digest : Octets → Octets} → IsWorking (IsSoundHost digest) (beside kept (seen_in l old)) → standing new ≡ committed (standing old) → Commits (beside kept (seen_in l old)) (beside kept (seen_in l new))
+  commit_shows working is =
+      let shown = commit_shown is in
+      rw (plain _ _ working, plain_after _ _ working (seen_in l new) (ap (λ (t : Tables). t.blocks) shown.now)) shown
+
+  back_shown : standing new ≡ taken_back (standing old) → TakesBack (seen_in l old) (seen_in l new)
   unfolding seen_in
-  back_shows is = record { now = ap (λ (x : Standing). tables_shown x.now) is; kept = ap (λ (x : Standing). tables_shown x.kept) is; outside = ap (λ (x : Standing). x.inside) is }
+  back_shown is = record { now = ap (λ (x : Standing). tables_shown x.now) is; kept = ap (λ (x : Standing). tables_shown x.kept) is; outside = ap (λ (x : Standing). x.inside) is }
+
+  -- none is kept beside what is taken back
+  pub back_shows : standing new ≡ taken_back (standing old) → TakesBack (beside kept (seen_in l old)) (beside (no_blocks kept.tuning) (seen_in l new))
+  unfolding beside
+  back_shows is = let shown = back_shown is in record { now = shown.now; kept = shown.kept; outside = shown.outside }
 
 -- ---- crashes
 

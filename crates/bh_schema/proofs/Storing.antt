@@ -1,5 +1,5 @@
 -- From the words of a connection to those of a host's storage.
-use Rattle.std.proofs.Common.{◌≡◌, List, ◌++◌, map, true, IsTrue, Ok, Result, OnOk, refl, sym, ap, ◌∙◌, subst}
+use Rattle.std.proofs.Common.{◌≡◌, List, ◌++◌, map, Bool, true, false, if◌then◌else◌, IsTrue, Ok, Result, OnOk, refl, sym, ap, ◌∙◌, subst}
 use Rattle.sqlite.specs.Tree.{Trees}
 use Rattle.sqlite.specs.Effect.{Database}
 use Rattle.sqlite.specs.Held.{Held, state}
@@ -7,7 +7,7 @@ use Rattle.sqlite.specs.State.{State}
 use Rattle.sqlite_trees.specs.declared.store.Store.{Ghosts}
 use Rattle.bh_types.specs.Limits.{HostLimits}
 use Rattle.bh_model.specs.State.{Octets}
-use Rattle.bh_tables.specs.Typed.{VersionRow, PartRow, BlockRow, RefRow, Tables, IsHost, tables_in}
+use Rattle.bh_tables.specs.Typed.{VersionRow, PartRow, BlockRow, RefRow, Tables, IsHost, tables_in, no_rows}
 use Rattle.bh_tables.specs.Bodies.{part_name}
 use Rattle.bh_tables.specs.Hosts.{tables_shown}
 use Rattle.bh_tables.proofs.HostTests.{host_shows, shown_host}
@@ -15,9 +15,10 @@ use Rattle.bh_view.specs.Blocks.{AreDigests}
 use Rattle.bh_view.specs.Bodies.{IsSoundHost, AreBodies, AreBounded, bodies_of}
 use Rattle.bh_view.specs.Sound.{IsSound}
 use Rattle.bh_storage.specs.Calls.{Seen, IsWorking}
+use Rattle.bh_cache.specs.Kept.{KeptBlocks, agrees, Agrees}
 use Rattle.bh_schema.specs.Layer.{standing, IsIntact, IsOpen, IsStateClean, Leaves, IsInside, Holds, KeepsDisk, StateWithin}
 use Rattle.bh_schema.specs.declared.host.Host.{Host}
-use Rattle.bh_schema.specs.Storage.{shown, seen_in, left_in, Keeps}
+use Rattle.bh_schema.specs.Storage.{shown, seen_in, beside, left_in, Keeps}
 
 -- ---- what an answer tells
 
@@ -61,6 +62,35 @@ pub holds_seen : (l : HostLimits) (tables : Tables) (s : State) → Holds tables
 unfolding seen_in
 holds_seen l tables s h = (host_shows (standing s).now h.within.host ∙ h.is, h.within.inside)
 
+-- ---- beside blocks that are kept in memory
+
+-- no rows are a sound host's
+agreeing : (kept : KeptBlocks) (s : Seen) → IsSound (beside kept s).now → Agrees kept s.now.blocks
+unfolding beside
+agreeing kept s = go (agrees kept s.now.blocks)
+  where
+    go : (b : Bool) → IsSound (if b then s.now else no_rows) → b ≡ true
+    go true sound = refl
+    go false sound = let alone = sound.host.alone in absurd (cc)
+
+pub beside_agreed : (kept : KeptBlocks) (s : Seen) → Agrees kept s.now.blocks → beside kept s ≡ s
+unfolding beside
+beside_agreed kept s h = ap (λ b. record s { now = if b then s.now else no_rows }) h
+
+module _ {digest : Octets → Octets} (kept : KeptBlocks) (s : Seen) (working : IsWorking (IsSoundHost digest) (beside kept s)) where
+  pub works_agreed : Agrees kept s.now.blocks
+  works_agreed = agreeing kept s working.sound.sound
+
+  pub plain : beside kept s ≡ s
+  plain = beside_agreed kept s works_agreed
+
+  pub under : IsWorking (IsSoundHost digest) s
+  under = subst (IsWorking (IsSoundHost digest)) plain working
+
+  -- the blocks stay
+  pub plain_after : (t : Seen) → t.now.blocks ≡ s.now.blocks → beside kept t ≡ t
+  plain_after t same = beside_agreed kept t (subst (Agrees kept) (sym same) works_agreed)
+
 -- ---- tables whose bodies stay
 
 -- the rows that bodies are of
@@ -103,9 +133,17 @@ pub left_less : (old new : State) → ((db : Trees) → Leaves new db → Leaves
 unfolding left_in
 left_less old new leaves x it = (it.0, leaves it.0.trees it.1, it.2, it.3)
 
-kept_seen : (l m : HostLimits) (old new : State) → (standing new).kept ≡ (standing old).kept → (seen_in l new).kept ≡ (seen_in m old).kept
-unfolding seen_in
-kept_seen l m old new same = ap tables_shown same
+kept_seen : (a b : KeptBlocks) (l m : HostLimits) (old new : State) → (standing new).kept ≡ (standing old).kept → (beside a (seen_in l new)).kept ≡ (beside b (seen_in m old)).kept
+unfolding seen_in beside
+kept_seen a b l m old new same = ap tables_shown same
+
+limits_beside : (kept : KeptBlocks) (l : HostLimits) (s : State) → (beside kept (seen_in l s)).limits ≡ l
+unfolding seen_in beside
+limits_beside kept l s = refl
+
+pub beside_limits : (a b : KeptBlocks) (l : HostLimits) (old new : State) → (beside b (seen_in l new)).limits ≡ (beside a (seen_in l old)).limits
+unfolding seen_in beside
+beside_limits a b l old new = refl
 
 pub same_limits : (l : HostLimits) (old new : State) → (seen_in l new).limits ≡ (seen_in l old).limits
 unfolding seen_in
@@ -119,24 +157,28 @@ keeps g old new same w =
       intact = w.follows.intact;
       opened = λ intact up. (w.follows.clean (record { intact = intact; is_open = up })).is_open;
       survives = λ up intact. left_less a b (w.survives up intact);
-      kept = λ clean. kept_seen new.limits old.limits a b (w.kept (both clean));
-      limits = limits_seen new.limits b ∙ same ∙ sym (limits_seen old.limits a);
+      kept = λ clean. kept_seen new.cache old.cache new.limits old.limits a b (w.kept (both clean));
+      limits = limits_beside new.cache new.limits b ∙ same ∙ sym (limits_beside old.cache old.limits a);
     }
 
 -- ---- after a question that changed nothing
 
-module _ {digest : Octets → Octets} (l : HostLimits) (old new : State) (working : AreBoth old → IsWorking (IsSoundHost digest) (seen_in l old)) (w : StateWithin old new) (same : IsIntact new → standing new ≡ standing old) where
+module _ {digest : Octets → Octets} (kept : KeptBlocks) (l : HostLimits) (old new : State) (working : AreBoth old → IsWorking (IsSoundHost digest) (beside kept (seen_in l old))) (w : StateWithin old new) (same : IsIntact new → standing new ≡ standing old) where
   pub asked_before : AreBoth new → AreBoth old
   asked_before clean = parts (w.follows.clean (both clean))
 
-  pub asked_works : AreBoth new → IsWorking (IsSoundHost digest) (seen_in l new)
-  asked_works clean = subst (IsWorking (IsSoundHost digest)) (sym (seen_same _ old new (same clean.0))) (working (asked_before clean))
+  pub asked_works : AreBoth new → IsWorking (IsSoundHost digest) (beside kept (seen_in l new))
+  asked_works clean = subst (λ x. IsWorking (IsSoundHost digest) (beside kept x)) (sym (seen_same _ old new (same clean.0))) (working (asked_before clean))
 
   pub asked_inside : IsStateClean new → IsInside (standing new)
-  asked_inside clean = inside_of _ new (asked_works (parts clean))
+  asked_inside clean = inside_of _ new (under _ _ (asked_works (parts clean)))
 
-  pub asked_same : AreBoth new → (seen_in l new).now ≡ (seen_in l old).now
-  asked_same clean = ap (λ (x : Seen). x.now) (seen_same _ old new (same clean.0))
+  pub asked_same : AreBoth new → (beside kept (seen_in l new)).now ≡ (beside kept (seen_in l old)).now
+  asked_same clean = ap (λ (x : Seen). (beside kept x).now) (seen_same _ old new (same clean.0))
+
+  -- what was seen is what the connection shows
+  pub asked_plain : AreBoth new → beside kept (seen_in l old) ≡ seen_in l old
+  asked_plain clean = plain _ _ (working (asked_before clean))
 
 -- ---- after such a question and a write
 

@@ -1,16 +1,17 @@
 -- A host's connection, in the words of a host's storage.
-use Rattle.std.specs.Prelude.{◌≡◌}
+use Rattle.std.specs.Prelude.{◌≡◌, if◌then◌else◌}
 use Rattle.sqlite_trees.specs.declared.store.Store.{Ghosts}
 use Rattle.sqlite.specs.Effect.{Database, IsDatabase}
 use Rattle.sqlite.specs.Held.{state}
 use Rattle.sqlite.specs.State.{State}
 use Rattle.bh_types.specs.Limits.{HostLimits}
 use Rattle.bh_model.specs.State.{Octets}
-use Rattle.bh_tables.specs.Typed.{Tables}
+use Rattle.bh_tables.specs.Typed.{Tables, no_rows}
 use Rattle.bh_tables.specs.Hosts.{tables_shown}
 use Rattle.bh_view.specs.Bodies.{IsSoundHost}
 use Rattle.bh_storage.specs.Calls.{Seen, Clean, Within, IsWorking}
 use Rattle.bh_schema.specs.declared.host.Host.{Host}
+use Rattle.bh_cache.specs.Kept.{KeptBlocks, no_blocks, agrees}
 use Rattle.bh_schema.specs.Layer.{Standing, standing, Leaves}
 use Rattle.bh_schema.specs.Layer as layer
 
@@ -20,6 +21,10 @@ shown limits x = record { now = tables_shown x.now; kept = tables_shown x.kept; 
 
 unfoldable pub seen_in : HostLimits → State → Seen
 seen_in limits s = shown limits (standing s)
+
+-- the same beside blocks that are kept in memory: where one of them is not the row of its name, no row is shown
+unfoldable pub beside : KeptBlocks → Seen → Seen
+beside kept s = record s { now = if agrees kept s.now.blocks then s.now else no_rows }
 
 -- the tables that a crash may leave: those of a database whose trees list its schema, so that no other has these trees
 unfoldable pub left_in : State → Tables → Type 0
@@ -41,7 +46,7 @@ module _ {S D : Type 0} (g : Ghosts S) where
   IsClean host = Clean IsIntact IsOpen host
 
   abbrev pub seen : Host S D → Seen
-  seen host = seen_in host.limits (state g host.connection)
+  seen host = beside host.cache (seen_in host.limits (state g host.connection))
 
   abbrev pub left : Host S D → Tables → Type 0
   left host = left_in (state g host.connection)
@@ -58,7 +63,12 @@ module _ {S D : Type 0} (g : Ghosts S) where
   abbrev pub StaysOpen : Host S D → Host S D → Type 0
   StaysOpen old new = IsOpen old → IsIntact new → IsOpen new
 
-  -- a call leaves the digester, the limits, the tuning, and the limit on the steps of a text
+  -- a call leaves the digester, the limits, the tuning, the blocks in memory, and the limit on the steps of a text
   abbrev pub KeepsSettings : Host S D → Host S D → Type 0
   KeepsSettings old new = (new ≡ record old { connection = new.connection })
+      × ((standing (state g new.connection)).limit ≡ (standing (state g old.connection)).limit)
+
+  -- the same, but that no block is kept in memory
+  abbrev pub Empties : Host S D → Host S D → Type 0
+  Empties old new = (new ≡ record old { connection = new.connection; cache = no_blocks old.cache.tuning })
       × ((standing (state g new.connection)).limit ≡ (standing (state g old.connection)).limit)

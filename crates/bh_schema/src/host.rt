@@ -1,7 +1,8 @@
-ghost use Rattle.std.specs.Prelude.{◌≡◌, ℕ, List};
+ghost use Rattle.std.specs.Prelude.{◌≡◌, ◌≤◌, ℕ, List};
 ghost use Rattle.sha2.specs.Sha256.{sha256};
 
-use bh_types::limits::{Limits, Tuning};
+use bh_cache::blocks::BlockCache;
+use bh_types::limits::Limits;
 use sqlite::{Alter, Connection};
 
 /// Some function from bytes to 32 bytes, one for each type, of which nothing else is assumed.
@@ -27,8 +28,8 @@ pub struct Host<S: Alter + Drop, D: Digester + Drop> {
     pub digester: D,
     /// What the host was made with.
     pub limits: Limits,
-    /// What this process is set to.
-    pub tuning: Tuning,
+    /// What this process is set to, and the blocks that it keeps in memory.
+    pub cache: BlockCache,
 }
 
 impl<S: Alter + Drop, D: Digester + Drop> Host<S, D> {
@@ -40,8 +41,14 @@ impl<S: Alter + Drop, D: Digester + Drop> Host<S, D> {
             connection,
             digester: _,
             limits: _,
-            tuning: _,
+            cache: _,
         } = self;
         connection
+    }
+    /// How many blocks are kept in memory, at most as many as `cache_blocks` says.
+    pub fn cached(&self) -> usize
+        ensures { result ≤ self.now.cache.tuning.cache_blocks }
+    {
+        self.cache.cached()
     }
 }

@@ -2,7 +2,7 @@ ghost use Rattle.std.specs.Prelude.{◌≡◌, ◌⊎◌, OnOk, OnErr};
 ghost use Rattle.bh_tables.specs.Typed.{Tables};
 ghost use Rattle.bh_view.specs.Bodies.{IsSoundHost};
 ghost use Rattle.bh_storage.specs.Calls.{IsAtRest, IsWorking, LeavesNothingNew, Commits, TakesBack};
-ghost use Rattle.bh_schema.specs.Storage.{IsClean, IsIntact, IsOpen, seen, left, Works, Keeps, KeepsSettings};
+ghost use Rattle.bh_schema.specs.Storage.{IsClean, IsIntact, IsOpen, seen, left, Works, Keeps, KeepsSettings, Empties};
 
 use crate::host::{Digester, Host};
 use crate::rows::transactions;
@@ -44,15 +44,17 @@ impl<S: Alter + Drop, D: Digester + Drop> Host<S, D> {
         Ok(())
     }
 
-    /// Ends the transaction, if one is open: what was committed stands.
+    /// Ends the transaction, if one is open: what was committed stands, and no block is kept in memory.
     pub fn take_back(&mut self)
         ensures intact { IsIntact S.Store self.new → IsIntact S.Store self.old }
         ensures opened { IsIntact S.Store self.new → IsOpen S.Store self.new → IsOpen S.Store self.old }
         ensures survives { IsIntact S.Store self.new → LeavesNothingNew (left S.Store) self.old self.new }
         ensures back { IsClean S.Store self.new → TakesBack (seen S.Store self.old) (seen S.Store self.new) }
         ensures limits { (seen S.Store self.new).limits ≡ (seen S.Store self.old).limits }
-        ensures settings { KeepsSettings S.Store self.old self.new }
+        ensures settings { Empties S.Store self.old self.new }
     {
         transactions::take_back(&mut self.connection);
+        // Blocks that were stored in the transaction are gone.
+        self.cache.clear();
     }
 }

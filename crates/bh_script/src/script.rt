@@ -2,6 +2,7 @@ ghost use Rattle.std.specs.Prelude.{◌≡◌, false, IfOk, IfErr, OnOk};
 ghost use Rattle.sqlite.specs.Held.{state};
 ghost use Rattle.sqlite.specs.Steps.{over_memory};
 ghost use Rattle.bh_create.specs.Creation.{IsNewHost};
+ghost use Rattle.bh_cache.specs.Kept.{no_blocks};
 ghost use Rattle.bh_script.specs.Lines.{bad_line_of};
 ghost use Rattle.bh_script.specs.Answers.{WritesScript, WritesScriptAlone, is_write};
 
@@ -47,7 +48,7 @@ pub fn answer_script<W: Sink, D: Digester + Drop>(
     answer_lines(alloc, &routes, &mut storage, bytes, writer)
 }
 
-/// A new host in memory.
+/// A new host in memory, which keeps no block beside it yet.
 fn new_host<D: Digester + Drop>(
     alloc: Global,
     digester: D,
@@ -57,6 +58,7 @@ fn new_host<D: Digester + Drop>(
 ) -> Result<HostStorage<MemStore, D>, Trouble>
     ensures limits { IfOk result (λ storage. storage.host.limits ≡ limits) }
     ensures made { IfOk result (λ storage. IsNewHost storage.host.limits digest (state over_memory storage.host.connection)) }
+    ensures cache { IfOk result (λ storage. storage.host.cache ≡ no_blocks tuning) }
 {
     let connection = Connection::open_in_memory(alloc)?;
     match create(connection, digester, digest, limits, tuning) {

@@ -8,9 +8,11 @@ ghost use Rattle.bh_view.specs.Blocks.{AreDigests};
 ghost use Rattle.bh_view.specs.Sweep.{uploads_swept, blocks_swept, without_blocks, swept, is_complete};
 ghost use Rattle.bh_view.specs.View.{view};
 ghost use Rattle.bh_schema.specs.Connections.{IsClean, tables, InTransaction, StaysWithin, StaysOpen};
+ghost use Rattle.bh_cache.specs.Kept.{Agrees};
 ghost use Rattle.bh_schema.specs.Working.{Works, StillWorksBy};
 
 use bh_blocks::removal::{any_unreferenced, remove_unreferenced};
+use bh_cache::blocks::BlockCache;
 use bh_schema::trouble::or_trouble;
 use bh_storage::error::Trouble;
 use bh_storage::report::SweepReport;
@@ -19,8 +21,12 @@ use bh_uploads::stale::{any_stale, remove_stale};
 use sqlite::{Alter, Connection};
 use std::alloc::Global;
 
-/// Takes the first blocks away that nothing refers to, and tells how many.
-fn remove_blocks<S: Alter>(connection: &mut Connection<S>, limit: u32) -> Result<u32, Trouble>
+/// Takes the first blocks away that nothing refers to, with what is kept of them in memory, and tells how many.
+fn remove_blocks<S: Alter>(
+    connection: &mut Connection<S>,
+    cache: &mut BlockCache,
+    limit: u32,
+) -> Result<u32, Trouble>
     requires { Works S.Store connection.old }
     ensures within { StaysWithin S.Store connection.old connection.new }
     ensures opens { OnOk result (StaysOpen S.Store connection.old connection.new) }
@@ -32,8 +38,10 @@ fn remove_blocks<S: Alter>(connection: &mut Connection<S>, limit: u32) -> Result
     ensures keeps { (digest : Octets → Octets) → OnOk result (IsClean S.Store connection.new
         → AreDigests digest (tables S.Store connection.old).blocks
         → KeepsBodies digest (tables S.Store connection.old) (tables S.Store connection.new)) }
+    ensures kept { OnOk result (IsClean S.Store connection.new
+        → Agrees cache.old (tables S.Store connection.old).blocks → Agrees cache.new (tables S.Store connection.new).blocks) }
 {
-    let removed = or_trouble(remove_unreferenced(connection, limit))?;
+    let removed = or_trouble(remove_unreferenced(connection, cache, limit))?;
     let Ok(count) = u32::try_from(removed) else {
         return Err(Trouble::Store);
     };
@@ -47,9 +55,11 @@ fn neither(stale: bool, left: bool) -> bool
 }
 
 /// Takes the first of what is due at a moment away, at most `limit` of it: the stale uploads of all tenants by tenant
-/// and number with their parts, and then the blocks that nothing refers to by digest and ordinal.
+/// and number with their parts, and then the blocks that nothing refers to by digest and ordinal, with what is kept of
+/// these in memory.
 pub fn sweep<S: Alter>(
     connection: &mut Connection<S>,
+    cache: &mut BlockCache,
     alloc: Global,
     at: Moment,
     limit: u32,
@@ -70,10 +80,12 @@ pub fn sweep<S: Alter>(
     ensures purged { (digest : Octets → Octets) → OnOk result (IsClean S.Store connection.new
         → AreDigests digest (tables S.Store connection.old).blocks → (t : Octets)
         → purged_tenant (view (tables S.Store connection.new) t) at ≡ purged_tenant (view (tables S.Store connection.old) t) at) }
+    ensures kept { OnOk result (IsClean S.Store connection.new
+        → Agrees cache.old (tables S.Store connection.old).blocks → Agrees cache.new (tables S.Store connection.new).blocks) }
 {
     let uploads = remove_stale(connection, alloc, at, limit)?;
     let stale = any_stale(connection, at)?;
-    let blocks = remove_blocks(connection, limit.saturating_sub(uploads))?;
+    let blocks = remove_blocks(connection, cache, limit.saturating_sub(uploads))?;
     let left = or_trouble(any_unreferenced(connection))?;
     let complete = neither(stale, left);
     Ok(SweepReport {

@@ -11,6 +11,7 @@ ghost use Rattle.bh_view.specs.Bodies.{StoresPieces};
 ghost use Rattle.bh_view.specs.Put.{part_row};
 ghost use Rattle.bh_view.specs.View.{latest_of};
 ghost use Rattle.bh_schema.specs.Connections.{IsClean, tables, InTransaction, StaysWithin, StaysOpen, Becomes};
+ghost use Rattle.bh_cache.specs.Kept.{AreCopies};
 ghost use Rattle.bh_schema.specs.Working.{Works, StillWorksBy};
 ghost use Rattle.bh_tables.specs.Bodies.{part_columns_of};
 ghost use Rattle.bh_uploads.specs.Found.{part_bytes_in, replaced_body};
@@ -23,6 +24,7 @@ use crate::rows::parts::PartRecord;
 use crate::writes::drop_entry_body;
 use bh_blocks::bodies::store_body;
 use bh_objects::objects::{Checksum, checked_sum};
+use bh_cache::blocks::BlockCache;
 use bh_schema::host::Digester;
 use bh_schema::trouble::or_trouble;
 use bh_storage::error::{StepError, Trouble};
@@ -107,6 +109,7 @@ fn add_part<S: Alter>(
 /// this size, and its row, before the body of the part that it replaces goes.
 fn write_part<S: Alter, D: Digester>(
     connection: &mut Connection<S>,
+    cache: &BlockCache,
     digester: &D,
     block_size: u64,
     part: &NewPart<'_>,
@@ -115,6 +118,7 @@ fn write_part<S: Alter, D: Digester>(
     checksum: &Checksum,
 ) -> Result<(), Trouble>
     requires inside { InTransaction S.Store connection.old }
+    requires copies { IsClean S.Store connection.old → AreCopies cache.now (tables S.Store connection.old).blocks }
     requires positive { 1 ≤ block_size }
     requires upload { upload < 2 ^ 62 }
     requires entry { taken.entry < 2 ^ 62 }
@@ -139,6 +143,7 @@ fn write_part<S: Alter, D: Digester>(
     let tenant = part.upload.tenant;
     or_trouble(store_body(
         connection,
+        cache,
         digester,
         block_size,
         tenant.as_str(),
@@ -155,6 +160,7 @@ fn write_part<S: Alter, D: Digester>(
 /// size. The text of their checksum is told.
 pub fn put_part<S: Alter, D: Digester>(
     connection: &mut Connection<S>,
+    cache: &BlockCache,
     alloc: Global,
     digester: &D,
     block_size: u64,
@@ -162,6 +168,7 @@ pub fn put_part<S: Alter, D: Digester>(
     given: Option<&[u8]>,
 ) -> Result<String, StepError<Refusal>>
     requires working { Works S.Store connection.old }
+    requires copies { IsClean S.Store connection.old → AreCopies cache.now (tables S.Store connection.old).blocks }
     requires digests { IsClean S.Store connection.old → AreDigests D.digest_of (tables S.Store connection.old).blocks }
     requires positive { 1 ≤ block_size }
     requires early { IsClean S.Store connection.old → part.now.at ≤ latest_of (tables S.Store connection.old) }
@@ -188,6 +195,7 @@ pub fn put_part<S: Alter, D: Digester>(
     )?;
     write_part(
         connection,
+        cache,
         digester,
         block_size,
         part,

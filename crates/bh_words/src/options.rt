@@ -91,8 +91,7 @@ impl OptionName {
             OptionName::MinPart => "The least bytes of a part that isn't the last: 0 to 2^30",
             OptionName::MaxBody => "The most bytes of a body: 1 to 2^30",
             OptionName::BlockSize => "The bytes of a block: 1 to 1,048,576",
-            OptionName::CacheBlocks =>
-                "How many blocks are to stay in memory (no effect yet): 0 to 65,536",
+            OptionName::CacheBlocks => "How many blocks that were read stay in memory: 0 to 65,536",
             OptionName::Digest =>
                 "Which function names blocks, as long as the host is there: sha256 or fast",
             OptionName::OperatorPort =>

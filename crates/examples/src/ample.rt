@@ -176,11 +176,11 @@ fn served(alloc: Global, events: &[Event], told: &[Told]) -> Result<(Count, Stri
 /// Applies the events that are drawn from a table, and serves them.
 fn both_ways(alloc: Global, table: &str) -> Result<Count, Fault> {
     let events = drawn(alloc, table)?;
-    let Ok(Some((told, mut connection))) = answers(alloc, Sha256Digester, events.as_slice()) else {
+    let Ok(Some(mut applied)) = answers(alloc, Sha256Digester, 0, events.as_slice()) else {
         return Err(Fault::Memory);
     };
-    let rows = rows_of(alloc, &mut connection)?;
-    let (count, others) = served(alloc, events.as_slice(), told.as_slice())?;
+    let rows = rows_of(alloc, &mut applied.connection)?;
+    let (count, others) = served(alloc, events.as_slice(), applied.dones.as_slice())?;
     Ok(Count {
         runs: count.runs,
         is_well: count.is_well && rows.as_str() == others.as_str(),

@@ -18,16 +18,35 @@ const START: &str = r#"{"at":0,"op":"tenant-add","tenant":"green","quota":100000
 const BLOCKS: &str =
     "SELECT ord || ' ' || CAST(bytes AS TEXT) || ',' FROM blocks ORDER BY ord, bytes";
 
-/// `DIGEST: STEP; STEP..`: what sweeps and reports are answered, then the blocks, each with its ordinal. DIGEST is `constant`,
-/// `parity` (of the number of bytes), `sha256` or `fast`.
+/// `DIGEST: STEP; STEP..`: what sweeps and reports are answered, then the blocks, each with its ordinal. DIGEST is
+/// `constant`, `parity` (of the number of bytes), `sha256` or `fast`.
 pub fn answer(alloc: Global, input: &str) -> Answer {
     let (digest, steps) = input.split_once(": ").ok_or(Fault::Form)?;
+    let (text, _cached) = answer_keeping(alloc, digest, None, steps)?;
+    Ok(text)
+}
+
+/// `COUNT DIGEST: STEP; STEP..`: the same of a host that keeps so many blocks in memory, with the bytes that were read, and first how
+/// many it keeps at the end.
+pub fn answer_cached(alloc: Global, input: &str) -> Answer {
+    let (count, rest) = input.split_once(' ').ok_or(Fault::Form)?;
+    let (digest, steps) = rest.split_once(": ").ok_or(Fault::Form)?;
+    let (text, cached) = answer_keeping(alloc, digest, Some(number(count)?), steps)?;
+    Ok(format!(in alloc; "{cached} kept {text}")?)
+}
+
+fn answer_keeping(
+    alloc: Global,
+    digest: &str,
+    cache_blocks: Option<u64>,
+    steps: &str,
+) -> Result<(String, usize), Fault> {
     let script = script_of(alloc, steps)?;
     match digest {
-        "constant" => shown(alloc, Constant, script.as_str()),
-        "parity" => shown(alloc, Parity, script.as_str()),
-        "sha256" => shown(alloc, Sha256Digester, script.as_str()),
-        "fast" => shown(alloc, FastDigester, script.as_str()),
+        "constant" => shown(alloc, Constant, cache_blocks, script.as_str()),
+        "parity" => shown(alloc, Parity, cache_blocks, script.as_str()),
+        "sha256" => shown(alloc, Sha256Digester, cache_blocks, script.as_str()),
+        "fast" => shown(alloc, FastDigester, cache_blocks, script.as_str()),
         _ => Err(Fault::Form),
     }
 }
@@ -39,6 +58,12 @@ fn script_of(alloc: Global, steps: &str) -> Answer {
             Some(("store", bytes)) => push_store(alloc, &mut script, bytes)?,
             Some(("fill", count)) => push_numbers(alloc, &mut script, number(count)?)?,
             Some(("remove", limit)) => push_sweep(alloc, &mut script, limit)?,
+            Some(("put", object)) => {
+                let (key, bytes) = object.split_once(' ').ok_or(Fault::Form)?;
+                push_request(alloc, &mut script, "PUT", key, bytes)?
+            }
+            Some(("get", key)) => push_request(alloc, &mut script, "GET", key, "")?,
+            Some(("delete", key)) => push_request(alloc, &mut script, "DELETE", key, "")?,
             Some(("event", line)) => script.push_str(format!(in alloc; "{line}\n")?.as_str())?,
             _ => return Err(Fault::Form),
         }
@@ -74,33 +99,67 @@ fn push_numbers(alloc: Global, script: &mut String, count: u64) -> Result<(), Al
     push_store(alloc, script, body.as_str())
 }
 
+/// `put KEY BYTES`, `get KEY` and `delete KEY`: the object of this key is put, read and deleted.
+fn push_request(
+    alloc: Global,
+    script: &mut String,
+    method: &str,
+    key: &str,
+    body: &str,
+) -> Result<(), AllocError> {
+    let line = format!(in alloc; "{method} /plans/{key}")?;
+    push_event(alloc, script, line.as_str(), body)
+}
+
 /// `remove LIMIT`: a sweep.
 fn push_sweep(alloc: Global, script: &mut String, limit: &str) -> Result<(), AllocError> {
     let event = format!(in alloc; "{{\"at\":0,\"op\":\"sweep\",\"limit\":{limit}}}\n")?;
     script.push_str(event.as_str())
 }
 
-fn shown<D: Digester + Drop>(alloc: Global, digester: D, script: &str) -> Answer {
+fn shown<D: Digester + Drop>(
+    alloc: Global,
+    digester: D,
+    cache_blocks: Option<u64>,
+    script: &str,
+) -> Result<(String, usize), Fault> {
     let script = read_script(alloc, script.as_bytes())?;
-    let Ok(Some((dones, mut connection))) = answers(alloc, digester, script.events.as_slice())
-    else {
+    let kept = cache_blocks.unwrap_or(0);
+    let Ok(Some(mut answered)) = answers(alloc, digester, kept, script.events.as_slice()) else {
         return Err(Fault::Memory);
     };
     let mut text = String::new(alloc);
-    for told in dones.iter() {
-        push_swept(alloc, &mut text, told.reply.bytes())?;
+    for told in answered.dones.iter() {
+        push_told(alloc, &mut text, told.reply.bytes(), cache_blocks.is_some())?;
     }
-    push_blocks(&mut text, &mut connection)?;
-    Ok(text)
+    push_blocks(&mut text, &mut answered.connection)?;
+    Ok((text, answered.cached))
 }
 
-/// What a sweep or a report was answered, in brackets.
-fn push_swept(alloc: Global, text: &mut String, reply: &[u8]) -> Result<(), AllocError> {
-    if !reply.starts_with(b"sweep") && !reply.starts_with(b"blocks") {
+/// The bytes that were read.
+fn bytes_read(reply: &str) -> Option<&str> {
+    let (_, rest) = reply.split_once("octet-stream")?;
+    let (_, body) = rest.split_once("\r\n\r\n")?;
+    Some(body)
+}
+
+/// What a sweep or a report was answered, or the bytes that were read where these are told, in brackets.
+fn push_told(
+    alloc: Global,
+    text: &mut String,
+    reply: &[u8],
+    tells_reads: bool,
+) -> Result<(), AllocError> {
+    let told = String::from_utf8_lossy(alloc, reply)?;
+    let read = bytes_read(told.as_str());
+    let shown = match read {
+        Some(bytes) if tells_reads => bytes,
+        _ => told.as_str(),
+    };
+    if shown.starts_with("HTTP/") || shown.starts_with("tenant") || shown.starts_with("key") {
         return Ok(());
     }
-    let told = String::from_utf8_lossy(alloc, reply)?;
-    text.push_str(format!(in alloc; "[{told}] ")?.as_str())
+    text.push_str(format!(in alloc; "[{shown}] ")?.as_str())
 }
 
 fn push_blocks<S: Alter>(text: &mut String, connection: &mut Connection<S>) -> Result<(), Fault> {

@@ -18,20 +18,39 @@ use std::alloc::Global;
 use std::rt::Files;
 use std::{fs, io};
 
-/// Blocks of 4 bytes, and parts of no fewer but for the last.
+/// Blocks of 4 bytes, none of which is kept in memory, and parts of no fewer but for the last.
 pub fn settings() -> Option<(Limits, Tuning)> {
-    Some((Limits::new(4, DEFAULT_MAX_BODY)?, Tuning::new(4, 0)?))
+    settings_keeping(0)
 }
 
-/// What events are answered by a new host of these settings, and its tables afterwards; none where no host was made.
+/// The same, but that so many blocks are kept.
+fn settings_keeping(cache_blocks: u64) -> Option<(Limits, Tuning)> {
+    Some((
+        Limits::new(4, DEFAULT_MAX_BODY)?,
+        Tuning::new(4, cache_blocks)?,
+    ))
+}
+
+/// What events are answered, and a host after them.
+#[derive(Drop)]
+pub struct Answered {
+    pub dones: Vec<Told>,
+    /// How many blocks it keeps in memory.
+    pub cached: usize,
+    /// Its tables.
+    pub connection: Connection<MemStore>,
+}
+
+/// What events are answered by a new host that keeps so many blocks in memory; none where no host was made.
 pub fn answers<D: Digester + Drop>(
     alloc: Global,
     digester: D,
+    cache_blocks: u64,
     events: &[Event],
-) -> Result<Option<(Vec<Told>, Connection<MemStore>)>, Trouble> {
+) -> Result<Option<Answered>, Trouble> {
     let routes = Routes::new(alloc)?;
     let connection = Connection::open_in_memory(alloc)?;
-    let Some((limits, tuning)) = settings() else {
+    let Some((limits, tuning)) = settings_keeping(cache_blocks) else {
         return Ok(None);
     };
     // No event tells which function the host's row names.
@@ -40,7 +59,12 @@ pub fn answers<D: Digester + Drop>(
     };
     let mut storage = HostStorage { host };
     let dones = run(alloc, &routes, &mut storage, events)?;
-    Ok(Some((dones, storage.host.into_connection())))
+    let cached = storage.host.cached();
+    Ok(Some(Answered {
+        dones,
+        cached,
+        connection: storage.host.into_connection(),
+    }))
 }
 
 /// Whether all events but reports were answered alike.
@@ -56,32 +80,33 @@ fn are_alike(events: &[Event], ones: &[Told], others: &[Told]) -> bool {
     true
 }
 
-/// Whether a host of this digest function answers events as was expected.
+/// Whether a host of this digest function, which keeps 8 blocks in memory, answers events as was expected.
 fn answers_alike<D: Digester + Drop>(
     alloc: Global,
     digester: D,
     events: &[Event],
     expected: &[Told],
 ) -> Result<bool, Trouble> {
-    match answers(alloc, digester, events)? {
-        Some((dones, _)) => Ok(are_alike(events, expected, dones.as_slice())),
+    match answers(alloc, digester, 8, events)? {
+        Some(answered) => Ok(are_alike(events, expected, answered.dones.as_slice())),
         None => Ok(false),
     }
 }
 
 fn all_answer_alike(alloc: Global, events: &[Event]) -> Result<bool, Trouble> {
-    let Some((expected, _)) = answers(alloc, Sha256Digester, events)? else {
+    let Some(first) = answers(alloc, Sha256Digester, 0, events)? else {
         return Ok(false);
     };
+    let expected = first.dones.as_slice();
     Ok(
-        answers_alike(alloc, FastDigester, events, expected.as_slice())?
-            && answers_alike(alloc, Constant, events, expected.as_slice())?
-            && answers_alike(alloc, Parity, events, expected.as_slice())?,
+        answers_alike(alloc, FastDigester, events, expected)?
+            && answers_alike(alloc, Constant, events, expected)?
+            && answers_alike(alloc, Parity, events, expected)?,
     )
 }
 
-/// Whether hosts of the fast digest function, of a constant one, and of one with two values, answer a stored script as one of
-/// SHA-256 does.
+/// Whether hosts of the fast digest function, of a constant one, and of one with two values, which keep blocks in memory, answer a
+/// stored script as one of SHA-256 does that keeps none.
 pub fn check(rt: &(impl Files + Print + AllocGlobal), name: &str) -> io::Result<bool> {
     let alloc = rt.alloc();
     let text = fs::read_to_string(rt, format!(in alloc; "scripts/{name}.in")?)?;

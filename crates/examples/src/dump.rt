@@ -45,8 +45,8 @@ pub fn rows_of<S: Alter>(alloc: Global, connection: &mut Connection<S>) -> Resul
 
 /// The rows of a new host in memory after some events.
 pub fn rows_after(alloc: Global, events: &[Event]) -> Result<String, Fault> {
-    match answers(alloc, Sha256Digester, events) {
-        Ok(Some((_, mut connection))) => Ok(rows_of(alloc, &mut connection)?),
+    match answers(alloc, Sha256Digester, 0, events) {
+        Ok(Some(mut answered)) => Ok(rows_of(alloc, &mut answered.connection)?),
         _ => Err(Fault::Memory),
     }
 }

@@ -48,10 +48,10 @@ pub fn expect(alloc: Global, events: &[Event]) -> Result<Expected<'_>, Fault> {
         rows.push(rows_after(alloc, &events[..count])?)?;
     }
     rows.push(rows_after(alloc, events)?)?;
-    match answers(alloc, Sha256Digester, events) {
-        Ok(Some((answers, _))) => Ok(Expected {
+    match answers(alloc, Sha256Digester, 0, events) {
+        Ok(Some(answered)) => Ok(Expected {
             events,
-            answers,
+            answers: answered.dones,
             rows,
         }),
         _ => Err(Fault::Memory),

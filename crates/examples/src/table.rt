@@ -29,9 +29,10 @@ fn row_of(line: &str) -> Row<'_> {
     }
 }
 
-/// What blocks a host has after the steps of a row.
-fn blocks_found(alloc: Global, input: &[u8]) -> Answer {
+/// What blocks a host has after the steps of a row, or how many of them it keeps in memory.
+fn blocks_found(alloc: Global, call: &str, input: &[u8]) -> Answer {
     match str::from_utf8(input) {
+        Ok(text) if call == "cached" => blocks::answer_cached(alloc, text),
         Ok(text) => blocks::answer(alloc, text),
         Err(_) => Err(Fault::Form),
     }
@@ -41,7 +42,7 @@ fn blocks_found(alloc: Global, input: &[u8]) -> Answer {
 fn found(alloc: Global, row: Row<'_>) -> Answer {
     let input = unescaped(alloc, row.input)?;
     match row.call {
-        "blocks" => blocks_found(alloc, input.as_slice()),
+        "blocks" | "cached" => blocks_found(alloc, row.call, input.as_slice()),
         call => calls::answer(alloc, call, input.as_slice()),
     }
 }

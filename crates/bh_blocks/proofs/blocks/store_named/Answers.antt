@@ -17,7 +17,7 @@ store_new-requires-clause-inside g c = still_inside _ _ c.in_ok-ord.ensures.with
 pub returns-in-Some-clause-stored : goal.returns-in-Some-clause-stored
 returns-in-Some-clause-stored g c digest named = on_ok_weaker c.refer.result (λ holds clean.
     let old = state g.S.Store c.args.connection.now in
-    let mid = tables_at (state g.S.Store c.find_copy.new.connection) in
+    let mid = tables_at (state g.S.Store c.find_kept.new.connection) in
     let was = c.refer.ensures.within.follows.clean clean in
     let same : mid ≡ tables_at old = ap (λ (x : Standing). tables_in x.now) (c.in_ok-ord.ensures.same was.intact) in
     record {
@@ -28,7 +28,7 @@ returns-in-Some-clause-stored g c digest named = on_ok_weaker c.refer.result (λ
 pub returns-in-None-clause-stored : goal.returns-in-None-clause-stored
 returns-in-None-clause-stored g c digest named = on_ok_weaker c.store_new.result (λ added clean.
     let old = state g.S.Store c.args.connection.now in
-    let mid = tables_at (state g.S.Store c.find_copy.new.connection) in
+    let mid = tables_at (state g.S.Store c.find_kept.new.connection) in
     let was = c.store_new.ensures.within.follows.clean clean in
     let same : mid ≡ tables_at old = ap (λ (x : Standing). tables_in x.now) (c.in_ok-ord.ensures.same was.intact) in
     record {

@@ -27,6 +27,7 @@ loop-row-preserved g c =
       within = within_then _ _ _ inv.opens inv.within step.within;
       opens = λ intact up. step.opens intact (inv.opens (step.within.follows.intact intact) up);
       same = λ intact. step.same intact ∙ inv.same (step.within.follows.intact intact);
+      kept = step.kept;
       bytes = λ clean rs is sizes.
           let was = step.within.follows.clean clean in
           let it = at_row shown_ref rs c.args.rows.now i c.row-item.result c.loop-row-test.true c.row-item.is is in

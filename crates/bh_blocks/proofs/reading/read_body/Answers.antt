@@ -5,15 +5,20 @@ use Rattle.bh_tables.specs.Typed.{Tables, tables_in}
 use Rattle.bh_tables.specs.Bodies.{Name, placed}
 use Rattle.bh_view.specs.Bodies.{bodies_in}
 use Rattle.bh_view.proofs.BodyLemmas.{placed_measured}
+use Rattle.bh_cache.specs.Kept.{Agrees}
 use Rattle.bh_schema.specs.Layer.{Standing}
 use Rattle.bh_schema.specs.Working.{tables_at}
 use Rattle.bh_blocks.specs.Windows.{IsMeasured}
 use Rattle.bh_blocks.proofs.WindowSteps.{shown_of, read_is}
+use Rattle.bh_blocks.proofs.Cached.{still_kept}
 use Rattle.bh_blocks.proofs.Keeping.{still_inside}
 use Rattle.bh_blocks.proofs.reading.read_body.Goals as goal
 
 pub append_blocks-requires : goal.append_blocks-requires
-append_blocks-requires g c = record { inside = still_inside _ _ c.in_ok-rows.ensures.within c.in_ok-rows.ensures.same c.requires.inside }
+append_blocks-requires g c = record {
+  inside = still_inside _ _ c.in_ok-rows.ensures.within c.in_ok-rows.ensures.same c.requires.inside;
+  kept = still_kept (Agrees c.args.cache.now) (state g.S.Store c.args.connection.now) (state g.S.Store c.ref_rows.new.connection) c.in_ok-rows.ensures.within c.in_ok-rows.ensures.same c.requires.kept;
+}
 
 pub returns-clause-read : goal.returns-clause-read
 returns-clause-read g c clean bodies =

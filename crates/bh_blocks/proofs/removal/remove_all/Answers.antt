@@ -36,6 +36,9 @@ loop-row-preserved g c =
           let it = at_row shown_name gone c.args.rows.now c.loop-row.row-index c.row-item.result c.loop-row-test.true c.row-item.is is in
           left_next it.0 (drop (c.loop-row.row-index + 1) gone) loop (tables_at (state g.S.Store c.remove_named.new.connection)) (step.removed it.0 it.1 clean).is
           ∙ ap (λ l. left l loop) (sym it.2) ∙ inv.left (step.within.follows.clean clean) gone is;
+      kept = λ gone is clean agrees.
+          let it = at_row shown_name gone c.args.rows.now c.loop-row.row-index c.row-item.result c.loop-row-test.true c.row-item.is is in
+          step.kept it.0 it.1 clean (inv.kept gone is (step.within.follows.clean clean) agrees);
     }
 
 pub returns-clause-removed : goal.returns-clause-removed

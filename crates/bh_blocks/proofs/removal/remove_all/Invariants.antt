@@ -2,6 +2,7 @@ use Rattle.std.proofs.Common.{◌≡◌, List, map, drop}
 use Rattle.sqlite.specs.Held.{state}
 use Rattle.bh_tables.specs.Typed.{BlockRow}
 use Rattle.bh_tables.specs.Shown.{shown_name}
+use Rattle.bh_cache.specs.Kept.{Agrees}
 use Rattle.bh_schema.specs.Layer.{standing, IsIntact, IsOpen, IsStateClean, IsInside, StateWithin}
 use Rattle.bh_schema.specs.Working.{tables_at}
 use Rattle.bh_blocks.proofs.Removing.{left}
@@ -15,4 +16,6 @@ invariant-loop-row g l = record {
   inside : IsStateClean (state g.S.Store l.connection) → IsInside (standing (state g.S.Store l.connection));
   left : IsStateClean (state g.S.Store l.connection) → (gone : List BlockRow) → l.fn.rows ≡ map shown_name gone
       → left (drop l.row-index gone) (tables_at (state g.S.Store l.connection)) ≡ left gone (tables_at (state g.S.Store l.fn.connection));
+  kept : (gone : List BlockRow) → l.fn.rows ≡ map shown_name gone → IsStateClean (state g.S.Store l.connection)
+      → Agrees l.fn.cache (tables_at (state g.S.Store l.fn.connection)).blocks → Agrees l.cache (tables_at (state g.S.Store l.connection)).blocks;
 }

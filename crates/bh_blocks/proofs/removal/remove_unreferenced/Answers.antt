@@ -6,6 +6,7 @@ use Rattle.bh_tables.specs.Typed.{BlockRow, tables_in}
 use Rattle.bh_tables.specs.Shown.{is_unreferenced, unreferenced}
 use Rattle.bh_view.specs.Becomes.{KeepsBodies}
 use Rattle.bh_view.proofs.BlockChanges.{blocks_removed}
+use Rattle.bh_cache.specs.Kept.{Agrees}
 use Rattle.bh_schema.specs.Layer.{Standing, IsStateClean}
 use Rattle.bh_schema.specs.Working.{tables_at}
 use Rattle.bh_schema.proofs.Finds.{handed_on}
@@ -41,3 +42,12 @@ returns-clause-keeps g c digest clean sound digests =
     let gone = unreferenced c.args.limit old.refs old.blocks in
     subst (KeepsBodies digest old) (sym ((then.removed gone (c.deref.ensures.value ∙ first.rows was) clean).is ∙ ap (left gone) same))
     (blocks_removed digest old gone (unreferenced_are c.args.limit old.refs old.blocks) sound (resolved_at (state g.S.Store c.args.connection.now)) digests)
+
+pub returns-clause-kept : goal.returns-clause-kept
+returns-clause-kept g c clean agrees =
+    let old = tables_at (state g.S.Store c.args.connection.now) in
+    let first = rw c.from.ensures at c.in_ok-rows.ensures in
+    let then = c.in_ok-remove_all.ensures in
+    let was = then.within.follows.clean clean in
+    then.kept (unreferenced c.args.limit old.refs old.blocks) (c.deref.ensures.value ∙ first.rows was) clean
+    (subst (λ (x : Standing). Agrees c.args.cache.now (tables_in x.now).blocks) (sym (first.same was.intact)) agrees)

@@ -1,5 +1,10 @@
-use Rattle.std.proofs.Common.{inl, inr}
+use Rattle.std.proofs.Common.{◌≡◌, ◌∙◌, refl, sym, ap, subst, inl, inr}
 use Rattle.sqlite.specs.Held.{state}
+use Rattle.bh_storage.specs.Calls.{Seen, IsAtRest}
+use Rattle.bh_view.specs.Bodies.{IsSoundHost}
+use Rattle.bh_cache.specs.Kept.{no_blocks}
+use Rattle.bh_schema.specs.Storage.{seen_in, beside}
+use Rattle.bh_schema.proofs.Storing.{beside_agreed}
 use Rattle.bh_commands.specs.Subcommands.{IsOpenedAs}
 use Rattle.bh_commands.proofs.Found.{is_clean, opened_as, typed_when, shows_seen, row_seen, sound_seen}
 use Rattle.bh_commands.proofs.Refused.{not_found}
@@ -24,13 +29,14 @@ returns-in_ok-work_by_digest-in-Ok g c =
     let old = state g.S.Store c.args.connection in
     let new = state g.S.Store opened.connection in
     let found : IsOpenedAs old new = opened_as opened.limits old new it.schema it.same it.brought it.shows it.follows it.crash in
+    let shown : beside (no_blocks opened.tuning) (seen_in opened.limits new) ≡ seen_in opened.limits new = beside_agreed (no_blocks opened.tuning) (seen_in opened.limits new) refl in
     inr (record {
       opened = opened;
       row = row_seen opened.limits old new c.requires found opened.digest it.named;
       found = record {
         opened = found;
-        shows = λ clean. shows_seen opened.limits old new c.requires found (is_clean clean);
-        rest = λ clean. it.rest _ (is_clean clean) (typed_when opened.limits old new c.requires found (is_clean clean)) (sound_seen opened.limits old new c.requires found opened.digest it.named (is_clean clean));
+        shows = λ clean. ap (λ (x : Seen). x.now) shown ∙ shows_seen opened.limits old new c.requires found (is_clean clean);
+        rest = λ clean. subst (IsAtRest (IsSoundHost _)) (sym shown) (it.rest _ (is_clean clean) (typed_when opened.limits old new c.requires found (is_clean clean)) (sound_seen opened.limits old new c.requires found opened.digest it.named (is_clean clean)));
       };
       worked = c.in_ok-work_by_digest-in-Ok.ensures;
     })

@@ -1,6 +1,8 @@
 use Rattle.std.proofs.Common.{inl, inr}
 use Rattle.sqlite.specs.Held.{state}
-use Rattle.bh_dispatch.proofs.Storing.{by_any, stores_none}
+use Rattle.bh_schema.specs.Working.{tables_at}
+use Rattle.bh_cache.proofs.Agreeing.{copies}
+use Rattle.bh_dispatch.proofs.Storing.{by_any, stores_none, kept_carried}
 use Rattle.bh_dispatch.proofs.Steps.{tells_use}
 use Rattle.bh_dispatch.proofs.operations.operate.Goals as goal
 
@@ -85,3 +87,26 @@ returns-in-GetRetention-clause-blocks g c =
       | inl is ↦ none _ is.2 (λ clean. tt)
       | inr is ↦ none _ is.2 (λ clean. tt)
     ]
+
+pub operate_upload-requires-clause-copies : goal.operate_upload-requires-clause-copies
+operate_upload-requires-clause-copies g c clean = copies c.args.cache.now (tables_at (state g.S.Store c.args.connection.now)).blocks (c.requires.working clean).sound.stored.once (c.requires.kept clean)
+
+pub returns-in-ListBuckets-clause-kept : goal.returns-in-ListBuckets-clause-kept
+returns-in-ListBuckets-clause-kept g c =
+    kept_carried c.args.cache.now _ _ _ c.operate_bucket.result (state g.S.Store c.args.connection.now) (state g.S.Store c.operate_bucket.new.connection) (λ clean. c.requires.kept (c.operate_bucket.ensures.within.follows.clean clean)) (c.operate_bucket.ensures.carries c.args.limits.now)
+
+pub returns-in-GetLifecycle-clause-kept : goal.returns-in-GetLifecycle-clause-kept
+returns-in-GetLifecycle-clause-kept g c =
+    kept_carried c.args.cache.now _ _ _ c.operate_lifecycle.result (state g.S.Store c.args.connection.now) (state g.S.Store c.operate_lifecycle.new.connection) (λ clean. c.requires.kept (c.operate_lifecycle.ensures.within.follows.clean clean)) (c.operate_lifecycle.ensures.carries c.args.limits.now c.args.at)
+
+pub returns-in-CreateMultipartUpload-clause-kept : goal.returns-in-CreateMultipartUpload-clause-kept
+returns-in-CreateMultipartUpload-clause-kept g c =
+    kept_carried c.args.cache.now _ _ _ c.operate_upload.result (state g.S.Store c.args.connection.now) (state g.S.Store c.operate_upload.new.connection) (λ clean. c.requires.kept (c.operate_upload.ensures.within.follows.clean clean)) c.operate_upload.ensures.carries
+
+pub returns-in-GetRetention-clause-kept : goal.returns-in-GetRetention-clause-kept
+returns-in-GetRetention-clause-kept g c =
+    kept_carried c.args.cache.now _ _ _ c.operate_retention.result (state g.S.Store c.args.connection.now) (state g.S.Store c.operate_retention.new.connection) (λ clean. c.requires.kept (c.operate_retention.ensures.within.follows.clean clean)) (c.operate_retention.ensures.carries c.args.limits.now)
+
+pub returns-in-Usage-clause-kept : goal.returns-in-Usage-clause-kept
+returns-in-Usage-clause-kept g c =
+    kept_carried c.args.cache.now _ _ _ c.usage.result (state g.S.Store c.args.connection.now) (state g.S.Store c.usage.new.connection) (λ clean. c.requires.kept (c.usage.ensures.within.follows.clean clean)) c.usage.ensures.carries

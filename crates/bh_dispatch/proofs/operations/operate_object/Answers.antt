@@ -1,6 +1,8 @@
 use Rattle.std.proofs.Common.{sym}
 use Rattle.sqlite.specs.Held.{state}
-use Rattle.bh_dispatch.proofs.Storing.{by_any, stores_its, stores_none}
+use Rattle.bh_schema.specs.Working.{tables_at}
+use Rattle.bh_cache.proofs.Agreeing.{copies}
+use Rattle.bh_dispatch.proofs.Storing.{by_any, stores_its, stores_none, kept_carried}
 use Rattle.bh_dispatch.proofs.Steps.{puts_object, copies_object, gets_object, heads_object, deletes_object}
 use Rattle.bh_dispatch.proofs.operations.operate_object.Goals as goal
 
@@ -50,3 +52,22 @@ returns-in-HeadObject-clause-blocks g c = stores_none g.D.Digester.digest_of c.a
 
 pub returns-in-DeleteObject-clause-blocks : goal.returns-in-DeleteObject-clause-blocks
 returns-in-DeleteObject-clause-blocks g c = stores_none g.D.Digester.digest_of c.args.block_size c.args.body.now (state g.S.Store c.args.connection.now) (state g.S.Store c.delete_object.new.connection) c.delete_object.result c.args.operation.now _ c.in-DeleteObject.is (λ clean. tt)
+
+pub put_object-requires-clause-copies : goal.put_object-requires-clause-copies
+put_object-requires-clause-copies g c clean = copies c.args.cache.now (tables_at (state g.S.Store c.args.connection.now)).blocks (c.requires.working clean).sound.stored.once (c.requires.kept clean)
+
+pub returns-in-PutObject-clause-kept : goal.returns-in-PutObject-clause-kept
+returns-in-PutObject-clause-kept g c =
+    kept_carried c.args.cache.now _ _ _ c.put_object.result (state g.S.Store c.args.connection.now) (state g.S.Store c.put_object.new.connection) (λ clean. c.requires.kept (c.put_object.ensures.within.follows.clean clean)) c.put_object.ensures.carries
+
+pub returns-in-CopyObject-clause-kept : goal.returns-in-CopyObject-clause-kept
+returns-in-CopyObject-clause-kept g c =
+    kept_carried c.args.cache.now _ _ _ c.copy_object.result (state g.S.Store c.args.connection.now) (state g.S.Store c.copy_object.new.connection) (λ clean. c.requires.kept (c.copy_object.ensures.within.follows.clean clean)) c.copy_object.ensures.carries
+
+pub returns-in-HeadObject-clause-kept : goal.returns-in-HeadObject-clause-kept
+returns-in-HeadObject-clause-kept g c =
+    kept_carried c.args.cache.now _ _ _ c.head_object.result (state g.S.Store c.args.connection.now) (state g.S.Store c.head_object.new.connection) (λ clean. c.requires.kept (c.head_object.ensures.within.follows.clean clean)) c.head_object.ensures.carries
+
+pub returns-in-DeleteObject-clause-kept : goal.returns-in-DeleteObject-clause-kept
+returns-in-DeleteObject-clause-kept g c =
+    kept_carried c.args.cache.now _ _ _ c.delete_object.result (state g.S.Store c.args.connection.now) (state g.S.Store c.delete_object.new.connection) (λ clean. c.requires.kept (c.delete_object.ensures.within.follows.clean clean)) c.delete_object.ensures.carries

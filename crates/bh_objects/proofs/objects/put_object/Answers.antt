@@ -12,6 +12,7 @@ use Rattle.bh_view.specs.Bodies.{pieces, blocks_after}
 use Rattle.bh_view.specs.View.{view, latest_of}
 use Rattle.bh_storage.specs.Answers.{stored_answer}
 use Rattle.bh_storage.specs.Calls.{GivesStep}
+use Rattle.bh_cache.specs.Kept.{AreCopies}
 use Rattle.bh_schema.specs.Layer.{IsStateClean}
 use Rattle.bh_schema.specs.Working.{tables_at}
 use Rattle.bh_objects.specs.Dates.{new_date_at, with_first_date}
@@ -151,3 +152,8 @@ returns-in_err-numbers-clause-carries g c clean =
 
 pub add_date-requires : goal.add_date-requires
 add_date-requires g c = record { inside = λ clean. (c.in_ok-numbers.ensures.working clean).is.inside }
+
+pub store_object-requires-clause-copies : goal.store_object-requires-clause-copies
+store_object-requires-clause-copies g c clean =
+    let clean_old = c.in_ok-mode.ensures.within.follows.clean (c.in_ok-until.ensures.within.follows.clean clean) in
+    subst (λ (x : Tables). AreCopies c.args.cache.now x.blocks) (sym ((c.in_ok-until.ensures.decides clean).1 ∙ (c.in_ok-mode.ensures.decides (c.in_ok-until.ensures.within.follows.clean clean)).1)) (c.requires.copies clean_old)

@@ -5,11 +5,13 @@ use Rattle.bh_types.specs.Checksums.{checksum_text}
 use Rattle.bh_model.specs.Entries.{new_id}
 use Rattle.bh_model.specs.Operations.{Stored, id_told, put_object}
 use Rattle.bh_model.specs.State.{Content.Body}
+use Rattle.bh_tables.specs.Typed.{Tables}
 use Rattle.bh_view.specs.Blocks.{AreDigests}
 use Rattle.bh_view.specs.Bodies.{HasBodies, StoresPieces}
 use Rattle.bh_view.specs.Put.{row_number}
 use Rattle.bh_view.specs.View.{view}
 use Rattle.bh_storage.specs.Calls.{GivesStep}
+use Rattle.bh_cache.specs.Kept.{AreCopies}
 use Rattle.bh_schema.specs.Layer.{IsStateClean}
 use Rattle.bh_schema.specs.Working.{tables_at}
 use Rattle.bh_objects.specs.Dates.{IsPlaced}
@@ -103,3 +105,7 @@ write_object-requires-clause-held g c clean r is =
     let same = (c.in_ok-entry.ensures.decides clean).1 in
     replaced_held object.tenant.now object.bucket.now object.key.now (tables_at (state g.S.Store c.new_entry.new.connection)) c.args.mode r
     (ap (replaced_in c.args.mode object.tenant.now object.bucket.now object.key.now) same ∙ sym (c.in_ok-entry.ensures.replaced clean) ∙ is)
+
+pub write_object-requires-clause-copies : goal.write_object-requires-clause-copies
+write_object-requires-clause-copies g c clean =
+    subst (λ (t : Tables). AreCopies c.args.cache.now t.blocks) (sym (c.in_ok-entry.ensures.decides clean).1) (c.requires.copies (c.in_ok-entry.ensures.within.follows.clean clean))

@@ -8,6 +8,9 @@ use Rattle.bh_script.proofs.script.new_host.Goals as goal
 pub returns-in-Ok-clause-limits : goal.returns-in-Ok-clause-limits
 returns-in-Ok-clause-limits g c = c.in-Ok.ensures.given.0
 
+pub returns-in-Ok-clause-cache : goal.returns-in-Ok-clause-cache
+returns-in-Ok-clause-cache g c = c.in-Ok.ensures.given.1
+
 pub returns-in-Ok-clause-made : goal.returns-in-Ok-clause-made
 returns-in-Ok-clause-made g c =
     let connection = c.in-Ok.host.connection in

@@ -1,4 +1,4 @@
-use Rattle.std.proofs.Common.{◌≡◌, ◌-◌, length, sym, ap, ◌∙◌}
+use Rattle.std.proofs.Common.{◌≡◌, ◌-◌, length, sym, ap, ◌∙◌, subst}
 use Rattle.std.proofs.lemmas.Result.{IfOk-at_ok}
 use Rattle.std.specs.List.{list_any}
 use Rattle.sqlite.specs.Held.{state}
@@ -11,11 +11,13 @@ use Rattle.bh_view.specs.Becomes.{KeepsBodies}
 use Rattle.bh_view.specs.Blocks.{AreDigests}
 use Rattle.bh_view.specs.Sweep.{is_due, uploads_swept, without_each, without_blocks}
 use Rattle.bh_view.specs.View.{view}
+use Rattle.bh_cache.specs.Kept.{Agrees}
 use Rattle.bh_schema.specs.Layer.{standing, IsStateClean}
 use Rattle.bh_schema.specs.Working.{tables_at, StillWorking, StillWorkingBy}
 use Rattle.bh_schema.proofs.Storing.{on_ok}
 use Rattle.bh_objects.proofs.Working.{same_tables, asked_working, works_on, works_then}
 use Rattle.bh_sweep.proofs.Alike.{swept_alike}
+use Rattle.bh_sweep.proofs.Left.{each_blocks}
 use Rattle.bh_sweep.proofs.Steps.{these_go, is_swept, tells_complete}
 use Rattle.bh_sweep.proofs.sweep.sweep.Given as given
 use Rattle.bh_sweep.proofs.sweep.sweep.Goals as goal
@@ -125,3 +127,9 @@ returns-clause-working g c digest digests clean = works_new g c clean digest dig
 
 pub returns-clause-purged : goal.returns-clause-purged
 returns-clause-purged g c digest clean digests = alike g c clean digest digests
+
+pub returns-clause-kept : goal.returns-clause-kept
+returns-clause-kept g c clean agrees =
+    let stays = ap (λ (x : Tables). x.blocks) (taken g c clean) ∙ each_blocks (uploads_swept c.args.at c.args.limit (tables_at (old g c))) (tables_at (old g c)) in
+    subst (λ (x : Tables). Agrees c.remove_blocks.new.cache x.blocks) (sym (last g c clean))
+    (c.in_ok-blocks.ensures.kept (clean_three g c clean) (subst (Agrees c.args.cache.now) (sym stays) agrees))

@@ -1,4 +1,4 @@
-use Rattle.std.proofs.Common.{ℕ, String, length, Option, sym, ap, ◌∙◌}
+use Rattle.std.proofs.Common.{ℕ, String, length, Option, sym, ap, ◌∙◌, subst}
 use Rattle.std.proofs.lemmas.Result.{err_from_is_err_and}
 use Rattle.std.specs.Option.{option_copied}
 use Rattle.std.specs.String.{string_bytes}
@@ -6,6 +6,7 @@ use Rattle.sqlite.specs.Held.{state}
 use Rattle.bh_tables.specs.Typed.{Tables}
 use Rattle.bh_view.specs.View.{view}
 use Rattle.bh_model.specs.Operations.{PartStored}
+use Rattle.bh_cache.specs.Kept.{AreCopies}
 use Rattle.bh_schema.specs.Layer.{IsStateClean}
 use Rattle.bh_schema.specs.Working.{tables_at}
 use Rattle.bh_objects.proofs.Putting.{sum_right}
@@ -91,3 +92,8 @@ returns-in_err-taken-clause-carries g c clean =
     (c.requires.working (c.in_ok-found.ensures.within.follows.clean clean_first)).sound part.upload.tenant.now part.upload.bucket.now part.upload.key.now part.upload.upload c.in_ok-found.found.mode c.in_ok-found.found.number
     part.number part.at part.bytes.now (option_copied c.args.given)
     (sum_right (option_copied c.args.given) part.bytes.now (string_bytes c.in_ok-checksum.checksum.text) c.in_ok-checksum.ensures.answers) one.0 one.1 c.in_err-taken.field-0.0 (c.in_err-taken.ensures.decides clean))
+
+pub write_part-requires-clause-copies : goal.write_part-requires-clause-copies
+write_part-requires-clause-copies g c clean =
+    let clean_first = c.in_ok-taken.ensures.within.follows.clean clean in
+    subst (λ (x : Tables). AreCopies c.args.cache.now x.blocks) (sym ((c.in_ok-taken.ensures.decides clean).1 ∙ (c.in_ok-found.ensures.decides clean_first).1)) (c.requires.copies (c.in_ok-found.ensures.within.follows.clean clean_first))

@@ -2,4 +2,4 @@ use Rattle.bh_create.proofs.Resting.{at_rest}
 use Rattle.examples.proofs.retried.retry.Goals as goal
 
 pub answers-requires : goal.answers-requires
-answers-requires g c clean = at_rest _ _ _ c.in-Ok.ensures.given.0 c.in-Ok.ensures.made clean
+answers-requires g c clean = at_rest _ _ _ _ _ c.in-Ok.ensures.given.0 c.in-Ok.ensures.given.1 c.in-Ok.ensures.made clean

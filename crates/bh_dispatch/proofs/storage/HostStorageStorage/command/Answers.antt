@@ -4,59 +4,87 @@ use Rattle.bh_event.specs.Events.{ShowUsage, ShowKeys}
 use Rattle.bh_model.specs.Operations.{show_usage, show_keys}
 use Rattle.bh_machine.proofs.Bounded.{ordered_bounded}
 use Rattle.bh_storage.specs.Answers.{answer_view}
-use Rattle.bh_schema.specs.Layer.{IsIntact, IsOpen}
-use Rattle.bh_schema.proofs.Storing.{both, parts, keeps}
-use Rattle.bh_dispatch.proofs.Storing.{seen_working, still_working, carried, stored, opened, by_any}
+use Rattle.bh_storage.specs.Calls.{Unless, Carries, IsWorking}
+use Rattle.bh_view.specs.Bodies.{IsSoundHost}
+use Rattle.bh_schema.specs.Layer.{IsStateClean, IsIntact, IsOpen}
+use Rattle.bh_cache.specs.Kept.{Agrees}
+use Rattle.bh_schema.specs.Storage.{seen_in, beside}
+use Rattle.bh_schema.specs.Working.{tables_at}
+use Rattle.bh_schema.proofs.Storing.{AreBoth, both, parts, keeps, under}
+use Rattle.bh_dispatch.proofs.Storing.{IsAtWork, seen_working, still_working, carried, stored, opened, by_any, agrees_seen, kept_carried, works_beside, carries_beside}
+use Rattle.bh_dispatch.proofs.storage.HostStorageStorage.command.Given as given
 use Rattle.bh_dispatch.proofs.storage.HostStorageStorage.command.Goals as goal
 
 pub show_usage-requires : goal.show_usage-requires
-show_usage-requires g c clean = seen_working g.D.Digester.digest_of c.args.self.now.host.limits (state g.S.Store c.args.self.now.host.connection) (c.requires (parts clean))
+show_usage-requires g c clean = seen_working g.D.Digester.digest_of c.args.self.now.host.limits (state g.S.Store c.args.self.now.host.connection) (under _ _ (c.requires (parts clean)))
 
 pub returns-in-Usage-clause-goes_on : goal.returns-in-Usage-clause-goes_on
 returns-in-Usage-clause-goes_on g c =
     let digest = g.D.Digester.digest_of in
+    let k = c.args.self.now.host.cache in
+    let l = c.args.self.now.host.limits in
     let old = state g.S.Store c.args.self.now.host.connection in
     let new = state g.S.Store c.show_usage.new.connection in
     let h = c.show_usage.ensures in
     let t = c.as_str.result.now in
+    let began = λ (clean : AreBoth new). c.requires (parts (h.within.follows.clean (both clean))) in
+    let works = still_working digest l old new answer_view t (show_usage t) c.show_usage.result (λ s bound. ordered_bounded s bound (ShowUsage t)) (λ clean. under _ _ (began clean)) (by_any digest old new c.show_usage.result h.working) h.carries in
     record {
       within = stored g.S.Store c.args.self.now _ (keeps g.S.Store c.args.self.now.host _ refl h.within);
       opens = opened (IsIntact new) (IsOpen old) (IsOpen new) c.show_usage.result h.opens;
-      working = still_working digest c.args.self.now.host.limits old new answer_view t (show_usage t) c.show_usage.result (λ s bound. ordered_bounded s bound (ShowUsage t)) (λ clean. c.requires (parts (h.within.follows.clean (both clean)))) (by_any digest old new c.show_usage.result h.working) h.carries;
+      working = works_beside digest k k l old new began c.show_usage.result works
+          (kept_carried k answer_view t (show_usage t) c.show_usage.result old new (λ clean. agrees_seen k l old (c.requires (parts (h.within.follows.clean clean)))) h.carries);
     }
 
 pub returns-in-Usage-clause-carries : goal.returns-in-Usage-clause-carries
 returns-in-Usage-clause-carries g c clean =
     let digest = g.D.Digester.digest_of in
+    let k = c.args.self.now.host.cache in
+    let l = c.args.self.now.host.limits in
     let old = state g.S.Store c.args.self.now.host.connection in
     let new = state g.S.Store c.show_usage.new.connection in
     let h = c.show_usage.ensures in
     let t = c.as_str.result.now in
-    rw (c.in-Usage.is, sym c.as_str.ensures.value) (carried digest c.args.self.now.host.limits old new answer_view t (show_usage t) c.show_usage.result
-    (c.requires (parts (h.within.follows.clean (both clean)))) clean (by_any digest old new c.show_usage.result h.working) (h.carries (both clean)))
+    let began = λ (clean : AreBoth new). c.requires (parts (h.within.follows.clean (both clean))) in
+    let working = by_any digest old new c.show_usage.result h.working in
+    let works = still_working digest l old new answer_view t (show_usage t) c.show_usage.result (λ s bound. ordered_bounded s bound (ShowUsage t)) (λ clean. under _ _ (began clean)) working h.carries in
+    rw (c.in-Usage.is, sym c.as_str.ensures.value) (carries_beside digest k k l old new began answer_view t (show_usage t) c.show_usage.result clean works
+    (kept_carried k answer_view t (show_usage t) c.show_usage.result old new (λ clean. agrees_seen k l old (c.requires (parts (h.within.follows.clean clean)))) h.carries)
+    (carried digest l old new answer_view t (show_usage t) c.show_usage.result (under _ _ (began clean)) clean working (h.carries (both clean))))
 
 pub show_keys-requires : goal.show_keys-requires
-show_keys-requires g c clean = seen_working g.D.Digester.digest_of c.args.self.now.host.limits (state g.S.Store c.args.self.now.host.connection) (c.requires (parts clean))
+show_keys-requires g c clean = seen_working g.D.Digester.digest_of c.args.self.now.host.limits (state g.S.Store c.args.self.now.host.connection) (under _ _ (c.requires (parts clean)))
 
 pub returns-in-Keys-clause-goes_on : goal.returns-in-Keys-clause-goes_on
 returns-in-Keys-clause-goes_on g c =
     let digest = g.D.Digester.digest_of in
+    let k = c.args.self.now.host.cache in
+    let l = c.args.self.now.host.limits in
     let old = state g.S.Store c.args.self.now.host.connection in
     let new = state g.S.Store c.show_keys.new.connection in
     let h = c.show_keys.ensures in
     let t = c.as_str-in-Keys.result.now in
+    let began = λ (clean : AreBoth new). c.requires (parts (h.within.follows.clean (both clean))) in
+    let works = still_working digest l old new answer_view t (show_keys t) c.show_keys.result (λ s bound. ordered_bounded s bound (ShowKeys t)) (λ clean. under _ _ (began clean)) (by_any digest old new c.show_keys.result h.working) h.carries in
     record {
       within = stored g.S.Store c.args.self.now _ (keeps g.S.Store c.args.self.now.host _ refl h.within);
       opens = opened (IsIntact new) (IsOpen old) (IsOpen new) c.show_keys.result h.opens;
-      working = still_working digest c.args.self.now.host.limits old new answer_view t (show_keys t) c.show_keys.result (λ s bound. ordered_bounded s bound (ShowKeys t)) (λ clean. c.requires (parts (h.within.follows.clean (both clean)))) (by_any digest old new c.show_keys.result h.working) h.carries;
+      working = works_beside digest k k l old new began c.show_keys.result works
+          (kept_carried k answer_view t (show_keys t) c.show_keys.result old new (λ clean. agrees_seen k l old (c.requires (parts (h.within.follows.clean clean)))) h.carries);
     }
 
 pub returns-in-Keys-clause-carries : goal.returns-in-Keys-clause-carries
 returns-in-Keys-clause-carries g c clean =
     let digest = g.D.Digester.digest_of in
+    let k = c.args.self.now.host.cache in
+    let l = c.args.self.now.host.limits in
     let old = state g.S.Store c.args.self.now.host.connection in
     let new = state g.S.Store c.show_keys.new.connection in
     let h = c.show_keys.ensures in
     let t = c.as_str-in-Keys.result.now in
-    rw (c.in-Keys.is, sym c.as_str-in-Keys.ensures.value) (carried digest c.args.self.now.host.limits old new answer_view t (show_keys t) c.show_keys.result
-    (c.requires (parts (h.within.follows.clean (both clean)))) clean (by_any digest old new c.show_keys.result h.working) (h.carries (both clean)))
+    let began = λ (clean : AreBoth new). c.requires (parts (h.within.follows.clean (both clean))) in
+    let working = by_any digest old new c.show_keys.result h.working in
+    let works = still_working digest l old new answer_view t (show_keys t) c.show_keys.result (λ s bound. ordered_bounded s bound (ShowKeys t)) (λ clean. under _ _ (began clean)) working h.carries in
+    rw (c.in-Keys.is, sym c.as_str-in-Keys.ensures.value) (carries_beside digest k k l old new began answer_view t (show_keys t) c.show_keys.result clean works
+    (kept_carried k answer_view t (show_keys t) c.show_keys.result old new (λ clean. agrees_seen k l old (c.requires (parts (h.within.follows.clean clean)))) h.carries)
+    (carried digest l old new answer_view t (show_keys t) c.show_keys.result (under _ _ (began clean)) clean working (h.carries (both clean))))

@@ -1,7 +1,7 @@
 use Rattle.std.proofs.Common.{sym}
 use Rattle.sqlite.specs.Held.{state}
-use Rattle.bh_schema.proofs.Storing.{limits_seen}
+use Rattle.bh_dispatch.proofs.Storing.{limits_shown}
 use Rattle.bh_dispatch.proofs.storage.HostStorageStorage.limits.Goals as goal
 
 pub returns : goal.returns
-returns g c = sym (limits_seen c.args.self.now.host.limits (state g.S.Store c.args.self.now.host.connection))
+returns g c = sym (limits_shown c.args.self.now.host.cache c.args.self.now.host.limits (state g.S.Store c.args.self.now.host.connection))

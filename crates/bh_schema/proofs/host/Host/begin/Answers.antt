@@ -17,9 +17,9 @@ pub returns-clause-survives : goal.returns-clause-survives
 returns-clause-survives g c intact = left_less (state g.S.Store c.args.self.now.connection) (state g.S.Store c.begin.new.connection) (c.begin.ensures.survives intact)
 
 pub returns-clause-same : goal.returns-clause-same
-returns-clause-same g c intact = begun_shows _ (state g.S.Store c.args.self.now.connection) (state g.S.Store c.begin.new.connection) (on_ok _ c.in_ok-or_trouble.ensures.ok c.begin.ensures.begins intact)
+returns-clause-same g c intact = begun_shows _ _ (state g.S.Store c.args.self.now.connection) (state g.S.Store c.begin.new.connection) (on_ok _ c.in_ok-or_trouble.ensures.ok c.begin.ensures.begins intact)
 
 pub returns-clause-working : goal.returns-clause-working
 returns-clause-working g c intact =
-    begun_works _ (state g.S.Store c.args.self.now.connection) (state g.S.Store c.begin.new.connection)
+    begun_works _ _ (state g.S.Store c.args.self.now.connection) (state g.S.Store c.begin.new.connection)
     (c.requires (c.begin.ensures.within.follows.intact intact, (on_ok _ c.in_ok-or_trouble.ensures.ok c.begin.ensures.opens intact).0)) (on_ok _ c.in_ok-or_trouble.ensures.ok c.begin.ensures.begins intact)
