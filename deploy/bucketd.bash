@@ -34,16 +34,18 @@ _bucketd() {
         check) words=" --file --help " ;;
         sweep) words=" --file --limit --at --clock-leap --force --help " ;;
         backup) words=" --file --to --help " ;;
+        export) words=" --file --tenant --to --help " ;;
+        import) words=" --file --from --help " ;;
         serve) words=" --file --port --count --log --timeout --clock-leap --force --block-size --cache-blocks --operator-port --operator-secret-file --help " ;;
         tell) words=" --port --secret-file --help " ;;
-        help) [ "$COMP_CWORD" -gt 2 ] || words=" script init tenant-add quota key-add key-remove keys usage tenants report check sweep backup serve tell " ;;
+        help) [ "$COMP_CWORD" -gt 2 ] || words=" script init tenant-add quota key-add key-remove keys usage tenants report check sweep backup export import serve tell " ;;
         esac
         # No option comes twice.
         for option in "${COMP_WORDS[@]:2:COMP_CWORD - 2}"; do
             words=${words/ $option / }
         done
     else
-        words=" script init tenant-add quota key-add key-remove keys usage tenants report check sweep backup serve tell help --help --version "
+        words=" script init tenant-add quota key-add key-remove keys usage tenants report check sweep backup export import serve tell help --help --version "
     fi
     mapfile -t COMPREPLY < <(compgen -W "$words" -- "$word")
 }

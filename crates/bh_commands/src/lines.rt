@@ -4,6 +4,7 @@ use crate::checks::check_file;
 use crate::fault::Fault;
 use crate::files::{init_file, work_in_file};
 use crate::input::{answer_input, secret_of};
+use crate::moves::{export_file, import_file};
 use crate::printed::Printed;
 use crate::secrets::operator_secret;
 use crate::task::Task;
@@ -55,6 +56,10 @@ pub fn carry_out(rt: &HostRuntime, line: Line) -> Result<Printed, Fault> {
             return work_in(rt, file.as_str(), tuning, clock, work);
         }
         Line::Backup { file, to } => return back_up_in(rt, file.as_str(), to.as_str()),
+        Line::Export { file, tenant, to } => {
+            return export_in(rt, file.as_str(), tenant.as_str(), to.as_str());
+        }
+        Line::Import { file, given } => return import_in(rt, file.as_str(), given.as_str()),
         Line::Tell {
             port,
             secret_file,
@@ -166,6 +171,16 @@ fn make_in(
 /// Copies the host of a file to a new one. Of the contents of neither is anything said.
 fn back_up_in(rt: &HostRuntime, path: &str, to: &str) -> Result<Printed, Fault> {
     Ok(backup_file(rt, path, Wary, to, Wary)?.into_printed())
+}
+
+/// Copies a tenant of the host of a file to a new one. Of the contents of none is anything said.
+fn export_in(rt: &HostRuntime, path: &str, tenant: &str, to: &str) -> Result<Printed, Fault> {
+    export_file(rt, path, Wary, tenant, to, Wary, Wary)
+}
+
+/// Adds the tenant of a file that was exported to the host of another.
+fn import_in(rt: &HostRuntime, path: &str, given: &str) -> Result<Printed, Fault> {
+    import_file(rt, path, Wary, given, Wary)
 }
 
 /// Checks the host of a file, of whose contents nothing is said.

@@ -67,6 +67,10 @@ pub(crate) enum Remark {
     Checking(Stage),
     /// Its rows can't be read.
     Unread(StoreError),
+    /// It holds no tenant, or several.
+    NotOneTenant,
+    /// It has other limits than the host that its tenant was to go to.
+    OtherLimits,
 }
 
 fn write_no_host<W: fmt::Write>(why: NoHost, f: &mut fmt::Formatter<W>) -> fmt::Result {
@@ -104,6 +108,12 @@ impl fmt::Display for Remark {
             Remark::LastStamp(latest) => write!(f, "the host's last stamp is {}", Second(*latest)),
             Remark::Checking(stage) => write!(f, "{stage}"),
             Remark::Unread(error) => write!(f, "{error}"),
+            Remark::NotOneTenant => f.write_str(
+                "there isn't exactly one tenant in it: give a file that export made",
+            ),
+            Remark::OtherLimits => f.write_str(
+                "it has other limits (min-part, max-body) than the host",
+            ),
         }
     }
 }

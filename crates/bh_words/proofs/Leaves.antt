@@ -38,6 +38,8 @@ leaf-fine subcommand.Report = record { fine = ((refl, inl (refl, refl), tt), ((r
 leaf-fine subcommand.Check = record { fine = ((refl, inl (refl, refl), tt), ((refl, inr (inr refl), tt), tt)); once = refl; negates = refl }
 leaf-fine subcommand.Sweep = record { fine = ((refl, inl (refl, refl), tt), ((refl, inl (refl, refl), tt), ((refl, inl (refl, refl), tt), ((refl, inl (refl, refl), tt), ((refl, inr (inl (refl, refl, refl)), tt), ((refl, inr (inr refl), tt), tt)))))); once = refl; negates = refl }
 leaf-fine subcommand.Backup = record { fine = ((refl, inl (refl, refl), tt), ((refl, inl (refl, refl), tt), ((refl, inr (inr refl), tt), tt))); once = refl; negates = refl }
+leaf-fine subcommand.Export = record { fine = ((refl, inl (refl, refl), tt), ((refl, inl (refl, refl), tt), ((refl, inl (refl, refl), tt), ((refl, inr (inr refl), tt), tt)))); once = refl; negates = refl }
+leaf-fine subcommand.Import = record { fine = ((refl, inl (refl, refl), tt), ((refl, inl (refl, refl), tt), ((refl, inr (inr refl), tt), tt))); once = refl; negates = refl }
 leaf-fine subcommand.Serve = record { fine = ((refl, inl (refl, refl), tt), ((refl, inl (refl, refl), tt), ((refl, inl (refl, refl), tt), ((refl, inr (inl (refl, refl, refl)), tt), ((refl, inl (refl, refl), tt), ((refl, inl (refl, refl), tt), ((refl, inr (inl (refl, refl, refl)), tt), ((refl, inl (refl, refl), tt), ((refl, inl (refl, refl), tt), ((refl, inl (refl, refl), tt), ((refl, inl (refl, refl), tt), ((refl, inr (inr refl), tt), tt)))))))))))); once = refl; negates = refl }
 leaf-fine subcommand.Tell = record { fine = ((refl, inl (refl, refl), tt), ((refl, inl (refl, refl), tt), ((refl, inl (refl, refl), tt), ((refl, inr (inr refl), tt), tt)))); once = refl; negates = refl }
 
@@ -196,6 +198,19 @@ leaf-told subcommand.Backup words e =
     let file = required-value s words (codes "file") _ fine e refl refl in
     let to = required-value s words (codes "to") _ fine e refl refl in
     rw (file.1, to.1) refl
+leaf-told subcommand.Export words e =
+    let fine = leaf-fine subcommand.Export in
+    let s = leaf subcommand.Export in
+    let file = required-value s words (codes "file") _ fine e refl refl in
+    let tenant = required-value s words (codes "tenant") _ fine e refl refl in
+    let to = required-value s words (codes "to") _ fine e refl refl in
+    rw (file.1, tenant.1, to.1) refl
+leaf-told subcommand.Import words e =
+    let fine = leaf-fine subcommand.Import in
+    let s = leaf subcommand.Import in
+    let file = required-value s words (codes "file") _ fine e refl refl in
+    let given = required-value s words (codes "from") _ fine e refl refl in
+    rw (file.1, given.1) refl
 leaf-told subcommand.Serve words e =
     let fine = leaf-fine subcommand.Serve in
     let s = leaf subcommand.Serve in

@@ -4,7 +4,7 @@ use Rattle.clap.specs.Words.{App, Shape, Text, with_rule, with_subcommand}
 use Rattle.clap.specs.Simple.{new_shape}
 use Rattle.bh_words.specs.Options.{rule}
 use Rattle.bh_words.specs.declared.options.OptionName.{OptionName}
-use Rattle.bh_words.specs.declared.options.OptionName.TheVariants.{File, To, Tenant, Name, Secret, Quota, At, ClockLeap, Force, Limit, Port, Count, Log, Timeout, MinPart, MaxBody, BlockSize, CacheBlocks, Digest, OperatorPort, OperatorSecretFile, SecretFile, Order}
+use Rattle.bh_words.specs.declared.options.OptionName.TheVariants.{File, To, From, Tenant, Name, Secret, Quota, At, ClockLeap, Force, Limit, Port, Count, Log, Timeout, MinPart, MaxBody, BlockSize, CacheBlocks, Digest, OperatorPort, OperatorSecretFile, SecretFile, Order}
 use Rattle.bh_words.specs.declared.subcommands.Subcommand.{Subcommand}
 use Rattle.bh_words.specs.declared.subcommands.Subcommand.TheVariants as subcommand
 
@@ -22,6 +22,8 @@ word subcommand.Report = codes "report"
 word subcommand.Check = codes "check"
 word subcommand.Sweep = codes "sweep"
 word subcommand.Backup = codes "backup"
+word subcommand.Export = codes "export"
+word subcommand.Import = codes "import"
 word subcommand.Serve = codes "serve"
 word subcommand.Tell = codes "tell"
 
@@ -40,12 +42,15 @@ options subcommand.Report = File ∷ At ∷ ClockLeap ∷ Force ∷ []
 options subcommand.Check = File ∷ []
 options subcommand.Sweep = File ∷ Limit ∷ At ∷ ClockLeap ∷ Force ∷ []
 options subcommand.Backup = File ∷ To ∷ []
+options subcommand.Export = File ∷ Tenant ∷ To ∷ []
+options subcommand.Import = File ∷ From ∷ []
 options subcommand.Serve = File ∷ Port ∷ Count ∷ Log ∷ Timeout ∷ ClockLeap ∷ Force ∷ BlockSize ∷ CacheBlocks ∷ OperatorPort ∷ OperatorSecretFile ∷ []
 options subcommand.Tell = Port ∷ SecretFile ∷ Order ∷ []
 
 abbrev pub subcommands : List Subcommand
 subcommands = subcommand.Script ∷ subcommand.Init ∷ subcommand.TenantAdd ∷ subcommand.Quota ∷ subcommand.KeyAdd
-    ∷ subcommand.KeyRemove ∷ subcommand.Keys ∷ subcommand.Usage ∷ subcommand.Tenants ∷ subcommand.Report ∷ subcommand.Check ∷ subcommand.Sweep ∷ subcommand.Backup ∷ subcommand.Serve ∷ subcommand.Tell ∷ []
+    ∷ subcommand.KeyRemove ∷ subcommand.Keys ∷ subcommand.Usage ∷ subcommand.Tenants ∷ subcommand.Report ∷ subcommand.Check ∷ subcommand.Sweep
+    ∷ subcommand.Backup ∷ subcommand.Export ∷ subcommand.Import ∷ subcommand.Serve ∷ subcommand.Tell ∷ []
 
 -- a command of these options
 abbrev pub shape : Text → List OptionName → Shape

@@ -34,6 +34,8 @@ pub data CommandLine : Type 0 where
   Check : (file : Octets) → CommandLine
   Sweep : (file : Octets) (limit : ℕ) (clock : ClockGiven) → CommandLine
   Backup : (file : Octets) (to : Octets) → CommandLine
+  Export : (file : Octets) (tenant : Octets) (to : Octets) → CommandLine
+  Import : (file : Octets) (given : Octets) → CommandLine
   Serve : (file : Octets) (port : ℕ) (count : Option ℕ) (log : Bool) (timeout : ℕ) (leap : Leap) (tuning : HostTuning) (operator_port : Option ℕ)
       (operator_secret_file : Option Octets) → CommandLine
   Tell : (port : ℕ) (secret_file : Option Octets) (order : Octets) → CommandLine
@@ -56,6 +58,8 @@ command_line (line.Report file clock) = Report (string_bytes file) clock
 command_line (line.Check file) = Check (string_bytes file)
 command_line (line.Sweep file limit clock) = Sweep (string_bytes file) limit clock
 command_line (line.Backup file to) = Backup (string_bytes file) (string_bytes to)
+command_line (line.Export file tenant to) = Export (string_bytes file) (string_bytes tenant) (string_bytes to)
+command_line (line.Import file given) = Import (string_bytes file) (string_bytes given)
 command_line (line.Serve file port count log timeout leap tuning operator secret) =
     Serve (string_bytes file) port count log timeout leap tuning operator (option_map string_bytes secret)
 command_line (line.Tell port secret order) = Tell port (option_map string_bytes secret) (string_bytes order)

@@ -5,12 +5,13 @@ use Rattle.clap.specs.declared.builder.action.ArgAction.TheVariants.{SetTrue}
 use Rattle.clap.specs.declared.builder.value_parser.ValueParser.TheVariants.{Unsigned}
 use Rattle.bh_types.specs.Limits.{default_limits, default_tuning}
 use Rattle.bh_words.specs.declared.options.OptionName.{OptionName}
-use Rattle.bh_words.specs.declared.options.OptionName.TheVariants.{File, To, Tenant, Name, Secret, Quota, At, ClockLeap, Force, Limit, Port, Count, Log, Timeout, MinPart, MaxBody, BlockSize, CacheBlocks, Digest, OperatorPort, OperatorSecretFile, SecretFile, Order}
+use Rattle.bh_words.specs.declared.options.OptionName.TheVariants.{File, To, From, Tenant, Name, Secret, Quota, At, ClockLeap, Force, Limit, Port, Count, Log, Timeout, MinPart, MaxBody, BlockSize, CacheBlocks, Digest, OperatorPort, OperatorSecretFile, SecretFile, Order}
 
 -- an option is written `--word value` or `--word=value`
 abbrev pub word : OptionName → Text
 word File = codes "file"
 word To = codes "to"
+word From = codes "from"
 word Tenant = codes "tenant"
 word Name = codes "name"
 word Secret = codes "secret"
@@ -71,6 +72,7 @@ greatest = 2 ^ 64 - 1
 abbrev pub rule : OptionName → Rule
 rule File = text File
 rule To = text To
+rule From = text From
 rule Tenant = text Tenant
 rule Name = text Name
 rule Secret = text Secret

@@ -207,6 +207,19 @@ backup rows = do
   to ← text_at option.To rows
   Some (line.Backup file to)
 
+abbrev pub export : List Row → Option CommandLine
+export rows = do
+  file ← text_at option.File rows
+  tenant ← text_at option.Tenant rows
+  to ← text_at option.To rows
+  Some (line.Export file tenant to)
+
+abbrev pub import_ : List Row → Option CommandLine
+import_ rows = do
+  file ← text_at option.File rows
+  given ← text_at option.From rows
+  Some (line.Import file given)
+
 abbrev pub serve : List Row → Option CommandLine
 serve rows = do
   file ← text_at option.File rows
@@ -237,6 +250,8 @@ line_at subcommand.Report = report
 line_at subcommand.Check = check
 line_at subcommand.Sweep = sweep
 line_at subcommand.Backup = backup
+line_at subcommand.Export = export
+line_at subcommand.Import = import_
 line_at subcommand.Serve = serve
 line_at subcommand.Tell = tell
 

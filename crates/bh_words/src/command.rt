@@ -52,6 +52,8 @@ static SUBCOMMANDS: [Subcommand; 15] = [
     Subcommand::Check,
     Subcommand::Sweep,
     Subcommand::Backup,
+    Subcommand::Export,
+    Subcommand::Import,
     Subcommand::Serve,
     Subcommand::Tell,
 ];

@@ -111,6 +111,17 @@ pub enum Line {
         file: String,
         to: String,
     },
+    /// A tenant of the host, with all that it has, is copied to a host of its own in a new file, `to`.
+    Export {
+        file: String,
+        tenant: String,
+        to: String,
+    },
+    /// The tenant of the host in the file `given` is added to the host.
+    Import {
+        file: String,
+        given: String,
+    },
     /// Connections on a port of 127.0.0.1 are served, on one that the system chooses where it is 0:
     /// `count` of them, or without end. Each is read within `timeout` seconds, and its response is
     /// written within as many. With `log` a line tells each request on standard error. Where there is an

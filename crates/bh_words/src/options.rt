@@ -12,6 +12,7 @@ use std::alloc::Global;
 pub(crate) enum OptionName {
     File,
     To,
+    From,
     Tenant,
     Name,
     Secret,
@@ -43,6 +44,7 @@ impl OptionName {
         match self {
             OptionName::File => "file",
             OptionName::To => "to",
+            OptionName::From => "from",
             OptionName::Tenant => "tenant",
             OptionName::Name => "name",
             OptionName::Secret => "secret",
@@ -71,6 +73,7 @@ impl OptionName {
         match self {
             OptionName::File => "The host's file",
             OptionName::To => "The new file; its folder is there, and nothing has its name",
+            OptionName::From => "The file that a tenant was exported to",
             OptionName::Tenant => "The tenant's name: 1 to 32 of a to z, 0 to 9",
             OptionName::Name => "The key's name: 1 to 32 of a to z, 0 to 9",
             OptionName::Secret =>
@@ -113,6 +116,7 @@ impl OptionName {
         match self {
             OptionName::File
             | OptionName::To
+            | OptionName::From
             | OptionName::Tenant
             | OptionName::Name
             | OptionName::Secret => self.text(alloc),

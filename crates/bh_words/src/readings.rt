@@ -41,6 +41,8 @@ fn line_of(
         Subcommand::Check => check(alloc, given),
         Subcommand::Sweep => sweep(alloc, given),
         Subcommand::Backup => backup(alloc, given),
+        Subcommand::Export => export(alloc, given),
+        Subcommand::Import => import(alloc, given),
         Subcommand::Serve => serve(alloc, given),
         Subcommand::Tell => tell(alloc, given),
     }
@@ -198,6 +200,23 @@ fn backup(alloc: Global, given: &ArgMatches<'_>) -> Result<Line, GivenError>
     let file = text(alloc, given, OptionName::File)?;
     let to = text(alloc, given, OptionName::To)?;
     Ok(Line::Backup { file, to })
+}
+
+fn export(alloc: Global, given: &ArgMatches<'_>) -> Result<Line, GivenError>
+    ensures { spec.Gives command_line result (spec.export (spec.rows_in given.now)) }
+{
+    let file = text(alloc, given, OptionName::File)?;
+    let tenant = text(alloc, given, OptionName::Tenant)?;
+    let to = text(alloc, given, OptionName::To)?;
+    Ok(Line::Export { file, tenant, to })
+}
+
+fn import(alloc: Global, given: &ArgMatches<'_>) -> Result<Line, GivenError>
+    ensures { spec.Gives command_line result (spec.import_ (spec.rows_in given.now)) }
+{
+    let file = text(alloc, given, OptionName::File)?;
+    let from = text(alloc, given, OptionName::From)?;
+    Ok(Line::Import { file, given: from })
 }
 
 fn serve(alloc: Global, given: &ArgMatches<'_>) -> Result<Line, GivenError>

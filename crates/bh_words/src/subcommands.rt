@@ -21,6 +21,8 @@ pub(crate) enum Subcommand {
     Check,
     Sweep,
     Backup,
+    Export,
+    Import,
     Serve,
     Tell,
 }
@@ -95,6 +97,10 @@ static SWEEP: [OptionName; 5] = [
 
 static BACKUP: [OptionName; 2] = [OptionName::File, OptionName::To];
 
+static EXPORT: [OptionName; 3] = [OptionName::File, OptionName::Tenant, OptionName::To];
+
+static IMPORT: [OptionName; 2] = [OptionName::File, OptionName::From];
+
 static SERVE: [OptionName; 11] = [
     OptionName::File,
     OptionName::Port,
@@ -130,6 +136,8 @@ impl Subcommand {
             Subcommand::Check => "check",
             Subcommand::Sweep => "sweep",
             Subcommand::Backup => "backup",
+            Subcommand::Export => "export",
+            Subcommand::Import => "import",
             Subcommand::Serve => "serve",
             Subcommand::Tell => "tell",
         }
@@ -152,6 +160,8 @@ impl Subcommand {
             Subcommand::Check => "Says whether all that a file holds is sound",
             Subcommand::Sweep => "Removes stale uploads and blocks that nothing refers to",
             Subcommand::Backup => "Copies the host to a new file",
+            Subcommand::Export => "Copies a tenant to a host of its own in a new file",
+            Subcommand::Import => "Adds the tenant of such a file to the host",
             Subcommand::Serve => "Serves connections on a port",
             Subcommand::Tell =>
                 "Sends an operator's line to a host that serves, and writes the reply",
@@ -173,6 +183,8 @@ impl Subcommand {
             Subcommand::Check => &CHECK,
             Subcommand::Sweep => &SWEEP,
             Subcommand::Backup => &BACKUP,
+            Subcommand::Export => &EXPORT,
+            Subcommand::Import => &IMPORT,
             Subcommand::Serve => &SERVE,
             Subcommand::Tell => &TELL,
         }
@@ -196,6 +208,8 @@ impl Subcommand {
             "check" => Some(Subcommand::Check),
             "sweep" => Some(Subcommand::Sweep),
             "backup" => Some(Subcommand::Backup),
+            "export" => Some(Subcommand::Export),
+            "import" => Some(Subcommand::Import),
             "serve" => Some(Subcommand::Serve),
             "tell" => Some(Subcommand::Tell),
             _ => None,

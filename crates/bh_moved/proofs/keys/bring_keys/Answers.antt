@@ -1,0 +1,14 @@
+use Rattle.std.proofs.Common.{◌∙◌, subst}
+use Rattle.sqlite.specs.Held.{state}
+use Rattle.bh_view.specs.View.{rows_of}
+use Rattle.bh_schema.specs.Layer.{standing, Holds}
+use Rattle.bh_schema.specs.Working.{tables_at}
+use Rattle.bh_tenant_rows.specs.Brought.{with_keys}
+use Rattle.bh_moved.proofs.OwnRows.{keys_are}
+use Rattle.bh_moved.proofs.keys.bring_keys.Goals as goal
+
+pub returns-clause-brought : goal.returns-clause-brought
+returns-clause-brought g c read clean =
+    let from = tables_at (state g.S.Store c.args.from.now) in
+    subst (λ l. Holds (with_keys l (tables_at (state g.T.Store c.args.to.now))) (standing (state g.T.Store c.bring_key_rows.new.to))) (keys_are c.args.tenant.now from)
+    (c.in_ok-bring_key_rows.ensures.brought (rows_of c.args.tenant.now from).keys (c.deref.ensures.value ∙ c.in_ok-rows.ensures.rows read) clean)

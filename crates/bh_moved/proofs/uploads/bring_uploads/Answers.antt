@@ -1,0 +1,14 @@
+use Rattle.std.proofs.Common.{◌∙◌, subst}
+use Rattle.sqlite.specs.Held.{state}
+use Rattle.bh_view.specs.View.{rows_of}
+use Rattle.bh_schema.specs.Layer.{standing, Holds}
+use Rattle.bh_schema.specs.Working.{tables_at}
+use Rattle.bh_tenant_rows.specs.Brought.{with_uploads}
+use Rattle.bh_moved.proofs.OwnRows.{uploads_are}
+use Rattle.bh_moved.proofs.uploads.bring_uploads.Goals as goal
+
+pub returns-clause-brought : goal.returns-clause-brought
+returns-clause-brought g c read clean =
+    let from = tables_at (state g.S.Store c.args.from.now) in
+    subst (λ l. Holds (with_uploads l (tables_at (state g.T.Store c.args.to.now))) (standing (state g.T.Store c.bring_upload_rows.new.to))) (uploads_are c.args.tenant.now from)
+    (c.in_ok-bring_upload_rows.ensures.brought (rows_of c.args.tenant.now from).uploads (c.deref.ensures.value ∙ c.in_ok-rows.ensures.rows read) clean)

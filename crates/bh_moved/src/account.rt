@@ -1,0 +1,36 @@
+//! The row of a tenant.
+
+ghost use Rattle.std.specs.Prelude.{◌≡◌, ◌∷◌, [], false, OnOk};
+ghost use Rattle.std.specs.List.{list_any};
+ghost use Rattle.bh_tables.specs.Shown.{is_tenant};
+ghost use Rattle.bh_schema.specs.Connections.{tables, InTransaction, StaysWithin, StaysOpen, Becomes};
+ghost use Rattle.bh_tenant_rows.specs.Brought.{with_tenants};
+ghost use Rattle.bh_moved.specs.Rows.{tenant_row};
+
+use crate::cells::in_range;
+use bh_schema::rows::tenants::{TenantNumbers, insert_tenant, set_numbers};
+use bh_uploads::rows::uploads::set_next_upload;
+use sqlite::{Alter, Connection, Error};
+
+/// Adds a tenant with these numbers, where there is none of its name.
+pub fn bring_account<T: Alter>(
+    to: &mut Connection<T>,
+    tenant: &str,
+    numbers: TenantNumbers,
+) -> Result<(), Error>
+    requires inside { InTransaction T.Store to.old }
+    ensures within { StaysWithin T.Store to.old to.new }
+    ensures opens { OnOk result (StaysOpen T.Store to.old to.new) }
+    ensures inside { OnOk result (InTransaction T.Store to.new) }
+    ensures holds { OnOk result (list_any (is_tenant tenant.now) (tables T.Store to.old).tenants ≡ false
+        → Becomes T.Store to.old to.new (with_tenants (tenant_row tenant.now numbers ∷ []))) }
+{
+    let quota = in_range(numbers.quota)?;
+    let version = in_range(numbers.next_version)?;
+    let entry = in_range(numbers.next_entry)?;
+    let upload = in_range(numbers.next_upload)?;
+    insert_tenant(to, tenant, quota)?;
+    set_numbers(to, tenant, version, entry)?;
+    set_next_upload(to, tenant, upload)?;
+    Ok(())
+}

@@ -1,0 +1,20 @@
+//! A tenant moved from one host's tables to another's: its rows, read of the one and written to the other, with their bodies.
+#![tactic(auto)]
+
+mod account;
+mod buckets;
+mod cells;
+mod keys;
+mod moves;
+mod parts;
+mod retains;
+mod rows;
+mod sole;
+mod stamps;
+mod tenant;
+mod uploads;
+mod versions;
+
+pub use moves::move_tenant;
+pub use sole::sole_tenant;
+pub use tenant::bring_tenant;

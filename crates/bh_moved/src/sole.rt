@@ -1,0 +1,52 @@
+//! The one tenant of a host.
+
+ghost use Rattle.std.specs.Prelude.{◌≡◌, ◌∷◌, [], List, map, IfOk, IfSome};
+ghost use Rattle.std.specs.String.{string_bytes};
+ghost use Rattle.sqlite.specs.Held.{state};
+ghost use Rattle.bh_tables.specs.Typed.{TenantRow};
+ghost use Rattle.bh_schema.specs.Connections.{IsClean, stands, tables};
+ghost use Rattle.bh_schema.specs.Layer.{taken_back, KeepsDisk};
+ghost use Rattle.bh_tenant_rows.specs.Shown.{shown_name};
+ghost use Rattle.bh_moved.specs.Moves.{IsReady};
+
+use bh_schema::rows::transactions::{begin, take_back};
+use bh_tenant_rows::reads::name_rows;
+use sqlite::{Alter, Connection, Error, Row};
+
+/// The rows of all tenants' names, in a transaction.
+fn begin_and_read<S: Alter>(connection: &mut Connection<S>) -> Result<Vec<Row>, Error>
+    requires ready { IsReady S.Store connection.old }
+    ensures follows { KeepsDisk (state S.Store connection.old) (state S.Store connection.new) }
+    ensures kept { IsClean S.Store connection.new → (stands S.Store connection.new).kept ≡ (stands S.Store connection.old).kept }
+    ensures rows { IfOk result (λ rows. IsClean S.Store connection.new
+        → rows.items ≡ map shown_name (tables S.Store connection.old).tenants) }
+{
+    begin(connection)?;
+    let rows = name_rows(connection)?;
+    Ok(rows)
+}
+
+/// The name in the one row that there is.
+fn one_name(rows: &[Row]) -> Result<Option<String>, Error>
+    ensures { IfOk result (λ found. IfSome found (λ name. (ts : List TenantRow) → rows.now ≡ map shown_name ts
+        → map (λ (t : TenantRow). t.tenant) ts ≡ string_bytes name ∷ [])) }
+{
+    match rows {
+        [row] => Ok(Some(row.get(0)?)),
+        _ => Ok(None),
+    }
+}
+
+/// The name of a host's tenant, where it has exactly one.
+pub fn sole_tenant<S: Alter>(connection: &mut Connection<S>) -> Result<Option<String>, Error>
+    requires ready { IsReady S.Store connection.old }
+    ensures follows { KeepsDisk (state S.Store connection.old) (state S.Store connection.new) }
+    ensures back { IsClean S.Store connection.new → stands S.Store connection.new ≡ taken_back (stands S.Store connection.old) }
+    ensures sole { IfOk result (λ found. IfSome found (λ name. IsClean S.Store connection.new
+        → map (λ (t : TenantRow). t.tenant) (tables S.Store connection.old).tenants ≡ string_bytes name ∷ [])) }
+{
+    let outcome = begin_and_read(connection);
+    take_back(connection);
+    let rows = outcome?;
+    one_name(&rows)
+}

@@ -1,0 +1,32 @@
+//! The last stamp.
+
+ghost use Rattle.std.specs.Prelude.{max, OnOk};
+ghost use Rattle.bh_view.specs.View.{latest_of, with_latest};
+ghost use Rattle.bh_schema.specs.Connections.{IsClean, tables, InTransaction, StaysWithin, WasOpen, StaysOpen, ChangesNothing, Becomes};
+
+use crate::cells::in_range;
+use bh_schema::rows::host::{find_latest, set_latest};
+use sqlite::{Alter, Connection, Error};
+
+/// Makes the later of two hosts' last stamps the one of the second.
+pub fn stamp_later<S: Alter, T: Alter>(
+    from: &mut Connection<S>,
+    to: &mut Connection<T>,
+) -> Result<(), Error>
+    requires reading { InTransaction S.Store from.old }
+    requires inside { InTransaction T.Store to.old }
+    ensures reads { StaysWithin S.Store from.old from.new }
+    ensures read { OnOk result (WasOpen S.Store from.old from.new) }
+    ensures same { OnOk result (ChangesNothing S.Store from.old from.new) }
+    ensures within { StaysWithin T.Store to.old to.new }
+    ensures opens { OnOk result (StaysOpen T.Store to.old to.new) }
+    ensures inside { OnOk result (InTransaction T.Store to.new) }
+    ensures stamped { OnOk result (IsClean S.Store from.new → Becomes T.Store to.old to.new
+        (with_latest (max (latest_of (tables T.Store to.old)) (latest_of (tables S.Store from.old))))) }
+{
+    let given = find_latest(from)?.unwrap_or(0);
+    let own = find_latest(to)?.unwrap_or(0);
+    let stamp = in_range(own.max(given))?;
+    set_latest(to, stamp)?;
+    Ok(())
+}

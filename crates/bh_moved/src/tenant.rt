@@ -1,0 +1,81 @@
+//! A tenant, with all that it has.
+
+ghost use Rattle.std.specs.Prelude.{◌≡◌, ◌≤◌, true, false, Some, None, find, is_some, IfOk, OnOk};
+ghost use Rattle.bh_types.specs.declared.refusal.Refusal.TheVariants.{NoSuchTenant, TenantExists};
+ghost use Rattle.bh_tables.specs.Shown.{is_tenant};
+ghost use Rattle.bh_view.specs.View.{view};
+ghost use Rattle.bh_schema.specs.Connections.{IsClean, tables, InTransaction, StaysWithin, WasOpen, StaysOpen, ChangesNothing};
+ghost use Rattle.bh_tenant_rows.specs.Brought.{IsMoved};
+ghost use Rattle.bh_moved.specs.Rows.{tenant_row};
+
+use crate::rows::bring_rows;
+use crate::stamps::stamp_later;
+use bh_schema::host::Digester;
+use bh_schema::rows::tenants::{TenantNumbers, find_tenant};
+use bh_types::refusal::Refusal;
+use sqlite::{Alter, Connection, Error};
+use std::alloc::Global;
+
+/// Adds a tenant that there isn't, with these numbers and all that it has in another host, whose last stamp counts as well.
+fn bring_all<S: Alter, T: Alter, D: Digester>(
+    from: &mut Connection<S>,
+    to: &mut Connection<T>,
+    alloc: Global,
+    digester: &D,
+    block_size: u64,
+    tenant: &str,
+    numbers: TenantNumbers,
+) -> Result<(), Error>
+    requires reading { InTransaction S.Store from.old }
+    requires inside { InTransaction T.Store to.old }
+    requires positive { 1 ≤ block_size }
+    ensures reads { StaysWithin S.Store from.old from.new }
+    ensures read { OnOk result (WasOpen S.Store from.old from.new) }
+    ensures same { OnOk result (ChangesNothing S.Store from.old from.new) }
+    ensures within { StaysWithin T.Store to.old to.new }
+    ensures opens { OnOk result (StaysOpen T.Store to.old to.new) }
+    ensures inside { OnOk result (InTransaction T.Store to.new) }
+    ensures brought { OnOk result (IsClean S.Store from.new → IsClean T.Store to.new
+        → find (is_tenant tenant.now) (tables S.Store from.old).tenants ≡ Some (tenant_row tenant.now numbers)
+        → find (is_tenant tenant.now) (tables T.Store to.old).tenants ≡ None
+        → IsMoved D.digest_of tenant.now (tables S.Store from.old) (tables T.Store to.old) (tables T.Store to.new)) }
+{
+    bring_rows(from, to, alloc, digester, block_size, tenant, numbers)?;
+    stamp_later(from, to)?;
+    Ok(())
+}
+
+/// Adds a tenant with all that it has in another host: its quota, counters, keys, buckets, versions, markers, dates, uploads and
+/// parts, and the bytes of those, in blocks of at most this size. The later of the two last stamps becomes the host's.
+///
+/// It is refused, and nothing is added: `NoSuchTenant` where the other host hasn't the tenant, `TenantExists` where this one has it.
+pub fn bring_tenant<S: Alter, T: Alter, D: Digester>(
+    from: &mut Connection<S>,
+    to: &mut Connection<T>,
+    alloc: Global,
+    digester: &D,
+    block_size: u64,
+    tenant: &str,
+) -> Result<Option<Refusal>, Error>
+    requires reading { InTransaction S.Store from.old }
+    requires inside { InTransaction T.Store to.old }
+    requires positive { 1 ≤ block_size }
+    ensures reads { StaysWithin S.Store from.old from.new }
+    ensures within { StaysWithin T.Store to.old to.new }
+    ensures inside { OnOk result (InTransaction T.Store to.new) }
+    ensures moved { IfOk result (λ refused. refused ≡ None → IsClean S.Store from.new → IsClean T.Store to.new
+        → IsMoved D.digest_of tenant.now (tables S.Store from.old) (tables T.Store to.old) (tables T.Store to.new)) }
+    ensures missing { IfOk result (λ refused. refused ≡ Some NoSuchTenant → IsClean S.Store from.new
+        → is_some (view (tables S.Store from.old) tenant.now) ≡ false) }
+    ensures exists { IfOk result (λ refused. refused ≡ Some TenantExists → IsClean T.Store to.new
+        → is_some (view (tables T.Store to.old) tenant.now) ≡ true) }
+{
+    let Some(numbers) = find_tenant(from, tenant)? else {
+        return Ok(Some(Refusal::NoSuchTenant));
+    };
+    if find_tenant(to, tenant)?.is_some() {
+        return Ok(Some(Refusal::TenantExists));
+    }
+    bring_all(from, to, alloc, digester, block_size, tenant, numbers)?;
+    Ok(None)
+}

@@ -1,0 +1,4 @@
+pub mod Lists
+pub mod Coming
+pub mod Moving
+pub mod Texts

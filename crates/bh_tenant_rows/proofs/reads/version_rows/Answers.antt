@@ -1,0 +1,10 @@
+use Rattle.sqlite.specs.Held.{state}
+use Rattle.bh_schema.proofs.VersionCalls.{selected}
+use Rattle.bh_tenant_rows.proofs.Texts.{versions_shown}
+use Rattle.bh_tenant_rows.proofs.reads.version_rows.Goals as goal
+
+pub returns : goal.returns
+returns g c =
+    let h = rw c.to_sql.ensures at c.query_all.ensures in
+    let q = selected (state g.S.Store c.args.connection.now) (state g.S.Store c.query_all.new.self) c.requires.inside (λ v. v.items) c.query_all.result (versions_shown c.args.tenant.now) h.ok h.err h.survives in
+    record { within = q.within; opens = q.opens; same = q.same; rows = q.rows }
