@@ -38,7 +38,7 @@ fn with_subcommands<'a>(
     Ok(command)
 }
 
-static SUBCOMMANDS: [Subcommand; 15] = [
+static SUBCOMMANDS: [Subcommand; 17] = [
     Subcommand::Script,
     Subcommand::Init,
     Subcommand::TenantAdd,
