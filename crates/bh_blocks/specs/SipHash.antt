@@ -70,15 +70,15 @@ abbrev pub before : List ℕ → List ℕ → List ℕ
 before b more =
     slice_index b 0 ∷ slice_index b 1 ∷ slice_index b 2 ∷ slice_index b 3 ∷ slice_index b 4 ∷ slice_index b 5 ∷ slice_index b 6 ∷ slice_index b 7 ∷ more
 
-abbrev pub joined : List ℕ → List ℕ → List ℕ → List ℕ → List ℕ
-joined a b c d = before a (before b (before c (before d [])))
+abbrev pub in_a_row : List ℕ → List ℕ → List ℕ → List ℕ → List ℕ
+in_a_row a b c d = before a (before b (before c (before d [])))
 
 -- the bytes of their ends, the lowest of each word first
 unfoldable pub digest_in : Lanes → List ℕ
 digest_in s =
     let one = end_of s.one in
     let other = end_of s.other in
-    joined (to_le_bytes w64 one.0) (to_le_bytes w64 one.1) (to_le_bytes w64 other.0) (to_le_bytes w64 other.1)
+    in_a_row (to_le_bytes w64 one.0) (to_le_bytes w64 one.1) (to_le_bytes w64 other.0) (to_le_bytes w64 other.1)
 
 -- the digests of some bytes, 16 bytes each
 unfoldable pub siphash : List ℕ → List ℕ

@@ -141,8 +141,8 @@ fn end_of(lane: Lane) -> (u64, u64)
     (folded(first), folded(second))
 }
 
-fn joined(a: [u8; 8], b: [u8; 8], c: [u8; 8], d: [u8; 8]) -> [u8; 32]
-    ensures { result ≡ spec.joined a b c d }
+fn in_a_row(a: [u8; 8], b: [u8; 8], c: [u8; 8], d: [u8; 8]) -> [u8; 32]
+    ensures { result ≡ spec.in_a_row a b c d }
 {
     [
         a[0], a[1], a[2], a[3], a[4], a[5], a[6], a[7], b[0], b[1], b[2], b[3], b[4], b[5], b[6],
@@ -157,7 +157,7 @@ fn digest_in(lanes: Lanes) -> [u8; 32]
 {
     let (a, b) = end_of(lanes.one);
     let (c, d) = end_of(lanes.other);
-    joined(
+    in_a_row(
         a.to_le_bytes(),
         b.to_le_bytes(),
         c.to_le_bytes(),

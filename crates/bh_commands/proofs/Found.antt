@@ -27,8 +27,8 @@ use Rattle.bh_open.specs.Versions.{IsTypedIfFirst}
 use Rattle.bh_file.specs.Opened.{IsOpenedOn}
 use Rattle.bh_commands.specs.Files.{HoldsSoundHost, HoldsFor}
 use Rattle.bh_commands.specs.Subcommands.{IsSoundByItsRow, IsHostsSchema, IsSoundIn, IsOpenedAs, IsReadyFor}
-use Rattle.bh_commands.specs.declared.asked.Asked.{Asked}
-use Rattle.bh_commands.specs.declared.asked.Asked.TheVariants.{Init, Host}
+use Rattle.bh_commands.specs.declared.asked.FileTask.{FileTask}
+use Rattle.bh_commands.specs.declared.asked.FileTask.TheVariants.{Init, Host}
 
 -- ---- no file, or an empty one
 
@@ -68,7 +68,7 @@ sound_opened image s sound start clean schema =
       shown = refl;
     })
 
-pub ready_opened : (asked : Asked) (image : Image) (s : State) → HoldsFor asked image → IsOpenedOn image s → IsReadyFor asked s
+pub ready_opened : (asked : FileTask) (image : Image) (s : State) → HoldsFor asked image → IsOpenedOn image s → IsReadyFor asked s
 ready_opened (Init limits digest) image s holds start = tt
 ready_opened (Host clock work) image s holds start = sound_opened image s holds start
 

@@ -14,8 +14,8 @@ use Rattle.bh_file.specs.Opened.{IsOpenedOn}
 use Rattle.bh_commands.specs.Commands.{IsRefusal}
 use Rattle.bh_commands.specs.Endings.{AreClosed}
 use Rattle.bh_commands.specs.Subcommands.{IsSoundByItsRow, IsHostsSchema, CarriesOut}
-use Rattle.bh_commands.specs.declared.asked.Asked.{Asked}
-use Rattle.bh_commands.specs.declared.asked.Asked.TheVariants.{Init, Host}
+use Rattle.bh_commands.specs.declared.asked.FileTask.{FileTask}
+use Rattle.bh_commands.specs.declared.asked.FileTask.TheVariants.{Init, Host}
 use Rattle.bh_commands.specs.declared.printed.Printed.{Printed}
 
 -- files with these contents hold a database of a host's schema, which shows these tables once it is opened: of version 1 those
@@ -32,22 +32,22 @@ abbrev pub HoldsSoundHost : Image → Type 0
 HoldsSoundHost image = (tables : Tables) → AreTablesIn image tables → IsSoundByItsRow tables
 
 -- a new host needs nothing of them
-abbrev pub HoldsFor : Asked → Image → Type 0
+abbrev pub HoldsFor : FileTask → Image → Type 0
 HoldsFor (Init limits digest) image = Unit {0}
 HoldsFor (Host clock work) image = HoldsSoundHost image
 
 -- what was asked was done on a connection, and its files were closed
-pub record IsEnded {D : Type 0} {g : disk.Ghosts D} (old : Held (FileStore D g)) (asked : Asked) (printed : Printed) (files : Files D) : Type 0 where
+pub record IsEnded {D : Type 0} {g : disk.Ghosts D} (old : Held (FileStore D g)) (asked : FileTask) (printed : Printed) (files : Files D) : Type 0 where
   pub new : Held (FileStore D g)
   pub carried_out : CarriesOut over_files asked old new printed
   pub closed : AreClosed new files
 
 -- files with these contents were opened as a database, what was asked was done on its connection, and they were closed
-pub record AreDone {D : Type 0} (g : disk.Ghosts D) (image : Image) (asked : Asked) (printed : Printed) (files : Files D) : Type 0 where
+pub record AreDone {D : Type 0} (g : disk.Ghosts D) (image : Image) (asked : FileTask) (printed : Printed) (files : Files D) : Type 0 where
   pub old : Held (FileStore D g)
   pub opened : IsOpenedOn image (file_state old)
   pub ended : IsEnded old asked printed files
 
 -- the same; where there were no files, that no host is there
-abbrev pub IsAnswered : {D : Type 0} → disk.Ghosts D → Image → Asked → Printed → Option (Files D) → Type 0
+abbrev pub IsAnswered : {D : Type 0} → disk.Ghosts D → Image → FileTask → Printed → Option (Files D) → Type 0
 IsAnswered g image asked printed files = MatchOption files (IsRefusal NotAHostFile printed) (AreDone g image asked printed)

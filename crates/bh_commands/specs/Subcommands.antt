@@ -30,8 +30,8 @@ use Rattle.bh_words.specs.declared.lines.ClockGiven.{ClockGiven}
 use Rattle.bh_commands.specs.Clocks.{leaps}
 use Rattle.bh_commands.specs.Commands.{HasDone, StaysReady, IsFault, IsLine, IsRefusal}
 use Rattle.bh_commands.specs.Endings.{IsLeft}
-use Rattle.bh_commands.specs.declared.asked.Asked.{Asked}
-use Rattle.bh_commands.specs.declared.asked.Asked.TheVariants.{Init, Host}
+use Rattle.bh_commands.specs.declared.asked.FileTask.{FileTask}
+use Rattle.bh_commands.specs.declared.asked.FileTask.TheVariants.{Init, Host}
 use Rattle.bh_commands.specs.declared.asked.Work.{Work}
 use Rattle.bh_commands.specs.declared.ending.Left.{Left}
 use Rattle.bh_commands.specs.declared.printed.Printed.{Printed}
@@ -51,7 +51,7 @@ abbrev pub IsSoundIn : State → Type 0
 IsSoundIn s = IsStateClean s → IsHostsSchema (standing s).now.schema → IsSoundByItsRow (tables_opened (standing s).now)
 
 -- a new host needs nothing of it
-abbrev pub IsReadyFor : Asked → State → Type 0
+abbrev pub IsReadyFor : FileTask → State → Type 0
 IsReadyFor (Init limits digest) s = Unit {0}
 IsReadyFor (Host clock work) s = IsSoundIn s
 
@@ -154,10 +154,10 @@ module _ {S : Type 0} (g : Ghosts S) where
   abbrev pub Works : ClockGiven → Work → Held S → Held S → Printed → Type 0
   Works clock work old new printed = IsNotFound (state g old) (state g new) printed ⊎ HasWorked clock work old new printed
 
-  abbrev pub CarriesOut : Asked → Held S → Held S → Printed → Type 0
+  abbrev pub CarriesOut : FileTask → Held S → Held S → Printed → Type 0
   CarriesOut (Init limits digest) old new printed = Makes limits digest (state g old) (state g new) printed
   CarriesOut (Host clock work) old new printed = Works clock work old new printed
 
   -- it is done, and this is printed and left of the connection
-  abbrev pub LeavesDone : Asked → Held S → Printed → Left S → Type 0
+  abbrev pub LeavesDone : FileTask → Held S → Printed → Left S → Type 0
   LeavesDone asked old printed left = (new : Held S) × CarriesOut asked old new printed × IsLeft g new left

@@ -76,7 +76,7 @@ impl Work {
 
 /// What is asked of a file.
 #[derive(Drop)]
-pub enum Asked {
+pub enum FileTask {
     /// A new host with these limits, with blocks named by this function.
     Init { limits: Limits, digest: BlockDigest },
     /// Something of the host that it holds, unless the clock is too far ahead of its last stamp.

@@ -22,8 +22,8 @@ pub fn apply_command<H: Storage>(
     reading: u64,
     task: Task,
 ) -> Result<Printed, AllocError>
-    requires { Clean H.IsIntact H.IsOpen host.old → IsAtRest H.IsSound (H.seen host.old) }
-    ensures stays { StaysReady H.IsIntact H.IsOpen H.IsSound H.seen host.old host.new }
+    requires { Clean H.IsIntact H.IsOpen host.old → IsAtRest H.IsSoundStore (H.seen host.old) }
+    ensures stays { StaysReady H.IsIntact H.IsOpen H.IsSoundStore H.seen host.old host.new }
     ensures applied { IfOk result (IsTold H.IsIntact H.IsOpen H.seen H.left (ordered_at reading (message_of task)) host.old host.new) }
 {
     let event = task.at(reading);
@@ -39,8 +39,8 @@ fn serve<H: Storage>(
     host: &mut H,
     serving: Serving,
 ) -> Result<Printed, Fault>
-    requires { Clean H.IsIntact H.IsOpen host.old → IsAtRest H.IsSound (H.seen host.old) }
-    ensures stays { StaysReady H.IsIntact H.IsOpen H.IsSound H.seen host.old host.new }
+    requires { Clean H.IsIntact H.IsOpen host.old → IsAtRest H.IsSoundStore (H.seen host.old) }
+    ensures stays { StaysReady H.IsIntact H.IsOpen H.IsSoundStore H.seen host.old host.new }
     ensures done { IfOk result (HasServed H.IsIntact H.IsOpen H.seen H.left serving host.old host.new) }
 {
     serve_port(
@@ -63,8 +63,8 @@ pub fn do_work<H: Storage>(
     reading: u64,
     asked: Work,
 ) -> Result<Printed, Fault>
-    requires { Clean H.IsIntact H.IsOpen host.old → IsAtRest H.IsSound (H.seen host.old) }
-    ensures stays { StaysReady H.IsIntact H.IsOpen H.IsSound H.seen host.old host.new }
+    requires { Clean H.IsIntact H.IsOpen host.old → IsAtRest H.IsSoundStore (H.seen host.old) }
+    ensures stays { StaysReady H.IsIntact H.IsOpen H.IsSoundStore H.seen host.old host.new }
     ensures done { IfOk result (HasDone H.IsIntact H.IsOpen H.seen H.left asked reading host.old host.new) }
 {
     let routes = Routes::new(rt.alloc())?;

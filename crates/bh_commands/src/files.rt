@@ -8,9 +8,9 @@ ghost use Rattle.bh_file.specs.Opened.{IsOpenedOn};
 ghost use Rattle.bh_commands.specs.Commands.{IsRefusal};
 ghost use Rattle.bh_commands.specs.Files.{HoldsFor, HoldsSoundHost, IsEnded, AreDone, IsAnswered};
 ghost use Rattle.bh_commands.specs.Subcommands.{IsReadyFor};
-ghost use Rattle.bh_commands.specs.declared.asked.Asked.TheVariants as the_file;
+ghost use Rattle.bh_commands.specs.declared.asked.FileTask.TheVariants as the_file;
 
-use crate::asked::{Asked, Work};
+use crate::asked::{FileTask, Work};
 use crate::ending::{Ended, close};
 use crate::fault::Fault;
 use crate::hosts::on_connection;
@@ -59,7 +59,7 @@ fn on_files<D: Disk + Drop>(
     path: &str,
     connection: Connection<FileStore<D>>,
     tuning: Tuning,
-    asked: Asked,
+    asked: FileTask,
 ) -> Result<(Printed, Files<D>), Fault>
     requires { IsReadyFor asked (file_state connection) }
     ensures { IfOk result (λ it. IsEnded connection asked it.0 it.1) }
@@ -88,7 +88,7 @@ fn in_files<S: Start>(
     path: &str,
     start: S,
     tuning: Tuning,
-    asked: Asked,
+    asked: FileTask,
 ) -> Result<Ended<FileFrom<S>>, Fault>
     requires { HoldsFor asked (image_at S.Start) }
     ensures { IfOk result (λ ended. IsAnswered ⟦<FileFrom<S> as Disk>⟧ (image_at S.Start) asked ended.printed ended.files) }
@@ -112,7 +112,7 @@ pub fn init_file<S: Start>(
     ensures { IfOk result (λ ended.
         IsAnswered ⟦<FileFrom<S> as Disk>⟧ (image_at S.Start) (the_file.Init limits digest) ended.printed ended.files) }
 {
-    let asked = Asked::Init { limits, digest };
+    let asked = FileTask::Init { limits, digest };
     let ended = in_files(rt, path, start, Tuning::default(), asked)?;
     Ok(ended)
 }
@@ -132,7 +132,7 @@ pub fn work_in_file<S: Start>(
         IsAnswered ⟦<FileFrom<S> as Disk>⟧ (image_at S.Start) (the_file.Host clock work) ended.printed ended.files) }
 {
     match is_blank(rt, path) {
-        Ok(false) => Ok(in_files(rt, path, start, tuning, Asked::Host { clock, work })?),
+        Ok(false) => Ok(in_files(rt, path, start, tuning, FileTask::Host { clock, work })?),
         Ok(true) => Ok(without_files(rt.alloc())?),
         Err(error) => Err(Fault::unopened(rt.alloc(), path, OpenFault::from(error))),
     }

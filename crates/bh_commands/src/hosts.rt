@@ -11,7 +11,7 @@ ghost use Rattle.bh_commands.specs.Commands.{IsFault, IsRefusal};
 ghost use Rattle.bh_commands.specs.Endings.{IsLeft};
 ghost use Rattle.bh_commands.specs.Subcommands.{IsSoundIn, IsReadyFor, IsReadyBy, IsOpenedAs, IsNotFound, host_with, host_by, Makes, IsWorkedOn, IsWorkedInTime, Works, CarriesOut, LeavesDone};
 
-use crate::asked::{Asked, Work};
+use crate::asked::{FileTask, Work};
 use crate::clocks::{leaps, reading_of};
 use crate::commands::do_work;
 use crate::ending::{Done, Left, leave};
@@ -248,14 +248,14 @@ fn carry_out<S: Alter + Drop>(
     path: &str,
     connection: Connection<S>,
     tuning: Tuning,
-    asked: Asked,
+    asked: FileTask,
 ) -> Result<Done<S>, Fault>
     requires { IsReadyFor asked (state S.Store connection) }
     ensures { IfOk result (λ done. CarriesOut S.Store asked connection done.connection done.printed) }
 {
     match asked {
-        Asked::Init { limits, digest } => Ok(make(rt, path, connection, limits, digest)?),
-        Asked::Host { clock, work } => Ok(find(rt, path, connection, tuning, clock, work)?),
+        FileTask::Init { limits, digest } => Ok(make(rt, path, connection, limits, digest)?),
+        FileTask::Host { clock, work } => Ok(find(rt, path, connection, tuning, clock, work)?),
     }
 }
 
@@ -265,7 +265,7 @@ pub(crate) fn on_connection<S: Alter + Drop>(
     path: &str,
     connection: Connection<S>,
     tuning: Tuning,
-    asked: Asked,
+    asked: FileTask,
 ) -> Result<(Printed, Left<S>), Fault>
     requires { IsReadyFor asked (state S.Store connection) }
     ensures { IfOk result (λ it. LeavesDone S.Store asked connection it.0 it.1) }

@@ -19,7 +19,7 @@ mod secrets;
 mod task;
 mod telling;
 
-pub use asked::{Asked, OperatorServing, Serving, Work};
+pub use asked::{FileTask, OperatorServing, Serving, Work};
 pub use backups::{BackedUp, backup_file};
 pub use checks::check_file;
 pub use commands::{apply_command, do_work};

@@ -52,12 +52,12 @@ pub fn serve_port<
     manner: Manner,
     count: u64,
 ) -> io::Result<()>
-    requires { Clean H.IsIntact H.IsOpen host.old → IsAtRest H.IsSound (H.seen host.old) }
+    requires { Clean H.IsIntact H.IsOpen host.old → IsAtRest H.IsSoundStore (H.seen host.old) }
     ensures intact { H.IsIntact host.new → H.IsIntact host.old }
     ensures opened { H.IsIntact host.new → H.IsOpen host.new → H.IsOpen host.old }
-    ensures ready { Clean H.IsIntact H.IsOpen host.new → IsAtRest H.IsSound (H.seen host.new) }
+    ensures ready { Clean H.IsIntact H.IsOpen host.new → IsAtRest H.IsSoundStore (H.seen host.new) }
     ensures limits { (H.seen host.new).limits ≡ (H.seen host.old).limits }
-    ensures leaves { H.IsIntact host.new → LeavesSound H.IsSound H.left host.old host.new }
+    ensures leaves { H.IsIntact host.new → LeavesSound H.IsSoundStore H.left host.old host.new }
     ensures ran { H.IsIntact host.new → RanFor (is_some ports.entry.operator) H.IsOpen H.seen H.left host.old host.new }
     ensures visited { WasVisited H.IsIntact H.IsOpen H.seen H.left (secret_of ports.entry) host.old host.new }
 {
@@ -125,12 +125,12 @@ pub fn serve_listener<E: Eprint + AllocGlobal, H: Storage, C: Clock>(
     manner: Manner,
     count: u64,
 ) -> io::Result<()>
-    requires { Clean H.IsIntact H.IsOpen host.old → IsAtRest H.IsSound (H.seen host.old) }
+    requires { Clean H.IsIntact H.IsOpen host.old → IsAtRest H.IsSoundStore (H.seen host.old) }
     ensures intact { H.IsIntact host.new → H.IsIntact host.old }
     ensures opened { H.IsIntact host.new → H.IsOpen host.new → H.IsOpen host.old }
-    ensures ready { Clean H.IsIntact H.IsOpen host.new → IsAtRest H.IsSound (H.seen host.new) }
+    ensures ready { Clean H.IsIntact H.IsOpen host.new → IsAtRest H.IsSoundStore (H.seen host.new) }
     ensures limits { (H.seen host.new).limits ≡ (H.seen host.old).limits }
-    ensures leaves { H.IsIntact host.new → LeavesSound H.IsSound H.left host.old host.new }
+    ensures leaves { H.IsIntact host.new → LeavesSound H.IsSoundStore H.left host.old host.new }
     ensures ran { H.IsIntact host.new → RanFor (is_some doors.entry.operators) H.IsOpen H.seen H.left host.old host.new }
     ensures visited { WasVisited H.IsIntact H.IsOpen H.seen H.left (secret_at doors.entry.operators) host.old host.new }
 {
@@ -167,12 +167,12 @@ pub fn serve_from<H: Storage, A: Acceptor>(
     secret: Option<&[u8]>,
     count: u64,
 ) -> io::Result<()>
-    requires { Clean H.IsIntact H.IsOpen host.old → IsAtRest H.IsSound (H.seen host.old) }
+    requires { Clean H.IsIntact H.IsOpen host.old → IsAtRest H.IsSoundStore (H.seen host.old) }
     ensures intact { H.IsIntact host.new → H.IsIntact host.old }
     ensures opened { H.IsIntact host.new → H.IsOpen host.new → H.IsOpen host.old }
-    ensures ready { Clean H.IsIntact H.IsOpen host.new → IsAtRest H.IsSound (H.seen host.new) }
+    ensures ready { Clean H.IsIntact H.IsOpen host.new → IsAtRest H.IsSoundStore (H.seen host.new) }
     ensures limits { (H.seen host.new).limits ≡ (H.seen host.old).limits }
-    ensures leaves { H.IsIntact host.new → LeavesSound H.IsSound H.left host.old host.new }
+    ensures leaves { H.IsIntact host.new → LeavesSound H.IsSoundStore H.left host.old host.new }
     ensures ran { H.IsIntact host.new → RanFor (A.operated acceptor.old) H.IsOpen H.seen H.left host.old host.new }
     ensures listened { HasListened H.IsIntact H.IsOpen H.seen H.left (option_map (λ s. s.now) secret.entry)
         (A.calls acceptor.old) (A.calls acceptor.new) count result host.old host.new }
@@ -191,12 +191,12 @@ fn serve_next<H: Storage, A: Acceptor>(
     acceptor: &mut A,
     secret: Option<&[u8]>,
 ) -> io::Result<()>
-    requires { Clean H.IsIntact H.IsOpen host.old → IsAtRest H.IsSound (H.seen host.old) }
+    requires { Clean H.IsIntact H.IsOpen host.old → IsAtRest H.IsSoundStore (H.seen host.old) }
     ensures intact { H.IsIntact host.new → H.IsIntact host.old }
     ensures opened { H.IsIntact host.new → H.IsOpen host.new → H.IsOpen host.old }
-    ensures ready { Clean H.IsIntact H.IsOpen host.new → IsAtRest H.IsSound (H.seen host.new) }
+    ensures ready { Clean H.IsIntact H.IsOpen host.new → IsAtRest H.IsSoundStore (H.seen host.new) }
     ensures limits { (H.seen host.new).limits ≡ (H.seen host.old).limits }
-    ensures leaves { H.IsIntact host.new → LeavesSound H.IsSound H.left host.old host.new }
+    ensures leaves { H.IsIntact host.new → LeavesSound H.IsSoundStore H.left host.old host.new }
     ensures operated { A.operated acceptor.new ≡ A.operated acceptor.old }
     ensures did { DidFor H.IsIntact H.IsOpen H.seen H.left (A.operated acceptor.old) host.old host.new }
     ensures comes { ComesOne H.IsIntact H.IsOpen H.seen H.left (option_map (λ s. s.now) secret.entry)
@@ -219,13 +219,13 @@ fn serve_visit<H: Storage, R: Source, W: Sink>(
     caller: Caller,
     arrival: &mut Arrival<R, W>,
 ) -> Served
-    requires rest { Clean H.IsIntact H.IsOpen host.old → IsAtRest H.IsSound (H.seen host.old) }
+    requires rest { Clean H.IsIntact H.IsOpen host.old → IsAtRest H.IsSoundStore (H.seen host.old) }
     requires going { IsGoing arrival.old }
     ensures intact { H.IsIntact host.new → H.IsIntact host.old }
     ensures opened { H.IsIntact host.new → H.IsOpen host.new → H.IsOpen host.old }
-    ensures ready { Clean H.IsIntact H.IsOpen host.new → IsAtRest H.IsSound (H.seen host.new) }
+    ensures ready { Clean H.IsIntact H.IsOpen host.new → IsAtRest H.IsSoundStore (H.seen host.new) }
     ensures limits { (H.seen host.new).limits ≡ (H.seen host.old).limits }
-    ensures leaves { H.IsIntact host.new → LeavesSound H.IsSound H.left host.old host.new }
+    ensures leaves { H.IsIntact host.new → LeavesSound H.IsSoundStore H.left host.old host.new }
     ensures visited { VisitedAs H.IsIntact H.IsOpen H.seen H.left (option_map (λ s. s.now) secret.entry) caller
         (ends R.remaining R.transfers W.contents W.transfers arrival.old)
         (ends R.remaining R.transfers W.contents W.transfers arrival.new) result host.old host.new }

@@ -35,14 +35,14 @@ pub fn serve_line<H: Storage, R: Source, W: Sink>(
     reader: &mut Link<R>,
     writer: &mut Link<W>,
 ) -> Served
-    requires rest { Clean H.IsIntact H.IsOpen host.old → IsAtRest H.IsSound (H.seen host.old) }
+    requires rest { Clean H.IsIntact H.IsOpen host.old → IsAtRest H.IsSoundStore (H.seen host.old) }
     requires reads { reader.old.failed ≡ false }
     requires writes { writer.old.failed ≡ false }
     ensures intact { H.IsIntact host.new → H.IsIntact host.old }
     ensures opened { H.IsIntact host.new → H.IsOpen host.new → H.IsOpen host.old }
-    ensures ready { Clean H.IsIntact H.IsOpen host.new → IsAtRest H.IsSound (H.seen host.new) }
+    ensures ready { Clean H.IsIntact H.IsOpen host.new → IsAtRest H.IsSoundStore (H.seen host.new) }
     ensures limits { (H.seen host.new).limits ≡ (H.seen host.old).limits }
-    ensures leaves { H.IsIntact host.new → LeavesSound H.IsSound H.left host.old host.new }
+    ensures leaves { H.IsIntact host.new → LeavesSound H.IsSoundStore H.left host.old host.new }
     ensures ordered { WasOrdered H.IsIntact H.IsOpen H.seen H.left (option_map (λ s. s.now) secret.entry)
         (ends_of R.remaining R.transfers W.contents W.transfers reading reader.old writer.old)
         (ends_of R.remaining R.transfers W.contents W.transfers reading reader.new writer.new) result host.old host.new }

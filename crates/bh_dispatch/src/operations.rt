@@ -24,7 +24,7 @@ use bh_operation::address::ObjectName;
 use bh_operation::operation::{CopySource, Operation};
 use bh_operation::page::{Page, VersionMarker};
 use bh_operation::text::Bytes;
-use bh_pages::gathering::Asked;
+use bh_pages::gathering::PageAsked;
 use bh_cache::blocks::BlockCache;
 use bh_schema::host::Digester;
 use bh_storage::answer::Answer;
@@ -313,7 +313,7 @@ fn list_objects<S: Alter>(
     let Ok(max) = u32::try_from(page.size) else {
         return Err(StepError::Failed(Trouble::Store));
     };
-    let asked = Asked {
+    let asked = PageAsked {
         prefix: page.prefix.as_str().as_bytes(),
         delimiter: page.delimiter.as_str().as_bytes(),
         after,
@@ -353,7 +353,7 @@ fn list_versions<S: Alter>(
         return Err(StepError::Failed(Trouble::Store));
     };
     let (key, version) = place_of(after);
-    let asked = Asked {
+    let asked = PageAsked {
         prefix: page.prefix.as_str().as_bytes(),
         delimiter: page.delimiter.as_str().as_bytes(),
         after: key,

@@ -44,7 +44,7 @@ impl<S: Alter + Drop, D: Digester + Drop> Storage for HostStorage<S, D> {
 
     ghost IsOpen = { λ h. storage.IsOpen S.Store h.host };
 
-    ghost IsSound = { IsSoundHost D.digest_of };
+    ghost IsSoundStore = { IsSoundHost D.digest_of };
 
     ghost left = { λ h. storage.left S.Store h.host };
 

@@ -18,7 +18,7 @@ use crate::answers;
 use bh_docs::read_complete;
 use bh_operation::address::ObjectName;
 use bh_operation::page::{Page, PartPage, UploadMarker};
-use bh_pages::gathering::Asked;
+use bh_pages::gathering::PageAsked;
 use bh_cache::blocks::BlockCache;
 use bh_schema::host::Digester;
 use bh_storage::answer::Answer;
@@ -186,7 +186,7 @@ pub fn list_uploads<S: Alter>(
         return Err(StepError::Failed(Trouble::Store));
     };
     let (key, upload) = place_of(after);
-    let asked = Asked {
+    let asked = PageAsked {
         prefix: page.prefix.as_str().as_bytes(),
         delimiter: page.delimiter.as_str().as_bytes(),
         after: key,

@@ -4,7 +4,7 @@ use Rattle.std.specs.Fmt.{digits}
 use Rattle.bh_event.specs.Events.{Order, AddTenant, SetQuota, AddKey, RemoveKey, ShowUsage, ShowKeys, Message, Requested, Ordered, SweepOrdered, ReportOrdered, TenantsOrdered, Arrival}
 use Rattle.bh_http.specs.Responses.{response_text}
 use Rattle.bh_http.specs.Views.{Taken}
-use Rattle.bh_machine.specs.Machine.{Act, Asked, Commanded, owner_of, step}
+use Rattle.bh_machine.specs.Machine.{Act, RequestRead, Commanded, owner_of, step}
 use Rattle.bh_machine.specs.Refused.{is_step_refusal}
 use Rattle.bh_machine.proofs.Refused.{step_only}
 use Rattle.bh_model.specs.Operations.{Answer}
@@ -19,7 +19,7 @@ use Rattle.bh_types.specs.declared.refusal.Refusal.{Refusal}
 use Rattle.bh_types.specs.declared.rejection.Rejection.{Rejection}
 use Rattle.bh_view.specs.View.{view, limits_in, with_latest}
 use Rattle.bh_host.specs.Replies.{text, sweep_text, report_text, tenants_text, response_to, document_for, range_told, allow_told, marker_told, refusal_to, body_for, caller_of, clock_text, wanting_text}
-use Rattle.bh_host.specs.Turns.{TurnedFor, Turns, AppliedTo, IsToldApart}
+use Rattle.bh_host.specs.Turns.{IsActDoneFor, IsServed, AppliedTo, IsToldApart}
 use Rattle.bh_host.specs.declared.reply.Caller.TheVariants.{Request, Operator}
 use Rattle.bh_host.proofs.Apart.{is_fixed_response, is_fixed_line, answer_apart, refused_apart, line_apart}
 
@@ -30,7 +30,7 @@ rejection_apart : (target body : Octets) (e : Rejection) → is_step_refusal e.r
 rejection_apart target body e free =
     refused_apart e.refusal (document_for target e.refusal) (range_told e.detail) (allow_told target e.refusal e.detail) (marker_told e.detail) body free
 
-answered_apart : (answer : Result Taken Refusal) (o : Result Answer Rejection) → Free o → is_fixed_response (text (Asked answer) o) ≡ false
+answered_apart : (answer : Result Taken Refusal) (o : Result Answer Rejection) → Free o → is_fixed_response (text (RequestRead answer) o) ≡ false
 unfolding text
 answered_apart (Ok request) (Ok a) free = answer_apart a (body_for request.method (response_to a).body)
 answered_apart (Ok request) (Err e) free = rejection_apart request.target (body_for request.method (refusal_to request.target e).body) e free
@@ -84,7 +84,7 @@ differs : (test : Octets → Bool) (reply other : Octets) → test reply ≡ fal
 differs test reply other isnt is same = true_is_false (test other) is (ap test (sym same) ∙ isnt)
 
 -- the text of a step, whoever the act belongs to
-turned_reply : (limits : HostLimits) (o : Option Octets) (act : Act) (m : ℕ) (stamped new : Tables) (reply : Octets) → TurnedFor limits o m act stamped new reply
+turned_reply : (limits : HostLimits) (o : Option Octets) (act : Act) (m : ℕ) (stamped new : Tables) (reply : Octets) → IsActDoneFor limits o m act stamped new reply
     → (s : Option State) × (reply ≡ text act (step limits m act s).0)
 turned_reply limits (Some t) act m stamped new reply turned = (view stamped t, turned.told)
 turned_reply limits None act m stamped new reply turned = (None, turned.told)
@@ -93,7 +93,7 @@ line_differs : (reply : Octets) → is_fixed_line reply ≡ false → (reply ≢
 line_differs reply free =
     (differs is_fixed_line reply (clock_text Operator) free clock_line, differs is_fixed_line reply (wanting_text Operator) free wanting_line)
 
-pub told_apart : (limits : HostLimits) (message : Message) (m : ℕ) (stamped new : Tables) (reply : Octets) → Turns limits message m stamped new reply
+pub told_apart : (limits : HostLimits) (message : Message) (m : ℕ) (stamped new : Tables) (reply : Octets) → IsServed limits message m stamped new reply
     → (reply ≢ clock_text (caller_of message)) × (reply ≢ wanting_text (caller_of message))
 told_apart limits (Requested bytes) m stamped new reply (act, (answer, reads, is), turned) =
     let found = turned_reply limits (owner_of act) act m stamped new reply turned.judged in

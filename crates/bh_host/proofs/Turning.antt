@@ -10,7 +10,7 @@ use Rattle.bh_http.specs.Credentials.{key_given}
 use Rattle.bh_http.specs.Reading.{Reads}
 use Rattle.bh_http.specs.Responses.{refusal_text}
 use Rattle.bh_http.specs.Views.{Taken}
-use Rattle.bh_machine.specs.Machine.{Act, Asked, Commanded, owner_of, requested, ordered, change, step}
+use Rattle.bh_machine.specs.Machine.{Act, RequestRead, Commanded, owner_of, requested, ordered, change, step}
 use Rattle.bh_machine.proofs.Nameless.{nameless}
 use Rattle.bh_model.specs.Operations.{Answer, Outcome}
 use Rattle.bh_model.specs.Runs.{settled, purged_tenant}
@@ -31,7 +31,7 @@ use Rattle.bh_view.specs.Becomes.{KeepsShared}
 use Rattle.bh_view.specs.View.{view, latest_of, limits_in, rows_purged}
 use Rattle.bh_view.proofs.SharedLemmas.{shared_none}
 use Rattle.bh_host.specs.Replies.{text}
-use Rattle.bh_host.specs.Turns.{TurnedFor, Turned, Turns, TurnsRequest, Tells, TellsOrder, Applied}
+use Rattle.bh_host.specs.Turns.{IsActDoneFor, IsActDone, IsServed, IsRequestServed, Tells, TellsOrder, Applied}
 
 -- ---- calls inside a transaction
 
@@ -77,11 +77,11 @@ module _ (limits : HostLimits) (t : Octets) (m : ℕ) (act : Act) (old mid new :
   changed result purges is = ap (settled (purged_tenant (view old t) m)) (ap (change limits m act) (sym purges.own) ∙ is)
 
   turned_done : (answer : Answer) → owner_of act ≡ Some t → Purges t m old mid → change limits m act (view mid t) ≡ Ok (answer, view new t)
-      → OthersSame t mid new → latest_of new ≡ latest_of mid → KeepsShared mid new → limits_in new ≡ limits_in old → reply ≡ text act (Ok answer) → Turned limits act m old new reply
+      → OthersSame t mid new → latest_of new ≡ latest_of mid → KeepsShared mid new → limits_in new ≡ limits_in old → reply ≡ text act (Ok answer) → IsActDone limits act m old new reply
   turned_done answer owner purges is others latest shared kept told =
       let stepped = changed (Ok (answer, view new t)) purges is in
       let P : Result Answer Rejection × Option State → Type 0 = λ s. IfErr s.0 (λ _. new ≡ rows_purged t m old) in
-      let O : Option Octets → Type 0 = λ o. TurnedFor limits o m act old new reply in
+      let O : Option Octets → Type 0 = λ o. IsActDoneFor limits o m act old new reply in
       record {
         judged = subst O (sym owner) (record {
           told = told ∙ ap (λ s. text act s.0) (sym stepped);
@@ -95,11 +95,11 @@ module _ (limits : HostLimits) (t : Octets) (m : ℕ) (act : Act) (old mid new :
       }
 
   turned_refused : (e : Rejection) → owner_of act ≡ Some t → Purges t m old mid → change limits m act (view mid t) ≡ Err e → new ≡ mid
-      → limits_in new ≡ limits_in old → reply ≡ text act (Err e) → Turned limits act m old new reply
+      → limits_in new ≡ limits_in old → reply ≡ text act (Err e) → IsActDone limits act m old new reply
   turned_refused e owner purges is same kept told =
       let stepped = changed (Err e) purges is in
       let P : Result Answer Rejection × Option State → Type 0 = λ s. IfErr s.0 (λ _. new ≡ rows_purged t m old) in
-      let O : Option Octets → Type 0 = λ o. TurnedFor limits o m act old new reply in
+      let O : Option Octets → Type 0 = λ o. IsActDoneFor limits o m act old new reply in
       record {
         judged = subst O (sym owner) (record {
           told = told ∙ ap (λ s. text act s.0) (sym stepped);
@@ -112,16 +112,16 @@ module _ (limits : HostLimits) (t : Octets) (m : ℕ) (act : Act) (old mid new :
         shared = shared_purged t m old new (shared_none (rows_purged t m old) new (same ∙ purges.is));
       }
 
-owner_is : (r : Taken) (key : AccessKeyId) → key_given r ≡ Some key → owner_of (Asked (Ok r)) ≡ Some key.tenant
+owner_is : (r : Taken) (key : AccessKeyId) → key_given r ≡ Some key → owner_of (RequestRead (Ok r)) ≡ Some key.tenant
 owner_is r key is = ap (option_map (λ (k : AccessKeyId). k.tenant)) is
 
 pub turned_request : {X : Type 0} (limits : HostLimits) (shown : X → Answer) (key : AccessKeyId) (m : ℕ) (r : Taken) (old mid new : Tables) (outcome : Result X (StepError Rejection)) (reply : List ℕ)
     → key_given r ≡ Some key → Purges key.tenant m old mid → Carries shown key.tenant (requested limits m r) mid new outcome → limits_in new ≡ limits_in old
-    → Tells shown (Asked (Ok r)) outcome reply → Turned limits (Asked (Ok r)) m old new reply
+    → Tells shown (RequestRead (Ok r)) outcome reply → IsActDone limits (RequestRead (Ok r)) m old new reply
 turned_request limits shown key m r old mid new (Ok x) reply is purges gives kept told =
-    turned_done limits key.tenant m (Asked (Ok r)) old mid new reply (shown x) (owner_is r key is) purges gives.gives gives.others gives.latest gives.shared kept told
+    turned_done limits key.tenant m (RequestRead (Ok r)) old mid new reply (shown x) (owner_is r key is) purges gives.gives gives.others gives.latest gives.shared kept told
 turned_request limits shown key m r old mid new (Err (Refused e)) reply is purges gives kept told =
-    turned_refused limits key.tenant m (Asked (Ok r)) old mid new reply e (owner_is r key is) purges gives.0 gives.1 kept told
+    turned_refused limits key.tenant m (RequestRead (Ok r)) old mid new reply e (owner_is r key is) purges gives.0 gives.1 kept told
 turned_request limits shown key m r old mid new (Err (Failed trouble)) reply is purges gives kept told = absurd told
 
 none_is_none : {X : Type 0} (o : Option X) (x : X) → o ≡ None → o ≡ Some x → ⊥
@@ -137,7 +137,7 @@ named_is text name is = elim (cases_Bool (is_tenant_name text)) [
 -- the tenant of an order and the tenant that it names
 pub turned_order : {X : Type 0} (limits : HostLimits) (shown : X → Answer) (t : Octets) (m : ℕ) (order : Order) (old mid new : Tables) (outcome : Result X (StepError Refusal)) (reply : List ℕ)
     → owner_of (Commanded order) ≡ Some t → Purges t m old mid → Carries shown (tenant_of order) (ordered order) mid new outcome → limits_in new ≡ limits_in old
-    → TellsOrder shown order outcome reply → Turned limits (Commanded order) m old new reply
+    → TellsOrder shown order outcome reply → IsActDone limits (Commanded order) m old new reply
 turned_order limits shown t m order old mid new (Ok x) reply owner purges gives kept told =
     let is : tenant_of order ≡ t = named_is (tenant_of order) t owner in
     let G : Octets → Type 0 = λ u. ordered order (view mid u) ≡ Ok (shown x, view new u) in
@@ -151,9 +151,9 @@ turned_order limits shown t m order old mid new (Err (Failed trouble)) reply own
 
 -- ---- an act of nobody, which is refused
 
-turned_stranger : (limits : HostLimits) (act : Act) (at : ℕ) (e : Rejection) (old : Tables) (reply : List ℕ) → owner_of act ≡ None → change limits at act None ≡ Err e → reply ≡ text act (Err e) → Turned limits act at old old reply
+turned_stranger : (limits : HostLimits) (act : Act) (at : ℕ) (e : Rejection) (old : Tables) (reply : List ℕ) → owner_of act ≡ None → change limits at act None ≡ Err e → reply ≡ text act (Err e) → IsActDone limits act at old old reply
 turned_stranger limits act at e old reply none is told =
-    let O : Option Octets → Type 0 = λ o. TurnedFor limits o at act old old reply in
+    let O : Option Octets → Type 0 = λ o. IsActDoneFor limits o at act old old reply in
     record {
       judged = subst O (sym none) (record { told = told ∙ ap (λ (o : Result Outcome Rejection). text act (settled None o).0) (sym is); same = refl });
       latest = refl;
@@ -162,19 +162,19 @@ turned_stranger limits act at e old reply none is told =
     }
 
 pub turned_nobody : (limits : HostLimits) (at : ℕ) (r : Taken) (e : Rejection) (old : Tables) (reply : List ℕ) → key_given r ≡ None → ((m : ℕ) → requested limits m r None ≡ Err e)
-    → reply ≡ text (Asked (Ok r)) (Err e) → Turned limits (Asked (Ok r)) at old old reply
+    → reply ≡ text (RequestRead (Ok r)) (Err e) → IsActDone limits (RequestRead (Ok r)) at old old reply
 turned_nobody limits at r e old reply none is told =
-    turned_stranger limits (Asked (Ok r)) at e old reply (ap (option_map (λ (k : AccessKeyId). k.tenant)) none) (is at) told
+    turned_stranger limits (RequestRead (Ok r)) at e old reply (ap (option_map (λ (k : AccessKeyId). k.tenant)) none) (is at) told
 
 -- bytes that are no request
-turned_unread : (limits : HostLimits) (at : ℕ) (refusal : Refusal) (old : Tables) (reply : List ℕ) → reply ≡ text (Asked (Err refusal)) (Err (plain refusal)) → Turned limits (Asked (Err refusal)) at old old reply
-turned_unread limits at refusal old reply told = turned_stranger limits (Asked (Err refusal)) at (plain refusal) old reply refl refl told
+turned_unread : (limits : HostLimits) (at : ℕ) (refusal : Refusal) (old : Tables) (reply : List ℕ) → reply ≡ text (RequestRead (Err refusal)) (Err (plain refusal)) → IsActDone limits (RequestRead (Err refusal)) at old old reply
+turned_unread limits at refusal old reply told = turned_stranger limits (RequestRead (Err refusal)) at (plain refusal) old reply refl refl told
 
 pub turns_unread : (limits : HostLimits) (bytes : List ℕ) (at : ℕ) (old : Tables) (refusal : Refusal) (reply : List ℕ)
-    → Reads limits bytes (Err refusal) → reply ≡ text (Asked (Err refusal)) (Err (plain refusal)) → TurnsRequest limits bytes at old old reply
+    → Reads limits bytes (Err refusal) → reply ≡ text (RequestRead (Err refusal)) (Err (plain refusal)) → IsRequestServed limits bytes at old old reply
 turns_unread limits bytes at old refusal reply reads told = (Err refusal, reads, turned_unread limits at refusal old reply told)
 
-pub turned_nameless : (limits : HostLimits) (at : ℕ) (order : Order) (old : Tables) (reply : List ℕ) → owner_of (Commanded order) ≡ None → reply ≡ refusal_text InvalidName → Turned limits (Commanded order) at old old reply
+pub turned_nameless : (limits : HostLimits) (at : ℕ) (order : Order) (old : Tables) (reply : List ℕ) → owner_of (Commanded order) ≡ None → reply ≡ refusal_text InvalidName → IsActDone limits (Commanded order) at old old reply
 unfolding text
 turned_nameless limits at order old reply none told =
     turned_stranger limits (Commanded order) at (plain InvalidName) old reply none (ap plainly (nameless order none)) told
@@ -182,14 +182,14 @@ turned_nameless limits at order old reply none told =
 -- ---- an event
 
 -- the last stamp and the limits stay
-turns_latest : (limits : HostLimits) (message : Message) (m : ℕ) (old new : Tables) (reply : List ℕ) → Turns limits message m old new reply → latest_of new ≡ latest_of old
+turns_latest : (limits : HostLimits) (message : Message) (m : ℕ) (old new : Tables) (reply : List ℕ) → IsServed limits message m old new reply → latest_of new ≡ latest_of old
 turns_latest limits (Requested bytes) m old new reply (act, acted, turned) = turned.latest
 turns_latest limits (Ordered order) m old new reply (act, acted, turned) = turned.latest
 turns_latest limits (SweepOrdered limit) m old new reply swept = swept.latest
 turns_latest limits ReportOrdered m old new reply reported = ap latest_of reported.same
 turns_latest limits TenantsOrdered m old new reply listed = ap latest_of listed.same
 
-pub turns_limits : (limits : HostLimits) (message : Message) (m : ℕ) (old new : Tables) (reply : List ℕ) → Turns limits message m old new reply → limits_in new ≡ limits_in old
+pub turns_limits : (limits : HostLimits) (message : Message) (m : ℕ) (old new : Tables) (reply : List ℕ) → IsServed limits message m old new reply → limits_in new ≡ limits_in old
 turns_limits limits (Requested bytes) m old new reply (act, acted, turned) = turned.same_limits
 turns_limits limits (Ordered order) m old new reply (act, acted, turned) = turned.same_limits
 turns_limits limits (SweepOrdered limit) m old new reply swept = swept.same_limits
@@ -198,16 +198,16 @@ turns_limits limits TenantsOrdered m old new reply listed = ap limits_in listed.
 
 -- from its stamp, and what it does after it
 pub applied : (limits : HostLimits) (event : Arrival) (m : ℕ) (old mid new : Tables) (reply : List ℕ) → limits ≡ limits_in old → Stamps event.reading m old mid
-    → Turns limits event.message m mid new reply → Applied event old new (Some m) reply
+    → IsServed limits event.message m mid new reply → Applied event old new (Some m) reply
 applied limits event m old mid new reply is stamps turns =
-    let L : HostLimits → Type 0 = λ l. Turns l event.message m mid new reply in
-    let T : Tables → Type 0 = λ x. Turns (limits_in old) event.message m x new reply in
+    let L : HostLimits → Type 0 = λ l. IsServed l event.message m mid new reply in
+    let T : Tables → Type 0 = λ x. IsServed (limits_in old) event.message m x new reply in
     (stamps.stamp, turns_latest limits event.message m mid new reply turns ∙ stamps.latest, subst T stamps.is (subst L is turns))
 
 -- a request's turn is its event's
 pub turns_request : (limits : HostLimits) (event : Event) (reading : ℕ) (held : Vec ℕ Global) (bytes : List ℕ) (m : ℕ) (old new : Tables) (reply : List ℕ) → event ≡ Http reading held → bytes ≡ held.items
-    → TurnsRequest limits bytes m old new reply → Turns limits (arrival event).message m old new reply
+    → IsRequestServed limits bytes m old new reply → IsServed limits (arrival event).message m old new reply
 turns_request limits event reading held bytes m old new reply is same (answer, reads, turned) =
-    let P : Event → Type 0 = λ e. Turns limits (arrival e).message m old new reply in
+    let P : Event → Type 0 = λ e. IsServed limits (arrival e).message m old new reply in
     let Q : List ℕ → Type 0 = λ b. Reads limits b answer in
-    subst P (sym is) (Asked answer, (answer, subst Q same reads, refl), turned)
+    subst P (sym is) (RequestRead answer, (answer, subst Q same reads, refl), turned)

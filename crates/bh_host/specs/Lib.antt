@@ -1,4 +1,4 @@
 pub mod Answers
 pub mod Replies
 pub mod Runs
-pub mod Turns
+pub mod IsServed

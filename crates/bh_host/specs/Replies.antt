@@ -30,7 +30,7 @@ use Rattle.bh_storage.specs.declared.error.Trouble.{Trouble}
 use Rattle.bh_storage.specs.declared.report.SweepReport.{SweepReport}
 use Rattle.bh_storage.specs.declared.report.StoreReport.{StoreReport}
 use Rattle.bh_storage.specs.Reports.{TenantTold}
-use Rattle.bh_machine.specs.Machine.{Act, Asked, Commanded}
+use Rattle.bh_machine.specs.Machine.{Act, RequestRead, Commanded}
 use Rattle.bh_host.specs.declared.reply.Caller.{Caller}
 use Rattle.bh_host.specs.declared.reply.Caller.TheVariants.{Request, Operator}
 use Rattle.bh_host.specs.declared.reply.Reply.{Reply}
@@ -161,7 +161,7 @@ line order (Err rejection) = refusal_text rejection.refusal
 
 -- the bytes that an act's outcome is told in
 unfoldable pub text : Act → Result Answer Rejection → Octets
-text (Asked answer) outcome = asked_text answer outcome
+text (RequestRead answer) outcome = asked_text answer outcome
 text (Commanded order) outcome = line order outcome
 
 -- the lines that tell what a sweep removed, and what is stored

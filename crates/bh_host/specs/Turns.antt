@@ -7,7 +7,7 @@ use Rattle.bh_types.specs.declared.rejection.Rejection.{Rejection}
 use Rattle.bh_event.specs.Events.{Order, Message, Requested, Ordered, SweepOrdered, ReportOrdered, TenantsOrdered, Arrival}
 use Rattle.bh_http.specs.Reading.{Reads}
 use Rattle.bh_http.specs.Views.{Taken}
-use Rattle.bh_machine.specs.Machine.{Act, Asked, Commanded, Acted, owner_of, step}
+use Rattle.bh_machine.specs.Machine.{Act, RequestRead, Commanded, Acted, owner_of, step}
 use Rattle.bh_model.specs.Operations.{Answer}
 use Rattle.bh_model.specs.Runs.{last_reading, stamp_of, purged_tenant}
 use Rattle.bh_model.specs.State.{Octets}
@@ -36,20 +36,20 @@ pub record IsNobody (limits : HostLimits) (m : ℕ) (act : Act) (stamped new : T
   pub told : reply ≡ text act (step limits m act None).0
   pub same : new ≡ stamped
 
-abbrev pub TurnedFor : HostLimits → Option Octets → ℕ → Act → Tables → Tables → List ℕ → Type 0
-TurnedFor limits (Some t) m act stamped new reply = Owned limits t m act stamped new reply
-TurnedFor limits None m act stamped new reply = IsNobody limits m act stamped new reply
+abbrev pub IsActDoneFor : HostLimits → Option Octets → ℕ → Act → Tables → Tables → List ℕ → Type 0
+IsActDoneFor limits (Some t) m act stamped new reply = Owned limits t m act stamped new reply
+IsActDoneFor limits None m act stamped new reply = IsNobody limits m act stamped new reply
 
 -- an act is judged by whose it is; what all tenants share is kept
-pub record Turned (limits : HostLimits) (act : Act) (m : ℕ) (stamped new : Tables) (reply : List ℕ) : Type 0 where
-  pub judged : TurnedFor limits (owner_of act) m act stamped new reply
+pub record IsActDone (limits : HostLimits) (act : Act) (m : ℕ) (stamped new : Tables) (reply : List ℕ) : Type 0 where
+  pub judged : IsActDoneFor limits (owner_of act) m act stamped new reply
   pub latest : latest_of new ≡ latest_of stamped
   pub same_limits : limits_in new ≡ limits_in stamped
   pub shared : KeepsShared stamped new
 
 -- a sweep at the stamp m takes what is due first, whosever it is, and tells how much that was; each tenant's state, once
 -- purged, is as before
-pub record Swept (limit m : ℕ) (stamped new : Tables) (reply : List ℕ) : Type 0 where
+pub record IsSweepDone (limit m : ℕ) (stamped new : Tables) (reply : List ℕ) : Type 0 where
   pub told : reply ≡ sweep_text (sweep_counts m limit stamped)
   pub is : new ≡ swept m limit stamped
   pub views : (t : Octets) → purged_tenant (view new t) m ≡ purged_tenant (view stamped t) m
@@ -57,27 +57,27 @@ pub record Swept (limit m : ℕ) (stamped new : Tables) (reply : List ℕ) : Typ
   pub same_limits : limits_in new ≡ limits_in stamped
 
 -- a report tells what is stored, and all tables stay
-pub record Reported (stamped new : Tables) (reply : List ℕ) : Type 0 where
+pub record IsReportDone (stamped new : Tables) (reply : List ℕ) : Type 0 where
   pub told : reply ≡ report_text (store_counts stamped)
   pub same : new ≡ stamped
 
 -- a list of tenants tells each of them, and all tables stay
-pub record Listed (stamped new : Tables) (reply : List ℕ) : Type 0 where
+pub record IsListDone (stamped new : Tables) (reply : List ℕ) : Type 0 where
   pub told : reply ≡ tenants_text (tenants_told stamped)
   pub same : new ≡ stamped
 
 abbrev pub Acts : HostLimits → Message → ℕ → Tables → Tables → List ℕ → Type 0
-Acts limits message m stamped new reply = (act : Act) × Acted limits message act × Turned limits act m stamped new reply
+Acts limits message m stamped new reply = (act : Act) × Acted limits message act × IsActDone limits act m stamped new reply
 
-abbrev pub Turns : HostLimits → Message → ℕ → Tables → Tables → List ℕ → Type 0
-Turns limits (Requested bytes) m stamped new reply = Acts limits (Requested bytes) m stamped new reply
-Turns limits (Ordered order) m stamped new reply = Acts limits (Ordered order) m stamped new reply
-Turns limits (SweepOrdered limit) m stamped new reply = Swept limit m stamped new reply
-Turns limits ReportOrdered m stamped new reply = Reported stamped new reply
-Turns limits TenantsOrdered m stamped new reply = Listed stamped new reply
+abbrev pub IsServed : HostLimits → Message → ℕ → Tables → Tables → List ℕ → Type 0
+IsServed limits (Requested bytes) m stamped new reply = Acts limits (Requested bytes) m stamped new reply
+IsServed limits (Ordered order) m stamped new reply = Acts limits (Ordered order) m stamped new reply
+IsServed limits (SweepOrdered limit) m stamped new reply = IsSweepDone limit m stamped new reply
+IsServed limits ReportOrdered m stamped new reply = IsReportDone stamped new reply
+IsServed limits TenantsOrdered m stamped new reply = IsListDone stamped new reply
 
-abbrev pub TurnsRequest : HostLimits → List ℕ → ℕ → Tables → Tables → List ℕ → Type 0
-TurnsRequest limits bytes m stamped new reply = (answer : Result Taken Refusal) × Reads limits bytes answer × Turned limits (Asked answer) m stamped new reply
+abbrev pub IsRequestServed : HostLimits → List ℕ → ℕ → Tables → Tables → List ℕ → Type 0
+IsRequestServed limits bytes m stamped new reply = (answer : Result Taken Refusal) × Reads limits bytes answer × IsActDone limits (RequestRead answer) m stamped new reply
 
 -- the bytes that an outcome is told in; trouble isn't told
 abbrev pub Tells : {X : Type 0} → (X → Answer) → Act → Result X (StepError Rejection) → List ℕ → Type 0
@@ -106,7 +106,7 @@ IsToldApart event (Some m) reply = (reply ≢ clock_text (caller_of event.messag
 abbrev pub Applied : Arrival → Tables → Tables → Option ℕ → List ℕ → Type 0
 Applied event old new None reply = new ≡ old
 Applied event old new (Some m) reply =
-    (stamp_of event.reading (latest_of old) ≡ Ok m) × (latest_of new ≡ m) × Turns (limits_in old) event.message m (with_latest m old) new reply
+    (stamp_of event.reading (latest_of old) ≡ Ok m) × (latest_of new ≡ m) × IsServed (limits_in old) event.message m (with_latest m old) new reply
 
 -- the same of a storage: with a stamp, it is open before and after; without one, what an open one shows is what it showed
 abbrev pub AppliedTo : {H : Type 0} → (H → Type 0) → (H → Seen) → Arrival → H → H → Option ℕ → List ℕ → Type 0

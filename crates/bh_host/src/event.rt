@@ -2,7 +2,7 @@ ghost use Rattle.std.specs.Prelude.{◌≡◌, ◌⊎◌, ◌<◌, ◌≤◌, �
 ghost use Rattle.bh_event.specs.Events.{arrival, order_of};
 ghost use Rattle.bh_http.specs.Credentials.{key_given};
 ghost use Rattle.bh_http.specs.Views.{view as request_view};
-ghost use Rattle.bh_machine.specs.Machine.{Asked, Commanded, owner_of as owner_of_act};
+ghost use Rattle.bh_machine.specs.Machine.{RequestRead, Commanded, owner_of as owner_of_act};
 ghost use Rattle.bh_machine.specs.Machine as machine;
 ghost use Rattle.bh_model.specs.Runs.{last_reading};
 ghost use Rattle.bh_storage.specs.Calls.{Clean, Within, LeavesSound, IsAtRest, IsWorking};
@@ -12,7 +12,7 @@ ghost use Rattle.bh_types.specs.Rejections.{plain};
 ghost use Rattle.bh_view.specs.View.{latest_of};
 ghost use Rattle.bh_host.specs.Replies.{clock_text, reply_bytes};
 ghost use Rattle.bh_host.specs.Replies as reply;
-ghost use Rattle.bh_host.specs.Turns.{Turns, Turned, Swept, Reported, Listed, TurnsRequest, IsToldApart, WouldApply, AppliedTo};
+ghost use Rattle.bh_host.specs.Turns.{IsServed, IsActDone, IsSweepDone, IsReportDone, IsListDone, IsRequestServed, IsToldApart, WouldApply, AppliedTo};
 
 use crate::lists::tenants_line;
 use crate::reply::{
@@ -51,13 +51,13 @@ fn serve_tenant<H: Storage>(
     at: Moment,
 ) -> Result<Vec<u8>, Trouble>
     requires keyed { key_given (request_view request.now) ≡ Some key.now }
-    requires working { Clean H.IsIntact H.IsOpen host.old → IsWorking H.IsSound (H.seen host.old) }
+    requires working { Clean H.IsIntact H.IsOpen host.old → IsWorking H.IsSoundStore (H.seen host.old) }
     requires early { Clean H.IsIntact H.IsOpen host.old → at ≤ latest_of (H.seen host.old).now }
     ensures within { Within H.IsIntact H.IsOpen H.seen H.left host.old host.new }
     ensures opens { OnOk result (H.IsOpen host.old → H.IsIntact host.new → H.IsOpen host.new) }
-    ensures working { OnOk result (Clean H.IsIntact H.IsOpen host.new → IsWorking H.IsSound (H.seen host.new)) }
+    ensures working { OnOk result (Clean H.IsIntact H.IsOpen host.new → IsWorking H.IsSoundStore (H.seen host.new)) }
     ensures turned { IfOk result (λ bytes. Clean H.IsIntact H.IsOpen host.new
-        → Turned (H.seen host.old).limits (Asked (Ok (request_view request.now))) at
+        → IsActDone (H.seen host.old).limits (RequestRead (Ok (request_view request.now))) at
         (H.seen host.old).now (H.seen host.new).now bytes.items) }
 {
     host.purge(alloc, &key.tenant, at)?;
@@ -83,13 +83,13 @@ fn serve_read<H: Storage>(
     request: &Request,
     at: Moment,
 ) -> Result<Vec<u8>, Trouble>
-    requires working { Clean H.IsIntact H.IsOpen host.old → IsWorking H.IsSound (H.seen host.old) }
+    requires working { Clean H.IsIntact H.IsOpen host.old → IsWorking H.IsSoundStore (H.seen host.old) }
     requires early { Clean H.IsIntact H.IsOpen host.old → at ≤ latest_of (H.seen host.old).now }
     ensures within { Within H.IsIntact H.IsOpen H.seen H.left host.old host.new }
     ensures opens { OnOk result (H.IsOpen host.old → H.IsIntact host.new → H.IsOpen host.new) }
-    ensures working { OnOk result (Clean H.IsIntact H.IsOpen host.new → IsWorking H.IsSound (H.seen host.new)) }
+    ensures working { OnOk result (Clean H.IsIntact H.IsOpen host.new → IsWorking H.IsSoundStore (H.seen host.new)) }
     ensures turned { IfOk result (λ bytes. Clean H.IsIntact H.IsOpen host.new
-        → Turned (H.seen host.old).limits (Asked (Ok (request_view request.now))) at
+        → IsActDone (H.seen host.old).limits (RequestRead (Ok (request_view request.now))) at
         (H.seen host.old).now (H.seen host.new).now bytes.items) }
 {
     match access_key_of(alloc, request)? {
@@ -109,13 +109,13 @@ fn serve_request<H: Storage>(
     bytes: &[u8],
     at: Moment,
 ) -> Result<Vec<u8>, Trouble>
-    requires working { Clean H.IsIntact H.IsOpen host.old → IsWorking H.IsSound (H.seen host.old) }
+    requires working { Clean H.IsIntact H.IsOpen host.old → IsWorking H.IsSoundStore (H.seen host.old) }
     requires early { Clean H.IsIntact H.IsOpen host.old → at ≤ latest_of (H.seen host.old).now }
     ensures within { Within H.IsIntact H.IsOpen H.seen H.left host.old host.new }
     ensures opens { OnOk result (H.IsOpen host.old → H.IsIntact host.new → H.IsOpen host.new) }
-    ensures working { OnOk result (Clean H.IsIntact H.IsOpen host.new → IsWorking H.IsSound (H.seen host.new)) }
+    ensures working { OnOk result (Clean H.IsIntact H.IsOpen host.new → IsWorking H.IsSoundStore (H.seen host.new)) }
     ensures turned { IfOk result (λ text. Clean H.IsIntact H.IsOpen host.new
-        → TurnsRequest (H.seen host.old).limits bytes.now at (H.seen host.old).now (H.seen host.new).now text.items) }
+        → IsRequestServed (H.seen host.old).limits bytes.now at (H.seen host.old).now (H.seen host.new).now text.items) }
 {
     match read_request(bytes, &host.limits()) {
         Ok(request) => serve_read(alloc, routes, host, &request, at),
@@ -139,12 +139,12 @@ fn serve_named_command<H: Storage>(
     at: Moment,
 ) -> Result<Vec<u8>, Trouble>
     requires named { owner_of_act (Commanded (order_of command.now)) ≡ Some tenant.now }
-    requires working { Clean H.IsIntact H.IsOpen host.old → IsWorking H.IsSound (H.seen host.old) }
+    requires working { Clean H.IsIntact H.IsOpen host.old → IsWorking H.IsSoundStore (H.seen host.old) }
     ensures within { Within H.IsIntact H.IsOpen H.seen H.left host.old host.new }
     ensures opens { OnOk result (H.IsOpen host.old → H.IsIntact host.new → H.IsOpen host.new) }
-    ensures working { OnOk result (Clean H.IsIntact H.IsOpen host.new → IsWorking H.IsSound (H.seen host.new)) }
+    ensures working { OnOk result (Clean H.IsIntact H.IsOpen host.new → IsWorking H.IsSoundStore (H.seen host.new)) }
     ensures turned { IfOk result (λ bytes. Clean H.IsIntact H.IsOpen host.new
-        → Turned (H.seen host.old).limits (Commanded (order_of command.now)) at
+        → IsActDone (H.seen host.old).limits (Commanded (order_of command.now)) at
         (H.seen host.old).now (H.seen host.new).now bytes.items) }
 {
     host.purge(alloc, tenant, at)?;
@@ -159,12 +159,12 @@ fn serve_command<H: Storage>(
     command: &Command,
     at: Moment,
 ) -> Result<Vec<u8>, Trouble>
-    requires working { Clean H.IsIntact H.IsOpen host.old → IsWorking H.IsSound (H.seen host.old) }
+    requires working { Clean H.IsIntact H.IsOpen host.old → IsWorking H.IsSoundStore (H.seen host.old) }
     ensures within { Within H.IsIntact H.IsOpen H.seen H.left host.old host.new }
     ensures opens { OnOk result (H.IsOpen host.old → H.IsIntact host.new → H.IsOpen host.new) }
-    ensures working { OnOk result (Clean H.IsIntact H.IsOpen host.new → IsWorking H.IsSound (H.seen host.new)) }
+    ensures working { OnOk result (Clean H.IsIntact H.IsOpen host.new → IsWorking H.IsSoundStore (H.seen host.new)) }
     ensures turned { IfOk result (λ bytes. Clean H.IsIntact H.IsOpen host.new
-        → Turned (H.seen host.old).limits (Commanded (order_of command.now)) at
+        → IsActDone (H.seen host.old).limits (Commanded (order_of command.now)) at
         (H.seen host.old).now (H.seen host.new).now bytes.items) }
 {
     match owner_of_command(alloc, command)? {
@@ -180,12 +180,12 @@ fn serve_sweep<H: Storage>(
     limit: u32,
     at: Moment,
 ) -> Result<Vec<u8>, Trouble>
-    requires working { Clean H.IsIntact H.IsOpen host.old → IsWorking H.IsSound (H.seen host.old) }
+    requires working { Clean H.IsIntact H.IsOpen host.old → IsWorking H.IsSoundStore (H.seen host.old) }
     ensures within { Within H.IsIntact H.IsOpen H.seen H.left host.old host.new }
     ensures opens { OnOk result (H.IsOpen host.old → H.IsIntact host.new → H.IsOpen host.new) }
-    ensures working { OnOk result (Clean H.IsIntact H.IsOpen host.new → IsWorking H.IsSound (H.seen host.new)) }
+    ensures working { OnOk result (Clean H.IsIntact H.IsOpen host.new → IsWorking H.IsSoundStore (H.seen host.new)) }
     ensures swept { IfOk result (λ bytes. Clean H.IsIntact H.IsOpen host.new
-        → Swept limit at (H.seen host.old).now (H.seen host.new).now bytes.items) }
+        → IsSweepDone limit at (H.seen host.old).now (H.seen host.new).now bytes.items) }
 {
     let report = host.sweep(alloc, at, limit)?;
     Ok(sweep_line(alloc, report)?.into_bytes())
@@ -193,12 +193,12 @@ fn serve_sweep<H: Storage>(
 
 /// A report of what is stored.
 fn serve_report<H: Storage>(alloc: Global, host: &mut H) -> Result<Vec<u8>, Trouble>
-    requires working { Clean H.IsIntact H.IsOpen host.old → IsWorking H.IsSound (H.seen host.old) }
+    requires working { Clean H.IsIntact H.IsOpen host.old → IsWorking H.IsSoundStore (H.seen host.old) }
     ensures within { Within H.IsIntact H.IsOpen H.seen H.left host.old host.new }
     ensures opens { OnOk result (H.IsOpen host.old → H.IsIntact host.new → H.IsOpen host.new) }
-    ensures working { OnOk result (Clean H.IsIntact H.IsOpen host.new → IsWorking H.IsSound (H.seen host.new)) }
+    ensures working { OnOk result (Clean H.IsIntact H.IsOpen host.new → IsWorking H.IsSoundStore (H.seen host.new)) }
     ensures reported { IfOk result (λ bytes. Clean H.IsIntact H.IsOpen host.new
-        → Reported (H.seen host.old).now (H.seen host.new).now bytes.items) }
+        → IsReportDone (H.seen host.old).now (H.seen host.new).now bytes.items) }
 {
     let report = host.report()?;
     Ok(report_line(alloc, report)?.into_bytes())
@@ -206,12 +206,12 @@ fn serve_report<H: Storage>(alloc: Global, host: &mut H) -> Result<Vec<u8>, Trou
 
 /// A list of all tenants.
 fn serve_tenants<H: Storage>(alloc: Global, host: &mut H) -> Result<Vec<u8>, Trouble>
-    requires working { Clean H.IsIntact H.IsOpen host.old → IsWorking H.IsSound (H.seen host.old) }
+    requires working { Clean H.IsIntact H.IsOpen host.old → IsWorking H.IsSoundStore (H.seen host.old) }
     ensures within { Within H.IsIntact H.IsOpen H.seen H.left host.old host.new }
     ensures opens { OnOk result (H.IsOpen host.old → H.IsIntact host.new → H.IsOpen host.new) }
-    ensures working { OnOk result (Clean H.IsIntact H.IsOpen host.new → IsWorking H.IsSound (H.seen host.new)) }
+    ensures working { OnOk result (Clean H.IsIntact H.IsOpen host.new → IsWorking H.IsSoundStore (H.seen host.new)) }
     ensures listed { IfOk result (λ bytes. Clean H.IsIntact H.IsOpen host.new
-        → Listed (H.seen host.old).now (H.seen host.new).now bytes.items) }
+        → IsListDone (H.seen host.old).now (H.seen host.new).now bytes.items) }
 {
     let tenants = host.tenants(alloc)?;
     Ok(tenants_line(alloc, &tenants)?.into_bytes())
@@ -225,13 +225,13 @@ fn serve<H: Storage>(
     event: &Event,
     at: Moment,
 ) -> Result<Vec<u8>, Trouble>
-    requires working { Clean H.IsIntact H.IsOpen host.old → IsWorking H.IsSound (H.seen host.old) }
+    requires working { Clean H.IsIntact H.IsOpen host.old → IsWorking H.IsSoundStore (H.seen host.old) }
     requires early { Clean H.IsIntact H.IsOpen host.old → at ≤ latest_of (H.seen host.old).now }
     ensures within { Within H.IsIntact H.IsOpen H.seen H.left host.old host.new }
     ensures opens { OnOk result (H.IsOpen host.old → H.IsIntact host.new → H.IsOpen host.new) }
-    ensures working { OnOk result (Clean H.IsIntact H.IsOpen host.new → IsWorking H.IsSound (H.seen host.new)) }
+    ensures working { OnOk result (Clean H.IsIntact H.IsOpen host.new → IsWorking H.IsSoundStore (H.seen host.new)) }
     ensures turned { IfOk result (λ bytes. Clean H.IsIntact H.IsOpen host.new
-        → Turns (H.seen host.old).limits (arrival event.now).message at (H.seen host.old).now (H.seen host.new).now bytes.items) }
+        → IsServed (H.seen host.old).limits (arrival event.now).message at (H.seen host.old).now (H.seen host.new).now bytes.items) }
 {
     match event {
         Event::Http { bytes, .. } => serve_request(alloc, routes, host, bytes, at),
@@ -250,17 +250,17 @@ fn try_apply<H: Storage>(
     event: &Event,
 ) -> Result<(Moment, Vec<u8>), Trouble>
     requires in_range { (arrival event.now).reading ≤ last_reading }
-    requires rest { Clean H.IsIntact H.IsOpen host.old → IsAtRest H.IsSound (H.seen host.old) }
+    requires rest { Clean H.IsIntact H.IsOpen host.old → IsAtRest H.IsSoundStore (H.seen host.old) }
     ensures intact { H.IsIntact host.new → H.IsIntact host.old }
     ensures opened { H.IsIntact host.new → H.IsOpen host.new → H.IsOpen host.old }
     ensures limits { (H.seen host.new).limits ≡ (H.seen host.old).limits }
-    ensures ready { OnOk result (Clean H.IsIntact H.IsOpen host.new → IsAtRest H.IsSound (H.seen host.new)) }
+    ensures ready { OnOk result (Clean H.IsIntact H.IsOpen host.new → IsAtRest H.IsSoundStore (H.seen host.new)) }
     ensures applied { IfOk result (λ done. H.IsIntact host.new
         → AppliedTo H.IsOpen H.seen (arrival event.now) host.old host.new (Some done.0) done.1.items) }
     ensures survives { OnOk result (H.IsIntact host.new → (x : Tables) → H.left host.new x → x ≡ (H.seen host.new).now) }
     ensures crash { OnErr result (H.IsIntact host.new → (x : Tables) → H.left host.new x
         → H.left host.old x ⊎ (H.IsOpen host.old × WouldApply (arrival event.now) (H.seen host.old).now x)) }
-    ensures leaves { H.IsIntact host.new → LeavesSound H.IsSound H.left host.old host.new }
+    ensures leaves { H.IsIntact host.new → LeavesSound H.IsSoundStore H.left host.old host.new }
     ensures kept { OnErr result (Clean H.IsIntact H.IsOpen host.new → (H.seen host.new).kept ≡ (H.seen host.old).kept) }
 {
     host.begin()?;
@@ -298,10 +298,10 @@ fn caller_of(event: &Event) -> Caller
 /// All that is said of replies and of a crash holds also where the store reports faults; what is said of the tables
 /// holds while no fault has shut it.
 pub fn apply<H: Storage>(alloc: Global, routes: &Routes, host: &mut H, event: &Event) -> Told
-    requires { Clean H.IsIntact H.IsOpen host.old → IsAtRest H.IsSound (H.seen host.old) }
+    requires { Clean H.IsIntact H.IsOpen host.old → IsAtRest H.IsSoundStore (H.seen host.old) }
     ensures intact { H.IsIntact host.new → H.IsIntact host.old }
     ensures opened { H.IsIntact host.new → H.IsOpen host.new → H.IsOpen host.old }
-    ensures ready { Clean H.IsIntact H.IsOpen host.new → IsAtRest H.IsSound (H.seen host.new) }
+    ensures ready { Clean H.IsIntact H.IsOpen host.new → IsAtRest H.IsSoundStore (H.seen host.new) }
     ensures limits { (H.seen host.new).limits ≡ (H.seen host.old).limits }
     ensures applied { H.IsIntact host.new
         → AppliedTo H.IsOpen H.seen (arrival event.now) host.old host.new result.stamp (reply_bytes result.reply) }
@@ -310,7 +310,7 @@ pub fn apply<H: Storage>(alloc: Global, routes: &Routes, host: &mut H, event: &E
         → (x : Tables) → H.left host.new x → x ≡ (H.seen host.new).now) }
     ensures crash { IfNone result.stamp (H.IsIntact host.new → (x : Tables) → H.left host.new x
         → H.left host.old x ⊎ (H.IsOpen host.old × WouldApply (arrival event.now) (H.seen host.old).now x)) }
-    ensures leaves { H.IsIntact host.new → LeavesSound H.IsSound H.left host.old host.new }
+    ensures leaves { H.IsIntact host.new → LeavesSound H.IsSoundStore H.left host.old host.new }
     ensures clock { last_reading < (arrival event.now).reading
         → (result.stamp ≡ None) × (reply_bytes result.reply ≡ clock_text (reply.caller_of (arrival event.now).message))
         × (host.new ≡ host.old) }

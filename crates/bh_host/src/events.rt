@@ -26,14 +26,14 @@ pub fn run<H: Storage>(
     host: &mut H,
     events: &[Event],
 ) -> Result<Vec<Told>, AllocError>
-    requires { Clean H.IsIntact H.IsOpen host.old → IsAtRest H.IsSound (H.seen host.old) }
+    requires { Clean H.IsIntact H.IsOpen host.old → IsAtRest H.IsSoundStore (H.seen host.old) }
     ensures intact { H.IsIntact host.new → H.IsIntact host.old }
     ensures opened { H.IsIntact host.new → H.IsOpen host.new → H.IsOpen host.old }
-    ensures ready { Clean H.IsIntact H.IsOpen host.new → IsAtRest H.IsSound (H.seen host.new) }
+    ensures ready { Clean H.IsIntact H.IsOpen host.new → IsAtRest H.IsSoundStore (H.seen host.new) }
     ensures limits { (H.seen host.new).limits ≡ (H.seen host.old).limits }
     ensures ran { IfOk result (λ dones. H.IsIntact host.new
         → RanOn H.IsOpen H.seen H.left (map arrival events.now) (map told dones.items) host.old host.new) }
-    ensures leaves { H.IsIntact host.new → LeavesSound H.IsSound H.left host.old host.new }
+    ensures leaves { H.IsIntact host.new → LeavesSound H.IsSoundStore H.left host.old host.new }
     ensures alone { IfOk result (λ dones. H.IsIntact host.new
         → HasRunOn H.IsOpen H.seen (map arrival events.now) (map told dones.items) host.old host.new) }
     ensures count { IfOk result (λ dones. length dones.items ≡ length events.now) }

@@ -4,7 +4,7 @@ ghost use Rattle.bh_http.specs.Answers.{response_view, refused};
 ghost use Rattle.bh_http.specs.Responses.{response_text, refusal_text};
 ghost use Rattle.bh_http.specs.Views.{view as request_view};
 ghost use Rattle.bh_docs.specs.Documents.{usage_view};
-ghost use Rattle.bh_machine.specs.Machine.{Asked};
+ghost use Rattle.bh_machine.specs.Machine.{RequestRead};
 ghost use Rattle.bh_model.specs.Operations.{Used};
 ghost use Rattle.bh_storage.specs.Answers.{answer_view};
 ghost use Rattle.bh_types.specs.Rejections.{plain};
@@ -99,7 +99,7 @@ pub fn request_text(
     request: &Request,
     outcome: Result<Answer, StepError<Rejection>>,
 ) -> Result<Vec<u8>, Trouble>
-    ensures { IfOk result (λ bytes. Tells answer_view (Asked (Ok (request_view request.now))) outcome bytes.items) }
+    ensures { IfOk result (λ bytes. Tells answer_view (RequestRead (Ok (request_view request.now))) outcome bytes.items) }
 {
     match outcome {
         Ok(answer) => Ok(answer_text(alloc, request, answer)?),
@@ -118,7 +118,7 @@ pub fn refused_request_text(
     request: &Request,
     rejection: Rejection,
 ) -> Result<Vec<u8>, AllocError>
-    ensures { IfOk result (λ bytes. bytes.items ≡ spec.text (Asked (Ok (request_view request.now))) (Err rejection)) }
+    ensures { IfOk result (λ bytes. bytes.items ≡ spec.text (RequestRead (Ok (request_view request.now))) (Err rejection)) }
 {
     let response = refusal_to(alloc, routes, request.target, rejection)?;
     sent_text(alloc, request.method, response)
@@ -126,7 +126,7 @@ pub fn refused_request_text(
 
 #[tactic(auto, unfolding(crate::specs::Replies::text))]
 fn answer_text(alloc: Global, request: &Request, answer: Answer) -> Result<Vec<u8>, AllocError>
-    ensures { IfOk result (λ bytes. bytes.items ≡ spec.text (Asked (Ok (request_view request.now))) (Ok (answer_view answer))) }
+    ensures { IfOk result (λ bytes. bytes.items ≡ spec.text (RequestRead (Ok (request_view request.now))) (Ok (answer_view answer))) }
 {
     let response = response_to(alloc, answer)?;
     sent_text(alloc, request.method, response)
@@ -216,7 +216,7 @@ fn range_told(detail: Detail) -> Option<ContentRange>
 /// The response that refuses bytes that are no request.
 #[tactic(auto, unfolding(crate::specs::Replies::text))]
 pub fn unread_text(alloc: Global, routes: &Routes, refusal: Refusal) -> Result<Vec<u8>, AllocError>
-    ensures { IfOk result (λ bytes. bytes.items ≡ spec.text (Asked (Err refusal)) (Err (plain refusal))) }
+    ensures { IfOk result (λ bytes. bytes.items ≡ spec.text (RequestRead (Err refusal)) (Err (plain refusal))) }
 {
     let response = refusal_to(alloc, routes, b"", Rejection::from(refusal))?;
     response_bytes(alloc, &response)

@@ -28,11 +28,11 @@ pub fn requested<H: Storage>(
     request: &Request,
 ) -> Result<Answer, StepError<Rejection>>
     requires keyed { key_given (request_view request.now) ≡ Some key.now }
-    requires working { Clean H.IsIntact H.IsOpen host.old → IsWorking H.IsSound (H.seen host.old) }
+    requires working { Clean H.IsIntact H.IsOpen host.old → IsWorking H.IsSoundStore (H.seen host.old) }
     requires early { Clean H.IsIntact H.IsOpen host.old → at ≤ latest_of (H.seen host.old).now }
     ensures within { Within H.IsIntact H.IsOpen H.seen H.left host.old host.new }
     ensures opens { Unless result (H.IsOpen host.old → H.IsIntact host.new → H.IsOpen host.new) }
-    ensures working { Unless result (Clean H.IsIntact H.IsOpen host.new → IsWorking H.IsSound (H.seen host.new)) }
+    ensures working { Unless result (Clean H.IsIntact H.IsOpen host.new → IsWorking H.IsSoundStore (H.seen host.new)) }
     ensures carries { Clean H.IsIntact H.IsOpen host.new
         → Carries answer_view key.now.tenant (machine.requested (H.seen host.old).limits at (request_view request.now))
         (H.seen host.old).now (H.seen host.new).now result }

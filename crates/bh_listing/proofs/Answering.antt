@@ -23,7 +23,7 @@ use Rattle.bh_view.proofs.SortLemmas.{all-sort_by}
 use Rattle.bh_view.proofs.ViewLemmas.{own_row}
 use Rattle.bh_objects.specs.Found.{mode_in}
 use Rattle.bh_objects.proofs.Putting.{has_bucket}
-use Rattle.bh_pages.specs.declared.gathering.Asked.{Asked}
+use Rattle.bh_pages.specs.declared.gathering.PageAsked.{PageAsked}
 use Rattle.bh_pages.specs.declared.gathering.Listed as program
 use Rattle.bh_pages.specs.Seen.{seen_entry, token_of}
 use Rattle.bh_pages.specs.Reading.{listing}
@@ -63,7 +63,7 @@ module _ {E : Type 0} where
 
 -- ---- a bucket's page
 
-told_in : (b : Octets) (asked : model.Asked) (token : Option Octets) (v : Option State) (s : State) (B : Bucket) → v ≡ Some s → get s.buckets b ≡ Some B
+told_in : (b : Octets) (asked : model.PageAsked) (token : Option Octets) (v : Option State) (s : State) (B : Bucket) → v ≡ Some s → get s.buckets b ≡ Some B
     → objects_listed b asked token v ≡ Ok (objects_told b asked (objects_page asked token (entries B.objects)))
 told_in b asked token v s B is at = rw (is, at) refl
 
@@ -75,7 +75,7 @@ module _ (tables : Tables) (t b : Octets) (sound : IsSound tables) where
   sizes = all-sort_by version_order (λ (v : VersionRow). v.size ≡ length v.bytes) own
       (all-filter (λ (v : VersionRow). v.size ≡ length v.bytes) (λ (v : VersionRow). bytes_eq v.bucket b) (rows_of t tables).versions (all_turned (λ v good. good.size) (rows_of t tables).versions (sound.tenants t).versions.each))
 
-  pub lists : (mode : BucketState) → mode_in b (view tables t) ≡ Ok mode → (asked : Asked) (es : List (Listed ObjectItem))
+  pub lists : (mode : BucketState) → mode_in b (view tables t) ≡ Ok mode → (asked : PageAsked) (es : List (Listed ObjectItem))
       → es ≡ take (suc asked.max) (listing asked (map row_shown (bucket_rows t b asked.prefix.now tables.versions)))
       → objects_listed b (asked_view asked) (token_of asked) (view tables t) ≡ Ok (objects_told b (asked_view asked) (paged asked.max es))
   lists mode found asked es are =
@@ -91,7 +91,7 @@ module _ (tables : Tables) (t b : Octets) (sound : IsSound tables) where
       told ∙ ap (λ p. Ok (objects_told b (asked_view asked) p)) (ap (paged asked.max) (sym same) ∙ sym (paged_taken asked.max whole) ∙ ap (paged asked.max) (sym are))
 
   -- the same of what a call has at hand
-  pub list_is : (mode : BucketState) → mode_in b (view tables t) ≡ Ok mode → (asked : Asked) (current : Tables) (tenant bucket name : Octets) → current ≡ tables → tenant ≡ t → bucket ≡ b → name ≡ b
+  pub list_is : (mode : BucketState) → mode_in b (view tables t) ≡ Ok mode → (asked : PageAsked) (current : Tables) (tenant bucket name : Octets) → current ≡ tables → tenant ≡ t → bucket ≡ b → name ≡ b
       → (es slice : List program.Listed) → slice ≡ es → map seen_entry es ≡ take (suc asked.max) (listing asked (map row_shown (bucket_rows tenant bucket asked.prefix.now current.versions)))
       → (page : ObjectsListed) → page ≡ objects_told name (asked_view asked) (paged asked.max (map seen_entry slice)) → objects_listed b (asked_view asked) (token_of asked) (view tables t) ≡ Ok page
   list_is mode found asked current tenant bucket name is_now is_t is_b is_name es slice is_slice gathered page told =
@@ -99,7 +99,7 @@ module _ (tables : Tables) (t b : Octets) (sound : IsSound tables) where
       ∙ ap (λ p. Ok p) (sym (told ∙ (λ i. objects_told (is_name i) (asked_view asked) (paged asked.max (map seen_entry (is_slice i))))))
 
 -- the machine's step, where no row changed
-pub list_step : (old new : Tables) (t b : Octets) (asked : model.Asked) (token : Option Octets) (page : ObjectsListed) → objects_listed b asked token (view old t) ≡ Ok page → new ≡ old
+pub list_step : (old new : Tables) (t b : Octets) (asked : model.PageAsked) (token : Option Octets) (page : ObjectsListed) → objects_listed b asked token (view old t) ≡ Ok page → new ≡ old
     → GivesStep t (list_objects b asked token) (Objects page) old new
 list_step old new t b asked token page is same = record {
   gives = ap (λ r. r >>= (λ (p : ObjectsListed). Ok (Objects p, view old t))) is ∙ ap (λ (x : Tables). Ok (Objects page, view x t)) (sym same);

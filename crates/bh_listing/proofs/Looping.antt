@@ -12,12 +12,12 @@ use Rattle.bh_schema.proofs.Storing.{within_then}
 use Rattle.bh_objects.proofs.Working.{no_call}
 use Rattle.bh_pages.specs.Reading.{AreRows, IsUnderway, AreNext}
 use Rattle.bh_pages.specs.declared.reading.Reading.{Reading}
-use Rattle.bh_pages.specs.declared.gathering.Asked.{Asked}
+use Rattle.bh_pages.specs.declared.gathering.PageAsked.{PageAsked}
 use Rattle.bh_pages.specs.declared.gathering.Line.{Line}
 use Rattle.bh_listing.specs.Rows.{listed_rows, row_shown, bucket_rows, AreSmallKeys}
 use Rattle.bh_listing.proofs.ListLemmas.{rows_in_order, rows_fine, chunk_is}
 
-module _ (asked : Asked) (tenant bucket : Octets) (versions : List VersionRow) where
+module _ (asked : PageAsked) (tenant bucket : Octets) (versions : List VersionRow) where
   abbrev pub shown_rows : List Shown
   shown_rows = map row_shown (bucket_rows tenant bucket asked.prefix.now versions)
 
@@ -35,7 +35,7 @@ pub upto_nat : (m n : ℕ) → nat_lt m n ≡ false → n ≤ m
 upto_nat m n h = grind (arith, nat_tests, h)
 
 -- the lines that were read, as the rows that they are
-pub lines_are : (asked : Asked) (tenant bucket : Octets) (current versions : List VersionRow) (from from_slice upto upto_slice : Octets) (lines line_slice : List Line) (n : ℕ)
+pub lines_are : (asked : PageAsked) (tenant bucket : Octets) (current versions : List VersionRow) (from from_slice upto upto_slice : Octets) (lines line_slice : List Line) (n : ℕ)
     → from_slice ≡ from → upto_slice ≡ upto → upto ≡ past_name asked.prefix.now → line_slice ≡ lines → current ≡ versions
     → map seen_line lines ≡ map row_shown (listed_rows tenant bucket from_slice upto_slice n current)
     → map seen_line line_slice ≡ map row_shown (listed_rows tenant bucket from (past_name asked.prefix.now) n versions)

@@ -3,7 +3,7 @@ use Rattle.std.proofs.Common.{◌≡◌, ◌≢◌, ℕ, zero, suc, ◌-◌, ◌
 use Rattle.std.proofs.lemmas.Bool.Decides.{nat_tests}
 use Rattle.bh_model.specs.State.{Octets}
 use Rattle.bh_model.specs.Pages.{ObjectItem, ObjectsListed, common_in, single_in, name_of, last_of, paged, objects_told}
-use Rattle.bh_pages.specs.declared.gathering.Asked.{Asked}
+use Rattle.bh_pages.specs.declared.gathering.PageAsked.{PageAsked}
 use Rattle.bh_pages.specs.declared.gathering.Listed as program
 use Rattle.bh_pages.specs.Seen.{seen_entry}
 use Rattle.bh_listing.specs.Told.{asked_view}
@@ -50,7 +50,7 @@ next_shown see l (suc n) x some lt is =
 pub shown_taken : (entries : List program.Listed) (max : ℕ) (shown : List program.Listed) → shown ≡ take max entries → map seen_entry shown ≡ take max (map seen_entry entries)
 shown_taken entries max shown is = ap (map seen_entry) is ∙ sym (take_map seen_entry max entries)
 
-module _ (bucket : Octets) (asked : Asked) (entries : List program.Listed) where
+module _ (bucket : Octets) (asked : PageAsked) (entries : List program.Listed) where
   pub told_is : (b p : Octets) (prefixes : List Octets) (objects : List ObjectItem) (next : Option Octets) → b ≡ bucket → p ≡ asked.prefix.now
       → prefixes ≡ flat_map common_in (take asked.max (map seen_entry entries)) → objects ≡ flat_map single_in (take asked.max (map seen_entry entries))
       → next ≡ option_map (name_of (λ (o : ObjectItem). o.key)) (paged asked.max (map seen_entry entries)).next

@@ -20,7 +20,7 @@ use Rattle.bh_view.proofs.SharedLemmas.{shared_none}
 use Rattle.bh_view.proofs.ViewLemmas.{own_row}
 use Rattle.bh_objects.specs.Found.{mode_in}
 use Rattle.bh_objects.proofs.Putting.{has_bucket}
-use Rattle.bh_pages.specs.declared.gathering.Asked.{Asked}
+use Rattle.bh_pages.specs.declared.gathering.PageAsked.{PageAsked}
 use Rattle.bh_pages.specs.declared.versions.ListedVersion.{ListedVersion}
 use Rattle.bh_pages.specs.Seen.{token_of}
 use Rattle.bh_pages.specs.Versions.{items_next, seen_entry}
@@ -32,7 +32,7 @@ use Rattle.bh_listing.proofs.Answering.{paged_taken, sizes}
 use Rattle.bh_listing.proofs.Small.{entries_apart}
 use Rattle.bh_listing.proofs.VersionViewed.{versions_are}
 
-told_in : (b : Octets) (asked : model.Asked) (marker : Option VersionPlace) (v : Option State) (s : State) (B : Bucket) → v ≡ Some s → get s.buckets b ≡ Some B
+told_in : (b : Octets) (asked : model.PageAsked) (marker : Option VersionPlace) (v : Option State) (s : State) (B : Bucket) → v ≡ Some s → get s.buckets b ≡ Some B
     → versions_listed b asked marker v ≡ Ok (versions_told b asked (versions_page asked marker (entries B.objects)))
 told_in b asked marker v s B is at = rw (is, at) refl
 
@@ -50,7 +50,7 @@ module _ (tables : Tables) (t b : Octets) (sound : IsSound tables) where
       ap (λ l. items_next None (map row_numbered (sort_by version_order l))) (filter_twice (λ (v : VersionRow). bytes_eq v.tenant t) (λ (v : VersionRow). bytes_eq v.bucket b) tables.versions)
       ∙ versions_are own (sizes tables t b sound) (entries_apart (objects_of own))
 
-  pub lists : (mode : BucketState) → mode_in b (view tables t) ≡ Ok mode → (asked : Asked) (version : Wanted) (es : List (Listed VersionItem))
+  pub lists : (mode : BucketState) → mode_in b (view tables t) ≡ Ok mode → (asked : PageAsked) (version : Wanted) (es : List (Listed VersionItem))
       → es ≡ take (suc asked.max) (versions_of_rows asked version (own_rows t b tables.versions))
       → versions_listed b (asked_view asked) (place_view asked version) (view tables t) ≡ Ok (versions_told b (asked_view asked) (paged asked.max es))
   lists mode found asked version es are =
@@ -66,7 +66,7 @@ module _ (tables : Tables) (t b : Octets) (sound : IsSound tables) where
       ∙ ap (λ p. Ok (versions_told b (asked_view asked) p)) (ap (paged asked.max) (sym same) ∙ sym (paged_taken asked.max (versions_of_rows asked version (own_rows t b tables.versions))) ∙ ap (paged asked.max) (sym are))
 
   -- the same of what a call has at hand
-  pub list_is : (mode : BucketState) → mode_in b (view tables t) ≡ Ok mode → (asked : Asked) (version : Wanted) (current : Tables) (tenant bucket name : Octets) → current ≡ tables → tenant ≡ t → bucket ≡ b → name ≡ b
+  pub list_is : (mode : BucketState) → mode_in b (view tables t) ≡ Ok mode → (asked : PageAsked) (version : Wanted) (current : Tables) (tenant bucket name : Octets) → current ≡ tables → tenant ≡ t → bucket ≡ b → name ≡ b
       → (es slice : List ListedVersion) → slice ≡ es → map seen_entry es ≡ take (suc asked.max) (versions_of_rows asked version (own_rows tenant bucket current.versions))
       → (page : VersionsListed) → page ≡ versions_told name (asked_view asked) (paged asked.max (map seen_entry slice)) → versions_listed b (asked_view asked) (place_view asked version) (view tables t) ≡ Ok page
   list_is mode found asked version current tenant bucket name is_now is_t is_b is_name es slice is_slice gathered page told =
@@ -74,7 +74,7 @@ module _ (tables : Tables) (t b : Octets) (sound : IsSound tables) where
       ∙ ap (λ p. Ok p) (sym (told ∙ (λ i. versions_told (is_name i) (asked_view asked) (paged asked.max (map seen_entry (is_slice i))))))
 
 -- the machine's step, where no row changed
-pub list_step : (old new : Tables) (t b : Octets) (asked : model.Asked) (marker : Option VersionPlace) (page : VersionsListed) → versions_listed b asked marker (view old t) ≡ Ok page → new ≡ old
+pub list_step : (old new : Tables) (t b : Octets) (asked : model.PageAsked) (marker : Option VersionPlace) (page : VersionsListed) → versions_listed b asked marker (view old t) ≡ Ok page → new ≡ old
     → GivesStep t (list_versions b asked marker) (Versions page) old new
 list_step old new t b asked marker page is same = record {
   gives = ap (λ r. r >>= (λ (p : VersionsListed). Ok (Versions p, view old t))) is ∙ ap (λ (x : Tables). Ok (Versions page, view x t)) (sym same);

@@ -11,7 +11,7 @@ use Rattle.bh_view.proofs.SortLemmas.{all-sort_by}
 use Rattle.bh_pages.specs.Gathered.{Gathered, past_name}
 use Rattle.bh_pages.specs.Seen.{token_of}
 use Rattle.bh_pages.specs.Versions.{Numbered, row_key, IsUnder, IsStrict, is_from, nothing_after, versions_to_come, seen, seen_line, seen_place, AreRows, IsUnderway, rows_at, AreNext}
-use Rattle.bh_pages.specs.declared.gathering.Asked.{Asked}
+use Rattle.bh_pages.specs.declared.gathering.PageAsked.{PageAsked}
 use Rattle.bh_pages.specs.declared.versions.Place as program
 use Rattle.bh_pages.specs.declared.versions.VersionLine.{VersionLine}
 use Rattle.bh_pages.specs.declared.versions.VersionReading.{VersionReading}
@@ -24,7 +24,7 @@ pub all_both : {X : Type 0} (P Q : X → Type 0) (l : List X) → AllByRecursion
 all_both P Q [] p q = tt
 all_both P Q (x ∷ l) p q = ((p.0, q.0), all_both P Q l p.1 q.1)
 
-module _ (asked : Asked) (tenant bucket : Octets) (versions : List VersionRow) where
+module _ (asked : PageAsked) (tenant bucket : Octets) (versions : List VersionRow) where
   abbrev is_own : VersionRow → Bool
   is_own v = bytes_eq v.tenant tenant && bytes_eq v.bucket bucket
 
@@ -71,7 +71,7 @@ module _ (asked : Asked) (tenant bucket : Octets) (versions : List VersionRow) w
     are_next listing reading was lines are = are ∙ chunk_is reading.count reading.place.key.items reading.place.after was.low
 
 -- the lines that were read, as the rows that they are
-pub lines_are : (asked : Asked) (tenant bucket : Octets) (current versions : List VersionRow) (key : Octets) (older : Option ℕ) (upto upto_slice : Octets) (lines line_slice : List VersionLine) (n : ℕ)
+pub lines_are : (asked : PageAsked) (tenant bucket : Octets) (current versions : List VersionRow) (key : Octets) (older : Option ℕ) (upto upto_slice : Octets) (lines line_slice : List VersionLine) (n : ℕ)
     → upto_slice ≡ upto → upto ≡ past_name asked.prefix.now → line_slice ≡ lines → current ≡ versions
     → map seen_line lines ≡ map row_numbered (place_rows tenant bucket key older upto_slice n current)
     → map seen_line line_slice ≡ map row_numbered (place_rows tenant bucket key older (past_name asked.prefix.now) n versions)

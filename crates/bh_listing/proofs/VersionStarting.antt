@@ -24,7 +24,7 @@ use Rattle.bh_view.proofs.VersionChanges.{one_version, same_ids}
 use Rattle.bh_pages.specs.Gathered.{start_of}
 use Rattle.bh_pages.specs.Seen.{token_of}
 use Rattle.bh_pages.specs.Versions.{Numbered, row_key, at_key, is_from, nothing_after, versions_to_come, items_next, id_in}
-use Rattle.bh_pages.specs.declared.gathering.Asked.{Asked}
+use Rattle.bh_pages.specs.declared.gathering.PageAsked.{PageAsked}
 use Rattle.bh_pages.proofs.Bytes.{same_is, none_some, some_same}
 use Rattle.bh_pages.specs.Versions.{IsStrict}
 use Rattle.bh_pages.proofs.VersionRows.{filter_swap, filter_twice}
@@ -35,7 +35,7 @@ use Rattle.bh_listing.proofs.ListLemmas.{order_total}
 use Rattle.bh_listing.proofs.VersionViewed.{strict_rows, rows_tested}
 
 -- what was gathered from a beginning, where the tables stayed
-pub gathered_from : (asked : Asked) (start : Beginning) (version : Wanted) (t b : Octets) (old middle : Tables) (shown : List (Listed VersionItem)) → middle ≡ old
+pub gathered_from : (asked : PageAsked) (start : Beginning) (version : Wanted) (t b : Octets) (old middle : Tables) (shown : List (Listed VersionItem)) → middle ≡ old
     → listed_from asked start (own_rows t b old.versions) ≡ versions_of_rows asked version (own_rows t b old.versions)
     → shown ≡ take (suc asked.max) (listed_from asked start (own_rows t b middle.versions)) → shown ≡ take (suc asked.max) (versions_of_rows asked version (own_rows t b old.versions))
 gathered_from asked start version t b old middle shown same begins gathered =
@@ -223,7 +223,7 @@ module _ (tables : Tables) (t b : Octets) (sound : IsSound tables) where
         subst (λ o. come_from o (past_entry k v.seq) ≡ listing o version) (sym it.0) (subst (λ w. come_from (Some k) (past_entry k v.seq) ≡ listing (Some k) w) (sym it.1)
         (sym (start_one prefix delimiter rows own_strict k id (row_numbered v) (one_of_id prefix k it.2 id v found))))
 
-  module _ (asked : Asked) (version : Wanted) where
+  module _ (asked : PageAsked) (version : Wanted) where
     pub begins_unmarked : marked asked.prefix.now (token_of asked) version ≡ None → listed_from asked (past_marker asked) rows ≡ versions_of_rows asked version rows
     begins_unmarked is = unmarked asked.prefix.now asked.delimiter.now (token_of asked) version is
 

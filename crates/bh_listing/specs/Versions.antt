@@ -11,7 +11,7 @@ use Rattle.bh_model.specs.Pages.{Listed, VersionItem, VersionPlace, begins, vers
 use Rattle.bh_pages.specs.Gathered.{start_of}
 use Rattle.bh_pages.specs.Seen.{token_of}
 use Rattle.bh_pages.specs.Versions.{Numbered, row_key, Place, at_key, after_entry, is_from, nothing_after, versions_to_come, id_in, stored_of, items_next, seen_place}
-use Rattle.bh_pages.specs.declared.gathering.Asked.{Asked}
+use Rattle.bh_pages.specs.declared.gathering.PageAsked.{PageAsked}
 use Rattle.bh_tables.specs.Schema.{Octets}
 use Rattle.bh_tables.specs.Typed.{VersionRow, number}
 use Rattle.bh_listing.specs.Rows.{version_order, listed_rows}
@@ -42,11 +42,11 @@ abbrev pub own_rows : Octets → Octets → List VersionRow → List Numbered
 own_rows tenant bucket versions = map row_numbered (sort_by version_order (filter (λ v. bytes_eq v.tenant tenant && bytes_eq v.bucket bucket) versions))
 
 -- the marker that a page comes after
-abbrev pub place_view : Asked → Wanted → Option VersionPlace
+abbrev pub place_view : PageAsked → Wanted → Option VersionPlace
 place_view asked version = option_map (λ key. record { key = key; version = version }) (token_of asked)
 
 -- what a listing of versions may show of these rows
-abbrev pub versions_of_rows : Asked → Wanted → List Numbered → List (Listed VersionItem)
+abbrev pub versions_of_rows : PageAsked → Wanted → List Numbered → List (Listed VersionItem)
 versions_of_rows asked version rows =
     entries_after asked.prefix.now asked.delimiter.now (λ (v : VersionItem). v.key) (passes_version (token_of asked)) (versions_after (place_view asked version) (items_next None rows))
 
@@ -61,7 +61,7 @@ abbrev pub seen_start : Start → Beginning
 seen_start s = record { place = seen_place s.place; key = option_map (λ k. k.items) s.key }
 
 -- after all that the marker's key has, if there is a marker
-abbrev pub past_marker : Asked → Beginning
+abbrev pub past_marker : PageAsked → Beginning
 past_marker asked = record { place = at_key (start_of asked.prefix.now (token_of asked)); key = None }
 
 -- after an entry of a key
@@ -76,7 +76,7 @@ marked prefix (Some key) (Named id) = if begins prefix key then Some (key, id) e
 marked prefix (Some key) Unknown = None
 
 -- what a page that begins there may show of a bucket's rows
-abbrev pub listed_from : Asked → Beginning → List Numbered → List (Listed VersionItem)
+abbrev pub listed_from : PageAsked → Beginning → List Numbered → List (Listed VersionItem)
 listed_from asked start rows =
     versions_to_come asked.prefix.now asked.delimiter.now (token_of asked) (nothing_after start.key)
     (filter (is_from start.place) (filter (λ r. begins asked.prefix.now (row_key r)) rows))

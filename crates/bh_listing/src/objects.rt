@@ -17,7 +17,7 @@ use crate::lines::version_lines;
 use crate::told::told_objects;
 use bh_docs::ObjectsPage;
 use bh_objects::reads::bucket_state;
-use bh_pages::gathering::{Asked, Listed, past};
+use bh_pages::gathering::{PageAsked, Listed, past};
 use bh_pages::reading::Reading;
 use bh_storage::error::{StepError, Trouble};
 use bh_types::bucket::BucketName;
@@ -32,7 +32,7 @@ fn gather_objects<S: Alter>(
     alloc: Global,
     tenant: &str,
     bucket: &str,
-    asked: &Asked<'_>,
+    asked: &PageAsked<'_>,
 ) -> Result<Vec<Listed>, Trouble>
     requires working { Works S.Store connection.old }
     ensures within { StaysWithin S.Store connection.old connection.new }
@@ -69,7 +69,7 @@ pub fn list_objects<S: Alter>(
     alloc: Global,
     tenant: &TenantName,
     bucket: &BucketName,
-    asked: &Asked<'_>,
+    asked: &PageAsked<'_>,
 ) -> Result<ObjectsPage, StepError<Refusal>>
     requires working { Works S.Store connection.old }
     ensures within { StaysWithin S.Store connection.old connection.new }

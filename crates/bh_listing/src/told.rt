@@ -8,7 +8,7 @@ ghost use Rattle.bh_docs.specs.Pages.{prefix_view, object_view, page_view};
 ghost use Rattle.bh_listing.specs.Told.{asked_view};
 
 use bh_docs::{CommonPrefix, ObjectEntry, ObjectsPage};
-use bh_pages::gathering::{Asked, Listed, ObjectLine};
+use bh_pages::gathering::{PageAsked, Listed, ObjectLine};
 use bh_storage::error::Trouble;
 use bh_types::moment::Moment;
 use std::alloc::{AllocError, Global};
@@ -104,7 +104,7 @@ fn next_name(alloc: Global, entries: &[Listed], max: u32) -> Result<Option<Strin
 pub fn told_objects(
     alloc: Global,
     bucket: &str,
-    asked: &Asked<'_>,
+    asked: &PageAsked<'_>,
     entries: &[Listed],
 ) -> Result<ObjectsPage, Trouble>
     ensures { IfOk result (λ page. page_view page

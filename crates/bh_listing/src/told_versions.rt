@@ -10,7 +10,7 @@ ghost use Rattle.bh_listing.specs.Told.{asked_view};
 use crate::told::text_of;
 use bh_docs::{CommonPrefix, StoredObject, VersionEntry, VersionsNext, VersionsPage};
 use bh_objects::ids::id_of;
-use bh_pages::gathering::Asked;
+use bh_pages::gathering::PageAsked;
 use bh_pages::versions::{ListedVersion, ShownVersion};
 use bh_storage::error::Trouble;
 use bh_types::moment::Moment;
@@ -121,7 +121,7 @@ fn next_versions(
 pub fn told_versions(
     alloc: Global,
     bucket: &str,
-    asked: &Asked<'_>,
+    asked: &PageAsked<'_>,
     entries: &[ListedVersion],
 ) -> Result<VersionsPage, Trouble>
     ensures { IfOk result (λ page. versions_view page

@@ -21,7 +21,7 @@ use crate::told_versions::told_versions;
 use bh_docs::VersionsPage;
 use bh_objects::ids::number_of;
 use bh_objects::reads::bucket_state;
-use bh_pages::gathering::{Asked, past};
+use bh_pages::gathering::{PageAsked, past};
 use bh_pages::versions::{ListedVersion, Place, VersionReading};
 use bh_schema::rows::versions::version_of_id;
 use bh_schema::trouble::or_trouble;
@@ -43,7 +43,7 @@ pub struct Start {
 }
 
 /// The marker's key and an id, where the page comes after one version of a key under the prefix.
-fn marked_version<'a>(asked: &Asked<'a>, version: Wanted) -> Option<(&'a [u8], VersionId)>
+fn marked_version<'a>(asked: &PageAsked<'a>, version: Wanted) -> Option<(&'a [u8], VersionId)>
     ensures { option_map (λ m. (m.0.now, m.1)) result ≡ marked asked.now.prefix.now (token_of asked.now) version }
 {
     let Some(key) = asked.after else {
@@ -63,7 +63,7 @@ fn marked_version<'a>(asked: &Asked<'a>, version: Wanted) -> Option<(&'a [u8], V
 }
 
 /// After all that the marker's key has, if there is a marker.
-fn start_past(alloc: Global, asked: &Asked<'_>) -> Result<Start, AllocError>
+fn start_past(alloc: Global, asked: &PageAsked<'_>) -> Result<Start, AllocError>
     ensures { IfOk result (λ start. seen_start start ≡ past_marker asked.now) }
 {
     let key = asked.start(alloc)?;
@@ -117,7 +117,7 @@ fn start_of<S: Alter>(
     alloc: Global,
     tenant: &str,
     bucket: &str,
-    asked: &Asked<'_>,
+    asked: &PageAsked<'_>,
     version: Wanted,
 ) -> Result<Start, Trouble>
     requires working { Works S.Store connection.old }
@@ -144,7 +144,7 @@ fn gather_versions<S: Alter>(
     alloc: Global,
     tenant: &str,
     bucket: &str,
-    asked: &Asked<'_>,
+    asked: &PageAsked<'_>,
     start: Start,
 ) -> Result<Vec<ListedVersion>, Trouble>
     requires working { Works S.Store connection.old }
@@ -182,7 +182,7 @@ fn page_entries<S: Alter>(
     alloc: Global,
     tenant: &str,
     bucket: &str,
-    asked: &Asked<'_>,
+    asked: &PageAsked<'_>,
     version: Wanted,
 ) -> Result<Vec<ListedVersion>, Trouble>
     requires working { Works S.Store connection.old }
@@ -203,7 +203,7 @@ pub fn list_versions<S: Alter>(
     alloc: Global,
     tenant: &TenantName,
     bucket: &BucketName,
-    asked: &Asked<'_>,
+    asked: &PageAsked<'_>,
     version: Wanted,
 ) -> Result<VersionsPage, StepError<Refusal>>
     requires working { Works S.Store connection.old }

@@ -33,7 +33,7 @@ module _ (limits : HostLimits) (now : ℕ) (s : Option State) where
   sets (Err e) h = purge_uses_no_more now s
 
 pub steps_keep_quota : StepsKeepQuota
-steps_keep_quota limits now (Asked answer) s = fits limits now s (Asked answer) (asked_as FitsQuota now (changes_fit now) (purged_tenant s now) limits answer)
+steps_keep_quota limits now (RequestRead answer) s = fits limits now s (RequestRead answer) (asked_as FitsQuota now (changes_fit now) (purged_tenant s now) limits answer)
 steps_keep_quota limits now (Commanded (AddTenant tenant quota)) s =
     sets limits now s (add_tenant tenant quota (purged_tenant s now)) (settings_use_no_more.tenant_added tenant quota (purged_tenant s now))
 steps_keep_quota limits now (Commanded (SetQuota tenant quota)) s =

@@ -147,7 +147,7 @@ module _ (R : Option State → Option State → Type 0) (now : ℕ) (all : Chang
     ordered_as (ShowKeys tenant) = keys_shown_as tenant
 
     change_as : (limits : HostLimits) (act : Act) → Holds (change limits now act s)
-    change_as limits (Asked answer) = asked_as limits answer
+    change_as limits (RequestRead answer) = asked_as limits answer
     change_as limits (Commanded order) = plainly_holds (ordered order s) (ordered_as order)
 
   -- where it is refused, the state stays

@@ -33,12 +33,12 @@ use Rattle.bh_operation.specs.declared.operation.Operation.TheVariants.{ListBuck
 
 -- what an event turns out to be: a request, or its first refusal, as its bytes are read; or an operator's order
 pub data Act : Type 0 where
-  Asked : (answer : Result Taken Refusal) → Act
+  RequestRead : (answer : Result Taken Refusal) → Act
   Commanded : (order : Order) → Act
 
 -- the act that an event's message is; a sweep, a report and a list of tenants are no act of a tenant or of anybody who asks for one
 abbrev pub Acted : HostLimits → Message → Act → Type 0
-Acted limits (Requested bytes) act = (answer : Result Taken Refusal) × Reads limits bytes answer × (act ≡ Asked answer)
+Acted limits (Requested bytes) act = (answer : Result Taken Refusal) × Reads limits bytes answer × (act ≡ RequestRead answer)
 Acted limits (Ordered order) act = act ≡ Commanded order
 Acted limits (SweepOrdered limit) act = ⊥
 Acted limits ReportOrdered act = ⊥
@@ -50,7 +50,7 @@ asker (Err refusal) = None
 
 -- the tenant that an act belongs to, if it belongs to one
 abbrev pub owner_of : Act → Option Octets
-owner_of (Asked answer) = asker answer
+owner_of (RequestRead answer) = asker answer
 owner_of (Commanded order) = tenant_named (tenant_of order)
 
 -- ---- operations
@@ -74,7 +74,7 @@ set_retention now bucket key wanted body s = do
   put_retention now bucket key wanted date s
 
 -- the page that a request asks for
-abbrev pub page_asked : Page → pages.Asked
+abbrev pub page_asked : Page → pages.PageAsked
 page_asked page = record { prefix = page.prefix; delimiter = page.delimiter; max = page.size }
 
 -- the entry that it begins after
@@ -149,7 +149,7 @@ ordered (ShowKeys tenant) s = show_keys tenant s
 
 -- what an act makes of its owner's state once that is purged
 abbrev pub change : HostLimits → ℕ → Act → Option State → Result Outcome Rejection
-change limits now (Asked answer) s = asked limits now answer s
+change limits now (RequestRead answer) s = asked limits now answer s
 change limits now (Commanded order) s = plainly (ordered order s)
 
 -- an act at a moment: the owner's stale uploads go, and then comes the change, or a refusal that changes nothing more

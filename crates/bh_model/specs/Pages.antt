@@ -29,15 +29,15 @@ begins (b ∷ bs) [] = false
 begins (b ∷ bs) (c ∷ cs) = b == c && begins bs cs
 
 -- a text up to and including the first occurrence of a delimiter, if it occurs
-abbrev pub cut : Octets → Octets → Option Octets
-cut delimiter [] = None
-cut delimiter (b ∷ bs) = if begins delimiter (b ∷ bs) then Some delimiter else option_map (λ n. b ∷ n) (cut delimiter bs)
+abbrev pub up_to_delimiter : Octets → Octets → Option Octets
+up_to_delimiter delimiter [] = None
+up_to_delimiter delimiter (b ∷ bs) = if begins delimiter (b ∷ bs) then Some delimiter else option_map (λ n. b ∷ n) (up_to_delimiter delimiter bs)
 
 -- the name that a key is rolled up under: the part up to and including the first delimiter after the prefix.
 -- An empty delimiter rolls up nothing
 abbrev pub rolled : Octets → Octets → Octets → Option Octets
 rolled prefix [] key = None
-rolled prefix (d ∷ ds) key = option_map (λ n. prefix ++ n) (cut (d ∷ ds) (drop (length prefix) key))
+rolled prefix (d ∷ ds) key = option_map (λ n. prefix ++ n) (up_to_delimiter (d ∷ ds) (drop (length prefix) key))
 
 -- ---- entries
 
@@ -61,10 +61,10 @@ module _ {T : Type 0} where
   name_of key (Common name) = name
 
   -- a rolled-up name that follows itself is one entry; `last` is the one that was listed last, if nothing came since
-  abbrev pub joined : Option Octets → List (Listed T) → List (Listed T)
-  joined last [] = []
-  joined last (Single x ∷ es) = Single x ∷ joined None es
-  joined last (Common name ∷ es) = if is_name name last then joined last es else Common name ∷ joined (Some name) es
+  abbrev pub merged : Option Octets → List (Listed T) → List (Listed T)
+  merged last [] = []
+  merged last (Single x ∷ es) = Single x ∷ merged None es
+  merged last (Common name ∷ es) = if is_name name last then merged last es else Common name ∷ merged (Some name) es
 
   module _ (prefix delimiter : Octets) (key : T → Octets) where
     abbrev pub entry_of : T → Listed T
@@ -72,12 +72,12 @@ module _ {T : Type 0} where
 
     -- of items in the order of their keys, the entries that a marker lets through
     abbrev pub entries_after : (Listed T → Bool) → List T → List (Listed T)
-    entries_after passes items = joined None (filter passes (map entry_of (filter (λ x. begins prefix (key x)) items)))
+    entries_after passes items = merged None (filter passes (map entry_of (filter (λ x. begins prefix (key x)) items)))
 
 -- ---- a page
 
 -- which page is asked for: the keys under a prefix, rolled up at a delimiter, `max` entries at most
-pub record Asked : Type 0 where
+pub record PageAsked : Type 0 where
   pub prefix : Octets
   pub delimiter : Octets
   pub max : ℕ
@@ -125,7 +125,7 @@ abbrev pub objects_in : List (Octets × List Entry) → List ObjectItem
 objects_in keys = filter_map (λ k. current_object k.0 k.1) keys
 
 -- after the name that a token gives
-abbrev pub objects_page : Asked → Option Octets → List (Octets × List Entry) → Paged (Listed ObjectItem)
+abbrev pub objects_page : PageAsked → Option Octets → List (Octets × List Entry) → Paged (Listed ObjectItem)
 objects_page asked token keys =
     paged asked.max (entries_after asked.prefix asked.delimiter (λ o. o.key) (after_name (λ (o : ObjectItem). o.key) token) (objects_in keys))
 
@@ -149,7 +149,7 @@ module _ {T : Type 0} where
   single_in (Single x) = x ∷ []
   single_in (Common name) = []
 
-abbrev pub objects_told : Octets → Asked → Paged (Listed ObjectItem) → ObjectsListed
+abbrev pub objects_told : Octets → PageAsked → Paged (Listed ObjectItem) → ObjectsListed
 objects_told bucket asked page = record {
   bucket = bucket;
   prefix = asked.prefix;
@@ -222,7 +222,7 @@ passes_version (Some marker) (Common name) = is_before marker name
 abbrev pub key_of : Option VersionPlace → Option Octets
 key_of marker = option_map (λ (p : VersionPlace). p.key) marker
 
-abbrev pub versions_page : Asked → Option VersionPlace → List (Octets × List Entry) → Paged (Listed VersionItem)
+abbrev pub versions_page : PageAsked → Option VersionPlace → List (Octets × List Entry) → Paged (Listed VersionItem)
 versions_page asked marker keys =
     paged asked.max (entries_after asked.prefix asked.delimiter (λ v. v.key) (passes_version (key_of marker)) (versions_after marker (all_versions keys)))
 
@@ -244,7 +244,7 @@ pub record VersionsListed : Type 0 where
   pub versions : List VersionItem
   pub next : Option VersionNext
 
-abbrev pub versions_told : Octets → Asked → Paged (Listed VersionItem) → VersionsListed
+abbrev pub versions_told : Octets → PageAsked → Paged (Listed VersionItem) → VersionsListed
 versions_told bucket asked page = record {
   bucket = bucket;
   prefix = asked.prefix;
@@ -296,7 +296,7 @@ passes_upload None e = true
 passes_upload (Some marker) (Single u) = is_before marker.key u.key || (same marker.key u.key && is_later marker.upload u)
 passes_upload (Some marker) (Common name) = is_before marker.key name
 
-abbrev pub uploads_page : Asked → Option UploadPlace → List (ℕ × Upload) → Paged (Listed UploadItem)
+abbrev pub uploads_page : PageAsked → Option UploadPlace → List (ℕ × Upload) → Paged (Listed UploadItem)
 uploads_page asked marker numbered =
     paged asked.max (entries_after asked.prefix asked.delimiter (λ u. u.key) (passes_upload marker) (all_uploads numbered))
 
@@ -318,7 +318,7 @@ pub record UploadsListed : Type 0 where
   pub uploads : List UploadItem
   pub next : Option UploadNext
 
-abbrev pub uploads_told : Octets → Asked → Paged (Listed UploadItem) → UploadsListed
+abbrev pub uploads_told : Octets → PageAsked → Paged (Listed UploadItem) → UploadsListed
 uploads_told bucket asked page = record {
   bucket = bucket;
   prefix = asked.prefix;

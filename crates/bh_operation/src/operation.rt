@@ -146,7 +146,7 @@ pub enum Operation {
 
 /// What an operation reads of a request, and who asks.
 #[derive(Drop)]
-struct Asked<'a> {
+struct RequestParts<'a> {
     alloc: Global,
     caller: &'a TenantName,
     parameters: &'a [Parameter],
@@ -178,7 +178,7 @@ fn host_operation(method: Method, selector: Option<Selector>) -> Result<Operatio
 }
 
 #[tactic(auto, unfolding(crate::specs::Operations::list_objects, crate::specs::Pages::key_page))]
-fn list_objects(asked: &Asked, text: Text) -> Result<Operation, RequestError>
+fn list_objects(asked: &RequestParts, text: Text) -> Result<Operation, RequestError>
     ensures { Gives (λ x. x) result (spec.list_objects asked.now.caller.now text asked.now.parameters.now) }
 {
     second_version(asked.parameters)?;
@@ -193,7 +193,7 @@ fn list_objects(asked: &Asked, text: Text) -> Result<Operation, RequestError>
 }
 
 #[tactic(auto, unfolding(crate::specs::Operations::list_versions, crate::specs::Pages::key_page))]
-fn list_versions(asked: &Asked, text: Text) -> Result<Operation, RequestError>
+fn list_versions(asked: &RequestParts, text: Text) -> Result<Operation, RequestError>
     ensures { Gives (λ x. x) result (spec.list_versions asked.now.caller.now text asked.now.parameters.now) }
 {
     let page = page_in(asked.alloc, "max-keys", asked.parameters)?;
@@ -207,7 +207,7 @@ fn list_versions(asked: &Asked, text: Text) -> Result<Operation, RequestError>
 }
 
 #[tactic(auto, unfolding(crate::specs::Operations::list_uploads))]
-fn list_uploads(asked: &Asked, text: Text) -> Result<Operation, RequestError>
+fn list_uploads(asked: &RequestParts, text: Text) -> Result<Operation, RequestError>
     ensures { Gives (λ x. x) result (spec.list_uploads asked.now.caller.now text asked.now.parameters.now) }
 {
     let page = upload_page(asked.alloc, asked.parameters)?;
@@ -221,7 +221,7 @@ fn list_uploads(asked: &Asked, text: Text) -> Result<Operation, RequestError>
 }
 
 #[tactic(auto, unfolding(crate::specs::Operations::create_bucket))]
-fn create_bucket(asked: &Asked, text: Text) -> Result<Operation, RequestError>
+fn create_bucket(asked: &RequestParts, text: Text) -> Result<Operation, RequestError>
     ensures { Gives (λ x. x) result
         (spec.create_bucket asked.now.caller.now text (pairs_of asked.now.fields.now)) }
 {
@@ -233,7 +233,7 @@ fn create_bucket(asked: &Asked, text: Text) -> Result<Operation, RequestError>
 /// The operation on the bucket that a text names: first the parameters that it reads are looked at, and then the text.
 #[tactic(auto, unfolding(crate::specs::Operations::bucket_operation))]
 fn bucket_operation(
-    asked: &Asked,
+    asked: &RequestParts,
     text: Text,
     action: BucketAction,
 ) -> Result<Operation, RequestError>
@@ -273,7 +273,7 @@ fn on_bucket(bucket: BucketName, action: BucketAction) -> Operation
 }
 
 #[tactic(auto, unfolding(crate::specs::Operations::put_object))]
-fn put_object(asked: &Asked, text: Text, key: Text) -> Result<Operation, RequestError>
+fn put_object(asked: &RequestParts, text: Text, key: Text) -> Result<Operation, RequestError>
     ensures { Gives (λ x. x) result
         (spec.put_object asked.now.caller.now text key (pairs_of asked.now.fields.now)) }
 {
@@ -288,7 +288,7 @@ fn put_object(asked: &Asked, text: Text, key: Text) -> Result<Operation, Request
 
 /// A copy: the names of its source are looked at last. Its checksum is only counted.
 #[tactic(auto, unfolding(crate::specs::Operations::copy_object))]
-fn copy_object(asked: &Asked, text: Text, key: Text) -> Result<Operation, RequestError>
+fn copy_object(asked: &RequestParts, text: Text, key: Text) -> Result<Operation, RequestError>
     ensures { Gives (λ x. x) result
         (spec.copy_object asked.now.caller.now text key (pairs_of asked.now.fields.now)) }
 {
@@ -298,7 +298,7 @@ fn copy_object(asked: &Asked, text: Text, key: Text) -> Result<Operation, Reques
 }
 
 fn copy_from(
-    asked: &Asked,
+    asked: &RequestParts,
     text: Text,
     key: Text,
     source: Source,
@@ -319,7 +319,7 @@ fn copy_from(
 }
 
 #[tactic(auto, unfolding(crate::specs::Operations::object_operation))]
-fn get_object(asked: &Asked, text: Text, key: Text) -> Result<Operation, RequestError>
+fn get_object(asked: &RequestParts, text: Text, key: Text) -> Result<Operation, RequestError>
     ensures { Gives (λ x. x) result (spec.object_operation asked.now.caller.now text key
         asked.now.parameters.now (pairs_of asked.now.fields.now) ObjectAction.Get) }
 {
@@ -333,7 +333,7 @@ fn get_object(asked: &Asked, text: Text, key: Text) -> Result<Operation, Request
 }
 
 #[tactic(auto, unfolding(crate::specs::Operations::upload_part))]
-fn upload_part(asked: &Asked, text: Text, key: Text) -> Result<Operation, RequestError>
+fn upload_part(asked: &RequestParts, text: Text, key: Text) -> Result<Operation, RequestError>
     ensures { Gives (λ x. x) result (spec.upload_part
         asked.now.caller.now text key asked.now.parameters.now (pairs_of asked.now.fields.now)) }
 {
@@ -349,7 +349,7 @@ fn upload_part(asked: &Asked, text: Text, key: Text) -> Result<Operation, Reques
 }
 
 #[tactic(auto, unfolding(crate::specs::Operations::list_parts))]
-fn list_parts(asked: &Asked, text: Text, key: Text) -> Result<Operation, RequestError>
+fn list_parts(asked: &RequestParts, text: Text, key: Text) -> Result<Operation, RequestError>
     ensures { Gives (λ x. x) result (spec.list_parts asked.now.caller.now text key asked.now.parameters.now) }
 {
     let page = part_page(asked.parameters)?;
@@ -365,7 +365,7 @@ fn list_parts(asked: &Asked, text: Text, key: Text) -> Result<Operation, Request
 /// at, and then the texts.
 #[tactic(auto, unfolding(crate::specs::Operations::object_operation))]
 fn object_operation(
-    asked: &Asked,
+    asked: &RequestParts,
     text: Text,
     key: Text,
     action: ObjectAction,
@@ -408,7 +408,7 @@ fn on_object(object: ObjectName, parameters: &[Parameter], action: ObjectAction)
 /// The operation of a method and a selector on a target.
 #[tactic(auto, unfolding(crate::specs::Operations::operation_at))]
 fn operation_at(
-    asked: &Asked,
+    asked: &RequestParts,
     method: Method,
     target: Target,
     selector: Option<Selector>,
@@ -433,7 +433,7 @@ fn operation_at(
 
 /// The operation on a target, if the host does what the parameters and header fields ask for.
 fn supported_operation(
-    asked: &Asked,
+    asked: &RequestParts,
     method: &[u8],
     target: Target,
 ) -> Result<Operation, RequestError>
@@ -467,7 +467,7 @@ pub fn operation_of(
     let kind = routed(routes, path)?;
     let target = target_at(alloc, kind, path)?;
     let parameters = parameters_in(alloc, query)?;
-    let asked = Asked {
+    let asked = RequestParts {
         alloc,
         caller,
         parameters: parameters.as_slice(),

@@ -8,7 +8,7 @@ use Rattle.std.proofs.lemmas.Bool.Decides.{nat_tests}
 use Rattle.std.proofs.lemmas.Cmp.{ranked, upto, nat_list_cmp_total, tied_itself, nat_cmp_total}
 use Rattle.std.proofs.lemmas.Bool.{eqb-true}
 use Rattle.bh_model.specs.State.{Octets, octets_cmp}
-use Rattle.bh_model.specs.Pages.{same, is_upto, begins, cut, rolled}
+use Rattle.bh_model.specs.Pages.{same, is_upto, begins, up_to_delimiter, rolled}
 use Rattle.bh_pages.specs.Gathered.{past_key, past_name}
 
 not_gt : (o : Ordering) → is_le o ≡ true → is_gt o ≡ false
@@ -141,9 +141,9 @@ some_same h = cc
 
 -- ---- names
 
-cut_long : (d x n : Octets) → cut d x ≡ Some n → length d ≤ length n
+cut_long : (d x n : Octets) → up_to_delimiter d x ≡ Some n → length d ≤ length n
 cut_long d [] n h = absurd (none_some h)
-cut_long d (b ∷ x) n h = go (begins d (b ∷ x)) h (cut d x) (cut_long d x)
+cut_long d (b ∷ x) n h = go (begins d (b ∷ x)) h (up_to_delimiter d x) (cut_long d x)
   where
     tail : (o : Option Octets) → ((m : Octets) → o ≡ Some m → length d ≤ length m) → option_map (λ (m : Octets). b ∷ m) o ≡ Some n → length d ≤ length n
     tail None more h = absurd (none_some h)
@@ -152,12 +152,12 @@ cut_long d (b ∷ x) n h = go (begins d (b ∷ x)) h (cut d x) (cut_long d x)
         le_up : length d ≤ length m → length d ≤ length (b ∷ m)
         le_up k = omega (arith, k)
 
-    go : (t : Bool) → cond t (Some d) (option_map (λ (m : Octets). b ∷ m) (cut d x)) ≡ Some n → (o : Option Octets) → ((m : Octets) → cut d x ≡ Some m → length d ≤ length m) → length d ≤ length n
+    go : (t : Bool) → cond t (Some d) (option_map (λ (m : Octets). b ∷ m) (up_to_delimiter d x)) ≡ Some n → (o : Option Octets) → ((m : Octets) → up_to_delimiter d x ≡ Some m → length d ≤ length m) → length d ≤ length n
     go true h o more = subst (λ z. length d ≤ length z) (some_same h) (le_refl (length d))
-    go false h o more = tail (cut d x) more h
+    go false h o more = tail (up_to_delimiter d x) more h
 
 -- a text begins with what is cut of it
-cut_begins : (d x n : Octets) → cut d x ≡ Some n → begins n x ≡ true
+cut_begins : (d x n : Octets) → up_to_delimiter d x ≡ Some n → begins n x ≡ true
 cut_begins d [] n h = absurd (none_some h)
 cut_begins d (b ∷ x) n h = go (begins d (b ∷ x)) refl h (cut_begins d x)
   where
@@ -165,20 +165,20 @@ cut_begins d (b ∷ x) n h = go (begins d (b ∷ x)) refl h (cut_begins d x)
     tail None more h = absurd (none_some h)
     tail (Some m) more h = subst (λ z. begins z (b ∷ x) ≡ true) (some_same h) (ap (λ t. t && begins m x) (same_number b) ∙ more m refl)
 
-    go : (t : Bool) → begins d (b ∷ x) ≡ t → cond t (Some d) (option_map (λ (m : Octets). b ∷ m) (cut d x)) ≡ Some n → ((m : Octets) → cut d x ≡ Some m → begins m x ≡ true) → begins n (b ∷ x) ≡ true
+    go : (t : Bool) → begins d (b ∷ x) ≡ t → cond t (Some d) (option_map (λ (m : Octets). b ∷ m) (up_to_delimiter d x)) ≡ Some n → ((m : Octets) → up_to_delimiter d x ≡ Some m → begins m x ≡ true) → begins n (b ∷ x) ≡ true
     go true e h more = subst (λ z. begins z (b ∷ x) ≡ true) (some_same h) e
-    go false e h more = tail (cut d x) more h
+    go false e h more = tail (up_to_delimiter d x) more h
 
 -- and whatever begins with it is cut there
-cut_again : (c : ℕ) (ds x y n : Octets) → cut (c ∷ ds) x ≡ Some n → begins n y ≡ true → cut (c ∷ ds) y ≡ Some n
+cut_again : (c : ℕ) (ds x y n : Octets) → up_to_delimiter (c ∷ ds) x ≡ Some n → begins n y ≡ true → up_to_delimiter (c ∷ ds) y ≡ Some n
 cut_again c ds [] y n h k = absurd (none_some h)
 cut_again c ds (b ∷ x) y n h k = go (begins (c ∷ ds) (b ∷ x)) refl h y k (cut_again c ds x)
   where
-    whole : (y : Octets) → begins (c ∷ ds) y ≡ true → cut (c ∷ ds) y ≡ Some (c ∷ ds)
+    whole : (y : Octets) → begins (c ∷ ds) y ≡ true → up_to_delimiter (c ∷ ds) y ≡ Some (c ∷ ds)
     whole [] k = absurd (true≢false (sym k))
-    whole (e ∷ y) k = ap (λ t. cond t (Some (c ∷ ds)) (option_map (λ (m : Octets). e ∷ m) (cut (c ∷ ds) y))) k
+    whole (e ∷ y) k = ap (λ t. cond t (Some (c ∷ ds)) (option_map (λ (m : Octets). e ∷ m) (up_to_delimiter (c ∷ ds) y))) k
 
-    no_sooner : (m : Octets) → begins (c ∷ ds) (b ∷ x) ≡ false → cut (c ∷ ds) x ≡ Some m → (e : ℕ) (y : Octets) → b ≡ e → begins m y ≡ true → begins (c ∷ ds) (e ∷ y) ≡ false
+    no_sooner : (m : Octets) → begins (c ∷ ds) (b ∷ x) ≡ false → up_to_delimiter (c ∷ ds) x ≡ Some m → (e : ℕ) (y : Octets) → b ≡ e → begins m y ≡ true → begins (c ∷ ds) (e ∷ y) ≡ false
     no_sooner m miss is e y alike k = elim (begins (c ∷ ds) (e ∷ y)) as (λ t. begins (c ∷ ds) (e ∷ y) ≡ t → t ≡ false) [
       | true ↦ λ h. absurd (true≢false (sym (ap (λ z. (c == z) && begins ds x) alike ∙ ap (λ t. t && begins ds x) (both h).0 ∙ begins_alike m ds x y (cut_begins (c ∷ ds) x m is) k (shorter (cut_long (c ∷ ds) x m is)) (both h).1) ∙ miss))
       | false ↦ λ h. refl
@@ -187,38 +187,38 @@ cut_again c ds (b ∷ x) y n h k = go (begins (c ∷ ds) (b ∷ x)) refl h y k (
         shorter : length (c ∷ ds) ≤ length m → length ds ≤ length m
         shorter h = omega (arith, h)
 
-    later : (m : Octets) → begins (c ∷ ds) (b ∷ x) ≡ false → cut (c ∷ ds) x ≡ Some m → (y : Octets) → begins (b ∷ m) y ≡ true → ((y n : Octets) → cut (c ∷ ds) x ≡ Some n → begins n y ≡ true → cut (c ∷ ds) y ≡ Some n) → cut (c ∷ ds) y ≡ Some (b ∷ m)
+    later : (m : Octets) → begins (c ∷ ds) (b ∷ x) ≡ false → up_to_delimiter (c ∷ ds) x ≡ Some m → (y : Octets) → begins (b ∷ m) y ≡ true → ((y n : Octets) → up_to_delimiter (c ∷ ds) x ≡ Some n → begins n y ≡ true → up_to_delimiter (c ∷ ds) y ≡ Some n) → up_to_delimiter (c ∷ ds) y ≡ Some (b ∷ m)
     later m miss is [] k more = absurd (true≢false (sym k))
     later m miss is (e ∷ y) k more =
         let alike : b ≡ e = eqb-true b e (both k).0 in
-        ap (λ t. cond t (Some (c ∷ ds)) (option_map (λ (z : Octets). e ∷ z) (cut (c ∷ ds) y))) (no_sooner m miss is e y alike (both k).1)
+        ap (λ t. cond t (Some (c ∷ ds)) (option_map (λ (z : Octets). e ∷ z) (up_to_delimiter (c ∷ ds) y))) (no_sooner m miss is e y alike (both k).1)
         ∙ ap (option_map (λ (z : Octets). e ∷ z)) (more y m is (both k).1) ∙ ap (λ z. Some (z ∷ m)) (sym alike)
 
-    tail : (o : Option Octets) → cut (c ∷ ds) x ≡ o → begins (c ∷ ds) (b ∷ x) ≡ false → option_map (λ (m : Octets). b ∷ m) o ≡ Some n → (y : Octets) → begins n y ≡ true
-        → ((y n : Octets) → cut (c ∷ ds) x ≡ Some n → begins n y ≡ true → cut (c ∷ ds) y ≡ Some n) → cut (c ∷ ds) y ≡ Some n
+    tail : (o : Option Octets) → up_to_delimiter (c ∷ ds) x ≡ o → begins (c ∷ ds) (b ∷ x) ≡ false → option_map (λ (m : Octets). b ∷ m) o ≡ Some n → (y : Octets) → begins n y ≡ true
+        → ((y n : Octets) → up_to_delimiter (c ∷ ds) x ≡ Some n → begins n y ≡ true → up_to_delimiter (c ∷ ds) y ≡ Some n) → up_to_delimiter (c ∷ ds) y ≡ Some n
     tail None is miss h y k more = absurd (none_some h)
     tail (Some m) is miss h y k more = later m miss is y (subst (λ z. begins z y ≡ true) (sym (some_same h)) k) more ∙ h
 
-    go : (t : Bool) → begins (c ∷ ds) (b ∷ x) ≡ t → cond t (Some (c ∷ ds)) (option_map (λ (m : Octets). b ∷ m) (cut (c ∷ ds) x)) ≡ Some n → (y : Octets) → begins n y ≡ true
-        → ((y n : Octets) → cut (c ∷ ds) x ≡ Some n → begins n y ≡ true → cut (c ∷ ds) y ≡ Some n) → cut (c ∷ ds) y ≡ Some n
+    go : (t : Bool) → begins (c ∷ ds) (b ∷ x) ≡ t → cond t (Some (c ∷ ds)) (option_map (λ (m : Octets). b ∷ m) (up_to_delimiter (c ∷ ds) x)) ≡ Some n → (y : Octets) → begins n y ≡ true
+        → ((y n : Octets) → up_to_delimiter (c ∷ ds) x ≡ Some n → begins n y ≡ true → up_to_delimiter (c ∷ ds) y ≡ Some n) → up_to_delimiter (c ∷ ds) y ≡ Some n
     go true e h y k more = whole y (subst (λ z. begins z y ≡ true) (sym (some_same h)) k) ∙ h
-    go false e h y k more = tail (cut (c ∷ ds) x) refl e h y k more
+    go false e h y k more = tail (up_to_delimiter (c ∷ ds) x) refl e h y k more
 
 module _ (prefix : Octets) where
   -- a key begins with the name that it is rolled up under
   pub rolled_begins : (delimiter k p : Octets) → begins prefix k ≡ true → rolled prefix delimiter k ≡ Some p → begins p k ≡ true
   rolled_begins [] k p b h = absurd (none_some h)
-  rolled_begins (c ∷ ds) k p b h = go (cut (c ∷ ds) (drop (length prefix) k)) refl h
+  rolled_begins (c ∷ ds) k p b h = go (up_to_delimiter (c ∷ ds) (drop (length prefix) k)) refl h
     where
-      go : (o : Option Octets) → cut (c ∷ ds) (drop (length prefix) k) ≡ o → option_map (λ (n : Octets). prefix ++ n) o ≡ Some p → begins p k ≡ true
+      go : (o : Option Octets) → up_to_delimiter (c ∷ ds) (drop (length prefix) k) ≡ o → option_map (λ (n : Octets). prefix ++ n) o ≡ Some p → begins p k ≡ true
       go None is h = absurd (none_some h)
       go (Some n) is h = subst (λ z. begins z k ≡ true) (some_same h) (append_begins prefix n k b (cut_begins (c ∷ ds) _ n is))
 
   -- and each key that begins with the name is rolled up under it
   pub rolled_again : (delimiter k p y : Octets) → rolled prefix delimiter k ≡ Some p → begins p y ≡ true → rolled prefix delimiter y ≡ Some p
   rolled_again [] k p y h b = absurd (none_some h)
-  rolled_again (c ∷ ds) k p y h b = go (cut (c ∷ ds) (drop (length prefix) k)) refl h
+  rolled_again (c ∷ ds) k p y h b = go (up_to_delimiter (c ∷ ds) (drop (length prefix) k)) refl h
     where
-      go : (o : Option Octets) → cut (c ∷ ds) (drop (length prefix) k) ≡ o → option_map (λ (n : Octets). prefix ++ n) o ≡ Some p → option_map (λ (n : Octets). prefix ++ n) (cut (c ∷ ds) (drop (length prefix) y)) ≡ Some p
+      go : (o : Option Octets) → up_to_delimiter (c ∷ ds) (drop (length prefix) k) ≡ o → option_map (λ (n : Octets). prefix ++ n) o ≡ Some p → option_map (λ (n : Octets). prefix ++ n) (up_to_delimiter (c ∷ ds) (drop (length prefix) y)) ≡ Some p
       go None is h = absurd (none_some h)
       go (Some n) is h = ap (option_map (λ (n : Octets). prefix ++ n)) (cut_again c ds _ _ n is (begins_append prefix n y (subst (λ z. begins z y ≡ true) (sym (some_same h)) b)).1) ∙ h

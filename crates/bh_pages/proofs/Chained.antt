@@ -3,7 +3,7 @@ use Rattle.std.proofs.Common.{◌≡◌, ℕ, ◌≤◌, Bool, true, List, [], �
 use Rattle.std.specs.List.{AllByRecursion}
 use Rattle.std.specs.FinMap.{entries, entries_sorted}
 use Rattle.bh_model.specs.State.{Octets, octets_cmp, Content, Content.Marker, Content.Body, Entry}
-use Rattle.bh_model.specs.Pages.{Listed, is_before, paged, joined, entry_of, name_of, entries_after, after_name, ObjectItem, objects_in}
+use Rattle.bh_model.specs.Pages.{Listed, is_before, paged, merged, entry_of, name_of, entries_after, after_name, ObjectItem, objects_in}
 use Rattle.bh_pages.specs.Laws.{total, chained, object_key, object_marked, PagesChain}
 use Rattle.bh_pages.proofs.Filters.{keep_all}
 use Rattle.bh_pages.proofs.Pairs.{Pairs, Rises, sorted_pairs}
@@ -50,7 +50,7 @@ module _ (prefix delimiter : Octets) (items : List ObjectItem) (up : Pairs Befor
       let laws = led_resumes prefix delimiter object_key Before past (λ n e. refl) (λ o n. refl) (λ o. before_self o.key) (λ o p h. h) (λ o p h. before_back o.key p.key h) in
       chain_entries (entry_of prefix delimiter object_key) (λ e l. filter (past e) (map (entry_of prefix delimiter object_key) l)) object_marked listing (under prefix delimiter object_key items)
       (laws (under prefix delimiter object_key items) (leads prefix delimiter object_key Before (λ o p h. upto_before o.key p.key h) items up))
-      None (ap (joined None) (keep_all (map (entry_of prefix delimiter object_key) (under prefix delimiter object_key items)))) (λ e. refl)
+      None (ap (merged None) (keep_all (map (entry_of prefix delimiter object_key) (under prefix delimiter object_key items)))) (λ e. refl)
 
 pub pages_chain : PagesChain
 pages_chain prefix delimiter objects = chained_listing prefix delimiter (objects_in (entries objects)) (objects_ascend (entries objects) (sorted_pairs octets_cmp (entries objects) (entries_sorted objects)))

@@ -6,7 +6,7 @@ use Rattle.std.specs.Ordering.{is_eq, is_lt, is_gt, ordering_then, ordering_reve
 use Rattle.std.proofs.lemmas.Bool.Decides.{nat_tests}
 use Rattle.std.proofs.lemmas.Cmp.{nat_cmp_total}
 use Rattle.bh_model.specs.State.{Octets, octets_cmp, Upload}
-use Rattle.bh_model.specs.Pages.{Listed, Listed.Single, Listed.Common, is_before, same, paged, joined, entry_of, name_of, entries_after, UploadItem, UploadPlace, upload_order, put_upload, in_key_order, upload_item, all_uploads, passes_upload}
+use Rattle.bh_model.specs.Pages.{Listed, Listed.Single, Listed.Common, is_before, same, paged, merged, entry_of, name_of, entries_after, UploadItem, UploadPlace, upload_order, put_upload, in_key_order, upload_item, all_uploads, passes_upload}
 use Rattle.bh_pages.specs.Laws.{total, chained, upload_marked, UploadsChain}
 use Rattle.bh_pages.specs.Uploads.{upload_key, upload_number}
 use Rattle.bh_pages.proofs.Before.{less_not_equal}
@@ -114,7 +114,7 @@ module _ (prefix delimiter : Octets) (items : List UploadItem) (up : Pairs Ahead
       (λ u v h. past_ahead v u ∙ not_back nat_cmp nat_cmp_total upload_key upload_number (spot u) (spot v) h) in
       chain_entries (entry_of prefix delimiter upload_key) (λ e l. filter (past e) (map (entry_of prefix delimiter upload_key) l)) upload_marked listing (under prefix delimiter upload_key items)
       (rule (under prefix delimiter upload_key items) (leads prefix delimiter upload_key Ahead (λ u v h. precedes_key nat_cmp nat_cmp_total upload_key upload_number (spot u) (spot v) h) items up))
-      None (ap (joined None) (keep_all (map (entry_of prefix delimiter upload_key) (under prefix delimiter upload_key items)))) (λ e. refl)
+      None (ap (merged None) (keep_all (map (entry_of prefix delimiter upload_key) (under prefix delimiter upload_key items)))) (λ e. refl)
 
 pub uploads_chain : UploadsChain
 uploads_chain prefix delimiter uploads =

@@ -12,7 +12,7 @@ use Rattle.bh_types.specs.declared.id.VersionId.{VersionId}
 use Rattle.bh_types.specs.declared.id.VersionId.TheVariants.{Null, Numbered}
 use Rattle.bh_model.specs.State.{Octets, octets_cmp, Entry}
 use Rattle.bh_model.specs.Entries.{same_id, has_id}
-use Rattle.bh_model.specs.Pages.{Listed, Listed.Single, Listed.Common, is_before, is_upto, same, begins, rolled, as_listed, paged, joined, entry_of, entries_after, VersionItem, VersionPlace, version_item, versions_of, all_versions, after_id, versions_after, passes_version, key_of}
+use Rattle.bh_model.specs.Pages.{Listed, Listed.Single, Listed.Common, is_before, is_upto, same, begins, rolled, as_listed, paged, merged, entry_of, entries_after, VersionItem, VersionPlace, version_item, versions_of, all_versions, after_id, versions_after, passes_version, key_of}
 use Rattle.bh_model.specs.Ids.{HaveOwnIds}
 use Rattle.bh_model.proofs.MapLemmas.{find_below}
 use Rattle.bh_model.proofs.MapLemmas as pairs
@@ -166,16 +166,16 @@ module _ (prefix delimiter : Octets) where
   pairs_follow [] up = tt
   pairs_follow (v ∷ l) up = (all_follow v (entry v) l up.0, pairs_follow l up.1)
 
-  here : (v : VersionItem) (l : List VersionItem) → AllByRecursion (Led v) l → Pairs Led l → AreUnder l → joined None (left (entry v) (v ∷ l)) ≡ joined (so_far (entry v)) (map entry l)
+  here : (v : VersionItem) (l : List VersionItem) → AllByRecursion (Led v) l → Pairs Led l → AreUnder l → merged None (left (entry v) (v ∷ l)) ≡ merged (so_far (entry v)) (map entry l)
   here v l all up begun = go (rolled prefix delimiter v.key) refl all
     where
       go : (o : Option Octets) → rolled prefix delimiter v.key ≡ o → AllByRecursion (λ w. Follows v w × Comes prefix delimiter version_key (as_listed v o) (entry w)) l
-          → joined None (left (as_listed v o) (v ∷ l)) ≡ joined (so_far (as_listed v o)) (map entry l)
+          → merged None (left (as_listed v o) (v ∷ l)) ≡ merged (so_far (as_listed v o)) (map entry l)
       go None is all =
-          ap (λ r. joined None (filter (passes_version (Some v.key)) (map entry r))) (one_here v l (all_follow v (Single v) l all) (pairs_follow l up))
-          ∙ ap (joined None) (filter_whole (passes_version (Some v.key)) (map entry l) (passes_all v l all))
+          ap (λ r. merged None (filter (passes_version (Some v.key)) (map entry r))) (one_here v l (all_follow v (Single v) l all) (pairs_follow l up))
+          ∙ ap (merged None) (filter_whole (passes_version (Some v.key)) (map entry l) (passes_all v l all))
       go (Some n) is all =
-          ap (joined None) (name_skips v n (subst (λ o. Comes prefix delimiter version_key (as_listed v o) (Common n)) (sym is) (inl refl)) l ∙ name_left n l begun)
+          ap (merged None) (name_skips v n (subst (λ o. Comes prefix delimiter version_key (as_listed v o) (Common n)) (sym is) (inl refl)) l ∙ name_left n l begun)
           ∙ after_rolled prefix delimiter version_key Follows v n l up all
 
   led_versions : (l : List VersionItem) → Pairs Led l → AreUnder l → Resumes entry left l
@@ -188,14 +188,14 @@ module _ (prefix delimiter : Octets) where
     abbrev listing : Option VersionPlace → List (Listed VersionItem)
     listing marker = entries_after prefix delimiter version_key (passes_version (key_of marker)) (versions_after marker items)
 
-    at_entry : (e : Listed VersionItem) → listing (version_marked e) ≡ joined None (left e (under prefix delimiter version_key items))
-    at_entry e = ap (λ l. joined None (filter (passes_version (key_of (version_marked e))) (map entry l))) (after_through (begins prefix) (version_marked e) items)
+    at_entry : (e : Listed VersionItem) → listing (version_marked e) ≡ merged None (left e (under prefix delimiter version_key items))
+    at_entry e = ap (λ l. merged None (filter (passes_version (key_of (version_marked e))) (map entry l))) (after_through (begins prefix) (version_marked e) items)
 
     chained_listing : (sizes : List ℕ) → AllByRecursion (λ m. 1 ≤ m) sizes → chained version_marked (λ m marker. paged m (listing marker)) sizes None ≡ take (total sizes) (listing None)
     chained_listing =
         chain_entries entry left version_marked listing (under prefix delimiter version_key items)
         (led_versions (under prefix delimiter version_key items) (leads prefix delimiter version_key Follows (λ v w h. key_up v w h) items up) (filter_passes (λ (v : VersionItem). begins prefix v.key) items))
-        None (ap (joined None) (keep_all (map entry (under prefix delimiter version_key items)))) at_entry
+        None (ap (merged None) (keep_all (map entry (under prefix delimiter version_key items)))) at_entry
 
 -- ---- the versions of a bucket's keys
 

@@ -7,7 +7,7 @@ use Rattle.std.specs.Ordering.{is_eq, is_lt, is_le, ordering_then, ordering_reve
 use Rattle.std.proofs.lemmas.Bool.{eqb-true, cases_Bool}
 use Rattle.std.proofs.lemmas.Cmp.{nat_list_cmp_total, nat_cmp_total, tied_itself}
 use Rattle.bh_model.specs.State.{Octets, octets_cmp}
-use Rattle.bh_model.specs.Pages.{Listed, Listed.Single, Listed.Common, same, is_before, is_upto, begins, rolled, as_listed, name_of, joined, entry_of}
+use Rattle.bh_model.specs.Pages.{Listed, Listed.Single, Listed.Common, same, is_before, is_upto, begins, rolled, as_listed, name_of, merged, entry_of}
 use Rattle.bh_pages.proofs.Bytes.{same_number, upto_trans, upto_self, both, upto_begun, none_some, some_same, rolled_begins, rolled_again}
 use Rattle.bh_pages.proofs.Before.{less_not_equal, before_upto}
 use Rattle.bh_pages.proofs.Filters.{filter_whole, filter_same}
@@ -144,21 +144,21 @@ module _ {T : Type 0} (prefix delimiter : Octets) (key : T → Octets) where
   all_later n e p [] all ones = tt
   all_later n e p (f ∷ es) all ones = (later n e f p all.0 ones.0, all_later n e p es all.1 ones.1)
 
-  after_common : (n : Octets) (es : List (Listed T)) → Pairs Comes es → AllByRecursion (Comes (Common n)) es → joined None (filter (past_name n) es) ≡ joined (Some n) es
+  after_common : (n : Octets) (es : List (Listed T)) → Pairs Comes es → AllByRecursion (Comes (Common n)) es → merged None (filter (past_name n) es) ≡ merged (Some n) es
   after_common n [] up all = refl
   after_common n (Single x ∷ es) up all =
-      ap (λ t. joined None (cond t (Single x ∷ filter (past_name n) es) (filter (past_name n) es))) all.0
-      ∙ ap (λ l. Single x ∷ joined None l) (filter_whole (past_name n) es (all_later n (Single x) all.0 es up.0 all.1))
+      ap (λ t. merged None (cond t (Single x ∷ filter (past_name n) es) (filter (past_name n) es))) all.0
+      ∙ ap (λ l. Single x ∷ merged None l) (filter_whole (past_name n) es (all_later n (Single x) all.0 es up.0 all.1))
   after_common n (Common m ∷ es) up all = go all.0 (after_common n es up.1 all.1)
     where
-      go : Comes (Common n) (Common m) → joined None (filter (past_name n) es) ≡ joined (Some n) es → joined None (filter (past_name n) (Common m ∷ es)) ≡ joined (Some n) (Common m ∷ es)
+      go : Comes (Common n) (Common m) → merged None (filter (past_name n) es) ≡ merged (Some n) es → merged None (filter (past_name n) (Common m ∷ es)) ≡ merged (Some n) (Common m ∷ es)
       go (inl is) more =
-          ap (λ t. joined None (cond t (Common m ∷ filter (past_name n) es) (filter (past_name n) es))) (ap (is_before n) (sym is) ∙ before_self n)
-          ∙ more ∙ ap (λ t. cond t (joined (Some n) es) (Common m ∷ joined (Some m) es)) (sym (ap (same n) (sym is) ∙ ap is_eq (tied_itself nat_list_cmp_total n)))
+          ap (λ t. merged None (cond t (Common m ∷ filter (past_name n) es) (filter (past_name n) es))) (ap (is_before n) (sym is) ∙ before_self n)
+          ∙ more ∙ ap (λ t. cond t (merged (Some n) es) (Common m ∷ merged (Some m) es)) (sym (ap (same n) (sym is) ∙ ap is_eq (tied_itself nat_list_cmp_total n)))
       go (inr before) more =
-          ap (λ t. joined None (cond t (Common m ∷ filter (past_name n) es) (filter (past_name n) es))) before
-          ∙ ap (λ l. Common m ∷ joined (Some m) l) (filter_whole (past_name n) es (all_later n (Common m) before es up.0 all.1))
-          ∙ ap (λ t. cond t (joined (Some n) es) (Common m ∷ joined (Some m) es)) (sym (less_not_equal (octets_cmp n m) before))
+          ap (λ t. merged None (cond t (Common m ∷ filter (past_name n) es) (filter (past_name n) es))) before
+          ∙ ap (λ l. Common m ∷ merged (Some m) l) (filter_whole (past_name n) es (all_later n (Common m) before es up.0 all.1))
+          ∙ ap (λ t. cond t (merged (Some n) es) (Common m ∷ merged (Some m) es)) (sym (less_not_equal (octets_cmp n m) before))
 
   all_come : (R : T → T → Type 0) (x : T) (e : Listed T) (l : List T) → AllByRecursion (λ y. R x y × Comes e (entry y)) l → AllByRecursion (Comes e) (map entry l)
   all_come R x e [] all = tt
@@ -170,7 +170,7 @@ module _ {T : Type 0} (prefix delimiter : Octets) (key : T → Octets) where
 
   -- the items after one of this name
   pub after_rolled : (R : T → T → Type 0) (x : T) (n : Octets) (l : List T) → Pairs (Leads R) l → AllByRecursion (λ y. R x y × Comes (Common n) (entry y)) l
-      → joined None (filter (past_name n) (map entry l)) ≡ joined (Some n) (map entry l)
+      → merged None (filter (past_name n) (map entry l)) ≡ merged (Some n) (map entry l)
   after_rolled R x n l up all = after_common n (map entry l) (pairs_come R l up) (all_come R x (Common n) l all)
 
   -- ---- where the entries that are left pass a test
@@ -206,16 +206,16 @@ module _ {T : Type 0} (prefix delimiter : Octets) (key : T → Octets) where
     all_named n [] = tt
     all_named n (e ∷ es) = (from_name n e, all_named n es)
 
-    here : (x : T) (l : List T) → AllByRecursion (Leads R x) l → Pairs (Leads R) l → joined None (left (entry x) (x ∷ l)) ≡ joined (so_far (entry x)) (map entry l)
+    here : (x : T) (l : List T) → AllByRecursion (Leads R x) l → Pairs (Leads R) l → merged None (left (entry x) (x ∷ l)) ≡ merged (so_far (entry x)) (map entry l)
     here x l all up = go (rolled prefix delimiter (key x)) all
       where
-        go : (o : Option Octets) → AllByRecursion (λ y. R x y × Comes (as_listed x o) (entry y)) l → joined None (filter (past (as_listed x o)) (as_listed x o ∷ map entry l)) ≡ joined (so_far (as_listed x o)) (map entry l)
+        go : (o : Option Octets) → AllByRecursion (λ y. R x y × Comes (as_listed x o) (entry y)) l → merged None (filter (past (as_listed x o)) (as_listed x o ∷ map entry l)) ≡ merged (so_far (as_listed x o)) (map entry l)
         go None all =
-            ap (λ t. joined None (cond t (Single x ∷ filter (past (Single x)) (map entry l)) (filter (past (Single x)) (map entry l)))) (self x)
-            ∙ ap (joined None) (filter_whole (past (Single x)) (map entry l) (all_ahead x l all))
+            ap (λ t. merged None (cond t (Single x ∷ filter (past (Single x)) (map entry l)) (filter (past (Single x)) (map entry l)))) (self x)
+            ∙ ap (merged None) (filter_whole (past (Single x)) (map entry l) (all_ahead x l all))
         go (Some n) all =
-            ap (λ t. joined None (cond t (Common n ∷ filter (past (Common n)) (map entry l)) (filter (past (Common n)) (map entry l)))) (from_name n (Common n) ∙ before_self n)
-            ∙ ap (joined None) (filter_same (past (Common n)) (past_name n) (map entry l) (all_named n (map entry l))) ∙ after_rolled R x n l up all
+            ap (λ t. merged None (cond t (Common n ∷ filter (past (Common n)) (map entry l)) (filter (past (Common n)) (map entry l)))) (from_name n (Common n) ∙ before_self n)
+            ∙ ap (merged None) (filter_same (past (Common n)) (past_name n) (map entry l) (all_named n (map entry l))) ∙ after_rolled R x n l up all
 
     pub led_resumes : (l : List T) → Pairs (Leads R) l → Resumes entry left l
     led_resumes [] up = tt

@@ -3,7 +3,7 @@ use Rattle.std.proofs.Common.{◌≡◌, Bool, true, false, cond, List, [], ◌�
 use Rattle.std.specs.List.{filter}
 use Rattle.std.proofs.lemmas.List.Elements.{filter-append}
 use Rattle.bh_model.specs.State.{Octets, Content, Content.Marker, Content.Body, Entry}
-use Rattle.bh_model.specs.Pages.{begins, joined, entry_of, entries_after, after_name, ObjectItem, object_of, objects_in}
+use Rattle.bh_model.specs.Pages.{begins, merged, entry_of, entries_after, after_name, ObjectItem, object_of, objects_in}
 use Rattle.bh_pages.specs.Gathered.{nothing_gathered, to_come, in_front}
 use Rattle.bh_pages.specs.Seen.{Shown, item_in}
 use Rattle.bh_pages.proofs.Keyed.{shown_entry, rows_of, AreOthers, AreApart, objects_shown}
@@ -78,4 +78,4 @@ module _ (prefix : Octets) where
       ≡ entries_after prefix delimiter (λ (o : ObjectItem). o.key) (after_name (λ (o : ObjectItem). o.key) token) (objects_in keys)
   listed_as_defined delimiter token keys apart =
       ap (to_come (λ (r : Shown). r.0) item_in prefix delimiter (λ (o : ObjectItem). o.key) (after_name (λ (o : ObjectItem). o.key) token) nothing_gathered) (rows_under keys)
-      ∙ ap (λ l. joined None (filter (after_name (λ (o : ObjectItem). o.key) token) (map (entry_of prefix delimiter (λ (o : ObjectItem). o.key)) l))) (objects_shown None (filter has keys) (no_key (filter has keys)) (apart_under keys apart) ∙ sym (objects_under keys))
+      ∙ ap (λ l. merged None (filter (after_name (λ (o : ObjectItem). o.key) token) (map (entry_of prefix delimiter (λ (o : ObjectItem). o.key)) l))) (objects_shown None (filter has keys) (no_key (filter has keys)) (apart_under keys apart) ∙ sym (objects_under keys))

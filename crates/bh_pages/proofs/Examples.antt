@@ -4,13 +4,13 @@ use Rattle.bh_types.specs.declared.id.VersionId.{VersionId}
 use Rattle.bh_types.specs.declared.id.VersionId.TheVariants.{Null, Numbered}
 use Rattle.std.specs.FinMap.{empty}
 use Rattle.bh_model.specs.State.{Octets, Content.Marker, Content.Body, Entry, Part, Upload}
-use Rattle.bh_model.specs.Pages.{Asked, Paged, Listed, Listed.Single, Listed.Common, ObjectItem, VersionItem, StoredItem, UploadItem, PartItem, name_of, single_in, rolled, objects_page, objects_told, uploads_page, parts_page}
+use Rattle.bh_model.specs.Pages.{PageAsked, Paged, Listed, Listed.Single, Listed.Common, ObjectItem, VersionItem, StoredItem, UploadItem, PartItem, name_of, single_in, rolled, objects_page, objects_told, uploads_page, parts_page}
 use Rattle.bh_pages.specs.Laws.{chained, version_marked, versions_paged, upload_marked, uploads_paged, upload_entries}
 
 abbrev names : Paged (Listed ObjectItem) → List Octets × Option Octets
 names p = (map (name_of (λ o. o.key)) p.shown, option_map (name_of (λ (o : ObjectItem). o.key)) p.next)
 
-abbrev asked : (prefix delimiter : Octets) → ℕ → Asked
+abbrev asked : (prefix delimiter : Octets) → ℕ → PageAsked
 asked prefix delimiter max = record { prefix = prefix; delimiter = delimiter; max = max }
 
 abbrev object : Octets → Octets × List Entry

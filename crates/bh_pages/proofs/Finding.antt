@@ -6,7 +6,7 @@ use Rattle.std.proofs.lemmas.Grind.{common_steps}
 use Rattle.memchr.specs.Find.{IsFirst, OccursAt}
 use Rattle.memchr.proofs.lemmas.MatchLemmas.{OccursAt-part, OccursAt-from_part}
 use Rattle.bh_model.specs.State.{Octets}
-use Rattle.bh_model.specs.Pages.{begins, cut, rolled}
+use Rattle.bh_model.specs.Pages.{begins, up_to_delimiter, rolled}
 use Rattle.bh_pages.proofs.Bytes.{both, same_number}
 
 take_begins : (d h : Octets) → begins d h ≡ true → (take (length d) h ≡ d) × (length d ≤ length h)
@@ -68,7 +68,7 @@ module _ (c : ℕ) (ds : Octets) where
       go : k + length d ≤ 0 → ⊥
       go h = omega (arith, h)
 
-  pub found_cut : (hay : Octets) (r : Option ℕ) → IsFirst (OccursAt hay d) 0 (length hay + 1) r → option_map (λ k. take (k + length d) hay) r ≡ cut d hay
+  pub found_cut : (hay : Octets) (r : Option ℕ) → IsFirst (OccursAt hay d) 0 (length hay + 1) r → option_map (λ k. take (k + length d) hay) r ≡ up_to_delimiter d hay
   found_cut [] None h = refl
   found_cut [] (Some k) h = absurd (no_room k h.1)
   found_cut (b ∷ bs) r h = go (begins d (b ∷ bs)) refl r h (found_cut bs)
@@ -79,8 +79,8 @@ module _ (c : ℕ) (ds : Octets) where
       first_here e (Some (suc k)) h = absurd (h.0.before 0 (omega arith) (omega arith) (here (b ∷ bs) e))
 
       later : begins d (b ∷ bs) ≡ false → (r : Option ℕ) → IsFirst (OccursAt (b ∷ bs) d) 0 (length (b ∷ bs) + 1) r
-          → ((s : Option ℕ) → IsFirst (OccursAt bs d) 0 (length bs + 1) s → option_map (λ k. take (k + length d) bs) s ≡ cut d bs)
-          → option_map (λ k. take (k + length d) (b ∷ bs)) r ≡ option_map (λ (n : Octets). b ∷ n) (cut d bs)
+          → ((s : Option ℕ) → IsFirst (OccursAt bs d) 0 (length bs + 1) s → option_map (λ k. take (k + length d) bs) s ≡ up_to_delimiter d bs)
+          → option_map (λ k. take (k + length d) (b ∷ bs)) r ≡ option_map (λ (n : Octets). b ∷ n) (up_to_delimiter d bs)
       later e None h more = ap (option_map (λ (n : Octets). b ∷ n)) (more None (λ k low high at. h (suc k) (omega arith) (up k high) (shift_up b bs k at)))
         where
           up : (k : ℕ) → k < length bs + 1 → suc k < length (b ∷ bs) + 1
@@ -96,8 +96,8 @@ module _ (c : ℕ) (ds : Octets) where
           up j high = omega (arith, high)
 
       go : (t : Bool) → begins d (b ∷ bs) ≡ t → (r : Option ℕ) → IsFirst (OccursAt (b ∷ bs) d) 0 (length (b ∷ bs) + 1) r
-          → ((s : Option ℕ) → IsFirst (OccursAt bs d) 0 (length bs + 1) s → option_map (λ k. take (k + length d) bs) s ≡ cut d bs)
-          → option_map (λ k. take (k + length d) (b ∷ bs)) r ≡ cond t (Some d) (option_map (λ (n : Octets). b ∷ n) (cut d bs))
+          → ((s : Option ℕ) → IsFirst (OccursAt bs d) 0 (length bs + 1) s → option_map (λ k. take (k + length d) bs) s ≡ up_to_delimiter d bs)
+          → option_map (λ k. take (k + length d) (b ∷ bs)) r ≡ cond t (Some d) (option_map (λ (n : Octets). b ∷ n) (up_to_delimiter d bs))
       go true e r h more = first_here e r h
       go false e r h more = later e r h more
 

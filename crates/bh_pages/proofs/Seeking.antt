@@ -9,7 +9,7 @@ use Rattle.std.proofs.lemmas.List.{take-append-drop, length-take, take_all, appe
 use Rattle.std.proofs.Math.ListN.{drop_of_length-le}
 use Rattle.std.proofs.Math.Seq.{take-append_seam}
 use Rattle.bh_model.specs.State.{Octets, octets_cmp}
-use Rattle.bh_model.specs.Pages.{Listed, Listed.Common, begins, is_upto, is_before, is_name, joined, as_listed, rolled, last_of, entry_of}
+use Rattle.bh_model.specs.Pages.{Listed, Listed.Common, begins, is_upto, is_before, is_name, merged, as_listed, rolled, last_of, entry_of}
 use Rattle.bh_pages.specs.Gathered.{Gathered, with_entry, past_key, past_name}
 use Rattle.bh_pages.specs.Places.{Spot, Place, at_key, after_entry, past_row}
 use Rattle.bh_pages.specs.Places as places
@@ -125,15 +125,15 @@ module _ {T : Type 0} (by_number : ℕ → ℕ → Ordering) (numbers : IsTotalO
 
   -- ---- past a rolled-up name
 
-  done_skips : (p : Octets) (name : Option Octets) → IsDone p name → (l : List (Listed T)) → joined name (cond (passes (Common p)) (Common p ∷ l) l) ≡ joined name l
-  done_skips p name (inl h) l = elim (passes (Common p)) as (λ t. joined name (cond t (Common p ∷ l) l) ≡ joined name l) [ true ↦ ap (λ t. cond t (joined name l) (Common p ∷ joined (Some p) l)) h | false ↦ refl ]
-  done_skips p name (inr h) l = ap (λ t. joined name (cond t (Common p ∷ l) l)) h
+  done_skips : (p : Octets) (name : Option Octets) → IsDone p name → (l : List (Listed T)) → merged name (cond (passes (Common p)) (Common p ∷ l) l) ≡ merged name l
+  done_skips p name (inl h) l = elim (passes (Common p)) as (λ t. merged name (cond t (Common p ∷ l) l) ≡ merged name l) [ true ↦ ap (λ t. cond t (merged name l) (Common p ∷ merged (Some p) l)) h | false ↦ refl ]
+  done_skips p name (inr h) l = ap (λ t. merged name (cond t (Common p ∷ l) l)) h
 
   abbrev IsUnder : Octets → Octets → T → Type 0
   IsUnder p at x = is_upto at (item_key x) ≡ false → rolled prefix delimiter (item_key x) ≡ Some p
 
   abbrev left : Option Octets → List T → List (Listed T)
-  left name items = joined name (filter passes (map entry items))
+  left name items = merged name (filter passes (map entry items))
 
   skip_name : (p at : Octets) (name : Option Octets) → IsDone p name → (items : List T) → IsStrict items → AllByRecursion (IsUnder p at) items → left name items ≡ left name (filter (is_from (at_key at)) items)
   skip_name p at name done [] up under = refl
@@ -142,7 +142,7 @@ module _ {T : Type 0} (by_number : ℕ → ℕ → Ordering) (numbers : IsTotalO
       go : (t : Bool) → is_upto at (item_key x) ≡ t → left name items ≡ left name (filter (is_from (at_key at)) items) → left name (x ∷ items) ≡ left name (cond t (x ∷ filter (is_from (at_key at)) items) (filter (is_from (at_key at)) items))
       go true e more = ap (λ l. left name (x ∷ l)) (sym (filter_whole (is_from (at_key at)) items (all_map (λ y k. upto_trans at (item_key x) (item_key y) e (precedes_key by_number numbers item_key number (spot x) (spot y) k)) items up.0)))
       go false e more =
-          ap (λ (z : Listed T). joined name (cond (passes z) (z ∷ filter passes (map entry items)) (filter passes (map entry items)))) (ap (as_listed x) (under.0 e))
+          ap (λ (z : Listed T). merged name (cond (passes z) (z ∷ filter passes (map entry items)) (filter passes (map entry items)))) (ap (as_listed x) (under.0 e))
           ∙ done_skips p name done (filter passes (map entry items)) ∙ more
 
   module _ (items : List T) (up : IsStrict items) (fine : AllByRecursion (λ x. (begins prefix (item_key x) ≡ true) × AllByRecursion (λ b. b < 255) (item_key x)) items) where

@@ -6,7 +6,7 @@ use Rattle.std.proofs.Math.Seq.{take-append_seam}
 use Rattle.std.proofs.lemmas.Bool.Decides.{nat_tests}
 use Rattle.std.proofs.lemmas.List.Elements.{filter-append}
 use Rattle.bh_model.specs.State.{Octets}
-use Rattle.bh_model.specs.Pages.{Listed, Listed.Single, Listed.Common, is_name, is_upto, same, begins, rolled, as_listed, joined, entry_of}
+use Rattle.bh_model.specs.Pages.{Listed, Listed.Single, Listed.Common, is_name, is_upto, same, begins, rolled, as_listed, merged, entry_of}
 use Rattle.bh_pages.specs.Gathered.{InOrder, Gathered, in_front, with_entry, with_item, with_row, items_after, to_come, rows_from, with_rows, place_past, place_after, past_key, past_name}
 use Rattle.bh_pages.proofs.Bytes.{upto_trans, upto_self, not_upto, from_past_key, past_key_above, begins_between, before_past_name, rolled_begins, rolled_again, upto_past_key, same_is, upto_begun, upto_other, before_past_key}
 
@@ -19,16 +19,16 @@ module _ {R T : Type 0} (row_key : R → Octets) (item : R → Option T) (prefix
 
   -- ---- a row more
 
-  listing_step : (g : Gathered T) (e : Listed T) (l : List (Listed T)) → g.entries ++ joined g.name (e ∷ l) ≡ (with_entry g e).entries ++ joined (with_entry g e).name l
-  listing_step g (Single x) l = sym (append_assoc g.entries (Single x ∷ []) (joined None l))
-  listing_step g (Common name) l = elim (is_name name g.name) as (λ t. g.entries ++ cond t (joined g.name l) (Common name ∷ joined (Some name) l)
-      ≡ (cond t g (record g { name = Some name; entries = g.entries ++ Common name ∷ [] })).entries ++ joined (cond t g (record g { name = Some name; entries = g.entries ++ Common name ∷ [] })).name l) [
+  listing_step : (g : Gathered T) (e : Listed T) (l : List (Listed T)) → g.entries ++ merged g.name (e ∷ l) ≡ (with_entry g e).entries ++ merged (with_entry g e).name l
+  listing_step g (Single x) l = sym (append_assoc g.entries (Single x ∷ []) (merged None l))
+  listing_step g (Common name) l = elim (is_name name g.name) as (λ t. g.entries ++ cond t (merged g.name l) (Common name ∷ merged (Some name) l)
+      ≡ (cond t g (record g { name = Some name; entries = g.entries ++ Common name ∷ [] })).entries ++ merged (cond t g (record g { name = Some name; entries = g.entries ++ Common name ∷ [] })).name l) [
         | true ↦ refl
-        | false ↦ sym (append_assoc g.entries (Common name ∷ []) (joined (Some name) l))
+        | false ↦ sym (append_assoc g.entries (Common name ∷ []) (merged (Some name) l))
       ]
 
-  pub entry_step : (g : Gathered T) (e : Listed T) (l : List (Listed T)) → g.entries ++ joined g.name (cond (passes e) (e ∷ l) l) ≡ (cond (passes e) (with_entry g e) g).entries ++ joined (cond (passes e) (with_entry g e) g).name l
-  entry_step g e l = elim (passes e) as (λ t. g.entries ++ joined g.name (cond t (e ∷ l) l) ≡ (cond t (with_entry g e) g).entries ++ joined (cond t (with_entry g e) g).name l) [
+  pub entry_step : (g : Gathered T) (e : Listed T) (l : List (Listed T)) → g.entries ++ merged g.name (cond (passes e) (e ∷ l) l) ≡ (cond (passes e) (with_entry g e) g).entries ++ merged (cond (passes e) (with_entry g e) g).name l
+  entry_step g e l = elim (passes e) as (λ t. g.entries ++ merged g.name (cond t (e ∷ l) l) ≡ (cond t (with_entry g e) g).entries ++ merged (cond t (with_entry g e) g).name l) [
     | true ↦ listing_step g e l
     | false ↦ refl
   ]
@@ -45,7 +45,7 @@ module _ {R T : Type 0} (row_key : R → Octets) (item : R → Option T) (prefix
   item_kept g None = refl
   item_kept g (Some x) = elim (passes (entry x)) as (λ t. (cond t (with_entry g (entry x)) g).key ≡ g.key) [ true ↦ key_kept g (entry x) | false ↦ refl ]
 
-  item_step : (g : Gathered T) (o : Option T) (items : List T) → g.entries ++ joined g.name (filter passes (map entry (in_front o items))) ≡ (next g o).entries ++ joined (next g o).name (filter passes (map entry items))
+  item_step : (g : Gathered T) (o : Option T) (items : List T) → g.entries ++ merged g.name (filter passes (map entry (in_front o items))) ≡ (next g o).entries ++ merged (next g o).name (filter passes (map entry items))
   item_step g None items = refl
   item_step g (Some x) items = entry_step g (entry x) (filter passes (map entry items))
 
@@ -55,13 +55,13 @@ module _ {R T : Type 0} (row_key : R → Octets) (item : R → Option T) (prefix
   -- what is gathered and what is to come stay the same
   pub row_step : (g : Gathered T) (r : R) (rows : List R) → g.entries ++ come g (r ∷ rows) ≡ (turn g r).entries ++ come (turn g r) rows
   row_step g r rows =
-      elim (is_name (row_key r) g.key) as (λ t. g.entries ++ joined g.name (filter passes (map entry (cond t (items_after row_key item g.key rows) (in_front (item r) (items_after row_key item (Some (row_key r)) rows)))))
+      elim (is_name (row_key r) g.key) as (λ t. g.entries ++ merged g.name (filter passes (map entry (cond t (items_after row_key item g.key rows) (in_front (item r) (items_after row_key item (Some (row_key r)) rows)))))
       ≡ (cond t g (next (record g { key = Some (row_key r) }) (item r))).entries ++ come (cond t g (next (record g { key = Some (row_key r) }) (item r))) rows) [
         | true ↦ refl
         | false ↦
             let h : Gathered T = record g { key = Some (row_key r) } in
             item_step h (item r) (items_after row_key item (Some (row_key r)) rows)
-            ∙ ap (λ k. (next h (item r)).entries ++ joined (next h (item r)).name (filter passes (map entry (items_after row_key item k rows)))) (sym (item_kept h (item r)))
+            ∙ ap (λ k. (next h (item r)).entries ++ merged (next h (item r)).name (filter passes (map entry (items_after row_key item k rows)))) (sym (item_kept h (item r)))
       ]
 
   -- ---- rows that are left out
@@ -97,13 +97,13 @@ module _ {R T : Type 0} (row_key : R → Octets) (item : R → Option T) (prefix
 
   -- the entry adds nothing, where this rolled-up name was listed last
   abbrev pub Skips : Option Octets → Listed T → Type 0
-  Skips name e = (l : List (Listed T)) → joined name (cond (passes e) (e ∷ l) l) ≡ joined name l
+  Skips name e = (l : List (Listed T)) → merged name (cond (passes e) (e ∷ l) l) ≡ merged name l
 
   pub not_passed : (name : Option Octets) (e : Listed T) → passes e ≡ false → Skips name e
-  not_passed name e h l = ap (λ t. joined name (cond t (e ∷ l) l)) h
+  not_passed name e h l = ap (λ t. merged name (cond t (e ∷ l) l)) h
 
   pub listed_already : (name : Option Octets) (n : Octets) → is_name n name ≡ true → Skips name (Common n)
-  listed_already name n h l = elim (passes (Common n)) as (λ t. joined name (cond t (Common n ∷ l) l) ≡ joined name l) [ true ↦ ap (λ t. cond t (joined name l) (Common n ∷ joined (Some n) l)) h | false ↦ refl ]
+  listed_already name n h l = elim (passes (Common n)) as (λ t. merged name (cond t (Common n ∷ l) l) ≡ merged name l) [ true ↦ ap (λ t. cond t (merged name l) (Common n ∷ merged (Some n) l)) h | false ↦ refl ]
 
   -- the key before this text
   abbrev pub IsBelow : Octets → Option Octets → Type 0
@@ -119,7 +119,7 @@ module _ {R T : Type 0} (row_key : R → Octets) (item : R → Option T) (prefix
   other_key at (Some j) k below h = elim (same j k) as (λ t. same j k ≡ t → t ≡ false) [ true ↦ λ e. absurd (true≢false (sym h ∙ subst (λ z. is_upto at z ≡ false) (same_is j k e) below)) | false ↦ λ _. refl ] refl
 
   abbrev left : Option Octets → List T → List (Listed T)
-  left name items = joined name (filter passes (map entry items))
+  left name items = merged name (filter passes (map entry items))
 
   pub rows_skipped : (at : Octets) (name : Option Octets) (rows : List R) (k0 k1 : Option Octets) → IsBelow at k0 → IsBelow at k1 → InOrder row_key rows → AreIdle at name rows
       → left name (items_after row_key item k0 rows) ≡ left name (items_after row_key item k1 (from at rows))

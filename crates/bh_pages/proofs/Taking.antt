@@ -3,12 +3,12 @@ use Rattle.std.proofs.Common.{◌≡◌, ℕ, zero, suc, ◌<◌, ◌≤◌, Boo
 use Rattle.std.proofs.lemmas.List.{length-map}
 use Rattle.std.specs.List.{AllByRecursion}
 use Rattle.bh_model.specs.State.{Octets}
-use Rattle.bh_model.specs.Pages.{Listed, begins, is_name, is_upto, after_name, joined, entry_of, ObjectItem}
+use Rattle.bh_model.specs.Pages.{Listed, begins, is_name, is_upto, after_name, merged, entry_of, ObjectItem}
 use Rattle.bh_pages.specs.Gathered.{IsKeyUnder, IsBeginning, Gathered, rows_from, start_of, nothing_gathered, items_after, in_front}
 use Rattle.bh_pages.specs.Seen.{Shown, seen, seen_entry, seen_line, item_in, token_of, rows_added, still_to_come, read_on}
 use Rattle.bh_pages.specs.Reading.{AreRows, listing, rows_left, IsUnderway, AreNext}
 use Rattle.bh_pages.specs.declared.reading.Reading.{Reading}
-use Rattle.bh_pages.specs.declared.gathering.Asked.{Asked}
+use Rattle.bh_pages.specs.declared.gathering.PageAsked.{PageAsked}
 use Rattle.bh_pages.specs.declared.gathering.Line.{Line}
 use Rattle.bh_pages.specs.declared.gathering.Gathering.{Gathering}
 use Rattle.bh_pages.proofs.Bytes.{some_same, none_some}
@@ -52,19 +52,19 @@ module _ (prefix : Octets) where
       front None begun items all = all
       front (Some x) begun items all = (begun x refl, all)
 
-pub begun_low : (asked : Asked) (from : Octets) → from ≡ start_of asked.prefix.now (token_of asked) → is_upto asked.prefix.now from ≡ true
+pub begun_low : (asked : PageAsked) (from : Octets) → from ≡ start_of asked.prefix.now (token_of asked) → is_upto asked.prefix.now from ≡ true
 begun_low asked from at = ap (is_upto asked.prefix.now) at ∙ start_low asked.prefix.now (token_of asked)
 
-pub none_shown : (asked : Asked) (g : Gathering) → seen g ≡ nothing_gathered → length (map seen_entry g.entries.items) ≤ asked.max
+pub none_shown : (asked : PageAsked) (g : Gathering) → seen g ≡ nothing_gathered → length (map seen_entry g.entries.items) ≤ asked.max
 none_shown asked g is = subst (λ (l : List (Listed ObjectItem)). length l ≤ asked.max) (sym (ap (λ (h : Gathered ObjectItem). h.entries) is)) (omega arith)
 
-module _ (asked : Asked) (rows : List Shown) (are : AreRows asked.prefix.now rows) where
+module _ (asked : PageAsked) (rows : List Shown) (are : AreRows asked.prefix.now rows) where
   abbrev passes : Listed ObjectItem → Bool
   passes = after_name (λ (o : ObjectItem). o.key) (token_of asked)
 
   -- what is to come of all rows is the listing
   pub all_to_come : still_to_come asked nothing_gathered rows ≡ listing asked rows
-  all_to_come = ap (λ l. joined None (filter passes (map (entry_of asked.prefix.now asked.delimiter.now (λ (o : ObjectItem). o.key)) l)))
+  all_to_come = ap (λ l. merged None (filter passes (map (entry_of asked.prefix.now asked.delimiter.now (λ (o : ObjectItem). o.key)) l)))
       (sym (filter_whole (λ (o : ObjectItem). begins asked.prefix.now o.key) (items_after row_key item_in None rows) (items_under asked.prefix.now None rows (begun_rows asked.prefix.now rows are.under))))
 
   pub begun : (g : Gathering) → seen g ≡ nothing_gathered → (from : Octets) → from ≡ start_of asked.prefix.now (token_of asked)

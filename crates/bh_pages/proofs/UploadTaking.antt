@@ -10,7 +10,7 @@ use Rattle.bh_pages.specs.Seen.{token_of}
 use Rattle.bh_pages.specs.Places.{Place, IsUnder, at_key, past_row, past_few}
 use Rattle.bh_pages.specs.Versions.{seen_place}
 use Rattle.bh_pages.specs.Uploads.{upload_key, upload_number, is_from, is_behind, passes_name, uploads_added, uploads_to_come, seen, seen_line, seen_entry, rows_at, AreUnder, PastLast, GoesOn, AreRows, IsUnderway, AreNext}
-use Rattle.bh_pages.specs.declared.gathering.Asked.{Asked}
+use Rattle.bh_pages.specs.declared.gathering.PageAsked.{PageAsked}
 use Rattle.bh_pages.specs.declared.uploads.UploadLine.{UploadLine}
 use Rattle.bh_pages.specs.declared.uploads.UploadGathering.{UploadGathering}
 use Rattle.bh_pages.specs.declared.uploads.UploadReading.{UploadReading}
@@ -20,7 +20,7 @@ use Rattle.bh_pages.proofs.Filters.{filter_all, last_all}
 use Rattle.bh_pages.proofs.VersionTaking.{past_nat, last_map}
 use Rattle.bh_pages.proofs.Seeking.{chunk_full, chunk_ends, chunk_past, chunk_on}
 
-module _ (asked : Asked) (rows : List UploadItem) (listing : List (Listed UploadItem)) (are : AreRows asked.prefix.now rows)
+module _ (asked : PageAsked) (rows : List UploadItem) (listing : List (Listed UploadItem)) (are : AreRows asked.prefix.now rows)
     (old : UploadReading) (was : IsUnderway asked rows listing old) (lines : List UploadLine) (next : AreNext rows old lines) where
   abbrev IsFine : UploadItem → Type 0
   IsFine r = IsKeyUnder asked.prefix.now r.key

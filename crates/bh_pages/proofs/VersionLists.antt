@@ -10,7 +10,7 @@ use Rattle.bh_types.specs.declared.wanted.Wanted.{Wanted}
 use Rattle.bh_types.specs.declared.wanted.Wanted.TheVariants.{Current, Named, Unknown}
 use Rattle.bh_model.specs.State.{Octets, octets_cmp, Entry}
 use Rattle.bh_model.specs.Entries.{same_id}
-use Rattle.bh_model.specs.Pages.{Listed, VersionItem, VersionPlace, begins, is_upto, is_before, is_name, same, joined, after_id, after_version, versions_after, version_item, all_versions, passes_version, entries_after, key_of}
+use Rattle.bh_model.specs.Pages.{Listed, VersionItem, VersionPlace, begins, is_upto, is_before, is_name, same, merged, after_id, after_version, versions_after, version_item, all_versions, passes_version, entries_after, key_of}
 use Rattle.bh_pages.specs.Gathered.{past_key, start_of}
 use Rattle.bh_pages.specs.Versions.{Numbered, row_key, spot, is_from, is_older, at_key, after_entry, version_after, items_next, nothing_after, version_entry, versions_to_come, IsStrict}
 use Rattle.bh_pages.proofs.Bytes.{upto_begun, same_is}
@@ -237,7 +237,7 @@ module _ (prefix delimiter : Octets) (all_rows : List Numbered) (up : IsStrict a
   listing marker = entries_after prefix delimiter (λ (v : VersionItem). v.key) (passes_version (key_of marker)) (versions_after marker (items_next None all_rows))
 
   abbrev left : Option VersionPlace → List VersionItem → List (Listed VersionItem)
-  left marker items = joined None (filter (passes_version (key_of marker)) (map (version_entry prefix delimiter (key_of marker)) items))
+  left marker items = merged None (filter (passes_version (key_of marker)) (map (version_entry prefix delimiter (key_of marker)) items))
 
   listing_is : (marker : Option VersionPlace) → listing marker ≡ left marker (versions_after marker (items_next None under))
   listing_is marker = ap (left marker) (after_through (begins prefix) marker (items_next None all_rows) ∙ ap (versions_after marker) (keys_through (begins prefix) all_rows up))

@@ -8,7 +8,7 @@ use Rattle.std.proofs.lemmas.List.{take-append-drop, length-take, take_all, appe
 use Rattle.std.proofs.Math.ListN.{drop_of_length-le}
 use Rattle.std.proofs.Math.Seq.{take-append_seam}
 use Rattle.bh_model.specs.State.{Octets, octets_cmp}
-use Rattle.bh_model.specs.Pages.{Listed, Listed.Common, VersionItem, begins, is_upto, is_before, is_name, same, joined, as_listed, rolled, last_of, passes_version}
+use Rattle.bh_model.specs.Pages.{Listed, Listed.Common, VersionItem, begins, is_upto, is_before, is_name, same, merged, as_listed, rolled, last_of, passes_version}
 use Rattle.bh_pages.specs.Gathered.{Gathered, with_entry, past_key, past_name}
 use Rattle.bh_pages.specs.Versions as spec
 use Rattle.bh_pages.specs.Versions.{Numbered, row_key, spot, Place, IsStrict, is_from, is_older, at_key, after_entry, past_row, version_after, items_next, version_entry, with_passing, with_version, with_versions, versions_to_come}
@@ -68,7 +68,7 @@ module _ (prefix delimiter : Octets) (marker : Option Octets) where
   entry = version_entry prefix delimiter marker
 
   abbrev left : Option Octets → List VersionItem → List (Listed VersionItem)
-  left name items = joined name (filter passes (map entry items))
+  left name items = merged name (filter passes (map entry items))
 
   abbrev none_of : Numbered → Option VersionItem
   none_of r = None
@@ -158,9 +158,9 @@ module _ (prefix delimiter : Octets) (marker : Option Octets) where
 
   -- ---- past a rolled-up name
 
-  done_skips : (p : Octets) (name : Option Octets) → IsDone p name → (l : List (Listed VersionItem)) → joined name (cond (passes (Common p)) (Common p ∷ l) l) ≡ joined name l
-  done_skips p name (inl h) l = elim (passes (Common p)) as (λ t. joined name (cond t (Common p ∷ l) l) ≡ joined name l) [ true ↦ ap (λ t. cond t (joined name l) (Common p ∷ joined (Some p) l)) h | false ↦ refl ]
-  done_skips p name (inr h) l = ap (λ t. joined name (cond t (Common p ∷ l) l)) h
+  done_skips : (p : Octets) (name : Option Octets) → IsDone p name → (l : List (Listed VersionItem)) → merged name (cond (passes (Common p)) (Common p ∷ l) l) ≡ merged name l
+  done_skips p name (inl h) l = elim (passes (Common p)) as (λ t. merged name (cond t (Common p ∷ l) l) ≡ merged name l) [ true ↦ ap (λ t. cond t (merged name l) (Common p ∷ merged (Some p) l)) h | false ↦ refl ]
+  done_skips p name (inr h) l = ap (λ t. merged name (cond t (Common p ∷ l) l)) h
 
   abbrev IsUnder : Octets → Octets → Numbered → Type 0
   IsUnder p at r = is_upto at (row_key r) ≡ false → rolled prefix delimiter (row_key r) ≡ Some p
@@ -179,7 +179,7 @@ module _ (prefix delimiter : Octets) (marker : Option Octets) where
           ap (λ x. left name (x ∷ items_next (Some (row_key r)) rows)) (first k0 b0 e ∙ sym (first k1 b1 e))
           ∙ ap (λ l. left name (version_after k1 r ∷ items_next (Some (row_key r)) l)) (sym (filter_whole (is_from (at_key at)) rows (all_map (λ x k. upto_trans at (row_key r) (row_key x) e (precedes_key (spot r) (spot x) k)) rows up.0)))
       go false e more =
-          ap (λ (z : Listed VersionItem). joined name (cond (passes z) (z ∷ filter passes (map entry (items_next (Some (row_key r)) rows))) (filter passes (map entry (items_next (Some (row_key r)) rows))))) (ap (as_listed (version_after k0 r)) (under.0 e))
+          ap (λ (z : Listed VersionItem). merged name (cond (passes z) (z ∷ filter passes (map entry (items_next (Some (row_key r)) rows))) (filter passes (map entry (items_next (Some (row_key r)) rows))))) (ap (as_listed (version_after k0 r)) (under.0 e))
           ∙ done_skips p name done (filter passes (map entry (items_next (Some (row_key r)) rows))) ∙ more e
 
   module _ (rows : List Numbered) (up : IsStrict rows) (fine : AllByRecursion (λ r. (begins prefix (row_key r) ≡ true) × AllByRecursion (λ b. b < 255) (row_key r)) rows) where

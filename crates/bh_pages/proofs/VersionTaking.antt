@@ -8,7 +8,7 @@ use Rattle.bh_model.specs.Pages.{Listed, VersionItem, begins, is_upto, last_of, 
 use Rattle.bh_pages.specs.Gathered.{IsKeyUnder, IsBeginning, Gathered, past_name, past_key}
 use Rattle.bh_pages.specs.Seen.{token_of}
 use Rattle.bh_pages.specs.Versions.{Numbered, row_key, Place, IsUnder, is_from, is_older, at_key, past_row, past_few, versions_to_come, seen, seen_line, seen_entry, seen_place, rows_added, rows_at, AreUnder, PastLast, GoesOn, AreRows, IsUnderway, AreNext}
-use Rattle.bh_pages.specs.declared.gathering.Asked.{Asked}
+use Rattle.bh_pages.specs.declared.gathering.PageAsked.{PageAsked}
 use Rattle.bh_pages.specs.declared.versions.VersionLine.{VersionLine}
 use Rattle.bh_pages.specs.declared.versions.VersionGathering.{VersionGathering}
 use Rattle.bh_pages.specs.declared.versions.VersionReading.{VersionReading}
@@ -25,7 +25,7 @@ last_map f [] x h = absurd (none_some h)
 last_map f (y ∷ []) x h = ap (λ z. Some (f z)) (some_same h)
 last_map f (y ∷ z ∷ l) x h = last_map f (z ∷ l) x h
 
-module _ (asked : Asked) (rows : List Numbered) (listing : List (Listed VersionItem)) (are : AreRows asked.prefix.now rows)
+module _ (asked : PageAsked) (rows : List Numbered) (listing : List (Listed VersionItem)) (are : AreRows asked.prefix.now rows)
     (old : VersionReading) (was : IsUnderway asked rows listing old) (lines : List VersionLine) (next : AreNext rows old lines) where
   abbrev IsFine : Numbered → Type 0
   IsFine r = IsKeyUnder asked.prefix.now (row_key r)

@@ -3,7 +3,7 @@
 use Rattle.std.specs.Prelude.{◌≡◌, ℕ, suc, ◌<◌, ◌≤◌, nat_lt, Bool, true, not, ◌||◌, List, [], ◌∷◌, ◌++◌, length, map, take, Option, Some, None, if◌then◌else◌}
 use Rattle.std.specs.List.{filter, AllByRecursion}
 use Rattle.bh_model.specs.State.{Octets}
-use Rattle.bh_model.specs.Pages.{Listed, Listed.Single, Listed.Common, is_name, is_upto, begins, joined, entry_of, rolled}
+use Rattle.bh_model.specs.Pages.{Listed, Listed.Single, Listed.Common, is_name, is_upto, begins, merged, entry_of, rolled}
 
 -- the least text after a text, and a text after all that begin with it and have no byte of 255 there
 abbrev pub past_key : Octets → Octets
@@ -82,7 +82,7 @@ module _ {T : Type 0} where
 
       -- the entries that are still to come of these rows
       abbrev pub to_come : Gathered T → List R → List (Listed T)
-      to_come g rows = joined g.name (filter passes (map (entry_of prefix delimiter item_key) (items_after g.key rows)))
+      to_come g rows = merged g.name (filter passes (map (entry_of prefix delimiter item_key) (items_after g.key rows)))
 
       -- rows more, until there are more entries than the page takes
       abbrev pub with_rows : ℕ → Gathered T → List R → Gathered T

@@ -7,7 +7,7 @@ use Rattle.std.specs.Ordering.{nat_cmp}
 use Rattle.bh_types.specs.declared.wanted.Wanted.TheVariants.{Current, Named}
 use Rattle.bh_model.specs.State.{Octets, octets_cmp, Entry, Part, Upload, Bucket, State}
 use Rattle.bh_model.specs.Ids.{IsNumbered}
-use Rattle.bh_model.specs.Pages.{Asked, Listed, Paged, name_of, entries_after, ObjectItem, after_name, objects_in, objects_page, VersionItem, VersionPlace, VersionNext, all_versions, passes_version, versions_page, version_next, UploadItem, UploadPlace, UploadNext, all_uploads, passes_upload, uploads_page, upload_next, PartItem, parts_after, parts_page}
+use Rattle.bh_model.specs.Pages.{PageAsked, Listed, Paged, name_of, entries_after, ObjectItem, after_name, objects_in, objects_page, VersionItem, VersionPlace, VersionNext, all_versions, passes_version, versions_page, version_next, UploadItem, UploadPlace, UploadNext, all_uploads, passes_upload, uploads_page, upload_next, PartItem, parts_after, parts_page}
 use Rattle.bh_pages.specs.Uploads.{upload_key}
 
 abbrev pub total : List ℕ → ℕ
@@ -21,7 +21,7 @@ chained marked page [] marker = []
 chained marked page (m ∷ sizes) marker =
     (page m marker).shown ++ option_map_or (λ e. chained marked page sizes (marked e)) (page m marker).next []
 
-abbrev pub asked : Octets → Octets → ℕ → Asked
+abbrev pub asked : Octets → Octets → ℕ → PageAsked
 asked prefix delimiter m = record { prefix = prefix; delimiter = delimiter; max = m }
 
 -- ---- objects

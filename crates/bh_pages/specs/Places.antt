@@ -4,7 +4,7 @@ use Rattle.std.specs.List.{filter, AllByRecursion}
 use Rattle.std.specs.Ordering.{is_lt, ordering_then}
 use Rattle.std.specs.declared.cmp.Ordering.{Ordering}
 use Rattle.bh_model.specs.State.{Octets, octets_cmp}
-use Rattle.bh_model.specs.Pages.{Listed, begins, is_upto, same, joined, entry_of}
+use Rattle.bh_model.specs.Pages.{Listed, begins, is_upto, same, merged, entry_of}
 use Rattle.bh_pages.specs.Gathered.{Gathered, with_entry, past_key, past_name}
 
 -- a key and a number of it
@@ -85,4 +85,4 @@ module _ {T : Type 0} (item_key : T → Octets) (prefix delimiter : Octets) (pas
 
   -- the entries that are still to come of these items
   abbrev pub left_of : Gathered T → List T → List (Listed T)
-  left_of g items = joined g.name (filter passes (map (entry_of prefix delimiter item_key) items))
+  left_of g items = merged g.name (filter passes (map (entry_of prefix delimiter item_key) items))

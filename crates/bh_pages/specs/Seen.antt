@@ -7,7 +7,7 @@ use Rattle.bh_pages.specs.declared.gathering.Line.{Line}
 use Rattle.bh_pages.specs.declared.gathering.ObjectLine.{ObjectLine}
 use Rattle.bh_pages.specs.declared.gathering.Listed as program
 use Rattle.bh_pages.specs.declared.gathering.Gathering.{Gathering}
-use Rattle.bh_pages.specs.declared.gathering.Asked.{Asked}
+use Rattle.bh_pages.specs.declared.gathering.PageAsked.{PageAsked}
 
 -- a row: its key, and the object, if it is no delete marker
 abbrev pub Shown : Type 0
@@ -38,25 +38,25 @@ abbrev pub seen : Gathering → Gathered ObjectItem
 seen g = record { key = option_map (λ k. k.items) g.key; name = option_map (λ n. n.items) g.name; entries = map seen_entry g.entries.items }
 
 -- the lists of a listing of objects
-abbrev pub token_of : Asked → Option Octets
+abbrev pub token_of : PageAsked → Option Octets
 token_of asked = option_map (λ b. b.now) asked.after
 
-abbrev pub item_added : Asked → Gathered ObjectItem → Option ObjectItem → Gathered ObjectItem
+abbrev pub item_added : PageAsked → Gathered ObjectItem → Option ObjectItem → Gathered ObjectItem
 item_added asked = with_item (λ (r : Shown). r.0) item_in asked.prefix.now asked.delimiter.now (λ o. o.key)
     (after_name (λ (o : ObjectItem). o.key) (token_of asked))
 
-abbrev pub row_added : Asked → Gathered ObjectItem → Shown → Gathered ObjectItem
+abbrev pub row_added : PageAsked → Gathered ObjectItem → Shown → Gathered ObjectItem
 row_added asked = with_row (λ (r : Shown). r.0) item_in asked.prefix.now asked.delimiter.now (λ o. o.key)
     (after_name (λ (o : ObjectItem). o.key) (token_of asked))
 
-abbrev pub rows_added : Asked → Gathered ObjectItem → List Shown → Gathered ObjectItem
+abbrev pub rows_added : PageAsked → Gathered ObjectItem → List Shown → Gathered ObjectItem
 rows_added asked = with_rows (λ (r : Shown). r.0) item_in asked.prefix.now asked.delimiter.now (λ o. o.key)
     (after_name (λ (o : ObjectItem). o.key) (token_of asked)) asked.max
 
-abbrev pub still_to_come : Asked → Gathered ObjectItem → List Shown → List (Listed ObjectItem)
+abbrev pub still_to_come : PageAsked → Gathered ObjectItem → List Shown → List (Listed ObjectItem)
 still_to_come asked = to_come (λ (r : Shown). r.0) item_in asked.prefix.now asked.delimiter.now (λ o. o.key)
     (after_name (λ (o : ObjectItem). o.key) (token_of asked))
 
-abbrev pub read_on : Asked → Gathered ObjectItem → Octets → Octets
+abbrev pub read_on : PageAsked → Gathered ObjectItem → Octets → Octets
 read_on asked = place_after (λ (r : Shown). r.0) item_in asked.prefix.now asked.delimiter.now (λ o. o.key)
     (after_name (λ (o : ObjectItem). o.key) (token_of asked))

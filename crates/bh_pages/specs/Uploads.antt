@@ -9,7 +9,7 @@ use Rattle.bh_pages.specs.Seen.{token_of}
 use Rattle.bh_pages.specs.Places as places
 use Rattle.bh_pages.specs.Places.{Place, IsUnder, past_row, past_few}
 use Rattle.bh_pages.specs.Versions.{seen_place}
-use Rattle.bh_pages.specs.declared.gathering.Asked.{Asked}
+use Rattle.bh_pages.specs.declared.gathering.PageAsked.{PageAsked}
 use Rattle.bh_pages.specs.declared.uploads.UploadLine.{UploadLine}
 use Rattle.bh_pages.specs.declared.uploads.ListedUpload as listed
 use Rattle.bh_pages.specs.declared.uploads.UploadGathering.{UploadGathering}
@@ -39,7 +39,7 @@ passes_name (Some marker) (Common name) = is_before marker name
 
 -- ---- what is gathered
 
-module _ (asked : Asked) where
+module _ (asked : PageAsked) where
   abbrev pub upload_added : Gathered UploadItem → UploadItem → Gathered UploadItem
   upload_added = places.with_next upload_key asked.prefix.now asked.delimiter.now (passes_name (token_of asked))
 
@@ -66,17 +66,17 @@ nothing = record { key = None; name = None; entries = [] }
 
 -- ---- how far reading has come
 
-abbrev pub AreUnder : Asked → List UploadLine → Type 0
+abbrev pub AreUnder : PageAsked → List UploadLine → Type 0
 AreUnder asked lines = AllByRecursion (λ l. begins asked.prefix.now l.key.items ≡ true) lines
 
 -- past the last of these rows
-pub record PastLast (asked : Asked) (lines : List UploadLine) (place : Place) : Type 0 where
+pub record PastLast (asked : PageAsked) (lines : List UploadLine) (place : Place) : Type 0 where
   pub row : UploadLine
   pub last : last_of lines ≡ Some row
   pub is : begins asked.prefix.now row.key.items ≡ true → place ≡ past_row row.key.items row.number (rolled asked.prefix.now asked.delimiter.now row.key.items)
 
 -- where reading goes on after these rows, if any can be left
-pub record GoesOn (asked : Asked) (old : Place) (lines : List UploadLine) (count : ℕ) (new : Option Place) : Type 0 where
+pub record GoesOn (asked : PageAsked) (old : Place) (lines : List UploadLine) (count : ℕ) (new : Option Place) : Type 0 where
   pub few : nat_lt (length lines) count ≡ true → new ≡ past_few old
   pub on : nat_lt (length lines) count ≡ false → IfSome new (PastLast asked lines) × (is_none new ≡ false)
 
@@ -86,13 +86,13 @@ pub record AreRows (prefix : Octets) (rows : List UploadItem) : Type 0 where
   pub under : AllByRecursion (λ (u : UploadItem). IsKeyUnder prefix u.key) rows
 
 -- the page has some entries of a listing, and what the uploads from its place on still show makes up the listing
-pub record IsUnderway (asked : Asked) (rows : List UploadItem) (listing : List (Listed UploadItem)) (reading : UploadReading) : Type 0 where
+pub record IsUnderway (asked : PageAsked) (rows : List UploadItem) (listing : List (Listed UploadItem)) (reading : UploadReading) : Type 0 where
   pub low : IsUnder asked.prefix.now reading.place.key.items reading.place.after
   pub part : IsBeginning asked.max (map seen_entry reading.gathering.entries.items)
       (uploads_to_come asked (seen reading.gathering) (filter (is_from (seen_place reading.place)) rows)) listing
 
 -- whether reading has ended
-abbrev pub Stands : Bool → Asked → List UploadItem → List (Listed UploadItem) → UploadReading → Type 0
+abbrev pub Stands : Bool → PageAsked → List UploadItem → List (Listed UploadItem) → UploadReading → Type 0
 Stands true asked rows listing reading = IsPage asked.max (map seen_entry reading.gathering.entries.items) listing
 Stands false asked rows listing reading = IsUnderway asked rows listing reading
 
@@ -105,6 +105,6 @@ abbrev pub AreNext : List UploadItem → UploadReading → List UploadLine → T
 AreNext rows reading lines = map seen_line lines ≡ take reading.count (rows_at reading.place.key.items reading.place.after rows)
 
 -- after the next uploads the page is read, if reading has ended, and else still underway
-abbrev pub TookUploads : Asked → UploadReading → List UploadLine → UploadReading → Bool → Type 0
+abbrev pub TookUploads : PageAsked → UploadReading → List UploadLine → UploadReading → Bool → Type 0
 TookUploads asked old lines new ended = (rows : List UploadItem) (listing : List (Listed UploadItem))
     → AreRows asked.prefix.now rows → IsUnderway asked rows listing old → AreNext rows old lines → Stands ended asked rows listing new

@@ -6,12 +6,12 @@ use Rattle.std.specs.declared.cmp.Ordering.{Ordering}
 use Rattle.bh_types.specs.declared.id.VersionId.{VersionId}
 use Rattle.bh_types.specs.declared.id.VersionId.TheVariants.{Null, Numbered as Given}
 use Rattle.bh_model.specs.State.{Octets}
-use Rattle.bh_model.specs.Pages.{Listed, Listed.Single, Listed.Common, begins, is_name, same, joined, entry_of, rolled, last_of, StoredItem, VersionItem, passes_version}
+use Rattle.bh_model.specs.Pages.{Listed, Listed.Single, Listed.Common, begins, is_name, same, merged, entry_of, rolled, last_of, StoredItem, VersionItem, passes_version}
 use Rattle.bh_pages.specs.Gathered.{IsKeyUnder, IsBeginning, IsPage, Gathered, with_entry}
 use Rattle.bh_pages.specs.Places as places
 pub use Rattle.bh_pages.specs.Places.{Spot, Place, IsUnder, at_key, after_entry, past_row, past_few}
 use Rattle.bh_pages.specs.Seen.{token_of}
-use Rattle.bh_pages.specs.declared.gathering.Asked.{Asked}
+use Rattle.bh_pages.specs.declared.gathering.PageAsked.{PageAsked}
 use Rattle.bh_pages.specs.declared.versions.Place as program
 use Rattle.bh_pages.specs.declared.versions.VersionLine.{VersionLine}
 use Rattle.bh_pages.specs.declared.versions.ShownVersion.{ShownVersion}
@@ -80,7 +80,7 @@ module _ (prefix delimiter : Octets) (marker : Option Octets) where
 
   -- the entries that are still to come of these rows
   abbrev pub versions_to_come : Gathered VersionItem → List Numbered → List (Listed VersionItem)
-  versions_to_come g rows = joined g.name (filter (passes_version marker) (map version_entry (items_next g.key rows)))
+  versions_to_come g rows = merged g.name (filter (passes_version marker) (map version_entry (items_next g.key rows)))
 
 -- ---- what the program's values show
 
@@ -111,28 +111,28 @@ seen g = record { key = option_map (λ k. k.items) g.key; name = option_map (λ 
 abbrev pub seen_place : program.Place → Place
 seen_place p = record { key = p.key.items; after = p.after }
 
-abbrev pub row_added : Asked → Gathered VersionItem → Numbered → Gathered VersionItem
+abbrev pub row_added : PageAsked → Gathered VersionItem → Numbered → Gathered VersionItem
 row_added asked = with_version asked.prefix.now asked.delimiter.now (token_of asked)
 
-abbrev pub rows_added : Asked → Gathered VersionItem → List Numbered → Gathered VersionItem
+abbrev pub rows_added : PageAsked → Gathered VersionItem → List Numbered → Gathered VersionItem
 rows_added asked = with_versions asked.prefix.now asked.delimiter.now (token_of asked) asked.max
 
-abbrev pub entry_added : Asked → Gathered VersionItem → VersionItem → Gathered VersionItem
+abbrev pub entry_added : PageAsked → Gathered VersionItem → VersionItem → Gathered VersionItem
 entry_added asked g v = with_passing asked.prefix.now asked.delimiter.now (token_of asked) g (version_entry asked.prefix.now asked.delimiter.now (token_of asked) v)
 
 -- ---- how far reading has come
 
-abbrev pub AreUnder : Asked → List VersionLine → Type 0
+abbrev pub AreUnder : PageAsked → List VersionLine → Type 0
 AreUnder asked lines = AllByRecursion (λ l. begins asked.prefix.now l.key.items ≡ true) lines
 
 -- past the last of these rows
-pub record PastLast (asked : Asked) (lines : List VersionLine) (place : Place) : Type 0 where
+pub record PastLast (asked : PageAsked) (lines : List VersionLine) (place : Place) : Type 0 where
   pub row : VersionLine
   pub last : last_of lines ≡ Some row
   pub is : begins asked.prefix.now row.key.items ≡ true → place ≡ past_row row.key.items row.seq (rolled asked.prefix.now asked.delimiter.now row.key.items)
 
 -- where reading goes on after these rows, if any can be left
-pub record GoesOn (asked : Asked) (old : Place) (lines : List VersionLine) (count : ℕ) (new : Option Place) : Type 0 where
+pub record GoesOn (asked : PageAsked) (old : Place) (lines : List VersionLine) (count : ℕ) (new : Option Place) : Type 0 where
   pub few : nat_lt (length lines) count ≡ true → new ≡ past_few old
   pub on : nat_lt (length lines) count ≡ false → IfSome new (PastLast asked lines) × (is_none new ≡ false)
 
@@ -142,13 +142,13 @@ pub record AreRows (prefix : Octets) (rows : List Numbered) : Type 0 where
   pub under : AllByRecursion (λ r. IsKeyUnder prefix (row_key r)) rows
 
 -- the page has some entries of a listing, and what the rows from its place on still show makes up the listing
-pub record IsUnderway (asked : Asked) (rows : List Numbered) (listing : List (Listed VersionItem)) (reading : VersionReading) : Type 0 where
+pub record IsUnderway (asked : PageAsked) (rows : List Numbered) (listing : List (Listed VersionItem)) (reading : VersionReading) : Type 0 where
   pub low : IsUnder asked.prefix.now reading.place.key.items reading.place.after
   pub part : IsBeginning asked.max (map seen_entry reading.gathering.entries.items)
       (versions_to_come asked.prefix.now asked.delimiter.now (token_of asked) (seen reading.gathering) (filter (is_from (seen_place reading.place)) rows)) listing
 
 -- whether reading has ended
-abbrev pub Stands : Bool → Asked → List Numbered → List (Listed VersionItem) → VersionReading → Type 0
+abbrev pub Stands : Bool → PageAsked → List Numbered → List (Listed VersionItem) → VersionReading → Type 0
 Stands true asked rows listing reading = IsPage asked.max (map seen_entry reading.gathering.entries.items) listing
 Stands false asked rows listing reading = IsUnderway asked rows listing reading
 
@@ -162,6 +162,6 @@ abbrev pub AreNext : List Numbered → VersionReading → List VersionLine → T
 AreNext rows reading lines = map seen_line lines ≡ take reading.count (rows_at reading.place.key.items reading.place.after rows)
 
 -- after the next rows the page is read, if reading has ended, and else still underway
-abbrev pub TookVersions : Asked → VersionReading → List VersionLine → VersionReading → Bool → Type 0
+abbrev pub TookVersions : PageAsked → VersionReading → List VersionLine → VersionReading → Bool → Type 0
 TookVersions asked old lines new ended = (rows : List Numbered) (listing : List (Listed VersionItem))
     → AreRows asked.prefix.now rows → IsUnderway asked rows listing old → AreNext rows old lines → Stands ended asked rows listing new

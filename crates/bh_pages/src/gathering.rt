@@ -12,7 +12,7 @@ use std::cmp::Ordering;
 
 /// Which page is asked for.
 #[derive(Drop)]
-pub struct Asked<'a> {
+pub struct PageAsked<'a> {
     pub prefix: &'a [u8],
     pub delimiter: &'a [u8],
     /// The name that the page comes after.
@@ -77,7 +77,7 @@ pub fn past(alloc: Global, text: &[u8], byte: u8) -> Result<Vec<u8>, AllocError>
     Ok(past)
 }
 
-impl Asked<'_> {
+impl PageAsked<'_> {
     /// Whether the page may list this name.
     pub fn is_past(&self, name: &[u8]) -> bool
         ensures { result ≡ after_name (λ n. n) (token_of self.now) (Common name.now) }
@@ -89,7 +89,7 @@ impl Asked<'_> {
     }
 }
 
-impl Asked<'_> {
+impl PageAsked<'_> {
     /// Where reading begins.
     pub fn start(&self, alloc: Global) -> Result<Vec<u8>, AllocError>
         ensures { IfOk result (λ start. start.items ≡ start_of self.now.prefix.now (token_of self.now)) }
@@ -144,7 +144,7 @@ impl Gathering {
     pub fn add_item(
         &mut self,
         alloc: Global,
-        asked: &Asked<'_>,
+        asked: &PageAsked<'_>,
         line: &Line,
     ) -> Result<(), AllocError>
         ensures { begins asked.now.prefix.now line.now.key.items ≡ true
@@ -173,7 +173,7 @@ impl Gathering {
     }
 
     /// A row more, whose key is under the prefix.
-    pub fn add(&mut self, alloc: Global, asked: &Asked<'_>, line: &Line) -> Result<(), AllocError>
+    pub fn add(&mut self, alloc: Global, asked: &PageAsked<'_>, line: &Line) -> Result<(), AllocError>
         ensures { begins asked.now.prefix.now line.now.key.items ≡ true
             → OnOk result (seen self.new ≡ row_added asked.now (seen self.old) (seen_line line.now)) }
     {
@@ -191,7 +191,7 @@ impl Gathering {
     pub fn add_all(
         &mut self,
         alloc: Global,
-        asked: &Asked<'_>,
+        asked: &PageAsked<'_>,
         lines: &[Line],
     ) -> Result<(), AllocError>
         ensures { AllByRecursion (λ l. begins asked.now.prefix.now l.key.items ≡ true) lines.now
@@ -207,7 +207,7 @@ impl Gathering {
     }
 
     /// Where to read on after the row before, which had this key.
-    pub fn place(&self, alloc: Global, asked: &Asked<'_>, key: &[u8]) -> Result<Vec<u8>, AllocError>
+    pub fn place(&self, alloc: Global, asked: &PageAsked<'_>, key: &[u8]) -> Result<Vec<u8>, AllocError>
         ensures { begins asked.now.prefix.now key.now ≡ true
             → IfOk result (λ place. place.items ≡ read_on asked.now (seen self.now) key.now) }
     {

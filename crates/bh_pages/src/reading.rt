@@ -4,7 +4,7 @@ ghost use Rattle.std.specs.Prelude.{◌≡◌, IfOk, OnOk};
 ghost use Rattle.bh_pages.specs.Seen.{seen};
 ghost use Rattle.bh_pages.specs.Reading.{IsCount, GoesOn, AreRows, IsUnderway, Took};
 
-use crate::gathering::{Asked, Gathering, Line, Listed};
+use crate::gathering::{PageAsked, Gathering, Line, Listed};
 use std::alloc::{AllocError, Global};
 
 /// How far the reading of a page has come.
@@ -36,7 +36,7 @@ pub(crate) fn next_count(gave: usize) -> u64
 }
 
 /// Where reading goes on: past the last row.
-fn past_last(alloc: Global, asked: &Asked<'_>, gathering: &Gathering) -> Result<Vec<u8>, AllocError>
+fn past_last(alloc: Global, asked: &PageAsked<'_>, gathering: &Gathering) -> Result<Vec<u8>, AllocError>
     ensures { IfOk result (λ from. GoesOn asked.now (seen gathering.now) from.items) }
 {
     match &gathering.key {
@@ -48,7 +48,7 @@ fn past_last(alloc: Global, asked: &Asked<'_>, gathering: &Gathering) -> Result<
 
 impl Reading {
     /// Nothing is read. An error says that memory ran out.
-    pub fn begin(alloc: Global, asked: &Asked<'_>) -> Result<Reading, AllocError>
+    pub fn begin(alloc: Global, asked: &PageAsked<'_>) -> Result<Reading, AllocError>
         ensures underway { IfOk result (λ reading. (rows : _) → AreRows asked.now.prefix.now rows → IsUnderway asked.now rows reading) }
         ensures count { IfOk result (λ reading. IsCount reading.count) }
     {
@@ -64,7 +64,7 @@ impl Reading {
     pub fn take(
         &mut self,
         alloc: Global,
-        asked: &Asked<'_>,
+        asked: &PageAsked<'_>,
         lines: &[Line],
     ) -> Result<bool, AllocError>
         ensures took { IfOk result (Took asked.now self.old lines.now self.new) }

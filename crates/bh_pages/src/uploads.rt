@@ -7,7 +7,7 @@ ghost use Rattle.bh_pages.specs.Reading.{IsCount};
 ghost use Rattle.bh_pages.specs.Versions.{past_row, seen_place};
 ghost use Rattle.bh_pages.specs.Uploads as spec;
 
-use crate::gathering::{Asked, is_text, past};
+use crate::gathering::{PageAsked, is_text, past};
 use crate::names::name_end;
 use crate::reading::{first_count, next_count};
 use crate::versions::Place;
@@ -72,7 +72,7 @@ impl UploadGathering {
     }
 
     /// Lists an upload of a key under the prefix, or the name that it is rolled up under, if the page may.
-    fn add(&mut self, alloc: Global, asked: &Asked<'_>, line: &UploadLine) -> Result<(), AllocError>
+    fn add(&mut self, alloc: Global, asked: &PageAsked<'_>, line: &UploadLine) -> Result<(), AllocError>
         ensures { begins asked.now.prefix.now line.now.key.items ≡ true
             → OnOk result (spec.seen self.new ≡ spec.upload_added asked.now (spec.seen self.old) (spec.seen_line line.now)) }
     {
@@ -98,7 +98,7 @@ impl UploadGathering {
     fn add_all(
         &mut self,
         alloc: Global,
-        asked: &Asked<'_>,
+        asked: &PageAsked<'_>,
         lines: &[UploadLine],
     ) -> Result<(), AllocError>
         ensures { spec.AreUnder asked.now lines.now
@@ -115,7 +115,7 @@ impl UploadGathering {
 }
 
 /// The place past a row.
-fn past_line(alloc: Global, asked: &Asked<'_>, line: &UploadLine) -> Result<Place, AllocError>
+fn past_line(alloc: Global, asked: &PageAsked<'_>, line: &UploadLine) -> Result<Place, AllocError>
     ensures { begins asked.now.prefix.now line.now.key.items ≡ true
         → IfOk result (λ place. seen_place place
         ≡ past_row line.now.key.items line.now.number (rolled asked.now.prefix.now asked.now.delimiter.now line.now.key.items)) }
@@ -133,7 +133,7 @@ fn past_line(alloc: Global, asked: &Asked<'_>, line: &UploadLine) -> Result<Plac
 }
 
 /// The place past the last of some rows.
-fn past_last(alloc: Global, asked: &Asked<'_>, lines: &[UploadLine]) -> Result<Place, AllocError>
+fn past_last(alloc: Global, asked: &PageAsked<'_>, lines: &[UploadLine]) -> Result<Place, AllocError>
     ensures { IfOk result (λ place. spec.PastLast asked.now lines.now (seen_place place)) }
 {
     if lines.is_empty() {
@@ -146,7 +146,7 @@ fn past_last(alloc: Global, asked: &Asked<'_>, lines: &[UploadLine]) -> Result<P
 /// Where reading goes on after these rows, of which as many were asked for, if any can be left.
 fn place_after(
     alloc: Global,
-    asked: &Asked<'_>,
+    asked: &PageAsked<'_>,
     place: &Place,
     lines: &[UploadLine],
     count: u64,
@@ -165,7 +165,7 @@ fn place_after(
 
 impl UploadReading {
     /// Nothing is read.
-    pub fn begin(alloc: Global, asked: &Asked<'_>, place: Place) -> UploadReading
+    pub fn begin(alloc: Global, asked: &PageAsked<'_>, place: Place) -> UploadReading
         ensures gathering { spec.seen result.gathering ≡ spec.nothing }
         ensures place { result.place ≡ place }
         ensures count { IsCount result.count }
@@ -185,7 +185,7 @@ impl UploadReading {
     pub fn take(
         &mut self,
         alloc: Global,
-        asked: &Asked<'_>,
+        asked: &PageAsked<'_>,
         lines: &[UploadLine],
     ) -> Result<bool, AllocError>
         ensures took { IfOk result (spec.TookUploads asked.now self.old lines.now self.new) }

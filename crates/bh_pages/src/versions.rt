@@ -6,7 +6,7 @@ ghost use Rattle.bh_pages.specs.Gathered.{with_entry};
 ghost use Rattle.bh_pages.specs.Reading.{IsCount};
 ghost use Rattle.bh_pages.specs.Versions as spec;
 
-use crate::gathering::{Asked, is_text, past};
+use crate::gathering::{PageAsked, is_text, past};
 use crate::names::name_end;
 use crate::reading::{first_count, next_count};
 use std::alloc::{AllocError, Global};
@@ -103,7 +103,7 @@ impl VersionGathering {
     fn add_entry(
         &mut self,
         alloc: Global,
-        asked: &Asked<'_>,
+        asked: &PageAsked<'_>,
         line: &VersionLine,
         latest: bool,
     ) -> Result<(), AllocError>
@@ -136,7 +136,7 @@ impl VersionGathering {
     fn add(
         &mut self,
         alloc: Global,
-        asked: &Asked<'_>,
+        asked: &PageAsked<'_>,
         line: &VersionLine,
     ) -> Result<(), AllocError>
         ensures { begins asked.now.prefix.now line.now.key.items ≡ true
@@ -151,7 +151,7 @@ impl VersionGathering {
     fn add_all(
         &mut self,
         alloc: Global,
-        asked: &Asked<'_>,
+        asked: &PageAsked<'_>,
         lines: &[VersionLine],
     ) -> Result<(), AllocError>
         ensures { spec.AreUnder asked.now lines.now
@@ -168,7 +168,7 @@ impl VersionGathering {
 }
 
 /// The place past a row.
-fn past_row(alloc: Global, asked: &Asked<'_>, line: &VersionLine) -> Result<Place, AllocError>
+fn past_row(alloc: Global, asked: &PageAsked<'_>, line: &VersionLine) -> Result<Place, AllocError>
     ensures { begins asked.now.prefix.now line.now.key.items ≡ true
         → IfOk result (λ place. spec.seen_place place
         ≡ spec.past_row line.now.key.items line.now.seq (rolled asked.now.prefix.now asked.now.delimiter.now line.now.key.items)) }
@@ -186,7 +186,7 @@ fn past_row(alloc: Global, asked: &Asked<'_>, line: &VersionLine) -> Result<Plac
 }
 
 /// The place past the last of some rows.
-fn past_last(alloc: Global, asked: &Asked<'_>, lines: &[VersionLine]) -> Result<Place, AllocError>
+fn past_last(alloc: Global, asked: &PageAsked<'_>, lines: &[VersionLine]) -> Result<Place, AllocError>
     ensures { IfOk result (λ place. spec.PastLast asked.now lines.now (spec.seen_place place)) }
 {
     if lines.is_empty() {
@@ -199,7 +199,7 @@ fn past_last(alloc: Global, asked: &Asked<'_>, lines: &[VersionLine]) -> Result<
 /// Where reading goes on after these rows, of which as many were asked for, if any can be left.
 fn place_after(
     alloc: Global,
-    asked: &Asked<'_>,
+    asked: &PageAsked<'_>,
     place: &Place,
     lines: &[VersionLine],
     count: u64,
@@ -220,7 +220,7 @@ impl VersionReading {
     /// Nothing is read; `key` is that of the rows before the place, if they show it.
     pub fn begin(
         alloc: Global,
-        asked: &Asked<'_>,
+        asked: &PageAsked<'_>,
         place: Place,
         key: Option<Vec<u8>>,
     ) -> VersionReading
@@ -244,7 +244,7 @@ impl VersionReading {
     pub fn take(
         &mut self,
         alloc: Global,
-        asked: &Asked<'_>,
+        asked: &PageAsked<'_>,
         lines: &[VersionLine],
     ) -> Result<bool, AllocError>
         ensures took { IfOk result (spec.TookVersions asked.now self.old lines.now self.new) }

@@ -31,7 +31,7 @@ pub(crate) fn answer_lines<H: Storage, W: Sink>(
     writer: &mut Link<W>,
 ) -> Result<Option<BadLine>, ScriptError>
     requires clean { (h : H) → Clean H.IsIntact H.IsOpen h }
-    requires rest { IsAtRest H.IsSound (H.seen storage.old) }
+    requires rest { IsAtRest H.IsSoundStore (H.seen storage.old) }
     requires going { writer.old.failed ≡ false }
     ensures answers { WritesLines 1 (lines bytes.now) (H.seen storage.old).now (H.seen storage.new).now
         result (W.contents writer.old.inner) (W.contents writer.new.inner) }
@@ -73,9 +73,9 @@ fn answer_line<H: Storage, W: Sink>(
     writer: &mut Link<W>,
 ) -> Result<Option<BadLine>, ScriptError>
     requires clean { (h : H) → Clean H.IsIntact H.IsOpen h }
-    requires rest { IsAtRest H.IsSound (H.seen storage.old) }
+    requires rest { IsAtRest H.IsSoundStore (H.seen storage.old) }
     requires going { writer.old.failed ≡ false }
-    ensures rest { IsAtRest H.IsSound (H.seen storage.new) }
+    ensures rest { IsAtRest H.IsSoundStore (H.seen storage.new) }
     ensures answers { WritesLines number (line.now ∷ []) (H.seen storage.old).now (H.seen storage.new).now
         result (W.contents writer.old.inner) (W.contents writer.new.inner) }
     ensures bad_line { IfOk result (λ bad_line. bad_line ≡ bad_line_from number (line.now ∷ [])) }
@@ -107,9 +107,9 @@ fn answer_event<H: Storage, W: Sink>(
     writer: &mut Link<W>,
 ) -> Result<(), ScriptError>
     requires clean { (h : H) → Clean H.IsIntact H.IsOpen h }
-    requires rest { IsAtRest H.IsSound (H.seen storage.old) }
+    requires rest { IsAtRest H.IsSoundStore (H.seen storage.old) }
     requires going { writer.old.failed ≡ false }
-    ensures rest { IsAtRest H.IsSound (H.seen storage.new) }
+    ensures rest { IsAtRest H.IsSoundStore (H.seen storage.new) }
     ensures answers { WritesReply (arrival event.now) (H.seen storage.old).now (H.seen storage.new).now
         result (W.contents writer.old.inner) (W.contents writer.new.inner) }
     ensures going { OnOk result (writer.new.failed ≡ false) }

@@ -63,7 +63,7 @@ pub record Within {H : Type 0} (IsIntact IsOpen : H → Type 0) (seen : H → Se
 
 -- such a call does not shut the store, and the transaction goes on with sound tables; `Done` says when: on Ok, or unless memory or
 -- the store was wanting
-pub record GoesOn {H : Type 0} (IsIntact IsOpen : H → Type 0) (IsSound : Tables → Type 0) (seen : H → Seen) (left : H → Tables → Type 0) (Done : Type 0 → Type 0) (old new : H) : Type 0 where
+pub record StaysAtWork {H : Type 0} (IsIntact IsOpen : H → Type 0) (IsSound : Tables → Type 0) (seen : H → Seen) (left : H → Tables → Type 0) (Done : Type 0 → Type 0) (old new : H) : Type 0 where
   pub within : Within IsIntact IsOpen seen left old new
   pub opens : Done (IsOpen old → IsIntact new → IsOpen new)
   pub working : Done (Clean IsIntact IsOpen new → IsWorking IsSound (seen new))

@@ -6,7 +6,7 @@ ghost use Rattle.bh_model.specs.Runs.{last_reading};
 ghost use Rattle.bh_tables.specs.Typed.{Tables};
 ghost use Rattle.bh_view.specs.View.{view, latest_of};
 ghost use Rattle.bh_storage.specs.Answers.{answer_view};
-ghost use Rattle.bh_storage.specs.Calls.{Seen, Clean, Within, GoesOn, LeavesNothingNew, IsAtRest, IsWorking, Commits, TakesBack, Unless, Stamps, Purges, Carries, Decides, Sweeps, Reports, Lists};
+ghost use Rattle.bh_storage.specs.Calls.{Seen, Clean, Within, StaysAtWork, LeavesNothingNew, IsAtRest, IsWorking, Commits, TakesBack, Unless, Stamps, Purges, Carries, Decides, Sweeps, Reports, Lists};
 
 use crate::answer::Answer;
 use crate::error::{StepError, Trouble};
@@ -38,7 +38,7 @@ pub trait Storage {
     ghost IsOpen: { Self → Type 0 };
 
     /// What holds of its tables between events.
-    ghost IsSound: { Tables → Type 0 };
+    ghost IsSoundStore: { Tables → Type 0 };
 
     /// What a crash at this moment may leave.
     ghost left: { Self → Tables → Type 0 };
@@ -49,16 +49,16 @@ pub trait Storage {
 
     /// Opens a transaction. A store that a fault has shut refuses it.
     fn begin(&mut self) -> Result<(), Trouble>
-        requires { Clean IsIntact IsOpen self.old → IsAtRest IsSound (seen self.old) }
+        requires { Clean IsIntact IsOpen self.old → IsAtRest IsSoundStore (seen self.old) }
         ensures within { Within IsIntact IsOpen seen left self.old self.new }
         ensures survives { IsIntact self.new → LeavesNothingNew left self.old self.new }
         ensures opens { OnOk result (IsIntact self.new → IsOpen self.old × IsOpen self.new) }
         ensures same { OnOk result (IsIntact self.new → (seen self.new).now ≡ (seen self.old).now) }
-        ensures working { OnOk result (IsIntact self.new → IsWorking IsSound (seen self.new)) };
+        ensures working { OnOk result (IsIntact self.new → IsWorking IsSoundStore (seen self.new)) };
 
     /// Commits the transaction.
     fn commit(&mut self) -> Result<(), Trouble>
-        requires { Clean IsIntact IsOpen self.old → IsWorking IsSound (seen self.old) }
+        requires { Clean IsIntact IsOpen self.old → IsWorking IsSoundStore (seen self.old) }
         ensures intact { IsIntact self.new → IsIntact self.old }
         ensures opened { IsIntact self.new → IsOpen self.new → IsOpen self.old }
         ensures opens { OnOk result (IsIntact self.new → IsOpen self.old × IsOpen self.new) }
@@ -79,14 +79,14 @@ pub trait Storage {
     /// Writes the stamp of a reading, in seconds since 1970: the greater of it and the last stamp.
     fn stamp(&mut self, reading: u64) -> Result<Moment, Trouble>
         requires in_range { reading ≤ last_reading }
-        requires working { Clean IsIntact IsOpen self.old → IsWorking IsSound (seen self.old) }
-        ensures goes_on { GoesOn IsIntact IsOpen IsSound seen left (OnOk result) self.old self.new }
+        requires working { Clean IsIntact IsOpen self.old → IsWorking IsSoundStore (seen self.old) }
+        ensures goes_on { StaysAtWork IsIntact IsOpen IsSoundStore seen left (OnOk result) self.old self.new }
         ensures stamps { IfOk result (λ m. Clean IsIntact IsOpen self.new → Stamps reading m (seen self.old).now (seen self.new).now) };
 
     /// Takes away a tenant's uploads that are stale at a moment.
     fn purge(&mut self, alloc: Global, tenant: &TenantName, at: Moment) -> Result<(), Trouble>
-        requires { Clean IsIntact IsOpen self.old → IsWorking IsSound (seen self.old) }
-        ensures goes_on { GoesOn IsIntact IsOpen IsSound seen left (OnOk result) self.old self.new }
+        requires { Clean IsIntact IsOpen self.old → IsWorking IsSoundStore (seen self.old) }
+        ensures goes_on { StaysAtWork IsIntact IsOpen IsSoundStore seen left (OnOk result) self.old self.new }
         ensures purges { OnOk result (Clean IsIntact IsOpen self.new → Purges tenant.now at (seen self.old).now (seen self.new).now) };
 
     /// Whether an access key has this secret: InvalidAccessKeyId, AccessDenied.
@@ -96,8 +96,8 @@ pub trait Storage {
         key: &AccessKeyId,
         secret: &[u8],
     ) -> Result<(), StepError<Refusal>>
-        requires { Clean IsIntact IsOpen self.old → IsWorking IsSound (seen self.old) }
-        ensures goes_on { GoesOn IsIntact IsOpen IsSound seen left (Unless result) self.old self.new }
+        requires { Clean IsIntact IsOpen self.old → IsWorking IsSoundStore (seen self.old) }
+        ensures goes_on { StaysAtWork IsIntact IsOpen IsSoundStore seen left (Unless result) self.old self.new }
         ensures decides { Clean IsIntact IsOpen self.new
             → Decides (λ _. tt) (machine.authenticate key.now secret.now (view (seen self.old).now key.now.tenant)) (seen self.old).now (seen self.new).now result };
 
@@ -110,39 +110,39 @@ pub trait Storage {
         operation: &Operation,
         body: &[u8],
     ) -> Result<Answer, StepError<Rejection>>
-        requires working { Clean IsIntact IsOpen self.old → IsWorking IsSound (seen self.old) }
+        requires working { Clean IsIntact IsOpen self.old → IsWorking IsSoundStore (seen self.old) }
         requires early { Clean IsIntact IsOpen self.old → at ≤ latest_of (seen self.old).now }
-        ensures goes_on { GoesOn IsIntact IsOpen IsSound seen left (Unless result) self.old self.new }
+        ensures goes_on { StaysAtWork IsIntact IsOpen IsSoundStore seen left (Unless result) self.old self.new }
         ensures carries { Clean IsIntact IsOpen self.new
             → Carries answer_view tenant.now (operated (seen self.old).limits at body.now operation.now)
             (seen self.old).now (seen self.new).now result };
 
     /// Carries out an operator's command on the tenant that it names.
     fn command(&mut self, alloc: Global, command: &Command) -> Result<Answer, StepError<Refusal>>
-        requires { Clean IsIntact IsOpen self.old → IsWorking IsSound (seen self.old) }
-        ensures goes_on { GoesOn IsIntact IsOpen IsSound seen left (Unless result) self.old self.new }
+        requires { Clean IsIntact IsOpen self.old → IsWorking IsSoundStore (seen self.old) }
+        ensures goes_on { StaysAtWork IsIntact IsOpen IsSoundStore seen left (Unless result) self.old self.new }
         ensures carries { Clean IsIntact IsOpen self.new
             → Carries answer_view (tenant_of (order_of command.now)) (ordered (order_of command.now)) (seen self.old).now (seen self.new).now result };
 
     /// Takes away what is due at a moment, at most `limit` of it: first stale uploads of all tenants by tenant and
     /// number, and then blocks that nothing refers to by digest and ordinal.
     fn sweep(&mut self, alloc: Global, at: Moment, limit: u32) -> Result<SweepReport, Trouble>
-        requires { Clean IsIntact IsOpen self.old → IsWorking IsSound (seen self.old) }
-        ensures goes_on { GoesOn IsIntact IsOpen IsSound seen left (OnOk result) self.old self.new }
+        requires { Clean IsIntact IsOpen self.old → IsWorking IsSoundStore (seen self.old) }
+        ensures goes_on { StaysAtWork IsIntact IsOpen IsSoundStore seen left (OnOk result) self.old self.new }
         ensures sweeps { IfOk result (λ report. Clean IsIntact IsOpen self.new
             → Sweeps at limit report (seen self.old).now (seen self.new).now) };
 
     /// Counts what all tenants together have stored.
     fn report(&mut self) -> Result<StoreReport, Trouble>
-        requires { Clean IsIntact IsOpen self.old → IsWorking IsSound (seen self.old) }
-        ensures goes_on { GoesOn IsIntact IsOpen IsSound seen left (OnOk result) self.old self.new }
+        requires { Clean IsIntact IsOpen self.old → IsWorking IsSoundStore (seen self.old) }
+        ensures goes_on { StaysAtWork IsIntact IsOpen IsSoundStore seen left (OnOk result) self.old self.new }
         ensures reports { IfOk result (λ report. Clean IsIntact IsOpen self.new
             → Reports report (seen self.old).now (seen self.new).now) };
 
     /// All tenants, by name in byte order.
     fn tenants(&mut self, alloc: Global) -> Result<Vec<TenantReport>, Trouble>
-        requires { Clean IsIntact IsOpen self.old → IsWorking IsSound (seen self.old) }
-        ensures goes_on { GoesOn IsIntact IsOpen IsSound seen left (OnOk result) self.old self.new }
+        requires { Clean IsIntact IsOpen self.old → IsWorking IsSoundStore (seen self.old) }
+        ensures goes_on { StaysAtWork IsIntact IsOpen IsSoundStore seen left (OnOk result) self.old self.new }
         ensures lists { IfOk result (λ listed. Clean IsIntact IsOpen self.new
             → Lists listed.items (seen self.old).now (seen self.new).now) };
 }

@@ -18,7 +18,7 @@ use Rattle.bh_view.proofs.SharedLemmas.{shared_none}
 use Rattle.bh_view.proofs.ViewLemmas.{own_row}
 use Rattle.bh_objects.specs.Found.{mode_in}
 use Rattle.bh_objects.proofs.Putting.{has_bucket}
-use Rattle.bh_pages.specs.declared.gathering.Asked.{Asked}
+use Rattle.bh_pages.specs.declared.gathering.PageAsked.{PageAsked}
 use Rattle.bh_pages.specs.declared.uploads.ListedUpload.{ListedUpload}
 use Rattle.bh_pages.specs.Uploads.{seen_entry}
 use Rattle.bh_pages.specs.Places.{Place}
@@ -28,19 +28,19 @@ use Rattle.bh_upload_listing.specs.Places.{place_view, uploads_of_items, listed_
 use Rattle.bh_upload_listing.specs.Rows.{own_items}
 use Rattle.bh_upload_listing.proofs.Viewed.{own_is, one_number, uploads_are}
 
-told_in : (b : Octets) (asked : model.Asked) (marker : Option UploadPlace) (v : Option State) (s : State) (B : Bucket) → v ≡ Some s → get s.buckets b ≡ Some B
+told_in : (b : Octets) (asked : model.PageAsked) (marker : Option UploadPlace) (v : Option State) (s : State) (B : Bucket) → v ≡ Some s → get s.buckets b ≡ Some B
     → uploads_listed b asked marker v ≡ Ok (uploads_told b asked (uploads_page asked marker (entries B.uploads)))
 told_in b asked marker v s B is at = rw (is, at) refl
 
 -- what was gathered from a place, where the tables stayed
-pub gathered_from : (asked : Asked) (place start : Place) (upload : Option UploadId) (t b : Octets) (old middle : Tables) (shown : List (Listed UploadItem)) → middle ≡ old → place ≡ start
+pub gathered_from : (asked : PageAsked) (place start : Place) (upload : Option UploadId) (t b : Octets) (old middle : Tables) (shown : List (Listed UploadItem)) → middle ≡ old → place ≡ start
     → listed_from asked start (own_items t b old.uploads) ≡ uploads_of_items asked upload (own_items t b old.uploads)
     → shown ≡ take (suc asked.max) (listed_from asked place (own_items t b middle.uploads)) → shown ≡ take (suc asked.max) (uploads_of_items asked upload (own_items t b old.uploads))
 gathered_from asked place start upload t b old middle shown same at begins gathered =
     gathered ∙ ap (take (suc asked.max)) ((λ i. listed_from asked (at i) (own_items t b ((same i).uploads))) ∙ begins)
 
 module _ (tables : Tables) (t b : Octets) (sound : IsSound tables) where
-  lists : (mode : BucketState) → mode_in b (view tables t) ≡ Ok mode → (asked : Asked) (upload : Option UploadId) (es : List (Listed UploadItem))
+  lists : (mode : BucketState) → mode_in b (view tables t) ≡ Ok mode → (asked : PageAsked) (upload : Option UploadId) (es : List (Listed UploadItem))
       → es ≡ take (suc asked.max) (uploads_of_items asked upload (own_items t b tables.uploads))
       → uploads_listed b (asked_view asked) (place_view asked upload) (view tables t) ≡ Ok (uploads_told b (asked_view asked) (paged asked.max es))
   lists mode found asked upload es are =
@@ -52,7 +52,7 @@ module _ (tables : Tables) (t b : Octets) (sound : IsSound tables) where
       ∙ ap (λ p. Ok (uploads_told b (asked_view asked) p)) (ap (λ l. paged asked.max (uploads_of_items asked upload l)) (sym same) ∙ sym (paged_taken asked.max (uploads_of_items asked upload (own_items t b tables.uploads))) ∙ ap (paged asked.max) (sym are))
 
   -- the same of what a call has at hand
-  pub list_is : (mode : BucketState) → mode_in b (view tables t) ≡ Ok mode → (asked : Asked) (upload : Option UploadId) (current : Tables) (tenant bucket name : Octets) → current ≡ tables → tenant ≡ t → bucket ≡ b → name ≡ b
+  pub list_is : (mode : BucketState) → mode_in b (view tables t) ≡ Ok mode → (asked : PageAsked) (upload : Option UploadId) (current : Tables) (tenant bucket name : Octets) → current ≡ tables → tenant ≡ t → bucket ≡ b → name ≡ b
       → (es slice : List ListedUpload) → slice ≡ es → map seen_entry es ≡ take (suc asked.max) (uploads_of_items asked upload (own_items tenant bucket current.uploads))
       → (page : UploadsListed) → page ≡ uploads_told name (asked_view asked) (paged asked.max (map seen_entry slice)) → uploads_listed b (asked_view asked) (place_view asked upload) (view tables t) ≡ Ok page
   list_is mode found asked upload current tenant bucket name is_now is_t is_b is_name es slice is_slice gathered page told =
@@ -60,7 +60,7 @@ module _ (tables : Tables) (t b : Octets) (sound : IsSound tables) where
       ∙ ap (λ p. Ok p) (sym (told ∙ (λ i. uploads_told (is_name i) (asked_view asked) (paged asked.max (map seen_entry (is_slice i))))))
 
 -- the machine's step, where no row changed
-pub list_step : (old new : Tables) (t b : Octets) (asked : model.Asked) (marker : Option UploadPlace) (page : UploadsListed) → uploads_listed b asked marker (view old t) ≡ Ok page → new ≡ old
+pub list_step : (old new : Tables) (t b : Octets) (asked : model.PageAsked) (marker : Option UploadPlace) (page : UploadsListed) → uploads_listed b asked marker (view old t) ≡ Ok page → new ≡ old
     → GivesStep t (list_uploads b asked marker) (Uploads page) old new
 list_step old new t b asked marker page is same = record {
   gives = ap (λ r. r >>= (λ (p : UploadsListed). Ok (Uploads p, view old t))) is ∙ ap (λ (x : Tables). Ok (Uploads page, view x t)) (sym same);

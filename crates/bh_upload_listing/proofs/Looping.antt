@@ -9,7 +9,7 @@ use Rattle.bh_pages.specs.Gathered.{Gathered, past_name}
 use Rattle.bh_pages.specs.Places.{IsUnder}
 use Rattle.bh_pages.specs.Versions.{seen_place}
 use Rattle.bh_pages.specs.Uploads.{upload_key, upload_number, is_from, IsStrict, uploads_to_come, seen_line, seen, nothing, rows_at, AreRows, IsUnderway, AreNext}
-use Rattle.bh_pages.specs.declared.gathering.Asked.{Asked}
+use Rattle.bh_pages.specs.declared.gathering.PageAsked.{PageAsked}
 use Rattle.bh_pages.specs.declared.versions.Place as program
 use Rattle.bh_pages.specs.declared.uploads.UploadLine.{UploadLine}
 use Rattle.bh_pages.specs.declared.uploads.UploadReading.{UploadReading}
@@ -20,7 +20,7 @@ use Rattle.bh_upload_listing.specs.Places.{listed_from}
 use Rattle.bh_upload_listing.specs.Rows.{row_item, place_rows, own_items}
 use Rattle.bh_upload_listing.proofs.Viewed.{AreSmallKeys, chunk_from, chunk_later}
 
-module _ (asked : Asked) (tenant bucket : Octets) (uploads : List UploadRow) where
+module _ (asked : PageAsked) (tenant bucket : Octets) (uploads : List UploadRow) where
   abbrev items : List UploadItem
   items = own_items tenant bucket uploads
 
@@ -56,7 +56,7 @@ module _ (asked : Asked) (tenant bucket : Octets) (uploads : List UploadRow) whe
     are_next listing reading was lines are = are ∙ chunk_is reading.count reading.place.key.items reading.place.after was.low
 
 -- the lines that were read, as the rows that they are
-pub lines_are : (asked : Asked) (tenant bucket : Octets) (current uploads : List UploadRow) (key : Octets) (after : Option ℕ) (upto upto_slice : Octets) (lines line_slice : List UploadLine) (n : ℕ)
+pub lines_are : (asked : PageAsked) (tenant bucket : Octets) (current uploads : List UploadRow) (key : Octets) (after : Option ℕ) (upto upto_slice : Octets) (lines line_slice : List UploadLine) (n : ℕ)
     → upto_slice ≡ upto → upto ≡ past_name asked.prefix.now → line_slice ≡ lines → current ≡ uploads
     → map seen_line lines ≡ map row_item (place_rows tenant bucket key after upto_slice n current)
     → map seen_line line_slice ≡ map row_item (place_rows tenant bucket key after (past_name asked.prefix.now) n uploads)

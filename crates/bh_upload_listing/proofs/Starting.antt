@@ -6,12 +6,12 @@ use Rattle.std.proofs.lemmas.Bool.Decides.{nat_tests}
 use Rattle.std.proofs.lemmas.Cmp.{nat_list_cmp_total}
 use Rattle.bh_types.specs.declared.id.UploadId.{UploadId}
 use Rattle.bh_model.specs.State.{Octets, octets_cmp}
-use Rattle.bh_model.specs.Pages.{Listed, Listed.Single, Listed.Common, UploadItem, UploadPlace, begins, is_upto, is_before, same, rolled, as_listed, joined, entry_of, is_later, passes_upload, entries_after}
+use Rattle.bh_model.specs.Pages.{Listed, Listed.Single, Listed.Common, UploadItem, UploadPlace, begins, is_upto, is_before, same, rolled, as_listed, merged, entry_of, is_later, passes_upload, entries_after}
 use Rattle.bh_pages.specs.Gathered.{past_key, start_of}
 use Rattle.bh_pages.specs.Seen.{token_of}
 use Rattle.bh_pages.specs.Uploads.{is_from, passes_name}
 use Rattle.bh_pages.specs.Places.{Place, at_key, after_entry}
-use Rattle.bh_pages.specs.declared.gathering.Asked.{Asked}
+use Rattle.bh_pages.specs.declared.gathering.PageAsked.{PageAsked}
 use Rattle.bh_pages.proofs.Bytes.{upto_begun, rolled_begins, same_is, some_same, none_some}
 use Rattle.bh_pages.proofs.Before.{before_upto, past_is_after}
 use Rattle.bh_pages.proofs.Filters.{all_map, filter_passes, filter_whole}
@@ -108,7 +108,7 @@ module _ (prefix delimiter : Octets) where
     listing marker = entries_after prefix delimiter (λ (u : UploadItem). u.key) (passes_upload marker) items
 
     abbrev shown : Option Octets → Place → List (Listed UploadItem)
-    shown token place = joined None (filter (passes_name token) (map entry (filter (is_from place) under)))
+    shown token place = merged None (filter (passes_name token) (map entry (filter (is_from place) under)))
 
     begun : AllByRecursion (λ u. begins prefix u.key ≡ true) under
     begun = filter_passes (λ u. begins prefix u.key) items
@@ -121,7 +121,7 @@ module _ (prefix delimiter : Octets) where
 
     -- with no marker
     pub start_first : listing None ≡ shown None (at_key prefix)
-    start_first = ap (λ l. joined None (filter (passes_name None) (map entry l))) (sym (filter_whole (is_from (at_key prefix)) under from_prefix))
+    start_first = ap (λ l. merged None (filter (passes_name None) (map entry l))) (sym (filter_whole (is_from (at_key prefix)) under from_prefix))
 
     less_of : (o : Ordering) → is_le o ≡ false → is_lt (ordering_reverse o) ≡ true
     less_of Less h = absurd (true≢false h)
@@ -145,11 +145,11 @@ module _ (prefix delimiter : Octets) where
       marker = Some (record { key = k; upload = upload })
 
       by_place : (place : Place) → AllByRecursion (λ u. through marker k place u) under → listing marker ≡ shown (Some k) place
-      by_place place all = ap (joined None) (filter_agrees entry (passes_upload marker) (passes_name (Some k)) (is_from place) under all)
+      by_place place all = ap (merged None) (filter_agrees entry (passes_upload marker) (passes_name (Some k)) (is_from place) under all)
 
       -- after all that the marker's key has
       pub start_past : AllByRecursion (λ u. (same k u.key && is_later upload u) ≡ false) under → listing marker ≡ shown (Some k) (at_key (start_of prefix (Some k)))
-      start_past none = by_place (at_key (past_key k)) (each under begun none) ∙ ap (λ l. joined None (filter (passes_name (Some k)) (map entry l))) (sym (from_start k))
+      start_past none = by_place (at_key (past_key k)) (each under begun none) ∙ ap (λ l. merged None (filter (passes_name (Some k)) (map entry l))) (sym (from_start k))
         where
           each : (l : List UploadItem) → AllByRecursion (λ u. begins prefix u.key ≡ true) l → AllByRecursion (λ u. (same k u.key && is_later upload u) ≡ false) l → AllByRecursion (λ u. through marker k (at_key (past_key k)) u) l
           each [] b n = tt
@@ -171,7 +171,7 @@ small_alike id n h = grind (arith, nat_tests, h)
 abbrev pub AreSmall : List UploadItem → Type 0
 AreSmall items = AllByRecursion (λ (u : UploadItem). u.id.number < 2 ^ 62) items
 
-module _ (asked : Asked) (upload : Option UploadId) (items : List UploadItem) (small : AreSmall items) where
+module _ (asked : PageAsked) (upload : Option UploadId) (items : List UploadItem) (small : AreSmall items) where
   abbrev start : Octets
   start = asked.prefix.now
 

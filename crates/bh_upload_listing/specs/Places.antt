@@ -7,14 +7,14 @@ use Rattle.bh_pages.specs.Gathered.{start_of}
 use Rattle.bh_pages.specs.Seen.{token_of}
 use Rattle.bh_pages.specs.Uploads.{is_from, nothing, uploads_to_come}
 use Rattle.bh_pages.specs.Places.{Place, at_key, after_entry}
-use Rattle.bh_pages.specs.declared.gathering.Asked.{Asked}
+use Rattle.bh_pages.specs.declared.gathering.PageAsked.{PageAsked}
 
 -- the marker that a page comes after
-abbrev pub place_view : Asked → Option UploadId → Option UploadPlace
+abbrev pub place_view : PageAsked → Option UploadId → Option UploadPlace
 place_view asked upload = option_map (λ key. record { key = key; upload = upload }) (token_of asked)
 
 -- what a page after the marker may show of a bucket's uploads
-abbrev pub uploads_of_items : Asked → Option UploadId → List UploadItem → List (Listed UploadItem)
+abbrev pub uploads_of_items : PageAsked → Option UploadId → List UploadItem → List (Listed UploadItem)
 uploads_of_items asked upload items =
     entries_after asked.prefix.now asked.delimiter.now (λ (u : UploadItem). u.key) (passes_upload (place_view asked upload)) items
 
@@ -25,10 +25,10 @@ marked prefix (Some key) None = None
 marked prefix (Some key) (Some id) = if begins prefix key then Some (key, min id.number (2 ^ 62)) else None
 
 -- after an upload of a key, or after all that the marker's key has, if there is a marker
-abbrev pub place_by : Asked → Option (Octets × ℕ) → Place
+abbrev pub place_by : PageAsked → Option (Octets × ℕ) → Place
 place_by asked None = at_key (start_of asked.prefix.now (token_of asked))
 place_by asked (Some mark) = after_entry mark.0 mark.1
 
 -- what a page that begins there may show
-abbrev pub listed_from : Asked → Place → List UploadItem → List (Listed UploadItem)
+abbrev pub listed_from : PageAsked → Place → List UploadItem → List (Listed UploadItem)
 listed_from asked place items = uploads_to_come asked nothing (filter (is_from place) (filter (λ u. begins asked.prefix.now u.key) items))

@@ -8,7 +8,7 @@ ghost use Rattle.bh_listing.specs.Told.{asked_view};
 
 use bh_docs::{CommonPrefix, UploadEntry, UploadsNext, UploadsPage};
 use bh_listing::told::text_of;
-use bh_pages::gathering::Asked;
+use bh_pages::gathering::PageAsked;
 use bh_pages::uploads::{ListedUpload, UploadLine};
 use bh_storage::error::Trouble;
 use bh_types::id::UploadId;
@@ -109,7 +109,7 @@ fn next_uploads(
 pub fn told_uploads(
     alloc: Global,
     bucket: &str,
-    asked: &Asked<'_>,
+    asked: &PageAsked<'_>,
     entries: &[ListedUpload],
 ) -> Result<UploadsPage, Trouble>
     ensures { IfOk result (λ page. uploads_view page

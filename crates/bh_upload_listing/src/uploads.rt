@@ -20,7 +20,7 @@ use crate::lines::lines_at;
 use crate::told_uploads::told_uploads;
 use bh_docs::UploadsPage;
 use bh_objects::reads::bucket_state;
-use bh_pages::gathering::{Asked, past};
+use bh_pages::gathering::{PageAsked, past};
 use bh_pages::uploads::{ListedUpload, UploadReading};
 use bh_pages::versions::Place;
 use bh_storage::error::{StepError, Trouble};
@@ -44,7 +44,7 @@ fn number_of(id: UploadId) -> u64
 }
 
 /// The marker's key and a number, where the page comes after one upload of a key under the prefix.
-fn marked_upload<'a>(asked: &Asked<'a>, upload: Option<UploadId>) -> Option<(&'a [u8], u64)>
+fn marked_upload<'a>(asked: &PageAsked<'a>, upload: Option<UploadId>) -> Option<(&'a [u8], u64)>
     ensures { option_map (λ m. (m.0.now, m.1)) result ≡ marked asked.now.prefix.now (token_of asked.now) upload }
 {
     let Some(key) = asked.after else {
@@ -63,7 +63,7 @@ fn marked_upload<'a>(asked: &Asked<'a>, upload: Option<UploadId>) -> Option<(&'a
 /// Where a page begins: after an upload of a key, or after all that the marker's key has, if there is a marker.
 fn start_place(
     alloc: Global,
-    asked: &Asked<'_>,
+    asked: &PageAsked<'_>,
     upload: Option<UploadId>,
 ) -> Result<Place, AllocError>
     ensures is { IfOk result (λ place. seen_place place
@@ -88,7 +88,7 @@ fn gather_uploads<S: Alter>(
     alloc: Global,
     tenant: &str,
     bucket: &str,
-    asked: &Asked<'_>,
+    asked: &PageAsked<'_>,
     place: Place,
 ) -> Result<Vec<ListedUpload>, Trouble>
     requires working { Works S.Store connection.old }
@@ -126,7 +126,7 @@ fn page_entries<S: Alter>(
     alloc: Global,
     tenant: &str,
     bucket: &str,
-    asked: &Asked<'_>,
+    asked: &PageAsked<'_>,
     upload: Option<UploadId>,
 ) -> Result<Vec<ListedUpload>, Trouble>
     requires working { Works S.Store connection.old }
@@ -147,7 +147,7 @@ pub fn list_uploads<S: Alter>(
     alloc: Global,
     tenant: &TenantName,
     bucket: &BucketName,
-    asked: &Asked<'_>,
+    asked: &PageAsked<'_>,
     upload: Option<UploadId>,
 ) -> Result<UploadsPage, StepError<Refusal>>
     requires working { Works S.Store connection.old }

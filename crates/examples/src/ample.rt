@@ -7,7 +7,7 @@ use crate::digest_runs::{answers, settings};
 use crate::dump::rows_of;
 use crate::ends::WHOLE;
 use crate::series::{Count, is_told, tell};
-use crate::served::{Asked, Passed, serve};
+use crate::served::{Sent, Passed, serve};
 use bh_blocks::digester::Sha256Digester;
 use bh_connection::End;
 use bh_create::create;
@@ -111,14 +111,14 @@ fn is_alike<H: Storage>(
     event: &Event,
     told: &Told,
 ) -> bool
-    requires { Clean H.IsIntact H.IsOpen host.old → IsAtRest H.IsSound (H.seen host.old) }
-    ensures { Clean H.IsIntact H.IsOpen host.new → IsAtRest H.IsSound (H.seen host.new) }
+    requires { Clean H.IsIntact H.IsOpen host.old → IsAtRest H.IsSoundStore (H.seen host.old) }
+    ensures { Clean H.IsIntact H.IsOpen host.new → IsAtRest H.IsSoundStore (H.seen host.new) }
 {
     let Event::Http { reading, bytes } = event else {
         let found = apply(alloc, routes, host, event);
         return is_told(found.stamp, found.reply.bytes(), told);
     };
-    let asked = Asked {
+    let asked = Sent {
         reading: *reading,
         bytes: bytes.as_slice(),
     };
@@ -134,7 +134,7 @@ fn all_alike<H: Storage>(
     events: &[Event],
     told: &[Told],
 ) -> Count
-    requires { Clean H.IsIntact H.IsOpen host.old → IsAtRest H.IsSound (H.seen host.old) }
+    requires { Clean H.IsIntact H.IsOpen host.old → IsAtRest H.IsSoundStore (H.seen host.old) }
 {
     let mut runs = 0u64;
     let mut answers = told.iter();

@@ -6,7 +6,7 @@ use crate::digest_runs::settings;
 use crate::dump::{rows_after, rows_of};
 use crate::ends::{Cut, WHOLE};
 use crate::series::{Count, events_of, tell};
-use crate::served::{Asked, Passed, serve};
+use crate::served::{Sent, Passed, serve};
 use bh_blocks::digester::Sha256Digester;
 use bh_connection::End;
 use bh_create::create;
@@ -26,7 +26,7 @@ use std::rt::Files;
 #[derive(Clone, Copy)]
 struct Turn<'a> {
     before: &'a [Event],
-    asked: Asked<'a>,
+    asked: Sent<'a>,
 }
 
 /// What became of a connection, and the rows of the host's tables afterwards.
@@ -43,7 +43,7 @@ fn pass<H: Storage>(
     turn: Turn<'_>,
     cut: Cut,
 ) -> Result<Passed, AllocError>
-    requires { Clean H.IsIntact H.IsOpen host.old → IsAtRest H.IsSound (H.seen host.old) }
+    requires { Clean H.IsIntact H.IsOpen host.old → IsAtRest H.IsSoundStore (H.seen host.old) }
 {
     run(alloc, routes, host, turn.before)?;
     Ok(serve(alloc, routes, host, turn.asked, cut))
@@ -162,7 +162,7 @@ fn all_breaks(alloc: Global, events: &[Event]) -> Result<Count, Fault> {
         let Event::Http { reading, bytes } = &events[at] else {
             continue;
         };
-        let asked = Asked {
+        let asked = Sent {
             reading: *reading,
             bytes: bytes.as_slice(),
         };

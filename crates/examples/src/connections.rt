@@ -84,8 +84,8 @@ fn order_one<H: Storage>(
     event: &Event,
     text: &mut Vec<u8>,
 ) -> Result<(), AllocError>
-    requires { Clean H.IsIntact H.IsOpen host.old → IsAtRest H.IsSound (H.seen host.old) }
-    ensures { Clean H.IsIntact H.IsOpen host.new → IsAtRest H.IsSound (H.seen host.new) }
+    requires { Clean H.IsIntact H.IsOpen host.old → IsAtRest H.IsSoundStore (H.seen host.old) }
+    ensures { Clean H.IsIntact H.IsOpen host.new → IsAtRest H.IsSoundStore (H.seen host.new) }
 {
     if let Event::Http { .. } = event {
         return Ok(());
@@ -104,8 +104,8 @@ fn order<H: Storage>(
     events: &[Event],
     text: &mut Vec<u8>,
 ) -> Result<(), AllocError>
-    requires { Clean H.IsIntact H.IsOpen host.old → IsAtRest H.IsSound (H.seen host.old) }
-    ensures { Clean H.IsIntact H.IsOpen host.new → IsAtRest H.IsSound (H.seen host.new) }
+    requires { Clean H.IsIntact H.IsOpen host.old → IsAtRest H.IsSoundStore (H.seen host.old) }
+    ensures { Clean H.IsIntact H.IsOpen host.new → IsAtRest H.IsSoundStore (H.seen host.new) }
 {
     for event in events {
         order_one(alloc, routes, host, event, text)?;
@@ -138,7 +138,7 @@ fn answers<H: Storage>(
     events: &[Event],
     cuts: &str,
 ) -> io::Result<Vec<u8>>
-    requires { Clean H.IsIntact H.IsOpen host.old → IsAtRest H.IsSound (H.seen host.old) }
+    requires { Clean H.IsIntact H.IsOpen host.old → IsAtRest H.IsSoundStore (H.seen host.old) }
 {
     let mut text = Vec::new(alloc);
     order(alloc, routes, host, events, &mut text)?;

@@ -23,8 +23,8 @@ use std::io::Write;
 
 /// The answer to an event, asked once more where it has no stamp.
 fn answer<H: Storage>(alloc: Global, routes: &Routes, host: &mut H, event: &Event) -> Told
-    requires { Clean H.IsIntact H.IsOpen host.old → IsAtRest H.IsSound (H.seen host.old) }
-    ensures { Clean H.IsIntact H.IsOpen host.new → IsAtRest H.IsSound (H.seen host.new) }
+    requires { Clean H.IsIntact H.IsOpen host.old → IsAtRest H.IsSoundStore (H.seen host.old) }
+    ensures { Clean H.IsIntact H.IsOpen host.new → IsAtRest H.IsSoundStore (H.seen host.new) }
 {
     let done = apply(alloc, routes, host, event);
     match done.stamp {
@@ -40,7 +40,7 @@ fn answers<H: Storage>(
     host: &mut H,
     events: &[Event],
 ) -> io::Result<Vec<u8>>
-    requires { Clean H.IsIntact H.IsOpen host.old → IsAtRest H.IsSound (H.seen host.old) }
+    requires { Clean H.IsIntact H.IsOpen host.old → IsAtRest H.IsSoundStore (H.seen host.old) }
 {
     let mut text = Vec::new(alloc);
     for event in events {

@@ -12,7 +12,7 @@ use std::alloc::Global;
 
 /// The bytes of a request, at a reading of the clock.
 #[derive(Clone, Copy)]
-pub struct Asked<'a> {
+pub struct Sent<'a> {
     pub reading: u64,
     pub bytes: &'a [u8],
 }
@@ -30,11 +30,11 @@ pub fn serve<H: Storage>(
     alloc: Global,
     routes: &Routes,
     host: &mut H,
-    asked: Asked<'_>,
+    asked: Sent<'_>,
     cut: Cut,
 ) -> Passed
-    requires { Clean H.IsIntact H.IsOpen host.old → IsAtRest H.IsSound (H.seen host.old) }
-    ensures { Clean H.IsIntact H.IsOpen host.new → IsAtRest H.IsSound (H.seen host.new) }
+    requires { Clean H.IsIntact H.IsOpen host.old → IsAtRest H.IsSoundStore (H.seen host.old) }
+    ensures { Clean H.IsIntact H.IsOpen host.new → IsAtRest H.IsSoundStore (H.seen host.new) }
 {
     let mut input = Link::new(Untold(reader(asked.bytes, cut.reads)));
     let mut output = Link::new(Untold(Narrow::new(alloc, cut)));

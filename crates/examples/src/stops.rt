@@ -66,7 +66,7 @@ pub fn answered<H: Storage>(
     events: &[Event],
     answers: &[Told],
 ) -> Result<usize, Fault>
-    requires { Clean H.IsIntact H.IsOpen host.old → IsAtRest H.IsSound (H.seen host.old) }
+    requires { Clean H.IsIntact H.IsOpen host.old → IsAtRest H.IsSoundStore (H.seen host.old) }
 {
     let mut count = 0usize;
     for event in events {

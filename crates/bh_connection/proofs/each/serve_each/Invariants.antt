@@ -8,9 +8,9 @@ abbrev pub invariant-loop-index : goal.invariant-loop-index
 invariant-loop-index g l = record {
   intact : g.H.Storage.IsIntact l.host → g.H.Storage.IsIntact l.fn.host;
   opened : g.H.Storage.IsIntact l.host → g.H.Storage.IsOpen l.host → g.H.Storage.IsOpen l.fn.host;
-  ready : Clean g.H.Storage.IsIntact g.H.Storage.IsOpen l.host → IsAtRest g.H.Storage.IsSound (g.H.Storage.seen l.host);
+  ready : Clean g.H.Storage.IsIntact g.H.Storage.IsOpen l.host → IsAtRest g.H.Storage.IsSoundStore (g.H.Storage.seen l.host);
   limits : (g.H.Storage.seen l.host).limits ≡ (g.H.Storage.seen l.fn.host).limits;
-  leaves : g.H.Storage.IsIntact l.host → LeavesSound g.H.Storage.IsSound g.H.Storage.left l.fn.host l.host;
+  leaves : g.H.Storage.IsIntact l.host → LeavesSound g.H.Storage.IsSoundStore g.H.Storage.left l.fn.host l.host;
   count : vec_len l.serveds ≡ l.index;
   room : vec_capacity l.serveds ≡ length l.fn.arrivals;
   rest : drop l.index l.arrivals ≡ drop l.index l.fn.arrivals;

@@ -30,7 +30,7 @@ loop-served-preserved g c =
       opened = λ intact opened. so_far.opened (one.intact intact) (one.opened intact opened);
       ready = one.ready;
       limits = one.limits ∙ so_far.limits;
-      leaves = λ intact. leaves_then g.H.Storage.IsSound g.H.Storage.left _ _ _ (so_far.leaves (one.intact intact)) (one.leaves intact);
+      leaves = λ intact. leaves_then g.H.Storage.IsSoundStore g.H.Storage.left _ _ _ (so_far.leaves (one.intact intact)) (one.leaves intact);
       operated = one.operated ∙ so_far.operated;
       ran = λ intact. ran_more g.H.Storage.IsIntact g.H.Storage.IsOpen g.H.Storage.seen g.H.Storage.left _ _ _ _ intact (so_far.ran (one.intact intact))
           (subst (λ b. DidFor g.H.Storage.IsIntact g.H.Storage.IsOpen g.H.Storage.seen g.H.Storage.left b c.loop-served.host c.serve_next.new.host) so_far.operated one.did);
@@ -66,4 +66,4 @@ returns-clause-listened g c =
 pub returns-in_err-serve_next-clause-leaves : goal.returns-in_err-serve_next-clause-leaves
 returns-in_err-serve_next-clause-leaves g c = λ intact.
     let one = c.serve_next.ensures in
-    leaves_then g.H.Storage.IsSound g.H.Storage.left _ _ _ (c.loop-served.invariant.leaves (one.intact intact)) (one.leaves intact)
+    leaves_then g.H.Storage.IsSoundStore g.H.Storage.left _ _ _ (c.loop-served.invariant.leaves (one.intact intact)) (one.leaves intact)

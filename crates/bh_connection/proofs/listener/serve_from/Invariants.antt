@@ -10,9 +10,9 @@ abbrev pub invariant-loop-served : goal.invariant-loop-served
 invariant-loop-served g l = record {
   intact : g.H.Storage.IsIntact l.host → g.H.Storage.IsIntact l.fn.host;
   opened : g.H.Storage.IsIntact l.host → g.H.Storage.IsOpen l.host → g.H.Storage.IsOpen l.fn.host;
-  ready : Clean g.H.Storage.IsIntact g.H.Storage.IsOpen l.host → IsAtRest g.H.Storage.IsSound (g.H.Storage.seen l.host);
+  ready : Clean g.H.Storage.IsIntact g.H.Storage.IsOpen l.host → IsAtRest g.H.Storage.IsSoundStore (g.H.Storage.seen l.host);
   limits : (g.H.Storage.seen l.host).limits ≡ (g.H.Storage.seen l.fn.host).limits;
-  leaves : g.H.Storage.IsIntact l.host → LeavesSound g.H.Storage.IsSound g.H.Storage.left l.fn.host l.host;
+  leaves : g.H.Storage.IsIntact l.host → LeavesSound g.H.Storage.IsSoundStore g.H.Storage.left l.fn.host l.host;
   operated : g.A.Acceptor.operated l.acceptor ≡ g.A.Acceptor.operated l.fn.acceptor;
   ran : g.H.Storage.IsIntact l.host → RanFor (g.A.Acceptor.operated l.fn.acceptor) g.H.Storage.IsOpen g.H.Storage.seen g.H.Storage.left l.fn.host l.host;
   listened : (visits : List Visit) × (length visits ≡ l.served) × Logs (g.A.Acceptor.calls l.fn.acceptor) (g.A.Acceptor.calls l.acceptor) (flat_map calls_of visits)

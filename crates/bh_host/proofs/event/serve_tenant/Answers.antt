@@ -1,10 +1,10 @@
 use Rattle.std.proofs.Common.{ℕ, List, ◌∙◌, subst}
 use Rattle.bh_http.specs.Views.{view as request_view}
-use Rattle.bh_machine.specs.Machine.{Asked, requested}
+use Rattle.bh_machine.specs.Machine.{RequestRead, requested}
 use Rattle.bh_storage.specs.Answers.{answer_view}
 use Rattle.bh_storage.specs.Calls.{Clean, IsWorking, Carries}
 use Rattle.std.specs.Prelude.{Ok}
-use Rattle.bh_host.specs.Turns.{Turned}
+use Rattle.bh_host.specs.Turns.{IsActDone}
 use Rattle.bh_host.proofs.Turning.{if_asked, limits_stay, turned_request}
 use Rattle.bh_host.proofs.event.serve_tenant.Goals as goal
 
@@ -15,10 +15,10 @@ returns-clause-turned g c =
     let seen = g.H.Storage.seen in
     let new = c.requested-outcome.new.host in
     let now = Clean g.H.Storage.IsIntact g.H.Storage.IsOpen new in
-    let turned : List ℕ → Type 0 = λ bytes. now → Turned (seen c.args.host.now).limits (Asked (Ok r)) c.args.at (seen c.args.host.now).now (seen new).now bytes in
+    let turned : List ℕ → Type 0 = λ bytes. now → IsActDone (seen c.args.host.now).limits (RequestRead (Ok r)) c.args.at (seen c.args.host.now).now (seen new).now bytes in
     let outcome = c.requested-outcome.ensures in
     let purge = c.in_ok-purge.ensures.goes_on in
-    if_asked c.request_text.result answer_view (Asked (Ok r)) c.requested-outcome.result (now → IsWorking g.H.Storage.IsSound (seen new)) turned c.request_text.ensures outcome.working
+    if_asked c.request_text.result answer_view (RequestRead (Ok r)) c.requested-outcome.result (now → IsWorking g.H.Storage.IsSoundStore (seen new)) turned c.request_text.ensures outcome.working
     (λ bytes working told clean.
     let mid : Clean g.H.Storage.IsIntact g.H.Storage.IsOpen c.purge.new.self = (outcome.within.intact clean.0, outcome.within.opened clean.0 clean.1) in
     let old : Clean g.H.Storage.IsIntact g.H.Storage.IsOpen c.args.host.now = (purge.within.intact mid.0, purge.within.opened mid.0 mid.1) in

@@ -10,9 +10,9 @@ abbrev pub invariant-loop-event : goal.invariant-loop-event
 invariant-loop-event g l = record {
   intact : g.H.Storage.IsIntact l.host → g.H.Storage.IsIntact l.fn.host;
   opened : g.H.Storage.IsIntact l.host → g.H.Storage.IsOpen l.host → g.H.Storage.IsOpen l.fn.host;
-  ready : Clean g.H.Storage.IsIntact g.H.Storage.IsOpen l.host → IsAtRest g.H.Storage.IsSound (g.H.Storage.seen l.host);
+  ready : Clean g.H.Storage.IsIntact g.H.Storage.IsOpen l.host → IsAtRest g.H.Storage.IsSoundStore (g.H.Storage.seen l.host);
   limits : (g.H.Storage.seen l.host).limits ≡ (g.H.Storage.seen l.fn.host).limits;
-  leaves : g.H.Storage.IsIntact l.host → LeavesSound g.H.Storage.IsSound g.H.Storage.left l.fn.host l.host;
+  leaves : g.H.Storage.IsIntact l.host → LeavesSound g.H.Storage.IsSoundStore g.H.Storage.left l.fn.host l.host;
   count : vec_len l.dones ≡ l.event-index;
   room : vec_capacity l.dones ≡ length l.events;
   ran : g.H.Storage.IsIntact l.host → RanOn g.H.Storage.IsOpen g.H.Storage.seen g.H.Storage.left (take l.event-index (map arrival l.events)) (map told l.dones.items) l.fn.host l.host;

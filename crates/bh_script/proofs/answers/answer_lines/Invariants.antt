@@ -8,7 +8,7 @@ use Rattle.bh_script.proofs.answers.answer_lines.Given as goal
 -- so far these lines were answered, the host is at rest, and the writer goes on
 abbrev pub invariant-loop-next : goal.invariant-loop-next
 invariant-loop-next g l = record {
-  rest : IsAtRest g.H.Storage.IsSound (g.H.Storage.seen l.storage);
+  rest : IsAtRest g.H.Storage.IsSoundStore (g.H.Storage.seen l.storage);
   going : l.writer.failed ≡ false;
   counted : l.number + length (lines_left l.next) ≡ length (lines l.bytes) + 1;
   answered : HasAnswered (lines l.bytes) (lines_left l.next) l.number (g.H.Storage.seen l.fn.storage).now (g.H.Storage.seen l.storage).now
