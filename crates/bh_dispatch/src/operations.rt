@@ -16,6 +16,7 @@ ghost use Rattle.bh_schema.specs.Working.{Works, StillWorks, StillWorksBy};
 ghost use Rattle.bh_dispatch.specs.Stored.{StoresBody};
 
 use crate::{answers, lifecycle, retention, uploads};
+use bh_cache::blocks::BlockCache;
 use bh_docs::read_versioning;
 use bh_objects::copies::NewCopy;
 use bh_objects::writes::NewObject;
@@ -25,7 +26,6 @@ use bh_operation::operation::{CopySource, Operation};
 use bh_operation::page::{Page, VersionMarker};
 use bh_operation::text::Bytes;
 use bh_pages::gathering::PageAsked;
-use bh_cache::blocks::BlockCache;
 use bh_schema::host::Digester;
 use bh_storage::answer::Answer;
 use bh_storage::error::{StepError, Trouble};

@@ -1,9 +1,9 @@
 ghost use Rattle.std.specs.Prelude.{◌≡◌, ◌≤◌};
 
 use crate::{answers, commands, operations};
+use bh_cache::blocks::BlockCache;
 use bh_event::event::Command;
 use bh_operation::operation::Operation;
-use bh_cache::blocks::BlockCache;
 use bh_schema::host::{Digester, Host};
 use bh_storage::answer::Answer;
 use bh_storage::error::{StepError, Trouble};

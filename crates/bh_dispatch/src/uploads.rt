@@ -15,11 +15,11 @@ ghost use Rattle.bh_cache.specs.Kept.{AreCopies};
 ghost use Rattle.bh_schema.specs.Working.{Works, StillWorks, StillWorksBy};
 
 use crate::answers;
+use bh_cache::blocks::BlockCache;
 use bh_docs::read_complete;
 use bh_operation::address::ObjectName;
 use bh_operation::page::{Page, PartPage, UploadMarker};
 use bh_pages::gathering::PageAsked;
-use bh_cache::blocks::BlockCache;
 use bh_schema::host::Digester;
 use bh_storage::answer::Answer;
 use bh_storage::error::{StepError, Trouble};

@@ -17,7 +17,7 @@ use crate::lines::version_lines;
 use crate::told::told_objects;
 use bh_docs::ObjectsPage;
 use bh_objects::reads::bucket_state;
-use bh_pages::gathering::{PageAsked, Listed, past};
+use bh_pages::gathering::{Listed, PageAsked, past};
 use bh_pages::reading::Reading;
 use bh_storage::error::{StepError, Trouble};
 use bh_types::bucket::BucketName;

@@ -8,7 +8,7 @@ ghost use Rattle.bh_docs.specs.Pages.{prefix_view, object_view, page_view};
 ghost use Rattle.bh_listing.specs.Told.{asked_view};
 
 use bh_docs::{CommonPrefix, ObjectEntry, ObjectsPage};
-use bh_pages::gathering::{PageAsked, Listed, ObjectLine};
+use bh_pages::gathering::{Listed, ObjectLine, PageAsked};
 use bh_storage::error::Trouble;
 use bh_types::moment::Moment;
 use std::alloc::{AllocError, Global};

@@ -20,8 +20,8 @@ ghost use Rattle.bh_open.specs.Versions.{schema_of, IsHostWith, IsAnyHost, IsTyp
 use crate::found::{FoundHost, HostVersion, NoHost};
 use crate::row::{found_in, host_rows};
 use crate::tables::{version_of, why_none};
-use bh_migration::bring_over;
 use bh_cache::blocks::BlockCache;
+use bh_migration::bring_over;
 use bh_schema::host::{Digester, Host};
 use bh_schema::rows::transactions::{begin, take_back};
 use bh_types::block_digest::BlockDigest;

@@ -173,7 +173,12 @@ impl Gathering {
     }
 
     /// A row more, whose key is under the prefix.
-    pub fn add(&mut self, alloc: Global, asked: &PageAsked<'_>, line: &Line) -> Result<(), AllocError>
+    pub fn add(
+        &mut self,
+        alloc: Global,
+        asked: &PageAsked<'_>,
+        line: &Line,
+    ) -> Result<(), AllocError>
         ensures { begins asked.now.prefix.now line.now.key.items ≡ true
             → OnOk result (seen self.new ≡ row_added asked.now (seen self.old) (seen_line line.now)) }
     {
@@ -207,7 +212,12 @@ impl Gathering {
     }
 
     /// Where to read on after the row before, which had this key.
-    pub fn place(&self, alloc: Global, asked: &PageAsked<'_>, key: &[u8]) -> Result<Vec<u8>, AllocError>
+    pub fn place(
+        &self,
+        alloc: Global,
+        asked: &PageAsked<'_>,
+        key: &[u8],
+    ) -> Result<Vec<u8>, AllocError>
         ensures { begins asked.now.prefix.now key.now ≡ true
             → IfOk result (λ place. place.items ≡ read_on asked.now (seen self.now) key.now) }
     {

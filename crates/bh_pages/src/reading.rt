@@ -4,7 +4,7 @@ ghost use Rattle.std.specs.Prelude.{◌≡◌, IfOk, OnOk};
 ghost use Rattle.bh_pages.specs.Seen.{seen};
 ghost use Rattle.bh_pages.specs.Reading.{IsCount, GoesOn, AreRows, IsUnderway, Took};
 
-use crate::gathering::{PageAsked, Gathering, Line, Listed};
+use crate::gathering::{Gathering, Line, Listed, PageAsked};
 use std::alloc::{AllocError, Global};
 
 /// How far the reading of a page has come.
@@ -36,7 +36,11 @@ pub(crate) fn next_count(gave: usize) -> u64
 }
 
 /// Where reading goes on: past the last row.
-fn past_last(alloc: Global, asked: &PageAsked<'_>, gathering: &Gathering) -> Result<Vec<u8>, AllocError>
+fn past_last(
+    alloc: Global,
+    asked: &PageAsked<'_>,
+    gathering: &Gathering,
+) -> Result<Vec<u8>, AllocError>
     ensures { IfOk result (λ from. GoesOn asked.now (seen gathering.now) from.items) }
 {
     match &gathering.key {

@@ -72,7 +72,12 @@ impl UploadGathering {
     }
 
     /// Lists an upload of a key under the prefix, or the name that it is rolled up under, if the page may.
-    fn add(&mut self, alloc: Global, asked: &PageAsked<'_>, line: &UploadLine) -> Result<(), AllocError>
+    fn add(
+        &mut self,
+        alloc: Global,
+        asked: &PageAsked<'_>,
+        line: &UploadLine,
+    ) -> Result<(), AllocError>
         ensures { begins asked.now.prefix.now line.now.key.items ≡ true
             → OnOk result (spec.seen self.new ≡ spec.upload_added asked.now (spec.seen self.old) (spec.seen_line line.now)) }
     {
@@ -133,7 +138,11 @@ fn past_line(alloc: Global, asked: &PageAsked<'_>, line: &UploadLine) -> Result<
 }
 
 /// The place past the last of some rows.
-fn past_last(alloc: Global, asked: &PageAsked<'_>, lines: &[UploadLine]) -> Result<Place, AllocError>
+fn past_last(
+    alloc: Global,
+    asked: &PageAsked<'_>,
+    lines: &[UploadLine],
+) -> Result<Place, AllocError>
     ensures { IfOk result (λ place. spec.PastLast asked.now lines.now (seen_place place)) }
 {
     if lines.is_empty() {

@@ -186,7 +186,11 @@ fn past_row(alloc: Global, asked: &PageAsked<'_>, line: &VersionLine) -> Result<
 }
 
 /// The place past the last of some rows.
-fn past_last(alloc: Global, asked: &PageAsked<'_>, lines: &[VersionLine]) -> Result<Place, AllocError>
+fn past_last(
+    alloc: Global,
+    asked: &PageAsked<'_>,
+    lines: &[VersionLine],
+) -> Result<Place, AllocError>
     ensures { IfOk result (λ place. spec.PastLast asked.now lines.now (spec.seen_place place)) }
 {
     if lines.is_empty() {

@@ -7,7 +7,7 @@ use crate::digest_runs::{answers, settings};
 use crate::dump::rows_of;
 use crate::ends::WHOLE;
 use crate::series::{Count, is_told, tell};
-use crate::served::{Sent, Passed, serve};
+use crate::served::{Passed, Sent, serve};
 use bh_blocks::digester::Sha256Digester;
 use bh_connection::End;
 use bh_create::create;

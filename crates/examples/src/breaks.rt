@@ -6,7 +6,7 @@ use crate::digest_runs::settings;
 use crate::dump::{rows_after, rows_of};
 use crate::ends::{Cut, WHOLE};
 use crate::series::{Count, events_of, tell};
-use crate::served::{Sent, Passed, serve};
+use crate::served::{Passed, Sent, serve};
 use bh_blocks::digester::Sha256Digester;
 use bh_connection::End;
 use bh_create::create;

@@ -52,5 +52,5 @@ returns-clause-moved g c same reading clean other given host =
     let found : find (is_tenant t) from.tenants ≡ Some (tenant_row t c.in-Some.numbers) = numbers_found t c.in-Some.numbers from.tenants (sym c.in-Some.is ∙ c.in_ok-numbers.ensures.found reading_n) in
     let vacant : find (is_tenant t) old.tenants ≡ None = none_mapped tenant_numbers _ (sym (c.in_ok-find_tenant.ensures.found clean_f) ∙ none_of _ absent) in
     let it = all.brought reading clean (subst (λ (x : Tables). find (is_tenant t) x.tenants ≡ Some (tenant_row t c.in-Some.numbers)) (sym two) found) (subst (λ (x : Tables). find (is_tenant t) x.tenants ≡ None) (sym three) vacant)
-        other (subst (IsSoundHost other) (sym two) given) (subst (IsSoundHost digest) (sym three) host) in
+    other (subst (IsSoundHost other) (sym two) given) (subst (IsSoundHost digest) (sym three) host) in
     subst (λ (o : Tables). IsBrought digest t from o new) three (subst (λ (f : Tables). IsBrought digest t f old_f new) two it)
