@@ -1,10 +1,11 @@
 //! The versions and delete markers of a tenant, and the bodies of versions.
 
 ghost use Rattle.std.specs.Prelude.{◌≡◌, ◌≤◌, ◌<◌, ◌^◌, List, map, IfOk, OnOk};
-ghost use Rattle.bh_tables.specs.Typed.{VersionRow};
+ghost use Rattle.bh_tables.specs.Typed.{BlockRow, VersionRow};
 ghost use Rattle.bh_view.specs.Blocks.{whole};
 ghost use Rattle.bh_view.specs.Bodies.{HasBodies, pieces, body_stored};
 ghost use Rattle.bh_view.specs.View.{rows_of};
+ghost use Rattle.bh_cache.specs.Kept.{Agrees, AreCopies};
 ghost use Rattle.bh_schema.specs.Connections.{IsClean, tables, InTransaction, StaysWithin, WasOpen, StaysOpen, ChangesNothing, Becomes};
 ghost use Rattle.bh_tenant_rows.specs.Shown.{shown_version};
 ghost use Rattle.bh_tenant_rows.specs.Brought.{version_after, with_version, with_versions, IsNext};
@@ -13,10 +14,12 @@ ghost use Rattle.bh_moved.specs.Rows.{own_version, version_of, seen_version, ver
 use crate::cells::number_at;
 use bh_blocks::bodies::store_body;
 use bh_blocks::reading::read_body;
+use bh_cache::blocks::BlockCache;
 use bh_schema::host::Digester;
 use bh_schema::rows::versions::{NewMarker, NewVersion, add_version, insert_marker};
 use bh_tenant_rows::reads::version_rows;
 use bh_types::checksum::digest_of;
+use bh_types::limits::{DEFAULT_BLOCK_SIZE, Tuning};
 use bh_types::range::RangePlan;
 use sqlite::{Alter, Connection, Error, ErrorCode, Row};
 use std::alloc::Global;
@@ -113,6 +116,17 @@ fn bring_marker<T: Alter>(to: &mut Connection<T>, tenant: &str, row: &Row) -> Re
     Ok(())
 }
 
+/// No block in memory, beside the rows of any host.
+fn no_blocks() -> BlockCache
+    ensures agrees { (blocks : List BlockRow) → Agrees result blocks }
+    ensures copies { (blocks : List BlockRow) → AreCopies result blocks }
+{
+    BlockCache::new(Tuning {
+        block_size: DEFAULT_BLOCK_SIZE,
+        cache_blocks: 0,
+    })
+}
+
 /// Stores the body of this name of another host's tenant.
 pub fn bring_body<S: Alter, T: Alter, D: Digester>(
     from: &mut Connection<S>,
@@ -137,9 +151,13 @@ pub fn bring_body<S: Alter, T: Alter, D: Digester>(
         (body_stored D.digest_of (tenant.now, body) 0 (pieces block_size
         (whole (tables S.Store from.old).refs (tables S.Store from.old).blocks (tenant.now, body))))) }
 {
-    let bytes = read_body(from, alloc, tenant, body, RangePlan::Whole)?;
+    let mut read = no_blocks();
+    let bytes = read_body(from, &mut read, alloc, tenant, body, RangePlan::Whole)?;
     let digest = digest_of(&bytes);
-    store_body(to, digester, block_size, tenant, body, &bytes, &digest)?;
+    let known = no_blocks();
+    store_body(
+        to, &known, digester, block_size, tenant, body, &bytes, &digest,
+    )?;
     Ok(())
 }
 
