@@ -8,7 +8,7 @@ ghost use Rattle.bh_tables.specs.Bodies.{placed};
 ghost use Rattle.bh_tables.specs.Shown.{ref_name, shown_ref};
 ghost use Rattle.bh_view.specs.Blocks.{AreDigests};
 ghost use Rattle.bh_view.specs.Bodies.{pieces, body_stored, body_again, body_copied, bodies_joined, body_dropped, AddsBody};
-ghost use Rattle.bh_schema.specs.Connections.{IsOpen, IsClean, stands, tables, InTransaction, InMidst, Turns, StaysWithin, StaysOpen, ChangesNothing, Becomes, IsTrouble, IsTroubleIf};
+ghost use Rattle.bh_schema.specs.Connections.{IsOpen, IsClean, stands, tables, InTransaction, InMidst, Rewrites, StaysWithin, StaysOpen, ChangesNothing, Becomes, IsTrouble, IsTroubleIf};
 ghost use Rattle.bh_cache.specs.Kept.{AreCopies};
 ghost use Rattle.bh_blocks.specs.Named.{body_at};
 ghost use Rattle.bh_blocks.specs.Added.{IsNewBody, bytes_in};
@@ -271,8 +271,8 @@ fn lower_named<S: Alter>(connection: &mut Connection<S>, row: &Row) -> Result<()
     ensures within { StaysWithin S.Store connection.old connection.new }
     ensures opens { OnOk result (StaysOpen S.Store connection.old connection.new) }
     ensures midst { OnOk result (InMidst S.Store connection.new) }
-    ensures turns { OnOk result ((r : RefRow) → row.now ≡ shown_ref r
-        → Turns S.Store connection.old connection.new (counted (lowered (ref_name r))) (λ rows. rows)) }
+    ensures rewrites { OnOk result ((r : RefRow) → row.now ≡ shown_ref r
+        → Rewrites S.Store connection.old connection.new (counted (lowered (ref_name r))) (λ rows. rows)) }
     ensures trouble { IfErr result (λ e. (r : RefRow) → row.now ≡ shown_ref r → IsTroubleIf S.Store connection.old connection.new
         (IsUsed (ref_name r) (stands S.Store connection.old)) e) }
 {
@@ -287,8 +287,8 @@ fn lower_all<S: Alter>(connection: &mut Connection<S>, rows: &[Row]) -> Result<(
     ensures within { StaysWithin S.Store connection.old connection.new }
     ensures opens { OnOk result (StaysOpen S.Store connection.old connection.new) }
     ensures midst { OnOk result (InMidst S.Store connection.new) }
-    ensures turns { OnOk result ((rs : List RefRow) → rows.now ≡ map shown_ref rs
-        → Turns S.Store connection.old connection.new (counted (lowered_by rs)) (λ rows. rows)) }
+    ensures rewrites { OnOk result ((rs : List RefRow) → rows.now ≡ map shown_ref rs
+        → Rewrites S.Store connection.old connection.new (counted (lowered_by rs)) (λ rows. rows)) }
     ensures trouble { IfErr result (λ e. (rs : List RefRow) → rows.now ≡ map shown_ref rs
         → IsTroubleIf S.Store connection.old connection.new
         (IsOpen S.Store connection.old × AreUsed rs (stands S.Store connection.old)) e) }

@@ -6,7 +6,7 @@ ghost use Rattle.sqlite_keyed.specs.Lists.{delete_where, sort_by};
 ghost use Rattle.bh_rows.specs.Means.{is_trouble};
 ghost use Rattle.bh_tables.specs.Typed.{RefRow, rebodied};
 ghost use Rattle.bh_tables.specs.Shown.{ref_name, is_block, is_of_body, is_at_place, by_place, shown_ref};
-ghost use Rattle.bh_schema.specs.Connections.{IsClean, tables, InTransaction, InMidst, Turns, StaysWithin, WasOpen, StaysOpen, ChangesNothing, Becomes, IsTrouble, IsTroubleIf};
+ghost use Rattle.bh_schema.specs.Connections.{IsClean, tables, InTransaction, InMidst, Rewrites, StaysWithin, WasOpen, StaysOpen, ChangesNothing, Becomes, IsTrouble, IsTroubleIf};
 ghost use Rattle.bh_blocks.specs.Named.{named_by, placed_at};
 
 use crate::rows::in_range;
@@ -86,7 +86,7 @@ pub fn insert_ref<S: Alter>(
     ensures within { StaysWithin S.Store connection.old connection.new }
     ensures opens { OnOk result (StaysOpen S.Store connection.old connection.new) }
     ensures midst { OnOk result (InMidst S.Store connection.new) }
-    ensures turns { OnOk result (Turns S.Store connection.old connection.new (λ sums. sums)
+    ensures rewrites { OnOk result (Rewrites S.Store connection.old connection.new (λ sums. sums)
         (λ rows. rebodied rows (rows.refs ++ placed_at at.now digest.now ord size ∷ []) rows.blocks)) }
     ensures trouble { IfErr result (IsTroubleIf S.Store connection.old connection.new
         ((list_any (is_at_place (at.now.tenant.now, at.now.body) at.now.place) (tables S.Store connection.old).refs ≡ false)
@@ -118,7 +118,7 @@ pub fn delete_refs<S: Alter>(
     ensures within { StaysWithin S.Store connection.old connection.new }
     ensures opens { OnOk result (StaysOpen S.Store connection.old connection.new) }
     ensures midst { OnOk result (InMidst S.Store connection.new) }
-    ensures turns { OnOk result (Turns S.Store connection.old connection.new (λ sums. sums)
+    ensures rewrites { OnOk result (Rewrites S.Store connection.old connection.new (λ sums. sums)
         (λ rows. rebodied rows (delete_where (is_of_body (tenant.now, body)) rows.refs) rows.blocks)) }
     ensures trouble { IfErr result (IsTrouble S.Store connection.old connection.new) }
 {

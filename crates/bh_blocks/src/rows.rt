@@ -6,7 +6,7 @@ ghost use Rattle.sqlite_keyed.specs.Lists.{delete_where, sort_by};
 ghost use Rattle.bh_rows.specs.Means.{is_trouble};
 ghost use Rattle.bh_tables.specs.Typed.{BlockRow as Stored, rebodied};
 ghost use Rattle.bh_tables.specs.Shown.{block_name, is_copy, is_block, is_use, has_digest, by_ord, shown_ord, shown_name, shown_bytes};
-ghost use Rattle.bh_schema.specs.Connections.{IsClean, tables, InTransaction, InMidst, Turns, StaysWithin, WasOpen, StaysOpen, ChangesNothing, IsTrouble, IsTroubleIf};
+ghost use Rattle.bh_schema.specs.Connections.{IsClean, tables, InTransaction, InMidst, Rewrites, StaysWithin, WasOpen, StaysOpen, ChangesNothing, IsTrouble, IsTroubleIf};
 ghost use Rattle.bh_blocks.specs.Named.{stored_name};
 ghost use Rattle.bh_blocks.specs.Uses.{IsNewName};
 
@@ -121,7 +121,7 @@ pub fn insert_block<S: Alter>(
     ensures within { StaysWithin S.Store connection.old connection.new }
     ensures opens { OnOk result (StaysOpen S.Store connection.old connection.new) }
     ensures midst { OnOk result (InMidst S.Store connection.new) }
-    ensures turns { OnOk result (Turns S.Store connection.old connection.new (λ sums. sums)
+    ensures rewrites { OnOk result (Rewrites S.Store connection.old connection.new (λ sums. sums)
         (λ rows. rebodied rows rows.refs (rows.blocks ++ record { digest = digest.now; ord = ord; bytes = bytes.now } ∷ []))) }
     ensures fresh { OnOk result (IsClean S.Store connection.new → IsNewName (digest.now, ord) (tables S.Store connection.old)) }
     ensures trouble { IfErr result (IsTroubleIf S.Store connection.old connection.new
@@ -146,7 +146,7 @@ pub fn delete_block<S: Alter>(
     ensures within { StaysWithin S.Store connection.old connection.new }
     ensures opens { OnOk result (StaysOpen S.Store connection.old connection.new) }
     ensures midst { OnOk result (InMidst S.Store connection.new) }
-    ensures turns { OnOk result (Turns S.Store connection.old connection.new (λ sums. sums)
+    ensures rewrites { OnOk result (Rewrites S.Store connection.old connection.new (λ sums. sums)
         (λ rows. rebodied rows rows.refs (delete_where (is_block (digest.now, ord)) rows.blocks))) }
     ensures trouble { IfErr result (IsTroubleIf S.Store connection.old connection.new
         (list_any (is_use (digest.now, ord)) (tables S.Store connection.old).refs ≡ false)) }

@@ -5,7 +5,7 @@ ghost use Rattle.std.specs.Prelude.{◌≡◌, ◌++◌, ◌∷◌, [], ◌<◌,
 ghost use Rattle.sqlite_keyed.specs.Lists.{delete_where};
 ghost use Rattle.bh_tables.specs.Typed.{counted, raised, lowered, is_named};
 ghost use Rattle.bh_tables.specs.Shown.{shown_name, unreferenced};
-ghost use Rattle.bh_schema.specs.Connections.{IsClean, stands, tables, InTransaction, InMidst, Turns, StaysWithin, WasOpen, StaysOpen, ChangesNothing, IsTrouble, IsTroubleIf};
+ghost use Rattle.bh_schema.specs.Connections.{IsClean, stands, tables, InTransaction, InMidst, Rewrites, StaysWithin, WasOpen, StaysOpen, ChangesNothing, IsTrouble, IsTroubleIf};
 ghost use Rattle.bh_blocks.specs.Uses.{IsUsed};
 
 use bh_schema::rows::number::number;
@@ -43,7 +43,7 @@ pub fn insert_use<S: Alter>(
     ensures within { StaysWithin S.Store connection.old connection.new }
     ensures opens { OnOk result (StaysOpen S.Store connection.old connection.new) }
     ensures midst { OnOk result (InMidst S.Store connection.new) }
-    ensures turns { OnOk result (Turns S.Store connection.old connection.new
+    ensures rewrites { OnOk result (Rewrites S.Store connection.old connection.new
         (counted (λ us. us ++ record { digest = digest.now; ord = ord; uses = pos 1 } ∷ [])) (λ rows. rows)) }
 {
     // Asked for what it ensures: the rows obey the schema.
@@ -65,7 +65,7 @@ pub fn raise_uses<S: Alter>(
     ensures within { StaysWithin S.Store connection.old connection.new }
     ensures opens { OnOk result (StaysOpen S.Store connection.old connection.new) }
     ensures midst { OnOk result (InMidst S.Store connection.new) }
-    ensures turns { OnOk result (Turns S.Store connection.old connection.new (counted (raised (digest.now, ord))) (λ rows. rows)) }
+    ensures rewrites { OnOk result (Rewrites S.Store connection.old connection.new (counted (raised (digest.now, ord))) (λ rows. rows)) }
 {
     // Asked for what it ensures: the rows obey the schema.
     let _schema = connection.schema();
@@ -86,7 +86,7 @@ pub fn lower_uses<S: Alter>(
     ensures within { StaysWithin S.Store connection.old connection.new }
     ensures opens { OnOk result (StaysOpen S.Store connection.old connection.new) }
     ensures midst { OnOk result (InMidst S.Store connection.new) }
-    ensures turns { OnOk result (Turns S.Store connection.old connection.new (counted (lowered (digest.now, ord))) (λ rows. rows)) }
+    ensures rewrites { OnOk result (Rewrites S.Store connection.old connection.new (counted (lowered (digest.now, ord))) (λ rows. rows)) }
     ensures trouble { IfErr result (IsTroubleIf S.Store connection.old connection.new
         (IsUsed (digest.now, ord) (stands S.Store connection.old))) }
 {
@@ -109,7 +109,7 @@ pub fn delete_use<S: Alter>(
     ensures within { StaysWithin S.Store connection.old connection.new }
     ensures opens { OnOk result (StaysOpen S.Store connection.old connection.new) }
     ensures midst { OnOk result (InMidst S.Store connection.new) }
-    ensures turns { OnOk result (Turns S.Store connection.old connection.new
+    ensures rewrites { OnOk result (Rewrites S.Store connection.old connection.new
         (counted (delete_where (is_named (digest.now, ord)))) (λ rows. rows)) }
     ensures trouble { IfErr result (IsTrouble S.Store connection.old connection.new) }
 {

@@ -1,6 +1,3 @@
-mod Endings
 mod Found
 mod Printing
 mod Refused
-mod Saved
-mod Verdicts

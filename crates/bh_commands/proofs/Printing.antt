@@ -6,7 +6,7 @@ use Rattle.bh_host.specs.Replies.{clock_text, wanting_text}
 use Rattle.bh_host.specs.declared.reply.Caller.TheVariants.{Operator}
 use Rattle.bh_host.specs.Turns.{IsToldApart, fixed}
 use Rattle.bh_commands.specs.Commands.{message_of, ordered_at}
-use Rattle.bh_commands.specs.Printing.{status_of}
+use Rattle.bh_maintenance.specs.Printing.{status_of}
 use Rattle.bh_commands.specs.declared.task.Task.{Task}
 use Rattle.bh_commands.specs.declared.task.Task.TheVariants.{Command, Sweep, Report, Tenants}
 

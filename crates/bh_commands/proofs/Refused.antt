@@ -1,24 +1,15 @@
--- Where no host was made or found, what stood stands.
-use Rattle.std.proofs.Common.{◌≡◌, ◌≢◌, ◌⊎◌, refl, ap, sym, subst, inl, inr}
+-- Where no host was made, what stood stands.
+use Rattle.std.proofs.Common.{◌≡◌, ◌≢◌, ap, sym, subst, inl, inr}
 use Rattle.sqlite_trees.specs.declared.store.Store.{Ghosts}
 use Rattle.sqlite.specs.Held.{Held, state}
-use Rattle.sqlite.specs.State.{State}
-use Rattle.bh_types.specs.Limits.{HostLimits}
 use Rattle.bh_types.specs.declared.refusal.Refusal.{Refusal}
 use Rattle.bh_types.specs.declared.refusal.Refusal.TheVariants.{NotAHostFile, Unavailable}
-use Rattle.bh_schema.specs.Layer.{standing, IsOpen, IsStateClean, KeepsDisk, LeavesNothingNew, taken_back}
+use Rattle.bh_schema.specs.Layer.{standing, IsStateClean, KeepsDisk, taken_back}
 use Rattle.bh_create.specs.Creation.{IsEmpty}
-use Rattle.bh_open.specs.Opening.{IsHostOf, LeavesOver}
-use Rattle.bh_commands.specs.Commands.{IsRefusal}
-use Rattle.bh_commands.specs.Subcommands.{IsNotFound, IsNotMade}
-use Rattle.bh_commands.specs.declared.printed.Printed.{Printed}
-
-is_no_host : (refusal : Refusal) → (refusal ≡ NotAHostFile) ⊎ (refusal ≢ NotAHostFile)
-is_no_host NotAHostFile = inl refl
-is_no_host _ = inr (λ e. cc)
-
-keeps_disk : (s : State) → KeepsDisk s s
-keeps_disk s = record { clean = λ x. x; intact = λ x. x; limit = refl }
+use Rattle.bh_maintenance.proofs.Refused.{is_no_host, keeps_disk}
+use Rattle.bh_maintenance.specs.Printing.{IsRefusal}
+use Rattle.bh_maintenance.specs.declared.printed.Printed.{Printed}
+use Rattle.bh_commands.specs.Subcommands.{IsNotMade}
 
 module _ {S : Type 0} (g : Ghosts S) (old new : Held S) (refusal : Refusal) (printed : Printed) (line : IsRefusal refusal printed) where
   pub not_made : (refusal ≡ NotAHostFile → (new ≡ old) × ¬ IsEmpty (state g old))
@@ -45,25 +36,5 @@ module _ {S : Type 0} (g : Ghosts S) (old new : Held S) (refusal : Refusal) (pri
         stays = λ clean. inr ((failed isnt).3 clean);
       };
       not_empty = λ h. absurd (isnt h);
-    }
-  ]
-
-  pub not_found : (refusal ≡ NotAHostFile → IsStateClean (state g new) → (standing (state g new) ≡ standing (state g old))
-      × ((limits : HostLimits) → ¬ IsHostOf limits (standing (state g old)).now))
-      → (refusal ≢ NotAHostFile → (refusal ≡ Unavailable) × (IsStateClean (state g new) → standing (state g new) ≡ taken_back (standing (state g old))))
-      → KeepsDisk (state g old) (state g new) → (refusal ≡ NotAHostFile → IsOpen (state g old) → LeavesNothingNew (state g old) (state g new))
-      → (IsOpen (state g old) → LeavesOver (state g old) (state g new)) → IsNotFound (state g old) (state g new) printed
-  not_found refused failed keeps quiet leaves = elim (is_no_host refusal) [
-    | inl is ↦ record {
-      alone = record { refusal = refusal; which = inl is; line = line; follows = keeps; stays = λ clean. inl (refused is clean).0 };
-      no_host = λ h clean. (refused h clean).1;
-      quiet = quiet;
-      crash = leaves;
-    }
-    | inr isnt ↦ record {
-      alone = record { refusal = refusal; which = inr (failed isnt).0; line = line; follows = keeps; stays = λ clean. inr ((failed isnt).1 clean) };
-      no_host = λ h. absurd (isnt h);
-      quiet = λ h. absurd (isnt h);
-      crash = leaves;
     }
   ]

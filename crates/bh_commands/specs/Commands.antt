@@ -1,6 +1,5 @@
 -- What is done on a host, and what is printed of it.
-use Rattle.std.specs.Prelude.{◌≡◌, ℕ, List, [], Option, is_some, option_and_then, codes}
-use Rattle.bh_types.specs.declared.refusal.Refusal.{Refusal}
+use Rattle.std.specs.Prelude.{◌≡◌, ℕ, List, Option, is_some, option_and_then}
 use Rattle.bh_event.specs.Events.{Arrival, Message, Ordered, SweepOrdered, ReportOrdered, TenantsOrdered, order_of}
 use Rattle.bh_tables.specs.Typed.{Tables}
 use Rattle.bh_storage.specs.Calls.{Seen, Clean, IsAtRest}
@@ -8,8 +7,8 @@ use Rattle.bh_host.specs.Runs.{Told}
 use Rattle.bh_connection.specs.Connections.{IsApplied}
 use Rattle.bh_connection.specs.Listening.{WasVisited}
 use Rattle.bh_connection.specs.Visits.{RanFor}
-use Rattle.bh_commands.specs.Printing.{line_of, status_of, status_told, refused_line}
-use Rattle.bh_commands.specs.declared.printed.Printed.{Printed}
+use Rattle.bh_maintenance.specs.Printing.{IsLine, IsNothing}
+use Rattle.bh_maintenance.specs.declared.printed.Printed.{Printed}
 use Rattle.bh_commands.specs.declared.task.Task.{Task}
 use Rattle.bh_commands.specs.declared.task.Task.TheVariants as task
 use Rattle.bh_commands.specs.declared.asked.Serving.{Serving}
@@ -26,32 +25,6 @@ message_of task.Tenants = TenantsOrdered
 -- at a reading of the clock, in seconds since 1970
 abbrev pub ordered_at : ℕ → Message → Arrival
 ordered_at reading message = record { reading = reading; message = message }
-
--- ---- what is printed
-
--- a line with its line feed, and status 1 where it is a refusal
-pub record IsLine (line : List ℕ) (printed : Printed) : Type 0 where
-  pub text : printed.text.items ≡ line_of line
-  pub status : printed.status ≡ status_of line
-
-pub record IsRefusal (refusal : Refusal) (printed : Printed) : Type 0 where
-  pub text : printed.text.items ≡ refused_line refusal
-  pub status : printed.status ≡ 1
-
--- `fault`, for a reason that no number tells
-pub record IsFault (printed : Printed) : Type 0 where
-  pub text : printed.text.items ≡ line_of (codes "fault")
-  pub status : printed.status ≡ 1
-
--- a host's reply to a line that was sent to it, and status 1 where it is a refusal or `bad line`
-pub record IsReply (reply : List ℕ) (printed : Printed) : Type 0 where
-  pub text : printed.text.items ≡ line_of reply
-  pub status : printed.status ≡ status_told reply
-
--- no byte, and status 0
-pub record IsNothing (printed : Printed) : Type 0 where
-  pub text : printed.text.items ≡ []
-  pub status : printed.status ≡ 0
 
 -- the secret of operators, if they come and have one
 abbrev pub secret_in : Serving → Option (List ℕ)

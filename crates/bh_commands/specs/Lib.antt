@@ -1,9 +1,5 @@
-pub mod Backups
 pub mod Clocks
 pub mod Commands
-pub mod Endings
 pub mod Files
 pub mod Input
-pub mod Printing
 pub mod Subcommands
-pub mod Checks

@@ -2,85 +2,41 @@
 use Rattle.std.specs.Prelude.{◌≡◌, ◌⊎◌, ℕ, Bool, true, false, IfSome, codes}
 use Rattle.sqlite_trees.specs.declared.store.Store.{Ghosts}
 use Rattle.sqlite.specs.Held.{Held, state}
-use Rattle.sqlite.specs.Schema.{Schema}
 use Rattle.sqlite.specs.State.{State}
 use Rattle.bh_types.specs.BlockDigests.{digest_number}
 use Rattle.bh_types.specs.Limits.{HostLimits}
 use Rattle.bh_types.specs.declared.block_digest.BlockDigest.{BlockDigest}
-use Rattle.bh_types.specs.declared.refusal.Refusal.{Refusal}
-use Rattle.bh_types.specs.declared.refusal.Refusal.TheVariants.{NotAHostFile, Unavailable}
-use Rattle.bh_tables.specs.Hosts.{tables_shown, tables_opened}
-use Rattle.bh_tables.specs.Schema.{Octets, first_schema, host_schema}
-use Rattle.bh_tables.specs.Typed.{Tables}
+use Rattle.bh_types.specs.declared.refusal.Refusal.TheVariants.{NotAHostFile}
+use Rattle.bh_tables.specs.Hosts.{tables_opened}
+use Rattle.bh_tables.specs.Schema.{Octets}
 use Rattle.bh_view.specs.Bodies.{IsSoundHost}
 use Rattle.bh_view.specs.View.{latest_of}
 use Rattle.bh_storage.specs.Calls.{IsAtRest}
 use Rattle.bh_cache.specs.Kept.{no_blocks}
-use Rattle.bh_schema.specs.Layer.{standing, IsOpen, IsStateClean, KeepsDisk, LeavesNothingNew, Unwinds}
+use Rattle.bh_schema.specs.Layer.{standing, IsStateClean, KeepsDisk}
 use Rattle.bh_schema.specs.Storage.{seen_in}
 use Rattle.bh_schema.specs.Storage as storage
 use Rattle.bh_create.specs.Creation.{IsEmpty, IsNewHost}
-use Rattle.bh_migration.specs.Migration.{Settles}
-use Rattle.bh_open.specs.Opening.{digest_in, IsHostOf, LeavesOver}
-use Rattle.bh_open.specs.Versions.{IsTypedIfFirst}
+use Rattle.bh_open.specs.Opening.{digest_in}
 use Rattle.bh_open.specs.declared.open.Opened.{Opened}
 use Rattle.bh_blocks.specs.Digests.{digest_by, digester_of, the_digester}
 use Rattle.bh_dispatch.specs.declared.storage.HostStorage.{HostStorage}
 use Rattle.bh_words.specs.declared.lines.ClockGiven.{ClockGiven}
+use Rattle.bh_maintenance.specs.Endings.{IsLeft}
+use Rattle.bh_maintenance.specs.Found.{IsSoundIn, IsOpenedAs, IsLeftAlone, IsNotFound}
+use Rattle.bh_maintenance.specs.Printing.{IsFault, IsLine}
+use Rattle.bh_maintenance.specs.declared.ending.Left.{Left}
+use Rattle.bh_maintenance.specs.declared.printed.Printed.{Printed}
 use Rattle.bh_commands.specs.Clocks.{leaps}
-use Rattle.bh_commands.specs.Commands.{HasDone, StaysReady, IsFault, IsLine, IsRefusal}
-use Rattle.bh_commands.specs.Endings.{IsLeft}
+use Rattle.bh_commands.specs.Commands.{HasDone, StaysReady}
 use Rattle.bh_commands.specs.declared.asked.FileTask.{FileTask}
 use Rattle.bh_commands.specs.declared.asked.FileTask.TheVariants.{Init, Host}
 use Rattle.bh_commands.specs.declared.asked.Work.{Work}
-use Rattle.bh_commands.specs.declared.ending.Left.{Left}
-use Rattle.bh_commands.specs.declared.printed.Printed.{Printed}
-
--- a sound host's tables, its blocks named by the function that its row tells
-pub record IsSoundByItsRow (tables : Tables) : Type 0 where
-  pub digest : BlockDigest
-  pub row : digest_number digest ≡ digest_in tables
-  pub sound : IsSoundHost (digest_by digest) tables
-
--- the tables are a host's, of version 1 or of the present one
-abbrev pub IsHostsSchema : Schema → Type 0
-IsHostsSchema schema = (schema ≡ first_schema) ⊎ (schema ≡ host_schema)
-
--- so are those of the host that a database is once it is opened, if it is one
-abbrev pub IsSoundIn : State → Type 0
-IsSoundIn s = IsStateClean s → IsHostsSchema (standing s).now.schema → IsSoundByItsRow (tables_opened (standing s).now)
 
 -- a new host needs nothing of it
 abbrev pub IsReadyFor : FileTask → State → Type 0
 IsReadyFor (Init limits digest) s = Unit {0}
 IsReadyFor (Host clock work) s = IsSoundIn s
-
--- a database was opened as a host: one of the present version stands as it stood, and one of version 1 was brought over, in one
--- commit. It shows what it was to show; rows under the schema of version 1 are to be typed rows
-pub record IsOpenedAs (old new : State) : Type 0 where
-  pub schema : IsHostsSchema (standing old).now.schema
-  pub same : IsStateClean new → (standing old).now.schema ≡ host_schema → standing new ≡ standing old
-  pub brought : IsStateClean new → (standing old).now.schema ≡ first_schema → Settles (standing old) (standing new)
-  pub shows : IsStateClean new → IsTypedIfFirst (standing old).now → tables_shown (standing new).now ≡ tables_opened (standing old).now
-  pub follows : KeepsDisk old new
-  pub crash : IsOpen old → LeavesOver old new
-
--- a refusal alone, of what is no host's file or for want of memory or the store. What stands is what stood, and no more than
--- a transaction that was open is taken back
-pub record IsLeftAlone (old new : State) (printed : Printed) : Type 0 where
-  pub refusal : Refusal
-  pub which : (refusal ≡ NotAHostFile) ⊎ (refusal ≡ Unavailable)
-  pub line : IsRefusal refusal printed
-  pub follows : KeepsDisk old new
-  pub stays : IsStateClean new → Unwinds (standing old) (standing new)
-
--- no host is found in a database. Only where the commit failed that was to bring one of version 1 over may a crash leave
--- anything else than before: all of it brought over
-pub record IsNotFound (old new : State) (printed : Printed) : Type 0 where
-  pub alone : IsLeftAlone old new printed
-  pub no_host : alone.refusal ≡ NotAHostFile → IsStateClean new → (limits : HostLimits) → ¬ IsHostOf limits (standing old).now
-  pub quiet : alone.refusal ≡ NotAHostFile → IsOpen old → LeavesNothingNew old new
-  pub crash : IsOpen old → LeavesOver old new
 
 -- none is made in it
 pub record IsNotMade (old new : State) (printed : Printed) : Type 0 where
@@ -104,11 +60,6 @@ module _ {S : Type 0} (g : Ghosts S) where
 
   abbrev pub host_by : (digest : BlockDigest) → Opened S → HostStorage S (digester_of digest)
   host_by digest opened = host_with opened (the_digester digest)
-
-  -- it is at rest, with blocks named by a function, and its last stamp is the one that was read
-  pub record IsReadyBy (digest : Octets → Octets) (opened : Opened S) : Type 0 where
-    pub rest : IsStateClean (state g opened.connection) → IsAtRest (IsSoundHost digest) (seen_in opened.limits (state g opened.connection))
-    pub latest : IsStateClean (state g opened.connection) → opened.latest ≡ latest_of (seen_in opened.limits (state g opened.connection)).now
 
   -- a connection was opened as a host, which shows what stood, of version 1 brought over, and is at rest
   pub record IsFound {D : Type 0} (digest : Octets → Octets) (old : Held S) (host : HostStorage S D) : Type 0 where

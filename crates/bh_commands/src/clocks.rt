@@ -4,12 +4,10 @@ ghost use Rattle.std.specs.Prelude.{◌≡◌, IfOk, IfSome};
 ghost use Rattle.bh_commands.specs.Clocks as spec;
 
 use bh_connection::{Clock, MachineClock};
+use bh_maintenance::remarks::DAY;
 use bh_types::moment::LAST_READING;
 use bh_words::Leap;
 use std::io;
-
-/// The seconds of a day.
-pub(crate) const DAY: u64 = 86_400;
 
 /// The reading that was given, or the machine's clock, in whole seconds since 1970.
 pub(crate) fn reading_of(rt: &HostRuntime, at: Option<u64>) -> io::Result<u64>

@@ -2,17 +2,26 @@
 
 ghost use Rattle.std.specs.Prelude.{IfOk};
 ghost use Rattle.bh_storage.specs.Calls.{Clean, IsAtRest};
+ghost use Rattle.bh_host.specs.Replies.{reply_bytes};
+ghost use Rattle.bh_maintenance.specs.Printing.{IsLine};
 ghost use Rattle.bh_commands.specs.Commands.{message_of, ordered_at, IsTold, HasDone, HasServed, StaysReady};
 
 use crate::asked::{Serving, Work};
-use crate::fault::Fault;
-use crate::printed::Printed;
 use crate::task::Task;
 use bh_connection::{MachineClock, serve_port};
-use bh_host::apply;
+use bh_host::{Reply, apply};
+use bh_maintenance::fault::Fault;
+use bh_maintenance::printed::Printed;
 use bh_operation::routes::Routes;
 use bh_storage::storage::Storage;
 use std::alloc::{AllocError, Global};
+
+/// A reply to an operator.
+fn printed_of(alloc: Global, reply: &Reply) -> Result<Printed, AllocError>
+    ensures { IfOk result (IsLine (reply_bytes reply.now)) }
+{
+    Printed::line(alloc, reply.bytes())
+}
 
 /// Does what an operator asks at a reading of the clock, in seconds since 1970, and prints the reply.
 pub fn apply_command<H: Storage>(
@@ -28,7 +37,7 @@ pub fn apply_command<H: Storage>(
 {
     let event = task.at(reading);
     let told = apply(alloc, routes, host, &event);
-    let printed = Printed::reply(alloc, &told.reply)?;
+    let printed = printed_of(alloc, &told.reply)?;
     Ok(printed)
 }
 

@@ -1,57 +1,25 @@
 //! What is asked of files.
 
-ghost use Rattle.std.specs.Prelude.{◌≡◌, None, IfOk};
+ghost use Rattle.std.specs.Prelude.{IfOk};
 ghost use Rattle.sqlite.specs.Files.{file_state};
 ghost use Rattle.sqlite_wal.specs.Files.{image_at};
-ghost use Rattle.bh_types.specs.declared.refusal.Refusal.TheVariants as refusal;
-ghost use Rattle.bh_file.specs.Opened.{IsOpenedOn};
-ghost use Rattle.bh_commands.specs.Commands.{IsRefusal};
-ghost use Rattle.bh_commands.specs.Files.{HoldsFor, HoldsSoundHost, IsEnded, AreDone, IsAnswered};
+ghost use Rattle.bh_maintenance.specs.Files.{HoldsSoundHost};
+ghost use Rattle.bh_commands.specs.Files.{HoldsFor, IsEnded, AreDone, IsAnswered};
 ghost use Rattle.bh_commands.specs.Subcommands.{IsReadyFor};
 ghost use Rattle.bh_commands.specs.declared.asked.FileTask.TheVariants as the_file;
 
 use crate::asked::{FileTask, Work};
-use crate::ending::{Ended, close};
-use crate::fault::Fault;
 use crate::hosts::on_connection;
-use crate::printed::Printed;
-use crate::remarks::{Remark, tell};
-use bh_file::{FileConnection, OpenFault};
+use bh_file::OpenFault;
+use bh_maintenance::ending::{Ended, close};
+use bh_maintenance::fault::Fault;
+use bh_maintenance::files::{is_blank, open, without_files};
+use bh_maintenance::printed::Printed;
 use bh_types::block_digest::BlockDigest;
 use bh_types::limits::{Limits, Tuning};
-use bh_types::refusal::Refusal;
 use bh_words::ClockGiven;
 use sqlite::{Connection, FileFrom, FileStore, Files, Start};
 use sqlite_disk::Disk;
-use std::alloc::{AllocError, Global};
-use std::io::ErrorKind;
-use std::{fs, io};
-
-/// Whether a path names nothing, or a file of no bytes. Such a file holds no host, and stays as it is.
-pub(crate) fn is_blank(rt: &HostRuntime, path: &str) -> io::Result<bool> {
-    match fs::metadata(rt, path) {
-        Ok(data) if data.is_file() && data.len() == 0 => {
-            tell(rt, path, &Remark::EmptyFile);
-            Ok(true)
-        }
-        Ok(_) => Ok(false),
-        Err(error) if error.kind() == ErrorKind::NotFound => {
-            tell(rt, path, &Remark::NoFile);
-            Ok(true)
-        }
-        Err(error) => Err(error),
-    }
-}
-
-/// What is printed where there is no host.
-pub(crate) fn without_files<D: Disk + Drop>(alloc: Global) -> Result<Ended<D>, AllocError>
-    ensures { IfOk result (λ ended. (ended.files ≡ None) × IsRefusal refusal.NotAHostFile ended.printed) }
-{
-    Ok(Ended {
-        printed: Printed::refusal(alloc, Refusal::NotAHostFile)?,
-        files: None,
-    })
-}
 
 /// Does what is asked on the connection of files, and closes them.
 fn on_files<D: Disk + Drop>(
@@ -66,20 +34,6 @@ fn on_files<D: Disk + Drop>(
 {
     let (printed, left) = on_connection(rt, path, connection, tuning, asked)?;
     Ok((printed, close(left)))
-}
-
-/// Opens files, or makes them. A fault names the path.
-pub(crate) fn open<S: Start>(
-    rt: &HostRuntime,
-    path: &str,
-    start: S,
-) -> Result<FileConnection<S>, Fault>
-    ensures { IfOk result (λ connection. IsOpenedOn (image_at S.Start) (file_state connection)) }
-{
-    match bh_file::open_file(rt, path, start) {
-        Ok(connection) => Ok(connection),
-        Err(reason) => Err(Fault::unopened(rt.alloc(), path, reason)),
-    }
 }
 
 /// Opens files, or makes them, does what is asked, and closes them.

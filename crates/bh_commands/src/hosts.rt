@@ -1,49 +1,35 @@
 //! What is asked of a file, done on its connection, whatever store that is over.
 
-ghost use Rattle.std.specs.Prelude.{◌≡◌, IfOk, MatchResult};
+ghost use Rattle.std.specs.Prelude.{◌≡◌, IfOk};
 ghost use Rattle.sqlite.specs.Held.{state};
 ghost use Rattle.bh_blocks.specs.Digests.{digest_by};
 ghost use Rattle.bh_view.specs.Bodies.{IsSoundHost};
 ghost use Rattle.bh_view.specs.View.{latest_of};
 ghost use Rattle.bh_schema.specs.Storage.{IsClean, seen};
 ghost use Rattle.bh_storage.specs.Calls.{IsAtRest};
-ghost use Rattle.bh_commands.specs.Commands.{IsFault, IsRefusal};
-ghost use Rattle.bh_commands.specs.Endings.{IsLeft};
-ghost use Rattle.bh_commands.specs.Subcommands.{IsSoundIn, IsReadyFor, IsReadyBy, IsOpenedAs, IsNotFound, host_with, host_by, Makes, IsWorkedOn, IsWorkedInTime, Works, CarriesOut, LeavesDone};
+ghost use Rattle.bh_maintenance.specs.Endings.{IsLeft};
+ghost use Rattle.bh_maintenance.specs.Found.{IsSoundIn, IsReadyBy, IsNotFound};
+ghost use Rattle.bh_maintenance.specs.Printing.{IsFault};
+ghost use Rattle.bh_commands.specs.Subcommands.{IsReadyFor, host_with, host_by, Makes, IsWorkedOn, IsWorkedInTime, Works, CarriesOut, LeavesDone};
 
 use crate::asked::{FileTask, Work};
 use crate::clocks::{leaps, reading_of};
 use crate::commands::do_work;
-use crate::ending::{Done, Left, leave};
-use crate::fault::Fault;
-use crate::printed::Printed;
-use crate::remarks::{Ahead, Remark, tell};
 use bh_blocks::digester::{FastDigester, Sha256Digester};
 use bh_create::create;
 use bh_dispatch::storage::HostStorage;
-use bh_open::{NoHost, Opened, is_hosts, open_host};
+use bh_maintenance::ending::{Done, Left, leave};
+use bh_maintenance::fault::Fault;
+use bh_maintenance::hosts::{refused, why_not_found};
+use bh_maintenance::printed::Printed;
+use bh_maintenance::remarks::{Ahead, Remark, tell};
+use bh_open::{Opened, is_hosts, open_host};
 use bh_schema::host::{Digester, Host};
 use bh_types::block_digest::BlockDigest;
 use bh_types::limits::{Limits, Tuning};
-use bh_types::refusal::Refusal;
 use bh_words::ClockGiven;
 use sqlite::{Alter, Connection, Error};
 use std::alloc::{AllocError, Global};
-
-/// A refusal of what the connection shows, which stays.
-pub(crate) fn refused<S: Alter + Drop>(
-    alloc: Global,
-    connection: Connection<S>,
-    refusal: Refusal,
-) -> Result<Done<S>, AllocError>
-    ensures { IfOk result (λ done. (done.connection ≡ connection) × IsRefusal refusal done.printed) }
-{
-    let printed = Printed::refusal(alloc, refusal)?;
-    Ok(Done {
-        printed,
-        connection,
-    })
-}
 
 /// Why no host was made in a database.
 fn why_not_made<S: Alter>(
@@ -58,33 +44,6 @@ fn why_not_made<S: Alter>(
         Ok(true) => Remark::HasHost,
         Ok(false) => Remark::HasTables,
         Err(error) => Remark::Trouble(error),
-    }
-}
-
-/// Why no host was found in a database.
-pub(crate) fn why_not_found(why: Option<NoHost>, cause: Option<Error>) -> Remark {
-    match cause {
-        Some(error) => Remark::Trouble(error),
-        None => Remark::NoHost(why.unwrap_or(NoHost::NoRow)),
-    }
-}
-
-/// The connection of a database that holds a host, which was brought over if it was of version 1, or the refusal of one that
-/// doesn't.
-pub(crate) fn found_host<S: Alter + Drop>(
-    rt: &HostRuntime,
-    path: &str,
-    connection: Connection<S>,
-) -> Result<Result<Connection<S>, Done<S>>, AllocError>
-    ensures { IfOk result (λ found. MatchResult found (λ new. IsOpenedAs (state S.Store connection) (state S.Store new))
-        (λ done. IsNotFound (state S.Store connection) (state S.Store done.connection) done.printed)) }
-{
-    match open_host(rt.alloc(), connection, Tuning::default()) {
-        Ok(opened) => Ok(Ok(opened.connection)),
-        Err(error) => {
-            tell(rt, path, &why_not_found(error.why, error.cause));
-            Ok(Err(refused(rt.alloc(), error.connection, error.refusal)?))
-        }
     }
 }
 

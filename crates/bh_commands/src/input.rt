@@ -4,12 +4,13 @@ ghost use Rattle.std.specs.Prelude.{◌≡◌, IfOk};
 ghost use Rattle.std.specs.String.{string_bytes};
 ghost use Rattle.bh_commands.specs.Input as spec;
 
-use crate::fault::Fault;
-use crate::printed::Printed;
 use bh_blocks::digester::{FastDigester, Sha256Digester};
 use bh_link::ends::Untold;
 use bh_link::link::Link;
+use bh_maintenance::fault::Fault;
+use bh_maintenance::printed::Printed;
 use bh_schema::host::Digester;
+use bh_script::error::ScriptError;
 use bh_script::input::{BadLine, read_all};
 use bh_script::script::answer_script;
 use bh_types::block_digest::BlockDigest;
@@ -18,6 +19,14 @@ use bh_words::SecretGiven;
 use std::alloc::{AllocError, Global};
 use std::io;
 use std::io::{BufWriter, Write};
+
+/// Why a script ended.
+fn fault_of(error: ScriptError) -> Fault {
+    match error {
+        ScriptError::Trouble(_) => Fault::Memory,
+        ScriptError::WriteFailed => Fault::Output,
+    }
+}
 
 /// All bytes of standard input.
 fn read_input(rt: &(impl Input + AllocGlobal)) -> Result<Vec<u8>, Fault> {
@@ -47,7 +56,7 @@ fn answer_bytes<D: Digester + Drop>(
 ) -> Result<Option<BadLine>, Fault> {
     let output = BufWriter::new(rt.alloc(), io::writer(rt))?;
     let mut writer = Link::new(Untold(output));
-    let bad_line = answer_script(
+    let answered = answer_script(
         rt.alloc(),
         bytes,
         digester,
@@ -55,9 +64,14 @@ fn answer_bytes<D: Digester + Drop>(
         limits,
         tuning,
         &mut writer,
-    )?;
-    writer.into_inner().0.flush()?;
-    Ok(bad_line)
+    );
+    match answered {
+        Ok(bad_line) => {
+            writer.into_inner().0.flush()?;
+            Ok(bad_line)
+        }
+        Err(error) => Err(fault_of(error)),
+    }
 }
 
 /// Answers the script of standard input on standard output. Nothing is left to print.

@@ -1,9 +1,9 @@
 //! An operator's line, sent to a host that serves.
 
-use crate::fault::Fault;
 use crate::input::secret_of;
-use crate::printed::Printed;
 use crate::secrets::operator_secret;
+use bh_maintenance::fault::Fault;
+use bh_maintenance::printed::Printed;
 use bh_words::SecretGiven;
 use std::alloc::{AllocError, Global};
 use std::io;

@@ -1,4 +1,4 @@
 pub mod Answers
 pub mod Replies
 pub mod Runs
-pub mod IsServed
+pub mod Turns

@@ -11,7 +11,7 @@ use Rattle.bh_model.specs.Runs.{purged_tenant, settled, solo_state}
 use Rattle.bh_model.specs.State.{Octets, State, absent}
 use Rattle.bh_operation.specs.declared.operation.Operation.{Operation}
 use Rattle.bh_model.proofs.BoundLemmas.{KeepsBound, changes_fit, settings_use_no_more, purged_fits, fits_later, purge_uses_no_more, changes_keep_bound, settings_keep_bound, used_stays_bounded}
-use Rattle.bh_machine.specs.Machine.{Act, Act.Asked, Act.Commanded, operated, ordered, change, step}
+use Rattle.bh_machine.specs.Machine.{Act, Act.RequestRead, Act.Commanded, operated, ordered, change, step}
 use Rattle.bh_machine.specs.Bounded.{StepsKeepQuota, StepsStayBounded, RunsStayBounded}
 use Rattle.bh_machine.proofs.Changing.{plainly_holds, operated_as, asked_as, key_added_as, key_removed_as, usage_shown_as, keys_shown_as, ordered_as, settled_as, step_as}
 

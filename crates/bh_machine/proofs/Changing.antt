@@ -24,7 +24,7 @@ use Rattle.bh_operation.specs.Operations.{operation}
 use Rattle.bh_operation.specs.declared.operation.Operation.{Operation}
 use Rattle.bh_operation.specs.declared.operation.Operation.TheVariants as op
 use Rattle.bh_model.proofs.Changes.{Changes, Settings}
-use Rattle.bh_machine.specs.Machine.{Act, Act.Asked, Act.Commanded, page_asked, place_asked, upload_asked, naming, operated, requested, asked, ordered, change, step, set_versioning, set_lifecycle, set_retention, finish_upload}
+use Rattle.bh_machine.specs.Machine.{Act, Act.RequestRead, Act.Commanded, page_asked, place_asked, upload_asked, naming, operated, requested, asked, ordered, change, step, set_versioning, set_lifecycle, set_retention, finish_upload}
 
 module _ (R : Option State → Option State → Type 0) (now : ℕ) (all : Changes R now) (s : Option State) where
   abbrev Holds : {E : Type 0} → Result Outcome E → Type 0

@@ -10,7 +10,7 @@ use Rattle.bh_types.specs.Limits.{HostLimits}
 use Rattle.bh_types.specs.Moments.{moment_of}
 use Rattle.bh_types.specs.Names.{is_tenant_name, is_key_name, is_secret}
 use Rattle.bh_types.specs.Outcomes.{◌>>=◌, require}
-use Rattle.bh_types.specs.Ranges.{RequestRead as Range, Between, From, Last, asked_in, part, planned_if_asked, range_of}
+use Rattle.bh_types.specs.Ranges.{Asked as Range, Between, From, Last, asked_in, part, planned_if_asked, range_of}
 use Rattle.bh_types.specs.Refusing.{RefusedOnly}
 use Rattle.bh_types.specs.Rejections.{plain, plainly}
 use Rattle.bh_types.specs.declared.access_key.AccessKeyId.{AccessKeyId}

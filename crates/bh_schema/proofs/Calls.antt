@@ -324,7 +324,7 @@ pub record Turn (old new : State) (after : Totals → Totals) (change : Tables �
   pub within : StateWithin old new
   pub opens : OnOk result (IsIntact new → IsOpen old → IsOpen new)
   pub midst : OnOk result (IsStateClean new → IsMidst (standing new))
-  pub turns : OnOk result (IsStateClean new → (sums : Totals) → IsInsideBy sums (standing old) → HoldsBy (after sums) (change (tables_in (standing old).now)) (standing new))
+  pub rewrites : OnOk result (IsStateClean new → (sums : Totals) → IsInsideBy sums (standing old) → HoldsBy (after sums) (change (tables_in (standing old).now)) (standing new))
 
 turn : (old new : State) (after : Totals → Totals) (change : Tables → Tables) (result : Result ℕ Error) → (IsStateClean old → IsMidst (standing old)) → Changes old new result
     → (HasCleanDisk new → IsTrue old.is_open → OnOk result ((sums : Totals) → IsHostBy sums old.now → IsHostBy (after sums) new.now × (tables new ≡ change (tables old)))) → Turn old new after change result
@@ -333,7 +333,7 @@ turn old new after change result midst changes each = record {
   within = changes_within old new inside result changes;
   opens = changes_opens old new inside result changes;
   midst = whole result turned;
-  turns = turned;
+  rewrites = turned;
 }
   where
     inside : IsStateClean old → (standing old).inside ≡ true

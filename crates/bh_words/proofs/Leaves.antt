@@ -1,15 +1,16 @@
 -- Words that `clap` takes tell a line.
-use Rattle.std.proofs.Common.{◌≡◌, ◌++◌, ◌≤◌, ◌^◌, ◌-◌, ℕ, true, List, [], ◌∷◌, Some, inl, inr, refl, arith, codes, map}
+use Rattle.std.proofs.Common.{◌≡◌, ◌++◌, ◌≤◌, ◌/◌, ◌^◌, ◌-◌, ℕ, true, List, [], ◌∷◌, Option, Some, None, inl, inr, refl, arith, codes, map}
 use Rattle.std.specs.Prelude.{is_some}
+use Rattle.std.proofs.Math.Nat.{min-le_right}
 use Rattle.std.proofs.lemmas.Bool.{le-leb}
 use Rattle.clap.specs.Simple.{Shape, filled_from, help_rule}
 use Rattle.clap.specs.Walk.{Row, Text, first_of, rows_after}
 use Rattle.bh_words.proofs.Valued.{IsLeaf, IsTaken, default-value, number_in, required-value}
 use Rattle.bh_words.specs.Commands.{options, shape, word}
 use Rattle.bh_words.specs.Options.{rule}
-use Rattle.bh_words.specs.Readings.{at, clock_at, is_given, leap_at, leap_of, limits_at, line_at, number_of, tuning_at}
+use Rattle.bh_words.specs.Readings.{at, cache_of, clock_at, is_given, leap_at, leap_of, limits_at, line_at, number_at, number_of, tuning_at}
 use Rattle.bh_words.specs.declared.lines.Leap.{Leap}
-use Rattle.bh_words.specs.declared.options.OptionName.TheVariants.{Force}
+use Rattle.bh_words.specs.declared.options.OptionName.TheVariants.{CacheBytes, Force}
 use Rattle.bh_words.specs.declared.subcommands.Subcommand.{Subcommand}
 use Rattle.bh_words.specs.declared.subcommands.Subcommand.TheVariants as subcommand
 
@@ -25,7 +26,7 @@ abbrev pub rows_of_words : Subcommand → List Text → List Row
 rows_of_words s words = rows_after (leaf s).rules [] words
 
 pub leaf-fine : (s : Subcommand) → IsLeaf (leaf s)
-leaf-fine subcommand.Script = record { fine = ((refl, inl (refl, refl), tt), ((refl, inl (refl, refl), tt), ((refl, inl (refl, refl), tt), ((refl, inl (refl, refl), tt), ((refl, inl (refl, refl), tt), ((refl, inr (inr refl), tt), tt)))))); once = refl; negates = refl }
+leaf-fine subcommand.Script = record { fine = ((refl, inl (refl, refl), tt), ((refl, inl (refl, refl), tt), ((refl, inl (refl, refl), tt), ((refl, inl (refl, refl), tt), ((refl, inl (refl, refl), tt), ((refl, inl (refl, refl), tt), ((refl, inr (inr refl), tt), tt))))))); once = refl; negates = refl }
 leaf-fine subcommand.Init = record { fine = ((refl, inl (refl, refl), tt), ((refl, inl (refl, refl), tt), ((refl, inl (refl, refl), tt), ((refl, inl (refl, refl), tt), ((refl, inr (inr refl), tt), tt))))); once = refl; negates = refl }
 leaf-fine subcommand.TenantAdd = record { fine = ((refl, inl (refl, refl), tt), ((refl, inl (refl, refl), tt), ((refl, inl (refl, refl), tt), ((refl, inl (refl, refl), tt), ((refl, inl (refl, refl), tt), ((refl, inr (inl (refl, refl, refl)), tt), ((refl, inr (inr refl), tt), tt))))))); once = refl; negates = refl }
 leaf-fine subcommand.Quota = record { fine = ((refl, inl (refl, refl), tt), ((refl, inl (refl, refl), tt), ((refl, inl (refl, refl), tt), ((refl, inl (refl, refl), tt), ((refl, inl (refl, refl), tt), ((refl, inr (inl (refl, refl, refl)), tt), ((refl, inr (inr refl), tt), tt))))))); once = refl; negates = refl }
@@ -40,7 +41,7 @@ leaf-fine subcommand.Sweep = record { fine = ((refl, inl (refl, refl), tt), ((re
 leaf-fine subcommand.Backup = record { fine = ((refl, inl (refl, refl), tt), ((refl, inl (refl, refl), tt), ((refl, inr (inr refl), tt), tt))); once = refl; negates = refl }
 leaf-fine subcommand.Export = record { fine = ((refl, inl (refl, refl), tt), ((refl, inl (refl, refl), tt), ((refl, inl (refl, refl), tt), ((refl, inr (inr refl), tt), tt)))); once = refl; negates = refl }
 leaf-fine subcommand.Import = record { fine = ((refl, inl (refl, refl), tt), ((refl, inl (refl, refl), tt), ((refl, inr (inr refl), tt), tt))); once = refl; negates = refl }
-leaf-fine subcommand.Serve = record { fine = ((refl, inl (refl, refl), tt), ((refl, inl (refl, refl), tt), ((refl, inl (refl, refl), tt), ((refl, inr (inl (refl, refl, refl)), tt), ((refl, inl (refl, refl), tt), ((refl, inl (refl, refl), tt), ((refl, inr (inl (refl, refl, refl)), tt), ((refl, inl (refl, refl), tt), ((refl, inl (refl, refl), tt), ((refl, inl (refl, refl), tt), ((refl, inl (refl, refl), tt), ((refl, inr (inr refl), tt), tt)))))))))))); once = refl; negates = refl }
+leaf-fine subcommand.Serve = record { fine = ((refl, inl (refl, refl), tt), ((refl, inl (refl, refl), tt), ((refl, inl (refl, refl), tt), ((refl, inr (inl (refl, refl, refl)), tt), ((refl, inl (refl, refl), tt), ((refl, inl (refl, refl), tt), ((refl, inr (inl (refl, refl, refl)), tt), ((refl, inl (refl, refl), tt), ((refl, inl (refl, refl), tt), ((refl, inl (refl, refl), tt), ((refl, inl (refl, refl), tt), ((refl, inl (refl, refl), tt), ((refl, inr (inr refl), tt), tt))))))))))))); once = refl; negates = refl }
 leaf-fine subcommand.Tell = record { fine = ((refl, inl (refl, refl), tt), ((refl, inl (refl, refl), tt), ((refl, inl (refl, refl), tt), ((refl, inr (inr refl), tt), tt)))); once = refl; negates = refl }
 
 limits-given : (rows : List Row) (v w : Text) (n m : ℕ) → first_of (codes "min-part") rows ≡ Some v → number_of 64 v ≡ Some n
@@ -49,11 +50,17 @@ limits-given : (rows : List Row) (v w : Text) (n m : ℕ) → first_of (codes "m
 unfolding limits_at
 limits-given rows v w n m a b c d e f g = rw (a, b, c, d, le-leb n (2 ^ 30) e, le-leb 1 m f, le-leb m (2 ^ 30) g) refl
 
+few-cached : (n m : ℕ) (bytes : Option ℕ) → m ≤ 65_536 → cache_of n m bytes ≤ 65_536
+few-cached n m None e = e
+few-cached n m (Some bytes) e = min-le_right (bytes / n) 65_536
+
 tuning-given : (rows : List Row) (v w : Text) (n m : ℕ) → first_of (codes "block-size") rows ≡ Some v → number_of 64 v ≡ Some n
     → first_of (codes "cache-blocks") rows ≡ Some w → number_of 64 w ≡ Some m → 1 ≤ n → n ≤ 1_048_576 → m ≤ 65_536
-    → tuning_at rows ≡ Some (record { block_size = n; cache_blocks = m })
+    → tuning_at rows ≡ Some (record { block_size = n; cache_blocks = cache_of n m (number_at 64 CacheBytes rows) })
 unfolding tuning_at
-tuning-given rows v w n m a b c d e f g = rw (a, b, c, d, le-leb 1 n e, le-leb n 1_048_576 f, le-leb m 65_536 g) refl
+tuning-given rows v w n m a b c d e f g =
+    let few = few-cached n m (number_at 64 CacheBytes rows) g in
+    rw (a, b, c, d, le-leb 1 n e, le-leb n 1_048_576 f, le-leb _ 65_536 few) refl
 
 leap-given : (rows : List Row) (v : Text) (n : ℕ) → first_of (codes "clock-leap") rows ≡ Some v → number_of 32 v ≡ Some n
     → leap_at rows ≡ Some (leap_of (is_given Force rows) n)

@@ -4,7 +4,7 @@ use Rattle.clap.specs.Words.{App, Shape, Text, with_rule, with_subcommand}
 use Rattle.clap.specs.Simple.{new_shape}
 use Rattle.bh_words.specs.Options.{rule}
 use Rattle.bh_words.specs.declared.options.OptionName.{OptionName}
-use Rattle.bh_words.specs.declared.options.OptionName.TheVariants.{File, To, From, Tenant, Name, Secret, Quota, At, ClockLeap, Force, Limit, Port, Count, Log, Timeout, MinPart, MaxBody, BlockSize, CacheBlocks, Digest, OperatorPort, OperatorSecretFile, SecretFile, Order}
+use Rattle.bh_words.specs.declared.options.OptionName.TheVariants.{File, To, From, Tenant, Name, Secret, Quota, At, ClockLeap, Force, Limit, Port, Count, Log, Timeout, MinPart, MaxBody, BlockSize, CacheBlocks, CacheBytes, Digest, OperatorPort, OperatorSecretFile, SecretFile, Order}
 use Rattle.bh_words.specs.declared.subcommands.Subcommand.{Subcommand}
 use Rattle.bh_words.specs.declared.subcommands.Subcommand.TheVariants as subcommand
 
@@ -29,7 +29,7 @@ word subcommand.Tell = codes "tell"
 
 -- each subcommand's options
 abbrev pub options : Subcommand → List OptionName
-options subcommand.Script = BlockSize ∷ MinPart ∷ MaxBody ∷ CacheBlocks ∷ Digest ∷ []
+options subcommand.Script = BlockSize ∷ MinPart ∷ MaxBody ∷ CacheBlocks ∷ CacheBytes ∷ Digest ∷ []
 options subcommand.Init = File ∷ MinPart ∷ MaxBody ∷ Digest ∷ []
 options subcommand.TenantAdd = File ∷ Tenant ∷ Quota ∷ At ∷ ClockLeap ∷ Force ∷ []
 options subcommand.Quota = File ∷ Tenant ∷ Quota ∷ At ∷ ClockLeap ∷ Force ∷ []
@@ -44,7 +44,8 @@ options subcommand.Sweep = File ∷ Limit ∷ At ∷ ClockLeap ∷ Force ∷ []
 options subcommand.Backup = File ∷ To ∷ []
 options subcommand.Export = File ∷ Tenant ∷ To ∷ []
 options subcommand.Import = File ∷ From ∷ []
-options subcommand.Serve = File ∷ Port ∷ Count ∷ Log ∷ Timeout ∷ ClockLeap ∷ Force ∷ BlockSize ∷ CacheBlocks ∷ OperatorPort ∷ OperatorSecretFile ∷ []
+options subcommand.Serve = File ∷ Port ∷ Count ∷ Log ∷ Timeout ∷ ClockLeap ∷ Force ∷ BlockSize ∷ CacheBlocks ∷ CacheBytes ∷ OperatorPort
+    ∷ OperatorSecretFile ∷ []
 options subcommand.Tell = Port ∷ SecretFile ∷ Order ∷ []
 
 abbrev pub subcommands : List Subcommand

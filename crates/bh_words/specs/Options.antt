@@ -1,11 +1,11 @@
 -- The options of the subcommands, as `clap` describes them: each has one value, or none.
-use Rattle.std.specs.Prelude.{ℕ, ◌-◌, ◌^◌, [], ◌∷◌, codes, decimal, true, Some}
+use Rattle.std.specs.Prelude.{ℕ, ◌-◌, ◌*◌, ◌^◌, [], ◌∷◌, codes, decimal, true, Some}
 use Rattle.clap.specs.Words.{Rule, Text, new_rule}
 use Rattle.clap.specs.declared.builder.action.ArgAction.TheVariants.{SetTrue}
 use Rattle.clap.specs.declared.builder.value_parser.ValueParser.TheVariants.{Unsigned}
 use Rattle.bh_types.specs.Limits.{default_limits, default_tuning}
 use Rattle.bh_words.specs.declared.options.OptionName.{OptionName}
-use Rattle.bh_words.specs.declared.options.OptionName.TheVariants.{File, To, From, Tenant, Name, Secret, Quota, At, ClockLeap, Force, Limit, Port, Count, Log, Timeout, MinPart, MaxBody, BlockSize, CacheBlocks, Digest, OperatorPort, OperatorSecretFile, SecretFile, Order}
+use Rattle.bh_words.specs.declared.options.OptionName.TheVariants.{File, To, From, Tenant, Name, Secret, Quota, At, ClockLeap, Force, Limit, Port, Count, Log, Timeout, MinPart, MaxBody, BlockSize, CacheBlocks, CacheBytes, Digest, OperatorPort, OperatorSecretFile, SecretFile, Order}
 
 -- an option is written `--word value` or `--word=value`
 abbrev pub word : OptionName → Text
@@ -28,6 +28,7 @@ word MinPart = codes "min-part"
 word MaxBody = codes "max-body"
 word BlockSize = codes "block-size"
 word CacheBlocks = codes "cache-blocks"
+word CacheBytes = codes "cache-bytes"
 word Digest = codes "digest"
 word OperatorPort = codes "operator-port"
 word OperatorSecretFile = codes "operator-secret-file"
@@ -89,6 +90,7 @@ rule MinPart = preset default_limits.min_part (number MinPart 0 (2 ^ 30))
 rule MaxBody = preset default_limits.max_body (number MaxBody 1 (2 ^ 30))
 rule BlockSize = preset default_tuning.block_size (number BlockSize 1 1_048_576)
 rule CacheBlocks = preset default_tuning.cache_blocks (number CacheBlocks 0 65_536)
+rule CacheBytes = number CacheBytes 0 (65_536 * 1_048_576)
 rule Digest = worded (codes "sha256") (described Digest)
 rule OperatorPort = number OperatorPort 0 65_535
 rule OperatorSecretFile = described OperatorSecretFile

@@ -1,5 +1,5 @@
 -- The line that the matches of a command line tell.
-use Rattle.std.specs.Prelude.{◌≡◌, ℕ, Bool, false, ◌^◌, ◌&&◌, List, codes, find, nat_le, nat_lt, Option, Some, None, Result, Ok, Err, if◌then◌else◌}
+use Rattle.std.specs.Prelude.{◌≡◌, ℕ, Bool, false, ◌/◌, ◌^◌, ◌&&◌, List, codes, find, min, nat_le, nat_lt, Option, Some, None, Result, Ok, Err, if◌then◌else◌}
 use Rattle.std.specs.Option.{option_map_or}
 use Rattle.std.specs.Str.{bytes_eq}
 use Rattle.std.specs.Str.Parse.{digits_value, without_leading_plus}
@@ -93,6 +93,14 @@ tuning_of block_size cache_blocks =
     if nat_le 1 block_size && (nat_le block_size 1_048_576 && nat_le cache_blocks 65_536)
     then Some (record { block_size = block_size; cache_blocks = cache_blocks }) else None
 
+-- as many blocks as so many bytes hold whole, at most as many as may stay in memory
+abbrev pub blocks_in : ℕ → ℕ → ℕ
+blocks_in bytes block_size = min (bytes / block_size) 65_536
+
+-- where bytes are given, the number of blocks doesn't count
+abbrev pub cache_of : ℕ → ℕ → Option ℕ → ℕ
+cache_of block_size cache_blocks cache_bytes = option_map_or (λ bytes. blocks_in bytes block_size) cache_bytes cache_blocks
+
 unfoldable pub limits_at : List Row → Option HostLimits
 limits_at rows = do
   min_part ← number_at 64 option.MinPart rows
@@ -103,7 +111,7 @@ unfoldable pub tuning_at : List Row → Option HostTuning
 tuning_at rows = do
   block_size ← number_at 64 option.BlockSize rows
   cache_blocks ← number_at 64 option.CacheBlocks rows
-  tuning_of block_size cache_blocks
+  tuning_of block_size (cache_of block_size cache_blocks (number_at 64 option.CacheBytes rows))
 
 -- the digest function of this word
 abbrev pub digest_of : Text → Option BlockDigest

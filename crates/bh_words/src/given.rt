@@ -8,7 +8,7 @@ ghost use Rattle.bh_words.specs.declared.options.OptionName.TheVariants as optio
 use crate::lines::{ClockGiven, Leap, SecretGiven};
 use crate::options::OptionName;
 use bh_types::block_digest::BlockDigest;
-use bh_types::limits::{Limits, Tuning};
+use bh_types::limits::{GREATEST_CACHE_BLOCKS, Limits, Tuning};
 use clap::ArgMatches;
 use std::alloc::{AllocError, Global};
 
@@ -215,7 +215,29 @@ pub(crate) fn tuning(given: &ArgMatches<'_>) -> Option<Tuning>
 {
     let block_size = number(given, OptionName::BlockSize)?;
     let cache_blocks = number(given, OptionName::CacheBlocks)?;
-    tuning_of(block_size, cache_blocks)
+    let cache_bytes = number(given, OptionName::CacheBytes);
+    tuning_of(block_size, cache_of(block_size, cache_blocks, cache_bytes))
+}
+
+// How many blocks may stay in memory: bytes are heeded rather than a number of blocks.
+fn cache_of(block_size: u64, cache_blocks: u64, cache_bytes: Option<u64>) -> u64
+    ensures { result ≡ spec.cache_of block_size cache_blocks cache_bytes }
+{
+    match cache_bytes {
+        Some(bytes) => blocks_in(bytes, block_size),
+        None => cache_blocks,
+    }
+}
+
+// A block size of 0 is refused in any case.
+#[tactic(auto, using(crate::proofs::Numbers::no_size))]
+fn blocks_in(bytes: u64, block_size: u64) -> u64
+    ensures { result ≡ spec.blocks_in bytes block_size }
+{
+    if block_size == 0 {
+        return 0;
+    }
+    (bytes / block_size).min(GREATEST_CACHE_BLOCKS)
 }
 
 fn tuning_of(block_size: u64, cache_blocks: u64) -> Option<Tuning>

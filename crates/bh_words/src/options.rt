@@ -29,6 +29,7 @@ pub(crate) enum OptionName {
     MaxBody,
     BlockSize,
     CacheBlocks,
+    CacheBytes,
     Digest,
     OperatorPort,
     OperatorSecretFile,
@@ -61,6 +62,7 @@ impl OptionName {
             OptionName::MaxBody => "max-body",
             OptionName::BlockSize => "block-size",
             OptionName::CacheBlocks => "cache-blocks",
+            OptionName::CacheBytes => "cache-bytes",
             OptionName::Digest => "digest",
             OptionName::OperatorPort => "operator-port",
             OptionName::OperatorSecretFile => "operator-secret-file",
@@ -95,6 +97,8 @@ impl OptionName {
             OptionName::MaxBody => "The most bytes of a body: 1 to 2^30",
             OptionName::BlockSize => "The bytes of a block: 1 to 1,048,576",
             OptionName::CacheBlocks => "How many blocks that were read stay in memory: 0 to 65,536",
+            OptionName::CacheBytes =>
+                "So many bytes of blocks stay in memory at most, whatever --cache-blocks says: 0 to 2^36",
             OptionName::Digest =>
                 "Which function names blocks, as long as the host is there: sha256 or fast",
             OptionName::OperatorPort =>
@@ -133,6 +137,7 @@ impl OptionName {
             OptionName::MaxBody => self.number(alloc, 1, 1 << 30).default_value("16777216"),
             OptionName::BlockSize => self.number(alloc, 1, 1_048_576).default_value("65536"),
             OptionName::CacheBlocks => self.number(alloc, 0, 65_536).default_value("0"),
+            OptionName::CacheBytes => self.number(alloc, 0, 1 << 36),
             OptionName::Digest => self.described(alloc).default_value("sha256"),
             OptionName::OperatorPort => self.number(alloc, 0, 65_535),
             OptionName::OperatorSecretFile | OptionName::SecretFile => self.described(alloc),

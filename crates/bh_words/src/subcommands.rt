@@ -27,11 +27,12 @@ pub(crate) enum Subcommand {
     Tell,
 }
 
-static SCRIPT: [OptionName; 5] = [
+static SCRIPT: [OptionName; 6] = [
     OptionName::BlockSize,
     OptionName::MinPart,
     OptionName::MaxBody,
     OptionName::CacheBlocks,
+    OptionName::CacheBytes,
     OptionName::Digest,
 ];
 
@@ -101,7 +102,7 @@ static EXPORT: [OptionName; 3] = [OptionName::File, OptionName::Tenant, OptionNa
 
 static IMPORT: [OptionName; 2] = [OptionName::File, OptionName::From];
 
-static SERVE: [OptionName; 11] = [
+static SERVE: [OptionName; 12] = [
     OptionName::File,
     OptionName::Port,
     OptionName::Count,
@@ -111,6 +112,7 @@ static SERVE: [OptionName; 11] = [
     OptionName::Force,
     OptionName::BlockSize,
     OptionName::CacheBlocks,
+    OptionName::CacheBytes,
     OptionName::OperatorPort,
     OptionName::OperatorSecretFile,
 ];

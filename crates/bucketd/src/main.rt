@@ -1,7 +1,9 @@
 //! bucketd: a host of S3 buckets for many tenants.
 #![tactic(auto)]
 
-use bh_commands::{Fault, Printed, carry_out};
+use bh_commands::carry_out;
+use bh_maintenance::fault::Fault;
+use bh_maintenance::printed::Printed;
 use bh_words::read_words;
 use std::io::Write;
 use std::process::ExitCode;

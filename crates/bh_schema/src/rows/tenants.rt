@@ -3,7 +3,7 @@ ghost use Rattle.sqlite_keyed.specs.Lists.{update_where};
 ghost use Rattle.bh_tables.specs.Typed.{TenantRow as Stored, Tables, totals_of, used_changed};
 ghost use Rattle.bh_tables.specs.Shown.{is_tenant, shown_tenant, shown_account};
 ghost use Rattle.bh_rows.specs.Means.{is_trouble};
-ghost use Rattle.bh_schema.specs.Connections.{IsClean, tables, InTransaction, InMidst, Turns, StaysWithin, WasOpen, StaysOpen, ChangesNothing, Becomes, IsTrouble, IsTroubleIf};
+ghost use Rattle.bh_schema.specs.Connections.{IsClean, tables, InTransaction, InMidst, Rewrites, StaysWithin, WasOpen, StaysOpen, ChangesNothing, Becomes, IsTrouble, IsTroubleIf};
 ghost use Rattle.bh_schema.specs.Rows.{tenant_numbers, tenant_account, IsNewTenant};
 
 use crate::rows::number::number;
@@ -245,7 +245,7 @@ pub fn use_entry<S: Alter>(
     ensures within { StaysWithin S.Store connection.old connection.new }
     ensures opens { OnOk result (StaysOpen S.Store connection.old connection.new) }
     ensures midst { OnOk result (InMidst S.Store connection.new) }
-    ensures turns { OnOk result (Turns S.Store connection.old connection.new (used_changed tenant.now more less)
+    ensures rewrites { OnOk result (Rewrites S.Store connection.old connection.new (used_changed tenant.now more less)
         (λ rows. record rows { tenants = update_where (is_tenant tenant.now) (λ t. record t { next_entry = next }) rows.tenants })) }
 {
     // Asked for what it ensures: the rows obey the schema.
@@ -274,7 +274,7 @@ pub fn use_numbers<S: Alter>(
     ensures within { StaysWithin S.Store connection.old connection.new }
     ensures opens { OnOk result (StaysOpen S.Store connection.old connection.new) }
     ensures midst { OnOk result (InMidst S.Store connection.new) }
-    ensures turns { OnOk result (Turns S.Store connection.old connection.new (used_changed tenant.now more less)
+    ensures rewrites { OnOk result (Rewrites S.Store connection.old connection.new (used_changed tenant.now more less)
         (λ rows. record rows {
           tenants =
               update_where (is_tenant tenant.now) (λ t. record t { next_version = version; next_entry = entry }) rows.tenants;
@@ -305,7 +305,7 @@ pub fn use_less<S: Alter>(
     ensures within { StaysWithin S.Store connection.old connection.new }
     ensures opens { OnOk result (StaysOpen S.Store connection.old connection.new) }
     ensures midst { OnOk result (InMidst S.Store connection.new) }
-    ensures turns { OnOk result (Turns S.Store connection.old connection.new (used_changed tenant.now 0 less) (λ rows. rows)) }
+    ensures rewrites { OnOk result (Rewrites S.Store connection.old connection.new (used_changed tenant.now 0 less) (λ rows. rows)) }
 {
     // Asked for what it ensures: the rows obey the schema.
     let _schema = connection.schema();

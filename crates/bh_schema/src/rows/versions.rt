@@ -6,7 +6,7 @@ ghost use Rattle.bh_tables.specs.Typed.{VersionRow as Stored};
 ghost use Rattle.bh_tables.specs.Bodies.{resolved};
 ghost use Rattle.bh_tables.specs.Shown.{is_version, is_at, is_in_bucket, by_id, shown_head, shown_seq, newer};
 ghost use Rattle.bh_rows.specs.Means.{is_trouble};
-ghost use Rattle.bh_schema.specs.Connections.{IsClean, tables, InTransaction, InMidst, Turns, StaysWithin, WasOpen, StaysOpen, ChangesNothing, Becomes, IsTrouble, IsTroubleIf};
+ghost use Rattle.bh_schema.specs.Connections.{IsClean, tables, InTransaction, InMidst, Rewrites, StaysWithin, WasOpen, StaysOpen, ChangesNothing, Becomes, IsTrouble, IsTroubleIf};
 ghost use Rattle.bh_schema.specs.Rows.{seen_head, newest_at, IsNewVersion};
 ghost use Rattle.bh_schema.specs.Views.{head_seen};
 ghost use Rattle.bh_schema.specs.Written.{with_version, without_version, with_next, with_numbers, bytes_of_id};
@@ -227,7 +227,7 @@ fn insert_version<S: Alter>(
     ensures within { StaysWithin S.Store connection.old connection.new }
     ensures opens { OnOk result (StaysOpen S.Store connection.old connection.new) }
     ensures midst { OnOk result (InMidst S.Store connection.new) }
-    ensures turns { OnOk result (Turns S.Store connection.old connection.new (λ sums. sums) (with_version version.now)) }
+    ensures rewrites { OnOk result (Rewrites S.Store connection.old connection.new (λ sums. sums) (with_version version.now)) }
 {
     // Asked for what it ensures: the rows obey the schema.
     let _schema = connection.schema();
@@ -259,7 +259,7 @@ fn remove_version<S: Alter>(
     ensures within { StaysWithin S.Store connection.old connection.new }
     ensures opens { OnOk result (StaysOpen S.Store connection.old connection.new) }
     ensures midst { OnOk result (InMidst S.Store connection.new) }
-    ensures turns { OnOk result (Turns S.Store connection.old connection.new (λ sums. sums)
+    ensures rewrites { OnOk result (Rewrites S.Store connection.old connection.new (λ sums. sums)
         (without_version tenant.now bucket.now okey.now id)) }
 {
     // Asked for what it ensures: the rows obey the schema.

@@ -4,7 +4,7 @@ ghost use Rattle.bh_rows.specs.Means.{is_trouble};
 ghost use Rattle.bh_tables.specs.Typed.{PartRow as Stored};
 ghost use Rattle.bh_tables.specs.Bodies.{resolved_part};
 ghost use Rattle.bh_tables.specs.Shown.{is_part, is_part_of, shown_part, shown_body};
-ghost use Rattle.bh_schema.specs.Connections.{IsClean, tables, InTransaction, InMidst, Turns, StaysWithin, WasOpen, StaysOpen, ChangesNothing, IsTrouble};
+ghost use Rattle.bh_schema.specs.Connections.{IsClean, tables, InTransaction, InMidst, Rewrites, StaysWithin, WasOpen, StaysOpen, ChangesNothing, IsTrouble};
 ghost use Rattle.bh_uploads.specs.Rows.{seen_row, row_seen, part_body, stored_part, listed_parts};
 
 use bh_core::parts::PartRow;
@@ -198,7 +198,7 @@ pub fn insert_part<S: Alter>(
     ensures within { StaysWithin S.Store connection.old connection.new }
     ensures opens { OnOk result (StaysOpen S.Store connection.old connection.new) }
     ensures midst { OnOk result (InMidst S.Store connection.new) }
-    ensures turns { OnOk result (Turns S.Store connection.old connection.new (λ sums. sums)
+    ensures rewrites { OnOk result (Rewrites S.Store connection.old connection.new (λ sums. sums)
         (λ rows. record rows { parts = rows.parts ++ resolved_part rows.refs rows.blocks (stored_part part.now) ∷ [] })) }
 {
     // Asked for what it ensures: the rows obey the schema.
@@ -230,7 +230,7 @@ pub fn delete_part<S: Alter>(
     ensures within { StaysWithin S.Store connection.old connection.new }
     ensures opens { OnOk result (StaysOpen S.Store connection.old connection.new) }
     ensures midst { OnOk result (InMidst S.Store connection.new) }
-    ensures turns { OnOk result (Turns S.Store connection.old connection.new (λ sums. sums)
+    ensures rewrites { OnOk result (Rewrites S.Store connection.old connection.new (λ sums. sums)
         (λ rows. record rows { parts = delete_where (is_part tenant.now upload part) rows.parts })) }
     ensures trouble { IfErr result (IsTrouble S.Store connection.old connection.new) }
 {
@@ -253,7 +253,7 @@ pub fn delete_parts<S: Alter>(
     ensures within { StaysWithin S.Store connection.old connection.new }
     ensures opens { OnOk result (StaysOpen S.Store connection.old connection.new) }
     ensures midst { OnOk result (InMidst S.Store connection.new) }
-    ensures turns { OnOk result (Turns S.Store connection.old connection.new (λ sums. sums)
+    ensures rewrites { OnOk result (Rewrites S.Store connection.old connection.new (λ sums. sums)
         (λ rows. record rows { parts = delete_where (is_part_of tenant.now upload) rows.parts })) }
     ensures trouble { IfErr result (IsTrouble S.Store connection.old connection.new) }
 {

@@ -32,5 +32,5 @@ returns-clause-added g c clean =
     subst (λ rows. Holds rows (standing e)) (added_twice t r block)
     (ended a e counts (λ rows. with_ref (with_block rows)) (λ _. one.within.follows.clean first) c.requires.inside
     (then_turned a d e (λ s. s) counts (λ rows. with_ref (with_block rows)) (λ rows. rows) three.within.follows.clean
-    (then_turned a b d (λ s. s) (λ s. s) with_block with_ref two.within.follows.clean one.turns two.turns) three.turns)
+    (then_turned a b d (λ s. s) (λ s. s) with_block with_ref two.within.follows.clean one.rewrites two.rewrites) three.rewrites)
     (λ was. piece_law t r block refl (one.fresh first)) clean)

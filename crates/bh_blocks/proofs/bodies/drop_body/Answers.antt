@@ -38,7 +38,7 @@ returns-clause-dropped g c clean =
     let counts : Totals → Totals = counted (lowered_by rs) in
     subst (λ (x : Standing). Holds (less (tables_in x.now)) (standing e)) same
     (ended b e counts less (λ _. was) (λ now. subst IsInside (sym same) (c.requires.inside (zero.within.follows.clean now)))
-    (then_turned b d e counts (λ s. s) (λ rows. rows) less two.within.follows.clean (one.turns rs (c.deref.ensures.value ∙ zero.rows was)) two.turns)
+    (then_turned b d e counts (λ s. s) (λ rows. rows) less two.within.follows.clean (one.rewrites rs (c.deref.ensures.value ∙ zero.rows was)) two.rewrites)
     (λ now. subst (λ (x : Standing). counts (totals_of (tables_in x.now)) ≡ totals_of (less (tables_in x.now))) (sym same) (sym (totals_dropped t body))) clean)
 
 pub returns-in_err-lower_all-clause-trouble : goal.returns-in_err-lower_all-clause-trouble

@@ -22,12 +22,12 @@ loop-row-preserved g c =
       turned = λ clean rs is sums by.
           let it = at_row shown_ref rs c.args.rows.now c.loop-row.row-index c.row-item.result c.loop-row-test.true c.row-item.is is in
           let before = inv.turned (step.within.follows.clean clean) rs is sums by in
-          let after = step.turns it.0 it.1 clean (counted (lowered_by (take c.loop-row.row-index rs)) sums) before.within in
+          let after = step.rewrites it.0 it.1 clean (counted (lowered_by (take c.loop-row.row-index rs)) sums) before.within in
           subst (λ s. HoldsBy s (tables_in (standing (state g.S.Store c.args.connection.now)).now) now) (lowered_next rs c.loop-row.row-index it.0 sums it.2) (record { within = after.within; is = after.is ∙ before.is });
     }
 
-pub returns-clause-turns : goal.returns-clause-turns
-returns-clause-turns g c rs is clean sums by =
+pub returns-clause-rewrites : goal.returns-clause-rewrites
+returns-clause-rewrites g c rs is clean sums by =
     let inv = c.loop-row.invariant in
     let now = standing (state g.S.Store c.loop-row.connection) in
     subst (λ l. HoldsBy (counted (lowered_by l) sums) (tables_in (standing (state g.S.Store c.args.connection.now)).now) now)

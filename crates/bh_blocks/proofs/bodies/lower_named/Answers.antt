@@ -9,12 +9,12 @@ use Rattle.bh_blocks.specs.Uses.{IsUsed}
 use Rattle.bh_blocks.proofs.Counting.{lowered_named}
 use Rattle.bh_blocks.proofs.bodies.lower_named.Goals as goal
 
-pub returns-clause-turns : goal.returns-clause-turns
-returns-clause-turns g c r is clean sums by =
+pub returns-clause-rewrites : goal.returns-clause-rewrites
+returns-clause-rewrites g c r is clean sums by =
     let a = standing (state g.S.Store c.args.connection.now) in
     let q : Name = (c.deref.result.now, c.in_ok-block.block.ord) in
     let named : q ≡ ref_name r = (λ i. (c.deref.ensures.value i, c.in_ok-block.block.ord)) ∙ c.in_ok-block.ensures.name r is in
-    lowered_named q (ref_name r) sums (tables_in a.now) (standing (state g.S.Store c.lower_uses.new.connection)) named (c.in_ok-lower_uses.ensures.turns clean sums by)
+    lowered_named q (ref_name r) sums (tables_in a.now) (standing (state g.S.Store c.lower_uses.new.connection)) named (c.in_ok-lower_uses.ensures.rewrites clean sums by)
 
 pub returns-in_err-lower_uses-clause-trouble : goal.returns-in_err-lower_uses-clause-trouble
 returns-in_err-lower_uses-clause-trouble g c = handed_on _ _ _ c.from_residual-in_err-lower_uses.ensures (λ e same r is intact unlimited used.

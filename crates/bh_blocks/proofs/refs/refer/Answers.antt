@@ -22,5 +22,5 @@ returns-clause-holds g c =
     let more : Tables → Tables = λ t. rebodied t (t.refs ++ r ∷ []) t.blocks in
     let up = counted (raised (c.args.digest.now, c.args.ord)) in
     ended a d up more (λ clean. one.within.follows.clean (two.within.follows.clean clean)) c.requires.inside
-    (then_turned a b d (λ s. s) up more (λ t. t) two.within.follows.clean one.turns two.turns)
+    (then_turned a b d (λ s. s) up more (λ t. t) two.within.follows.clean one.rewrites two.rewrites)
     (λ was. sym (totals_with (tables_in (standing a).now) r))

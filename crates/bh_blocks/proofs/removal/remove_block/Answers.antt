@@ -24,5 +24,5 @@ returns-clause-removed g c =
     let less : Tables → Tables = λ t. rebodied t t.refs (delete_where (is_block q) t.blocks) in
     let counts = counted (delete_where (is_named q)) in
     ended a d counts less (λ clean. one.within.follows.clean (two.within.follows.clean clean)) c.requires.inside
-    (then_turned a b d (λ s. s) counts less (λ t. t) two.within.follows.clean one.turns two.turns)
+    (then_turned a b d (λ s. s) counts less (λ t. t) two.within.follows.clean one.rewrites two.rewrites)
     (λ was. sym (totals_without (tables_in (standing a).now) q))

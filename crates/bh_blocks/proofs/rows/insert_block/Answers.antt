@@ -16,7 +16,7 @@ returns g c =
       within = w.within;
       opens = w.opens;
       midst = w.midst;
-      turns = w.turns;
+      rewrites = w.rewrites;
       fresh = block_fresh old new c.requires.midst c.execute.result live (block_inserted b) w.within.follows.clean h.runs h.survives;
       trouble = block_comes_trouble old new c.requires.midst c.execute.result live b (block_inserted b) h.runs h.survives;
     }

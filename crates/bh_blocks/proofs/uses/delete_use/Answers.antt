@@ -13,4 +13,4 @@ returns g c =
     let live = c.schema-schema.ensures.live in
     let q : Name = (c.args.digest.now, c.args.ord) in
     let w = drops old new c.requires.midst c.execute.result live (use_deleted q) h.runs h.survives in
-    record { within = w.within; opens = w.opens; midst = w.midst; turns = w.turns; trouble = alone old new c.execute.result (use_drops_trouble old new c.requires.midst c.execute.result live (use_deleted q) h.runs h.survives) }
+    record { within = w.within; opens = w.opens; midst = w.midst; rewrites = w.rewrites; trouble = alone old new c.execute.result (use_drops_trouble old new c.requires.midst c.execute.result live (use_deleted q) h.runs h.survives) }

@@ -12,4 +12,4 @@ returns g c =
     let live = c.schema-schema.ensures.live in
     let q : Name = (c.args.digest.now, c.args.ord) in
     let w = sets old new c.requires.midst c.execute.result live (uses_lowered q) h.runs h.survives in
-    record { within = w.within; opens = w.opens; midst = w.midst; turns = w.turns; trouble = lowers_trouble old new c.requires.midst c.execute.result live q (uses_lowered q) h.runs h.survives }
+    record { within = w.within; opens = w.opens; midst = w.midst; rewrites = w.rewrites; trouble = lowers_trouble old new c.requires.midst c.execute.result live q (uses_lowered q) h.runs h.survives }

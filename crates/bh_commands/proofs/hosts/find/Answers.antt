@@ -5,9 +5,9 @@ use Rattle.bh_view.specs.Bodies.{IsSoundHost}
 use Rattle.bh_cache.specs.Kept.{no_blocks}
 use Rattle.bh_schema.specs.Storage.{seen_in, beside}
 use Rattle.bh_schema.proofs.Storing.{beside_agreed}
-use Rattle.bh_commands.specs.Subcommands.{IsOpenedAs}
-use Rattle.bh_commands.proofs.Found.{is_clean, opened_as, typed_when, shows_seen, row_seen, sound_seen}
-use Rattle.bh_commands.proofs.Refused.{not_found}
+use Rattle.bh_maintenance.specs.Found.{IsOpenedAs}
+use Rattle.bh_maintenance.proofs.Found.{is_clean, opened_as, typed_when, shows_seen, row_seen, sound_seen}
+use Rattle.bh_maintenance.proofs.Refused.{not_found}
 use Rattle.bh_commands.proofs.hosts.find.Goals as goal
 
 pub work_by_digest-requires : goal.work_by_digest-requires

@@ -1,6 +1,6 @@
 use Rattle.std.proofs.Common.{sym, subst}
 use Rattle.bh_commands.specs.Subcommands.{CarriesOut}
-use Rattle.bh_commands.specs.declared.printed.Printed.{Printed}
+use Rattle.bh_maintenance.specs.declared.printed.Printed.{Printed}
 use Rattle.bh_commands.proofs.hosts.on_connection.Goals as goal
 
 pub returns : goal.returns

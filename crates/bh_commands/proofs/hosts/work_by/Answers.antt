@@ -6,7 +6,7 @@ use Rattle.bh_storage.specs.Calls.{Seen, IsAtRest}
 use Rattle.bh_cache.specs.Kept.{no_blocks}
 use Rattle.bh_schema.proofs.Storing.{beside_agreed}
 use Rattle.bh_schema.specs.Storage as storage
-use Rattle.bh_commands.proofs.Found.{is_clean}
+use Rattle.bh_maintenance.proofs.Found.{is_clean}
 use Rattle.bh_commands.proofs.hosts.work_by.Goals as goal
 
 pub work_in_time-requires : goal.work_in_time-requires

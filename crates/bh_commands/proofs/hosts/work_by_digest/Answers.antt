@@ -1,6 +1,7 @@
 use Rattle.std.proofs.Common.{IfOk, sym, subst}
 use Rattle.bh_blocks.specs.Digests.{digest_by}
-use Rattle.bh_commands.specs.Subcommands.{IsReadyBy, host_by, IsWorkedInTime}
+use Rattle.bh_maintenance.specs.Found.{IsReadyBy}
+use Rattle.bh_commands.specs.Subcommands.{host_by, IsWorkedInTime}
 use Rattle.bh_commands.proofs.hosts.work_by_digest.Goals as goal
 
 pub work_by-requires : goal.work_by-requires

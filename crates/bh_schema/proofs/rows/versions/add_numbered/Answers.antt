@@ -18,5 +18,5 @@ returns-clause-holds g c =
     let one = c.in_ok-use_numbers.ensures in
     let two = c.in_ok-insert_version.ensures in
     ended a d (used_changed v.tenant.now v.size 0) (λ t. with_version v (with_numbers v.tenant.now c.args.next_version c.args.next_entry t)) (λ clean. one.within.follows.clean (two.within.follows.clean clean)) c.requires.inside
-    (then_turned a b d (used_changed v.tenant.now v.size 0) (λ s. s) (with_numbers v.tenant.now c.args.next_version c.args.next_entry) (with_version v) two.within.follows.clean one.turns two.turns)
+    (then_turned a b d (used_changed v.tenant.now v.size 0) (λ s. s) (with_numbers v.tenant.now c.args.next_version c.args.next_entry) (with_version v) two.within.follows.clean one.rewrites two.rewrites)
     (λ was. numbered_law (tables_in (standing a).now) v c.args.next_version c.args.next_entry)

@@ -18,5 +18,5 @@ returns-clause-holds g c =
     let two = c.in_ok-remove_version.ensures in
     let gone = without_version c.args.tenant.now c.args.bucket.now c.args.okey.now c.args.id in
     ended a d (used_changed c.args.tenant.now 0 c.args.size) gone (λ clean. one.within.follows.clean (two.within.follows.clean clean)) c.requires.inside
-    (then_turned a b d (used_changed c.args.tenant.now 0 c.args.size) (λ s. s) (λ t. t) gone two.within.follows.clean one.turns two.turns)
+    (then_turned a b d (used_changed c.args.tenant.now 0 c.args.size) (λ s. s) (λ t. t) gone two.within.follows.clean one.rewrites two.rewrites)
     (λ was. deleted_law a c.schema-schema.ensures.live was (c.requires.inside was) c.args.tenant.now c.args.bucket.now c.args.okey.now c.args.id c.args.size (c.requires.held was))

@@ -8,4 +8,4 @@ returns g c =
     let h = rw (c.to_sql.ensures, c.to_sql-2.ensures, c.to_sql-3.ensures, c.number.ensures) at c.execute.ensures in
     let old = state g.S.Store c.args.connection.now in
     let w = goes old (state g.S.Store c.execute.new.self) c.requires.midst c.execute.result c.schema-schema.ensures.live (version_deleted c.args.tenant.now c.args.bucket.now c.args.okey.now c.args.id) h.runs h.survives in
-    record { within = w.within; opens = w.opens; midst = w.midst; turns = w.turns }
+    record { within = w.within; opens = w.opens; midst = w.midst; rewrites = w.rewrites }

@@ -35,5 +35,5 @@ returns-clause-holds g c =
     ended a f (λ s. kept (used s)) (λ t. next (come (gone t))) (λ clean. one.within.follows.clean (two.within.follows.clean (three.within.follows.clean (four.within.follows.clean clean)))) c.requires.inside
     (then_turned a e f used kept (λ t. next (come (gone t))) (λ t. t) four.within.follows.clean
     (then_turned a d e (λ s. s) used (λ t. come (gone t)) next three.within.follows.clean
-    (then_turned a b d (λ s. s) (λ s. s) gone come two.within.follows.clean one.turns two.turns) three.turns) four.turns)
+    (then_turned a b d (λ s. s) (λ s. s) gone come two.within.follows.clean one.rewrites two.rewrites) three.rewrites) four.rewrites)
     (λ was. placed_law a c.schema-schema.ensures.live was (c.requires.inside was) p c.args.next c.args.replaced (c.requires.held was))

@@ -24,5 +24,5 @@ returns-clause-holds g c =
     let used : Totals → Totals = used_changed t 0 c.args.kept in
     let kept : Totals → Totals = kept_changed (t, c.args.upload) 0 c.args.kept in
     ended a e (λ s. kept (used s)) gone (λ clean. one.within.follows.clean (two.within.follows.clean (three.within.follows.clean clean))) c.requires.inside
-    (then_turned a d e used kept gone (λ x. x) three.within.follows.clean (then_turned a b d (λ s. s) used gone (λ x. x) two.within.follows.clean one.turns two.turns) three.turns)
+    (then_turned a d e used kept gone (λ x. x) three.within.follows.clean (then_turned a b d (λ s. s) used gone (λ x. x) two.within.follows.clean one.rewrites two.rewrites) three.rewrites)
     (λ was. taken_law (tables_in (standing a).now) t c.args.upload c.args.kept (c.requires.held was))

@@ -11,4 +11,4 @@ returns g c =
     let new = state g.S.Store c.execute.new.self in
     let live = c.schema-schema.ensures.live in
     let w = goes old new c.requires.midst c.execute.result live (part_deleted c.args.tenant.now c.args.upload c.args.part) h.runs h.survives in
-    record { within = w.within; opens = w.opens; midst = w.midst; turns = w.turns; trouble = alone old new c.execute.result (goes_trouble old new c.requires.midst c.execute.result live (part_deleted c.args.tenant.now c.args.upload c.args.part) h.runs h.survives) }
+    record { within = w.within; opens = w.opens; midst = w.midst; rewrites = w.rewrites; trouble = alone old new c.execute.result (goes_trouble old new c.requires.midst c.execute.result live (part_deleted c.args.tenant.now c.args.upload c.args.part) h.runs h.survives) }

@@ -8,4 +8,4 @@ pub returns : goal.returns
 returns g c =
     let h = rw (c.to_sql.ensures, c.number.ensures, c.number-2.ensures, c.number-3.ensures, c.to_sql-2.ensures, c.number-4.ensures, c.number-5.ensures) at c.execute.ensures in
     let w = comes (state g.S.Store c.args.connection.now) (state g.S.Store c.execute.new.self) c.requires.midst c.execute.result c.schema-schema.ensures.live (part_inserted (stored_part c.args.part.now)) h.runs h.survives in
-    record { within = w.within; opens = w.opens; midst = w.midst; turns = w.turns }
+    record { within = w.within; opens = w.opens; midst = w.midst; rewrites = w.rewrites }

@@ -1,0 +1,124 @@
+-- What files held when they were opened, and that empty ones hold no host.
+use Rattle.std.proofs.Common.{◌≡◌, ◌⊎◌, ◌∙◌, [], refl, sym, subst, arith, inl, inr, filter}
+use Rattle.std.specs.List.{AllZip}
+use Rattle.sqlite_wal.specs.Recovery.{Image}
+use Rattle.sqlite_trees.specs.Tree.{Trees}
+use Rattle.sqlite_trees.specs.Objects.{catalog_tree}
+use Rattle.sqlite_catalog.specs.Listing.{IsTableRow, is_table_row}
+use Rattle.sqlite.specs.Effect.{Database, IsDatabase}
+use Rattle.sqlite.specs.Files.{AreFoundIn}
+use Rattle.sqlite.specs.Schema.{Schema}
+use Rattle.sqlite.specs.State.{State}
+use Rattle.bh_types.specs.BlockDigests.{digest_number}
+use Rattle.bh_types.specs.Limits.{HostLimits}
+use Rattle.bh_types.specs.declared.block_digest.BlockDigest.{BlockDigest}
+use Rattle.bh_types.specs.declared.block_digest.BlockDigest.TheVariants.{Sha256, Fast}
+use Rattle.bh_tables.specs.Hosts.{tables_shown, tables_opened}
+use Rattle.bh_tables.specs.Schema.{Octets, first_schema, host_schema}
+use Rattle.bh_tables.specs.Typed.{Tables}
+use Rattle.bh_tables.proofs.HostTests.{opened_host, other_schema}
+use Rattle.bh_view.specs.Bodies.{IsSoundHost}
+use Rattle.bh_schema.specs.Layer.{standing, IsIntact, IsOpen, IsStateClean, KeepsDisk}
+use Rattle.bh_schema.specs.Storage.{seen_in}
+use Rattle.bh_blocks.specs.Digests.{digest_by}
+use Rattle.bh_migration.specs.Migration.{Settles}
+use Rattle.bh_open.specs.Opening.{digest_in, LeavesOver}
+use Rattle.bh_open.specs.Versions.{IsTypedIfFirst}
+use Rattle.bh_file.specs.Opened.{IsOpenedOn}
+use Rattle.bh_maintenance.specs.Files.{HoldsSoundHost}
+use Rattle.bh_maintenance.specs.Found.{IsSoundByItsRow, IsHostsSchema, IsSoundIn, IsOpenedAs}
+
+-- ---- no file, or an empty one
+
+abbrev nothing : Image
+nothing = record { log = []; db = [] }
+
+-- a database without a list of tables has none
+no_tables : (db : Database) → IsDatabase db → db.trees catalog_tree ≡ [] → IsHostsSchema db.schema → ⊥
+no_tables db sound none either =
+    let listed = subst (λ o. AllZip IsTableRow (filter is_table_row o) db.schema.tables) none sound.lists.listed.tables in
+    elim either [
+      | inl first ↦ subst (λ (s : Schema). AllZip IsTableRow [] s.tables) first listed
+      | inr second ↦ subst (λ (s : Schema). AllZip IsTableRow [] s.tables) second listed
+    ]
+
+found_in_nothing : (trees : Trees) → AreFoundIn nothing trees → trees catalog_tree ≡ []
+found_in_nothing trees (inl it) = absurd (let some = it.3.found.present in omega arith)
+found_in_nothing trees (inr it) = it.1.1
+
+pub nothing_is_sound : HoldsSoundHost nothing
+nothing_is_sound tables it = absurd (no_tables it.db it.database (found_in_nothing it.db.trees it.found) it.schema)
+
+pub is_clean : {s : State} → IsIntact s × IsOpen s → IsStateClean s
+is_clean both = record { intact = both.0; is_open = both.1 }
+
+-- ---- a database that was opened
+
+pub sound_opened : (image : Image) (s : State) → HoldsSoundHost image → IsOpenedOn image s → IsSoundIn s
+unfolding standing IsIntact
+sound_opened image s sound start clean schema =
+    let opens = start.opened clean.intact in
+    sound (tables_opened s.now) (record {
+      db = s.now;
+      found = subst (λ (db : Database). AreFoundIn image db.trees) (sym opens.0.clean) (start.found clean.intact).reads;
+      database = (opens.1 opens.0.is_open).0;
+      schema = schema;
+      shown = refl;
+    })
+
+-- ---- the tables of a host that was opened
+
+-- no two functions have one number
+sound_by : (tables : Tables) (digest : BlockDigest) → IsSoundByItsRow tables → digest_number digest ≡ digest_in tables → IsSoundHost (digest_by digest) tables
+sound_by tables digest it row = subst (λ d. IsSoundHost (digest_by d) tables) (same it.digest digest (it.row ∙ sym row)) it.sound
+  where
+    same : (a b : BlockDigest) → digest_number a ≡ digest_number b → a ≡ b
+    same Sha256 Sha256 e = refl
+    same Sha256 Fast e = absurd (cc)
+    same Fast Sha256 e = absurd (cc)
+    same Fast Fast e = refl
+
+-- sound tables are those of typed rows
+opened_typed : (db : Database) → IsSoundByItsRow (tables_opened db) → IsTypedIfFirst db
+opened_typed db it first = elim (opened_host db it.sound.sound.host.row it.sound.sound.host.alone) [
+  | inl host ↦ absurd (other_schema db host.schema first)
+  | inr one ↦ one.first
+]
+
+shown_now : (limits : HostLimits) (s : State) → (seen_in limits s).now ≡ tables_shown (standing s).now
+unfolding seen_in
+shown_now limits s = refl
+
+-- what an open says of a host
+pub opened_as : (limits : HostLimits) (old new : State) → (((standing old).now.schema ≡ first_schema) ⊎ ((standing old).now.schema ≡ host_schema)) → (IsStateClean new → (standing old).now.schema ≡ host_schema → standing new ≡ standing old)
+    → (IsStateClean new → (standing old).now.schema ≡ first_schema → Settles (standing old) (standing new)) → (IsStateClean new → IsTypedIfFirst (standing old).now → (seen_in limits new).now ≡ tables_opened (standing old).now)
+    → KeepsDisk old new → (IsOpen old → LeavesOver old new) → IsOpenedAs old new
+opened_as limits old new schema same brought shows follows crash = record {
+  schema = schema;
+  same = same;
+  brought = brought;
+  shows = λ clean typed. sym (shown_now limits new) ∙ shows clean typed;
+  follows = follows;
+  crash = crash;
+}
+
+module _ (limits : HostLimits) (old new : State) (sound : IsSoundIn old) (opened : IsOpenedAs old new) where
+  was_sound : IsStateClean new → IsSoundByItsRow (tables_opened (standing old).now)
+  was_sound clean = sound (opened.follows.clean clean) opened.schema
+
+  pub typed_when : IsStateClean new → IsTypedIfFirst (standing old).now
+  typed_when clean = opened_typed (standing old).now (was_sound clean)
+
+  pub shows_seen : IsStateClean new → (seen_in limits new).now ≡ tables_opened (standing old).now
+  shows_seen clean = shown_now limits new ∙ opened.shows clean (typed_when clean)
+
+  sound_row : IsStateClean new → IsSoundByItsRow (seen_in limits new).now
+  sound_row clean = subst IsSoundByItsRow (sym (shows_seen clean)) (was_sound clean)
+
+  module _ (digest : BlockDigest)
+      (row : (named : Octets → Octets) → IsStateClean new → IsTypedIfFirst (standing old).now → IsSoundHost named (seen_in limits new).now → digest_number digest ≡ digest_in (seen_in limits new).now) where
+    pub row_seen : IsStateClean new → digest_number digest ≡ digest_in (seen_in limits new).now
+    row_seen clean = let it = sound_row clean in row (digest_by it.digest) clean (typed_when clean) it.sound
+
+    pub sound_seen : IsStateClean new → IsSoundHost (digest_by digest) (seen_in limits new).now
+    sound_seen clean = sound_by (seen_in limits new).now digest (sound_row clean) (row_seen clean)

@@ -1,0 +1,5 @@
+mod Endings
+mod Found
+mod Refused
+mod Saved
+mod Verdicts

@@ -1,0 +1,21 @@
+-- What the files of a host held when they were opened.
+use Rattle.std.specs.Prelude.{◌≡◌}
+use Rattle.sqlite_wal.specs.Recovery.{Image}
+use Rattle.sqlite.specs.Effect.{Database, IsDatabase}
+use Rattle.sqlite.specs.Files.{AreFoundIn}
+use Rattle.bh_tables.specs.Hosts.{tables_opened}
+use Rattle.bh_tables.specs.Typed.{Tables}
+use Rattle.bh_maintenance.specs.Found.{IsSoundByItsRow, IsHostsSchema}
+
+-- files with these contents hold a database of a host's schema, which shows these tables once it is opened: of version 1 those
+-- that it has, brought over
+pub record AreTablesIn (image : Image) (tables : Tables) : Type 0 where
+  pub db : Database
+  pub found : AreFoundIn image db.trees
+  pub database : IsDatabase db
+  pub schema : IsHostsSchema db.schema
+  pub shown : tables ≡ tables_opened db
+
+-- what they hold of a host is sound, its blocks named by the function that its row tells
+abbrev pub HoldsSoundHost : Image → Type 0
+HoldsSoundHost image = (tables : Tables) → AreTablesIn image tables → IsSoundByItsRow tables

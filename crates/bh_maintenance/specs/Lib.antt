@@ -1,0 +1,6 @@
+pub mod Backups
+pub mod Checks
+pub mod Endings
+pub mod Files
+pub mod Found
+pub mod Printing

@@ -1,0 +1,57 @@
+//! The host of a file, found on its connection, whatever store that is over.
+
+ghost use Rattle.std.specs.Prelude.{◌≡◌, IfOk, MatchResult};
+ghost use Rattle.sqlite.specs.Held.{state};
+ghost use Rattle.bh_maintenance.specs.Found.{IsOpenedAs, IsNotFound};
+ghost use Rattle.bh_maintenance.specs.Printing.{IsRefusal};
+
+use crate::ending::Done;
+use crate::printed::Printed;
+use crate::remarks::{Remark, tell};
+use bh_open::{NoHost, open_host};
+use bh_types::limits::Tuning;
+use bh_types::refusal::Refusal;
+use sqlite::{Alter, Connection, Error};
+use std::alloc::{AllocError, Global};
+
+/// A refusal of what the connection shows, which stays.
+pub fn refused<S: Alter + Drop>(
+    alloc: Global,
+    connection: Connection<S>,
+    refusal: Refusal,
+) -> Result<Done<S>, AllocError>
+    ensures { IfOk result (λ done. (done.connection ≡ connection) × IsRefusal refusal done.printed) }
+{
+    let printed = Printed::refusal(alloc, refusal)?;
+    Ok(Done {
+        printed,
+        connection,
+    })
+}
+
+/// Why no host was found in a database.
+pub fn why_not_found(why: Option<NoHost>, cause: Option<Error>) -> Remark {
+    match cause {
+        Some(error) => Remark::Trouble(error),
+        None => Remark::NoHost(why.unwrap_or(NoHost::NoRow)),
+    }
+}
+
+/// The connection of a database that holds a host, which was brought over if it was of version 1, or the refusal of one that
+/// doesn't.
+pub fn found_host<S: Alter + Drop>(
+    rt: &HostRuntime,
+    path: &str,
+    connection: Connection<S>,
+) -> Result<Result<Connection<S>, Done<S>>, AllocError>
+    ensures { IfOk result (λ found. MatchResult found (λ new. IsOpenedAs (state S.Store connection) (state S.Store new))
+        (λ done. IsNotFound (state S.Store connection) (state S.Store done.connection) done.printed)) }
+{
+    match open_host(rt.alloc(), connection, Tuning::default()) {
+        Ok(opened) => Ok(Ok(opened.connection)),
+        Err(error) => {
+            tell(rt, path, &why_not_found(error.why, error.cause));
+            Ok(Err(refused(rt.alloc(), error.connection, error.refusal)?))
+        }
+    }
+}
