@@ -22,7 +22,7 @@ returns-in-GetObject-clause-working g c = by_any g.D.Digester.digest_of (state g
 
 pub returns-in-GetObject-clause-carries : goal.returns-in-GetObject-clause-carries
 returns-in-GetObject-clause-carries g c limits clean =
-    rw (c.in-GetObject.is, gets_object limits c.args.at c.args.body.now c.in-GetObject.object c.in-GetObject.version c.in-GetObject.range, sym c.bytes_of.ensures) (c.get_object.ensures.carries clean)
+    rw (c.in-GetObject.is, gets_object limits c.args.at c.args.body.now c.in-GetObject.object c.in-GetObject.version c.in-GetObject.range, sym c.bytes_of-range.ensures) (c.get_object.ensures.carries clean)
 
 pub returns-in-HeadObject-clause-working : goal.returns-in-HeadObject-clause-working
 returns-in-HeadObject-clause-working g c = by_any g.D.Digester.digest_of (state g.S.Store c.args.connection.now) (state g.S.Store c.head_object.new.connection) c.head_object.result c.head_object.ensures.working
