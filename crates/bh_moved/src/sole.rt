@@ -1,6 +1,6 @@
 //! The one tenant of a host.
 
-ghost use Rattle.std.specs.Prelude.{◌≡◌, ◌∷◌, [], List, map, IfOk, IfSome};
+ghost use Rattle.std.specs.Prelude.{◌≡◌, ◌≢◌, ◌∷◌, [], List, None, map, length, IfOk, IfSome};
 ghost use Rattle.std.specs.String.{string_bytes};
 ghost use Rattle.sqlite.specs.Held.{state};
 ghost use Rattle.bh_tables.specs.Typed.{TenantRow};
@@ -28,8 +28,9 @@ fn begin_and_read<S: Alter>(connection: &mut Connection<S>) -> Result<Vec<Row>, 
 
 /// The name in the one row that there is.
 fn one_name(rows: &[Row]) -> Result<Option<String>, Error>
-    ensures { IfOk result (λ found. IfSome found (λ name. (ts : List TenantRow) → rows.now ≡ map shown_name ts
+    ensures sole { IfOk result (λ found. IfSome found (λ name. (ts : List TenantRow) → rows.now ≡ map shown_name ts
         → map (λ (t : TenantRow). t.tenant) ts ≡ string_bytes name ∷ [])) }
+    ensures none { IfOk result (λ found. found ≡ None → length rows.now ≢ 1) }
 {
     match rows {
         [row] => Ok(Some(row.get(0)?)),
@@ -44,6 +45,8 @@ pub fn sole_tenant<S: Alter>(connection: &mut Connection<S>) -> Result<Option<St
     ensures back { IsClean S.Store connection.new → stands S.Store connection.new ≡ taken_back (stands S.Store connection.old) }
     ensures sole { IfOk result (λ found. IfSome found (λ name. IsClean S.Store connection.new
         → map (λ (t : TenantRow). t.tenant) (tables S.Store connection.old).tenants ≡ string_bytes name ∷ [])) }
+    ensures none { IfOk result (λ found. found ≡ None → IsClean S.Store connection.new
+        → length (tables S.Store connection.old).tenants ≢ 1) }
 {
     let outcome = begin_and_read(connection);
     take_back(connection);

@@ -6,6 +6,7 @@ ghost use Rattle.bh_tables.specs.Shown.{is_tenant};
 ghost use Rattle.bh_view.specs.View.{view};
 ghost use Rattle.bh_schema.specs.Connections.{IsClean, tables, InTransaction, StaysWithin, WasOpen, StaysOpen, ChangesNothing};
 ghost use Rattle.bh_tenant_rows.specs.Brought.{IsMoved};
+ghost use Rattle.bh_moved.specs.Moves.{move_refused};
 ghost use Rattle.bh_moved.specs.Rows.{tenant_row};
 
 use crate::rows::bring_rows;
@@ -65,6 +66,8 @@ pub fn bring_tenant<S: Alter, T: Alter, D: Digester>(
     ensures inside { OnOk result (InTransaction T.Store to.new) }
     ensures moved { IfOk result (λ refused. refused ≡ None → IsClean S.Store from.new → IsClean T.Store to.new
         → IsMoved D.digest_of tenant.now (tables S.Store from.old) (tables T.Store to.old) (tables T.Store to.new)) }
+    ensures answered { IfOk result (λ refused. IsClean S.Store from.new → IsClean T.Store to.new
+        → refused ≡ move_refused (view (tables S.Store from.old) tenant.now) (view (tables T.Store to.old) tenant.now)) }
     ensures missing { IfOk result (λ refused. refused ≡ Some NoSuchTenant → IsClean S.Store from.new
         → is_some (view (tables S.Store from.old) tenant.now) ≡ false) }
     ensures exists { IfOk result (λ refused. refused ≡ Some TenantExists → IsClean T.Store to.new

@@ -1,9 +1,10 @@
-use Rattle.std.proofs.Common.{◌≡◌, false, true, is_some, subst}
+use Rattle.std.proofs.Common.{◌≡◌, false, true, is_some, ◌∙◌, subst}
 use Rattle.sqlite.specs.Held.{state}
 use Rattle.bh_tables.specs.Typed.{Tables}
 use Rattle.bh_view.specs.View.{view}
 use Rattle.bh_schema.specs.Working.{tables_at}
 use Rattle.bh_tenant_rows.specs.Brought.{IsMoved}
+use Rattle.bh_moved.specs.Moves.{move_refused}
 use Rattle.bh_moved.proofs.Settling.{begun_inside, begun_tables}
 use Rattle.bh_moved.proofs.moves.begin_and_bring.Goals as goal
 
@@ -35,3 +36,11 @@ returns-clause-exists g c is clean =
     let it = c.in_ok-refused.ensures in
     let three : tables_at (state g.T.Store c.begin-2.new.connection) ≡ tables_at (state g.T.Store c.args.to.now) = begun_tables _ _ c.in_ok-begin-2.ensures.begins (it.within.follows.clean clean) in
     subst (λ (o : Tables). is_some (view o c.args.tenant.now) ≡ true) three (it.exists is clean)
+
+pub returns-clause-answered : goal.returns-clause-answered
+returns-clause-answered g c reading clean =
+    let it = c.in_ok-refused.ensures in
+    let t = c.args.tenant.now in
+    let two : tables_at (state g.S.Store c.begin.new.connection) ≡ tables_at (state g.S.Store c.args.from.now) = begun_tables _ _ c.in_ok-begin.ensures.begins (it.reads.follows.clean reading) in
+    let three : tables_at (state g.T.Store c.begin-2.new.connection) ≡ tables_at (state g.T.Store c.args.to.now) = begun_tables _ _ c.in_ok-begin-2.ensures.begins (it.within.follows.clean clean) in
+    it.answered reading clean ∙ (λ i. move_refused (view (two i) t) (view (three i) t))

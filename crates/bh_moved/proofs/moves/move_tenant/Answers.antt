@@ -9,3 +9,9 @@ returns-then-not-matches-clause-exists g c = IfOk-weaker c.bring_and_commit-outc
 
 pub returns-else-not-matches-clause-moved : goal.returns-else-not-matches-clause-moved
 returns-else-not-matches-clause-moved g c = IfOk-weaker c.bring_and_commit-outcome.result _ _ (λ refused told none reading clean. told none (c.take_back.ensures.follows.clean reading) clean) c.bring_and_commit-outcome.ensures.moved
+
+pub returns-then-not-matches-clause-answered : goal.returns-then-not-matches-clause-answered
+returns-then-not-matches-clause-answered g c = IfOk-weaker c.bring_and_commit-outcome.result _ _ (λ refused told reading clean. told (c.take_back.ensures.follows.clean reading) (c.take_back-then-not-matches.ensures.follows.clean clean)) c.bring_and_commit-outcome.ensures.answered
+
+pub returns-else-not-matches-clause-answered : goal.returns-else-not-matches-clause-answered
+returns-else-not-matches-clause-answered g c = IfOk-weaker c.bring_and_commit-outcome.result _ _ (λ refused told reading clean. told (c.take_back.ensures.follows.clean reading) clean) c.bring_and_commit-outcome.ensures.answered

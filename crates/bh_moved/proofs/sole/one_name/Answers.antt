@@ -6,8 +6,8 @@ use Rattle.bh_tenant_rows.specs.Shown.{shown_name}
 use Rattle.bh_moved.proofs.Chains.{text_read}
 use Rattle.bh_moved.proofs.sole.one_name.Goals as goal
 
-pub returns-in_ok-get-in-len1 : goal.returns-in_ok-get-in-len1
-returns-in_ok-get-in-len1 c ts is =
+pub returns-in_ok-get-in-len1-clause-sole : goal.returns-in_ok-get-in-len1-clause-sole
+returns-in_ok-get-in-len1-clause-sole c ts is =
     let some = c.in-len1.len_at_least in
     let few = c.in-len1.len_below in
     let it = at_row shown_name ts c.args.rows.now 0 c.row-item.result (omega (arith, some)) c.row-item.is is in
