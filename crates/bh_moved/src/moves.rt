@@ -1,10 +1,11 @@
 //! A tenant moved in one transaction.
 
-ghost use Rattle.std.specs.Prelude.{◌≡◌, ◌≢◌, ◌≤◌, true, false, Ok, Some, None, is_some, IfOk};
+ghost use Rattle.std.specs.Prelude.{◌≡◌, ◌≢◌, ◌≤◌, true, false, Ok, Some, None, is_some, IfOk, OnOk};
 ghost use Rattle.sqlite.specs.Held.{state};
 ghost use Rattle.bh_types.specs.declared.refusal.Refusal.TheVariants.{NoSuchTenant, TenantExists};
+ghost use Rattle.bh_tables.specs.Typed.{IsHost};
 ghost use Rattle.bh_view.specs.View.{view};
-ghost use Rattle.bh_schema.specs.Connections.{IsClean, stands, tables};
+ghost use Rattle.bh_schema.specs.Connections.{IsClean, stands, tables, InTransaction};
 ghost use Rattle.bh_schema.specs.Layer.{taken_back, KeepsDisk};
 ghost use Rattle.bh_tenant_rows.specs.Brought.{IsMoved};
 ghost use Rattle.bh_moved.specs.Moves.{IsReady, IsCommitted};
@@ -32,6 +33,7 @@ fn begin_and_bring<S: Alter, T: Alter, D: Digester>(
     ensures from_kept { IsClean S.Store from.new → (stands S.Store from.new).kept ≡ (stands S.Store from.old).kept }
     ensures follows { KeepsDisk (state T.Store to.old) (state T.Store to.new) }
     ensures kept { IsClean T.Store to.new → (stands T.Store to.new).kept ≡ (stands T.Store to.old).kept }
+    ensures inside { OnOk result (InTransaction T.Store to.new) }
     ensures moved { IfOk result (λ refused. refused ≡ None → IsClean S.Store from.new → IsClean T.Store to.new
         → IsMoved D.digest_of tenant.now (tables S.Store from.old) (tables T.Store to.old) (tables T.Store to.new)) }
     ensures missing { IfOk result (λ refused. refused ≡ Some NoSuchTenant → IsClean S.Store from.new
@@ -62,6 +64,7 @@ fn bring_and_commit<S: Alter, T: Alter, D: Digester>(
     ensures follows { KeepsDisk (state T.Store to.old) (state T.Store to.new) }
     ensures kept { result ≢ Ok None → IsClean T.Store to.new → (stands T.Store to.new).kept ≡ (stands T.Store to.old).kept }
     ensures committed { result ≡ Ok None → IsClean T.Store to.new → IsCommitted (stands T.Store to.new) }
+    ensures host { result ≡ Ok None → IsClean T.Store to.new → IsHost (stands T.Store to.new).now }
     ensures moved { IfOk result (λ refused. refused ≡ None → IsClean S.Store from.new → IsClean T.Store to.new
         → IsMoved D.digest_of tenant.now (tables S.Store from.old) (tables T.Store to.old) (tables T.Store to.new)) }
     ensures missing { IfOk result (λ refused. refused ≡ Some NoSuchTenant → IsClean S.Store from.new
@@ -97,6 +100,7 @@ pub fn move_tenant<S: Alter, T: Alter, D: Digester>(
     ensures follows { KeepsDisk (state T.Store to.old) (state T.Store to.new) }
     ensures back { result ≢ Ok None → IsClean T.Store to.new → stands T.Store to.new ≡ taken_back (stands T.Store to.old) }
     ensures committed { result ≡ Ok None → IsClean T.Store to.new → IsCommitted (stands T.Store to.new) }
+    ensures host { result ≡ Ok None → IsClean T.Store to.new → IsHost (stands T.Store to.new).now }
     ensures moved { IfOk result (λ refused. refused ≡ None → IsClean S.Store from.new → IsClean T.Store to.new
         → IsMoved D.digest_of tenant.now (tables S.Store from.old) (tables T.Store to.old) (tables T.Store to.new)) }
     ensures missing { IfOk result (λ refused. refused ≡ Some NoSuchTenant → IsClean S.Store from.new

@@ -184,5 +184,6 @@ module _ (digest digest_from : Octets → Octets) (size : ℕ) (low : 1 ≤ size
     shown = shown;
     others = others;
     limits = limits_are new row alone ∙ sym (limits_are old host.sound.host.row host.sound.host.alone);
+    named = ap (map (λ (r : HostRow). r.digest)) alone ∙ sym (ap (map (λ (r : HostRow). r.digest)) host.sound.host.alone);
     latest = stamped;
   }

@@ -1,10 +1,10 @@
 -- The tables once the rows of a tenant have come to them, after those that they have. The bodies of its versions and parts come with
 -- them: each is stored, cut into blocks of a size, before the row that has it.
-use Rattle.std.specs.Prelude.{◌≡◌, ◌≢◌, ℕ, if◌then◌else◌, max, List, [], ◌∷◌, ◌++◌}
+use Rattle.std.specs.Prelude.{◌≡◌, ◌≢◌, ℕ, if◌then◌else◌, max, List, [], ◌∷◌, ◌++◌, map}
 use Rattle.sqlite_keyed.specs.Lists.{update_where}
 use Rattle.bh_model.specs.State.{Octets}
 use Rattle.bh_tables.specs.Bodies.{version_name, part_name, columns_of, resolved, part_columns_of, resolved_part}
-use Rattle.bh_tables.specs.Typed.{TenantRow, KeyRow, BucketRow, VersionRow, UploadRow, PartRow, LockRow, RetainRow, Tables}
+use Rattle.bh_tables.specs.Typed.{HostRow, TenantRow, KeyRow, BucketRow, VersionRow, UploadRow, PartRow, LockRow, RetainRow, Tables}
 use Rattle.bh_tables.specs.Shown.{is_tenant}
 use Rattle.bh_view.specs.Grouped.{same_number}
 use Rattle.bh_view.specs.View.{TenantRows, view, latest_of, limits_in}
@@ -74,12 +74,14 @@ IsNext t next tables = update_where (is_tenant t) (λ r. record r { next_entry =
 
 -- ---- what that is to the tenants
 
--- a tenant of other tables is there as it is in those, all other tenants and the limits stay, and the last stamp is the later one
+-- a tenant of other tables is there as it is in those, all other tenants, the limits and which function names blocks stay, and the
+-- last stamp is the later one
 pub record IsBrought (digest : Octets → Octets) (t : Octets) (from old new : Tables) : Type 0 where
   pub sound : IsSoundHost digest new
   pub shown : view new t ≡ view from t
   pub others : (u : Octets) → u ≢ t → view new u ≡ view old u
   pub limits : limits_in new ≡ limits_in old
+  pub named : map (λ (r : HostRow). r.digest) new.host ≡ map (λ (r : HostRow). r.digest) old.host
   pub latest : latest_of new ≡ max (latest_of old) (latest_of from)
 
 -- so it is where both were sound
