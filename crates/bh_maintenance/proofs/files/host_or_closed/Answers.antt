@@ -1,0 +1,14 @@
+use Rattle.std.proofs.Common.{sym, subst}
+use Rattle.sqlite.specs.Files.{file_state}
+use Rattle.bh_maintenance.specs.Found.{IsNotFound}
+use Rattle.bh_maintenance.specs.declared.printed.Printed.{Printed}
+use Rattle.bh_maintenance.proofs.files.host_or_closed.Goals as goal
+
+pub returns-in-Err : goal.returns-in-Err
+returns-in-Err g c =
+    let done = c.in-Err.done in
+    record {
+      new = done.connection;
+      not_found = subst (λ (p : Printed). IsNotFound (file_state c.args.connection) (file_state done.connection) p) (sym c.leave.ensures.printed) c.in-Err.ensures;
+      closed = c.close.ensures done.connection c.leave.ensures.left;
+    }

@@ -1,0 +1,16 @@
+use Rattle.std.proofs.Common.{sym, subst}
+use Rattle.sqlite.specs.Files.{over_files}
+use Rattle.bh_maintenance.specs.Moves.{Imports}
+use Rattle.bh_maintenance.specs.declared.printed.Printed.{Printed}
+use Rattle.bh_maintenance.proofs.imports.import_between.Goals as goal
+
+pub returns : goal.returns
+returns g c =
+    let did = c.import_from.new in
+    record {
+      to_new = did.to.connection;
+      from_new = did.from.connection;
+      imports = subst (λ (p : Printed). Imports over_files over_files c.args.from c.args.to did.from.connection did.to.connection p) (sym c.leave.ensures.printed) c.in_ok-printed.ensures;
+      closed = c.close.ensures did.to.connection c.leave.ensures.left;
+      given_closed = c.let_go-given.ensures;
+    }

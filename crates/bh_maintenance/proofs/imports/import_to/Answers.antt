@@ -1,0 +1,14 @@
+use Rattle.std.proofs.Common.{inl}
+use Rattle.bh_maintenance.proofs.Imported.{imports_to}
+use Rattle.bh_maintenance.proofs.imports.import_to.Goals as goal
+
+pub import_between-requires-clause-to : goal.import_between-requires-clause-to
+import_between-requires-clause-to g c = c.in-Ok.ensures.found.ready
+
+pub returns-in_ok-import_between-in-Ok : goal.returns-in_ok-import_between-in-Ok
+returns-in_ok-import_between-in-Ok g c =
+    let it = c.in_ok-import_between-in-Ok.field-0 in
+    imports_to _ _ c.args.from it.printed c.in-Ok.to c.in-Ok.ensures it.files it.given c.in_ok-import_between-in-Ok.ensures
+
+pub returns-in-Err : goal.returns-in-Err
+returns-in-Err g c = inl (c.in-Err.ensures, c.let_go.ensures)
