@@ -1,5 +1,9 @@
 -- A tenant that is moved between hosts that are ready.
-use Rattle.std.proofs.Common.{◌≡◌, ◌≢◌, ◌⊎◌, inl, inr, false, true, List, [], ◌∷◌, map, max, length, codes, ◌++◌, Option, Some, None, Result, Ok, Err, IfOk, is_some, refl, sym, ap, ◌∙◌, subst}
+use Rattle.std.proofs.Common.{◌≡◌, ◌≢◌, ◌⊎◌, inl, inr, false, true, List, [], ◌∷◌, map, max, length, codes, ◌++◌, Option, Some, None, Result, Ok, Err, IfOk, IfSome, is_some, refl, sym, ap, ◌∙◌, subst}
+use Rattle.std.specs.Prelude.{MatchResult}
+use Rattle.std.specs.String.{string_bytes}
+use Rattle.std.specs.declared.alloc.Global.{Global}
+use Rattle.std.specs.declared.string.String.{String}
 use Rattle.sqlite_trees.specs.declared.store.Store.{Ghosts}
 use Rattle.sqlite.specs.declared.error.Error.{Error}
 use Rattle.sqlite.specs.Effect.{Database}
@@ -29,7 +33,7 @@ use Rattle.bh_open.specs.declared.open.Opened.{Opened}
 use Rattle.bh_maintenance.proofs.Found.{shown_now}
 use Rattle.bh_maintenance.proofs.Refused.{keeps_disk}
 use Rattle.bh_maintenance.specs.Found.{IsReadyBy, IsReadyByRow}
-use Rattle.bh_maintenance.specs.Moves.{shown_by, Stays, tenants_in, IsToldNo, Tells, AreBothClean, HasCome, HasNotCome, Moves, TellsMove, HasNoName, IsOneName, HasImported, HasNotImported, Imports}
+use Rattle.bh_maintenance.specs.Moves.{shown_by, Stays, tenants_in, IsToldNo, Tells, TellsName, AreBothClean, HasCome, HasNotCome, Moves, TellsMove, HasNoName, IsOneName, HasImported, HasNotImported, Imports}
 use Rattle.bh_maintenance.specs.Printing.{IsFault, IsLine, IsRefusal}
 use Rattle.bh_maintenance.specs.declared.printed.Printed.{Printed}
 
@@ -178,6 +182,18 @@ module _ {S T : Type 0} (g : Ghosts S) (h : Ghosts T) (from : Held S) (to : Held
   told_of (Err e) moves tells = inr (None, moves, tells)
 
 -- ---- an import
+
+module _ {S : Type 0} (g : Ghosts S) (digest : Octets → Octets) (host : Opened S) (ready : IsReadyBy g digest host) (new : Held S) (follows : KeepsDisk (state g host.connection) (state g new)) where
+  pub named_of : (found : Result (Option (String Global)) Error) (told : Result (String Global) Printed) → TellsName found told
+      → IfOk found (λ f. IfSome f (λ name. IsStateClean (state g new) → tenants_in (tables g host.connection) ≡ string_bytes name ∷ []))
+      → IfOk found (λ f. f ≡ None → IsStateClean (state g new) → length (tables g host.connection).tenants ≢ 1)
+      → MatchResult told (λ name. IsOneName g host.connection new (string_bytes name)) (HasNoName g host.connection new)
+  named_of (Ok (Some name)) told is sole none = subst (λ (r : Result (String Global) Printed). MatchResult r (λ n. IsOneName g host.connection new (string_bytes n)) (HasNoName g host.connection new)) (sym is)
+      (λ clean. ap tenants_in (shows g digest host ready (follows.clean clean)) ∙ sole clean)
+  named_of (Ok None) (Ok name) told sole none = absurd told
+  named_of (Ok None) (Err printed) told sole none = inl (told, λ clean. subst (λ (x : Tables). length x.tenants ≢ 1) (sym (shows g digest host ready (follows.clean clean))) (none refl clean))
+  named_of (Err e) (Ok name) told sole none = absurd told
+  named_of (Err e) (Err printed) told sole none = inr told
 
 refused_there : (given there : Option model.State) (refusal : Option Refusal) → refusal ≡ Some TenantExists → refusal ≡ move_refused given there → is_some there ≡ true
 refused_there None there refusal is answered = absurd (cc)

@@ -1,5 +1,7 @@
 -- What comes of a tenant that is moved: from one host to another, from a file's host to a new file, from such a file to a host.
-use Rattle.std.specs.Prelude.{◌≡◌, ◌≢◌, ◌⊎◌, true, false, List, [], ◌∷◌, ◌++◌, map, length, codes, Option, Some, None, MatchOption, Result, Ok, Err, is_some}
+use Rattle.std.specs.Prelude.{◌≡◌, ◌≢◌, ◌⊎◌, true, false, List, [], ◌∷◌, ◌++◌, map, length, codes, Option, Some, None, MatchOption, MatchResult, Result, Ok, Err, is_some}
+use Rattle.std.specs.declared.alloc.Global.{Global}
+use Rattle.std.specs.declared.string.String.{String}
 use Rattle.sqlite_disk.specs.declared.Disk as disk
 use Rattle.sqlite_disk.specs.declared.Files.{Files}
 use Rattle.sqlite_wal.specs.Reads.{AreClean}
@@ -91,6 +93,12 @@ module _ {S T : Type 0} (g : Ghosts S) (h : Ghosts T) (from : Held S) (to : Held
       (HasCome digest tenant × (printed ≡ line)) ⊎ ((refusal : Option Refusal) × HasNotCome tenant refusal × IsToldNo refusal printed)
 
 -- ---- `import`
+
+-- the name that was read, or why none was
+abbrev pub TellsName : Result (Option (String Global)) Error → Result (String Global) Printed → Type 0
+TellsName (Ok (Some name)) told = told ≡ Ok name
+TellsName (Ok None) told = MatchResult told (λ name. ⊥) (IsRefusal NotAHostFile)
+TellsName (Err e) told = MatchResult told (λ name. ⊥) IsFault
 
 module _ {S : Type 0} (g : Ghosts S) (old new : Held S) where
   -- no name of one tenant was read: there isn't exactly one, or the store failed

@@ -172,8 +172,8 @@ fn save_moved<D: Disk + Drop, W: Start>(
     to: &str,
     to_start: W,
 ) -> Result<Made<D, FileFrom<W>>, Fault>
-    ensures printed { IfOk result (λ it. it.printed ≡ done.printed) }
-    ensures saved { IfOk result (λ it. SavesMoved ⟦<FileFrom<W> as Disk>⟧ done.connection done.printed it.files it.copy) }
+    ensures { IfOk result (λ it. (it.printed ≡ done.printed)
+        × SavesMoved ⟦<FileFrom<W> as Disk>⟧ done.connection done.printed it.files it.copy) }
 {
     let Done {
         printed,

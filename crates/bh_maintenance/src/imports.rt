@@ -7,7 +7,7 @@ ghost use Rattle.sqlite_wal.specs.Files.{image_at};
 ghost use Rattle.bh_blocks.specs.Digests.{digest_by};
 ghost use Rattle.bh_maintenance.specs.Files.{HoldsSoundHost};
 ghost use Rattle.bh_maintenance.specs.Found.{IsReadyByRow};
-ghost use Rattle.bh_maintenance.specs.Moves.{Stays, TellsMove, HasNoName, IsOneName, Imports, IsImportedFrom, ImportsTo, IsImported};
+ghost use Rattle.bh_maintenance.specs.Moves.{Stays, TellsName, HasNoName, IsOneName, Imports, IsImportedFrom, ImportsTo, IsImported};
 ghost use Rattle.bh_maintenance.specs.Printing.{IsLine};
 
 use crate::ending::{Done, Ended, close, leave, let_go};
@@ -19,7 +19,7 @@ use crate::remarks::{Remark, tell};
 use bh_moved::sole_tenant;
 use bh_open::Opened;
 use bh_types::refusal::Refusal;
-use sqlite::{Alter, FileFrom, FileStore, Files, Start};
+use sqlite::{Alter, Error, FileFrom, FileStore, Files, Start};
 use sqlite_disk::Disk;
 use std::alloc::{AllocError, Global};
 
@@ -47,6 +47,27 @@ impl<D: Disk + Drop, E: Disk + Drop> Imported<D, E> {
     }
 }
 
+/// The name that was read of the one tenant of a host, or what is printed where it has none or several.
+fn name_or_told(
+    rt: &HostRuntime,
+    path: &str,
+    found: Result<Option<String>, Error>,
+) -> Result<Result<String, Printed>, AllocError>
+    ensures { IfOk result (TellsName found) }
+{
+    match found {
+        Ok(Some(name)) => Ok(Ok(name)),
+        Ok(None) => {
+            tell(rt, path, &Remark::NotOneTenant);
+            Ok(Err(Printed::refusal(rt.alloc(), Refusal::NotAHostFile)?))
+        }
+        Err(error) => {
+            tell(rt, path, &Remark::Trouble(error));
+            Ok(Err(Printed::fault(rt.alloc())?))
+        }
+    }
+}
+
 /// The name of the one tenant of a host, or what is printed where it has none or several.
 fn name_in<S: Alter + Drop>(
     rt: &HostRuntime,
@@ -60,17 +81,8 @@ fn name_in<S: Alter + Drop>(
         (λ name. IsOneName S.Store host.old.connection host.new.connection (string_bytes name))
         (HasNoName S.Store host.old.connection host.new.connection)) }
 {
-    match sole_tenant(&mut host.connection) {
-        Ok(Some(tenant)) => Ok(Ok(tenant)),
-        Ok(None) => {
-            tell(rt, path, &Remark::NotOneTenant);
-            Ok(Err(Printed::refusal(rt.alloc(), Refusal::NotAHostFile)?))
-        }
-        Err(error) => {
-            tell(rt, path, &Remark::Trouble(error));
-            Ok(Err(Printed::fault(rt.alloc())?))
-        }
-    }
+    let found = sole_tenant(&mut host.connection);
+    name_or_told(rt, path, found)
 }
 
 /// That a tenant came.
@@ -95,12 +107,13 @@ fn import_one<S: Alter + Drop, T: Alter + Drop>(
     requires limits { from.old.limits ≡ to.old.limits }
     ensures { IfOk result (Imports S.Store T.Store from.old to.old from.new.connection to.new.connection) }
 {
-    let tenant = match name_in(rt, from_path, from)? {
-        Ok(tenant) => tenant,
-        Err(printed) => return Ok(printed),
-    };
-    let line = tenant_line(rt.alloc(), tenant.as_str())?;
-    move_and_tell(rt, path, from, to, tenant.as_str(), line)
+    match name_in(rt, from_path, from)? {
+        Ok(tenant) => {
+            let line = tenant_line(rt.alloc(), tenant.as_str())?;
+            move_and_tell(rt, path, from, to, tenant.as_str(), line)
+        }
+        Err(printed) => Ok(printed),
+    }
 }
 
 /// The same, if the limits of both hosts are the same.
