@@ -70,7 +70,8 @@ pub fn opened_host<S: Alter + Drop>(
         Ok(opened) => Ok(Ok(opened)),
         Err(error) => {
             tell(rt, path, &why_not_found(error.why, error.cause));
-            Ok(Err(refused(rt.alloc(), error.connection, error.refusal)?))
+            let done = refused(rt.alloc(), error.connection, error.refusal)?;
+            Ok(Err(done))
         }
     }
 }

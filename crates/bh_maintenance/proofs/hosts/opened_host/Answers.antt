@@ -25,8 +25,8 @@ returns-in-Ok g c =
       };
     }
 
-pub returns-in_ok-refused-in-Err : goal.returns-in_ok-refused-in-Err
-returns-in_ok-refused-in-Err g c =
+pub returns-in_ok-done-in-Err : goal.returns-in_ok-done-in-Err
+returns-in_ok-done-in-Err g c =
     let it = c.in-Err.ensures in
-    let told = c.in_ok-refused-in-Err.ensures in
+    let told = c.in_ok-done-in-Err.ensures in
     rw told.0 (not_found g.S.Store c.args.connection c.in-Err.error.connection _ _ told.1 it.refused it.failed it.keeps it.quiet it.leaves)
