@@ -17,6 +17,13 @@ use Rattle.bh_maintenance.specs.Printing.{IsRefusal}
 use Rattle.bh_maintenance.specs.declared.ending.Ended.{Ended}
 use Rattle.bh_maintenance.specs.declared.printed.Printed.{Printed}
 
+-- what is known of a result, once it is told which it is
+pub when_ok : {A B : Type 0} (P : A → Type 0) (Q : B → Type 0) {r : Result A B} {x : A} → r ≡ Ok x → MatchResult r P Q → P x
+when_ok P Q is it = subst (λ r. MatchResult r P Q) is it
+
+pub when_err : {A B : Type 0} (P : A → Type 0) (Q : B → Type 0) {r : Result A B} {x : B} → r ≡ Err x → MatchResult r P Q → Q x
+when_err P Q is it = subst (λ r. MatchResult r P Q) is it
+
 module _ {D : Type 0} (g : disk.Ghosts D) (image : Image) where
   pub none_there : (printed : Printed) (files : Option (Files D)) → files ≡ None → IsRefusal NotAHostFile printed → HasNoHost g image printed files
   none_there printed None none refusal = refusal
