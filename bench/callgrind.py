@@ -50,10 +50,10 @@ def send(port, text):
     sys.exit("the server doesn't listen")
 
 
-def serving(program, file, texts):
-    """The words of a server on a file, and what asks it these."""
+def serving(program, file, texts, *options):
+    """The words of a server on a file, with these options, and what asks it these."""
     port = 20000 + os.getpid() % 20000
-    words = [program, "serve", "--file", file, "--port", str(port), "--count", str(len(texts)), "--timeout", "600"]
+    words = [program, "serve", "--file", file, "--port", str(port), "--count", str(len(texts)), "--timeout", "600", *options]
     return words, lambda: [send(port, text) for text in texts]
 
 
@@ -69,10 +69,10 @@ def filled(program, folder, first, *options):
     return file
 
 
-def served(program, file, last):
-    """The functions of a server that answers these, on a copy of a host."""
+def served(program, file, last, *options):
+    """The functions of a server with these options that answers these, on a copy of a host."""
     copy = f"{file}-copy"
     for end in ("", "-wal"):
         if os.path.exists(file + end):
             shutil.copy(file + end, copy + end)
-    return counted(os.path.dirname(file), *serving(program, copy, last))
+    return counted(os.path.dirname(file), *serving(program, copy, last, *options))

@@ -1,8 +1,10 @@
 #!/usr/bin/env python3
 """Counts the instructions of a put and of a get, and the functions that take most of them, by valgrind's callgrind.
 
-    bench/profile.py [--digest NAME] [PROGRAM [SIZE..]]
-                    PROGRAM: crates/bucketd/out/bucketd; SIZE in bytes: 1024, 65536 and 16777216; NAME: that of `init --digest`
+    bench/profile.py [--digest NAME] [--cache-blocks N] [PROGRAM [SIZE..]]
+                    PROGRAM: crates/bucketd/out/bucketd; SIZE in bytes: 1024, 65536 and 16777216; NAME: that of `init --digest`;
+                    N: how many blocks that were read stay in memory, 0 if nothing is said. A get reads the same object again
+                    and again, so with room for its blocks all gets but the first find them there
 
 Below the ten functions that take most stands what each part of the program takes, and of puts how many times the
 instructions of SHA-256, and of SHA-256 and the store, all are. Two runs of each kind differ by so many requests; a request's instructions are the
@@ -67,7 +69,7 @@ def told(kind, size, few, many, requests):
     sys.stdout.flush()
 
 
-def profiled(program, size, options):
+def profiled(program, size, options, cache):
     few, more = FEW[size], MORE[size]
     puts = [request("PUT", *KEY, f"/plans/k{n}", body(size, n)) for n in range(few + more)]
     gets = [request("GET", *KEY, "/plans/k0")] * (few + more)
@@ -75,11 +77,11 @@ def profiled(program, size, options):
 
     def script(requests):
         with tempfile.TemporaryDirectory(dir=FOLDER) as folder:
-            return counted(folder, [program, "script", *options], text=script_of(requests))
+            return counted(folder, [program, "script", *options, *cache], text=script_of(requests))
 
     def serve(first, last):
         with tempfile.TemporaryDirectory(dir=FOLDER) as folder:
-            return served(program, filled(program, folder, first, *options), last)
+            return served(program, filled(program, folder, first, *options), last, *cache)
 
     if size * (few + more) < 1 << 25:
         told("script, put", size, script(puts[:few]), script(puts), more)
@@ -92,6 +94,7 @@ def profiled(program, size, options):
 def main():
     parser = argparse.ArgumentParser(usage=__doc__)
     parser.add_argument("--digest", default="sha256")
+    parser.add_argument("--cache-blocks", default="0")
     parser.add_argument("program", nargs="?", default="crates/bucketd/out/bucketd")
     parser.add_argument("sizes", nargs="*", type=int, default=sorted(FEW))
     options = parser.parse_args()
@@ -99,7 +102,7 @@ def main():
     if not os.path.exists(program):
         sys.exit(f"{program} isn't there: 'make build' makes it")
     for size in options.sizes:
-        profiled(program, size, ["--digest", options.digest])
+        profiled(program, size, ["--digest", options.digest], ["--cache-blocks", options.cache_blocks])
 
 
 main()

@@ -11,17 +11,17 @@ _bucketd() {
     fi
     if [ "$COMP_CWORD" -gt 1 ]; then
         case $before in
-        --file | --to | --operator-secret-file | --secret-file)
+        --file | --to | --from | --operator-secret-file | --secret-file)
             compopt -o filenames 2>/dev/null
             mapfile -t COMPREPLY < <(compgen -f -- "$word")
             return
             ;;
-        --at | --block-size | --cache-blocks | --clock-leap | --count | --digest | --limit | --max-body | --min-part | --name | --operator-port | --port | --quota | --secret | --tenant | --timeout)
+        --at | --block-size | --cache-blocks | --cache-bytes | --clock-leap | --count | --digest | --limit | --max-body | --min-part | --name | --operator-port | --port | --quota | --secret | --tenant | --timeout)
             return
             ;;
         esac
         case ${COMP_WORDS[1]} in
-        script) words=" --block-size --min-part --max-body --cache-blocks --digest --help " ;;
+        script) words=" --block-size --min-part --max-body --cache-blocks --cache-bytes --digest --help " ;;
         init) words=" --file --min-part --max-body --digest --help " ;;
         tenant-add) words=" --file --tenant --quota --at --clock-leap --force --help " ;;
         quota) words=" --file --tenant --quota --at --clock-leap --force --help " ;;
@@ -36,7 +36,7 @@ _bucketd() {
         backup) words=" --file --to --help " ;;
         export) words=" --file --tenant --to --help " ;;
         import) words=" --file --from --help " ;;
-        serve) words=" --file --port --count --log --timeout --clock-leap --force --block-size --cache-blocks --operator-port --operator-secret-file --help " ;;
+        serve) words=" --file --port --count --log --timeout --clock-leap --force --block-size --cache-blocks --cache-bytes --operator-port --operator-secret-file --help " ;;
         tell) words=" --port --secret-file --help " ;;
         help) [ "$COMP_CWORD" -gt 2 ] || words=" script init tenant-add quota key-add key-remove keys usage tenants report check sweep backup export import serve tell " ;;
         esac
