@@ -97,7 +97,6 @@ module _ {S T : Type 0} (g : Ghosts S) (h : Ghosts T) (tenant : Octets) (host : 
         let it = come.brought (reading, clean) in
         record {
           sound = subst (λ (d : BlockDigest). IsSoundHost (digest_by d) (shown_by h new)) like.digest it.sound;
-          there = come.there (reading, clean);
           shown = it.shown;
           others = λ u apart. it.others u apart ∙ vacant h made had fresh u;
           limits = it.limits ∙ limits_shown h (digest_by made.digest) made like.ready.ready had ∙ like.limits ∙ sym (limits_shown g (digest_by host.digest) host ready.ready was);

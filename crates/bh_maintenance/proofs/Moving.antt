@@ -1,5 +1,5 @@
 -- A tenant that is moved between hosts that are ready.
-use Rattle.std.proofs.Common.{◌≡◌, ◌≢◌, ◌⊎◌, inl, inr, false, true, List, [], ◌∷◌, map, max, length, codes, ◌++◌, Option, Some, None, Result, Ok, Err, IfOk, IfSome, is_some, refl, sym, ap, ◌∙◌, subst}
+use Rattle.std.proofs.Common.{◌≡◌, ◌≢◌, ◌⊎◌, inl, inr, false, true, List, [], ◌∷◌, map, max, codes, ◌++◌, Option, Some, None, Result, Ok, Err, IfOk, IfSome, is_some, refl, sym, ap, ◌∙◌, subst}
 use Rattle.std.specs.Prelude.{MatchResult}
 use Rattle.std.specs.String.{string_bytes}
 use Rattle.std.specs.declared.alloc.Global.{Global}
@@ -14,7 +14,6 @@ use Rattle.bh_types.specs.Limits.{HostLimits}
 use Rattle.bh_types.specs.declared.block_digest.BlockDigest.{BlockDigest}
 use Rattle.bh_types.specs.declared.refusal.Refusal.{Refusal}
 use Rattle.bh_types.specs.declared.refusal.Refusal.TheVariants.{NoSuchTenant, TenantExists, NotAHostFile}
-use Rattle.bh_model.specs.State as model
 use Rattle.bh_tables.specs.Hosts.{tables_shown}
 use Rattle.bh_tables.specs.Schema.{Octets}
 use Rattle.bh_tables.specs.Typed.{HostRow, Tables, IsHost, tables_in}
@@ -28,7 +27,7 @@ use Rattle.bh_schema.specs.Storage.{shown, seen_in}
 use Rattle.bh_schema.proofs.Storing.{sound_host}
 use Rattle.bh_blocks.specs.Digests.{digest_by}
 use Rattle.bh_tenant_rows.specs.Brought.{IsBrought, IsMoved}
-use Rattle.bh_moved.specs.Moves.{IsSettled, IsCommitted, move_refused}
+use Rattle.bh_moved.specs.Moves.{IsSettled, IsCommitted}
 use Rattle.bh_open.specs.declared.open.Opened.{Opened}
 use Rattle.bh_maintenance.proofs.Found.{shown_now}
 use Rattle.bh_maintenance.proofs.Refused.{keeps_disk}
@@ -110,20 +109,10 @@ module _ {S : Type 0} (g : Ghosts S) where
 
 -- ---- a move
 
-not_refused : (given there : Option model.State) → None ≡ move_refused given there → is_some given ≡ true
-not_refused None there e = absurd (cc)
-not_refused (Some s) there e = refl
-
 module _ {S T : Type 0} (g : Ghosts S) (h : Ghosts T) (digest_from digest : Octets → Octets) (from : Opened S) (to : Opened T) (from_ready : IsReadyBy g digest_from from) (to_ready : IsReadyBy h digest to)
     (tenant : Octets) (from_new : Held S) (to_new : Held T) (from_follows : KeepsDisk (state g from.connection) (state g from_new))
     (from_back : IsStateClean (state g from_new) → standing (state g from_new) ≡ taken_back (standing (state g from.connection)))
     (follows : KeepsDisk (state h to.connection) (state h to_new)) where
-  abbrev given : Option model.State
-  given = view (tables g from.connection) tenant
-
-  abbrev there : Option model.State
-  there = view (tables h to.connection) tenant
-
   from_stays : Stays g from.connection from_new
   from_stays = record { follows = from_follows; stands = λ clean. inr (from_back clean) }
 
@@ -143,35 +132,30 @@ module _ {S T : Type 0} (g : Ghosts S) (h : Ghosts T) (digest_from digest : Octe
       (subst (λ (x : Tables). IsBrought digest tenant (tables g from.connection) x (shown_by h to_new)) (sym two)
       (subst (λ (x : Tables). IsBrought digest tenant (tables g from.connection) (tables h to.connection) x) (sym (host_shows (standing (state h to_new)).now host)) it))
 
-  answer_shown : (refusal : Option Refusal) → refusal ≡ move_refused given there → AreBothClean g h from.connection to.connection from_new to_new
-      → refusal ≡ move_refused (view (shown_by g from.connection) tenant) (view (shown_by h to.connection) tenant)
-  answer_shown refusal is both = is ∙ (λ i. move_refused (view (sym (from_shows both.0) i) tenant) (view (sym (to_shows both.1) i) tenant))
-
   pub moves_of : (answer : Result (Option Refusal) Error)
       → (answer ≢ Ok None → IsStateClean (state h to_new) → standing (state h to_new) ≡ taken_back (standing (state h to.connection)))
       → (answer ≡ Ok None → IsStateClean (state h to_new) → IsCommitted (standing (state h to_new)))
       → (answer ≡ Ok None → IsStateClean (state h to_new) → IsHost (standing (state h to_new)).now)
       → IfOk answer (λ refused. refused ≡ None → IsStateClean (state g from_new) → IsStateClean (state h to_new) → IsMoved digest tenant (tables g from.connection) (tables h to.connection) (tables h to_new))
-      → IfOk answer (λ refused. IsStateClean (state g from_new) → IsStateClean (state h to_new) → refused ≡ move_refused given there)
-      → IfOk answer (λ refused. refused ≡ Some NoSuchTenant → IsStateClean (state g from_new) → is_some given ≡ false)
+      → IfOk answer (λ refused. refused ≡ Some TenantExists → IsStateClean (state h to_new) → is_some (view (tables h to.connection) tenant) ≡ true)
+      → IfOk answer (λ refused. refused ≡ Some NoSuchTenant → IsStateClean (state g from_new) → is_some (view (tables g from.connection) tenant) ≡ false)
       → Moves g h from.connection to.connection from_new to_new digest tenant answer
-  moves_of (Ok None) back committed host moved answered missing = record {
+  moves_of (Ok None) back committed host moved exists missing = record {
     from_stays = from_stays;
     follows = follows;
     committed = committed refl;
-    there = λ both. not_refused (view (shown_by g from.connection) tenant) (view (shown_by h to.connection) tenant) (answer_shown None (answered both.0 both.1) both);
     brought = λ both. brought_shown both (host refl both.1) (moved refl both.0 both.1);
   }
-  moves_of (Ok (Some r)) back committed host moved answered missing = record {
+  moves_of (Ok (Some r)) back committed host moved exists missing = record {
     from_stays = from_stays;
     to_stays = record { follows = follows; stands = λ clean. inr (back (λ e. cc) clean) };
-    answered = λ some both. answer_shown (Some r) (answered both.0 both.1) both;
+    exists = λ is clean. subst (λ (x : Tables). is_some (view x tenant) ≡ true) (sym (to_shows clean)) (exists is clean);
     missing = λ is clean. subst (λ (x : Tables). is_some (view x tenant) ≡ false) (sym (from_shows clean)) (missing is clean);
   }
-  moves_of (Err e) back committed host moved answered missing = record {
+  moves_of (Err e) back committed host moved exists missing = record {
     from_stays = from_stays;
     to_stays = record { follows = follows; stands = λ clean. inr (back (λ e. cc) clean) };
-    answered = λ some. absurd (some refl);
+    exists = λ is. absurd (cc);
     missing = λ is. absurd (cc);
   }
 
@@ -186,24 +170,13 @@ module _ {S T : Type 0} (g : Ghosts S) (h : Ghosts T) (from : Held S) (to : Held
 module _ {S : Type 0} (g : Ghosts S) (digest : Octets → Octets) (host : Opened S) (ready : IsReadyBy g digest host) (new : Held S) (follows : KeepsDisk (state g host.connection) (state g new)) where
   pub named_of : (found : Result (Option (String Global)) Error) (told : Result (String Global) Printed) → TellsName found told
       → IfOk found (λ f. IfSome f (λ name. IsStateClean (state g new) → tenants_in (tables g host.connection) ≡ string_bytes name ∷ []))
-      → IfOk found (λ f. f ≡ None → IsStateClean (state g new) → length (tables g host.connection).tenants ≢ 1)
       → MatchResult told (λ name. IsOneName g host.connection new (string_bytes name)) (HasNoName g host.connection new)
-  named_of (Ok (Some name)) told is sole none = subst (λ (r : Result (String Global) Printed). MatchResult r (λ n. IsOneName g host.connection new (string_bytes n)) (HasNoName g host.connection new)) (sym is)
+  named_of (Ok (Some name)) told is sole = subst (λ (r : Result (String Global) Printed). MatchResult r (λ n. IsOneName g host.connection new (string_bytes n)) (HasNoName g host.connection new)) (sym is)
       (λ clean. ap tenants_in (shows g digest host ready (follows.clean clean)) ∙ sole clean)
-  named_of (Ok None) (Ok name) told sole none = absurd told
-  named_of (Ok None) (Err printed) told sole none = inl (told, λ clean. subst (λ (x : Tables). length x.tenants ≢ 1) (sym (shows g digest host ready (follows.clean clean))) (none refl clean))
-  named_of (Err e) (Ok name) told sole none = absurd told
-  named_of (Err e) (Err printed) told sole none = inr told
-
-refused_there : (given there : Option model.State) (refusal : Option Refusal) → refusal ≡ Some TenantExists → refusal ≡ move_refused given there → is_some there ≡ true
-refused_there None there refusal is answered = absurd (cc)
-refused_there (Some s) None refusal is answered = absurd (cc)
-refused_there (Some s) (Some u) refusal is answered = refl
-
-refused_never : (given there : Option model.State) (refusal : Option Refusal) → refusal ≡ Some NotAHostFile → refusal ≡ move_refused given there → ⊥
-refused_never None there refusal is answered = cc
-refused_never (Some s) None refusal is answered = cc
-refused_never (Some s) (Some u) refusal is answered = cc
+  named_of (Ok None) (Ok name) told sole = absurd told
+  named_of (Ok None) (Err printed) told sole = inl told
+  named_of (Err e) (Ok name) told sole = absurd told
+  named_of (Err e) (Err printed) told sole = inr told
 
 module _ {S T : Type 0} (g : Ghosts S) (h : Ghosts T) (from : Opened S) (to : Opened T) where
   -- nothing was done
@@ -214,7 +187,6 @@ module _ {S T : Type 0} (g : Ghosts S) (h : Ghosts T) (from : Opened S) (to : Op
     from_stays = stays_here g from.connection;
     to_stays = stays_here h to.connection;
     exists = λ is. absurd (cc);
-    not_one = λ is. absurd (cc);
   })
 
   module _ (mid : Held S) (stays : Stays g from.connection mid) where
@@ -222,11 +194,10 @@ module _ {S T : Type 0} (g : Ghosts S) (h : Ghosts T) (from : Opened S) (to : Op
     pub unnamed : (printed : Printed) → HasNoName g from.connection mid printed → Imports g h from to mid to.connection printed
     unnamed printed (inl none) = inr (record {
       refusal = Some NotAHostFile;
-      line = none.0;
+      line = none;
       from_stays = stays;
       to_stays = stays_here h to.connection;
       exists = λ is. absurd (cc);
-      not_one = λ is both. none.1 both.0;
     })
     unnamed printed (inr fault) = inr (record {
       refusal = None;
@@ -234,7 +205,6 @@ module _ {S T : Type 0} (g : Ghosts S) (h : Ghosts T) (from : Opened S) (to : Op
       from_stays = stays;
       to_stays = stays_here h to.connection;
       exists = λ is. absurd (cc);
-      not_one = λ is. absurd (cc);
     })
 
     module _ (from_ready : IsReadyBy g (digest_by from.digest) from) (to_ready : IsReadyBy h (digest_by to.digest) to) (limits : from.limits ≡ to.limits) (from_new : Held S) (to_new : Held T) (tenant : Octets) (name : IsOneName g from.connection mid tenant) where
@@ -246,7 +216,6 @@ module _ {S T : Type 0} (g : Ghosts S) (h : Ghosts T) (from : Opened S) (to : Op
         from_stays = stays_on g from.connection mid from_new stays come.from_stays;
         follows = come.follows;
         committed = come.committed;
-        there = λ both. subst (λ (x : Tables). is_some (view x tenant) ≡ true) (mid_shown come.from_stays both.0) (come.there both);
         brought = λ both. subst (λ (x : Tables). IsBrought (digest_by to.digest) tenant x (shown_by h to.connection) (shown_by h to_new)) (mid_shown come.from_stays both.0) (come.brought both);
       }
 
@@ -263,6 +232,5 @@ module _ {S T : Type 0} (g : Ghosts S) (h : Ghosts T) (from : Opened S) (to : Op
         line = no;
         from_stays = stays_on g from.connection mid from_new stays not.from_stays;
         to_stays = not.to_stays;
-        exists = λ is both. (tenant, name (not.from_stays.follows.clean both.0), refused_there (view (shown_by g mid) tenant) (view (shown_by h to.connection) tenant) refusal is (not.answered (λ none. cc) both));
-        not_one = λ is both. absurd (refused_never (view (shown_by g mid) tenant) (view (shown_by h to.connection) tenant) refusal is (not.answered (λ none. cc) both));
+        exists = λ is both. (tenant, name (not.from_stays.follows.clean both.0), not.exists is both.1);
       })

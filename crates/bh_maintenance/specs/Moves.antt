@@ -1,5 +1,5 @@
 -- What comes of a tenant that is moved: from one host to another, from a file's host to a new file, from such a file to a host.
-use Rattle.std.specs.Prelude.{◌≡◌, ◌≢◌, ◌⊎◌, true, false, List, [], ◌∷◌, ◌++◌, map, length, codes, Option, Some, None, MatchOption, MatchResult, Result, Ok, Err, is_some}
+use Rattle.std.specs.Prelude.{◌≡◌, ◌≢◌, ◌⊎◌, true, false, List, [], ◌∷◌, ◌++◌, map, codes, Option, Some, None, MatchOption, MatchResult, Result, Ok, Err, is_some}
 use Rattle.std.specs.declared.alloc.Global.{Global}
 use Rattle.std.specs.declared.string.String.{String}
 use Rattle.sqlite_disk.specs.declared.Disk as disk
@@ -24,7 +24,7 @@ use Rattle.bh_schema.specs.Layer.{standing, IsStateClean, KeepsDisk, Unwinds}
 use Rattle.bh_create.specs.Creation.{IsNewHost}
 use Rattle.bh_blocks.specs.Digests.{digest_by}
 use Rattle.bh_tenant_rows.specs.Brought.{IsBrought}
-use Rattle.bh_moved.specs.Moves.{IsCommitted, move_refused}
+use Rattle.bh_moved.specs.Moves.{IsCommitted}
 use Rattle.bh_open.specs.Opening.{digest_in}
 use Rattle.bh_open.specs.declared.open.Opened.{Opened}
 use Rattle.bh_file.specs.Opened.{IsOpenedOn}
@@ -71,14 +71,13 @@ module _ {S T : Type 0} (g : Ghosts S) (h : Ghosts T) (from : Held S) (to : Held
     pub from_stays : Stays g from from_new
     pub follows : KeepsDisk (state h to) (state h to_new)
     pub committed : IsStateClean (state h to_new) → IsCommitted (standing (state h to_new))
-    pub there : AreBothClean → is_some (view (shown_by g from) tenant) ≡ true
     pub brought : AreBothClean → IsBrought digest tenant (shown_by g from) (shown_by h to) (shown_by h to_new)
 
   -- it didn't, by a refusal or a failure; both stay
   pub record HasNotCome (tenant : Octets) (refusal : Option Refusal) : Type 0 where
     pub from_stays : Stays g from from_new
     pub to_stays : Stays h to to_new
-    pub answered : refusal ≢ None → AreBothClean → refusal ≡ move_refused (view (shown_by g from) tenant) (view (shown_by h to) tenant)
+    pub exists : refusal ≡ Some TenantExists → IsStateClean (state h to_new) → is_some (view (shown_by h to) tenant) ≡ true
     pub missing : refusal ≡ Some NoSuchTenant → IsStateClean (state g from_new) → is_some (view (shown_by g from) tenant) ≡ false
 
   -- the one or the other, by what a move answers
@@ -101,9 +100,9 @@ TellsName (Ok None) told = MatchResult told (λ name. ⊥) (IsRefusal NotAHostFi
 TellsName (Err e) told = MatchResult told (λ name. ⊥) IsFault
 
 module _ {S : Type 0} (g : Ghosts S) (old new : Held S) where
-  -- no name of one tenant was read: there isn't exactly one, or the store failed
+  -- no name of one tenant was read
   abbrev pub HasNoName : Printed → Type 0
-  HasNoName printed = (IsRefusal NotAHostFile printed × (IsStateClean (state g new) → length (shown_by g old).tenants ≢ 1)) ⊎ IsFault printed
+  HasNoName printed = IsRefusal NotAHostFile printed ⊎ IsFault printed
 
   abbrev pub IsOneName : Octets → Type 0
   IsOneName tenant = IsStateClean (state g new) → tenants_in (shown_by g old) ≡ tenant ∷ []
@@ -117,7 +116,7 @@ module _ {S T : Type 0} (g : Ghosts S) (h : Ghosts T) (from : Opened S) (to : Op
     pub limits : AreBothClean g h from.connection to.connection from_new to_new → limits_in (shown_by g from.connection) ≡ limits_in (shown_by h to.connection)
     pub come : HasCome g h from.connection to.connection from_new to_new (digest_by to.digest) tenant
 
-  -- none came, and both stay: `41` tells that the tenant is there, `47` that there isn't exactly one
+  -- none came, and both stay: `41` tells that the tenant is there
   pub record HasNotImported (printed : Printed) : Type 0 where
     pub refusal : Option Refusal
     pub line : IsToldNo refusal printed
@@ -125,8 +124,6 @@ module _ {S T : Type 0} (g : Ghosts S) (h : Ghosts T) (from : Opened S) (to : Op
     pub to_stays : Stays h to.connection to_new
     pub exists : refusal ≡ Some TenantExists → AreBothClean g h from.connection to.connection from_new to_new
         → (tenant : Octets) × (tenants_in (shown_by g from.connection) ≡ tenant ∷ []) × (is_some (view (shown_by h to.connection) tenant) ≡ true)
-    pub not_one : refusal ≡ Some NotAHostFile → AreBothClean g h from.connection to.connection from_new to_new
-        → length (shown_by g from.connection).tenants ≢ 1
 
   abbrev pub Imports : Printed → Type 0
   Imports printed = HasImported printed ⊎ HasNotImported printed
@@ -136,7 +133,6 @@ module _ {S T : Type 0} (g : Ghosts S) (h : Ghosts T) (from : Opened S) (to : Op
 -- a host has one tenant of other tables alone, as it is in those, with the same limits, digest function and last stamp
 pub record HasOnly (digest : Octets → Octets) (tenant : Octets) (from new : Tables) : Type 0 where
   pub sound : IsSoundHost digest new
-  pub there : is_some (view from tenant) ≡ true
   pub shown : view new tenant ≡ view from tenant
   pub others : (u : Octets) → u ≢ tenant → view new u ≡ None
   pub limits : limits_in new ≡ limits_in from

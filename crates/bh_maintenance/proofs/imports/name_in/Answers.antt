@@ -13,4 +13,4 @@ returns-clause-stays g c = record { follows = c.sole_tenant-found.ensures.follow
 pub returns-clause-name : goal.returns-clause-name
 returns-clause-name g c =
     let it = c.sole_tenant-found in
-    IfOk-weaker c.name_or_told.result _ _ (λ told tells. named_of g.S.Store (digest_by c.args.host.now.digest) c.args.host.now c.requires.ready it.new.connection it.ensures.follows it.result told tells it.ensures.sole it.ensures.none) c.name_or_told.ensures
+    IfOk-weaker c.name_or_told.result _ _ (λ told tells. named_of g.S.Store (digest_by c.args.host.now.digest) c.args.host.now c.requires.ready it.new.connection it.ensures.follows it.result told tells it.ensures.sole) c.name_or_told.ensures

@@ -12,4 +12,4 @@ pub returns : goal.returns
 returns g c =
     let it = c.move_tenant.ensures in
     moves_of g.S.Store g.T.Store (digest_by c.args.from.now.digest) g.D.Digester.digest_of c.args.from.now c.args.to.now c.requires.from c.requires.to c.args.tenant.now
-    c.move_tenant.new.from c.move_tenant.new.to it.from_follows it.from_back it.follows c.move_tenant.result it.back it.committed it.host it.moved it.answered it.missing
+    c.move_tenant.new.from c.move_tenant.new.to it.from_follows it.from_back it.follows c.move_tenant.result it.back it.committed it.host it.moved it.exists it.missing
