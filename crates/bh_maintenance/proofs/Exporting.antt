@@ -111,7 +111,7 @@ module _ {S T : Type 0} (g : Ghosts S) (h : Ghosts T) (tenant : Octets) (host : 
       committed = come.committed;
       alone = only come;
     })
-    exported line printed told (inr (refusal, not, no)) = inr (record { refusal = refusal; line = no; from_stays = not.from_stays; missing = not.missing })
+    exported line printed told (inr (refusal, not, why)) = inr (record { refusal = refusal; line = why; from_stays = not.from_stays; missing = not.missing })
 
 -- ---- the copy
 
@@ -148,3 +148,6 @@ module _ {S : Type 0} {M E : Type 0} {m : disk.Ghosts M} (g : Ghosts S) (e : dis
   exports_to None (Some c) it saves = absurd saves.1
   exports_to (Some f) (Some c) (inl it) saves = export_of it f c saves.1
   exports_to (Some f) (Some c) (inr not) saves = absurd (zero_and_one printed.status saves.0 (status_no not.refusal printed not.line))
+
+  pub exports_as : (told : Printed) → told ≡ printed → (files : Option (Files M)) (copy : Option E) → Exports g tenant host from_new printed over_files new → SavesMoved e new printed files copy → ExportsTo g tenant host from_new told m e files copy
+  exports_as told is files copy it saves = subst (λ (p : Printed). ExportsTo g tenant host from_new p m e files copy) (sym is) (exports_to files copy it saves)

@@ -1,7 +1,7 @@
 mod Endings
 mod Exporting
 mod Found
-mod Imported
+mod Importing
 mod Moving
 mod Opened
 mod Refused

@@ -227,9 +227,9 @@ module _ {S T : Type 0} (g : Ghosts S) (h : Ghosts T) (from : Opened S) (to : Op
         limits = λ both. limits_shown g (digest_by from.digest) from from_ready (stays.follows.clean (come.from_stays.follows.clean both.0)) ∙ limits ∙ sym (limits_shown h (digest_by to.digest) to to_ready (come.follows.clean both.1));
         come = come_from come;
       })
-      imported line printed told (inr (refusal, not, no)) = inr (record {
+      imported line printed told (inr (refusal, not, why)) = inr (record {
         refusal = refusal;
-        line = no;
+        line = why;
         from_stays = stays_on g from.connection mid from_new stays not.from_stays;
         to_stays = not.to_stays;
         exists = λ is both. (tenant, name (not.from_stays.follows.clean both.0), not.exists is both.1);

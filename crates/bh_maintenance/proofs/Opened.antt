@@ -29,12 +29,15 @@ module _ {D : Type 0} (g : disk.Ghosts D) (image : Image) where
   none_there printed None none refusal = refusal
   none_there printed (Some f) none refusal = absurd (cc)
 
+  pub none_as : {a b : Ended D} → a ≡ b → HasNoHost g image a.printed a.files → HasNoHost g image b.printed b.files
+  none_as is none = subst (λ (x : Ended D). HasNoHost g image x.printed x.files) is none
+
   module _ (old : Held (FileStore D g)) (opened : IsOpenedOn image (file_state old)) where
     none_found : (printed : Printed) (files : Option (Files D)) → MatchOption files ⊥ (IsLeftOut old printed) → HasNoHost g image printed files
     none_found printed None left = absurd left
     none_found printed (Some f) left = record { old = old; opened = opened; left = left }
 
-    pub host_at : (found : Result (Opened (FileStore D g)) (Ended D g)) → MatchResult found (IsHostIn over_files old) (λ ended. MatchOption ended.files ⊥ (IsLeftOut old ended.printed))
+    pub host_at : (found : Result (Opened (FileStore D g)) (Ended D)) → MatchResult found (IsHostIn over_files old) (λ ended. MatchOption ended.files ⊥ (IsLeftOut old ended.printed))
         → MatchResult found (IsHostAt g image) (λ ended. HasNoHost g image ended.printed ended.files)
     host_at (Ok host) it = record { old = old; opened = opened; found = it }
     host_at (Err ended) it = none_found ended.printed ended.files it

@@ -9,6 +9,6 @@ returns-in-Err g c =
     let done = c.in-Err.done in
     record {
       new = done.connection;
-      not_found = subst (λ (p : Printed). IsNotFound (file_state c.args.connection) (file_state done.connection) p) (sym c.leave.ensures.printed) c.in-Err.ensures;
-      closed = c.close.ensures done.connection c.leave.ensures.left;
+      not_found = subst (λ (p : Printed). IsNotFound (file_state c.args.connection) (file_state done.connection) p) (sym c.leave-printed.ensures.printed) c.in-Err.ensures;
+      closed = c.close.ensures done.connection c.leave-printed.ensures.left;
     }

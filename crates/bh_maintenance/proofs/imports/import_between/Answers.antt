@@ -10,7 +10,7 @@ returns g c =
     record {
       to_new = did.to.connection;
       from_new = did.from.connection;
-      imports = subst (λ (p : Printed). Imports over_files over_files c.args.from c.args.to did.from.connection did.to.connection p) (sym c.leave.ensures.printed) c.in_ok-printed.ensures;
-      closed = c.close.ensures did.to.connection c.leave.ensures.left;
+      imports = subst (λ (p : Printed). Imports over_files over_files c.args.from c.args.to did.from.connection did.to.connection p) (sym c.leave-printed.ensures.printed) c.in_ok-printed.ensures;
+      closed = c.close.ensures did.to.connection c.leave-printed.ensures.left;
       given_closed = c.let_go-given.ensures;
     }
