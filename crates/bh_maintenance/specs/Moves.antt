@@ -206,31 +206,35 @@ module _ {D : Type 0} (g : disk.Ghosts D) (image : Image) where
   abbrev pub HasNoHost : Printed → Option (Files D) → Type 0
   HasNoHost printed files = MatchOption files (IsRefusal NotAHostFile printed) (HoldNoHost printed)
 
--- of two hosts the one's tenant came to the other, or both stay, and their files were closed
-pub record IsImportedFrom {D E : Type 0} {g : disk.Ghosts D} {h : disk.Ghosts E} (from : Opened (FileStore E h)) (to : Opened (FileStore D g)) (printed : Printed) (files : Files D) (given : Files E) : Type 0 where
-  pub to_new : Held (FileStore D g)
-  pub from_new : Held (FileStore E h)
-  pub imports : Imports over_files over_files from to from_new to_new printed
-  pub closed : AreClosed to_new files
-  pub given_closed : AreClosed from_new given
+module _ {S D : Type 0} (h : Ghosts S) (from : Opened S) (from_new : Held S) where
+  -- a host's tenant came to the host of files, or both stay, and the files were closed
+  pub record IsImportedInto {g : disk.Ghosts D} (to : Opened (FileStore D g)) (printed : Printed) (files : Files D) : Type 0 where
+    pub new : Held (FileStore D g)
+    pub imports : Imports h over_files from to from_new new printed
+    pub closed : AreClosed new files
 
--- the second host was opened on files with these contents
-pub record IsImportedTo {D E : Type 0} (g : disk.Ghosts D) {h : disk.Ghosts E} (image : Image) (from : Opened (FileStore E h)) (printed : Printed) (files : Files D) (given : Files E) : Type 0 where
-  pub to : Opened (FileStore D g)
-  pub at : IsHostAt g image to
-  pub came : IsImportedFrom from to printed files given
+  module _ (g : disk.Ghosts D) (image : Image) where
+    -- that host was opened on files with these contents
+    pub record IsImportedTo (printed : Printed) (files : Files D) : Type 0 where
+      pub to : Opened (FileStore D g)
+      pub at : IsHostAt g image to
+      pub came : IsImportedInto to printed files
 
--- the same; or they hold no host, and that of the given files was closed as it stood
-abbrev pub ImportsTo : {D E : Type 0} → disk.Ghosts D → {h : disk.Ghosts E} → Image → Opened (FileStore E h) → Printed → Option (Files D) → Option (Files E) → Type 0
-ImportsTo g image from printed files given =
-    (HasNoHost g image printed files × MatchOption given ⊥ (AreClosed from.connection))
-    ⊎ MatchOption files ⊥ (λ f. MatchOption given ⊥ (IsImportedTo g image from printed f))
+    -- the same; or they hold none, and nothing was done
+    abbrev pub ImportsTo : Printed → Option (Files D) → Type 0
+    ImportsTo printed files = (HasNoHost g image printed files × (from_new ≡ from.connection)) ⊎ MatchOption files ⊥ (IsImportedTo printed)
+
+-- the same of a host in files, which were closed
+pub record IsImportedOf {D E : Type 0} {h : disk.Ghosts E} (from : Opened (FileStore E h)) (g : disk.Ghosts D) (image : Image) (printed : Printed) (files : Option (Files D)) (given : Files E) : Type 0 where
+  pub new : Held (FileStore E h)
+  pub imports : ImportsTo over_files from new g image printed files
+  pub closed : AreClosed new given
 
 -- what came of an import: that, of the host of the given files; or they hold none, and the others weren't opened
 abbrev pub IsImported : {D E : Type 0} → disk.Ghosts D → disk.Ghosts E → Image → Image → Printed → Option (Files D) → Option (Files E) → Type 0
 IsImported {D} {E} g h image given_image printed files given =
     (HasNoHost h given_image printed given × (files ≡ None))
-    ⊎ ((from : Opened (FileStore E h)) × IsHostAt h given_image from × ImportsTo g image from printed files given)
+    ⊎ ((from : Opened (FileStore E h)) × IsHostAt h given_image from × MatchOption given ⊥ (IsImportedOf from g image printed files))
 
 -- a host's tenant was copied to a new file, or not, and the host's files were closed
 pub record IsExportedFrom {D M E : Type 0} {g : disk.Ghosts D} (m : disk.Ghosts M) (e : disk.Ghosts E) (tenant : Octets) (host : Opened (FileStore D g)) (printed : Printed) (made : Option (Files M)) (copy : Option E) (files : Files D) : Type 0 where

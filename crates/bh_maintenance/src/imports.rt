@@ -7,7 +7,7 @@ ghost use Rattle.sqlite_wal.specs.Files.{image_at};
 ghost use Rattle.bh_blocks.specs.Digests.{digest_by};
 ghost use Rattle.bh_maintenance.specs.Files.{HoldsSoundHost};
 ghost use Rattle.bh_maintenance.specs.Found.{IsReadyByRow};
-ghost use Rattle.bh_maintenance.specs.Moves.{Stays, TellsName, HasNoName, IsOneName, Imports, IsImportedFrom, ImportsTo, IsImported};
+ghost use Rattle.bh_maintenance.specs.Moves.{Stays, TellsName, HasNoName, IsOneName, Imports, IsImportedInto, ImportsTo, IsImportedOf, IsImported};
 ghost use Rattle.bh_maintenance.specs.Printing.{IsLine};
 
 use crate::ending::{Done, Ended, close, leave, let_go};
@@ -109,8 +109,9 @@ fn import_one<S: Alter + Drop, T: Alter + Drop>(
 {
     match name_in(rt, from_path, from)? {
         Ok(tenant) => {
-            let line = tenant_line(rt.alloc(), tenant.as_str())?;
-            move_and_tell(rt, path, from, to, tenant.as_str(), line)
+            let name = tenant.as_str();
+            let line = tenant_line(rt.alloc(), name)?;
+            move_and_tell(rt, path, from, to, name, line)
         }
         Err(printed) => Ok(printed),
     }
@@ -135,35 +136,51 @@ fn import_from<S: Alter + Drop, T: Alter + Drop>(
     import_one(rt, path, from_path, from, to)
 }
 
-/// The same of hosts in files, which are closed.
-fn import_between<D: Disk + Drop, E: Disk + Drop>(
+/// The same into the host of files, which are closed.
+fn import_into<S: Alter + Drop, D: Disk + Drop>(
     rt: &HostRuntime,
     path: &str,
     from_path: &str,
-    from: Opened<FileStore<E>>,
+    from: &mut Opened<S>,
     to: Opened<FileStore<D>>,
-) -> Result<Imported<D, E>, AllocError>
-    requires from { IsReadyByRow over_files from }
+) -> Result<Ended<D>, AllocError>
+    requires from { IsReadyByRow S.Store from.old }
     requires to { IsReadyByRow over_files to }
-    ensures { IfOk result (λ it. MatchOption it.files ⊥ (λ f. MatchOption it.given ⊥ (IsImportedFrom from to it.printed f))) }
+    ensures { IfOk result (λ ended. MatchOption ended.files ⊥ (IsImportedInto S.Store from.old from.new.connection to ended.printed)) }
 {
-    let mut from = from;
     let mut to = to;
-    let printed = import_from(rt, path, from_path, &mut from, &mut to)?;
-    let given = let_go(from.connection);
+    let printed = import_from(rt, path, from_path, from, &mut to)?;
     let (printed, left) = leave(Done {
         printed,
         connection: to.connection,
     });
-    Ok(Imported {
+    Ok(Ended {
         printed,
         files: Some(close(left)),
-        given: Some(given),
     })
 }
 
-/// Opens the host that the tenant of another is added to, and adds it.
-fn import_to<S: Start, E: Disk + Drop>(
+/// Opens the host that the tenant of another is added to, adds it, and closes its files.
+fn import_to<F: Alter + Drop, S: Start>(
+    rt: &HostRuntime,
+    path: &str,
+    start: S,
+    from_path: &str,
+    from: &mut Opened<F>,
+) -> Result<Ended<FileFrom<S>>, Fault>
+    requires host { HoldsSoundHost (image_at S.Start) }
+    requires from { IsReadyByRow F.Store from.old }
+    ensures { IfOk result (λ ended. ImportsTo F.Store from.old from.new.connection ⟦<FileFrom<S> as Disk>⟧ (image_at S.Start)
+        ended.printed ended.files) }
+{
+    match host_in(rt, path, start)? {
+        Ok(to) => Ok(import_into(rt, path, from_path, from, to)?),
+        Err(ended) => Ok(ended),
+    }
+}
+
+/// The same of a host in files, which are closed.
+fn import_given<E: Disk + Drop, S: Start>(
     rt: &HostRuntime,
     path: &str,
     start: S,
@@ -172,16 +189,15 @@ fn import_to<S: Start, E: Disk + Drop>(
 ) -> Result<Imported<FileFrom<S>, E>, Fault>
     requires host { HoldsSoundHost (image_at S.Start) }
     requires from { IsReadyByRow over_files from }
-    ensures { IfOk result (λ it. ImportsTo ⟦<FileFrom<S> as Disk>⟧ (image_at S.Start) from it.printed it.files it.given) }
+    ensures { IfOk result (λ it. MatchOption it.given ⊥ (IsImportedOf from ⟦<FileFrom<S> as Disk>⟧ (image_at S.Start) it.printed it.files)) }
 {
-    match host_in(rt, path, start)? {
-        Ok(to) => Ok(import_between(rt, path, from_path, from, to)?),
-        Err(Ended { printed, files }) => Ok(Imported {
-            printed,
-            files,
-            given: Some(let_go(from.connection)),
-        }),
-    }
+    let mut from = from;
+    let Ended { printed, files } = import_to(rt, path, start, from_path, &mut from)?;
+    Ok(Imported {
+        printed,
+        files,
+        given: Some(let_go(from.connection)),
+    })
 }
 
 /// Adds the tenant of a file that was exported to the host of another, with all that it has, and prints `tenant` and its name. No
@@ -202,7 +218,7 @@ pub fn import_file<S: Start, U: Start>(
         it.printed it.files it.given) }
 {
     match host_in(rt, given, given_start)? {
-        Ok(from) => import_to(rt, path, start, given, from),
+        Ok(from) => import_given(rt, path, start, given, from),
         Err(
             Ended {
                 printed,

@@ -5,7 +5,7 @@ use Rattle.bh_maintenance.proofs.Moving.{settled, named_of}
 use Rattle.bh_maintenance.proofs.imports.name_in.Goals as goal
 
 pub sole_tenant-found-requires : goal.sole_tenant-found-requires
-sole_tenant-found-requires g c = settled g.S.Store (digest_by c.args.host.now.digest) c.args.host.now c.requires.ready
+sole_tenant-found-requires g c = record { ready = settled g.S.Store (digest_by c.args.host.now.digest) c.args.host.now c.requires.ready }
 
 pub returns-clause-stays : goal.returns-clause-stays
 returns-clause-stays g c = record { follows = c.sole_tenant-found.ensures.follows; stands = λ clean. inr (c.sole_tenant-found.ensures.back clean) }
