@@ -1,4 +1,6 @@
+use Rattle.std.proofs.Common.{sym, subst}
 use Rattle.std.proofs.lemmas.Result.{IfOk-weaker}
+use Rattle.bh_maintenance.specs.Moves.{IsOneName}
 use Rattle.bh_maintenance.proofs.Moving.{ready_still, unnamed, imported}
 use Rattle.bh_maintenance.proofs.Opened.{when_ok, when_err}
 use Rattle.bh_maintenance.proofs.imports.import_one.Goals as goal
@@ -16,4 +18,4 @@ pub returns-in_ok-line-in-Ok : goal.returns-in_ok-line-in-Ok
 returns-in_ok-line-in-Ok g c =
     let line = c.in_ok-line-in-Ok in
     IfOk-weaker c.move_and_tell.result _ _ (λ printed told. imported g.S.Store g.T.Store c.args.from.now c.args.to.now c.name_in.new.host.connection c.in_ok-tenant.ensures.stays c.requires.from.ready c.requires.to.ready c.requires.limits
-    c.move_and_tell.new.from.connection c.move_and_tell.new.to.connection _ (when_ok _ _ c.in-Ok.is c.in_ok-tenant.ensures.name) line.line printed line.ensures told) c.move_and_tell.ensures
+    c.move_and_tell.new.from.connection c.move_and_tell.new.to.connection c.as_str-name.result.now (subst (IsOneName g.S.Store c.args.from.now.connection c.name_in.new.host.connection) (sym c.as_str-name.ensures.value) (when_ok _ _ c.in-Ok.is c.in_ok-tenant.ensures.name)) line.line printed line.ensures told) c.move_and_tell.ensures
