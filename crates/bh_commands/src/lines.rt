@@ -173,12 +173,12 @@ fn back_up_in(rt: &HostRuntime, path: &str, to: &str) -> Result<Printed, Fault> 
 
 /// Copies a tenant of the host of a file to a new one. Of the contents of none is anything said.
 fn export_in(rt: &HostRuntime, path: &str, tenant: &str, to: &str) -> Result<Printed, Fault> {
-    export_file(rt, path, Wary, tenant, to, Wary, Wary)
+    Ok(export_file(rt, path, Wary, tenant, to, Wary, Wary)?.into_printed())
 }
 
-/// Adds the tenant of a file that was exported to the host of another.
+/// Adds the tenant of a file that was exported to the host of another. Of the contents of neither is anything said.
 fn import_in(rt: &HostRuntime, path: &str, given: &str) -> Result<Printed, Fault> {
-    import_file(rt, path, Wary, given, Wary)
+    Ok(import_file(rt, path, Wary, given, Wary)?.into_printed())
 }
 
 /// Checks the host of a file, of whose contents nothing is said.

@@ -85,7 +85,7 @@ opened_typed db it first = elim (opened_host db it.sound.sound.host.row it.sound
   | inr one ↦ one.first
 ]
 
-shown_now : (limits : HostLimits) (s : State) → (seen_in limits s).now ≡ tables_shown (standing s).now
+pub shown_now : (limits : HostLimits) (s : State) → (seen_in limits s).now ≡ tables_shown (standing s).now
 unfolding seen_in
 shown_now limits s = refl
 

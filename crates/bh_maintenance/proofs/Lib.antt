@@ -1,5 +1,9 @@
 mod Endings
+mod Exporting
 mod Found
+mod Importing
+mod Moving
+mod Opened
 mod Refused
 mod Saved
 mod Verdicts

@@ -3,4 +3,5 @@ pub mod Checks
 pub mod Endings
 pub mod Files
 pub mod Found
+pub mod Moves
 pub mod Printing

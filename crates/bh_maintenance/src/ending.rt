@@ -1,7 +1,7 @@
 //! What is left once a subcommand is done.
 
 ghost use Rattle.std.specs.Prelude.{◌≡◌};
-ghost use Rattle.bh_maintenance.specs.Endings.{IsLeft, Closes};
+ghost use Rattle.bh_maintenance.specs.Endings.{IsLeft, AreClosed, Closes};
 
 use crate::printed::Printed;
 use sqlite::{Alter, Connection, FileStore, Files};
@@ -75,4 +75,11 @@ pub fn close<D: Disk + Drop>(left: Left<FileStore<D>>) -> Files<D>
         },
         Left::Bare(store) => store.close(),
     }
+}
+
+/// Closes the files of a connection, which stay as they are.
+pub fn let_go<D: Disk + Drop>(connection: Connection<FileStore<D>>) -> Files<D>
+    ensures { AreClosed connection result }
+{
+    connection.into_store().close()
 }

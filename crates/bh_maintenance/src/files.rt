@@ -1,19 +1,25 @@
 //! What opening a file needs.
 
-ghost use Rattle.std.specs.Prelude.{◌≡◌, None, IfOk};
-ghost use Rattle.sqlite.specs.Files.{file_state};
+ghost use Rattle.std.specs.Prelude.{◌≡◌, None, IfOk, MatchOption, MatchResult};
+ghost use Rattle.sqlite.specs.Files.{file_state, over_files};
 ghost use Rattle.sqlite_wal.specs.Files.{image_at};
 ghost use Rattle.bh_types.specs.declared.refusal.Refusal.TheVariants as refusal;
 ghost use Rattle.bh_file.specs.Opened.{IsOpenedOn};
+ghost use Rattle.bh_maintenance.specs.Backups.{IsLeftOut};
+ghost use Rattle.bh_maintenance.specs.Files.{HoldsSoundHost};
+ghost use Rattle.bh_maintenance.specs.Found.{IsSoundIn, IsHostIn};
+ghost use Rattle.bh_maintenance.specs.Moves.{IsHostAt, HasNoHost};
 ghost use Rattle.bh_maintenance.specs.Printing.{IsRefusal};
 
-use crate::ending::Ended;
+use crate::ending::{Ended, close, leave};
 use crate::fault::Fault;
+use crate::hosts::opened_host;
 use crate::printed::Printed;
 use crate::remarks::{Remark, tell};
-use bh_file::FileConnection;
+use bh_file::{FileConnection, OpenFault};
+use bh_open::Opened;
 use bh_types::refusal::Refusal;
-use sqlite::Start;
+use sqlite::{Connection, FileFrom, FileStore, Start};
 use sqlite_disk::Disk;
 use std::alloc::{AllocError, Global};
 use std::io::ErrorKind;
@@ -52,5 +58,48 @@ pub fn open<S: Start>(rt: &HostRuntime, path: &str, start: S) -> Result<FileConn
     match bh_file::open_file(rt, path, start) {
         Ok(connection) => Ok(connection),
         Err(reason) => Err(Fault::unopened(rt.alloc(), path, reason)),
+    }
+}
+
+/// The host of the connection of files, or what is printed where there is none, and the files, closed.
+fn host_or_closed<D: Disk + Drop>(
+    rt: &HostRuntime,
+    path: &str,
+    connection: Connection<FileStore<D>>,
+) -> Result<Result<Opened<FileStore<D>>, Ended<D>>, AllocError>
+    requires { IsSoundIn (file_state connection) }
+    ensures { IfOk result (λ found. MatchResult found (IsHostIn over_files connection)
+        (λ ended. MatchOption ended.files ⊥ (IsLeftOut connection ended.printed))) }
+{
+    match opened_host(rt, path, connection)? {
+        Ok(host) => Ok(Ok(host)),
+        Err(done) => {
+            let (printed, left) = leave(done);
+            Ok(Err(Ended {
+                printed,
+                files: Some(close(left)),
+            }))
+        }
+    }
+}
+
+/// The host of a file, brought over if it was of version 1, or what is printed where there is none, and its files, closed, if
+/// there are any. A fault names the path.
+pub fn host_in<S: Start>(
+    rt: &HostRuntime,
+    path: &str,
+    start: S,
+) -> Result<Result<Opened<FileStore<FileFrom<S>>>, Ended<FileFrom<S>>>, Fault>
+    requires { HoldsSoundHost (image_at S.Start) }
+    ensures { IfOk result (λ found. MatchResult found (IsHostAt ⟦<FileFrom<S> as Disk>⟧ (image_at S.Start))
+        (λ ended. HasNoHost ⟦<FileFrom<S> as Disk>⟧ (image_at S.Start) ended.printed ended.files)) }
+{
+    match is_blank(rt, path) {
+        Ok(false) => {
+            let connection = open(rt, path, start)?;
+            Ok(host_or_closed(rt, path, connection)?)
+        }
+        Ok(true) => Ok(Err(without_files(rt.alloc())?)),
+        Err(error) => Err(Fault::unopened(rt.alloc(), path, OpenFault::from(error))),
     }
 }

@@ -2,13 +2,13 @@
 
 ghost use Rattle.std.specs.Prelude.{◌≡◌, IfOk, MatchResult};
 ghost use Rattle.sqlite.specs.Held.{state};
-ghost use Rattle.bh_maintenance.specs.Found.{IsOpenedAs, IsNotFound};
+ghost use Rattle.bh_maintenance.specs.Found.{IsSoundIn, IsOpenedAs, IsNotFound, IsHostIn};
 ghost use Rattle.bh_maintenance.specs.Printing.{IsRefusal};
 
 use crate::ending::Done;
 use crate::printed::Printed;
 use crate::remarks::{Remark, tell};
-use bh_open::{NoHost, open_host};
+use bh_open::{NoHost, Opened, open_host};
 use bh_types::limits::Tuning;
 use bh_types::refusal::Refusal;
 use sqlite::{Alter, Connection, Error};
@@ -52,6 +52,26 @@ pub fn found_host<S: Alter + Drop>(
         Err(error) => {
             tell(rt, path, &why_not_found(error.why, error.cause));
             Ok(Err(refused(rt.alloc(), error.connection, error.refusal)?))
+        }
+    }
+}
+
+/// The host of a database, which was brought over if it was of version 1, or the refusal of one that holds none.
+pub fn opened_host<S: Alter + Drop>(
+    rt: &HostRuntime,
+    path: &str,
+    connection: Connection<S>,
+) -> Result<Result<Opened<S>, Done<S>>, AllocError>
+    requires { IsSoundIn (state S.Store connection) }
+    ensures { IfOk result (λ found. MatchResult found (IsHostIn S.Store connection)
+        (λ done. IsNotFound (state S.Store connection) (state S.Store done.connection) done.printed)) }
+{
+    match open_host(rt.alloc(), connection, Tuning::default()) {
+        Ok(opened) => Ok(Ok(opened)),
+        Err(error) => {
+            tell(rt, path, &why_not_found(error.why, error.cause));
+            let done = refused(rt.alloc(), error.connection, error.refusal)?;
+            Ok(Err(done))
         }
     }
 }

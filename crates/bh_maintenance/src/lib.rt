@@ -4,13 +4,16 @@
 mod backups;
 mod checks;
 pub mod ending;
+mod exports;
 pub mod fault;
 pub mod files;
 pub mod hosts;
+mod imports;
 mod moves;
 pub mod printed;
 pub mod remarks;
 
 pub use backups::{BackedUp, backup_file};
 pub use checks::check_file;
-pub use moves::{export_file, import_file};
+pub use exports::{Exported, export_file};
+pub use imports::{Imported, import_file};

@@ -1,0 +1,8 @@
+use Rattle.bh_maintenance.proofs.Found.{nothing_is_sound}
+use Rattle.bh_commands.proofs.lines.import_in.Goals as goal
+
+pub import_file-requires-clause-host : goal.import_file-requires-clause-host
+import_file-requires-clause-host c = nothing_is_sound
+
+pub import_file-requires-clause-given : goal.import_file-requires-clause-given
+import_file-requires-clause-given c = nothing_is_sound

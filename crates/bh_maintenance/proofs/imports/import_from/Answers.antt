@@ -1,0 +1,6 @@
+use Rattle.bh_maintenance.proofs.Moving.{not_imported}
+use Rattle.std.proofs.lemmas.Result.{IfOk-weaker}
+use Rattle.bh_maintenance.proofs.imports.import_from.Goals as goal
+
+pub returns-then-ne : goal.returns-then-ne
+returns-then-ne g c = IfOk-weaker c.fault.result _ _ (λ printed fault. not_imported g.S.Store g.T.Store c.args.from.now c.args.to.now printed fault) c.fault.ensures

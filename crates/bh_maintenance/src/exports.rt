@@ -1,0 +1,278 @@
+//! A tenant of a file's host, copied to a new file.
+
+ghost use Rattle.std.specs.Prelude.{◌≡◌, IfOk, MatchOption, MatchResult};
+ghost use Rattle.sqlite.specs.Files.{over_files};
+ghost use Rattle.sqlite_wal.specs.Files.{image_at};
+ghost use Rattle.bh_maintenance.specs.Files.{HoldsSoundHost};
+ghost use Rattle.bh_maintenance.specs.Found.{IsReadyByRow};
+ghost use Rattle.bh_maintenance.specs.Moves.{IsLike, Exports, ExportsTo, SavesMoved, IsExportedFrom, IsExported};
+ghost use Rattle.bh_maintenance.specs.Printing.{IsFault};
+
+use crate::ending::{Done, Ended, let_go};
+use crate::fault::Fault;
+use crate::files::{host_in, open};
+use crate::hosts::why_not_found;
+use crate::moves::move_and_tell;
+use crate::printed::Printed;
+use crate::remarks::tell;
+use bh_backup::{BackupFault, Saved, save};
+use bh_blocks::digester::Sha256Digester;
+use bh_create::create;
+use bh_open::Opened;
+use bh_types::limits::Tuning;
+use sqlite::{Alter, Connection, FileFrom, FileStore, Files, Start};
+use sqlite_disk::Disk;
+use std::alloc::AllocError;
+use std::io::ErrorKind;
+use std::{fs, io};
+
+/// What came of an export: what is printed; the host's files, if there were any, closed; those in which the tenant's host was made,
+/// closed; and the copy of it, if one was made.
+#[derive(Drop)]
+pub struct Exported<D: Disk + Drop, M: Disk + Drop, E: Disk + Drop> {
+    pub printed: Printed,
+    pub files: Option<Files<D>>,
+    pub made: Option<Files<M>>,
+    pub copy: Option<E>,
+}
+
+impl<D: Disk + Drop, M: Disk + Drop, E: Disk + Drop> Exported<D, M, E> {
+    /// What is printed. The files are let go of, so that another process may open them.
+    pub fn into_printed(self) -> Printed
+        ensures { result ≡ self.printed }
+    {
+        let Exported {
+            printed,
+            files: _,
+            made: _,
+            copy: _,
+        } = self;
+        printed
+    }
+}
+
+/// What is printed, the files in which a host was made, closed, and the copy.
+#[derive(Drop)]
+struct Made<M: Disk + Drop, E: Disk + Drop> {
+    printed: Printed,
+    files: Option<Files<M>>,
+    copy: Option<E>,
+}
+
+/// Whether something has a name.
+fn is_there(rt: &HostRuntime, path: &str) -> io::Result<bool> {
+    match fs::symlink_metadata(rt, path) {
+        Ok(_) => Ok(true),
+        Err(error) if error.kind() == ErrorKind::NotFound => Ok(false),
+        Err(error) => Err(error),
+    }
+}
+
+/// That nothing has the name of the new file yet.
+fn refuse_there(rt: &HostRuntime, path: &str) -> Result<(), Fault> {
+    if is_there(rt, path)? {
+        return Err(Fault::unsaved(rt.alloc(), path, BackupFault::Taken));
+    }
+    Ok(())
+}
+
+/// The name of the file in which the tenant's host is made, and that of its log.
+#[derive(Drop)]
+struct Making {
+    file: String,
+    log: String,
+}
+
+impl Making {
+    fn of(rt: &HostRuntime, path: &str) -> Result<Making, AllocError> {
+        Ok(Making {
+            file: format!(in rt.alloc(); "{path}.moving")?,
+            log: format!(in rt.alloc(); "{path}.moving-wal")?,
+        })
+    }
+
+    /// Removes what was made, or what a stop left of it.
+    fn discard(&self, rt: &HostRuntime) {
+        let _ = fs::remove_file(rt, self.file.as_str());
+        let _ = fs::remove_file(rt, self.log.as_str());
+    }
+}
+
+/// A new host in an empty database, with the limits and the digest function of another, or `fault`.
+fn host_like<S: Alter + Drop, T: Alter + Drop>(
+    rt: &HostRuntime,
+    host: &Opened<S>,
+    path: &str,
+    connection: Connection<T>,
+) -> Result<Result<Opened<T>, Done<T>>, AllocError>
+    ensures { IfOk result (λ made. MatchResult made (IsLike T.Store host.now) (λ done. IsFault done.printed)) }
+{
+    // No block is named yet, so it doesn't matter who would.
+    let (limits, tuning) = (host.limits, Tuning::default());
+    match create(connection, Sha256Digester, host.digest, limits, tuning) {
+        Ok(made) => Ok(Ok(Opened {
+            connection: made.into_connection(),
+            limits,
+            tuning,
+            digest: host.digest,
+            latest: 0,
+        })),
+        Err(error) => {
+            tell(rt, path, &why_not_found(None, error.cause));
+            Ok(Err(Done {
+                printed: Printed::fault(rt.alloc())?,
+                connection: error.connection,
+            }))
+        }
+    }
+}
+
+/// Brings a tenant of a host to one that was made like it, and prints `export`.
+fn bring_to<S: Alter + Drop, T: Alter + Drop>(
+    rt: &HostRuntime,
+    host: &mut Opened<S>,
+    path: &str,
+    made: Opened<T>,
+    tenant: &str,
+) -> Result<Done<T>, AllocError>
+    requires host { IsReadyByRow S.Store host.old }
+    requires made { IsLike T.Store host.old made }
+    ensures { IfOk result (λ done. Exports S.Store tenant.now host.old host.new.connection done.printed T.Store done.connection) }
+{
+    let mut made = made;
+    let line = Printed::line(rt.alloc(), b"export")?;
+    let printed = move_and_tell(rt, path, host, &mut made, tenant, line)?;
+    Ok(Done {
+        printed,
+        connection: made.connection,
+    })
+}
+
+/// The same, to one that is made for it in an empty database.
+fn fill<S: Alter + Drop, T: Alter + Drop>(
+    rt: &HostRuntime,
+    host: &mut Opened<S>,
+    path: &str,
+    connection: Connection<T>,
+    tenant: &str,
+) -> Result<Done<T>, AllocError>
+    requires { IsReadyByRow S.Store host.old }
+    ensures { IfOk result (λ done. Exports S.Store tenant.now host.old host.new.connection done.printed T.Store done.connection) }
+{
+    match host_like(rt, host, path, connection)? {
+        Ok(made) => bring_to(rt, host, path, made, tenant),
+        Err(done) => Ok(done),
+    }
+}
+
+/// Copies a host that has the tenant to the new file, or closes it where it hasn't.
+fn save_moved<D: Disk + Drop, W: Start>(
+    rt: &HostRuntime,
+    done: Done<FileStore<D>>,
+    to: &str,
+    to_start: W,
+) -> Result<Made<D, FileFrom<W>>, Fault>
+    ensures { IfOk result (λ it. (it.printed ≡ done.printed)
+        × SavesMoved ⟦<FileFrom<W> as Disk>⟧ done.connection done.printed it.files it.copy) }
+{
+    let Done {
+        printed,
+        connection,
+    } = done;
+    if printed.status != 0 {
+        return Ok(Made {
+            printed,
+            files: Some(let_go(connection)),
+            copy: None,
+        });
+    }
+    match save(rt, connection, to, to_start) {
+        Ok(Saved { files, copy }) => Ok(Made {
+            printed,
+            files: Some(files),
+            copy: Some(copy),
+        }),
+        Err(reason) => Err(Fault::unsaved(rt.alloc(), to, reason)),
+    }
+}
+
+/// Fills the file in which the tenant's host is made, and copies it to the new one.
+fn export_to<S: Alter + Drop, U: Start, W: Start>(
+    rt: &HostRuntime,
+    host: &mut Opened<S>,
+    path: &str,
+    tenant: &str,
+    to: &str,
+    made_start: U,
+    to_start: W,
+) -> Result<Made<FileFrom<U>, FileFrom<W>>, Fault>
+    requires { IsReadyByRow S.Store host.old }
+    ensures { IfOk result (λ it. ExportsTo S.Store tenant.now host.old host.new.connection it.printed
+        ⟦<FileFrom<U> as Disk>⟧ ⟦<FileFrom<W> as Disk>⟧ it.files it.copy) }
+{
+    let connection = open(rt, path, made_start)?;
+    let done = fill(rt, host, path, connection, tenant)?;
+    save_moved(rt, done, to, to_start)
+}
+
+/// The same of a host in files, which are closed. What was made beside the new file is removed.
+fn export_from<D: Disk + Drop, U: Start, W: Start>(
+    rt: &HostRuntime,
+    host: Opened<FileStore<D>>,
+    tenant: &str,
+    to: &str,
+    made_start: U,
+    to_start: W,
+) -> Result<Exported<D, FileFrom<U>, FileFrom<W>>, Fault>
+    requires { IsReadyByRow over_files host }
+    ensures { IfOk result (λ it. MatchOption it.files ⊥ (IsExportedFrom ⟦<FileFrom<U> as Disk>⟧ ⟦<FileFrom<W> as Disk>⟧
+        tenant.now host it.printed it.made it.copy)) }
+{
+    let mut host = host;
+    let making = Making::of(rt, to)?;
+    making.discard(rt);
+    let path = making.file.as_str();
+    let outcome = export_to(rt, &mut host, path, tenant, to, made_start, to_start);
+    making.discard(rt);
+    let Made {
+        printed,
+        files,
+        copy,
+    } = outcome?;
+    Ok(Exported {
+        printed,
+        files: Some(let_go(host.connection)),
+        made: files,
+        copy,
+    })
+}
+
+/// Copies a tenant of the host of a file, with all that it has, to a host of its own in a new file, `to`, and prints `export`. That
+/// host has the limits of the other, its digest function and its last stamp. No clock is read, and the first host stays as it is.
+///
+/// It is made in a file of the name with `.moving` behind it, and copied as a backup is: the new file is whole and synced
+/// before that, or there is none. `42 NoSuchTenant` where the host hasn't the tenant.
+pub fn export_file<S: Start, U: Start, W: Start>(
+    rt: &HostRuntime,
+    path: &str,
+    start: S,
+    tenant: &str,
+    to: &str,
+    made_start: U,
+    to_start: W,
+) -> Result<Exported<FileFrom<S>, FileFrom<U>, FileFrom<W>>, Fault>
+    requires { HoldsSoundHost (image_at S.Start) }
+    ensures { IfOk result (λ it. IsExported ⟦<FileFrom<S> as Disk>⟧ ⟦<FileFrom<U> as Disk>⟧ ⟦<FileFrom<W> as Disk>⟧ (image_at S.Start)
+        tenant.now it.printed it.files it.made it.copy) }
+{
+    refuse_there(rt, to)?;
+    match host_in(rt, path, start)? {
+        Ok(host) => export_from(rt, host, tenant, to, made_start, to_start),
+        Err(Ended { printed, files }) => Ok(Exported {
+            printed,
+            files,
+            made: None,
+            copy: None,
+        }),
+    }
+}

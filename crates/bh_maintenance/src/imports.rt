@@ -1,0 +1,233 @@
+//! The tenant of a file, added to the host of another.
+
+ghost use Rattle.std.specs.Prelude.{◌≡◌, ◌++◌, codes, IfOk, MatchResult, MatchOption};
+ghost use Rattle.std.specs.String.{string_bytes};
+ghost use Rattle.sqlite.specs.Files.{over_files};
+ghost use Rattle.sqlite_wal.specs.Files.{image_at};
+ghost use Rattle.bh_blocks.specs.Digests.{digest_by};
+ghost use Rattle.bh_maintenance.specs.Files.{HoldsSoundHost};
+ghost use Rattle.bh_maintenance.specs.Found.{IsReadyByRow};
+ghost use Rattle.bh_maintenance.specs.Moves.{Stays, TellsName, HasNoName, IsOneName, Imports, IsImportedInto, ImportsTo, IsImportedOf, IsImported};
+ghost use Rattle.bh_maintenance.specs.Printing.{IsLine};
+
+use crate::ending::{Done, Ended, close, leave, let_go};
+use crate::fault::Fault;
+use crate::files::host_in;
+use crate::moves::move_and_tell;
+use crate::printed::Printed;
+use crate::remarks::{Remark, tell};
+use bh_moved::sole_tenant;
+use bh_open::Opened;
+use bh_types::refusal::Refusal;
+use sqlite::{Alter, Error, FileFrom, FileStore, Files, Start};
+use sqlite_disk::Disk;
+use std::alloc::{AllocError, Global};
+
+/// What came of an import: what is printed, and the files of both hosts, of those that were opened, closed.
+#[derive(Drop)]
+pub struct Imported<D: Disk + Drop, E: Disk + Drop> {
+    pub printed: Printed,
+    /// The host's.
+    pub files: Option<Files<D>>,
+    /// Those of the tenant.
+    pub given: Option<Files<E>>,
+}
+
+impl<D: Disk + Drop, E: Disk + Drop> Imported<D, E> {
+    /// What is printed. The files are let go of, so that another process may open them.
+    pub fn into_printed(self) -> Printed
+        ensures { result ≡ self.printed }
+    {
+        let Imported {
+            printed,
+            files: _,
+            given: _,
+        } = self;
+        printed
+    }
+}
+
+/// The name that was read of the one tenant of a host, or what is printed where it has none or several.
+fn name_or_told(
+    rt: &HostRuntime,
+    path: &str,
+    found: Result<Option<String>, Error>,
+) -> Result<Result<String, Printed>, AllocError>
+    ensures { IfOk result (TellsName found) }
+{
+    match found {
+        Ok(Some(name)) => Ok(Ok(name)),
+        Ok(None) => {
+            tell(rt, path, &Remark::NotOneTenant);
+            Ok(Err(Printed::refusal(rt.alloc(), Refusal::NotAHostFile)?))
+        }
+        Err(error) => {
+            tell(rt, path, &Remark::Trouble(error));
+            Ok(Err(Printed::fault(rt.alloc())?))
+        }
+    }
+}
+
+/// The name of the one tenant of a host, or what is printed where it has none or several.
+fn name_in<S: Alter + Drop>(
+    rt: &HostRuntime,
+    path: &str,
+    host: &mut Opened<S>,
+) -> Result<Result<String, Printed>, AllocError>
+    requires { IsReadyByRow S.Store host.old }
+    ensures same { host.new ≡ record host.old { connection = host.new.connection } }
+    ensures stays { Stays S.Store host.old.connection host.new.connection }
+    ensures name { IfOk result (λ found. MatchResult found
+        (λ name. IsOneName S.Store host.old.connection host.new.connection (string_bytes name))
+        (HasNoName S.Store host.old.connection host.new.connection)) }
+{
+    let found = sole_tenant(&mut host.connection);
+    name_or_told(rt, path, found)
+}
+
+/// That a tenant came.
+fn tenant_line(alloc: Global, tenant: &str) -> Result<Printed, AllocError>
+    ensures { IfOk result (IsLine (codes "tenant " ++ tenant.now)) }
+{
+    let mut line = Vec::from_slice(alloc, b"tenant ")?;
+    line.extend_from_slice(tenant.as_bytes())?;
+    Printed::line(alloc, line.as_slice())
+}
+
+/// Moves the one tenant of a host into another, which prints `tenant` and its name.
+fn import_one<S: Alter + Drop, T: Alter + Drop>(
+    rt: &HostRuntime,
+    path: &str,
+    from_path: &str,
+    from: &mut Opened<S>,
+    to: &mut Opened<T>,
+) -> Result<Printed, AllocError>
+    requires from { IsReadyByRow S.Store from.old }
+    requires to { IsReadyByRow T.Store to.old }
+    requires limits { from.old.limits ≡ to.old.limits }
+    ensures { IfOk result (Imports S.Store T.Store from.old to.old from.new.connection to.new.connection) }
+{
+    match name_in(rt, from_path, from)? {
+        Ok(tenant) => {
+            let name = tenant.as_str();
+            let line = tenant_line(rt.alloc(), name)?;
+            move_and_tell(rt, path, from, to, name, line)
+        }
+        Err(printed) => Ok(printed),
+    }
+}
+
+/// The same, if the limits of both hosts are the same.
+fn import_from<S: Alter + Drop, T: Alter + Drop>(
+    rt: &HostRuntime,
+    path: &str,
+    from_path: &str,
+    from: &mut Opened<S>,
+    to: &mut Opened<T>,
+) -> Result<Printed, AllocError>
+    requires from { IsReadyByRow S.Store from.old }
+    requires to { IsReadyByRow T.Store to.old }
+    ensures { IfOk result (Imports S.Store T.Store from.old to.old from.new.connection to.new.connection) }
+{
+    if from.limits != to.limits {
+        tell(rt, from_path, &Remark::OtherLimits);
+        return Printed::fault(rt.alloc());
+    }
+    import_one(rt, path, from_path, from, to)
+}
+
+/// The same into the host of files, which are closed.
+fn import_into<S: Alter + Drop, D: Disk + Drop>(
+    rt: &HostRuntime,
+    path: &str,
+    from_path: &str,
+    from: &mut Opened<S>,
+    to: Opened<FileStore<D>>,
+) -> Result<Ended<D>, AllocError>
+    requires from { IsReadyByRow S.Store from.old }
+    requires to { IsReadyByRow over_files to }
+    ensures { IfOk result (λ ended. MatchOption ended.files ⊥ (IsImportedInto S.Store from.old from.new.connection to ended.printed)) }
+{
+    let mut to = to;
+    let printed = import_from(rt, path, from_path, from, &mut to)?;
+    let (printed, left) = leave(Done {
+        printed,
+        connection: to.connection,
+    });
+    Ok(Ended {
+        printed,
+        files: Some(close(left)),
+    })
+}
+
+/// Opens the host that the tenant of another is added to, adds it, and closes its files.
+fn import_to<F: Alter + Drop, S: Start>(
+    rt: &HostRuntime,
+    path: &str,
+    start: S,
+    from_path: &str,
+    from: &mut Opened<F>,
+) -> Result<Ended<FileFrom<S>>, Fault>
+    requires host { HoldsSoundHost (image_at S.Start) }
+    requires from { IsReadyByRow F.Store from.old }
+    ensures { IfOk result (λ ended. ImportsTo F.Store from.old from.new.connection ⟦<FileFrom<S> as Disk>⟧ (image_at S.Start)
+        ended.printed ended.files) }
+{
+    match host_in(rt, path, start)? {
+        Ok(to) => Ok(import_into(rt, path, from_path, from, to)?),
+        Err(ended) => Ok(ended),
+    }
+}
+
+/// The same of a host in files, which are closed.
+fn import_given<E: Disk + Drop, S: Start>(
+    rt: &HostRuntime,
+    path: &str,
+    start: S,
+    from_path: &str,
+    from: Opened<FileStore<E>>,
+) -> Result<Imported<FileFrom<S>, E>, Fault>
+    requires host { HoldsSoundHost (image_at S.Start) }
+    requires from { IsReadyByRow over_files from }
+    ensures { IfOk result (λ it. MatchOption it.given ⊥ (IsImportedOf from ⟦<FileFrom<S> as Disk>⟧ (image_at S.Start) it.printed it.files)) }
+{
+    let mut from = from;
+    let Ended { printed, files } = import_to(rt, path, start, from_path, &mut from)?;
+    Ok(Imported {
+        printed,
+        files,
+        given: Some(let_go(from.connection)),
+    })
+}
+
+/// Adds the tenant of a file that was exported to the host of another, with all that it has, and prints `tenant` and its name. No
+/// clock is read: the later one of the two last stamps becomes the host's. The file that was exported stays as it is.
+///
+/// `41 TenantExists` where the host has a tenant of this name, `47 NotAHostFile` where either holds no host, or the second not
+/// exactly one tenant, `fault` where their limits differ. Then nothing is changed.
+pub fn import_file<S: Start, U: Start>(
+    rt: &HostRuntime,
+    path: &str,
+    start: S,
+    given: &str,
+    given_start: U,
+) -> Result<Imported<FileFrom<S>, FileFrom<U>>, Fault>
+    requires host { HoldsSoundHost (image_at S.Start) }
+    requires given { HoldsSoundHost (image_at U.Start) }
+    ensures { IfOk result (λ it. IsImported ⟦<FileFrom<S> as Disk>⟧ ⟦<FileFrom<U> as Disk>⟧ (image_at S.Start) (image_at U.Start)
+        it.printed it.files it.given) }
+{
+    match host_in(rt, given, given_start)? {
+        Ok(from) => import_given(rt, path, start, given, from),
+        Err(
+            Ended {
+                printed,
+                files: given,
+            },
+        ) => Ok(Imported {
+            printed,
+            files: None,
+            given,
+        }),
+    }
+}
