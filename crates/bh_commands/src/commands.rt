@@ -64,6 +64,24 @@ fn serve<H: Storage>(
     Ok(Printed::nothing(rt.alloc()))
 }
 
+/// Does what is asked of a host, whose requests' targets this router tells.
+fn do_routed<H: Storage>(
+    rt: &HostRuntime,
+    routes: &Routes,
+    host: &mut H,
+    reading: u64,
+    asked: Work,
+) -> Result<Printed, Fault>
+    requires { Clean H.IsIntact H.IsOpen host.old → IsAtRest H.IsSoundStore (H.seen host.old) }
+    ensures stays { StaysReady H.IsIntact H.IsOpen H.IsSoundStore H.seen host.old host.new }
+    ensures done { IfOk result (HasDone H.IsIntact H.IsOpen H.seen H.left asked reading host.old host.new) }
+{
+    match asked {
+        Work::Command(task) => Ok(apply_command(rt.alloc(), routes, host, reading, task)?),
+        Work::Serve(serving) => Ok(serve(rt, routes, host, serving)?),
+    }
+}
+
 /// Does what is asked of a host at a reading of the clock, in seconds since 1970, and gives what is printed of it. Connections
 /// have the machine's clock.
 pub fn do_work<H: Storage>(
@@ -77,8 +95,5 @@ pub fn do_work<H: Storage>(
     ensures done { IfOk result (HasDone H.IsIntact H.IsOpen H.seen H.left asked reading host.old host.new) }
 {
     let routes = Routes::new(rt.alloc())?;
-    match asked {
-        Work::Command(task) => Ok(apply_command(rt.alloc(), &routes, host, reading, task)?),
-        Work::Serve(serving) => Ok(serve(rt, &routes, host, serving)?),
-    }
+    do_routed(rt, &routes, host, reading, asked)
 }

@@ -1,13 +1,11 @@
 -- A host that is made for one tenant of another, and the copy of its file.
-use Rattle.std.proofs.Common.{◌≡◌, ◌≢◌, ◌⊎◌, inl, inr, ℕ, true, false, List, [], ◌∷◌, map, max, codes, Option, Some, None, MatchOption, is_some, refl, sym, ap, ◌∙◌, subst, arith}
+use Rattle.std.proofs.Common.{◌≡◌, inl, inr, ℕ, List, [], ◌∷◌, map, max, codes, Option, Some, None, MatchOption, refl, sym, ap, ◌∙◌, subst, arith}
 use Rattle.std.specs.Option.{option_map_or}
 use Rattle.sqlite_disk.specs.declared.Disk as disk
 use Rattle.sqlite_disk.specs.declared.Files.{Files}
-use Rattle.sqlite_wal.specs.Reads.{AreClean}
 use Rattle.sqlite_trees.specs.declared.store.Store.{Ghosts}
 use Rattle.sqlite_store.specs.declared.store.FileStore.{FileStore}
 use Rattle.sqlite.specs.Closing.{IsCopied}
-use Rattle.sqlite.specs.Effect.{Database}
 use Rattle.sqlite.specs.Files.{file_state, over_files}
 use Rattle.sqlite.specs.Held.{Held, state}
 use Rattle.bh_types.specs.BlockDigests.{digest_number}
@@ -19,19 +17,18 @@ use Rattle.bh_tables.specs.Typed.{HostRow, Tables}
 use Rattle.bh_view.specs.Bodies.{IsSoundHost}
 use Rattle.bh_view.specs.Grouped.{first}
 use Rattle.bh_view.specs.Laws.{new_host}
-use Rattle.bh_view.specs.View.{view, latest_of, limits_in}
+use Rattle.bh_view.specs.View.{view, latest_of}
 use Rattle.bh_schema.specs.Layer.{standing, IsIntact, IsOpen, IsStateClean}
 use Rattle.bh_schema.specs.Storage.{seen_in}
 use Rattle.bh_create.specs.Creation.{IsNewHost}
 use Rattle.bh_blocks.specs.Digests.{digest_by}
-use Rattle.bh_tenant_rows.specs.Brought.{IsBrought}
 use Rattle.bh_moved.specs.Moves.{IsCommitted}
 use Rattle.bh_open.specs.Opening.{digest_in}
 use Rattle.bh_open.specs.declared.open.Opened.{Opened}
 use Rattle.bh_maintenance.proofs.Found.{is_clean}
 use Rattle.bh_maintenance.proofs.Moving.{limits_shown, stays_here}
-use Rattle.bh_maintenance.specs.Found.{IsReadyBy, IsReadyByRow}
-use Rattle.bh_maintenance.specs.Moves.{shown_by, Stays, AreBothClean, HasCome, TellsMove, IsLike, HasOnly, HasExported, HasNotExported, Exports, IsExport, ExportsTo, IsSavedIn, SavesMoved}
+use Rattle.bh_maintenance.specs.Found.{IsReadyByRow}
+use Rattle.bh_maintenance.specs.Moves.{shown_by, HasCome, TellsMove, IsLike, HasOnly, HasExported, Exports, IsExport, ExportsTo, IsSavedIn, SavesMoved}
 use Rattle.bh_maintenance.specs.Printing.{IsFault, IsLine, IsRefusal}
 use Rattle.bh_maintenance.specs.declared.printed.Printed.{Printed}
 

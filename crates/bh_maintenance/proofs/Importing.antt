@@ -1,5 +1,5 @@
 -- An import into the host that was opened in files.
-use Rattle.std.proofs.Common.{◌⊎◌, Option, Some, None, MatchOption, inr}
+use Rattle.std.proofs.Common.{Option, Some, None, MatchOption, inr}
 use Rattle.sqlite_disk.specs.declared.Disk as disk
 use Rattle.sqlite_disk.specs.declared.Files.{Files}
 use Rattle.sqlite_wal.specs.Recovery.{Image}

@@ -1,9 +1,9 @@
 mod Endings
 mod Exporting
-mod Found
+pub mod Found
 mod Importing
 mod Moving
 mod Opened
-mod Refused
+pub mod Refused
 mod Saved
 mod Verdicts

@@ -1,27 +1,24 @@
 -- A tenant that is moved between hosts that are ready.
-use Rattle.std.proofs.Common.{◌≡◌, ◌≢◌, ◌⊎◌, inl, inr, false, true, List, [], ◌∷◌, map, max, codes, ◌++◌, Option, Some, None, Result, Ok, Err, IfOk, IfSome, is_some, refl, sym, ap, ◌∙◌, subst}
+use Rattle.std.proofs.Common.{◌≡◌, ◌≢◌, inl, inr, false, true, [], ◌∷◌, codes, ◌++◌, Option, Some, None, Result, Ok, Err, IfOk, IfSome, is_some, refl, sym, ap, ◌∙◌, subst}
 use Rattle.std.specs.Prelude.{MatchResult}
 use Rattle.std.specs.String.{string_bytes}
 use Rattle.std.specs.declared.alloc.Global.{Global}
 use Rattle.std.specs.declared.string.String.{String}
 use Rattle.sqlite_trees.specs.declared.store.Store.{Ghosts}
 use Rattle.sqlite.specs.declared.error.Error.{Error}
-use Rattle.sqlite.specs.Effect.{Database}
 use Rattle.sqlite.specs.Held.{Held, state}
 use Rattle.sqlite.specs.State.{State}
-use Rattle.bh_types.specs.BlockDigests.{digest_number}
 use Rattle.bh_types.specs.Limits.{HostLimits}
-use Rattle.bh_types.specs.declared.block_digest.BlockDigest.{BlockDigest}
 use Rattle.bh_types.specs.declared.refusal.Refusal.{Refusal}
 use Rattle.bh_types.specs.declared.refusal.Refusal.TheVariants.{NoSuchTenant, TenantExists, NotAHostFile}
 use Rattle.bh_tables.specs.Hosts.{tables_shown}
 use Rattle.bh_tables.specs.Schema.{Octets}
-use Rattle.bh_tables.specs.Typed.{HostRow, Tables, IsHost, tables_in}
+use Rattle.bh_tables.specs.Typed.{Tables, IsHost}
 use Rattle.bh_tables.proofs.HostTests.{host_shows}
 use Rattle.bh_view.specs.Bodies.{IsSoundHost}
 use Rattle.bh_view.specs.View.{view, latest_of, limits_in}
 use Rattle.bh_storage.specs.Calls.{IsAtRest}
-use Rattle.bh_schema.specs.Connections.{stands, tables}
+use Rattle.bh_schema.specs.Connections.{tables}
 use Rattle.bh_schema.specs.Layer.{Standing, standing, IsStateClean, KeepsDisk, Unwinds, taken_back}
 use Rattle.bh_schema.specs.Storage.{shown, seen_in}
 use Rattle.bh_schema.proofs.Storing.{sound_host}
@@ -31,9 +28,9 @@ use Rattle.bh_moved.specs.Moves.{IsSettled, IsCommitted}
 use Rattle.bh_open.specs.declared.open.Opened.{Opened}
 use Rattle.bh_maintenance.proofs.Found.{shown_now}
 use Rattle.bh_maintenance.proofs.Refused.{keeps_disk}
-use Rattle.bh_maintenance.specs.Found.{IsReadyBy, IsReadyByRow}
-use Rattle.bh_maintenance.specs.Moves.{shown_by, Stays, tenants_in, IsToldNo, Tells, TellsName, AreBothClean, HasCome, HasNotCome, Moves, TellsMove, HasNoName, IsOneName, HasImported, HasNotImported, Imports}
-use Rattle.bh_maintenance.specs.Printing.{IsFault, IsLine, IsRefusal}
+use Rattle.bh_maintenance.specs.Found.{IsReadyBy}
+use Rattle.bh_maintenance.specs.Moves.{shown_by, Stays, tenants_in, Tells, TellsName, AreBothClean, HasCome, Moves, TellsMove, HasNoName, IsOneName, Imports}
+use Rattle.bh_maintenance.specs.Printing.{IsFault, IsLine}
 use Rattle.bh_maintenance.specs.declared.printed.Printed.{Printed}
 
 -- ---- a host that is ready

@@ -1,5 +1,5 @@
 -- What the check of a host's file finds, from layer to layer.
-use Rattle.std.proofs.Common.{◌≡◌, ◌⊎◌, inl, inr, ℕ, List, map, refl, sym, ap, ◌∙◌, subst}
+use Rattle.std.proofs.Common.{◌≡◌, inl, inr, ℕ, List, map, refl, sym, ap, ◌∙◌, subst}
 use Rattle.std.specs.Option.{option_map_or}
 use Rattle.bh_types.specs.BlockDigests.{digest_number}
 use Rattle.sqlite.specs.Effect.{Database}
@@ -7,7 +7,7 @@ use Rattle.sqlite.specs.Schema.{Schema}
 use Rattle.sqlite.specs.State.{State}
 use Rattle.bh_tables.specs.Hosts.{with_version, tables_opened}
 use Rattle.bh_tables.specs.Schema.{first_schema, host_schema}
-use Rattle.bh_tables.specs.Typed.{HostRow, tables_in, first_tables_in}
+use Rattle.bh_tables.specs.Typed.{HostRow, tables_in}
 use Rattle.bh_tables.proofs.HostTests.{host_opens, first_opens, opened_host, other_schema}
 use Rattle.bh_view.specs.Bodies.{IsSoundHost}
 use Rattle.bh_view.specs.Grouped.{first}

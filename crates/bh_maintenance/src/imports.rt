@@ -189,7 +189,8 @@ fn import_given<E: Disk + Drop, S: Start>(
 ) -> Result<Imported<FileFrom<S>, E>, Fault>
     requires host { HoldsSoundHost (image_at S.Start) }
     requires from { IsReadyByRow over_files from }
-    ensures { IfOk result (λ it. MatchOption it.given ⊥ (IsImportedOf from ⟦<FileFrom<S> as Disk>⟧ (image_at S.Start) it.printed it.files)) }
+    ensures { IfOk result (λ it. MatchOption it.given ⊥ (IsImportedOf from ⟦<FileFrom<S> as Disk>⟧ (image_at S.Start)
+        it.printed it.files)) }
 {
     let mut from = from;
     let Ended { printed, files } = import_to(rt, path, start, from_path, &mut from)?;

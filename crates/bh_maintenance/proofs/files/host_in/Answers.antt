@@ -1,4 +1,3 @@
-use Rattle.std.proofs.lemmas.Result.{IfOk-weaker}
 use Rattle.bh_maintenance.proofs.Found.{sound_opened}
 use Rattle.bh_maintenance.proofs.Opened.{none_there, host_at}
 use Rattle.bh_maintenance.proofs.files.host_in.Goals as goal
