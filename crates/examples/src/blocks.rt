@@ -143,6 +143,14 @@ fn bytes_read(reply: &str) -> Option<&str> {
     Some(body)
 }
 
+/// The bytes that were read where these are told, or all of a reply.
+fn shown_of(reply: &str, tells_reads: bool) -> &str {
+    if tells_reads {
+        return bytes_read(reply).unwrap_or(reply);
+    }
+    reply
+}
+
 /// What a sweep or a report was answered, or the bytes that were read where these are told, in brackets.
 fn push_told(
     alloc: Global,
@@ -151,11 +159,7 @@ fn push_told(
     tells_reads: bool,
 ) -> Result<(), AllocError> {
     let told = String::from_utf8_lossy(alloc, reply)?;
-    let read = bytes_read(told.as_str());
-    let shown = match read {
-        Some(bytes) if tells_reads => bytes,
-        _ => told.as_str(),
-    };
+    let shown = shown_of(told.as_str(), tells_reads);
     if shown.starts_with("HTTP/") || shown.starts_with("tenant") || shown.starts_with("key") {
         return Ok(());
     }
