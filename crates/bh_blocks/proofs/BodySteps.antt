@@ -1,5 +1,5 @@
 -- A body stored piece by piece, and given the blocks that rows of references name.
-use Rattle.std.proofs.Common.{◌≡◌, ◌≢◌, ◌==◌, true, false, true≢false, append_assoc, append-nil, ℕ, zero, suc, ◌+◌, ◌≤◌, ◌<◌, List, [], ◌∷◌, ◌++◌, map, flat_map, take, drop, length, length-drop, get_or, refl, sym, ap, ap₂, ◌∙◌, arith}
+use Rattle.std.proofs.Common.{◌≡◌, ◌≢◌, ◌==◌, false, true, true≢false, append_assoc, append-nil, ℕ, zero, suc, ◌+◌, ◌≤◌, ◌<◌, List, [], ◌∷◌, ◌++◌, map, flat_map, take, drop, length, length-drop, get_or, refl, sym, ap, ap₂, ◌∙◌, arith}
 use Rattle.std.proofs.lemmas.Bool.{ne_eqb}
 use Rattle.std.proofs.lemmas.List.{map-append, take_all, drop_all}
 use Rattle.sqlite.specs.Order.{Row}
@@ -28,23 +28,6 @@ piece_stored digest body place c name old mid new first called second =
     ∙ (λ i. rebodied (first i) ((first i).refs ++ record { tenant = body.0; body = body.1; place = place; digest = (called i).0; ord = (called i).1; size = length c } ∷ []) (first i).blocks)
     ∙ rebodied_twice old (old.refs ++ ref_to digest body place c old.blocks ∷ []) old.refs (blocks_with (digest c) c old.blocks) (blocks_with (digest c) c old.blocks)
 
--- ---- cutting
-
-ended : (xs : Octets) → (length xs == 0) ≡ true → xs ≡ []
-ended [] e = refl
-ended (x ∷ xs) e = absurd (true≢false (sym e ∙ ne_eqb (length (x ∷ xs)) 0 (λ z. absurd (omega (arith, z)))))
-
--- nothing is left
-pub stored_all : (digest : Octets → Octets) (body : Name) (place size : ℕ) (rest : Octets) (t all : Tables) → rebodied t t.refs t.blocks ≡ t → (length rest == 0) ≡ true → body_stored digest body place (pieces size rest) t ≡ all → t ≡ all
-stored_all digest body place size rest t all own none is = sym own ∙ sym (ap (λ l. body_stored digest body place (pieces size l) t) (ended rest none)) ∙ is
-
-pub next_piece : (digest : Octets → Octets) (body : Name) (place size : ℕ) (rest piece more : Octets) (old new : Tables) → 1 ≤ size → rest ≢ [] → piece ≡ take size rest → more ≡ drop size rest
-    → new ≡ body_stored digest body place (piece ∷ []) old → body_stored digest body (place + 1) (pieces size more) new ≡ body_stored digest body place (pieces size rest) old
-next_piece digest body place size rest piece more old new low some front back now =
-    stored_next digest body place piece (pieces size more) old new now
-    ∙ ap₂ (λ p m. body_stored digest body place (p ∷ pieces size m) old) front back
-    ∙ sym (ap (λ cs. body_stored digest body place cs old) (pieces_next size rest low some))
-
 pub not_nil : (xs : Octets) → (length xs == 0) ≡ false → xs ≢ []
 not_nil xs h e = true≢false (sym (ap (λ (l : Octets). length l == 0) e) ∙ h)
 
@@ -54,16 +37,6 @@ one_piece size [] some fits = absurd (true≢false some)
 one_piece size (x ∷ xs) some fits =
     pieces_next size (x ∷ xs) (omega (arith, fits)) (not_nil (x ∷ xs) some)
     ∙ ap₂ (λ p m. p ∷ pieces size m) (take_all size (x ∷ xs) fits) (drop_all size (x ∷ xs) fits)
-
-pub shorter : (place size : ℕ) (rest more : Octets) (all : ℕ) → 1 ≤ size → rest ≢ [] → more ≡ drop size rest → place + length rest ≤ all → place + 1 + length more ≤ all
-shorter place size rest more all low some is h =
-    let e = ap length is ∙ length-drop size rest in
-    let f = nonempty rest some in
-    omega (arith, e, f, h, low)
-  where
-    nonempty : (xs : Octets) → xs ≢ [] → 1 ≤ length xs
-    nonempty [] n = absurd (n refl)
-    nonempty (x ∷ xs) n = omega arith
 
 -- ---- the blocks that rows name
 

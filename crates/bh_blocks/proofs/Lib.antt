@@ -2,6 +2,7 @@ pub mod Counting
 pub mod UseCalls
 pub mod Loops
 pub mod BodySteps
+pub mod Drafting
 pub mod Storing
 pub mod Cached
 pub mod Keeping

@@ -1,5 +1,6 @@
 pub mod Added
 pub mod Digests
+pub mod Drafts
 pub mod Named
 pub mod SipHash
 pub mod Uses

@@ -196,6 +196,7 @@ pub fn store_piece<S: Alter, D: Digester>(
     requires place { at.now.place < 2 ^ 63 }
     ensures within { StaysWithin S.Store connection.old connection.new }
     ensures opens { OnOk result (StaysOpen S.Store connection.old connection.new) }
+    ensures copies { OnOk result (IsClean S.Store connection.new → AreCopies cache.now (tables S.Store connection.new).blocks) }
     ensures stored { OnOk result (Becomes S.Store connection.old connection.new
         (body_stored D.digest_of (body_at at.now) at.now.place (bytes.now ∷ []))) }
 {

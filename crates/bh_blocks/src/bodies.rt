@@ -1,6 +1,6 @@
 //! Bodies as lists of references to blocks: stored, copied, joined, and dropped.
 
-ghost use Rattle.std.specs.Prelude.{◌≡◌, ◌<◌, ◌≤◌, ◌^◌, ◌++◌, ◌∷◌, [], true, List, map, flat_map, take, drop, IfOk, IfErr, OnOk};
+ghost use Rattle.std.specs.Prelude.{◌≡◌, ◌<◌, ◌≤◌, ◌^◌, ◌++◌, ◌∷◌, [], true, List, map, flat_map, IfOk, IfErr, OnOk};
 ghost use Rattle.sha2.specs.Sha256.{sha256};
 ghost use Rattle.bh_tables.specs.Schema.{Octets};
 ghost use Rattle.bh_tables.specs.Typed.{RefRow, counted, lowered, lowered_by};
@@ -14,7 +14,8 @@ ghost use Rattle.bh_blocks.specs.Named.{body_at};
 ghost use Rattle.bh_blocks.specs.Added.{IsNewBody, bytes_in};
 ghost use Rattle.bh_blocks.specs.Uses.{IsUsed, AreUsed};
 
-use crate::blocks::{store_named, store_piece};
+use crate::blocks::store_named;
+use crate::drafts::{begin_body, end_body, push};
 use crate::refs::{Place, delete_refs, read_ref, ref_rows, refer};
 use crate::rows::in_range;
 use crate::uses::lower_uses;
@@ -23,21 +24,13 @@ use bh_schema::host::Digester;
 use sqlite::{Alter, Connection, Error, Row};
 use std::alloc::Global;
 
-/// The first bytes, at most as many as this, and the others.
-fn cut_off(bytes: &[u8], size: u64) -> (&[u8], &[u8])
-    ensures front { result.0.now ≡ take size bytes.now }
-    ensures back { result.1.now ≡ drop size bytes.now }
-{
-    let count = size.min(bytes.len() as u64) as usize;
-    (&bytes[..count], &bytes[count..])
-}
-
 /// Stores a body, cut into blocks of a size.
 ///
 /// No reference of a body of this name is to be there yet. After an error the transaction is to be taken back.
 fn store_pieces<S: Alter, D: Digester>(
     connection: &mut Connection<S>,
     cache: &BlockCache,
+    alloc: Global,
     digester: &D,
     block_size: u64,
     tenant: &str,
@@ -53,19 +46,9 @@ fn store_pieces<S: Alter, D: Digester>(
     ensures stored { OnOk result (Becomes S.Store connection.old connection.new
         (body_stored D.digest_of (tenant.now, body) 0 (pieces block_size bytes.now))) }
 {
-    let mut rest = bytes;
-    let mut place: u64 = 0;
-    'pieces: while !rest.is_empty() {
-        let (piece, more) = cut_off(rest, block_size);
-        let at = Place {
-            tenant,
-            body,
-            place,
-        };
-        store_piece(connection, cache, digester, &at, piece)?;
-        place += 1;
-        rest = more;
-    }
+    let mut draft = begin_body(alloc, tenant, body, block_size);
+    push(connection, cache, digester, &mut draft, bytes)?;
+    end_body(connection, cache, digester, draft)?;
     Ok(())
 }
 
@@ -114,6 +97,7 @@ fn store_whole<S: Alter, D: Digester>(
 pub fn store_body<S: Alter, D: Digester>(
     connection: &mut Connection<S>,
     cache: &BlockCache,
+    alloc: Global,
     digester: &D,
     block_size: u64,
     tenant: &str,
@@ -137,7 +121,9 @@ pub fn store_body<S: Alter, D: Digester>(
     if is_one_piece(bytes, block_size) {
         return store_whole(connection, cache, digester, tenant, body, bytes, checksum);
     }
-    store_pieces(connection, cache, digester, block_size, tenant, body, bytes)
+    store_pieces(
+        connection, cache, alloc, digester, block_size, tenant, body, bytes,
+    )
 }
 
 /// Refers to the block that a row of references names once more.

@@ -5,6 +5,7 @@
 pub mod blocks;
 pub mod bodies;
 pub mod digester;
+pub mod drafts;
 pub mod reading;
 mod refs;
 pub mod removal;

@@ -13,14 +13,14 @@ use Rattle.bh_tables.specs.Typed.{Tables}
 use Rattle.bh_view.specs.View.{limits_in}
 use Rattle.bh_storage.specs.Calls.{Seen, Clean, IsAtRest}
 use Rattle.bh_link.specs.Taking.{all_of, Took, TookAtMost}
-use Rattle.bh_link.specs.Transfers.{Logs, Gives, Takes}
+use Rattle.bh_http.specs.Transfers.{Logs, Gives, Takes}
 use Rattle.bh_link.proofs.TakingLemmas.{consumes_none}
-use Rattle.bh_link.proofs.TransferLemmas.{logs_nothing}
+use Rattle.bh_http.proofs.TransferLemmas.{logs_nothing}
 use Rattle.bh_host.specs.Replies.{clock_text, wanting_text}
 use Rattle.bh_host.specs.Runs.{Told}
-use Rattle.bh_host.specs.Turns.{Applied, WouldApply, fixed}
+use Rattle.bh_host.specs.Turns.{Applied, WouldApply, fixed, request_at}
 use Rattle.bh_host.specs.declared.reply.Caller.TheVariants.{Request}
-use Rattle.bh_connection.specs.Connections.{request_at, Ends, EndsAs, IsApplied, CameTo}
+use Rattle.bh_connection.specs.Connections.{Ends, EndsAs, IsApplied, IsTakenBack, CameTo}
 use Rattle.bh_connection.specs.declared.served.End.TheVariants.{ReadFailed}
 use Rattle.bh_connection.specs.declared.served.Served.{Served}
 
@@ -148,7 +148,7 @@ module _ {H : Type 0} (IsIntact IsOpen : H → Type 0) (seen : H → Seen) (left
           reader = failed;
           writer = going;
         };
-        did = stays;
+        did = subst (λ x. IsTakenBack IsIntact IsOpen seen left old x) (sym stays) (record { same = λ intact opened. (opened, refl); survives = λ intact x leaves. leaves });
       }
     where
       keeps_same : (a : Option (List ℕ)) → Keeps a a

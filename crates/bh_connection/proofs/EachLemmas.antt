@@ -10,7 +10,8 @@ use Rattle.bh_tables.specs.Typed.{Tables}
 use Rattle.bh_storage.specs.Calls.{Seen, LeavesSound}
 use Rattle.bh_host.specs.Runs.{Told, RanOn, HasRunOn}
 use Rattle.bh_host.proofs.Running as running
-use Rattle.bh_connection.specs.Connections.{request_at, Ends, Outcome, Came, Did, DidSome, CameTo}
+use Rattle.bh_host.specs.Turns.{request_at}
+use Rattle.bh_connection.specs.Connections.{Ends, Outcome, Came, Did, DidSome, CameTo, IsTakenBack}
 use Rattle.bh_connection.specs.Each.{Row, EachCame, event_of, told_of, HasServed, HasServedAlone, RanSome}
 use Rattle.bh_connection.specs.declared.served.Served.{Served}
 
@@ -27,11 +28,20 @@ module _ {H : Type 0} (IsIntact IsOpen : H → Type 0) (seen : H → Seen) (left
       let stays : RanOn IsOpen seen left events tolds old new = subst (λ x. RanOn IsOpen seen left events tolds old x) (sym same) ran in
       subst (λ es. P es (tolds ++ [])) (sym (append-nil events)) (subst (P events) (sym (append-nil tolds)) stays)
 
+  -- a run, and a connection that was taken back
+  pub ran_back : (events : List Event) (tolds : List Told) (old mid new : H) → IsIntact new → RanOn IsOpen seen left events tolds old mid → IsTakenBack IsIntact IsOpen seen left mid new → RanOn IsOpen seen left events tolds old new
+  ran_back events tolds old mid new intact ran back = record {
+    end = ran.end;
+    ran = ran.ran;
+    now = λ opened. let (was, same) = back.same intact opened in same ∙ ran.now was;
+    crash = λ x leaves. ran.crash x (back.survives intact x leaves);
+  }
+
   -- a run, and one connection more
   pub ran_with : (events : List Event) (tolds : List Told) (reading : ℕ) (outcome : Outcome) (old mid new : H) → IsIntact new → RanOn IsOpen seen left events tolds old mid
       → Did IsIntact IsOpen seen left reading outcome mid new
       → RanOn IsOpen seen left (events ++ cons_option (option_map (λ o. request_at reading o.0) outcome) []) (tolds ++ cons_option (option_map (λ o. o.1) outcome) []) old new
-  ran_with events tolds reading None old mid new intact ran same = ran_stays events tolds old mid new ran same
+  ran_with events tolds reading None old mid new intact ran back = ran_stays events tolds old new new (ran_back events tolds old mid new intact ran back) refl
   ran_with events tolds reading (Some (request, (stamp, reply))) old mid new intact ran did =
       running.ran_one IsOpen seen left events tolds (request_at reading request) stamp reply old mid new ran (did.applied intact) (did.told_apart intact) (IsIntact new) intact did.acknowledged did.crash
 
@@ -100,7 +110,7 @@ module _ {H : Type 0} (IsIntact IsOpen : H → Type 0) (seen : H → Seen) (left
   ran_no_request old = ([], [], running.ran_none IsOpen seen left old)
 
   pub ran_request : (old mid new : H) → IsIntact new → RanSome IsOpen seen left old mid → DidSome IsIntact IsOpen seen left mid new → RanSome IsOpen seen left old new
-  ran_request old mid new intact (requests, tolds, ran) (reading, None, same) = (requests, tolds, subst (λ x. RanOn IsOpen seen left (map (λ r. request_at r.0 r.1) requests) tolds old x) (sym same) ran)
+  ran_request old mid new intact (requests, tolds, ran) (reading, None, back) = (requests, tolds, ran_back (map (λ r. request_at r.0 r.1) requests) tolds old mid new intact ran back)
   ran_request old mid new intact (requests, tolds, ran) (reading, Some (request, (stamp, reply)), did) =
       let arrived : ℕ × List ℕ → Event = λ r. request_at r.0 r.1 in
       let all : map arrived (requests ++ (reading, request) ∷ []) ≡ map arrived requests ++ request_at reading request ∷ [] = map-append arrived requests ((reading, request) ∷ []) in (
@@ -114,7 +124,7 @@ module _ {H : Type 0} (IsIntact IsOpen : H → Type 0) (seen : H → Seen) (left
   came_to_some before after served old new came = (before.reading, came.outcome, came.did)
 
   pub no_connection : (old : H) → DidSome IsIntact IsOpen seen left old old
-  no_connection old = (0, None, refl)
+  no_connection old = (0, None, record { same = λ intact opened. (opened, refl); survives = λ intact x leaves. leaves })
 
 -- ---- what a crash may leave
 

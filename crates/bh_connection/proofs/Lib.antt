@@ -1,4 +1,5 @@
 pub mod ConnectionLemmas
+pub mod HeadedLemmas
 pub mod EachLemmas
 pub mod ListeningLemmas
 pub mod OperatorLemmas

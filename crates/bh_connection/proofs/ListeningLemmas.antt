@@ -10,8 +10,8 @@ use Rattle.bh_event.specs.Events.{Arrival as Event}
 use Rattle.bh_tables.specs.Typed.{Tables}
 use Rattle.bh_storage.specs.Calls.{Seen}
 use Rattle.bh_host.specs.Runs.{Told, RanOn}
-use Rattle.bh_link.specs.Transfers.{Logs}
-use Rattle.bh_link.proofs.TransferLemmas.{logs_then}
+use Rattle.bh_http.specs.Transfers.{Logs}
+use Rattle.bh_http.proofs.TransferLemmas.{logs_then}
 use Rattle.bh_host.proofs.Running as running
 use Rattle.bh_host.specs.declared.reply.Caller.{Caller}
 use Rattle.bh_host.specs.declared.reply.Caller.TheVariants.{Request, Operator}
@@ -73,7 +73,7 @@ module _ {H : Type 0} (IsIntact IsOpen : H → Type 0) (seen : H → Seen) (left
   did_none operated old =
       let none : Ends = record { reading = 0; left = None; held = None; gave = None; took = None; reader_failed = false; writer_failed = false } in
       let served : Served = record { stamp = None; sent = 0; ended = ReadFailed; trouble = None } in
-      (OfClient (record { before = none; after = none; served = served; outcome = None }), tt, refl)
+      (OfClient (record { before = none; after = none; served = served; outcome = None }), tt, record { same = λ intact opened. (opened, refl); survives = λ intact x leaves. leaves })
 
   pub did_as : (secret : Option (List ℕ)) (operated : Bool) (caller : Caller) (before after : Ends) (served : Served) (old new : H)
       → (caller ≡ Operator → operated ≡ true) → VisitedAs IsIntact IsOpen seen left secret caller before after served old new → DidFor IsIntact IsOpen seen left operated old new

@@ -9,8 +9,8 @@ use Rattle.bh_tables.specs.Typed.{Tables}
 use Rattle.bh_storage.specs.Calls.{Seen}
 use Rattle.bh_host.specs.Replies.{wanting_text}
 use Rattle.bh_host.specs.declared.reply.Caller.TheVariants.{Operator}
-use Rattle.bh_link.specs.Transfers.{Transfer, Moved, Failed, Logs, MovesThen, Gives, Takes}
-use Rattle.bh_link.proofs.TransferLemmas.{logs_nothing, logs_then}
+use Rattle.bh_http.specs.Transfers.{Transfer, Moved, Failed, Logs, MovesThen, Gives, Takes}
+use Rattle.bh_http.proofs.TransferLemmas.{logs_nothing, logs_then}
 use Rattle.bh_operator.specs.Lines.{TookPart}
 use Rattle.bh_operator.specs.Orders.{TookOrder}
 use Rattle.bh_connection.specs.Connections.{Ends, EndsAs, IsApplied}

@@ -2,22 +2,18 @@
 use Rattle.std.specs.Prelude.{◌≡◌, ◌⊎◌, ◌≤◌, ◌<◌, ℕ, Bool, true, false, List, [], length, take, Option, Some, None, IfSome, IfNone}
 use Rattle.std.specs.Io.KnownBytes.{Appends, Consumes, Keeps}
 use Rattle.bh_types.specs.Limits.{HostLimits}
-use Rattle.bh_event.specs.Events.{Arrival as Event, Requested}
+use Rattle.bh_event.specs.Events.{Arrival as Event}
 use Rattle.bh_http.specs.Arriving.{HasExtent}
 use Rattle.bh_tables.specs.Typed.{Tables}
-use Rattle.bh_storage.specs.Calls.{Seen}
+use Rattle.bh_storage.specs.Calls.{Seen, LeavesNothingNew}
 use Rattle.bh_host.specs.Runs.{Told}
-use Rattle.bh_host.specs.Turns.{AppliedTo, IsToldApart, WouldApply}
+use Rattle.bh_host.specs.Turns.{AppliedTo, IsToldApart, WouldApply, request_at}
 use Rattle.bh_link.specs.Taking.{all_of}
-use Rattle.bh_link.specs.Transfers.{Transfer, Logs, Gives, Takes}
+use Rattle.bh_http.specs.Transfers.{Transfer, Logs, Gives, Takes}
 use Rattle.bh_link.specs.declared.link.Link.{Link}
 use Rattle.bh_connection.specs.declared.served.End.{End}
 use Rattle.bh_connection.specs.declared.served.End.TheVariants.{Whole, ReadFailed, WriteFailed}
 use Rattle.bh_connection.specs.declared.served.Served.{Served}
-
--- a request at a reading of the clock
-abbrev pub request_at : ℕ → List ℕ → Event
-request_at reading bytes = record { reading = reading; message = Requested bytes }
 
 -- ---- its ends
 
@@ -41,6 +37,10 @@ ends_of remaining given contents taken reading reader writer = record {
   reader_failed = reader.failed;
   writer_failed = writer.failed;
 }
+
+-- as they were before the bytes of a head came from its reader
+abbrev pub begun_by : Option (List ℕ) → Option (List Transfer) → Ends → Ends
+begun_by left gave ends = record ends { left = left; gave = gave }
 
 -- how many bytes of a reply went out, and whether the writer failed
 abbrev pub EndsAs : End → ℕ → List ℕ → Bool → Type 0
@@ -95,9 +95,14 @@ pub record IsApplied {H : Type 0} (IsIntact IsOpen : H → Type 0) (seen : H →
   pub acknowledged : IfSome told.0 (λ _. IsIntact new → (x : Tables) → left new x → x ≡ (seen new).now)
   pub crash : IfNone told.0 (IsIntact new → (x : Tables) → left new x → left old x ⊎ (IsOpen old × WouldApply event (seen old).now x))
 
--- where its reader failed the host stays
+-- a transaction that its reader's fault ended was taken back
+pub record IsTakenBack {H : Type 0} (IsIntact IsOpen : H → Type 0) (seen : H → Seen) (left : H → Tables → Type 0) (old new : H) : Type 0 where
+  pub same : IsIntact new → IsOpen new → IsOpen old × ((seen new).now ≡ (seen old).now)
+  pub survives : IsIntact new → LeavesNothingNew left old new
+
+-- where its reader failed, nothing of it is left
 abbrev pub Did : {H : Type 0} → (H → Type 0) → (H → Type 0) → (H → Seen) → (H → Tables → Type 0) → ℕ → Outcome → H → H → Type 0
-Did IsIntact IsOpen seen left reading None old new = new ≡ old
+Did IsIntact IsOpen seen left reading None old new = IsTakenBack IsIntact IsOpen seen left old new
 Did IsIntact IsOpen seen left reading (Some (request, told)) old new = IsApplied IsIntact IsOpen seen left (request_at reading request) told old new
 
 pub record CameTo {H : Type 0} (IsIntact IsOpen : H → Type 0) (seen : H → Seen) (left : H → Tables → Type 0) (before after : Ends) (served : Served) (old new : H) : Type 0 where

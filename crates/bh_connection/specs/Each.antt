@@ -5,8 +5,9 @@ use Rattle.bh_event.specs.Events.{Arrival as Event}
 use Rattle.bh_tables.specs.Typed.{Tables}
 use Rattle.bh_storage.specs.Calls.{Seen}
 use Rattle.bh_host.specs.Runs.{Told, RanOn, HasRunOn}
-use Rattle.bh_link.specs.Transfers.{Transfer}
-use Rattle.bh_connection.specs.Connections.{request_at, Ends, ends_of, Outcome, Came}
+use Rattle.bh_http.specs.Transfers.{Transfer}
+use Rattle.bh_host.specs.Turns.{request_at}
+use Rattle.bh_connection.specs.Connections.{Ends, ends_of, Outcome, Came}
 use Rattle.bh_connection.specs.declared.each.Arrival.{Arrival}
 use Rattle.bh_connection.specs.declared.served.Served.{Served}
 

@@ -6,7 +6,7 @@ use Rattle.bh_storage.specs.Calls.{Seen}
 use Rattle.bh_host.specs.Runs.{RanOn, HasRunOn}
 use Rattle.bh_host.specs.declared.reply.Caller.{Caller}
 use Rattle.bh_host.specs.declared.reply.Caller.TheVariants.{Request, Operator}
-use Rattle.bh_link.specs.Transfers.{Logs}
+use Rattle.bh_http.specs.Transfers.{Logs}
 use Rattle.bh_connection.specs.Connections.{Ends, CameTo}
 use Rattle.bh_connection.specs.Operators.{WasOrdered}
 use Rattle.bh_connection.specs.Visits.{Visit, OfClient, OfOperator, CameBy, AllCame, DidBy, event_of, told_of}

@@ -8,7 +8,7 @@ use Rattle.bh_host.specs.Replies.{wanting_text}
 use Rattle.bh_host.specs.Runs.{Told}
 use Rattle.bh_host.specs.declared.reply.Caller.TheVariants.{Operator}
 use Rattle.bh_link.specs.Taking.{all_of}
-use Rattle.bh_link.specs.Transfers.{Logs, Gives, Takes}
+use Rattle.bh_http.specs.Transfers.{Logs, Gives, Takes}
 use Rattle.bh_operator.specs.Orders.{ordered_by}
 use Rattle.bh_connection.specs.Connections.{Ends, EndsAs, IsApplied}
 use Rattle.bh_connection.specs.declared.served.End.TheVariants.{ReadFailed}

@@ -1,30 +1,34 @@
-ghost use Rattle.std.specs.Prelude.{◌≡◌, ◌<◌, take, false, None, IfSome};
+ghost use Rattle.std.specs.Prelude.{◌≡◌, ◌<◌, ◌≤◌, ℕ, List, [], take, false, None, Option, Ok, IfSome};
 ghost use Rattle.std.specs.Io.KnownBytes.{Appends};
+ghost use Rattle.bh_http.specs.Reading.{ReadsHead};
+ghost use Rattle.bh_http.specs.Transfers.{Transfer, Gives, Takes};
+ghost use Rattle.bh_http.specs.Views.{announced_view};
+ghost use Rattle.bh_link.specs.Taking.{Opens};
 ghost use Rattle.bh_model.specs.Runs.{last_reading};
 ghost use Rattle.bh_storage.specs.Calls.{Clean, LeavesSound, IsAtRest};
 ghost use Rattle.bh_tables.specs.Typed.{Tables};
-ghost use Rattle.bh_link.specs.Transfers.{Takes};
 ghost use Rattle.bh_host.specs.Replies.{reply_bytes, reply_trouble, clock_text};
 ghost use Rattle.bh_host.specs.declared.reply.Caller.TheVariants.{Request};
-ghost use Rattle.bh_connection.specs.Connections.{ends_of, EndsAs, CameTo};
+ghost use Rattle.bh_connection.specs.Connections.{ends_of, begun_by, EndsAs, CameTo, IsTakenBack};
 
 use crate::served::{End, Served};
-use bh_event::event::Event;
-use bh_host::{Caller, Reply, Told, apply};
+use bh_host::{Caller, Reply, Told, receive, refuse_unread};
+use bh_http::read::split_head;
+use bh_http::request::Head;
 use bh_link::ends::{Sink, Source};
 use bh_link::link::Link;
-use bh_link::request::{TakeError, take_request};
+use bh_link::request::{TakeError, take_head};
 use bh_operation::routes::Routes;
 use bh_storage::error::Trouble;
 use bh_storage::storage::Storage;
 use bh_types::moment::LAST_READING;
 use std::alloc::Global;
 
-/// Serves one connection: takes its request, applies it, and writes the response.
+/// Serves one connection: takes its request, applies it as its body comes, and writes the response.
 ///
 /// A reading above 250,000,000,000 seconds is answered ClockOutOfRange, and nothing is read. Otherwise the head is read
 /// a byte at a time, and no byte after the body of a request that is accepted. What is done and answered is what
-/// [`apply`] does and answers at all the bytes that the reader would give.
+/// [`bh_host::apply`] does and answers at all the bytes that the reader would give.
 pub fn serve_connection<H: Storage, R: Source, W: Sink>(
     alloc: Global,
     routes: &Routes,
@@ -44,7 +48,7 @@ pub fn serve_connection<H: Storage, R: Source, W: Sink>(
     ensures came_to { CameTo H.IsIntact H.IsOpen H.seen H.left
         (ends_of R.remaining R.transfers W.contents W.transfers reading reader.old writer.old)
         (ends_of R.remaining R.transfers W.contents W.transfers reading reader.new writer.new) result host.old host.new }
-    ensures untouched { result.ended ≡ End.ReadFailed → host.new ≡ host.old }
+    ensures untouched { result.ended ≡ End.ReadFailed → IsTakenBack H.IsIntact H.IsOpen H.seen H.left host.old host.new }
     ensures clock { last_reading < reading
         → (result.stamp ≡ None) × (host.new ≡ host.old) × (reader.new ≡ reader.old)
         × Appends (W.contents writer.old.inner) (W.contents writer.new.inner) (take result.sent (clock_text Request))
@@ -55,21 +59,98 @@ pub fn serve_connection<H: Storage, R: Source, W: Sink>(
     if reading > LAST_READING {
         return answer(writer, left_out(Reply::ClockOutOfRange(Caller::Request)));
     }
-    match take_request(alloc, &host.limits(), reader) {
-        Ok(bytes) => {
-            let event = Event::Http { reading, bytes };
-            answer(writer, apply(alloc, routes, host, &event))
+    match take_head(alloc, &host.limits(), reader) {
+        Ok(opening) => {
+            let bytes = opening.bytes.as_slice();
+            serve_opened(alloc, routes, host, reading, bytes, reader, writer)
         }
         Err(TakeError::OutOfMemory) => {
             let reply = Reply::Wanting(Caller::Request, Trouble::Memory);
             answer(writer, left_out(reply))
         }
-        Err(TakeError::ReadFailed) => Served {
-            stamp: None,
-            sent: 0,
-            ended: End::ReadFailed,
-            trouble: None,
-        },
+        Err(TakeError::ReadFailed) => broken_off(),
+    }
+}
+
+/// Applies the request of a head, whose body comes from the reader, and writes the response. The bytes of the head came
+/// before.
+fn serve_headed<H: Storage, R: Source, W: Sink>(
+    alloc: Global,
+    routes: &Routes,
+    host: &mut H,
+    reading: u64,
+    head: &Head,
+    reader: &mut Link<R>,
+    writer: &mut Link<W>,
+) -> Served
+    requires in_range { reading ≤ last_reading }
+    requires rest { Clean H.IsIntact H.IsOpen host.old → IsAtRest H.IsSoundStore (H.seen host.old) }
+    requires reads { reader.old.failed ≡ false }
+    requires writes { writer.old.failed ≡ false }
+    ensures intact { H.IsIntact host.new → H.IsIntact host.old }
+    ensures opened { H.IsIntact host.new → H.IsOpen host.new → H.IsOpen host.old }
+    ensures ready { Clean H.IsIntact H.IsOpen host.new → IsAtRest H.IsSoundStore (H.seen host.new) }
+    ensures limits { (H.seen host.new).limits ≡ (H.seen host.old).limits }
+    ensures leaves { H.IsIntact host.new → LeavesSound H.IsSoundStore H.left host.old host.new }
+    ensures came_to { (start : Option (List ℕ)) (begun : Option (List Transfer)) (bytes : List ℕ)
+        → Opens (H.seen host.old).limits start (R.remaining reader.old.inner) bytes head.now.body_size
+        → ReadsHead (H.seen host.old).limits bytes (Ok (announced_view head.now, []))
+        → Gives begun (R.transfers reader.old.inner) bytes false
+        → CameTo H.IsIntact H.IsOpen H.seen H.left
+        (begun_by start begun (ends_of R.remaining R.transfers W.contents W.transfers reading reader.old writer.old))
+        (ends_of R.remaining R.transfers W.contents W.transfers reading reader.new writer.new) result host.old host.new }
+{
+    reader.announce(head.body_size);
+    match receive(alloc, routes, host, reading, head, reader) {
+        Some(told) => answer(writer, told),
+        None => broken_off(),
+    }
+}
+
+/// Applies what the bytes up to the end of a head turn out to be, and writes the response. Bytes that are no head, or one that
+/// is refused, are answered as they are.
+fn serve_opened<H: Storage, R: Source, W: Sink>(
+    alloc: Global,
+    routes: &Routes,
+    host: &mut H,
+    reading: u64,
+    bytes: &[u8],
+    reader: &mut Link<R>,
+    writer: &mut Link<W>,
+) -> Served
+    requires in_range { reading ≤ last_reading }
+    requires rest { Clean H.IsIntact H.IsOpen host.old → IsAtRest H.IsSoundStore (H.seen host.old) }
+    requires reads { reader.old.failed ≡ false }
+    requires writes { writer.old.failed ≡ false }
+    ensures intact { H.IsIntact host.new → H.IsIntact host.old }
+    ensures opened { H.IsIntact host.new → H.IsOpen host.new → H.IsOpen host.old }
+    ensures ready { Clean H.IsIntact H.IsOpen host.new → IsAtRest H.IsSoundStore (H.seen host.new) }
+    ensures limits { (H.seen host.new).limits ≡ (H.seen host.old).limits }
+    ensures leaves { H.IsIntact host.new → LeavesSound H.IsSoundStore H.left host.old host.new }
+    ensures came_to { (start : Option (List ℕ)) (begun : Option (List Transfer)) (body : ℕ)
+        → Opens (H.seen host.old).limits start (R.remaining reader.old.inner) bytes.now body
+        → Gives begun (R.transfers reader.old.inner) bytes.now false
+        → CameTo H.IsIntact H.IsOpen H.seen H.left
+        (begun_by start begun (ends_of R.remaining R.transfers W.contents W.transfers reading reader.old writer.old))
+        (ends_of R.remaining R.transfers W.contents W.transfers reading reader.new writer.new) result host.old host.new }
+{
+    match split_head(bytes, &host.limits()) {
+        Ok((head, _)) => serve_headed(alloc, routes, host, reading, &head, reader, writer),
+        Err(refusal) => answer(writer, refuse_unread(alloc, routes, host, reading, refusal)),
+    }
+}
+
+/// What becomes of a connection whose reader failed.
+fn broken_off() -> Served
+    ensures stamp { result.stamp ≡ None }
+    ensures sent { result.sent ≡ 0 }
+    ensures ended { result.ended ≡ End.ReadFailed }
+{
+    Served {
+        stamp: None,
+        sent: 0,
+        ended: End::ReadFailed,
+        trouble: None,
     }
 }
 

@@ -2,7 +2,7 @@ ghost use Rattle.std.specs.Prelude.{◌≡◌, ◌≤◌, ◌<◌, ◌+◌, ◌�
 ghost use Rattle.std.specs.Io.KnownBytes.{Appends};
 ghost use Rattle.bh_storage.specs.Calls.{Clean, LeavesSound, IsAtRest};
 ghost use Rattle.bh_tables.specs.Typed.{Tables};
-ghost use Rattle.bh_link.specs.Transfers.{Takes};
+ghost use Rattle.bh_http.specs.Transfers.{Takes};
 ghost use Rattle.bh_connection.specs.Connections.{ends_of, EndsAs};
 ghost use Rattle.bh_connection.specs.Operators.{line_text, WasOrdered};
 

@@ -49,7 +49,7 @@ module _ (digest : Octets → Octets) (l : HostLimits) (s : State) where
   pub early_seen : (at : ℕ) → IsAtWork → at ≤ latest_of (seen_in l s).now → at ≤ latest_of (tables_at s)
   early_seen at working = subst (λ x. at ≤ latest_of x) (shows_in l s working)
 
-shown_now : (l : HostLimits) (s : State) → IsWorking s → ((seen_in l s).now ≡ tables_at s) × ((seen_in l s).inside ≡ true)
+pub shown_now : (l : HostLimits) (s : State) → IsWorking s → ((seen_in l s).now ≡ tables_at s) × ((seen_in l s).inside ≡ true)
 shown_now l s working = holds_seen l (tables_at s) s (record { within = working.inside; is = refl })
 
 pub limits_seen : (l : HostLimits) (s : State) → (seen_in l s).limits ≡ l
@@ -72,7 +72,7 @@ purged_bounded old new t at h bounded = bounded_but t old new h.others (subst Is
 -- ---- a call on the connection
 
 module _ (digest : Octets → Octets) (l : HostLimits) (old new : State) where
-  working_seen : IsAtWork digest l old → StillWorkingBy digest old new → AreBounded (tables_at new) → IsAtWork digest l new
+  pub working_seen : IsAtWork digest l old → StillWorkingBy digest old new → AreBounded (tables_at new) → IsAtWork digest l new
   working_seen was still bounded = record {
     inside = (shown_now l new still.is).1;
     sound = subst (IsSoundHost digest) (sym (shown_now l new still.is).0)
@@ -215,10 +215,10 @@ module _ (digest : Octets → Octets) (before after : KeptBlocks) (l : HostLimit
   plain_now : IsAtWork digest l new → Agrees after (tables_at new).blocks → beside after (seen_in l new) ≡ seen_in l new
   plain_now working agrees = beside_agreed after (seen_in l new) (subst (λ (t : Tables). Agrees after t.blocks) (sym (shows_in l new working)) agrees)
 
-  at_work : IsAtWork digest l new → Agrees after (tables_at new).blocks → calls.IsWorking (IsSoundHost digest) (beside after (seen_in l new))
+  pub at_work : IsAtWork digest l new → Agrees after (tables_at new).blocks → calls.IsWorking (IsSoundHost digest) (beside after (seen_in l new))
   at_work working agrees = subst (calls.IsWorking (IsSoundHost digest)) (sym (plain_now working agrees)) working
 
-  told : (P : Tables → Tables → Type 0) → AreBoth new → IsAtWork digest l new → Agrees after (tables_at new).blocks → P (seen_in l old).now (seen_in l new).now → P (beside before (seen_in l old)).now (beside after (seen_in l new)).now
+  pub told : (P : Tables → Tables → Type 0) → AreBoth new → IsAtWork digest l new → Agrees after (tables_at new).blocks → P (seen_in l old).now (seen_in l new).now → P (beside before (seen_in l old)).now (beside after (seen_in l new)).now
   told P clean working agrees h = rw (plain _ _ (was clean), plain_now working agrees) h
 
   -- of a step

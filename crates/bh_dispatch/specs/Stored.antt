@@ -5,9 +5,20 @@ use Rattle.bh_operation.specs.declared.operation.Operation.{Operation}
 use Rattle.bh_operation.specs.declared.operation.Operation.TheVariants.{PutObject, UploadPart}
 use Rattle.bh_tables.specs.Typed.{Tables}
 use Rattle.bh_view.specs.Bodies.{StoresPieces}
+use Rattle.bh_types.specs.Rejections.{plain}
+use Rattle.bh_types.specs.declared.refusal.Refusal.{Refusal}
+use Rattle.bh_types.specs.declared.rejection.Rejection.{Rejection}
+use Rattle.bh_storage.specs.declared.answer.Answer.{Answer}
+use Rattle.bh_storage.specs.declared.error.Outcome.{Outcome}
+use Rattle.bh_storage.specs.declared.error.Outcome.TheVariants.{Done, Spoilt}
 
 -- an object and a part are cut into pieces of so many bytes
 abbrev pub StoresBody : (Octets → Octets) → ℕ → Octets → Operation → Tables → Tables → Type 0
 StoresBody digest size body (PutObject object checksum date) old new = StoresPieces digest size body old new
 StoresBody digest size body (UploadPart object upload number checksum) old new = StoresPieces digest size body old new
 StoresBody digest size body operation old new = Unit {0}
+
+-- what a step came to, as an answer
+abbrev pub outcome_as : {X : Type 0} → (X → Answer) → Outcome X Refusal → Outcome Answer Rejection
+outcome_as shown (Done x) = Done (shown x)
+outcome_as shown (Spoilt r) = Spoilt (plain r)

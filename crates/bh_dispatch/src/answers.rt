@@ -2,13 +2,14 @@
 ghost use Rattle.std.specs.Prelude.{◌≡◌};
 ghost use Rattle.std.specs.Result.{result_map_both};
 ghost use Rattle.bh_storage.specs.Errors.{step_rejected};
+ghost use Rattle.bh_dispatch.specs.Stored.{outcome_as};
 ghost use Rattle.bh_storage.specs.declared.answer.Answer.TheVariants as answer;
 
 use bh_docs::{BucketEntry, ObjectsPage, PartsPage, UploadsPage, Usage, VersionsPage};
 use bh_storage::answer::{
     Answer, BegunUpload, CompletedUpload, CopiedVersion, RemovedEntry, StoredVersion,
 };
-use bh_storage::error::StepError;
+use bh_storage::error::{Outcome, StepError};
 use bh_types::bucket_state::BucketState;
 use bh_types::refusal::Refusal;
 use bh_types::rejection::Rejection;
@@ -29,11 +30,14 @@ pub fn removed(
 }
 
 pub fn stored(
-    outcome: Result<StoredVersion, StepError<Refusal>>,
-) -> Result<Answer, StepError<Rejection>>
-    ensures { result ≡ result_map_both answer.Stored step_rejected outcome }
+    outcome: Result<Outcome<StoredVersion, Refusal>, StepError<Refusal>>,
+) -> Result<Outcome<Answer, Rejection>, StepError<Rejection>>
+    ensures { result ≡ result_map_both (outcome_as answer.Stored) step_rejected outcome }
 {
-    Ok(Answer::Stored(outcome?))
+    match outcome? {
+        Outcome::Done(version) => Ok(Outcome::Done(Answer::Stored(version))),
+        Outcome::Spoilt(refusal) => Ok(Outcome::Spoilt(Rejection::from(refusal))),
+    }
 }
 
 pub fn copied(
@@ -105,11 +109,14 @@ pub fn begun(
 }
 
 pub fn part_stored(
-    outcome: Result<String, StepError<Refusal>>,
-) -> Result<Answer, StepError<Rejection>>
-    ensures { result ≡ result_map_both answer.PartStored step_rejected outcome }
+    outcome: Result<Outcome<String, Refusal>, StepError<Refusal>>,
+) -> Result<Outcome<Answer, Rejection>, StepError<Rejection>>
+    ensures { result ≡ result_map_both (outcome_as answer.PartStored) step_rejected outcome }
 {
-    Ok(Answer::PartStored(outcome?))
+    match outcome? {
+        Outcome::Done(checksum) => Ok(Outcome::Done(Answer::PartStored(checksum))),
+        Outcome::Spoilt(refusal) => Ok(Outcome::Spoilt(Rejection::from(refusal))),
+    }
 }
 
 pub fn completed(

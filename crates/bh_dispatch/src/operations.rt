@@ -1,5 +1,5 @@
 ghost use Rattle.std.specs.Option.{option_copied};
-ghost use Rattle.std.specs.Prelude.{◌≡◌, ◌≤◌, option_map, OnOk};
+ghost use Rattle.std.specs.Prelude.{◌≡◌, ◌≤◌, None, option_map};
 ghost use Rattle.bh_types.specs.Limits.{HostLimits};
 ghost use Rattle.bh_types.specs.Rejections.{plainly};
 ghost use Rattle.bh_machine.specs.Machine.{set_versioning, page_asked, operated, place_asked};
@@ -9,7 +9,8 @@ ghost use Rattle.bh_view.specs.Blocks.{AreDigests};
 ghost use Rattle.bh_view.specs.Bodies.{StoresPieces};
 ghost use Rattle.bh_view.specs.View.{latest_of};
 ghost use Rattle.bh_storage.specs.Answers.{answer_view};
-ghost use Rattle.bh_storage.specs.Calls.{Unless, Carries};
+ghost use Rattle.bh_storage.specs.Calls.{Unless, UnlessSpoilt, Carries, Operates, OperatesBy};
+ghost use Rattle.bh_model.specs.State.{Octets};
 ghost use Rattle.bh_schema.specs.Connections.{IsClean, tables, StaysWithin, StaysOpen};
 ghost use Rattle.bh_cache.specs.Kept.{Agrees, AreCopies};
 ghost use Rattle.bh_schema.specs.Working.{Works, StillWorks, StillWorksBy};
@@ -18,6 +19,7 @@ ghost use Rattle.bh_dispatch.specs.Stored.{StoresBody};
 use crate::{answers, lifecycle, retention, uploads};
 use bh_cache::blocks::BlockCache;
 use bh_docs::read_versioning;
+use bh_http::body::{Body, collect};
 use bh_objects::copies::NewCopy;
 use bh_objects::writes::NewObject;
 use bh_objects::{buckets, copies, deletes, gets, heads, objects};
@@ -28,7 +30,7 @@ use bh_operation::text::Bytes;
 use bh_pages::gathering::PageAsked;
 use bh_schema::host::Digester;
 use bh_storage::answer::Answer;
-use bh_storage::error::{StepError, Trouble};
+use bh_storage::error::{Outcome, StepError, Trouble};
 use bh_types::bucket::BucketName;
 use bh_types::limits::Limits;
 use bh_types::moment::Moment;
@@ -157,7 +159,7 @@ fn set_versioning<S: Alter>(
     answers::done(buckets::set_versioning(connection, tenant, bucket, state))
 }
 
-fn put_object<S: Alter, D: Digester>(
+fn put_object<S: Alter, D: Digester, B: Body>(
     connection: &mut Connection<S>,
     cache: &BlockCache,
     alloc: Global,
@@ -165,23 +167,25 @@ fn put_object<S: Alter, D: Digester>(
     block_size: u64,
     object: &NewObject<'_>,
     given: Option<&[u8]>,
-) -> Result<Answer, StepError<Rejection>>
+    body: &mut B,
+) -> Result<Outcome<Answer, Rejection>, StepError<Rejection>>
     requires working { Works S.Store connection.old }
     requires copies { IsClean S.Store connection.old → AreCopies cache.now (tables S.Store connection.old).blocks }
     requires digests { IsClean S.Store connection.old → AreDigests D.digest_of (tables S.Store connection.old).blocks }
     requires positive { 1 ≤ block_size }
     requires early { IsClean S.Store connection.old → object.now.at ≤ latest_of (tables S.Store connection.old) }
+    requires going { (B.coming body.old).broken ≡ None }
     ensures within { StaysWithin S.Store connection.old connection.new }
-    ensures opens { Unless result (StaysOpen S.Store connection.old connection.new) }
-    ensures working { Unless result (StillWorksBy S.Store D.digest_of connection.old connection.new) }
-    ensures carries { IsClean S.Store connection.new
-        → Carries answer_view object.now.tenant.now (λ s. plainly (machine.put_object object.now.at object.now.bucket.now object.now.key.now object.now.bytes.now (option_copied given.entry) object.now.date s))
+    ensures opens { UnlessSpoilt result (StaysOpen S.Store connection.old connection.new) }
+    ensures working { UnlessSpoilt result (StillWorksBy S.Store D.digest_of connection.old connection.new) }
+    ensures operates { OperatesBy answer_view object.now.tenant.now
+        (λ bytes s. plainly (machine.put_object object.now.at object.now.bucket.now object.now.key.now bytes (option_copied given.entry) object.now.date s))
+        (λ bytes. StoresPieces D.digest_of block_size bytes (tables S.Store connection.old) (tables S.Store connection.new))
+        (IsClean S.Store connection.new) (B.coming body.old) (B.coming body.new)
         (tables S.Store connection.old) (tables S.Store connection.new) result }
-    ensures blocks { OnOk result (IsClean S.Store connection.new
-        → StoresPieces D.digest_of block_size object.now.bytes.now (tables S.Store connection.old) (tables S.Store connection.new)) }
 {
     answers::stored(objects::put_object(
-        connection, cache, alloc, digester, block_size, object, given,
+        connection, cache, alloc, digester, block_size, object, given, body,
     ))
 }
 
@@ -412,52 +416,27 @@ fn operate_bucket<S: Alter>(
     }
 }
 
-/// Carries out an operation on an object. Another is trouble: `operate` sends none here.
-fn operate_object<S: Alter, D: Digester>(
+/// Carries out an operation on an object that reads no body. Another is trouble: `carry_out` sends none here.
+fn operate_object<S: Alter>(
     connection: &mut Connection<S>,
     cache: &mut BlockCache,
     alloc: Global,
-    digester: &D,
-    block_size: u64,
     tenant: &TenantName,
     at: Moment,
     operation: &Operation,
-    body: &[u8],
 ) -> Result<Answer, StepError<Rejection>>
     requires working { Works S.Store connection.old }
     requires kept { IsClean S.Store connection.old → Agrees cache.old (tables S.Store connection.old).blocks }
-    requires digests { IsClean S.Store connection.old → AreDigests D.digest_of (tables S.Store connection.old).blocks }
-    requires positive { 1 ≤ block_size }
     requires early { IsClean S.Store connection.old → at ≤ latest_of (tables S.Store connection.old) }
     ensures within { StaysWithin S.Store connection.old connection.new }
     ensures opens { Unless result (StaysOpen S.Store connection.old connection.new) }
-    ensures working { Unless result (StillWorksBy S.Store D.digest_of connection.old connection.new) }
-    ensures carries { (limits : HostLimits) → IsClean S.Store connection.new
-        → Carries answer_view tenant.now (operated limits at body.now operation.now)
+    ensures working { Unless result (StillWorks S.Store connection.old connection.new) }
+    ensures carries { (limits : HostLimits) (body : Octets) → IsClean S.Store connection.new
+        → Carries answer_view tenant.now (operated limits at body operation.now)
         (tables S.Store connection.old) (tables S.Store connection.new) result }
-    ensures blocks { OnOk result (IsClean S.Store connection.new
-        → StoresBody D.digest_of block_size body.now operation.now (tables S.Store connection.old) (tables S.Store connection.new)) }
     ensures kept { Unless result (IsClean S.Store connection.new → Agrees cache.new (tables S.Store connection.new).blocks) }
 {
     match operation {
-        Operation::PutObject {
-            object,
-            checksum,
-            date,
-        } => {
-            let (bucket, key, given) = (&object.bucket, &object.key, bytes_of(checksum));
-            let object = NewObject {
-                tenant,
-                bucket,
-                key,
-                at,
-                bytes: body,
-                date: *date,
-            };
-            put_object(
-                connection, cache, alloc, digester, block_size, &object, given,
-            )
-        }
         Operation::CopyObject {
             object,
             source,
@@ -481,13 +460,10 @@ fn operate_object<S: Alter, D: Digester>(
     }
 }
 
-/// Carries out an operation on a multipart upload. Another is trouble: `operate` sends none here.
-fn operate_upload<S: Alter, D: Digester>(
+/// Carries out an operation on a multipart upload that puts no part. Another is trouble: `carry_out` sends none here.
+fn operate_upload<S: Alter>(
     connection: &mut Connection<S>,
-    cache: &BlockCache,
     alloc: Global,
-    digester: &D,
-    block_size: u64,
     limits: &Limits,
     tenant: &TenantName,
     at: Moment,
@@ -495,49 +471,17 @@ fn operate_upload<S: Alter, D: Digester>(
     body: &[u8],
 ) -> Result<Answer, StepError<Rejection>>
     requires working { Works S.Store connection.old }
-    requires copies { IsClean S.Store connection.old → AreCopies cache.now (tables S.Store connection.old).blocks }
-    requires digests { IsClean S.Store connection.old → AreDigests D.digest_of (tables S.Store connection.old).blocks }
-    requires positive { 1 ≤ block_size }
     requires early { IsClean S.Store connection.old → at ≤ latest_of (tables S.Store connection.old) }
     ensures within { StaysWithin S.Store connection.old connection.new }
     ensures opens { Unless result (StaysOpen S.Store connection.old connection.new) }
-    ensures working { Unless result (StillWorksBy S.Store D.digest_of connection.old connection.new) }
+    ensures working { Unless result (StillWorks S.Store connection.old connection.new) }
     ensures carries { IsClean S.Store connection.new
         → Carries answer_view tenant.now (operated limits.now at body.now operation.now)
         (tables S.Store connection.old) (tables S.Store connection.new) result }
-    ensures blocks { OnOk result (IsClean S.Store connection.new
-        → StoresBody D.digest_of block_size body.now operation.now (tables S.Store connection.old) (tables S.Store connection.new)) }
 {
     match operation {
         Operation::CreateMultipartUpload(object) => {
             uploads::begin_upload(connection, alloc, tenant, at, object)
-        }
-        Operation::UploadPart {
-            object,
-            upload,
-            number,
-            checksum,
-        } => {
-            let part = NewPart {
-                upload: NamedUpload {
-                    tenant,
-                    bucket: &object.bucket,
-                    key: &object.key,
-                    upload: *upload,
-                },
-                number: *number,
-                at,
-                bytes: body,
-            };
-            uploads::put_part(
-                connection,
-                cache,
-                alloc,
-                digester,
-                block_size,
-                &part,
-                bytes_of(checksum),
-            )
         }
         Operation::ListParts {
             object,
@@ -554,14 +498,11 @@ fn operate_upload<S: Alter, D: Digester>(
     }
 }
 
-/// Carries out an operation of a tenant, on a host with these limits and at a moment that is not after the last stamp.
-/// Bytes are stored in blocks of at most this size, and blocks that are read are kept in memory.
-pub fn operate<S: Alter, D: Digester>(
+/// Carries out an operation of a tenant that stores no bytes of its body. Another is trouble: `operate` sends none here.
+fn carry_out<S: Alter>(
     connection: &mut Connection<S>,
     cache: &mut BlockCache,
     alloc: Global,
-    digester: &D,
-    block_size: u64,
     limits: &Limits,
     tenant: &TenantName,
     at: Moment,
@@ -570,17 +511,13 @@ pub fn operate<S: Alter, D: Digester>(
 ) -> Result<Answer, StepError<Rejection>>
     requires working { Works S.Store connection.old }
     requires kept { IsClean S.Store connection.old → Agrees cache.old (tables S.Store connection.old).blocks }
-    requires digests { IsClean S.Store connection.old → AreDigests D.digest_of (tables S.Store connection.old).blocks }
-    requires positive { 1 ≤ block_size }
     requires early { IsClean S.Store connection.old → at ≤ latest_of (tables S.Store connection.old) }
     ensures within { StaysWithin S.Store connection.old connection.new }
     ensures opens { Unless result (StaysOpen S.Store connection.old connection.new) }
-    ensures working { Unless result (StillWorksBy S.Store D.digest_of connection.old connection.new) }
+    ensures working { Unless result (StillWorks S.Store connection.old connection.new) }
     ensures carries { IsClean S.Store connection.new
         → Carries answer_view tenant.now (operated limits.now at body.now operation.now)
         (tables S.Store connection.old) (tables S.Store connection.new) result }
-    ensures blocks { OnOk result (IsClean S.Store connection.new
-        → StoresBody D.digest_of block_size body.now operation.now (tables S.Store connection.old) (tables S.Store connection.new)) }
     ensures kept { Unless result (IsClean S.Store connection.new → Agrees cache.new (tables S.Store connection.new).blocks) }
 {
     match operation {
@@ -598,27 +535,138 @@ pub fn operate<S: Alter, D: Digester>(
         Operation::GetLifecycle(_) | Operation::PutLifecycle(_) | Operation::DeleteLifecycle(_) => {
             lifecycle::operate_lifecycle(connection, alloc, tenant, operation, body)
         }
-        Operation::PutObject { .. }
-        | Operation::CopyObject { .. }
+        Operation::CopyObject { .. }
         | Operation::GetObject { .. }
         | Operation::HeadObject { .. }
         | Operation::DeleteObject { .. } => {
-            operate_object(
-                connection, cache, alloc, digester, block_size, tenant, at, operation, body,
-            )
+            operate_object(connection, cache, alloc, tenant, at, operation)
         }
         Operation::CreateMultipartUpload(_)
-        | Operation::UploadPart { .. }
         | Operation::ListParts { .. }
         | Operation::CompleteMultipartUpload { .. }
         | Operation::AbortMultipartUpload { .. } => {
-            operate_upload(
-                connection, cache, alloc, digester, block_size, limits, tenant, at, operation, body,
-            )
+            operate_upload(connection, alloc, limits, tenant, at, operation, body)
         }
         Operation::GetRetention { .. } | Operation::PutRetention { .. } => {
             retention::operate_retention(connection, alloc, tenant, at, operation, body)
         }
         Operation::Usage => usage(connection, tenant),
+        Operation::PutObject { .. } | Operation::UploadPart { .. } => {
+            Err(StepError::Failed(Trouble::Store))
+        }
+    }
+}
+
+/// The same, once its body came. A document is taken whole.
+fn carry_out_whole<S: Alter, B: Body>(
+    connection: &mut Connection<S>,
+    cache: &mut BlockCache,
+    alloc: Global,
+    limits: &Limits,
+    tenant: &TenantName,
+    at: Moment,
+    operation: &Operation,
+    body: &mut B,
+) -> Result<Outcome<Answer, Rejection>, StepError<Rejection>>
+    requires working { Works S.Store connection.old }
+    requires kept { IsClean S.Store connection.old → Agrees cache.old (tables S.Store connection.old).blocks }
+    requires early { IsClean S.Store connection.old → at ≤ latest_of (tables S.Store connection.old) }
+    requires going { (B.coming body.old).broken ≡ None }
+    ensures within { StaysWithin S.Store connection.old connection.new }
+    ensures opens { UnlessSpoilt result (StaysOpen S.Store connection.old connection.new) }
+    ensures working { UnlessSpoilt result (StillWorks S.Store connection.old connection.new) }
+    ensures operates { Operates answer_view tenant.now (λ bytes. operated limits.now at bytes operation.now)
+        (IsClean S.Store connection.new) (B.coming body.old) (B.coming body.new)
+        (tables S.Store connection.old) (tables S.Store connection.new) result }
+    ensures kept { UnlessSpoilt result (IsClean S.Store connection.new → Agrees cache.new (tables S.Store connection.new).blocks) }
+{
+    let bytes = match collect(alloc, body) {
+        Ok(bytes) => bytes,
+        Err(error) => return Err(StepError::Failed(Trouble::from(error))),
+    };
+    let answer = carry_out(
+        connection, cache, alloc, limits, tenant, at, operation, &bytes,
+    )?;
+    Ok(Outcome::Done(answer))
+}
+
+/// Carries out an operation of a tenant, on a host with these limits and at a moment that is not after the last stamp.
+/// The bytes of objects and of parts are stored as they come, in blocks of at most this size, and blocks that are read are
+/// kept in memory; a document is taken whole.
+pub fn operate<S: Alter, D: Digester, B: Body>(
+    connection: &mut Connection<S>,
+    cache: &mut BlockCache,
+    alloc: Global,
+    digester: &D,
+    block_size: u64,
+    limits: &Limits,
+    tenant: &TenantName,
+    at: Moment,
+    operation: &Operation,
+    body: &mut B,
+) -> Result<Outcome<Answer, Rejection>, StepError<Rejection>>
+    requires working { Works S.Store connection.old }
+    requires kept { IsClean S.Store connection.old → Agrees cache.old (tables S.Store connection.old).blocks }
+    requires digests { IsClean S.Store connection.old → AreDigests D.digest_of (tables S.Store connection.old).blocks }
+    requires positive { 1 ≤ block_size }
+    requires early { IsClean S.Store connection.old → at ≤ latest_of (tables S.Store connection.old) }
+    requires going { (B.coming body.old).broken ≡ None }
+    ensures within { StaysWithin S.Store connection.old connection.new }
+    ensures opens { UnlessSpoilt result (StaysOpen S.Store connection.old connection.new) }
+    ensures working { UnlessSpoilt result (StillWorksBy S.Store D.digest_of connection.old connection.new) }
+    ensures operates { OperatesBy answer_view tenant.now (λ bytes. operated limits.now at bytes operation.now)
+        (λ bytes. StoresBody D.digest_of block_size bytes operation.now (tables S.Store connection.old) (tables S.Store connection.new))
+        (IsClean S.Store connection.new) (B.coming body.old) (B.coming body.new)
+        (tables S.Store connection.old) (tables S.Store connection.new) result }
+    ensures kept { UnlessSpoilt result (IsClean S.Store connection.new → Agrees cache.new (tables S.Store connection.new).blocks) }
+{
+    match operation {
+        Operation::PutObject {
+            object,
+            checksum,
+            date,
+        } => {
+            let (bucket, key, given) = (&object.bucket, &object.key, bytes_of(checksum));
+            let object = NewObject {
+                tenant,
+                bucket,
+                key,
+                at,
+                date: *date,
+            };
+            put_object(
+                connection, cache, alloc, digester, block_size, &object, given, body,
+            )
+        }
+        Operation::UploadPart {
+            object,
+            upload,
+            number,
+            checksum,
+        } => {
+            let part = NewPart {
+                upload: NamedUpload {
+                    tenant,
+                    bucket: &object.bucket,
+                    key: &object.key,
+                    upload: *upload,
+                },
+                number: *number,
+                at,
+            };
+            uploads::put_part(
+                connection,
+                cache,
+                alloc,
+                digester,
+                block_size,
+                &part,
+                bytes_of(checksum),
+                body,
+            )
+        }
+        _ => carry_out_whole(
+            connection, cache, alloc, limits, tenant, at, operation, body,
+        ),
     }
 }

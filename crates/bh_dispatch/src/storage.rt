@@ -3,10 +3,11 @@ ghost use Rattle.std.specs.Prelude.{◌≡◌, ◌≤◌};
 use crate::{answers, commands, operations};
 use bh_cache::blocks::BlockCache;
 use bh_event::event::Command;
+use bh_http::body::Body;
 use bh_operation::operation::Operation;
 use bh_schema::host::{Digester, Host};
 use bh_storage::answer::Answer;
-use bh_storage::error::{StepError, Trouble};
+use bh_storage::error::{Outcome, StepError, Trouble};
 use bh_storage::report::{StoreReport, SweepReport, TenantReport};
 use bh_storage::storage::Storage;
 use bh_types::access_key::AccessKeyId;
@@ -81,14 +82,14 @@ impl<S: Alter + Drop, D: Digester + Drop> Storage for HostStorage<S, D> {
         self.host.authenticate(key, secret)
     }
 
-    fn operate(
+    fn operate<B: Body>(
         &mut self,
         alloc: Global,
         tenant: &TenantName,
         at: Moment,
         operation: &Operation,
-        body: &[u8],
-    ) -> Result<Answer, StepError<Rejection>> {
+        body: &mut B,
+    ) -> Result<Outcome<Answer, Rejection>, StepError<Rejection>> {
         let block_size = block_size_of(&self.host.cache);
         operations::operate(
             &mut self.host.connection,

@@ -1,6 +1,6 @@
 //! The operations on multipart uploads, as answers of a host's storage.
 ghost use Rattle.std.specs.Option.{option_copied};
-ghost use Rattle.std.specs.Prelude.{◌≡◌, ◌≤◌, option_map, OnOk};
+ghost use Rattle.std.specs.Prelude.{◌≡◌, ◌≤◌, None, option_map};
 ghost use Rattle.bh_types.specs.Rejections.{plainly};
 ghost use Rattle.bh_machine.specs.Machine.{finish_upload, page_asked, upload_asked};
 ghost use Rattle.bh_model.specs.Listings as listings;
@@ -9,7 +9,7 @@ ghost use Rattle.bh_view.specs.Blocks.{AreDigests};
 ghost use Rattle.bh_view.specs.Bodies.{StoresPieces};
 ghost use Rattle.bh_view.specs.View.{latest_of};
 ghost use Rattle.bh_storage.specs.Answers.{answer_view};
-ghost use Rattle.bh_storage.specs.Calls.{Unless, Carries};
+ghost use Rattle.bh_storage.specs.Calls.{Unless, UnlessSpoilt, Carries, OperatesBy};
 ghost use Rattle.bh_schema.specs.Connections.{IsClean, tables, StaysWithin, StaysOpen};
 ghost use Rattle.bh_cache.specs.Kept.{AreCopies};
 ghost use Rattle.bh_schema.specs.Working.{Works, StillWorks, StillWorksBy};
@@ -17,12 +17,13 @@ ghost use Rattle.bh_schema.specs.Working.{Works, StillWorks, StillWorksBy};
 use crate::answers;
 use bh_cache::blocks::BlockCache;
 use bh_docs::read_complete;
+use bh_http::body::Body;
 use bh_operation::address::ObjectName;
 use bh_operation::page::{Page, PartPage, UploadMarker};
 use bh_pages::gathering::PageAsked;
 use bh_schema::host::Digester;
 use bh_storage::answer::Answer;
-use bh_storage::error::{StepError, Trouble};
+use bh_storage::error::{Outcome, StepError, Trouble};
 use bh_types::bucket::BucketName;
 use bh_types::id::UploadId;
 use bh_types::limits::Limits;
@@ -62,7 +63,7 @@ pub fn begin_upload<S: Alter>(
     answers::begun(begin::begin_upload(connection, alloc, &upload))
 }
 
-pub fn put_part<S: Alter, D: Digester>(
+pub fn put_part<S: Alter, D: Digester, B: Body>(
     connection: &mut Connection<S>,
     cache: &BlockCache,
     alloc: Global,
@@ -70,25 +71,26 @@ pub fn put_part<S: Alter, D: Digester>(
     block_size: u64,
     part: &NewPart<'_>,
     given: Option<&[u8]>,
-) -> Result<Answer, StepError<Rejection>>
+    body: &mut B,
+) -> Result<Outcome<Answer, Rejection>, StepError<Rejection>>
     requires working { Works S.Store connection.old }
     requires copies { IsClean S.Store connection.old → AreCopies cache.now (tables S.Store connection.old).blocks }
     requires digests { IsClean S.Store connection.old → AreDigests D.digest_of (tables S.Store connection.old).blocks }
     requires positive { 1 ≤ block_size }
     requires early { IsClean S.Store connection.old → part.now.at ≤ latest_of (tables S.Store connection.old) }
+    requires going { (B.coming body.old).broken ≡ None }
     ensures within { StaysWithin S.Store connection.old connection.new }
-    ensures opens { Unless result (StaysOpen S.Store connection.old connection.new) }
-    ensures working { Unless result (StillWorksBy S.Store D.digest_of connection.old connection.new) }
-    ensures carries { IsClean S.Store connection.new
-        → Carries answer_view part.now.upload.tenant.now
-        (λ s. plainly (machine.upload_part part.now.at part.now.upload.bucket.now part.now.upload.key.now part.now.upload.upload
-        part.now.number part.now.bytes.now (option_copied given.entry) s))
+    ensures opens { UnlessSpoilt result (StaysOpen S.Store connection.old connection.new) }
+    ensures working { UnlessSpoilt result (StillWorksBy S.Store D.digest_of connection.old connection.new) }
+    ensures operates { OperatesBy answer_view part.now.upload.tenant.now
+        (λ bytes s. plainly (machine.upload_part part.now.at part.now.upload.bucket.now part.now.upload.key.now part.now.upload.upload
+        part.now.number bytes (option_copied given.entry) s))
+        (λ bytes. StoresPieces D.digest_of block_size bytes (tables S.Store connection.old) (tables S.Store connection.new))
+        (IsClean S.Store connection.new) (B.coming body.old) (B.coming body.new)
         (tables S.Store connection.old) (tables S.Store connection.new) result }
-    ensures blocks { OnOk result (IsClean S.Store connection.new
-        → StoresPieces D.digest_of block_size part.now.bytes.now (tables S.Store connection.old) (tables S.Store connection.new)) }
 {
     answers::part_stored(parts::put_part(
-        connection, cache, alloc, digester, block_size, part, given,
+        connection, cache, alloc, digester, block_size, part, given, body,
     ))
 }
 

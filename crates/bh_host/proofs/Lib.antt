@@ -1,5 +1,9 @@
 mod Apart
 mod Listing
-mod ToldApart
+pub mod ToldApart
 mod Turning
+mod Asking
+mod Serving
 pub mod Running
+pub mod TakenBack
+pub mod Answered

@@ -3,11 +3,8 @@ use Rattle.std.proofs.Common.{◌≡◌, ℕ, List, Option, Some, None, Ok, Err,
 use Rattle.std.specs.Prelude.{option_map}
 use Rattle.std.proofs.lemmas.Bool.{cases_Bool}
 use Rattle.std.proofs.lemmas.Option.{same_Some}
-use Rattle.bh_event.specs.Events.{Order, tenant_of, Message, Requested, Ordered, SweepOrdered, ReportOrdered, TenantsOrdered, Arrival, arrival}
-use Rattle.bh_event.specs.declared.event.Event.{Event}
-use Rattle.bh_event.specs.declared.event.Event.TheVariants.{Http}
+use Rattle.bh_event.specs.Events.{Order, tenant_of, Message, Requested, Ordered, SweepOrdered, ReportOrdered, TenantsOrdered, Arrival}
 use Rattle.bh_http.specs.Credentials.{key_given}
-use Rattle.bh_http.specs.Reading.{Reads}
 use Rattle.bh_http.specs.Responses.{refusal_text}
 use Rattle.bh_http.specs.Views.{Taken}
 use Rattle.bh_machine.specs.Machine.{Act, RequestRead, Commanded, owner_of, requested, ordered, change, step}
@@ -15,7 +12,7 @@ use Rattle.bh_machine.proofs.Nameless.{nameless}
 use Rattle.bh_model.specs.Operations.{Answer, Outcome}
 use Rattle.bh_model.specs.Runs.{settled, purged_tenant}
 use Rattle.bh_model.specs.State.{Octets, State}
-use Rattle.bh_storage.specs.Calls.{Seen, IsWorking, Within, Unless, OthersSame, Stamps, Purges, Carries}
+use Rattle.bh_storage.specs.Calls.{Seen, IsWorking, Unless, OthersSame, Stamps, Purges, Carries}
 use Rattle.bh_storage.specs.declared.error.StepError.{StepError}
 use Rattle.bh_storage.specs.declared.error.StepError.TheVariants.{Refused, Failed}
 use Rattle.bh_tables.specs.Typed.{Tables}
@@ -31,20 +28,9 @@ use Rattle.bh_view.specs.Becomes.{KeepsShared}
 use Rattle.bh_view.specs.View.{view, latest_of, limits_in, rows_purged}
 use Rattle.bh_view.proofs.SharedLemmas.{shared_none}
 use Rattle.bh_host.specs.Replies.{text}
-use Rattle.bh_host.specs.Turns.{IsActDoneFor, IsActDone, IsServed, IsRequestServed, Tells, TellsOrder, Applied}
+use Rattle.bh_host.specs.Turns.{IsActDoneFor, IsActDone, IsServed, Tells, TellsOrder, Applied}
 
 -- ---- calls inside a transaction
-
--- a call, and then another
-pub within_then : {H : Type 0} (IsIntact IsOpen : H → Type 0) (seen : H → Seen) (left : H → Tables → Type 0) (a b c : H)
-    → Within IsIntact IsOpen seen left a b → (IsOpen a → IsIntact b → IsOpen b) → Within IsIntact IsOpen seen left b c → Within IsIntact IsOpen seen left a c
-within_then IsIntact IsOpen seen left a b c first opens next = record {
-  intact = λ i. first.intact (next.intact i);
-  opened = λ i o. first.opened (next.intact i) (next.opened i o);
-  survives = λ o i x l. first.survives o (next.intact i) x (next.survives (opens o (next.intact i)) i x l);
-  kept = λ clean. next.kept clean ∙ first.kept (next.intact clean.0, next.opened clean.0 clean.1);
-  limits = next.limits ∙ first.limits;
-}
 
 pub limits_stay : {IsSound : Tables → Type 0} (old new : Seen) → IsWorking IsSound old → IsWorking IsSound new → new.limits ≡ old.limits → limits_in new.now ≡ limits_in old.now
 limits_stay old new before after same = after.limits ∙ same ∙ sym before.limits
@@ -55,13 +41,6 @@ if_ordered (Ok bytes) shown order (Ok x) P Q told p go = go bytes.items p told
 if_ordered (Ok bytes) shown order (Err (Refused e)) P Q told p go = go bytes.items p told
 if_ordered (Ok bytes) shown order (Err (Failed trouble)) P Q told p go = absurd told
 if_ordered (Err e) shown order outcome P Q told p go = tt
-
-pub if_asked : {X Y : Type 0} (r : Result (Vec ℕ Global) Y) (shown : X → Answer) (act : Act) (outcome : Result X (StepError Rejection)) (P : Type 0) (Q : List ℕ → Type 0)
-    → IfOk r (λ bytes. Tells shown act outcome bytes.items) → Unless outcome P → ((bytes : List ℕ) → P → Tells shown act outcome bytes → Q bytes) → IfOk r (λ bytes. Q bytes.items)
-if_asked (Ok bytes) shown act (Ok x) P Q told p go = go bytes.items p told
-if_asked (Ok bytes) shown act (Err (Refused e)) P Q told p go = go bytes.items p told
-if_asked (Ok bytes) shown act (Err (Failed trouble)) P Q told p go = absurd told
-if_asked (Err e) shown act outcome P Q told p go = tt
 
 -- ---- an act of a tenant: its stale uploads go, and then comes the change
 
@@ -76,7 +55,7 @@ module _ (limits : HostLimits) (t : Octets) (m : ℕ) (act : Act) (old mid new :
       → step limits m act (view old t) ≡ settled (purged_tenant (view old t) m) result
   changed result purges is = ap (settled (purged_tenant (view old t) m)) (ap (change limits m act) (sym purges.own) ∙ is)
 
-  turned_done : (answer : Answer) → owner_of act ≡ Some t → Purges t m old mid → change limits m act (view mid t) ≡ Ok (answer, view new t)
+  pub turned_done : (answer : Answer) → owner_of act ≡ Some t → Purges t m old mid → change limits m act (view mid t) ≡ Ok (answer, view new t)
       → OthersSame t mid new → latest_of new ≡ latest_of mid → KeepsShared mid new → limits_in new ≡ limits_in old → reply ≡ text act (Ok answer) → IsActDone limits act m old new reply
   turned_done answer owner purges is others latest shared kept told =
       let stepped = changed (Ok (answer, view new t)) purges is in
@@ -94,7 +73,7 @@ module _ (limits : HostLimits) (t : Octets) (m : ℕ) (act : Act) (old mid new :
         shared = shared_purged t m old new (subst (λ (x : Tables). KeepsShared x new) purges.is shared);
       }
 
-  turned_refused : (e : Rejection) → owner_of act ≡ Some t → Purges t m old mid → change limits m act (view mid t) ≡ Err e → new ≡ mid
+  pub turned_refused : (e : Rejection) → owner_of act ≡ Some t → Purges t m old mid → change limits m act (view mid t) ≡ Err e → new ≡ mid
       → limits_in new ≡ limits_in old → reply ≡ text act (Err e) → IsActDone limits act m old new reply
   turned_refused e owner purges is same kept told =
       let stepped = changed (Err e) purges is in
@@ -167,12 +146,8 @@ turned_nobody limits at r e old reply none is told =
     turned_stranger limits (RequestRead (Ok r)) at e old reply (ap (option_map (λ (k : AccessKeyId). k.tenant)) none) (is at) told
 
 -- bytes that are no request
-turned_unread : (limits : HostLimits) (at : ℕ) (refusal : Refusal) (old : Tables) (reply : List ℕ) → reply ≡ text (RequestRead (Err refusal)) (Err (plain refusal)) → IsActDone limits (RequestRead (Err refusal)) at old old reply
+pub turned_unread : (limits : HostLimits) (at : ℕ) (refusal : Refusal) (old : Tables) (reply : List ℕ) → reply ≡ text (RequestRead (Err refusal)) (Err (plain refusal)) → IsActDone limits (RequestRead (Err refusal)) at old old reply
 turned_unread limits at refusal old reply told = turned_stranger limits (RequestRead (Err refusal)) at (plain refusal) old reply refl refl told
-
-pub turns_unread : (limits : HostLimits) (bytes : List ℕ) (at : ℕ) (old : Tables) (refusal : Refusal) (reply : List ℕ)
-    → Reads limits bytes (Err refusal) → reply ≡ text (RequestRead (Err refusal)) (Err (plain refusal)) → IsRequestServed limits bytes at old old reply
-turns_unread limits bytes at old refusal reply reads told = (Err refusal, reads, turned_unread limits at refusal old reply told)
 
 pub turned_nameless : (limits : HostLimits) (at : ℕ) (order : Order) (old : Tables) (reply : List ℕ) → owner_of (Commanded order) ≡ None → reply ≡ refusal_text InvalidName → IsActDone limits (Commanded order) at old old reply
 unfolding text
@@ -203,11 +178,3 @@ applied limits event m old mid new reply is stamps turns =
     let L : HostLimits → Type 0 = λ l. IsServed l event.message m mid new reply in
     let T : Tables → Type 0 = λ x. IsServed (limits_in old) event.message m x new reply in
     (stamps.stamp, turns_latest limits event.message m mid new reply turns ∙ stamps.latest, subst T stamps.is (subst L is turns))
-
--- a request's turn is its event's
-pub turns_request : (limits : HostLimits) (event : Event) (reading : ℕ) (held : Vec ℕ Global) (bytes : List ℕ) (m : ℕ) (old new : Tables) (reply : List ℕ) → event ≡ Http reading held → bytes ≡ held.items
-    → IsRequestServed limits bytes m old new reply → IsServed limits (arrival event).message m old new reply
-turns_request limits event reading held bytes m old new reply is same (answer, reads, turned) =
-    let P : Event → Type 0 = λ e. IsServed limits (arrival e).message m old new reply in
-    let Q : List ℕ → Type 0 = λ b. Reads limits b answer in
-    subst P (sym is) (RequestRead answer, (answer, subst Q same reads, refl), turned)

@@ -1,4 +1,6 @@
 pub mod Answers
+pub mod Asking
+pub mod Receives
 pub mod Replies
 pub mod Runs
 pub mod Turns

@@ -5,8 +5,6 @@ use Rattle.bh_types.specs.Rejections.{plain}
 use Rattle.bh_types.specs.declared.refusal.Refusal.{Refusal}
 use Rattle.bh_types.specs.declared.rejection.Rejection.{Rejection}
 use Rattle.bh_event.specs.Events.{Order, Message, Requested, Ordered, SweepOrdered, ReportOrdered, TenantsOrdered, Arrival}
-use Rattle.bh_http.specs.Reading.{Reads}
-use Rattle.bh_http.specs.Views.{Taken}
 use Rattle.bh_machine.specs.Machine.{Act, RequestRead, Commanded, Acted, owner_of, step}
 use Rattle.bh_model.specs.Operations.{Answer}
 use Rattle.bh_model.specs.Runs.{last_reading, stamp_of, purged_tenant}
@@ -76,9 +74,6 @@ IsServed limits (SweepOrdered limit) m stamped new reply = IsSweepDone limit m s
 IsServed limits ReportOrdered m stamped new reply = IsReportDone stamped new reply
 IsServed limits TenantsOrdered m stamped new reply = IsListDone stamped new reply
 
-abbrev pub IsRequestServed : HostLimits → List ℕ → ℕ → Tables → Tables → List ℕ → Type 0
-IsRequestServed limits bytes m stamped new reply = (answer : Result Taken Refusal) × Reads limits bytes answer × IsActDone limits (RequestRead answer) m stamped new reply
-
 -- the bytes that an outcome is told in; trouble isn't told
 abbrev pub Tells : {X : Type 0} → (X → Answer) → Act → Result X (StepError Rejection) → List ℕ → Type 0
 Tells shown act (Ok answer) bytes = bytes ≡ text act (Ok (shown answer))
@@ -91,7 +86,19 @@ TellsOrder shown order (Ok answer) bytes = bytes ≡ text (Commanded order) (Ok 
 TellsOrder shown order (Err (Refused r)) bytes = bytes ≡ text (Commanded order) (Err (plain r))
 TellsOrder shown order (Err (Failed trouble)) bytes = ⊥
 
+-- an event that is no request
+abbrev pub IsOrder : Message → Type 0
+IsOrder (Requested bytes) = ⊥
+IsOrder (Ordered order) = Unit {0}
+IsOrder (SweepOrdered limit) = Unit {0}
+IsOrder ReportOrdered = Unit {0}
+IsOrder TenantsOrdered = Unit {0}
+
 -- ---- an event
+
+-- a request at a reading of the clock
+abbrev pub request_at : ℕ → List ℕ → Arrival
+request_at reading bytes = record { reading = reading; message = Requested bytes }
 
 -- the fixed reply to an event that is left out
 abbrev pub fixed : Arrival → List ℕ

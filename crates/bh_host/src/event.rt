@@ -1,37 +1,31 @@
 ghost use Rattle.std.specs.Prelude.{◌≡◌, ◌⊎◌, ◌<◌, ◌≤◌, ℕ, Ok, Err, Some, None, IfOk, IfSome, IfNone, OnOk, OnErr};
 ghost use Rattle.bh_event.specs.Events.{arrival, order_of};
-ghost use Rattle.bh_http.specs.Credentials.{key_given};
-ghost use Rattle.bh_http.specs.Views.{view as request_view};
-ghost use Rattle.bh_machine.specs.Machine.{RequestRead, Commanded, owner_of as owner_of_act};
-ghost use Rattle.bh_machine.specs.Machine as machine;
+ghost use Rattle.bh_machine.specs.Machine.{Commanded, owner_of as owner_of_act};
 ghost use Rattle.bh_model.specs.Runs.{last_reading};
 ghost use Rattle.bh_storage.specs.Calls.{Clean, Within, LeavesSound, IsAtRest, IsWorking};
 ghost use Rattle.bh_tables.specs.Typed.{Tables};
-ghost use Rattle.bh_types.specs.Limits.{HostLimits};
-ghost use Rattle.bh_types.specs.Rejections.{plain};
 ghost use Rattle.bh_view.specs.View.{latest_of};
+ghost use Rattle.bh_http.specs.Reading.{completed};
+ghost use Rattle.bh_http.specs.Views.{announced_view};
+ghost use Rattle.bh_host.specs.Answers.{told};
+ghost use Rattle.bh_host.specs.Receives.{ToldOf};
 ghost use Rattle.bh_host.specs.Replies.{clock_text, reply_bytes};
 ghost use Rattle.bh_host.specs.Replies as reply;
-ghost use Rattle.bh_host.specs.Turns.{IsServed, IsActDone, IsSweepDone, IsReportDone, IsListDone, IsRequestServed, IsToldApart, WouldApply, AppliedTo};
+ghost use Rattle.bh_host.specs.Turns.{IsServed, IsActDone, IsSweepDone, IsReportDone, IsListDone, IsOrder, IsToldApart, WouldApply, AppliedTo, request_at};
 
 use crate::lists::tenants_line;
-use crate::reply::{
-    Caller, Reply, order_text, refusal_line, refused_request_text, report_line, request_text,
-    sweep_line, unread_text,
-};
-use crate::serve::requested;
+use crate::receiving::{receive, refuse_unread, wanting};
+use crate::reply::{Caller, Reply, order_text, refusal_line, report_line, sweep_line};
 use bh_event::event::{Command, Event};
-use bh_http::credentials::{access_key_of, secret_of};
-use bh_http::read::read_request;
-use bh_http::request::Request;
+use bh_http::body::WholeBody;
+use bh_http::read::split_head;
+use bh_http::request::Head;
 use bh_operation::routes::Routes;
 use bh_storage::error::Trouble;
 use bh_storage::storage::Storage;
-use bh_types::access_key::AccessKeyId;
 use bh_types::moment::{LAST_READING, Moment};
 use bh_types::names::TenantName;
 use bh_types::refusal::Refusal;
-use bh_types::rejection::Rejection;
 use std::alloc::{AllocError, Global};
 
 /// What an event was answered, and its stamp: the moment at which it counts, or none where it changed nothing.
@@ -39,88 +33,6 @@ use std::alloc::{AllocError, Global};
 pub struct Told {
     pub stamp: Option<Moment>,
     pub reply: Reply,
-}
-
-/// A request of the tenant of this access key.
-fn serve_tenant<H: Storage>(
-    alloc: Global,
-    routes: &Routes,
-    host: &mut H,
-    key: &AccessKeyId,
-    request: &Request,
-    at: Moment,
-) -> Result<Vec<u8>, Trouble>
-    requires keyed { key_given (request_view request.now) ≡ Some key.now }
-    requires working { Clean H.IsIntact H.IsOpen host.old → IsWorking H.IsSoundStore (H.seen host.old) }
-    requires early { Clean H.IsIntact H.IsOpen host.old → at ≤ latest_of (H.seen host.old).now }
-    ensures within { Within H.IsIntact H.IsOpen H.seen H.left host.old host.new }
-    ensures opens { OnOk result (H.IsOpen host.old → H.IsIntact host.new → H.IsOpen host.new) }
-    ensures working { OnOk result (Clean H.IsIntact H.IsOpen host.new → IsWorking H.IsSoundStore (H.seen host.new)) }
-    ensures turned { IfOk result (λ bytes. Clean H.IsIntact H.IsOpen host.new
-        → IsActDone (H.seen host.old).limits (RequestRead (Ok (request_view request.now))) at
-        (H.seen host.old).now (H.seen host.new).now bytes.items) }
-{
-    host.purge(alloc, &key.tenant, at)?;
-    let outcome = requested(alloc, routes, host, key, at, request);
-    request_text(alloc, routes, request, outcome)
-}
-
-/// Why a request that belongs to nobody is refused.
-fn stranger_refusal(request: &Request) -> Refusal
-    ensures { (limits : HostLimits) (at : ℕ) → machine.requested limits at (request_view request.now) None ≡ Err (plain result) }
-{
-    match secret_of(request) {
-        Ok(_) => Refusal::InvalidAccessKeyId,
-        Err(refusal) => refusal,
-    }
-}
-
-/// A request that was read.
-fn serve_read<H: Storage>(
-    alloc: Global,
-    routes: &Routes,
-    host: &mut H,
-    request: &Request,
-    at: Moment,
-) -> Result<Vec<u8>, Trouble>
-    requires working { Clean H.IsIntact H.IsOpen host.old → IsWorking H.IsSoundStore (H.seen host.old) }
-    requires early { Clean H.IsIntact H.IsOpen host.old → at ≤ latest_of (H.seen host.old).now }
-    ensures within { Within H.IsIntact H.IsOpen H.seen H.left host.old host.new }
-    ensures opens { OnOk result (H.IsOpen host.old → H.IsIntact host.new → H.IsOpen host.new) }
-    ensures working { OnOk result (Clean H.IsIntact H.IsOpen host.new → IsWorking H.IsSoundStore (H.seen host.new)) }
-    ensures turned { IfOk result (λ bytes. Clean H.IsIntact H.IsOpen host.new
-        → IsActDone (H.seen host.old).limits (RequestRead (Ok (request_view request.now))) at
-        (H.seen host.old).now (H.seen host.new).now bytes.items) }
-{
-    match access_key_of(alloc, request)? {
-        Some(key) => serve_tenant(alloc, routes, host, &key, request, at),
-        None => {
-            let rejection = Rejection::from(stranger_refusal(request));
-            Ok(refused_request_text(alloc, routes, request, rejection)?)
-        }
-    }
-}
-
-/// A request, as its bytes are read.
-fn serve_request<H: Storage>(
-    alloc: Global,
-    routes: &Routes,
-    host: &mut H,
-    bytes: &[u8],
-    at: Moment,
-) -> Result<Vec<u8>, Trouble>
-    requires working { Clean H.IsIntact H.IsOpen host.old → IsWorking H.IsSoundStore (H.seen host.old) }
-    requires early { Clean H.IsIntact H.IsOpen host.old → at ≤ latest_of (H.seen host.old).now }
-    ensures within { Within H.IsIntact H.IsOpen H.seen H.left host.old host.new }
-    ensures opens { OnOk result (H.IsOpen host.old → H.IsIntact host.new → H.IsOpen host.new) }
-    ensures working { OnOk result (Clean H.IsIntact H.IsOpen host.new → IsWorking H.IsSoundStore (H.seen host.new)) }
-    ensures turned { IfOk result (λ text. Clean H.IsIntact H.IsOpen host.new
-        → IsRequestServed (H.seen host.old).limits bytes.now at (H.seen host.old).now (H.seen host.new).now text.items) }
-{
-    match read_request(bytes, &host.limits()) {
-        Ok(request) => serve_read(alloc, routes, host, &request, at),
-        Err(refusal) => Ok(unread_text(alloc, routes, refusal)?),
-    }
 }
 
 /// The tenant that a command names, if it is a tenant's name.
@@ -217,10 +129,9 @@ fn serve_tenants<H: Storage>(alloc: Global, host: &mut H) -> Result<Vec<u8>, Tro
     Ok(tenants_line(alloc, &tenants)?.into_bytes())
 }
 
-/// What an event is answered, at its stamp.
+/// What an event that is no request is answered, at its stamp. A request is trouble: `apply` sends none here.
 fn serve<H: Storage>(
     alloc: Global,
-    routes: &Routes,
     host: &mut H,
     event: &Event,
     at: Moment,
@@ -234,7 +145,7 @@ fn serve<H: Storage>(
         → IsServed (H.seen host.old).limits (arrival event.now).message at (H.seen host.old).now (H.seen host.new).now bytes.items) }
 {
     match event {
-        Event::Http { bytes, .. } => serve_request(alloc, routes, host, bytes, at),
+        Event::Http { .. } => Err(Trouble::Store),
         Event::Operator { command, .. } => serve_command(alloc, host, command, at),
         Event::Sweep { limit, .. } => serve_sweep(alloc, host, *limit, at),
         Event::Report { .. } => serve_report(alloc, host),
@@ -245,7 +156,6 @@ fn serve<H: Storage>(
 /// A transaction with one event: its stamp and its reply. After trouble it may be open still.
 fn try_apply<H: Storage>(
     alloc: Global,
-    routes: &Routes,
     host: &mut H,
     event: &Event,
 ) -> Result<(Moment, Vec<u8>), Trouble>
@@ -265,7 +175,7 @@ fn try_apply<H: Storage>(
 {
     host.begin()?;
     let stamp = host.stamp(event.reading())?;
-    let bytes = serve(alloc, routes, host, event, stamp)?;
+    let bytes = serve(alloc, host, event, stamp)?;
     host.commit()?;
     Ok((stamp, bytes))
 }
@@ -280,6 +190,98 @@ fn caller_of(event: &Event) -> Caller
         | Event::Sweep { .. }
         | Event::Report { .. }
         | Event::Tenants { .. } => Caller::Operator,
+    }
+}
+
+/// Applies an event that is no request in one transaction.
+fn apply_order<H: Storage>(alloc: Global, host: &mut H, event: &Event) -> Told
+    requires order { IsOrder (arrival event.now).message }
+    requires in_range { (arrival event.now).reading ≤ last_reading }
+    requires rest { Clean H.IsIntact H.IsOpen host.old → IsAtRest H.IsSoundStore (H.seen host.old) }
+    ensures intact { H.IsIntact host.new → H.IsIntact host.old }
+    ensures opened { H.IsIntact host.new → H.IsOpen host.new → H.IsOpen host.old }
+    ensures ready { Clean H.IsIntact H.IsOpen host.new → IsAtRest H.IsSoundStore (H.seen host.new) }
+    ensures limits { (H.seen host.new).limits ≡ (H.seen host.old).limits }
+    ensures applied { H.IsIntact host.new
+        → AppliedTo H.IsOpen H.seen (arrival event.now) host.old host.new result.stamp (reply_bytes result.reply) }
+    ensures told_apart { H.IsIntact host.new → IsToldApart (arrival event.now) result.stamp (reply_bytes result.reply) }
+    ensures acknowledged { IfSome result.stamp (λ _. H.IsIntact host.new
+        → (x : Tables) → H.left host.new x → x ≡ (H.seen host.new).now) }
+    ensures crash { IfNone result.stamp (H.IsIntact host.new → (x : Tables) → H.left host.new x
+        → H.left host.old x ⊎ (H.IsOpen host.old × WouldApply (arrival event.now) (H.seen host.old).now x)) }
+    ensures leaves { H.IsIntact host.new → LeavesSound H.IsSoundStore H.left host.old host.new }
+{
+    match try_apply(alloc, host, event) {
+        Ok((stamp, bytes)) => Told {
+            stamp: Some(stamp),
+            reply: Reply::Text(bytes),
+        },
+        Err(trouble) => {
+            host.take_back();
+            Told {
+                stamp: None,
+                reply: Reply::Wanting(caller_of(event), trouble),
+            }
+        }
+    }
+}
+
+/// Applies a request whose head was read, and of whose body these bytes are there.
+fn apply_headed<H: Storage>(
+    alloc: Global,
+    routes: &Routes,
+    host: &mut H,
+    reading: u64,
+    head: &Head,
+    rest: &[u8],
+) -> Told
+    requires in_range { reading ≤ last_reading }
+    requires rest { Clean H.IsIntact H.IsOpen host.old → IsAtRest H.IsSoundStore (H.seen host.old) }
+    ensures intact { H.IsIntact host.new → H.IsIntact host.old }
+    ensures opened { H.IsIntact host.new → H.IsOpen host.new → H.IsOpen host.old }
+    ensures ready { Clean H.IsIntact H.IsOpen host.new → IsAtRest H.IsSoundStore (H.seen host.new) }
+    ensures limits { (H.seen host.new).limits ≡ (H.seen host.old).limits }
+    ensures told { ToldOf H.IsIntact H.IsOpen H.seen H.left reading (completed (announced_view head.now) rest.now)
+        host.old host.new (told result) }
+    ensures leaves { H.IsIntact host.new → LeavesSound H.IsSoundStore H.left host.old host.new }
+{
+    if head.body_size > rest.len() as u64 {
+        return refuse_unread(alloc, routes, host, reading, Refusal::IncompleteBody);
+    }
+    let mut body = WholeBody::new(&rest[..head.body_size as usize]);
+    match receive(alloc, routes, host, reading, head, &mut body) {
+        Some(told) => told,
+        // No reader of it can fail.
+        None => wanting(Trouble::Body),
+    }
+}
+
+/// Applies a request, as its bytes are read by the host's limits.
+fn apply_request<H: Storage>(
+    alloc: Global,
+    routes: &Routes,
+    host: &mut H,
+    reading: u64,
+    bytes: &[u8],
+) -> Told
+    requires in_range { reading ≤ last_reading }
+    requires rest { Clean H.IsIntact H.IsOpen host.old → IsAtRest H.IsSoundStore (H.seen host.old) }
+    ensures intact { H.IsIntact host.new → H.IsIntact host.old }
+    ensures opened { H.IsIntact host.new → H.IsOpen host.new → H.IsOpen host.old }
+    ensures ready { Clean H.IsIntact H.IsOpen host.new → IsAtRest H.IsSoundStore (H.seen host.new) }
+    ensures limits { (H.seen host.new).limits ≡ (H.seen host.old).limits }
+    ensures applied { H.IsIntact host.new
+        → AppliedTo H.IsOpen H.seen (request_at reading bytes.now) host.old host.new result.stamp (reply_bytes result.reply) }
+    ensures told_apart { H.IsIntact host.new → IsToldApart (request_at reading bytes.now) result.stamp (reply_bytes result.reply) }
+    ensures acknowledged { IfSome result.stamp (λ _. H.IsIntact host.new
+        → (x : Tables) → H.left host.new x → x ≡ (H.seen host.new).now) }
+    ensures crash { IfNone result.stamp (H.IsIntact host.new → (x : Tables) → H.left host.new x
+        → H.left host.old x ⊎ (H.IsOpen host.old × WouldApply (request_at reading bytes.now) (H.seen host.old).now x)) }
+    ensures leaves { H.IsIntact host.new → LeavesSound H.IsSoundStore H.left host.old host.new }
+{
+    match split_head(bytes, &host.limits()) {
+        Ok((head, rest)) => apply_headed(alloc, routes, host, reading, &head, rest),
+        Err(refusal) => refuse_unread(alloc, routes, host, reading, refusal),
     }
 }
 
@@ -321,17 +323,11 @@ pub fn apply<H: Storage>(alloc: Global, routes: &Routes, host: &mut H, event: &E
             reply: Reply::ClockOutOfRange(caller_of(event)),
         };
     }
-    match try_apply(alloc, routes, host, event) {
-        Ok((stamp, bytes)) => Told {
-            stamp: Some(stamp),
-            reply: Reply::Text(bytes),
-        },
-        Err(trouble) => {
-            host.take_back();
-            Told {
-                stamp: None,
-                reply: Reply::Wanting(caller_of(event), trouble),
-            }
-        }
+    match event {
+        Event::Http { reading, bytes } => apply_request(alloc, routes, host, *reading, bytes),
+        Event::Operator { .. }
+        | Event::Sweep { .. }
+        | Event::Report { .. }
+        | Event::Tenants { .. } => { apply_order(alloc, host, event) }
     }
 }

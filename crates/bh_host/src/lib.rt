@@ -6,9 +6,11 @@ mod event;
 mod events;
 pub mod laws;
 mod lists;
+mod receiving;
 mod reply;
 mod serve;
 
 pub use event::{Told, apply};
 pub use events::run;
+pub use receiving::{receive, refuse_unread};
 pub use reply::{Caller, Reply};

@@ -1,8 +1,8 @@
-ghost use Rattle.std.specs.Prelude.{◌≡◌, Ok, Err, IfOk};
+ghost use Rattle.std.specs.Prelude.{◌≡◌, ℕ, List, Ok, Err, IfOk};
 ghost use Rattle.bh_event.specs.Events.{order_of};
 ghost use Rattle.bh_http.specs.Answers.{response_view, refused};
 ghost use Rattle.bh_http.specs.Responses.{response_text, refusal_text};
-ghost use Rattle.bh_http.specs.Views.{view as request_view};
+ghost use Rattle.bh_http.specs.Views.{with_body};
 ghost use Rattle.bh_docs.specs.Documents.{usage_view};
 ghost use Rattle.bh_machine.specs.Machine.{RequestRead};
 ghost use Rattle.bh_model.specs.Operations.{Used};
@@ -10,7 +10,7 @@ ghost use Rattle.bh_storage.specs.Answers.{answer_view};
 ghost use Rattle.bh_types.specs.Rejections.{plain};
 ghost use Rattle.std.specs.String.{string_bytes};
 ghost use Rattle.bh_host.specs.Replies as spec;
-ghost use Rattle.bh_host.specs.Turns.{Tells, TellsOrder};
+ghost use Rattle.bh_host.specs.Turns.{TellsOrder};
 
 use crate::answers::response_to;
 use crate::lists::names_end;
@@ -18,7 +18,7 @@ use bh_docs::reply::{Usage, error_document};
 use bh_event::event::Command;
 use bh_http::encode::response_bytes;
 use bh_http::fixed::{clock_out_of_range, service_unavailable};
-use bh_http::request::Request;
+use bh_http::request::Head;
 use bh_http::response::{Response, has_document};
 use bh_http::values::{Allow, ContentRange};
 use bh_operation::allow::allow_of;
@@ -91,45 +91,27 @@ fn wanting_bytes(caller: Caller) -> &'static [u8]
     }
 }
 
-/// The response to a request.
-#[tactic(auto, unfolding(crate::specs::Replies::text))]
-pub fn request_text(
-    alloc: Global,
-    routes: &Routes,
-    request: &Request,
-    outcome: Result<Answer, StepError<Rejection>>,
-) -> Result<Vec<u8>, Trouble>
-    ensures { IfOk result (λ bytes. Tells answer_view (RequestRead (Ok (request_view request.now))) outcome bytes.items) }
-{
-    match outcome {
-        Ok(answer) => Ok(answer_text(alloc, request, answer)?),
-        Err(StepError::Refused(rejection)) => {
-            Ok(refused_request_text(alloc, routes, request, rejection)?)
-        }
-        Err(StepError::Failed(trouble)) => Err(trouble),
-    }
-}
-
-/// The response that refuses a request.
+/// The response that refuses a request of this head, whatever its body.
 #[tactic(auto, unfolding(crate::specs::Replies::text))]
 pub fn refused_request_text(
     alloc: Global,
     routes: &Routes,
-    request: &Request,
+    head: &Head,
     rejection: Rejection,
 ) -> Result<Vec<u8>, AllocError>
-    ensures { IfOk result (λ bytes. bytes.items ≡ spec.text (RequestRead (Ok (request_view request.now))) (Err rejection)) }
+    ensures { (body : List ℕ) → IfOk result (λ bytes. bytes.items ≡ spec.text (RequestRead (Ok (with_body head.now body))) (Err rejection)) }
 {
-    let response = refusal_to(alloc, routes, request.target, rejection)?;
-    sent_text(alloc, request.method, response)
+    let response = refusal_to(alloc, routes, head.target, rejection)?;
+    sent_text(alloc, head.method, response)
 }
 
+/// The response that answers a request of this head, whatever its body.
 #[tactic(auto, unfolding(crate::specs::Replies::text))]
-fn answer_text(alloc: Global, request: &Request, answer: Answer) -> Result<Vec<u8>, AllocError>
-    ensures { IfOk result (λ bytes. bytes.items ≡ spec.text (RequestRead (Ok (request_view request.now))) (Ok (answer_view answer))) }
+pub fn answer_text(alloc: Global, head: &Head, answer: Answer) -> Result<Vec<u8>, AllocError>
+    ensures { (body : List ℕ) → IfOk result (λ bytes. bytes.items ≡ spec.text (RequestRead (Ok (with_body head.now body))) (Ok (answer_view answer))) }
 {
     let response = response_to(alloc, answer)?;
-    sent_text(alloc, request.method, response)
+    sent_text(alloc, head.method, response)
 }
 
 /// The bytes of a response to a request of this method.

@@ -4,7 +4,7 @@ use Rattle.httparse.specs.Spans.{span_bytes, header_bytes}
 use Rattle.httparse.specs.declared.spans.HeaderSpan.{HeaderSpan}
 use Rattle.httparse.specs.declared.spans.RequestSpans.{RequestSpans}
 use Rattle.bh_http.specs.Views.{Parts, pairs_of}
-use Rattle.bh_http.specs.declared.head.Head.{Head}
+use Rattle.bh_http.specs.declared.head.HeadParts.{HeadParts}
 
 -- the parts of a head whose places in the bytes are known
 abbrev pub parts_at : List ℕ → List HeaderSpan → RequestSpans → Parts
@@ -16,7 +16,7 @@ parts_at bytes headers spans = record {
 }
 
 -- what contracts see of a head
-abbrev pub head_view : Head → Parts
+abbrev pub head_view : HeadParts → Parts
 head_view head = record {
   method = head.method.now;
   target = head.target.now;

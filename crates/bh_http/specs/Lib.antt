@@ -1,4 +1,5 @@
 pub mod Arriving
+pub mod Bodies
 pub mod Answers
 pub mod Credentials
 pub mod Fields
@@ -9,3 +10,4 @@ pub mod Refused
 pub mod Responses
 pub mod Values
 pub mod Views
+pub mod Transfers

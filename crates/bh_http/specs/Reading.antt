@@ -10,7 +10,7 @@ use Rattle.bh_types.specs.Limits.{HostLimits}
 use Rattle.bh_types.specs.declared.refusal.Refusal.{Refusal}
 use Rattle.bh_types.specs.declared.refusal.Refusal.TheVariants.{BadRequest, NotImplemented, MissingContentLength, EntityTooLarge, IncompleteBody}
 use Rattle.bh_http.specs.Fields.{Occurrence, Missing, Once, Repeated, field_named}
-use Rattle.bh_http.specs.Views.{Taken, Parts}
+use Rattle.bh_http.specs.Views.{Taken, Parts, Announced}
 
 -- the bytes begin with this head, which has at most 16,384 bytes, empty lines before it included,
 -- and 64 fields
@@ -91,6 +91,38 @@ Reads limits bytes answer =
     (HasNoHead bytes × (answer ≡ Err BadRequest))
     ⊎ ((head : RequestHead) × (rest : List ℕ) × HasHead bytes head rest
     × (answer ≡ outcome limits (parts_of head) rest))
+
+-- a head and the bytes after it, if its framing is accepted
+abbrev pub announcing : Parts → List ℕ → Result ℕ Refusal → Result (Announced × List ℕ) Refusal
+announcing head rest (Err refusal) = Err refusal
+announcing head rest (Ok size) = Ok (
+  record {
+    method = head.method;
+    target = head.target;
+    fields = head.fields;
+    size = size;
+  },
+  rest,
+)
+
+-- what the head at the front of the bytes is: none, or one that is accepted, with the bytes after it, or the first refusal
+abbrev pub ReadsHead : HostLimits → List ℕ → Result (Announced × List ℕ) Refusal → Type 0
+ReadsHead limits bytes answer =
+    (HasNoHead bytes × (answer ≡ Err BadRequest))
+    ⊎ ((head : RequestHead) × (rest : List ℕ) × HasHead bytes head rest
+    × (answer ≡ announcing (parts_of head) rest (framing limits (parts_of head))))
+
+-- the request of a head and of the bytes after it
+abbrev pub completed : Announced → List ℕ → Result Taken Refusal
+completed head rest =
+    if nat_le head.size (length rest)
+    then Ok (record {
+      method = head.method;
+      target = head.target;
+      fields = head.fields;
+      body = take head.size rest;
+    })
+    else Err IncompleteBody
 
 -- bytes have one reading
 abbrev pub OneReading : Type 0

@@ -2,6 +2,7 @@
 use Rattle.std.specs.Prelude.{ℕ, List, map, Result, Ok, Err}
 use Rattle.bh_types.specs.declared.refusal.Refusal.{Refusal}
 use Rattle.bh_http.specs.declared.request.Field.{Field}
+use Rattle.bh_http.specs.declared.request.Head.{Head}
 use Rattle.bh_http.specs.declared.request.Request.{Request}
 
 -- a field's name and value
@@ -27,14 +28,34 @@ pub record Taken : Type 0 where
   pub fields : List (List ℕ × List ℕ)
   pub body : List ℕ
 
+-- a head that was taken in, and how many bytes the body has that it announces
+pub record Announced : Type 0 where
+  pub method : List ℕ
+  pub target : List ℕ
+  pub fields : List (List ℕ × List ℕ)
+  pub size : ℕ
+
+-- what contracts see of a head
+abbrev pub announced_view : Head → Announced
+announced_view head = record {
+  method = head.method.now;
+  target = head.target.now;
+  fields = pairs_of head.fields.items;
+  size = head.body_size;
+}
+
+-- the request of a head and a body
+abbrev pub with_body : Head → List ℕ → Taken
+with_body head body = record {
+  method = head.method.now;
+  target = head.target.now;
+  fields = pairs_of head.fields.items;
+  body = body;
+}
+
 -- what contracts see of a request
 abbrev pub view : Request → Taken
-view request = record {
-  method = request.method.now;
-  target = request.target.now;
-  fields = pairs_of request.fields.items;
-  body = request.body.now;
-}
+view request = with_body request.head request.body.now
 
 -- what contracts see of a reading
 abbrev pub viewed : Result Request Refusal → Result Taken Refusal

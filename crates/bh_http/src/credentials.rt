@@ -1,20 +1,20 @@
-ghost use Rattle.std.specs.Prelude.{◌≡◌, IfOk, IfErr, Ok, Err};
+ghost use Rattle.std.specs.Prelude.{◌≡◌, ℕ, List, IfOk, IfErr, Ok, Err};
 ghost use Rattle.bh_http.specs.Credentials as spec;
-ghost use Rattle.bh_http.specs.Views.{view};
+ghost use Rattle.bh_http.specs.Views.{with_body};
 
 use crate::fields::{Given, field_named};
-use crate::request::Request;
+use crate::request::Head;
 use bh_types::access_key::AccessKeyId;
 use bh_types::refusal::Refusal;
 use std::alloc::{AllocError, Global};
 
-/// The secret that a request carries, as it was sent: the value of `x-secret-key`. AccessDenied where
+/// The secret that a request carries by its head, whatever its body, as it was sent: the value of `x-secret-key`. AccessDenied where
 /// it or `x-access-key` does not stand exactly once.
-pub fn secret_of<'a>(request: &Request<'a>) -> Result<&'a [u8], Refusal>
-    ensures ok { IfOk result (λ secret. spec.secret_given (view request.now) ≡ Ok secret.now) }
-    ensures err { IfErr result (λ refusal. spec.secret_given (view request.now) ≡ Err refusal) }
+pub fn secret_of<'a>(head: &Head<'a>) -> Result<&'a [u8], Refusal>
+    ensures ok { (body : List ℕ) → IfOk result (λ secret. spec.secret_given (with_body head.now body) ≡ Ok secret.now) }
+    ensures err { (body : List ℕ) → IfErr result (λ refusal. spec.secret_given (with_body head.now body) ≡ Err refusal) }
 {
-    let fields = request.fields.as_slice();
+    let fields = head.fields.as_slice();
     match (
         field_named(fields, b"x-access-key"),
         field_named(fields, b"x-secret-key"),
@@ -24,13 +24,13 @@ pub fn secret_of<'a>(request: &Request<'a>) -> Result<&'a [u8], Refusal>
     }
 }
 
-/// The access key that a request names by its single `x-access-key`; its tenant is whose request it
+/// The access key that a request names by its head, whatever its body: by its single `x-access-key`; its tenant is whose request it
 /// is, whatever the secret. `None` where the field does not stand exactly once, or the text before its
 /// first `$` is no tenant's name. An error says that memory ran out.
-pub fn access_key_of(alloc: Global, request: &Request) -> Result<Option<AccessKeyId>, AllocError>
-    ensures { IfOk result (λ key. key ≡ spec.key_given (view request.now)) }
+pub fn access_key_of(alloc: Global, head: &Head) -> Result<Option<AccessKeyId>, AllocError>
+    ensures { (body : List ℕ) → IfOk result (λ key. key ≡ spec.key_given (with_body head.now body)) }
 {
-    match field_named(request.fields.as_slice(), b"x-access-key") {
+    match field_named(head.fields.as_slice(), b"x-access-key") {
         Given::Once(id) => AccessKeyId::read(alloc, id),
         Given::Missing | Given::Repeated => Ok(None),
     }

@@ -4,13 +4,13 @@ ghost use Rattle.bh_http.specs.HeadSpans.{head_view};
 ghost use Rattle.bh_http.specs.Reading as spec;
 
 use crate::fields::{Given, field_named};
-use crate::head::Head;
+use crate::head::HeadParts;
 use bh_types::digits::{is_number, number_of};
 use bh_types::limits::Limits;
 use bh_types::refusal::Refusal;
 
 /// The length of the body that follows a head, or the first refusal.
-pub fn framing(limits: &Limits, head: &Head) -> Result<u64, Refusal>
+pub fn framing(limits: &Limits, head: &HeadParts) -> Result<u64, Refusal>
     ensures { result ≡ spec.framing limits.now (head_view head.now) }
 {
     let fields = head.fields.as_slice();

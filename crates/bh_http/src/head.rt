@@ -13,9 +13,9 @@ use httparse::spans::{HeaderSpan, RequestSpans, parse_request};
 /// The longest head, in bytes.
 pub const MAX_HEAD: usize = 16384;
 
-/// A request head, with the last digit of its version HTTP/1.0 or HTTP/1.1.
+/// The parts of a request head, with the last digit of its version HTTP/1.0 or HTTP/1.1.
 #[derive(Drop)]
-pub struct Head<'a> {
+pub struct HeadParts<'a> {
     pub method: &'a [u8],
     pub target: &'a [u8],
     pub minor: u8,
@@ -41,11 +41,11 @@ pub fn head_at<'a>(
     bytes: &'a [u8],
     headers: &[HeaderSpan; MAX_FIELDS],
     spans: RequestSpans,
-) -> Head<'a>
+) -> HeadParts<'a>
     requires { IsRequestWithin bytes.now headers.now spans }
     ensures { head_view result ≡ parts_at bytes.now headers.now spans }
 {
-    Head {
+    HeadParts {
         method: spans.method.of(bytes),
         target: spans.path.of(bytes),
         minor: spans.version,

@@ -3,6 +3,7 @@
 #![tactic(auto)]
 
 pub mod arriving;
+pub mod body;
 pub mod credentials;
 pub mod encode;
 pub mod fields;

@@ -24,13 +24,21 @@ impl Default for Field<'_> {
 /// The header fields of a request, in their order.
 pub type Fields<'a> = ArrayVec<Field<'a>, MAX_FIELDS>;
 
-/// A request: the method and the target of its request line (RFC 9112, section 3), its header
-/// fields in their order, and the body that Content-Length framed. All of it lies in the bytes that
-/// the request was read from.
+/// The head of a request: the method and the target of its request line (RFC 9112, section 3), its
+/// header fields in their order, and how many bytes the body has that Content-Length announces. It
+/// lies in the bytes that it was read from.
 #[derive(Drop)]
-pub struct Request<'a> {
+pub struct Head<'a> {
     pub method: &'a [u8],
     pub target: &'a [u8],
     pub fields: Fields<'a>,
+    pub body_size: u64,
+}
+
+/// A request: its head, and the body that Content-Length framed. All of it lies in the bytes that the
+/// request was read from.
+#[derive(Drop)]
+pub struct Request<'a> {
+    pub head: Head<'a>,
     pub body: &'a [u8],
 }

@@ -3,7 +3,7 @@
 ghost use Rattle.std.specs.Prelude.{◌≡◌, ◌<◌, ◌∷◌, ℕ, List, [], length, Option, None};
 ghost use Rattle.std.specs.Io.{ReadsAtMost, WritesAtMost};
 ghost use Rattle.std.specs.Io.KnownBytes.{ReadConsumes, WriteAppends};
-ghost use Rattle.bh_link.specs.Transfers.{Transfer, transfer_of, Logs};
+ghost use Rattle.bh_http.specs.Transfers.{Transfer, transfer_of, Logs};
 
 use std::io;
 use std::io::{Read, Write};

@@ -156,7 +156,7 @@ pub fn bring_body<S: Alter, T: Alter, D: Digester>(
     let digest = digest_of(&bytes);
     let known = no_blocks();
     store_body(
-        to, &known, digester, block_size, tenant, body, &bytes, &digest,
+        to, &known, alloc, digester, block_size, tenant, body, &bytes, &digest,
     )?;
     Ok(())
 }

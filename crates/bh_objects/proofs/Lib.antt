@@ -6,6 +6,7 @@ pub mod Sizes
 pub mod Creating
 pub mod Keeping
 pub mod Putting
+pub mod Receiving
 pub mod Dated
 pub mod Dating
 pub mod Room

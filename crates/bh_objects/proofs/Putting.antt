@@ -91,11 +91,9 @@ put_refused at b k bytes old mode found x e =
     let h = has_bucket b old mode found in
     put_shape at b k bytes None None None old mode h refl refl ∙ ap (λ r. ◌>>=◌ {B = Outcome} r (put_then at b k bytes None h.state h.bucket)) e
 
-pub put_failed : {X Y : Type 0} (shown : X → Counts × Counts) (told : Y → Answer) (t : Octets) (at : ℕ) (b k bytes : Octets) (old new : Tables) (mode : BucketState)
-    → mode_in b (view old t) ≡ Ok mode → (error : StepError Refusal)
-    → Decides shown (entry_numbers_in mode b k (length bytes) (view old t)) old new (Err error) → Carries told t (put_object at b k bytes None None) old new (Err error)
-put_failed shown told t at b k bytes old new mode found (Refused x) d = (put_refused at b k bytes (view old t) mode found x d.0, d.1)
-put_failed shown told t at b k bytes old new mode found (Failed trouble) d = tt
+-- it is refused where the checksum that is given is another
+pub put_bad : (at : ℕ) (b k bytes : Octets) (given : Option Octets) (date : Option (Option ℕ)) (v : Option State) (mode : BucketState) → mode_in b v ≡ Ok mode → is_checksum given bytes ≡ false → put_object at b k bytes given date v ≡ Err BadDigest
+put_bad at b k bytes given date v mode found wrong = let h = has_bucket b v mode found in rw (h.added, h.there, wrong) refl
 
 -- the sum that was given, if one was, is right
 pub sum_right : (given : Option Octets) (bytes text : Octets) → sum_given given bytes ≡ Ok text → is_checksum given bytes ≡ true

@@ -1,6 +1,7 @@
 //! S3's buckets and objects over a host's SQL tables.
 #![tactic(auto)]
 
+pub mod bodies;
 pub mod buckets;
 pub mod copies;
 pub mod dates;

@@ -1,113 +1,73 @@
-ghost use Rattle.std.specs.Prelude.{◌≡◌, ◌≤◌, None, Ok, IfOk, OnOk};
+ghost use Rattle.std.specs.Prelude.{◌≡◌, ◌≤◌, ◌<◌, ◌^◌, None, Ok, IfOk, OnOk};
 ghost use Rattle.std.specs.Option.{option_copied};
-ghost use Rattle.std.specs.String.{string_bytes};
-ghost use Rattle.sha2.specs.Sha256.{sha256};
-ghost use Rattle.bh_types.specs.Checksums.{checksum_text};
-ghost use Rattle.bh_model.specs.Entries.{new_id};
+ghost use Rattle.bh_http.specs.Bodies.{IsWhole};
 ghost use Rattle.bh_model.specs.Operations as machine;
 ghost use Rattle.bh_storage.specs.Answers.{stored_answer};
-ghost use Rattle.bh_storage.specs.Calls.{Unless, Carries};
+ghost use Rattle.bh_storage.specs.Calls.{Unless, UnlessSpoilt, Decides, OperatesBy};
 ghost use Rattle.bh_view.specs.Blocks.{AreDigests};
 ghost use Rattle.bh_view.specs.Bodies.{StoresPieces};
-ghost use Rattle.bh_view.specs.Put.{row_number};
-ghost use Rattle.bh_view.specs.View.{view, latest_of};
-ghost use Rattle.bh_schema.specs.Connections.{IsClean, tables, StaysWithin, StaysOpen};
+ghost use Rattle.bh_view.specs.View.{latest_of, view};
+ghost use Rattle.bh_schema.specs.Connections.{IsClean, tables, InTransaction, StaysWithin, StaysOpen, Becomes};
 ghost use Rattle.bh_cache.specs.Kept.{AreCopies};
-ghost use Rattle.bh_schema.specs.Working.{Works, StillWorksBy};
-ghost use Rattle.bh_objects.specs.Found.{Answers, counts_in, mode_in, sum_given};
-ghost use Rattle.bh_objects.specs.Dates.{IsPlaced};
+ghost use Rattle.bh_schema.specs.Working.{Works, StillWorks, StillWorksBy};
+ghost use Rattle.bh_objects.specs.Admitting.{admitted_in, numbers_admitted};
+ghost use Rattle.bh_objects.specs.Found.{mode_in, replaced_in, IsHeld, IsKeyText};
+ghost use Rattle.bh_objects.specs.Refusing.{IsReceived};
+ghost use Rattle.bh_objects.specs.Writes.{object_written};
 
+use crate::bodies::{refused_checked, refused_whole, store_checked};
 use crate::dates::{add_date, new_date};
 use crate::ids::new_id_told;
 use crate::quotas::{NewEntry, new_entry};
-use crate::reads::{Numbers, bucket_state};
+use crate::reads::bucket_state;
 use crate::writes::{NewObject, write_object};
 use bh_cache::blocks::BlockCache;
+use bh_http::body::Body;
 use bh_schema::host::Digester;
 use bh_storage::answer::StoredVersion;
-use bh_storage::error::StepError;
+use bh_storage::error::{Outcome, StepError, Trouble};
 use bh_types::bucket_state::BucketState;
-use bh_types::checksum::{checksum_of_digest, digest_of};
+use bh_types::moment::Moment;
 use bh_types::refusal::Refusal;
 use sqlite::{Alter, Connection};
-use std::alloc::{AllocError, Global};
+use std::alloc::Global;
 
-/// The checksum of some bytes.
-#[derive(Drop)]
-pub struct Checksum {
-    /// Their SHA-256 digest (FIPS 180-4).
-    pub digest: [u8; 32],
-    /// Its base64 (RFC 4648).
-    pub text: String,
+/// What a new version of so many bytes gets, where its request, its bucket and the tenant's quota let it in.
+#[derive(Clone, Copy)]
+pub struct Admitted {
+    /// The date before which it may not be deleted, if it gets one.
+    pub until: Option<Moment>,
+    pub entry: NewEntry,
 }
 
-fn sum_of(alloc: Global, bytes: &[u8]) -> Result<Checksum, AllocError>
-    ensures digest { IfOk result (λ sum. sum.digest ≡ sha256 bytes.now) }
-    ensures text { IfOk result (λ sum. string_bytes sum.text ≡ checksum_text bytes.now) }
-{
-    let digest = digest_of(bytes);
-    let text = checksum_of_digest(alloc, &digest)?;
-    Ok(Checksum { digest, text })
-}
-
-/// The checksum of an object's bytes: BadDigest where another text is given.
-pub fn checked_sum(
-    alloc: Global,
-    bytes: &[u8],
-    given: Option<&[u8]>,
-) -> Result<Checksum, StepError<Refusal>>
-    ensures answers { Answers (λ sum. string_bytes sum.text) (sum_given (option_copied given.entry) bytes.now) result }
-    ensures digest { IfOk result (λ sum. sum.digest ≡ sha256 bytes.now) }
-    ensures text { IfOk result (λ sum. string_bytes sum.text ≡ checksum_text bytes.now) }
-{
-    let checksum = sum_of(alloc, bytes)?;
-    let Some(text) = given else {
-        return Ok(checksum);
-    };
-    if text == checksum.text.as_str().as_bytes() {
-        Ok(checksum)
-    } else {
-        Err(StepError::Refused(Refusal::BadDigest))
-    }
-}
-
-/// Stores an object as a new version without a date, in a bucket of this state and with this checksum: QuotaExceeded,
-/// CounterExhausted. The bytes are stored in blocks of at most this size.
-fn store_object<S: Alter, D: Digester>(
+/// What a new version of so many bytes gets in a bucket of this state: InvalidRequest, InvalidArgument, QuotaExceeded,
+/// CounterExhausted.
+fn admit<S: Alter>(
     connection: &mut Connection<S>,
-    cache: &BlockCache,
-    digester: &D,
-    block_size: u64,
     object: &NewObject<'_>,
     mode: BucketState,
-    checksum: &Checksum,
-) -> Result<Numbers, StepError<Refusal>>
+    size: u64,
+) -> Result<Admitted, StepError<Refusal>>
     requires working { Works S.Store connection.old }
-    requires copies { IsClean S.Store connection.old → AreCopies cache.now (tables S.Store connection.old).blocks }
-    requires digests { IsClean S.Store connection.old → AreDigests D.digest_of (tables S.Store connection.old).blocks }
-    requires positive { 1 ≤ block_size }
-    requires early { IsClean S.Store connection.old → object.now.at ≤ latest_of (tables S.Store connection.old) }
-    requires state { IsClean S.Store connection.old
+    requires mode { IsClean S.Store connection.old
         → mode_in object.now.bucket.now (view (tables S.Store connection.old) object.now.tenant.now) ≡ Ok mode }
-    requires digest { checksum.now.digest ≡ sha256 object.now.bytes.now }
-    requires text { string_bytes checksum.now.text ≡ checksum_text object.now.bytes.now }
     ensures within { StaysWithin S.Store connection.old connection.new }
     ensures opens { Unless result (StaysOpen S.Store connection.old connection.new) }
-    ensures working { Unless result (StillWorksBy S.Store D.digest_of connection.old connection.new) }
-    ensures carries { IsClean S.Store connection.new
-        → Carries (λ numbers. machine.Stored (machine.id_told mode (new_id mode numbers.before.version))
-        (checksum_text object.now.bytes.now))
-        object.now.tenant.now (machine.put_object object.now.at object.now.bucket.now object.now.key.now object.now.bytes.now None None)
+    ensures working { Unless result (StillWorks S.Store connection.old connection.new) }
+    ensures decides { IsClean S.Store connection.new
+        → Decides numbers_admitted (admitted_in mode object.now.bucket.now object.now.key.now object.now.date object.now.at size
+        (view (tables S.Store connection.old) object.now.tenant.now))
         (tables S.Store connection.old) (tables S.Store connection.new) result }
-    ensures blocks { OnOk result (IsClean S.Store connection.new
-        → StoresPieces D.digest_of block_size object.now.bytes.now (tables S.Store connection.old) (tables S.Store connection.new)) }
-    ensures counted { IfOk result (λ numbers. IsClean S.Store connection.new
-        → counts_in (view (tables S.Store connection.old) object.now.tenant.now) ≡ Ok numbers.before) }
-    ensures placed { IfOk result (λ numbers. IsClean S.Store connection.new
-        → IsPlaced object.now.tenant.now object.now.bucket.now object.now.key.now
-        (row_number mode numbers.before.version) numbers.before.entry (tables S.Store connection.new)) }
+    ensures replaced { IfOk result (λ it. IsClean S.Store connection.new
+        → it.entry.replaced ≡ replaced_in mode object.now.tenant.now object.now.bucket.now object.now.key.now (tables S.Store connection.old)) }
 {
-    let size = object.bytes.len() as u64;
+    let until = new_date(
+        connection,
+        object.tenant,
+        object.bucket,
+        object.date,
+        object.at,
+    )?;
     let entry = new_entry(
         connection,
         object.tenant,
@@ -116,17 +76,12 @@ fn store_object<S: Alter, D: Digester>(
         mode,
         size,
     )?;
-    let NewEntry { numbers, .. } = entry;
-    write_object(
-        connection, cache, digester, block_size, object, mode, entry, checksum,
-    )?;
-    Ok(numbers)
+    Ok(Admitted { until, entry })
 }
 
-/// S3's PutObject, at a moment that is not after the last stamp, where the request may say which checksum the bytes have:
-/// NoSuchBucket, BadDigest, InvalidRequest, InvalidArgument, QuotaExceeded, CounterExhausted. The bytes are stored in blocks
-/// of at most this size.
-pub fn put_object<S: Alter, D: Digester>(
+/// Stores an object without a date as its bytes come, as an entry of a bucket of this state, and gives their checksum:
+/// BadDigest where another is given, with the rows that were written.
+fn store_object<S: Alter, D: Digester, B: Body>(
     connection: &mut Connection<S>,
     cache: &BlockCache,
     alloc: Global,
@@ -134,38 +89,160 @@ pub fn put_object<S: Alter, D: Digester>(
     block_size: u64,
     object: &NewObject<'_>,
     given: Option<&[u8]>,
-) -> Result<StoredVersion, StepError<Refusal>>
+    mode: BucketState,
+    entry: NewEntry,
+    body: &mut B,
+) -> Result<Outcome<String, Refusal>, Trouble>
+    requires inside { InTransaction S.Store connection.old }
+    requires copies { IsClean S.Store connection.old → AreCopies cache.now (tables S.Store connection.old).blocks }
+    requires positive { 1 ≤ block_size }
+    requires going { (B.coming body.old).broken ≡ None }
+    requires held { IsClean S.Store connection.old
+        → IsHeld object.now.tenant.now object.now.bucket.now object.now.key.now entry.replaced (tables S.Store connection.old) }
+    ensures within { StaysWithin S.Store connection.old connection.new }
+    ensures opens { OnOk result (StaysOpen S.Store connection.old connection.new) }
+    ensures received { IsReceived result (B.coming body.old) (B.coming body.new) (option_copied given.entry)
+        (λ bytes. IsKeyText object.now.key.now × Becomes S.Store connection.old connection.new
+        (object_written D.digest_of block_size mode entry.numbers.before entry.numbers.after entry.replaced
+        object.now.tenant.now object.now.bucket.now object.now.key.now object.now.at bytes)) }
+{
+    let size = body.due();
+    let tenant = object.tenant.as_str();
+    let number = entry.numbers.before.entry;
+    let outcome = store_checked(
+        connection, cache, alloc, digester, block_size, tenant, number, given, body,
+    )?;
+    match outcome {
+        Outcome::Done(text) => {
+            write_object(connection, object, mode, entry, size, text.as_str())?;
+            Ok(Outcome::Done(text))
+        }
+        Outcome::Spoilt(refusal) => Ok(Outcome::Spoilt(refusal)),
+    }
+}
+
+/// Stores an object that is let in as its bytes come, and its date.
+fn store_admitted<S: Alter, D: Digester, B: Body>(
+    connection: &mut Connection<S>,
+    cache: &BlockCache,
+    alloc: Global,
+    digester: &D,
+    block_size: u64,
+    object: &NewObject<'_>,
+    given: Option<&[u8]>,
+    mode: BucketState,
+    admitted: Admitted,
+    body: &mut B,
+) -> Result<Outcome<StoredVersion, Refusal>, StepError<Refusal>>
     requires working { Works S.Store connection.old }
     requires copies { IsClean S.Store connection.old → AreCopies cache.now (tables S.Store connection.old).blocks }
     requires digests { IsClean S.Store connection.old → AreDigests D.digest_of (tables S.Store connection.old).blocks }
     requires positive { 1 ≤ block_size }
     requires early { IsClean S.Store connection.old → object.now.at ≤ latest_of (tables S.Store connection.old) }
+    requires going { (B.coming body.old).broken ≡ None }
+    requires mode { IsClean S.Store connection.old
+        → mode_in object.now.bucket.now (view (tables S.Store connection.old) object.now.tenant.now) ≡ Ok mode }
+    requires admitted { IsClean S.Store connection.old
+        → admitted_in mode object.now.bucket.now object.now.key.now object.now.date object.now.at (B.coming body.old).due
+        (view (tables S.Store connection.old) object.now.tenant.now) ≡ Ok (numbers_admitted admitted) }
+    requires replaced { IsClean S.Store connection.old
+        → admitted.entry.replaced ≡ replaced_in mode object.now.tenant.now object.now.bucket.now object.now.key.now (tables S.Store connection.old) }
     ensures within { StaysWithin S.Store connection.old connection.new }
-    ensures opens { Unless result (StaysOpen S.Store connection.old connection.new) }
-    ensures working { Unless result (StillWorksBy S.Store D.digest_of connection.old connection.new) }
-    ensures carries { IsClean S.Store connection.new
-        → Carries stored_answer object.now.tenant.now
-        (machine.put_object object.now.at object.now.bucket.now object.now.key.now object.now.bytes.now (option_copied given.entry)
-        object.now.date)
+    ensures opens { UnlessSpoilt result (StaysOpen S.Store connection.old connection.new) }
+    ensures working { UnlessSpoilt result (StillWorksBy S.Store D.digest_of connection.old connection.new) }
+    ensures operates { OperatesBy stored_answer object.now.tenant.now
+        (λ bytes. machine.put_object object.now.at object.now.bucket.now object.now.key.now bytes (option_copied given.entry) object.now.date)
+        (λ bytes. StoresPieces D.digest_of block_size bytes (tables S.Store connection.old) (tables S.Store connection.new))
+        (IsClean S.Store connection.new) (B.coming body.old) (B.coming body.new)
         (tables S.Store connection.old) (tables S.Store connection.new) result }
-    ensures blocks { OnOk result (IsClean S.Store connection.new
-        → StoresPieces D.digest_of block_size object.now.bytes.now (tables S.Store connection.old) (tables S.Store connection.new)) }
 {
-    let mode = bucket_state(connection, object.tenant, object.bucket)?;
-    let checksum = checked_sum(alloc, object.bytes, given)?;
-    let until = new_date(
-        connection,
-        object.tenant,
-        object.bucket,
-        object.date,
-        object.at,
+    let Admitted { until, entry } = admitted;
+    let numbers = entry.numbers;
+    let outcome = store_object(
+        connection, cache, alloc, digester, block_size, object, given, mode, entry, body,
     )?;
-    let numbers = store_object(
-        connection, cache, digester, block_size, object, mode, &checksum,
-    )?;
-    add_date(connection, object.tenant, numbers.before.entry, until)?;
-    Ok(StoredVersion {
-        id: new_id_told(mode, numbers.before.version),
-        checksum: checksum.text,
-    })
+    match outcome {
+        Outcome::Done(checksum) => {
+            add_date(connection, object.tenant, numbers.before.entry, until)?;
+            let id = new_id_told(mode, numbers.before.version);
+            Ok(Outcome::Done(StoredVersion { id, checksum }))
+        }
+        Outcome::Spoilt(refusal) => Ok(Outcome::Spoilt(refusal)),
+    }
+}
+
+/// Puts an object into a bucket of this state.
+fn put_into<S: Alter, D: Digester, B: Body>(
+    connection: &mut Connection<S>,
+    cache: &BlockCache,
+    alloc: Global,
+    digester: &D,
+    block_size: u64,
+    object: &NewObject<'_>,
+    given: Option<&[u8]>,
+    mode: BucketState,
+    body: &mut B,
+) -> Result<Outcome<StoredVersion, Refusal>, StepError<Refusal>>
+    requires working { Works S.Store connection.old }
+    requires copies { IsClean S.Store connection.old → AreCopies cache.now (tables S.Store connection.old).blocks }
+    requires digests { IsClean S.Store connection.old → AreDigests D.digest_of (tables S.Store connection.old).blocks }
+    requires positive { 1 ≤ block_size }
+    requires early { IsClean S.Store connection.old → object.now.at ≤ latest_of (tables S.Store connection.old) }
+    requires going { (B.coming body.old).broken ≡ None }
+    requires mode { IsClean S.Store connection.old
+        → mode_in object.now.bucket.now (view (tables S.Store connection.old) object.now.tenant.now) ≡ Ok mode }
+    ensures within { StaysWithin S.Store connection.old connection.new }
+    ensures opens { UnlessSpoilt result (StaysOpen S.Store connection.old connection.new) }
+    ensures working { UnlessSpoilt result (StillWorksBy S.Store D.digest_of connection.old connection.new) }
+    ensures operates { OperatesBy stored_answer object.now.tenant.now
+        (λ bytes. machine.put_object object.now.at object.now.bucket.now object.now.key.now bytes (option_copied given.entry) object.now.date)
+        (λ bytes. StoresPieces D.digest_of block_size bytes (tables S.Store connection.old) (tables S.Store connection.new))
+        (IsClean S.Store connection.new) (B.coming body.old) (B.coming body.new)
+        (tables S.Store connection.old) (tables S.Store connection.new) result }
+{
+    match admit(connection, object, mode, body.due()) {
+        Ok(admitted) => store_admitted(
+            connection, cache, alloc, digester, block_size, object, given, mode, admitted, body,
+        ),
+        Err(StepError::Refused(refusal)) => Err(refused_checked(alloc, body, given, refusal)),
+        Err(StepError::Failed(trouble)) => Err(StepError::Failed(trouble)),
+    }
+}
+
+/// S3's PutObject, at a moment that is not after the last stamp, where the request may say which checksum the bytes have:
+/// NoSuchBucket, BadDigest, InvalidRequest, InvalidArgument, QuotaExceeded, CounterExhausted. The bytes are stored as they
+/// come, in blocks of at most this size. Where the head alone decides a refusal they are only counted, and hashed if a
+/// checksum is given.
+pub fn put_object<S: Alter, D: Digester, B: Body>(
+    connection: &mut Connection<S>,
+    cache: &BlockCache,
+    alloc: Global,
+    digester: &D,
+    block_size: u64,
+    object: &NewObject<'_>,
+    given: Option<&[u8]>,
+    body: &mut B,
+) -> Result<Outcome<StoredVersion, Refusal>, StepError<Refusal>>
+    requires working { Works S.Store connection.old }
+    requires copies { IsClean S.Store connection.old → AreCopies cache.now (tables S.Store connection.old).blocks }
+    requires digests { IsClean S.Store connection.old → AreDigests D.digest_of (tables S.Store connection.old).blocks }
+    requires positive { 1 ≤ block_size }
+    requires early { IsClean S.Store connection.old → object.now.at ≤ latest_of (tables S.Store connection.old) }
+    requires going { (B.coming body.old).broken ≡ None }
+    ensures within { StaysWithin S.Store connection.old connection.new }
+    ensures opens { UnlessSpoilt result (StaysOpen S.Store connection.old connection.new) }
+    ensures working { UnlessSpoilt result (StillWorksBy S.Store D.digest_of connection.old connection.new) }
+    ensures operates { OperatesBy stored_answer object.now.tenant.now
+        (λ bytes. machine.put_object object.now.at object.now.bucket.now object.now.key.now bytes (option_copied given.entry) object.now.date)
+        (λ bytes. StoresPieces D.digest_of block_size bytes (tables S.Store connection.old) (tables S.Store connection.new))
+        (IsClean S.Store connection.new) (B.coming body.old) (B.coming body.new)
+        (tables S.Store connection.old) (tables S.Store connection.new) result }
+{
+    match bucket_state(connection, object.tenant, object.bucket) {
+        Ok(mode) => put_into(
+            connection, cache, alloc, digester, block_size, object, given, mode, body,
+        ),
+        Err(StepError::Refused(refusal)) => Err(refused_whole(body, refusal)),
+        Err(StepError::Failed(trouble)) => Err(StepError::Failed(trouble)),
+    }
 }

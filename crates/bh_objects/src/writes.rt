@@ -6,7 +6,6 @@ ghost use Rattle.bh_types.specs.Checksums.{checksum_text};
 ghost use Rattle.bh_model.specs.State.{Content.Marker, Content.Body};
 ghost use Rattle.bh_tables.specs.Shown.{is_tenant};
 ghost use Rattle.bh_schema.specs.Connections.{IsClean, tables, InTransaction, StaysWithin, StaysOpen, Becomes};
-ghost use Rattle.bh_cache.specs.Kept.{AreCopies};
 ghost use Rattle.bh_schema.specs.Written.{bytes_of_id, with_version as row_added};
 ghost use Rattle.bh_objects.specs.Found.{IsKeyText, IsHeld};
 ghost use Rattle.bh_objects.specs.Writes.{with_counters, without_entry, without_null, without_null_version, without_replaced, with_room, with_version, with_columns};
@@ -14,12 +13,9 @@ ghost use Rattle.bh_objects.specs.Writes.{object_written, marker_written};
 
 use crate::heads::{is_marker, numbered_head};
 use crate::ids::row_number;
-use crate::objects::Checksum;
 use crate::quotas::{NewEntry, Replaced, as_replaced};
 use crate::reads::Numbers;
-use bh_blocks::bodies::{drop_body, store_body};
-use bh_cache::blocks::BlockCache;
-use bh_schema::host::Digester;
+use bh_blocks::bodies::drop_body;
 use bh_schema::rows;
 use bh_schema::rows::versions::{NewMarker, NewVersion};
 use bh_schema::trouble::or_trouble;
@@ -35,7 +31,7 @@ use sqlite::{Alter, Connection, Error};
 /// No object has so many bytes, so that a sum with those that are used is one of 64 bits.
 const SIZE_END: u64 = 1 << 62;
 
-/// An object that is sent whole.
+/// An object that is sent. Its bytes come beside it.
 #[derive(Clone, Copy)]
 pub struct NewObject<'a> {
     pub tenant: &'a TenantName,
@@ -43,7 +39,6 @@ pub struct NewObject<'a> {
     pub key: &'a ObjectKey,
     /// When it is stored.
     pub at: Moment,
-    pub bytes: &'a [u8],
     /// Until when it is kept, where that is given; the inner `None` is a date that is not given as it should be.
     pub date: Option<Option<Moment>>,
 }
@@ -293,71 +288,28 @@ fn add_row<S: Alter>(
     }
 }
 
-/// The row of an object that is sent whole.
-fn add_object<S: Alter>(
+/// Puts an object whose body is stored into a bucket of this state, as a new entry: what it replaces goes, and its row
+/// comes with the counters.
+pub fn write_object<S: Alter>(
     connection: &mut Connection<S>,
-    object: &NewObject<'_>,
-    mode: BucketState,
-    numbers: Numbers,
-    checksum: &str,
-) -> Result<(), Trouble>
-    requires inside { InTransaction S.Store connection.old }
-    requires checksum { checksum.now ≡ checksum_text object.now.bytes.now }
-    ensures within { StaysWithin S.Store connection.old connection.new }
-    ensures opens { OnOk result (StaysOpen S.Store connection.old connection.new) }
-    ensures holds { OnOk result (Becomes S.Store connection.old connection.new
-        (λ rows. with_columns mode numbers.before object.now.tenant.now object.now.bucket.now object.now.key.now object.now.at
-        (Body object.now.bytes.now (checksum_text object.now.bytes.now)) (with_counters mode numbers.after object.now.tenant.now rows))) }
-    ensures key { OnOk result (IsKeyText object.now.key.now) }
-{
-    let version = AddedVersion {
-        tenant: object.tenant,
-        bucket: object.bucket,
-        key: object.key,
-        at: object.at,
-        size: object.bytes.len() as u64,
-        checksum,
-    };
-    add_version(connection, &version, mode, numbers)
-}
-
-/// Puts an object into a bucket of this state, as a new entry, with its checksum: its body, in blocks of at most this
-/// size, before what it replaces goes, and then its row with the counters.
-pub fn write_object<S: Alter, D: Digester>(
-    connection: &mut Connection<S>,
-    cache: &BlockCache,
-    digester: &D,
-    block_size: u64,
     object: &NewObject<'_>,
     mode: BucketState,
     entry: NewEntry,
-    checksum: &Checksum,
+    size: u64,
+    checksum: &str,
 ) -> Result<(), Trouble>
     requires inside { InTransaction S.Store connection.old }
-    requires copies { IsClean S.Store connection.old → AreCopies cache.now (tables S.Store connection.old).blocks }
-    requires positive { 1 ≤ block_size }
-    requires digest { checksum.now.digest ≡ sha256 object.now.bytes.now }
-    requires checksum { string_bytes checksum.now.text ≡ checksum_text object.now.bytes.now }
     requires held { IsClean S.Store connection.old
         → IsHeld object.now.tenant.now object.now.bucket.now object.now.key.now entry.replaced (tables S.Store connection.old) }
     ensures within { StaysWithin S.Store connection.old connection.new }
     ensures opens { OnOk result (StaysOpen S.Store connection.old connection.new) }
     ensures holds { OnOk result (Becomes S.Store connection.old connection.new
-        (object_written D.digest_of block_size mode entry.numbers.before entry.numbers.after entry.replaced
-        object.now.tenant.now object.now.bucket.now object.now.key.now object.now.at object.now.bytes.now)) }
+        (λ rows. with_version mode entry.numbers.before object.now.tenant.now object.now.bucket.now object.now.key.now object.now.at size checksum.now
+        (with_counters mode entry.numbers.after object.now.tenant.now
+        (without_replaced object.now.tenant.now object.now.bucket.now object.now.key.now entry.replaced rows)))) }
     ensures key { OnOk result (IsKeyText object.now.key.now) }
 {
     let NewEntry { numbers, replaced } = entry;
-    or_trouble(store_body(
-        connection,
-        cache,
-        digester,
-        block_size,
-        object.tenant.as_str(),
-        numbers.before.entry,
-        object.bytes,
-        &checksum.digest,
-    ))?;
     drop_replaced(
         connection,
         object.tenant,
@@ -365,7 +317,15 @@ pub fn write_object<S: Alter, D: Digester>(
         object.key,
         replaced,
     )?;
-    add_object(connection, object, mode, numbers, checksum.text.as_str())
+    let version = AddedVersion {
+        tenant: object.tenant,
+        bucket: object.bucket,
+        key: object.key,
+        at: object.at,
+        size,
+        checksum,
+    };
+    add_version(connection, &version, mode, numbers)
 }
 
 fn add_marker<S: Alter>(

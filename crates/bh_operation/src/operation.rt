@@ -1,6 +1,6 @@
-ghost use Rattle.std.specs.Prelude.{◌≡◌, true, is_some, Some};
+ghost use Rattle.std.specs.Prelude.{◌≡◌, ℕ, List, true, is_some, Some};
 ghost use Rattle.bh_types.specs.Outcomes.{Gives};
-ghost use Rattle.bh_http.specs.Views.{pairs_of, view};
+ghost use Rattle.bh_http.specs.Views.{pairs_of, with_body};
 ghost use Rattle.bh_operation.specs.Operations as spec;
 
 use crate::action::{BucketAction, Method, ObjectAction, bucket_action, method_of, object_action};
@@ -16,7 +16,7 @@ use crate::routes::Routes;
 use crate::source::{Source, source_in};
 use crate::target::{Target, routed, split_target, target_at};
 use crate::text::{Bytes, Text};
-use bh_http::request::{Field, Request};
+use bh_http::request::{Field, Head};
 use bh_types::bucket::BucketName;
 use bh_types::error::RequestError;
 use bh_types::id::UploadId;
@@ -446,7 +446,7 @@ fn supported_operation(
     operation_at(asked, method, target, selector)
 }
 
-/// The operation that a request of a caller asks for, or its first refusal, in this order:
+/// The operation that a request of a caller asks for by its head, whatever its body, or its first refusal, in this order:
 ///
 /// - InvalidUri for a path that has no route or does not decode,
 /// - InvalidArgument for a parameter that the host knows and that is given twice,
@@ -458,12 +458,12 @@ fn supported_operation(
 pub fn operation_of(
     alloc: Global,
     routes: &Routes,
-    request: &Request,
+    head: &Head,
     caller: &TenantName,
 ) -> Result<Operation, RequestError>
-    ensures { Gives (λ x. x) result (spec.operation caller.now (view request.now)) }
+    ensures { (body : List ℕ) → Gives (λ x. x) result (spec.operation caller.now (with_body head.now body)) }
 {
-    let (path, query) = split_target(request.target);
+    let (path, query) = split_target(head.target);
     let kind = routed(routes, path)?;
     let target = target_at(alloc, kind, path)?;
     let parameters = parameters_in(alloc, query)?;
@@ -471,7 +471,7 @@ pub fn operation_of(
         alloc,
         caller,
         parameters: parameters.as_slice(),
-        fields: request.fields.as_slice(),
+        fields: head.fields.as_slice(),
     };
-    supported_operation(&asked, request.method, target)
+    supported_operation(&asked, head.method, target)
 }

@@ -2,7 +2,7 @@
 ghost use Rattle.std.specs.Prelude.{◌≡◌, ◌++◌, ◌∷◌, ℕ, List, [], false, vec_items, IfOk, IfErr, OnOk};
 ghost use Rattle.std.specs.Option.{option_map};
 ghost use Rattle.bh_link.specs.Taking.{is_fault};
-ghost use Rattle.bh_link.specs.Transfers.{Gives};
+ghost use Rattle.bh_http.specs.Transfers.{Gives};
 ghost use Rattle.bh_operator.specs.Lines.{TookLine, TookPart};
 
 use bh_link::ends::Source;

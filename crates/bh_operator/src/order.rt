@@ -2,7 +2,7 @@
 ghost use Rattle.std.specs.Prelude.{◌≡◌, ◌<◌, ◌==◌, ◌++◌, ℕ, List, codes, false, length, position, vec_items, IfOk, IfErr, IfSome, OnOk, option_map, option_and_then};
 ghost use Rattle.bh_event.specs.Events.{arrival};
 ghost use Rattle.bh_link.specs.Taking.{is_fault};
-ghost use Rattle.bh_link.specs.Transfers.{Gives};
+ghost use Rattle.bh_http.specs.Transfers.{Gives};
 ghost use Rattle.bh_operator.specs.Lines.{TookPart};
 ghost use Rattle.bh_operator.specs.Orders as spec;
 

@@ -11,6 +11,9 @@ use Rattle.bh_view.specs.View.{view, latest_of, limits_in, with_latest, rows_pur
 use Rattle.bh_storage.specs.Reports.{sweep_counts, store_counts, tenant_view, tenants_told}
 use Rattle.bh_storage.specs.declared.report.SweepReport.{SweepReport}
 use Rattle.bh_storage.specs.declared.report.StoreReport.{StoreReport}
+use Rattle.bh_http.specs.Bodies.{Coming, Gives, IsWhole, MayBreak}
+use Rattle.bh_storage.specs.declared.error.Outcome.{Outcome}
+use Rattle.bh_storage.specs.declared.error.Outcome.TheVariants.{Done, Spoilt}
 use Rattle.bh_storage.specs.declared.report.TenantReport.{TenantReport}
 use Rattle.bh_storage.specs.declared.error.StepError.{StepError}
 use Rattle.bh_storage.specs.declared.error.StepError.TheVariants.{Refused, Failed}
@@ -110,6 +113,49 @@ abbrev pub Carries : {X Y E : Type 0} → (X → Y) → Octets → (Option State
 Carries shown t step old new (Ok x) = GivesStep t step (shown x) old new
 Carries shown t step old new (Err (Refused r)) = (step (view old t) ≡ Err r) × (new ≡ old)
 Carries shown t step old new (Err (Failed trouble)) = Unit {0}
+
+-- ---- a step whose body comes in pieces
+
+-- unless memory or the store was wanting, the body did not come whole, or the tables are spoilt
+abbrev pub UnlessSpoilt : {X E : Type 0} → Result (Outcome X E) (StepError E) → Type 0 → Type 0
+UnlessSpoilt (Ok (Done x)) P = P
+UnlessSpoilt (Ok (Spoilt r)) P = Unit {0}
+UnlessSpoilt (Err (Refused r)) P = P
+UnlessSpoilt (Err (Failed trouble)) P = Unit {0}
+
+-- the machine's step gives the answer and the state; or it is refused, and the tables are as they were, or are to be taken back
+abbrev pub Receives : {X Y E : Type 0} → (X → Y) → Octets → (Option State → Result (Y × Option State) E) → Tables → Tables → Result (Outcome X E) (StepError E) → Type 0
+Receives shown t step old new (Ok (Done x)) = GivesStep t step (shown x) old new
+Receives shown t step old new (Ok (Spoilt r)) = step (view old t) ≡ Err r
+Receives shown t step old new (Err (Refused r)) = (step (view old t) ≡ Err r) × (new ≡ old)
+Receives shown t step old new (Err (Failed trouble)) = Unit {0}
+
+-- wherever a step is decided, all of its body came
+abbrev pub IsDecided : {X E : Type 0} → Result (Outcome X E) (StepError E) → Coming → Type 0
+IsDecided (Ok outcome) body = IsWhole body
+IsDecided (Err (Refused r)) body = IsWhole body
+IsDecided (Err (Failed trouble)) body = MayBreak body
+
+-- some bytes of a body came, by which the step is judged
+pub record Operates {X Y E : Type 0} (shown : X → Y) (t : Octets) (step : Octets → Option State → Result (Y × Option State) E) (clean : Type 0) (before after : Coming) (old new : Tables) (result : Result (Outcome X E) (StepError E)) : Type 0 where
+  pub given : Octets
+  pub gives : Gives before after given
+  pub decided : IsDecided result after
+  pub carries : clean → Receives shown t (step given) old new result
+
+-- where a step is done
+abbrev pub IfDone : {X E : Type 0} → Result (Outcome X E) (StepError E) → Type 0 → Type 0
+IfDone (Ok (Done x)) P = P
+IfDone (Ok (Spoilt r)) P = Unit {0}
+IfDone (Err e) P = Unit {0}
+
+-- the same, and more is said of the bytes that came, where it is done
+pub record OperatesBy {X Y E : Type 0} (shown : X → Y) (t : Octets) (step : Octets → Option State → Result (Y × Option State) E) (Says : Octets → Type 0) (clean : Type 0) (before after : Coming) (old new : Tables) (result : Result (Outcome X E) (StepError E)) : Type 0 where
+  pub given : Octets
+  pub gives : Gives before after given
+  pub decided : IsDecided result after
+  pub carries : clean → Receives shown t (step given) old new result
+  pub says : IfDone result (clean → Says given)
 
 -- a question, which changes nothing
 abbrev pub Decides : {X Y E : Type 0} → (X → Y) → Result Y E → Tables → Tables → Result X (StepError E) → Type 0

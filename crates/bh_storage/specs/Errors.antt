@@ -4,13 +4,21 @@ use Rattle.bh_types.specs.declared.error.RequestError.{RequestError}
 use Rattle.bh_types.specs.declared.error.RequestError.TheVariants as request
 use Rattle.bh_types.specs.declared.refusal.Refusal.{Refusal}
 use Rattle.bh_types.specs.declared.rejection.Rejection.{Rejection}
-use Rattle.bh_storage.specs.declared.error.Trouble.TheVariants.{Memory}
+use Rattle.bh_http.specs.declared.body.CollectError.{CollectError}
+use Rattle.bh_http.specs.declared.body.CollectError.TheVariants as collect
+use Rattle.bh_storage.specs.declared.error.Trouble.{Trouble}
+use Rattle.bh_storage.specs.declared.error.Trouble.TheVariants.{Memory, Body}
 use Rattle.bh_storage.specs.declared.error.StepError.{StepError}
 use Rattle.bh_storage.specs.declared.error.StepError.TheVariants.{Refused, Failed}
 
 abbrev pub request_rejected : RequestError → StepError Rejection
 request_rejected (request.Refused refusal) = Refused (plain refusal)
 request_rejected request.OutOfMemory = Failed Memory
+
+-- why a body was not taken whole, as trouble
+abbrev pub uncollected : CollectError → Trouble
+uncollected (collect.Broken cause) = Body
+uncollected collect.OutOfMemory = Memory
 
 abbrev pub step_rejected : StepError Refusal → StepError Rejection
 step_rejected (Refused refusal) = Refused (plain refusal)

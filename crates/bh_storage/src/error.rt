@@ -1,3 +1,4 @@
+use bh_http::body::{Break, CollectError};
 use bh_types::error::RequestError;
 use bh_types::refusal::Refusal;
 use bh_types::rejection::Rejection;
@@ -14,6 +15,8 @@ pub enum Trouble {
     StoreRefused(ErrorCode),
     /// What the store gave can't be read, or it failed without a code.
     Store,
+    /// The body of a request did not come whole.
+    Body,
 }
 
 /// One word, with the name of the store's code.
@@ -23,6 +26,7 @@ impl fmt::Display for Trouble {
             Trouble::Memory => f.write_str("memory"),
             Trouble::StoreRefused(code) => write!(f, "store={code:?}"),
             Trouble::Store => f.write_str("store"),
+            Trouble::Body => f.write_str("body"),
         }
     }
 }
@@ -38,12 +42,47 @@ impl From<AllocError> for Trouble {
     }
 }
 
+impl From<Break> for Trouble {
+    ghost use Rattle.std.specs.Prelude.{◌≡◌};
+    ghost use Rattle.bh_storage.specs.declared.error.Trouble.TheVariants.{Body};
+
+    ghost from_gives = { λ _ e. e ≡ Body };
+
+    fn from(_cause: Break) -> Trouble {
+        Trouble::Body
+    }
+}
+
+impl From<CollectError> for Trouble {
+    ghost use Rattle.bh_storage.specs.Errors.{uncollected};
+    ghost use Rattle.std.specs.Prelude.{◌≡◌};
+
+    ghost from_gives = { λ error e. e ≡ uncollected error };
+
+    fn from(error: CollectError) -> Trouble {
+        match error {
+            CollectError::Broken(_) => Trouble::Body,
+            CollectError::OutOfMemory => Trouble::Memory,
+        }
+    }
+}
+
+/// What a step came to that was not refused outright.
+#[derive(Drop)]
+pub enum Outcome<T, E> {
+    Done(T),
+    /// A refusal that came to light when rows were written: of the rows nothing is said until the transaction is taken
+    /// back.
+    Spoilt(E),
+}
+
 /// Why a step of a tenant gave nothing: refused for a reason `E`, or for want of memory or the store.
 #[derive(Clone, Copy, PartialEq, Eq)]
 pub enum StepError<E> {
     /// A numbered refusal: the tables are as they were.
     Refused(E),
-    /// Memory or the store was wanting: of the rows nothing is said until the transaction is taken back.
+    /// Memory or the store was wanting, or the body did not come whole: of the rows nothing is said until the transaction
+    /// is taken back.
     Failed(Trouble),
 }
 

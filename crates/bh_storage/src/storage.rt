@@ -1,4 +1,4 @@
-ghost use Rattle.std.specs.Prelude.{◌≡◌, ◌⊎◌, ◌≤◌, IfOk, OnOk, OnErr};
+ghost use Rattle.std.specs.Prelude.{◌≡◌, ◌⊎◌, ◌≤◌, None, IfOk, OnOk, OnErr};
 ghost use Rattle.bh_event.specs.Events.{order_of, tenant_of};
 ghost use Rattle.bh_machine.specs.Machine.{operated, ordered};
 ghost use Rattle.bh_model.specs.Credentials as machine;
@@ -6,12 +6,13 @@ ghost use Rattle.bh_model.specs.Runs.{last_reading};
 ghost use Rattle.bh_tables.specs.Typed.{Tables};
 ghost use Rattle.bh_view.specs.View.{view, latest_of};
 ghost use Rattle.bh_storage.specs.Answers.{answer_view};
-ghost use Rattle.bh_storage.specs.Calls.{Seen, Clean, Within, StaysAtWork, LeavesNothingNew, IsAtRest, IsWorking, Commits, TakesBack, Unless, Stamps, Purges, Carries, Decides, Sweeps, Reports, Lists};
+ghost use Rattle.bh_storage.specs.Calls.{Seen, Clean, Within, StaysAtWork, LeavesNothingNew, IsAtRest, IsWorking, Commits, TakesBack, Unless, UnlessSpoilt, Stamps, Purges, Operates, Carries, Decides, Sweeps, Reports, Lists};
 
 use crate::answer::Answer;
-use crate::error::{StepError, Trouble};
+use crate::error::{Outcome, StepError, Trouble};
 use crate::report::{StoreReport, SweepReport, TenantReport};
 use bh_event::event::Command;
+use bh_http::body::Body;
 use bh_operation::operation::Operation;
 use bh_types::access_key::AccessKeyId;
 use bh_types::limits::Limits;
@@ -101,21 +102,22 @@ pub trait Storage {
         ensures decides { Clean IsIntact IsOpen self.new
             → Decides (λ _. tt) (machine.authenticate key.now secret.now (view (seen self.old).now key.now.tenant)) (seen self.old).now (seen self.new).now result };
 
-    /// Carries out an operation of a tenant, at a moment that is not after the last stamp.
-    fn operate(
+    /// Carries out an operation of a tenant, at a moment that is not after the last stamp. Its body comes as it is wanted, and
+    /// all of it comes wherever the operation is decided.
+    fn operate<B: Body>(
         &mut self,
         alloc: Global,
         tenant: &TenantName,
         at: Moment,
         operation: &Operation,
-        body: &[u8],
-    ) -> Result<Answer, StepError<Rejection>>
+        body: &mut B,
+    ) -> Result<Outcome<Answer, Rejection>, StepError<Rejection>>
+        requires going { (B.coming body.old).broken ≡ None }
         requires working { Clean IsIntact IsOpen self.old → IsWorking IsSoundStore (seen self.old) }
         requires early { Clean IsIntact IsOpen self.old → at ≤ latest_of (seen self.old).now }
-        ensures goes_on { StaysAtWork IsIntact IsOpen IsSoundStore seen left (Unless result) self.old self.new }
-        ensures carries { Clean IsIntact IsOpen self.new
-            → Carries answer_view tenant.now (operated (seen self.old).limits at body.now operation.now)
-            (seen self.old).now (seen self.new).now result };
+        ensures goes_on { StaysAtWork IsIntact IsOpen IsSoundStore seen left (UnlessSpoilt result) self.old self.new }
+        ensures operates { Operates answer_view tenant.now (λ given. operated (seen self.old).limits at given operation.now)
+            (Clean IsIntact IsOpen self.new) (B.coming body.old) (B.coming body.new) (seen self.old).now (seen self.new).now result };
 
     /// Carries out an operator's command on the tenant that it names.
     fn command(&mut self, alloc: Global, command: &Command) -> Result<Answer, StepError<Refusal>>

@@ -13,3 +13,4 @@ pub mod PartSteps
 pub mod Chosen
 pub mod Planning
 pub mod Completing
+pub mod Receiving

@@ -5,7 +5,7 @@ use crate::documents::many_parts;
 use crate::plain;
 use crate::shown::operation_text;
 use bh_http::read::read_request;
-use bh_http::request::{Fields, Request};
+use bh_http::request::{Fields, Head};
 use bh_operation::allow::allow_of;
 use bh_operation::operation::{Operation, operation_of};
 use bh_operation::routes::Routes;
@@ -46,7 +46,7 @@ fn head_of(alloc: Global, text: &str) -> Result<String, AllocError> {
 fn asks(alloc: Global, input: &str) -> Answer {
     let head = head_of(alloc, input)?;
     match read_request(head.as_bytes(), &Limits::default()) {
-        Ok(request) => asked(alloc, &request),
+        Ok(request) => asked(alloc, &request.head),
         Err(why) => refusal(alloc, why),
     }
 }
@@ -54,19 +54,19 @@ fn asks(alloc: Global, input: &str) -> Answer {
 /// The same, of a GET without header fields whose target is these bytes: no such target comes out of the bytes of a
 /// request.
 pub fn asks_of_target(alloc: Global, target: &[u8]) -> Answer {
-    let request = Request {
+    let head = Head {
         method: b"GET",
         target,
         fields: Fields::new(),
-        body: b"",
+        body_size: 0,
     };
-    asked(alloc, &request)
+    asked(alloc, &head)
 }
 
-fn asked(alloc: Global, request: &Request) -> Answer {
+fn asked(alloc: Global, head: &Head) -> Answer {
     let green = TenantName::read(alloc, "green")?.ok_or(Fault::Form)?;
     let routes = Routes::new(alloc)?;
-    outcome_text(alloc, operation_of(alloc, &routes, request, &green))
+    outcome_text(alloc, operation_of(alloc, &routes, head, &green))
 }
 
 fn outcome_text(alloc: Global, outcome: Result<Operation, RequestError>) -> Answer {

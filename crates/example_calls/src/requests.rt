@@ -46,10 +46,10 @@ fn request(alloc: Global, input: &[u8]) -> Answer {
 }
 
 fn request_text(alloc: Global, request: &Request) -> Answer {
-    let method = String::from_utf8_lossy(alloc, request.method)?;
-    let target = String::from_utf8_lossy(alloc, request.target)?;
+    let method = String::from_utf8_lossy(alloc, request.head.method)?;
+    let target = String::from_utf8_lossy(alloc, request.head.target)?;
     let body = String::from_utf8_lossy(alloc, request.body)?;
-    let fields = request.fields.len();
+    let fields = request.head.fields.len();
     Ok(format!(in alloc; "{method} {target}, {fields} fields, {body}")?)
 }
 
@@ -69,10 +69,10 @@ fn credentials(alloc: Global, input: &[u8]) -> Answer {
 }
 
 fn credentials_text(alloc: Global, request: &Request) -> Answer {
-    let Some(key) = access_key_of(alloc, request)? else {
+    let Some(key) = access_key_of(alloc, &request.head)? else {
         return text(alloc, "nobody");
     };
-    let Ok(secret) = secret_of(request) else {
+    let Ok(secret) = secret_of(&request.head) else {
         return text(alloc, "no credentials");
     };
     let secret = String::from_utf8_lossy(alloc, secret)?;

@@ -1,6 +1,8 @@
-use Rattle.std.proofs.Common.{[], refl, sym, ◌∙◌, rules}
-use Rattle.bh_connection.proofs.ConnectionLemmas.{answered, answered_fixed, broken, fixed_clock, fixed_wanting, took_nothing}
-use Rattle.bh_link.proofs.TransferLemmas.{gives_nothing, gives_going}
+use Rattle.std.proofs.Common.{[], refl, sym, subst, ◌∙◌, rules}
+use Rattle.bh_connection.proofs.ConnectionLemmas.{answered_fixed, broken, fixed_clock, fixed_wanting, took_nothing}
+use Rattle.bh_link.specs.Taking.{Opens}
+use Rattle.bh_connection.proofs.HeadedLemmas.{came_untouched, came_acknowledged}
+use Rattle.bh_http.proofs.TransferLemmas.{gives_nothing, gives_going}
 use Rattle.bh_connection.proofs.connection.serve_connection.Goals as goal
 
 pub returns-then-reading-gt-LAST_READING-clause-came_to : goal.returns-then-reading-gt-LAST_READING-clause-came_to
@@ -12,11 +14,7 @@ returns-then-reading-gt-LAST_READING-clause-came_to g c =
 
 pub returns-in-Ok-clause-came_to : goal.returns-in-Ok-clause-came_to
 returns-in-Ok-clause-came_to g c =
-    let done = c.apply.ensures in
-    answered g.H.Storage.IsIntact g.H.Storage.IsOpen g.H.Storage.seen g.H.Storage.left c.limits.result _ _ c.answer-in-Ok.result c.in-Ok.bytes.items _ _ _ _
-    c.requires.rest done.intact c.limits.ensures c.in-Ok.ensures.took c.in-Ok.ensures.given c.in-Ok.ensures.going
-    (record { applied = done.applied; told_apart = done.told_apart; acknowledged = done.acknowledged; crash = done.crash })
-    c.answer-in-Ok.ensures.stamp c.answer-in-Ok.ensures.out c.answer-in-Ok.ensures.took c.answer-in-Ok.ensures.ended
+    rw c.as_slice-bytes.ensures.value at c.serve_opened.ensures.came_to _ _ c.in-Ok.opening.body (subst (λ l. Opens l _ _ _ _) c.limits.ensures c.in-Ok.ensures.opens) c.in-Ok.ensures.given
 
 pub returns-in-Err-OutOfMemory-clause-came_to : goal.returns-in-Err-OutOfMemory-clause-came_to
 returns-in-Err-OutOfMemory-clause-came_to g c =
@@ -32,3 +30,9 @@ returns-in-Err-ReadFailed-clause-came_to g c =
     let (taken, took, gave) = c.in-Err-ReadFailed.ensures.within in
     broken g.H.Storage.IsIntact g.H.Storage.IsOpen g.H.Storage.seen g.H.Storage.left c.limits.result _ _ _ taken _ _
     c.limits.ensures took gave (rw c.in-Err-ReadFailed.field-0-is at c.in-Err-ReadFailed.ensures.failed) c.requires.writes refl refl refl refl refl refl
+
+pub returns-in-Ok-clause-untouched : goal.returns-in-Ok-clause-untouched
+returns-in-Ok-clause-untouched g c = came_untouched g.H.Storage.IsIntact g.H.Storage.IsOpen g.H.Storage.seen g.H.Storage.left _ _ c.serve_opened.result _ _ (returns-in-Ok-clause-came_to g c)
+
+pub returns-in-Ok-clause-acknowledged : goal.returns-in-Ok-clause-acknowledged
+returns-in-Ok-clause-acknowledged g c = came_acknowledged g.H.Storage.IsIntact g.H.Storage.IsOpen g.H.Storage.seen g.H.Storage.left _ _ c.serve_opened.result _ _ (returns-in-Ok-clause-came_to g c)

@@ -1,6 +1,6 @@
 use Rattle.std.proofs.Common.{[], ◌∷◌, ◌++◌, refl, sym, subst, inl, ◌∙◌, arith, length-append, option_map}
 use Rattle.std.specs.List.{flat_map}
-use Rattle.bh_link.proofs.TransferLemmas.{logs_nothing, logs_then}
+use Rattle.bh_http.proofs.TransferLemmas.{logs_nothing, logs_then}
 use Rattle.bh_connection.specs.Listening.{calls_of, HasServedAll}
 use Rattle.bh_connection.specs.Visits.{DidFor}
 use Rattle.bh_connection.proofs.EachLemmas.{leaves_then}

@@ -1,7 +1,7 @@
 use Rattle.std.proofs.Common.{◌≡◌, List, length, option_map}
 use Rattle.std.specs.List.{flat_map}
 use Rattle.bh_storage.specs.Calls.{Clean, LeavesSound, IsAtRest}
-use Rattle.bh_link.specs.Transfers.{Logs}
+use Rattle.bh_http.specs.Transfers.{Logs}
 use Rattle.bh_connection.specs.Visits.{RanFor, Visit}
 use Rattle.bh_connection.specs.Listening.{calls_of, HasServedAll}
 use Rattle.bh_connection.proofs.listener.serve_from.Given as goal

@@ -5,7 +5,7 @@ use Rattle.bh_model.specs.Operations.{put_object}
 use Rattle.bh_storage.specs.Answers.{stored_answer}
 use Rattle.bh_storage.specs.declared.answer.Answer.TheVariants as answer
 use Rattle.bh_schema.specs.Working.{tables_at}
-use Rattle.bh_dispatch.proofs.Steps.{unless_told, on_ok_told, carries_told}
+use Rattle.bh_dispatch.proofs.Receiving.{spoilt_told, operates_told}
 use Rattle.bh_dispatch.proofs.operations.put_object.Goals as goal
 
 pub returns : goal.returns
@@ -15,8 +15,7 @@ returns g c =
     let new = tables_at (state g.S.Store it.new.connection) in
     rw c.stored.ensures (record {
       within = it.ensures.within;
-      opens = unless_told answer.Stored it.result _ it.ensures.opens;
-      working = unless_told answer.Stored it.result _ it.ensures.working;
-      carries = λ clean. carries_told c.args.object.now.tenant.now (put_object c.args.object.now.at c.args.object.now.bucket.now c.args.object.now.key.now c.args.object.now.bytes.now (option_copied c.args.given) c.args.object.now.date) old new stored_answer answer.Stored (λ _. refl) it.result (it.ensures.carries clean);
-      blocks = on_ok_told answer.Stored it.result _ it.ensures.blocks;
+      opens = spoilt_told answer.Stored it.result _ it.ensures.opens;
+      working = spoilt_told answer.Stored it.result _ it.ensures.working;
+      operates = operates_told c.args.object.now.tenant.now (λ bytes. put_object c.args.object.now.at c.args.object.now.bucket.now c.args.object.now.key.now bytes (option_copied c.args.given) c.args.object.now.date) _ _ _ _ old new stored_answer answer.Stored (λ _. refl) it.result it.ensures.operates;
     })

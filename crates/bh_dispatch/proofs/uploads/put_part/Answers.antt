@@ -6,7 +6,7 @@ use Rattle.bh_model.specs.Operations.{PartStored}
 use Rattle.bh_model.specs.Uploads.{upload_part}
 use Rattle.bh_storage.specs.declared.answer.Answer.TheVariants as answer
 use Rattle.bh_schema.specs.Working.{tables_at}
-use Rattle.bh_dispatch.proofs.Steps.{unless_told, on_ok_told, carries_told}
+use Rattle.bh_dispatch.proofs.Receiving.{spoilt_told, operates_told}
 use Rattle.bh_dispatch.proofs.uploads.put_part.Goals as goal
 
 pub returns : goal.returns
@@ -17,8 +17,7 @@ returns g c =
     let new = tables_at (state g.S.Store it.new.connection) in
     rw c.part_stored.ensures (record {
       within = it.ensures.within;
-      opens = unless_told answer.PartStored it.result _ it.ensures.opens;
-      working = unless_told answer.PartStored it.result _ it.ensures.working;
-      carries = λ clean. carries_told part.upload.tenant.now (upload_part part.at part.upload.bucket.now part.upload.key.now part.upload.upload part.number part.bytes.now (option_copied c.args.given)) old new (λ checksum. PartStored (string_bytes checksum)) answer.PartStored (λ _. refl) it.result (it.ensures.carries clean);
-      blocks = on_ok_told answer.PartStored it.result _ it.ensures.blocks;
+      opens = spoilt_told answer.PartStored it.result _ it.ensures.opens;
+      working = spoilt_told answer.PartStored it.result _ it.ensures.working;
+      operates = operates_told part.upload.tenant.now (λ bytes. upload_part part.at part.upload.bucket.now part.upload.key.now part.upload.upload part.number bytes (option_copied c.args.given)) _ _ _ _ old new (λ checksum. PartStored (string_bytes checksum)) answer.PartStored (λ _. refl) it.result it.ensures.operates;
     })

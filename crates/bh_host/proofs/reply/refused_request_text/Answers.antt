@@ -6,6 +6,6 @@ use Rattle.bh_host.proofs.reply.refused_request_text.Goals as goal
 
 pub returns : goal.returns
 unfolding text
-returns c =
-    let method = c.args.request.now.method.now in
+returns c body =
+    let method = c.args.head.now.method.now in
     IfOk-weaker c.sent_text.result _ _ (λ bytes h. h ∙ ap (λ sent. response_text (sent_for method sent)) c.in_ok-response.ensures) c.sent_text.ensures

@@ -1,15 +1,10 @@
-use Rattle.std.proofs.Common.{◌≤◌, length, drop, ap, sym, ◌∙◌, arith, inr}
-use Rattle.bh_http.specs.Reading.{outcome}
-use Rattle.bh_http.proofs.Heads.{has_head, parts_same}
+use Rattle.std.proofs.Common.{subst, sym}
+use Rattle.bh_http.specs.Reading.{Reads}
+use Rattle.bh_http.proofs.Completing.{head_reads}
 use Rattle.bh_http.proofs.read.read_request.Goals as goal
 
-pub returns-in-Some : goal.returns-in-Some
-returns-in-Some c =
-    let limits = c.args.limits.now in
-    let bytes = c.args.bytes.now in
-    let headers = c.find_head.new.headers in
-    let spans = c.in-Some.spans in
-    let rest = drop spans.len bytes in
-    let (head, at, small) = c.in-Some.ensures.found in
-    let room : length headers ≤ 64 = omega arith in
-    inr (head, rest, has_head bytes headers spans head at small room, c.read_from.ensures ∙ ap (λ parts. outcome limits parts rest) (sym (parts_same bytes headers spans head at)))
+pub returns-in-Ok : goal.returns-in-Ok
+returns-in-Ok c = subst (Reads c.args.limits.now c.args.bytes.now) (sym c.with_body.ensures) (head_reads c.args.limits.now c.args.bytes.now _ c.in-Ok.ensures.ok)
+
+pub returns-in-Err : goal.returns-in-Err
+returns-in-Err c = head_reads c.args.limits.now c.args.bytes.now _ c.in-Err.ensures.err

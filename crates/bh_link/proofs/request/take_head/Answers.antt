@@ -8,7 +8,7 @@ use Rattle.bh_http.specs.Arriving.{is_text, ends_blank, Says}
 use Rattle.bh_http.proofs.ArrivingLemmas.{no_head_of_none}
 use Rattle.bh_link.specs.declared.link.ReadFault.{ReadFault}
 use Rattle.bh_link.proofs.TakingLemmas.{consumes_none, consumes_kept, consumes_pushed, part_none, part_pushed, opens_pushed, opens_never, opens_limit, started_pushed, none_pushed, if_err}
-use Rattle.bh_link.proofs.TransferLemmas.{gives_none, gives_pushed, gives_byte_end, gives_fault, gives_going}
+use Rattle.bh_http.proofs.TransferLemmas.{gives_none, gives_pushed, gives_byte_end, gives_fault, gives_going}
 use Rattle.bh_link.proofs.request.take_head.Goals as goal
 use Rattle.bh_link.proofs.request.take_head.Goals.{then-may_end+in-NotYet, else-may_end}
 

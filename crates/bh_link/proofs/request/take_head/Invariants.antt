@@ -3,7 +3,7 @@ use Rattle.std.specs.List.{list_any}
 use Rattle.std.specs.Io.KnownBytes.{Consumes}
 use Rattle.bh_http.specs.Reading.{HasNoHead}
 use Rattle.bh_http.specs.Arriving.{is_text}
-use Rattle.bh_link.specs.Transfers.{Gives}
+use Rattle.bh_http.specs.Transfers.{Gives}
 use Rattle.bh_link.proofs.request.take_head.Given as goal
 
 -- so far no head stands at the front

@@ -2,7 +2,7 @@ use Rattle.std.proofs.Common.{◌≡◌, ◌≢◌, ◌∷◌, ◌++◌, ◌+◌
 use Rattle.std.specs.Io.KnownBytes.{Consumes}
 use Rattle.bh_link.specs.declared.link.ReadFault.{ReadFault}
 use Rattle.bh_link.proofs.TakingLemmas.{consumes_none, consumes_kept, consumes_pushed, if_err}
-use Rattle.bh_link.proofs.TransferLemmas.{gives_none, gives_pushed, gives_byte_end, gives_fault, gives_going}
+use Rattle.bh_http.proofs.TransferLemmas.{gives_none, gives_pushed, gives_byte_end, gives_fault, gives_going}
 use Rattle.bh_operator.specs.Lines.{before_feed}
 use Rattle.bh_operator.proofs.LineLemmas.{feed_not_yet, took_line, took_end, took_too_much}
 use Rattle.bh_operator.proofs.line.take_line.Goals as goal

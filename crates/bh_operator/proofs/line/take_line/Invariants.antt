@@ -1,6 +1,6 @@
 use Rattle.std.proofs.Common.{◌≡◌, length, false, None}
 use Rattle.std.specs.Io.KnownBytes.{Consumes}
-use Rattle.bh_link.specs.Transfers.{Gives}
+use Rattle.bh_http.specs.Transfers.{Gives}
 use Rattle.bh_operator.specs.Lines.{before_feed}
 use Rattle.bh_operator.proofs.line.take_line.Given as goal
 

@@ -7,7 +7,8 @@ use Rattle.bh_storage.specs.Calls.{Seen}
 use Rattle.bh_view.specs.View.{latest_of}
 use Rattle.bh_schema.specs.Layer.{IsIntact, IsOpen}
 use Rattle.bh_schema.proofs.Storing.{AreBoth, both, parts, keeps, under, plain}
-use Rattle.bh_dispatch.proofs.Storing.{IsAtWork, seen_working, digests_seen, early_seen, limits_shown, still_working, carried, stored, opened, agrees_seen, works_beside, carries_beside}
+use Rattle.bh_dispatch.proofs.Receiving.{opened_spoilt, operated_works, operated_seen, works_spoilt, operates_beside}
+use Rattle.bh_dispatch.proofs.Storing.{IsAtWork, seen_working, digests_seen, early_seen, limits_shown, stored, agrees_seen}
 use Rattle.bh_dispatch.proofs.storage.HostStorageStorage.operate.Goals as goal
 
 pub operate-requires-clause-working : goal.operate-requires-clause-working
@@ -33,18 +34,17 @@ returns g c =
     let new = state g.S.Store c.operate.new.connection in
     let h = c.operate.ensures in
     let t = c.args.tenant.now in
-    let step = operated l c.args.at c.args.body.now c.args.operation.now in
+    let step = λ given. operated l c.args.at given c.args.operation.now in
     let began = λ (clean : AreBoth new). c.requires.working (parts (h.within.follows.clean (both clean))) in
     let was : AreBoth new → IsAtWork digest l old = λ clean. under _ _ (began clean) in
-    let works = still_working digest l old new answer_view t step c.operate.result (λ s bound. operated_bounded s bound l c.args.at c.args.body.now c.args.operation.now) was h.working h.carries in
+    let works = operated_works digest l old new answer_view t step _ _ _ c.operate.result (λ given s bound. operated_bounded s bound l c.args.at given c.args.operation.now) was h.working h.operates in
     record {
       goes_on = record {
         within = stored g.S.Store c.args.self.now _ (keeps g.S.Store c.args.self.now.host _ refl h.within);
-        opens = opened (IsIntact new) (IsOpen old) (IsOpen new) c.operate.result h.opens;
-        working = works_beside digest c.args.self.now.host.cache c.operate.new.cache l old new began c.operate.result works h.kept;
+        opens = opened_spoilt (IsIntact new) (IsOpen old) (IsOpen new) c.operate.result h.opens;
+        working = works_spoilt digest c.args.self.now.host.cache c.operate.new.cache l old new began c.operate.result works h.kept;
       };
-      carries = λ clean.
-          let carry = carried digest l old new answer_view t step c.operate.result (was clean) clean h.working (h.carries (both clean)) in
-          let told = carries_beside digest c.args.self.now.host.cache c.operate.new.cache l old new began answer_view t step c.operate.result clean works h.kept carry in
-          rw (limits_shown c.args.self.now.host.cache l old) told;
+      operates = rw (limits_shown c.args.self.now.host.cache l old)
+          (operates_beside digest c.args.self.now.host.cache c.operate.new.cache l old new began answer_view t step _ _ c.operate.result works h.kept
+          (operated_seen digest l old new answer_view t step _ _ _ c.operate.result was h.working h.operates));
     }

@@ -1,0 +1,210 @@
+-- A step whose body comes in pieces: told as an answer, and in the words of a host's storage.
+use Rattle.std.proofs.Common.{◌≡◌, ◌≢◌, ℕ, Option, Result, Ok, Err, refl, ap, sym, subst, ◌∙◌}
+use Rattle.std.specs.Result.{result_map_both}
+use Rattle.sqlite.specs.State.{State}
+use Rattle.bh_types.specs.Limits.{HostLimits}
+use Rattle.bh_types.specs.Rejections.{plainly}
+use Rattle.bh_types.specs.declared.refusal.Refusal.{Refusal}
+use Rattle.bh_types.specs.declared.rejection.Rejection.{Rejection}
+use Rattle.bh_types.specs.declared.id.UploadId.{UploadId}
+use Rattle.bh_machine.specs.Machine.{operated}
+use Rattle.bh_model.specs.Uploads.{upload_part}
+use Rattle.bh_operation.specs.declared.address.ObjectName.{ObjectName}
+use Rattle.bh_operation.specs.declared.operation.Operation.{Operation}
+use Rattle.bh_operation.specs.declared.operation.Operation.TheVariants.{ListBuckets, Usage, CreateBucket, HeadBucket, DeleteBucket, ListObjectsV2, ListObjectVersions, ListMultipartUploads, GetBucketVersioning, PutBucketVersioning, GetLifecycle, PutLifecycle, DeleteLifecycle, CopyObject, GetObject, HeadObject, DeleteObject, CreateMultipartUpload, ListParts, CompleteMultipartUpload, AbortMultipartUpload, GetRetention, PutRetention, PutObject, UploadPart}
+use Rattle.bh_http.specs.Bodies.{Coming, Gives, IsWhole}
+use Rattle.bh_http.proofs.BodyLemmas.{going_may}
+use Rattle.bh_model.specs.Operations as machine
+use Rattle.bh_model.specs.Operations.{Answer}
+use Rattle.bh_model.specs.QuotaLaws.{StaysBounded}
+use Rattle.bh_model.specs.State.{Octets, State as Machine}
+use Rattle.bh_schema.specs.Layer.{IsStateClean}
+use Rattle.bh_schema.specs.Storage.{seen_in, beside}
+use Rattle.bh_schema.specs.Working.{tables_at, StillWorking, StillWorkingBy}
+use Rattle.bh_schema.proofs.Storing.{AreBoth, both, shows_in, plain}
+use Rattle.bh_cache.specs.Kept.{KeptBlocks, Agrees}
+use Rattle.bh_cache.proofs.Agreeing.{agrees_grown}
+use Rattle.bh_storage.specs.Answers.{answer_view}
+use Rattle.bh_storage.specs.Calls.{IsWorking, Carries, Operates, OperatesBy, Unless, UnlessSpoilt}
+use Rattle.bh_storage.specs.Errors.{step_rejected}
+use Rattle.bh_storage.specs.declared.answer.Answer.{Answer as Told}
+use Rattle.bh_storage.specs.declared.error.Outcome.{Outcome}
+use Rattle.bh_storage.specs.declared.error.Outcome.TheVariants.{Done, Spoilt}
+use Rattle.bh_storage.specs.declared.error.StepError.{StepError}
+use Rattle.bh_storage.specs.declared.error.StepError.TheVariants.{Refused, Failed}
+use Rattle.bh_tables.specs.Typed.{Tables}
+use Rattle.bh_view.specs.View.{view}
+use Rattle.bh_view.specs.Bodies.{IsSoundHost, StoresPieces}
+use Rattle.bh_dispatch.specs.Stored.{StoresBody, outcome_as}
+use Rattle.bh_dispatch.proofs.Storing.{IsAtWork, working_seen, shown_now, bounded_seen, carried_bounded, at_work, told}
+
+-- ---- told as an answer
+
+pub spoilt_told : {X : Type 0} (made : X → Told) (outcome : Result (Outcome X Refusal) (StepError Refusal)) (P : Type 0) → UnlessSpoilt outcome P → UnlessSpoilt (result_map_both (outcome_as made) step_rejected outcome) P
+spoilt_told made (Ok (Done x)) P h = h
+spoilt_told made (Ok (Spoilt r)) P h = tt
+spoilt_told made (Err (Refused r)) P h = h
+spoilt_told made (Err (Failed trouble)) P h = tt
+
+pub operates_told : {X : Type 0} (t : Octets) (step : Octets → Option Machine → Result machine.Outcome Refusal) (Says : Octets → Type 0) (clean : Type 0) (before after : Coming) (old new : Tables) (shown : X → Answer) (made : X → Told)
+    → ((x : X) → answer_view (made x) ≡ shown x) → (outcome : Result (Outcome X Refusal) (StepError Refusal)) → OperatesBy shown t step Says clean before after old new outcome
+    → OperatesBy answer_view t (λ bytes s. plainly (step bytes s)) Says clean before after old new (result_map_both (outcome_as made) step_rejected outcome)
+operates_told t step Says clean before after old new shown made same (Ok (Done x)) h = record {
+  given = h.given;
+  gives = h.gives;
+  decided = h.decided;
+  carries = λ c. (
+      let g = h.carries c in
+      record { gives = ap plainly g.gives ∙ ap (λ y. Ok (y, view new t)) (sym (same x)); others = g.others; latest = g.latest; shared = g.shared }
+      );
+  says = h.says;
+}
+operates_told t step Says clean before after old new shown made same (Ok (Spoilt r)) h = record { given = h.given; gives = h.gives; decided = h.decided; carries = λ c. ap plainly (h.carries c); says = tt }
+operates_told t step Says clean before after old new shown made same (Err (Refused r)) h = record { given = h.given; gives = h.gives; decided = h.decided; carries = λ c. (ap plainly (h.carries c).0, (h.carries c).1); says = tt }
+operates_told t step Says clean before after old new shown made same (Err (Failed trouble)) h = record { given = h.given; gives = h.gives; decided = h.decided; carries = λ c. tt; says = tt }
+
+-- ---- a step that takes its body whole
+
+-- a refusal or trouble, once all of the body came
+pub operates_err : {X Y E : Type 0} (shown : X → Y) (t : Octets) (step : Octets → Option Machine → Result (Y × Option Machine) E) (clean : Type 0) (before after : Coming) (old new : Tables) (given : Octets) → Gives before after given → IsWhole after
+    → (error : StepError E) → (clean → Carries {X = X} shown t (step given) old new (Err error)) → Operates shown t step clean before after old new (Err error)
+operates_err shown t step clean before after old new given gives whole (Refused r) h = record { given = given; gives = gives; decided = whole; carries = h }
+operates_err shown t step clean before after old new given gives whole (Failed trouble) h = record { given = given; gives = gives; decided = going_may after whole.going; carries = λ c. tt }
+
+pub spoilt_err : {X E : Type 0} (error : StepError E) (P : Type 0) → Unless {X = X} {E = E} (Err error) P → UnlessSpoilt {X = X} {E = E} (Err error) P
+spoilt_err (Refused r) P h = h
+spoilt_err (Failed trouble) P h = tt
+
+-- nothing is said of the bytes of an operation that stores none
+pub says_nothing : {X Y E : Type 0} (shown : X → Y) (t : Octets) (step : Octets → Option Machine → Result (Y × Option Machine) E) (Says : Octets → Type 0) (clean : Type 0) (before after : Coming) (old new : Tables) (result : Result (Outcome X E) (StepError E))
+    → ((given : Octets) → Says given) → Operates shown t step clean before after old new result → OperatesBy shown t step Says clean before after old new result
+says_nothing shown t step Says clean before after old new (Ok (Done x)) all h = record { given = h.given; gives = h.gives; decided = h.decided; carries = h.carries; says = λ c. all h.given }
+says_nothing shown t step Says clean before after old new (Ok (Spoilt r)) all h = record { given = h.given; gives = h.gives; decided = h.decided; carries = h.carries; says = tt }
+says_nothing shown t step Says clean before after old new (Err e) all h = record { given = h.given; gives = h.gives; decided = h.decided; carries = h.carries; says = tt }
+
+-- a call whose promise holds of all functions holds of this one
+pub spoilt_by_any : {X E : Type 0} (digest : Octets → Octets) (old new : State) (result : Result (Outcome X E) (StepError E)) → UnlessSpoilt result (IsStateClean new → StillWorking old new) → UnlessSpoilt result (IsStateClean new → StillWorkingBy digest old new)
+spoilt_by_any digest old new (Ok (Done x)) h = λ clean. h clean digest
+spoilt_by_any digest old new (Ok (Spoilt r)) h = tt
+spoilt_by_any digest old new (Err (Refused r)) h = λ clean. h clean digest
+spoilt_by_any digest old new (Err (Failed trouble)) h = tt
+
+-- ---- in the words of a host's storage
+
+pub opened_spoilt : {X E : Type 0} (I A B : Type 0) (result : Result (Outcome X E) (StepError E)) → UnlessSpoilt result (I → A → B) → UnlessSpoilt result (A → I → B)
+opened_spoilt I A B (Ok (Done x)) h = λ up intact. h intact up
+opened_spoilt I A B (Ok (Spoilt r)) h = tt
+opened_spoilt I A B (Err (Refused r)) h = λ up intact. h intact up
+opened_spoilt I A B (Err (Failed trouble)) h = tt
+
+module _ (digest : Octets → Octets) (l : HostLimits) (old new : State) {X Y E : Type 0} (shown : X → Y) (t : Octets) (step : Octets → Option Machine → Result (Y × Option Machine) E) (Says : Octets → Type 0) (before after : Coming) where
+  abbrev Operated : Result (Outcome X E) (StepError E) → Type 0
+  Operated result = OperatesBy shown t step Says (IsStateClean new) before after (tables_at old) (tables_at new) result
+
+  -- the same step, of the tables that a storage shows
+  pub operated_seen : (result : Result (Outcome X E) (StepError E)) → (AreBoth new → IsAtWork digest l old) → UnlessSpoilt result (IsStateClean new → StillWorkingBy digest old new) → Operated result
+      → Operates shown t step (AreBoth new) before after (seen_in l old).now (seen_in l new).now result
+  operated_seen (Ok (Done x)) was working h = record { given = h.given; gives = h.gives; decided = h.decided; carries = λ clean. rw (shows_in l old (was clean), (shown_now l new (working (both clean)).is).0) (h.carries (both clean)) }
+  operated_seen (Ok (Spoilt r)) was working h = record { given = h.given; gives = h.gives; decided = h.decided; carries = λ clean. rw (shows_in l old (was clean)) (h.carries (both clean)) }
+  operated_seen (Err (Refused r)) was working h = record { given = h.given; gives = h.gives; decided = h.decided; carries = λ clean. rw (shows_in l old (was clean), (shown_now l new (working (both clean)).is).0) (h.carries (both clean)) }
+  operated_seen (Err (Failed trouble)) was working h = record { given = h.given; gives = h.gives; decided = h.decided; carries = λ clean. tt }
+
+  pub operated_works : (result : Result (Outcome X E) (StepError E)) → ((given : Octets) → StaysBounded (step given)) → (AreBoth new → IsAtWork digest l old) → UnlessSpoilt result (IsStateClean new → StillWorkingBy digest old new) → Operated result
+      → UnlessSpoilt result (AreBoth new → IsAtWork digest l new)
+  operated_works (Ok (Done x)) stays was working h = λ clean.
+      working_seen digest l old new (was clean) (working (both clean)) (carried_bounded shown t (step h.given) (Ok x) (tables_at old) (tables_at new) (stays h.given) (bounded_seen digest l old (was clean)) (h.carries (both clean)))
+  operated_works (Ok (Spoilt r)) stays was working h = tt
+  operated_works (Err (Refused r)) stays was working h = λ clean.
+      working_seen digest l old new (was clean) (working (both clean)) (carried_bounded shown t (step h.given) (Err (Refused r)) (tables_at old) (tables_at new) (stays h.given) (bounded_seen digest l old (was clean)) (h.carries (both clean)))
+  operated_works (Err (Failed trouble)) stays was working h = tt
+
+-- ---- beside blocks that are kept in memory
+
+-- a step of a tenant takes no block away
+pub kept_operated : {X Y E : Type 0} (kept : KeptBlocks) (shown : X → Y) (t : Octets) (step : Octets → Option Machine → Result (Y × Option Machine) E) (Says : Octets → Type 0) (before after : Coming) (result : Result (Outcome X E) (StepError E)) (old new : State)
+    → (IsStateClean new → Agrees kept (tables_at old).blocks) → OperatesBy shown t step Says (IsStateClean new) before after (tables_at old) (tables_at new) result → UnlessSpoilt result (IsStateClean new → Agrees kept (tables_at new).blocks)
+kept_operated kept shown t step Says before after (Ok (Done x)) old new agrees h = λ clean.
+    let shared = (h.carries clean).shared in subst (Agrees kept) (sym shared.grown) (agrees_grown kept (tables_at old).blocks shared.added (agrees clean))
+kept_operated kept shown t step Says before after (Ok (Spoilt r)) old new agrees h = tt
+kept_operated kept shown t step Says before after (Err (Refused r)) old new agrees h = λ clean. subst (λ (x : Tables). Agrees kept x.blocks) (sym (h.carries clean).1) (agrees clean)
+kept_operated kept shown t step Says before after (Err (Failed trouble)) old new agrees h = tt
+
+module _ (digest : Octets → Octets) (before after : KeptBlocks) (l : HostLimits) (old new : State) (was : AreBoth new → IsWorking (IsSoundHost digest) (beside before (seen_in l old))) {X E : Type 0} where
+  pub works_spoilt : (result : Result (Outcome X E) (StepError E)) → UnlessSpoilt result (AreBoth new → IsAtWork digest l new) → UnlessSpoilt result (IsStateClean new → Agrees after (tables_at new).blocks)
+      → UnlessSpoilt result (AreBoth new → IsWorking (IsSoundHost digest) (beside after (seen_in l new)))
+  works_spoilt (Ok (Done x)) working agrees = λ clean. at_work digest before after l old new was (working clean) (agrees (both clean))
+  works_spoilt (Ok (Spoilt r)) working agrees = tt
+  works_spoilt (Err (Refused r)) working agrees = λ clean. at_work digest before after l old new was (working clean) (agrees (both clean))
+  works_spoilt (Err (Failed trouble)) working agrees = tt
+
+  -- the same step, of the tables that are shown beside them
+  pub operates_beside : {Y : Type 0} (shown : X → Y) (t : Octets) (step : Octets → Option Machine → Result (Y × Option Machine) E) (start end : Coming) (result : Result (Outcome X E) (StepError E))
+      → UnlessSpoilt result (AreBoth new → IsAtWork digest l new) → UnlessSpoilt result (IsStateClean new → Agrees after (tables_at new).blocks)
+      → Operates shown t step (AreBoth new) start end (seen_in l old).now (seen_in l new).now result → Operates shown t step (AreBoth new) start end (beside before (seen_in l old)).now (beside after (seen_in l new)).now result
+  operates_beside shown t step start end (Ok (Done x)) working agrees h = record {
+    given = h.given;
+    gives = h.gives;
+    decided = h.decided;
+    carries = λ clean. told digest before after l old new was (λ a b. Carries shown t (step h.given) a b (Ok x)) clean (working clean) (agrees (both clean)) (h.carries clean);
+  }
+  operates_beside shown t step start end (Ok (Spoilt r)) working agrees h = record { given = h.given; gives = h.gives; decided = h.decided; carries = λ clean. rw (plain _ _ (was clean)) (h.carries clean) }
+  operates_beside shown t step start end (Err (Refused r)) working agrees h = record {
+    given = h.given;
+    gives = h.gives;
+    decided = h.decided;
+    carries = λ clean. told digest before after l old new was (λ a b. Carries {X = X} shown t (step h.given) a b (Err (Refused r))) clean (working clean) (agrees (both clean)) (h.carries clean);
+  }
+  operates_beside shown t step start end (Err (Failed trouble)) working agrees h = record { given = h.given; gives = h.gives; decided = h.decided; carries = λ clean. tt }
+
+-- ---- by what a request asks for
+
+module _ (digest : Octets → Octets) (size : ℕ) where
+  -- the step of this operation, and what it stores
+  abbrev OperatedBy : HostLimits → ℕ → Octets → Type 0 → Coming → Coming → Tables → Tables → Result (Outcome Told Rejection) (StepError Rejection) → Operation → Type 0
+  OperatedBy limits at t clean before after old new result operation =
+      OperatesBy answer_view t (λ bytes. operated limits at bytes operation) (λ bytes. StoresBody digest size bytes operation old new) clean before after old new result
+
+  pub stores_object : (limits : HostLimits) (at : ℕ) (t : Octets) (object : ObjectName) (checksum : Option Octets) (date : Option (Option ℕ)) (clean : Type 0) (before after : Coming) (old new : Tables) (result : Result (Outcome Told Rejection) (StepError Rejection)) (operation : Operation)
+      → operation ≡ PutObject object checksum date
+      → OperatesBy answer_view t (λ bytes s. plainly (machine.put_object at object.bucket object.key bytes checksum date s)) (λ bytes. StoresPieces digest size bytes old new) clean before after old new result
+      → OperatedBy limits at t clean before after old new result operation
+  unfolding operated
+  stores_object limits at t object checksum date clean before after old new result operation is h = subst (OperatedBy limits at t clean before after old new result) (sym is) h
+
+  pub stores_part : (limits : HostLimits) (at : ℕ) (t : Octets) (object : ObjectName) (upload : Option UploadId) (number : ℕ) (checksum : Option Octets) (clean : Type 0) (before after : Coming) (old new : Tables) (result : Result (Outcome Told Rejection) (StepError Rejection)) (operation : Operation)
+      → operation ≡ UploadPart object upload number checksum
+      → OperatesBy answer_view t (λ bytes s. plainly (upload_part at object.bucket object.key upload number bytes checksum s)) (λ bytes. StoresPieces digest size bytes old new) clean before after old new result
+      → OperatedBy limits at t clean before after old new result operation
+  unfolding operated
+  stores_part limits at t object upload number checksum clean before after old new result operation is h = subst (OperatedBy limits at t clean before after old new result) (sym is) h
+
+  -- nothing is said of any other operation
+  pub stores_nothing : (given : Octets) (old new : Tables) (operation : Operation)
+      → ((object : ObjectName) (checksum : Option Octets) (date : Option (Option ℕ)) → operation ≢ PutObject object checksum date)
+      → ((object : ObjectName) (upload : Option UploadId) (number : ℕ) (checksum : Option Octets) → operation ≢ UploadPart object upload number checksum)
+      → StoresBody digest size given operation old new
+  stores_nothing given old new (PutObject object checksum date) put part = absurd (put object checksum date refl)
+  stores_nothing given old new (UploadPart object upload number checksum) put part = absurd (part object upload number checksum refl)
+  stores_nothing given old new ListBuckets put part = tt
+  stores_nothing given old new Usage put part = tt
+  stores_nothing given old new (CreateBucket bucket locked) put part = tt
+  stores_nothing given old new (HeadBucket bucket) put part = tt
+  stores_nothing given old new (DeleteBucket bucket) put part = tt
+  stores_nothing given old new (ListObjectsV2 bucket page token) put part = tt
+  stores_nothing given old new (ListObjectVersions bucket page after) put part = tt
+  stores_nothing given old new (ListMultipartUploads bucket page after) put part = tt
+  stores_nothing given old new (GetBucketVersioning bucket) put part = tt
+  stores_nothing given old new (PutBucketVersioning bucket) put part = tt
+  stores_nothing given old new (GetLifecycle bucket) put part = tt
+  stores_nothing given old new (PutLifecycle bucket) put part = tt
+  stores_nothing given old new (DeleteLifecycle bucket) put part = tt
+  stores_nothing given old new (CopyObject object source date) put part = tt
+  stores_nothing given old new (GetObject object version range) put part = tt
+  stores_nothing given old new (HeadObject object version) put part = tt
+  stores_nothing given old new (DeleteObject object version) put part = tt
+  stores_nothing given old new (CreateMultipartUpload object) put part = tt
+  stores_nothing given old new (ListParts object upload page) put part = tt
+  stores_nothing given old new (CompleteMultipartUpload object upload) put part = tt
+  stores_nothing given old new (AbortMultipartUpload object upload) put part = tt
+  stores_nothing given old new (GetRetention object version) put part = tt
+  stores_nothing given old new (PutRetention object version) put part = tt

@@ -1,0 +1,104 @@
+-- A request that is served at its stamp, by how its step ends.
+use Rattle.std.proofs.Common.{◌≡◌, ℕ, List, [], Option, Some, None, Result, Ok, Err, sym, ap, subst, ◌∙◌, Vec, Global}
+use Rattle.std.specs.Prelude.{option_map}
+use Rattle.bh_types.specs.Limits.{HostLimits}
+use Rattle.bh_types.specs.declared.access_key.AccessKeyId.{AccessKeyId}
+use Rattle.bh_types.specs.declared.rejection.Rejection.{Rejection}
+use Rattle.bh_http.specs.Bodies.{Coming, Gives, IsWhole, MayBreak}
+use Rattle.bh_http.specs.Credentials.{key_given}
+use Rattle.bh_http.specs.Views.{with_body}
+use Rattle.bh_http.specs.declared.request.Head.{Head}
+use Rattle.bh_http.proofs.BodyLemmas.{gives_none, going_may}
+use Rattle.bh_machine.specs.Machine.{RequestRead, requested}
+use Rattle.bh_model.specs.State.{Octets}
+use Rattle.bh_storage.specs.Answers.{answer_view}
+use Rattle.bh_storage.specs.Calls.{Seen, Clean, Within, IsWorking, Purges, Carries, Operates}
+use Rattle.bh_storage.specs.declared.answer.Answer.{Answer}
+use Rattle.bh_storage.specs.declared.error.Outcome.{Outcome}
+use Rattle.bh_storage.specs.declared.error.Outcome.TheVariants.{Done, Spoilt}
+use Rattle.bh_storage.specs.declared.error.StepError.{StepError}
+use Rattle.bh_storage.specs.declared.error.StepError.TheVariants.{Refused, Failed}
+use Rattle.bh_storage.specs.declared.error.Trouble.{Trouble}
+use Rattle.bh_tables.specs.Typed.{Tables}
+use Rattle.bh_view.specs.View.{view, rows_purged}
+use Rattle.bh_host.specs.Receives.{Serves}
+use Rattle.bh_host.specs.Replies.{text}
+use Rattle.bh_host.specs.declared.receiving.Served.{Served}
+use Rattle.bh_host.specs.declared.receiving.Served.TheVariants.{Kept, TakenBack}
+use Rattle.bh_host.proofs.Turning.{limits_stay, turned_request, turned_nobody}
+
+-- memory or the store was wanting
+pub served_err : (clean : Type 0) (limits : HostLimits) (head : Head) (m : ℕ) (before after : Coming) (old new : Tables) (result : Result Served Trouble) (trouble : Trouble) → result ≡ Err trouble → (given : Octets) → Gives before after given → MayBreak after
+    → Serves clean limits head m before after old new result
+served_err clean limits head m before after old new result trouble is given gives may = subst (Serves clean limits head m before after old new) (sym is) (record { given = given; gives = gives; served = may })
+
+-- before any of the body came
+pub served_none : (clean : Type 0) (limits : HostLimits) (head : Head) (m : ℕ) (before : Coming) (old new : Tables) (result : Result Served Trouble) (trouble : Trouble) → result ≡ Err trouble → before.broken ≡ None → Serves clean limits head m before before old new result
+served_none clean limits head m before old new result trouble is going = served_err clean limits head m before before old new result trouble is [] (gives_none before going) (going_may before going)
+
+-- a request of nobody is refused once its body came
+pub served_nobody : (clean : Type 0) (limits : HostLimits) (head : Head) (m : ℕ) (before after : Coming) (old : Tables) (reply : Vec ℕ Global) (e : Rejection) (given : Octets) → Gives before after given → IsWhole after → key_given (with_body head given) ≡ None
+    → ((n : ℕ) → requested limits n (with_body head given) None ≡ Err e) → reply.items ≡ text (RequestRead (Ok (with_body head given))) (Err e) → Serves clean limits head m before after old old (Ok (Kept reply))
+served_nobody clean limits head m before after old reply e given gives whole none refused told = record {
+  given = given;
+  gives = gives;
+  served = (whole, λ _. turned_nobody limits m (with_body head given) e old reply.items none refused told);
+}
+
+module _ {H : Type 0} (IsIntact IsOpen : H → Type 0) (seen : H → Seen) (left : H → Tables → Type 0) (IsSound : Tables → Type 0) (key : AccessKeyId) (at : ℕ) (head : Head) (before after : Coming) (old mid new : H)
+    (keyed : (given : Octets) → key_given (with_body head given) ≡ Some key) (works : Clean IsIntact IsOpen old → IsWorking IsSound (seen old))
+    (first : Within IsIntact IsOpen seen left old mid) (purges : Clean IsIntact IsOpen mid → Purges key.tenant at (seen old).now (seen mid).now) (second : Within IsIntact IsOpen seen left mid new) where
+  abbrev Now : Type 0
+  Now = Clean IsIntact IsOpen new
+
+  abbrev Came : Result (Outcome Answer Rejection) (StepError Rejection) → Type 0
+  Came outcome = Operates answer_view key.tenant (λ given. requested (seen mid).limits at (with_body head given)) Now before after (seen mid).now (seen new).now outcome
+
+  abbrev Gave : Result Served Trouble → Type 0
+  Gave result = Serves Now (seen old).limits head at before after (seen old).now (seen new).now result
+
+  clean_mid : Now → Clean IsIntact IsOpen mid
+  clean_mid c = (second.intact c.0, second.opened c.0 c.1)
+
+  clean_old : Now → Clean IsIntact IsOpen old
+  clean_old c = let m = clean_mid c in (first.intact m.0, first.opened m.0 m.1)
+
+  pub served_done : (answer : Answer) (reply : Vec ℕ Global) → (Now → IsWorking IsSound (seen new)) → Came (Ok (Done answer)) → ((given : Octets) → reply.items ≡ text (RequestRead (Ok (with_body head given))) (Ok (answer_view answer))) → Gave (Ok (Kept reply))
+  served_done answer reply working o told = record {
+    given = o.given;
+    gives = o.gives;
+    served = (
+      o.decided,
+      λ c. turned_request (seen old).limits answer_view key at (with_body head o.given) (seen old).now (seen mid).now (seen new).now (Ok answer) reply.items (keyed o.given) (purges (clean_mid c))
+          (subst (λ l. Carries {E = Rejection} answer_view key.tenant (requested l at (with_body head o.given)) (seen mid).now (seen new).now (Ok answer)) first.limits (o.carries c))
+          (limits_stay (seen old) (seen new) (works (clean_old c)) (working c) (second.limits ∙ first.limits)) (told o.given),
+    );
+  }
+
+  pub served_refused : (rejection : Rejection) (reply : Vec ℕ Global) → (Now → IsWorking IsSound (seen new)) → Came (Err (Refused rejection)) → ((given : Octets) → reply.items ≡ text (RequestRead (Ok (with_body head given))) (Err rejection)) → Gave (Ok (Kept reply))
+  served_refused rejection reply working o told = record {
+    given = o.given;
+    gives = o.gives;
+    served = (
+      o.decided,
+      λ c. turned_request {X = Answer} (seen old).limits answer_view key at (with_body head o.given) (seen old).now (seen mid).now (seen new).now (Err (Refused rejection)) reply.items (keyed o.given) (purges (clean_mid c))
+          (subst (λ l. Carries {X = Answer} answer_view key.tenant (requested l at (with_body head o.given)) (seen mid).now (seen new).now (Err (Refused rejection))) first.limits (o.carries c))
+          (limits_stay (seen old) (seen new) (works (clean_old c)) (working c) (second.limits ∙ first.limits)) (told o.given),
+    );
+  }
+
+  pub served_spoilt : (rejection : Rejection) (reply : Vec ℕ Global) → Came (Ok (Spoilt rejection)) → ((given : Octets) → reply.items ≡ text (RequestRead (Ok (with_body head given))) (Err rejection)) → Gave (Ok (TakenBack key.tenant reply))
+  served_spoilt rejection reply o told = record {
+    given = o.given;
+    gives = o.gives;
+    served = (
+      o.decided,
+      ap (option_map (λ (k : AccessKeyId). k.tenant)) (keyed o.given),
+      λ c. (
+        rejection,
+        subst (λ l. requested l at (with_body head o.given) (view (rows_purged key.tenant at (seen old).now) key.tenant) ≡ Err rejection) first.limits
+            (subst (λ (x : Tables). requested (seen mid).limits at (with_body head o.given) (view x key.tenant) ≡ Err rejection) (purges (clean_mid c)).is (o.carries c)),
+        told o.given,
+      ),
+    );
+  }

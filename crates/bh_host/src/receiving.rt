@@ -1,0 +1,285 @@
+//! A request whose head was read, and whose body comes in pieces.
+
+ghost use Rattle.std.specs.Prelude.{◌≡◌, ◌⊎◌, ◌≤◌, ℕ, None, Some, Err, IfOk, OnOk, OnErr, option_map};
+ghost use Rattle.std.specs.Option.{option_copied};
+ghost use Rattle.bh_http.specs.Credentials.{key_given};
+ghost use Rattle.bh_http.specs.Views.{with_body};
+ghost use Rattle.bh_machine.specs.Machine.{RequestRead};
+ghost use Rattle.bh_types.specs.Rejections.{plain};
+ghost use Rattle.bh_model.specs.Runs.{last_reading};
+ghost use Rattle.bh_model.specs.State.{Octets};
+ghost use Rattle.bh_storage.specs.Calls.{Clean, Within, LeavesSound, IsAtRest, IsWorking};
+ghost use Rattle.bh_tables.specs.Typed.{Tables};
+ghost use Rattle.bh_view.specs.View.{latest_of};
+ghost use Rattle.bh_host.specs.Answers.{told};
+ghost use Rattle.bh_host.specs.Receives.{Serves, Tries, AnewAs, Receives, IsStamp, Records, IfKept, IfApplied};
+ghost use Rattle.bh_host.specs.Replies.{text, wanting_text};
+ghost use Rattle.bh_host.specs.declared.reply.Caller.TheVariants.{Request};
+
+use crate::event::Told;
+use crate::reply::{Caller, Reply, answer_text, refused_request_text, unread_text};
+use crate::serve::{requested, stranger_refusal};
+use bh_http::body::{Body, Break, drain};
+use bh_http::credentials::access_key_of;
+use bh_http::request::Head;
+use bh_operation::routes::Routes;
+use bh_storage::error::{Outcome, StepError, Trouble};
+use bh_storage::storage::Storage;
+use bh_types::access_key::AccessKeyId;
+use bh_types::moment::Moment;
+use bh_types::names::TenantName;
+use bh_types::refusal::Refusal;
+use bh_types::rejection::Rejection;
+use std::alloc::Global;
+
+/// What a request was answered, before its transaction ends.
+#[derive(Drop)]
+pub enum Served {
+    Kept(Vec<u8>),
+    /// A refusal of a tenant's request, after which the tables are to be taken back.
+    TakenBack(TenantName, Vec<u8>),
+}
+
+/// What a transaction for a request came to.
+#[derive(Drop)]
+pub enum Tried {
+    Applied(Told),
+    /// A refusal: only the stamp and the going of the tenant's stale uploads are to be recorded.
+    TakenBack(TenantName, Vec<u8>),
+}
+
+/// A request of the tenant of this access key.
+fn serve_tenant<H: Storage, B: Body>(
+    alloc: Global,
+    routes: &Routes,
+    host: &mut H,
+    key: AccessKeyId,
+    at: Moment,
+    head: &Head,
+    body: &mut B,
+) -> Result<Served, Trouble>
+    requires keyed { (given : Octets) → key_given (with_body head.now given) ≡ Some key }
+    requires working { Clean H.IsIntact H.IsOpen host.old → IsWorking H.IsSoundStore (H.seen host.old) }
+    requires early { Clean H.IsIntact H.IsOpen host.old → at ≤ latest_of (H.seen host.old).now }
+    requires going { (B.coming body.old).broken ≡ None }
+    ensures within { Within H.IsIntact H.IsOpen H.seen H.left host.old host.new }
+    ensures opens { IfOk result (λ served. IfKept served (H.IsOpen host.old → H.IsIntact host.new → H.IsOpen host.new)) }
+    ensures working { IfOk result (λ served. IfKept served (Clean H.IsIntact H.IsOpen host.new → IsWorking H.IsSoundStore (H.seen host.new))) }
+    ensures serves { Serves (Clean H.IsIntact H.IsOpen host.new) (H.seen host.old).limits head.now at (B.coming body.old) (B.coming body.new)
+        (H.seen host.old).now (H.seen host.new).now result }
+{
+    host.purge(alloc, &key.tenant, at)?;
+    match requested(alloc, routes, host, &key, at, head, body) {
+        Ok(Outcome::Done(answer)) => Ok(Served::Kept(answer_text(alloc, head, answer)?)),
+        Ok(Outcome::Spoilt(rejection)) => {
+            let text = refused_request_text(alloc, routes, head, rejection)?;
+            Ok(Served::TakenBack(key.tenant, text))
+        }
+        Err(StepError::Refused(rejection)) => {
+            Ok(Served::Kept(refused_request_text(alloc, routes, head, rejection)?))
+        }
+        Err(StepError::Failed(trouble)) => Err(trouble),
+    }
+}
+
+/// A request at its stamp. Who belongs to nobody is refused once the body came.
+fn serve<H: Storage, B: Body>(
+    alloc: Global,
+    routes: &Routes,
+    host: &mut H,
+    at: Moment,
+    head: &Head,
+    body: &mut B,
+) -> Result<Served, Trouble>
+    requires working { Clean H.IsIntact H.IsOpen host.old → IsWorking H.IsSoundStore (H.seen host.old) }
+    requires early { Clean H.IsIntact H.IsOpen host.old → at ≤ latest_of (H.seen host.old).now }
+    requires going { (B.coming body.old).broken ≡ None }
+    ensures within { Within H.IsIntact H.IsOpen H.seen H.left host.old host.new }
+    ensures opens { IfOk result (λ served. IfKept served (H.IsOpen host.old → H.IsIntact host.new → H.IsOpen host.new)) }
+    ensures working { IfOk result (λ served. IfKept served (Clean H.IsIntact H.IsOpen host.new → IsWorking H.IsSoundStore (H.seen host.new))) }
+    ensures serves { Serves (Clean H.IsIntact H.IsOpen host.new) (H.seen host.old).limits head.now at (B.coming body.old) (B.coming body.new)
+        (H.seen host.old).now (H.seen host.new).now result }
+{
+    match access_key_of(alloc, head)? {
+        Some(key) => serve_tenant(alloc, routes, host, key, at, head, body),
+        None => {
+            drain(body)?;
+            let rejection = Rejection::from(stranger_refusal(head));
+            Ok(Served::Kept(refused_request_text(alloc, routes, head, rejection)?))
+        }
+    }
+}
+
+/// A transaction with a request. Unless it is applied, it may be open still.
+fn try_receive<H: Storage, B: Body>(
+    alloc: Global,
+    routes: &Routes,
+    host: &mut H,
+    reading: u64,
+    head: &Head,
+    body: &mut B,
+) -> Result<Tried, Trouble>
+    requires in_range { reading ≤ last_reading }
+    requires rest { Clean H.IsIntact H.IsOpen host.old → IsAtRest H.IsSoundStore (H.seen host.old) }
+    requires going { (B.coming body.old).broken ≡ None }
+    ensures intact { H.IsIntact host.new → H.IsIntact host.old }
+    ensures opened { H.IsIntact host.new → H.IsOpen host.new → H.IsOpen host.old }
+    ensures limits { (H.seen host.new).limits ≡ (H.seen host.old).limits }
+    ensures ready { IfOk result (λ tried. IfApplied tried (Clean H.IsIntact H.IsOpen host.new → IsAtRest H.IsSoundStore (H.seen host.new))) }
+    ensures tries { Tries H.IsIntact H.IsOpen H.seen H.left reading head.now (B.coming body.old) (B.coming body.new)
+        host.old host.new result }
+    ensures leaves { H.IsIntact host.new → LeavesSound H.IsSoundStore H.left host.old host.new }
+{
+    host.begin()?;
+    let stamp = host.stamp(reading)?;
+    match serve(alloc, routes, host, stamp, head, body)? {
+        Served::Kept(bytes) => {
+            host.commit()?;
+            Ok(Tried::Applied(Told {
+                stamp: Some(stamp),
+                reply: Reply::Text(bytes),
+            }))
+        }
+        Served::TakenBack(tenant, bytes) => Ok(Tried::TakenBack(tenant, bytes)),
+    }
+}
+
+/// A transaction with the stamp of a reading, and without a tenant's stale uploads, where one is named.
+fn record_stamp<H: Storage>(
+    alloc: Global,
+    host: &mut H,
+    reading: u64,
+    tenant: Option<&TenantName>,
+) -> Result<Moment, Trouble>
+    requires in_range { reading ≤ last_reading }
+    requires rest { Clean H.IsIntact H.IsOpen host.old → IsAtRest H.IsSoundStore (H.seen host.old) }
+    ensures intact { H.IsIntact host.new → H.IsIntact host.old }
+    ensures opened { H.IsIntact host.new → H.IsOpen host.new → H.IsOpen host.old }
+    ensures limits { (H.seen host.new).limits ≡ (H.seen host.old).limits }
+    ensures ready { OnOk result (Clean H.IsIntact H.IsOpen host.new → IsAtRest H.IsSoundStore (H.seen host.new)) }
+    ensures open { OnOk result (H.IsIntact host.new → H.IsOpen host.old × H.IsOpen host.new) }
+    ensures stamp { IfOk result (λ m. H.IsIntact host.new → IsStamp reading (H.seen host.old).now m) }
+    ensures done { IfOk result (λ m. H.IsIntact host.new → Records (option_copied tenant.entry) m (H.seen host.old).now (H.seen host.new).now) }
+    ensures survives { OnOk result (H.IsIntact host.new → (x : Tables) → H.left host.new x → x ≡ (H.seen host.new).now) }
+    ensures crash { OnErr result (H.IsIntact host.new → (x : Tables) → H.left host.new x
+        → H.left host.old x ⊎ (H.IsOpen host.old × ((m : ℕ) × IsStamp reading (H.seen host.old).now m
+        × Records (option_copied tenant.entry) m (H.seen host.old).now x))) }
+    ensures leaves { H.IsIntact host.new → LeavesSound H.IsSoundStore H.left host.old host.new }
+    ensures kept { OnErr result (Clean H.IsIntact H.IsOpen host.new → (H.seen host.new).kept ≡ (H.seen host.old).kept) }
+{
+    host.begin()?;
+    let stamp = host.stamp(reading)?;
+    if let Some(tenant) = tenant {
+        host.purge(alloc, tenant, stamp)?;
+    }
+    host.commit()?;
+    Ok(stamp)
+}
+
+/// Records a stamp, and answers a text; a transaction was taken back before.
+fn answer_anew<H: Storage>(
+    alloc: Global,
+    host: &mut H,
+    reading: u64,
+    tenant: Option<&TenantName>,
+    text: Vec<u8>,
+) -> Told
+    requires in_range { reading ≤ last_reading }
+    requires rest { Clean H.IsIntact H.IsOpen host.old → IsAtRest H.IsSoundStore (H.seen host.old) }
+    ensures intact { H.IsIntact host.new → H.IsIntact host.old }
+    ensures opened { H.IsIntact host.new → H.IsOpen host.new → H.IsOpen host.old }
+    ensures limits { (H.seen host.new).limits ≡ (H.seen host.old).limits }
+    ensures ready { Clean H.IsIntact H.IsOpen host.new → IsAtRest H.IsSoundStore (H.seen host.new) }
+    ensures anew { AnewAs H.IsIntact H.IsOpen H.seen H.left reading (option_copied tenant.entry) text.items
+        host.old host.new (told result).0 (told result).1 }
+    ensures leaves { H.IsIntact host.new → LeavesSound H.IsSoundStore H.left host.old host.new }
+{
+    match record_stamp(alloc, host, reading, tenant) {
+        Ok(stamp) => Told {
+            stamp: Some(stamp),
+            reply: Reply::Text(text),
+        },
+        Err(trouble) => {
+            host.take_back();
+            wanting(trouble)
+        }
+    }
+}
+
+/// What is answered where memory or the store is wanting. It takes no memory.
+pub fn wanting(trouble: Trouble) -> Told
+    ensures { told result ≡ (None, wanting_text Request) }
+{
+    Told {
+        stamp: None,
+        reply: Reply::Wanting(Caller::Request, trouble),
+    }
+}
+
+/// Refuses bytes that are no request, as they are read; they belong to nobody.
+pub fn refuse_unread<H: Storage>(
+    alloc: Global,
+    routes: &Routes,
+    host: &mut H,
+    reading: u64,
+    refusal: Refusal,
+) -> Told
+    requires in_range { reading ≤ last_reading }
+    requires rest { Clean H.IsIntact H.IsOpen host.old → IsAtRest H.IsSoundStore (H.seen host.old) }
+    ensures intact { H.IsIntact host.new → H.IsIntact host.old }
+    ensures opened { H.IsIntact host.new → H.IsOpen host.new → H.IsOpen host.old }
+    ensures limits { (H.seen host.new).limits ≡ (H.seen host.old).limits }
+    ensures ready { Clean H.IsIntact H.IsOpen host.new → IsAtRest H.IsSoundStore (H.seen host.new) }
+    ensures anew { AnewAs H.IsIntact H.IsOpen H.seen H.left reading None (text (RequestRead (Err refusal)) (Err (plain refusal)))
+        host.old host.new (told result).0 (told result).1 }
+    ensures leaves { H.IsIntact host.new → LeavesSound H.IsSoundStore H.left host.old host.new }
+{
+    match unread_text(alloc, routes, refusal) {
+        Ok(text) => answer_anew(alloc, host, reading, None, text),
+        Err(error) => wanting(Trouble::from(error)),
+    }
+}
+
+/// Applies a request whose head was read, at a reading of the clock, in one transaction; its body comes as it is wanted.
+/// `None` where its reader failed, and then nothing has changed.
+///
+/// Where too few bytes come, and where it shows after bytes were stored that they have another checksum than is given, the
+/// transaction is taken back, and the stamp (with the going of what is stale) is recorded in a second one.
+pub fn receive<H: Storage, B: Body>(
+    alloc: Global,
+    routes: &Routes,
+    host: &mut H,
+    reading: u64,
+    head: &Head,
+    body: &mut B,
+) -> Option<Told>
+    requires in_range { reading ≤ last_reading }
+    requires rest { Clean H.IsIntact H.IsOpen host.old → IsAtRest H.IsSoundStore (H.seen host.old) }
+    requires going { (B.coming body.old).broken ≡ None }
+    requires due { (B.coming body.old).due ≡ head.now.body_size }
+    ensures intact { H.IsIntact host.new → H.IsIntact host.old }
+    ensures opened { H.IsIntact host.new → H.IsOpen host.new → H.IsOpen host.old }
+    ensures limits { (H.seen host.new).limits ≡ (H.seen host.old).limits }
+    ensures ready { Clean H.IsIntact H.IsOpen host.new → IsAtRest H.IsSoundStore (H.seen host.new) }
+    ensures receives { Receives H.IsIntact H.IsOpen H.seen H.left reading head.now (B.coming body.old) (B.coming body.new)
+        host.old host.new (option_map told result) }
+    ensures leaves { H.IsIntact host.new → LeavesSound H.IsSoundStore H.left host.old host.new }
+{
+    match try_receive(alloc, routes, host, reading, head, body) {
+        Ok(Tried::Applied(told)) => Some(told),
+        Ok(Tried::TakenBack(tenant, text)) => {
+            host.take_back();
+            Some(answer_anew(alloc, host, reading, Some(&tenant), text))
+        }
+        Err(trouble) => {
+            host.take_back();
+            match body.broken() {
+                None => Some(wanting(trouble)),
+                Some(Break::Failed) => None,
+                Some(Break::Ended) => {
+                    Some(refuse_unread(alloc, routes, host, reading, Refusal::IncompleteBody))
+                }
+            }
+        }
+    }
+}

@@ -1,0 +1,34 @@
+use Rattle.std.proofs.Common.{is_ok, sym, ap, subst, ◌∙◌}
+use Rattle.std.proofs.lemmas.Result.{err_from_is_err_and}
+use Rattle.sqlite.specs.Held.{state}
+use Rattle.bh_tables.specs.Typed.{Tables}
+use Rattle.bh_view.specs.View.{view}
+use Rattle.bh_schema.specs.Working.{tables_at}
+use Rattle.bh_objects.specs.Dates.{new_date_at}
+use Rattle.bh_objects.specs.Found.{mode_in, entry_numbers_in, replaced_in}
+use Rattle.bh_objects.proofs.Working.{works_then, unless_then}
+use Rattle.bh_objects.proofs.Dating.{new_date_read}
+use Rattle.bh_objects.proofs.Receiving.{admitted, unadmitted_by, unadmitted_numbers}
+use Rattle.bh_objects.proofs.objects.admit.Goals as goal
+
+pub new_entry-requires-clause-working : goal.new_entry-requires-clause-working
+new_entry-requires-clause-working g c clean = (c.in_ok-until.ensures.working clean (λ bytes. bytes)).is
+
+pub new_entry-requires-clause-there : goal.new_entry-requires-clause-there
+new_entry-requires-clause-there g c clean =
+    ap (λ (x : Tables). mode_in c.args.object.now.bucket.now (view x c.args.object.now.tenant.now)) (c.in_ok-until.ensures.decides clean).1 ∙ c.requires.mode (c.in_ok-until.ensures.within.follows.clean clean)
+
+pub returns-in_err-until-clause-decides : goal.returns-in_err-until-clause-decides
+returns-in_err-until-clause-decides g c clean =
+    let p = err_from_is_err_and c.from_residual.result c.from_residual.ensures.1 in
+    let object = c.args.object.now in
+    let old = tables_at (state g.S.Store c.args.connection.now) in
+    let clean_old = c.in_err-until.ensures.within.follows.clean clean in
+    rw (p.1, p.2) (unadmitted_by c.args.mode object.tenant.now object.bucket.now object.key.now object.date object.at c.args.size old (tables_at (state g.S.Store c.new_date.new.connection))
+    (new_date_read old object.tenant.now object.bucket.now (c.requires.working clean_old).sound (ap is_ok (c.requires.mode clean_old)) object.at object.date) c.in_err-until.field-0.0 (c.in_err-until.ensures.decides clean))
+
+pub returns-in_err-entry-clause-working : goal.returns-in_err-entry-clause-working
+returns-in_err-entry-clause-working g c =
+    let p = err_from_is_err_and c.from_residual-in_err-entry.result c.from_residual-in_err-entry.ensures.1 in
+    rw (p.1, p.2) (unless_then _ _ c.in_err-entry.field-0.0
+    (λ still clean. works_then (state g.S.Store c.args.connection.now) (state g.S.Store c.new_date.new.connection) (state g.S.Store c.new_entry.new.connection) (c.in_ok-until.ensures.working (c.in_err-entry.ensures.within.follows.clean clean)) (still clean)) c.in_err-entry.ensures.working)

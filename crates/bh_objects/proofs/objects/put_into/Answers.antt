@@ -1,0 +1,71 @@
+use Rattle.std.proofs.Common.{◌≡◌, ◌≤◌, Err, sym, ap, subst, ◌∙◌}
+use Rattle.std.specs.Prelude.{if◌then◌else◌}
+use Rattle.std.specs.Option.{option_copied}
+use Rattle.sqlite.specs.Held.{state}
+use Rattle.bh_types.specs.declared.refusal.Refusal.TheVariants.{BadDigest}
+use Rattle.bh_model.specs.Operations.{put_object}
+use Rattle.bh_model.specs.Parts.{is_checksum}
+use Rattle.bh_storage.specs.Answers.{stored_answer}
+use Rattle.bh_tables.specs.Typed.{Tables}
+use Rattle.bh_view.specs.Blocks.{AreDigests}
+use Rattle.bh_view.specs.Bodies.{StoresPieces}
+use Rattle.bh_view.specs.View.{view, latest_of}
+use Rattle.bh_cache.specs.Kept.{AreCopies}
+use Rattle.bh_schema.specs.Working.{tables_at}
+use Rattle.bh_objects.specs.Admitting.{admitted_in}
+use Rattle.bh_objects.specs.Found.{mode_in, replaced_in}
+use Rattle.bh_objects.proofs.Receiving.{operates_asked, operates_refusing, put_unfit, spoilt_kept}
+use Rattle.bh_objects.proofs.objects.put_into.Goals as goal
+
+pub store_admitted-requires-clause-working : goal.store_admitted-requires-clause-working
+store_admitted-requires-clause-working g c clean = (c.in-Ok.ensures.working clean (λ bytes. bytes)).is
+
+pub store_admitted-requires-clause-copies : goal.store_admitted-requires-clause-copies
+store_admitted-requires-clause-copies g c clean = subst (λ (x : Tables). AreCopies c.args.cache.now x.blocks) (sym (c.in-Ok.ensures.decides clean).1) (c.requires.copies (c.in-Ok.ensures.within.follows.clean clean))
+
+pub store_admitted-requires-clause-digests : goal.store_admitted-requires-clause-digests
+store_admitted-requires-clause-digests g c clean = subst (λ (x : Tables). AreDigests g.D.Digester.digest_of x.blocks) (sym (c.in-Ok.ensures.decides clean).1) (c.requires.digests (c.in-Ok.ensures.within.follows.clean clean))
+
+pub store_admitted-requires-clause-early : goal.store_admitted-requires-clause-early
+store_admitted-requires-clause-early g c clean = subst (λ (x : Tables). c.args.object.now.at ≤ latest_of x) (sym (c.in-Ok.ensures.decides clean).1) (c.requires.early (c.in-Ok.ensures.within.follows.clean clean))
+
+pub store_admitted-requires-clause-mode : goal.store_admitted-requires-clause-mode
+store_admitted-requires-clause-mode g c clean =
+    ap (λ (x : Tables). mode_in c.args.object.now.bucket.now (view x c.args.object.now.tenant.now)) (c.in-Ok.ensures.decides clean).1 ∙ c.requires.mode (c.in-Ok.ensures.within.follows.clean clean)
+
+pub store_admitted-requires-clause-admitted : goal.store_admitted-requires-clause-admitted
+store_admitted-requires-clause-admitted g c clean =
+    let object = c.args.object.now in
+    rw c.due.ensures at (ap (λ (x : Tables). admitted_in c.args.mode object.bucket.now object.key.now object.date object.at c.due.result (view x object.tenant.now)) (c.in-Ok.ensures.decides clean).1 ∙ (c.in-Ok.ensures.decides clean).0)
+
+pub store_admitted-requires-clause-replaced : goal.store_admitted-requires-clause-replaced
+store_admitted-requires-clause-replaced g c clean =
+    let object = c.args.object.now in
+    c.in-Ok.ensures.replaced clean ∙ ap (replaced_in c.args.mode object.tenant.now object.bucket.now object.key.now) (sym (c.in-Ok.ensures.decides clean).1)
+
+pub returns-in-Ok-clause-working : goal.returns-in-Ok-clause-working
+returns-in-Ok-clause-working g c = spoilt_kept c.store_admitted.result _ _ (λ still clean.
+    let was = c.in-Ok.ensures.working (c.store_admitted.ensures.within.follows.clean clean) g.D.Digester.digest_of in
+    let now = still clean in
+    record { is = now.is; limits = now.limits ∙ was.limits; digests = λ d. now.digests (was.digests d) }) c.store_admitted.ensures.working
+
+pub returns-in-Ok-clause-operates : goal.returns-in-Ok-clause-operates
+returns-in-Ok-clause-operates g c =
+    let object = c.args.object.now in
+    let new = tables_at (state g.S.Store c.store_admitted.new.connection) in
+    operates_asked stored_answer object.tenant.now (λ bytes. put_object object.at object.bucket.now object.key.now bytes (option_copied c.args.given) object.date) (λ old bytes. StoresPieces g.D.Digester.digest_of c.args.block_size bytes old new) _ _ _
+    (tables_at (state g.S.Store c.args.connection.now)) (tables_at (state g.S.Store c.admit.new.connection)) new (λ clean. (c.in-Ok.ensures.decides (c.store_admitted.ensures.within.follows.clean clean)).1) c.store_admitted.result c.store_admitted.ensures.operates
+
+-- the checksum comes before what the head decides
+pub returns-in-Err-Refused-clause-operates : goal.returns-in-Err-Refused-clause-operates
+returns-in-Err-Refused-clause-operates g c =
+    let object = c.args.object.now in
+    let v = view (tables_at (state g.S.Store c.args.connection.now)) object.tenant.now in
+    let refusal = c.in-Err-Refused.refusal in
+    let (given, gives, by) = c.refused_checked.ensures.came in
+    operates_refusing stored_answer object.tenant.now (λ bytes. put_object object.at object.bucket.now object.key.now bytes (option_copied c.args.given) object.date) _ _ _ _ _ _ given gives (λ r. r ≡ (if is_checksum (option_copied c.args.given) given then refusal else BadDigest)) c.refused_checked.result by (λ r count is clean.
+    let d = rw c.in-Err-Refused.field-0-is at c.in-Err-Refused.ensures.decides clean in (
+      put_unfit object.at object.bucket.now object.key.now given (option_copied c.args.given) object.date v c.args.mode (c.requires.mode (c.in-Err-Refused.ensures.within.follows.clean clean)) refusal
+          (subst (λ n. admitted_in c.args.mode object.bucket.now object.key.now object.date object.at n v ≡ Err refusal) (c.due.ensures ∙ count) d.0) r is,
+      d.1,
+    ))
