@@ -28,7 +28,7 @@ returns-then-held-draft-clause-goes g c = λ clean.
     let digest = g.D.Digester.digest_of in
     let draft = c.args.draft.now in
     let now = tables_at (state g.S.Store c.args.connection.now) in
-    goes_on digest draft _ c.args.bytes.now now now refl refl
+    goes_on digest draft (record draft { waiting = c.append.new.waiting }) c.args.bytes.now now now refl refl
     (waits digest (drafted draft) draft.size draft.place draft.waiting.items c.args.bytes.now c.cut_off.result.0.now c.append.new.waiting.items now
     (rw c.held-waits.ensures at c.cut_off.ensures.front) c.in_ok-append.ensures c.requires.fewer (rw c.held.ensures at c.if-held-draft.true))
 
