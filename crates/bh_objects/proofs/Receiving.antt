@@ -1,5 +1,5 @@
 -- An operation whose body comes in pieces, by how it ends; and a put whose body was stored as it came.
-use Rattle.std.proofs.Common.{◌≡◌, ◌≤◌, ℕ, ◌+◌, List, length, true, false, true≢false, is_ok, Bool, Option, Some, None, Result, Ok, Err, refl, sym, ap, ◌∙◌, arith, subst}
+use Rattle.std.proofs.Common.{◌≡◌, ◌≤◌, ℕ, length, true, false, true≢false, is_ok, Bool, Option, Some, Result, Ok, Err, refl, sym, ap, ◌∙◌, arith, subst}
 use Rattle.std.specs.Prelude.{if◌then◌else◌}
 use Rattle.std.specs.Result.{result_map_both}
 use Rattle.std.specs.String.{string_bytes}
@@ -150,13 +150,19 @@ admitted mode b k date at size v until numbers dated read = rw (dated, read) ref
 pub unadmitted_date : (mode : BucketState) (b k : Octets) (date : Option (Option ℕ)) (at size : ℕ) (v : Option State) (x : Refusal) → new_date_in b date at v ≡ Err x → admitted_in mode b k date at size v ≡ Err x
 unadmitted_date mode b k date at size v x dated = rw dated refl
 
-pub unadmitted_by : {X Y : Type 0} {shows : X → Option ℕ} {told : Y → Option ℕ × (Counts × Counts)} (mode : BucketState) (t b k : Octets) (date : Option (Option ℕ)) (at size : ℕ) (old new : Tables) → new_date_in b date at (view old t) ≡ new_date_at t b date at old
-    → (error : StepError Refusal) → Decides {X = X} shows (new_date_at t b date at old) old new (Err error) → Decides {X = Y} told (admitted_in mode b k date at size (view old t)) old new (Err error)
-unadmitted_by mode t b k date at size old new read (Refused x) d = (unadmitted_date mode b k date at size (view old t) x (read ∙ d.0), d.1)
-unadmitted_by mode t b k date at size old new read (Failed trouble) d = tt
+pub unadmitted_by : {X Y : Type 0} (shows : X → Option ℕ) (told : Y → Option ℕ × (Counts × Counts)) (mode : BucketState) (t b k : Octets) (date : Option (Option ℕ)) (at size : ℕ) (old new : Tables) → new_date_in b date at (view old t) ≡ new_date_at t b date at old
+    → (error : StepError Refusal) → Decides shows (new_date_at t b date at old) old new (Err error) → Decides told (admitted_in mode b k date at size (view old t)) old new (Err error)
+unadmitted_by shows told mode t b k date at size old new read (Refused x) d = (unadmitted_date mode b k date at size (view old t) x (read ∙ d.0), d.1)
+unadmitted_by shows told mode t b k date at size old new read (Failed trouble) d = tt
 
 pub unadmitted_numbers : (mode : BucketState) (b k : Octets) (date : Option (Option ℕ)) (at size : ℕ) (v : Option State) (until : Option ℕ) (x : Refusal) → new_date_in b date at v ≡ Ok until → entry_numbers_in mode b k size v ≡ Err x → admitted_in mode b k date at size v ≡ Err x
 unadmitted_numbers mode b k date at size v until x dated read = rw (dated, read) refl
+
+pub unadmitted_entry : {X Y : Type 0} (shows : X → Counts × Counts) (told : Y → Option ℕ × (Counts × Counts)) (mode : BucketState) (t b k : Octets) (date : Option (Option ℕ)) (at size : ℕ) (old mid new : Tables) (until : Option ℕ) → new_date_in b date at (view old t) ≡ Ok until → mid ≡ old
+    → (error : StepError Refusal) → Decides shows (entry_numbers_in mode b k size (view mid t)) mid new (Err error) → Decides told (admitted_in mode b k date at size (view old t)) old new (Err error)
+unadmitted_entry shows told mode t b k date at size old mid new until dated same (Refused x) d =
+    (unadmitted_numbers mode b k date at size (view old t) until x dated (ap (λ (m : Tables). entry_numbers_in mode b k size (view m t)) (sym same) ∙ d.0), d.1 ∙ same)
+unadmitted_entry shows told mode t b k date at size old mid new until dated same (Failed trouble) d = tt
 
 -- where it is refused, that comes after the checksum
 pub put_unfit : (at : ℕ) (b k bytes : Octets) (given : Option Octets) (date : Option (Option ℕ)) (v : Option State) (mode : BucketState) → mode_in b v ≡ Ok mode → (x : Refusal) → admitted_in mode b k date at (length bytes) v ≡ Err x

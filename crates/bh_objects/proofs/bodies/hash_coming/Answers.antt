@@ -1,4 +1,4 @@
-use Rattle.std.proofs.Common.{arith}
+use Rattle.std.proofs.Common.{[], arith}
 use Rattle.bh_http.proofs.BodyLemmas.{gives_none, gives_then, if_err, breaks_may}
 use Rattle.bh_objects.proofs.bodies.hash_coming.Goals as goal
 

@@ -1,5 +1,4 @@
 use Rattle.bh_http.proofs.BodyLemmas.{going_may, if_err}
-use Rattle.bh_schema.proofs.Storing.{on_ok}
 use Rattle.bh_objects.proofs.bodies.store_block.Goals as goal
 
 pub returns-in_err-or_trouble-clause-stopped : goal.returns-in_err-or_trouble-clause-stopped

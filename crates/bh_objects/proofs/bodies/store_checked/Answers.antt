@@ -1,4 +1,4 @@
-use Rattle.std.proofs.Common.{sym, ap, ◌∙◌}
+use Rattle.std.proofs.Common.{refl, sym, ap, ◌∙◌}
 use Rattle.std.proofs.lemmas.Result.{err_from_is_err_and}
 use Rattle.bh_http.proofs.BodyLemmas.{going_may}
 use Rattle.bh_types.specs.Checksums.{digest_text}
@@ -23,8 +23,8 @@ returns-then-is_given-clause-received g c =
     let told = c.in_ok-text.ensures ∙ ap digest_text sum in
     record { bytes = given; gives = gives; received = (whole, sym (c.is_given.ensures given (c.as_str.ensures.value ∙ told)) ∙ c.if-is_given.true, told, becomes) }
 
-pub returns-clause-received : goal.returns-clause-received
-returns-clause-received g c =
+pub returns-else-is_given-clause-received : goal.returns-else-is_given-clause-received
+returns-else-is_given-clause-received g c =
     let (given, gives, whole, sum, becomes) = c.in_ok-sum.ensures.stored in
     let told = c.in_ok-text.ensures ∙ ap digest_text sum in
     record { bytes = given; gives = gives; received = (whole, sym (c.is_given.ensures given (c.as_str.ensures.value ∙ told)) ∙ c.if-is_given.false, refl) }

@@ -1,11 +1,11 @@
-use Rattle.std.proofs.Common.{◌≡◌, ◌≤◌, Err, sym, ap, subst, ◌∙◌}
-use Rattle.std.specs.Prelude.{if◌then◌else◌}
+use Rattle.std.proofs.Common.{◌≡◌, ◌≤◌, [], Err, sym, ap, subst, ◌∙◌}
 use Rattle.std.specs.Option.{option_copied}
 use Rattle.sqlite.specs.Held.{state}
-use Rattle.bh_types.specs.declared.refusal.Refusal.TheVariants.{BadDigest}
+use Rattle.bh_http.proofs.BodyLemmas.{gives_none, going_may}
+use Rattle.bh_types.specs.declared.refusal.Refusal.{Refusal}
 use Rattle.bh_model.specs.Operations.{put_object}
-use Rattle.bh_model.specs.Parts.{is_checksum}
 use Rattle.bh_storage.specs.Answers.{stored_answer}
+use Rattle.bh_storage.specs.declared.answer.StoredVersion.{StoredVersion}
 use Rattle.bh_tables.specs.Typed.{Tables}
 use Rattle.bh_view.specs.Blocks.{AreDigests}
 use Rattle.bh_view.specs.Bodies.{StoresPieces}
@@ -14,7 +14,7 @@ use Rattle.bh_cache.specs.Kept.{AreCopies}
 use Rattle.bh_schema.specs.Working.{tables_at}
 use Rattle.bh_objects.specs.Admitting.{admitted_in}
 use Rattle.bh_objects.specs.Found.{mode_in, replaced_in}
-use Rattle.bh_objects.proofs.Receiving.{operates_asked, operates_refusing, put_unfit, spoilt_kept}
+use Rattle.bh_objects.proofs.Receiving.{operates_asked, operates_failed, operates_refusing, put_unfit, spoilt_kept, unless_spoilt}
 use Rattle.bh_objects.proofs.objects.put_into.Goals as goal
 
 pub store_admitted-requires-clause-working : goal.store_admitted-requires-clause-working
@@ -63,9 +63,16 @@ returns-in-Err-Refused-clause-operates g c =
     let v = view (tables_at (state g.S.Store c.args.connection.now)) object.tenant.now in
     let refusal = c.in-Err-Refused.refusal in
     let (given, gives, by) = c.refused_checked.ensures.came in
-    operates_refusing stored_answer object.tenant.now (λ bytes. put_object object.at object.bucket.now object.key.now bytes (option_copied c.args.given) object.date) _ _ _ _ _ _ given gives (λ r. r ≡ (if is_checksum (option_copied c.args.given) given then refusal else BadDigest)) c.refused_checked.result by (λ r count is clean.
+    operates_refusing stored_answer object.tenant.now (λ bytes. put_object object.at object.bucket.now object.key.now bytes (option_copied c.args.given) object.date) _ _ _ _ _ _ given gives _ c.refused_checked.result by (λ r count is clean.
     let d = rw c.in-Err-Refused.field-0-is at c.in-Err-Refused.ensures.decides clean in (
       put_unfit object.at object.bucket.now object.key.now given (option_copied c.args.given) object.date v c.args.mode (c.requires.mode (c.in-Err-Refused.ensures.within.follows.clean clean)) refusal
-          (subst (λ n. admitted_in c.args.mode object.bucket.now object.key.now object.date object.at n v ≡ Err refusal) (c.due.ensures ∙ count) d.0) r is,
+          (subst (λ n. admitted_in c.args.mode object.bucket.now object.key.now object.date object.at n v ≡ Err refusal) (c.due.ensures ∙ count) d.0) r (rw c.in-Err-Refused.field-0-is at is),
       d.1,
     ))
+
+pub returns-in-Err-Refused-clause-working : goal.returns-in-Err-Refused-clause-working
+returns-in-Err-Refused-clause-working g c =
+    unless_spoilt {X = StoredVersion} {E = Refusal} (Err c.refused_checked.result) _ (λ clean. (rw c.in-Err-Refused.field-0-is at c.in-Err-Refused.ensures.working) clean g.D.Digester.digest_of)
+
+pub returns-in-Err-Failed-clause-operates : goal.returns-in-Err-Failed-clause-operates
+returns-in-Err-Failed-clause-operates g c = operates_failed _ _ _ _ _ _ _ _ _ [] (gives_none _ c.requires.going) _ (going_may _ c.requires.going)

@@ -1,9 +1,11 @@
-use Rattle.std.proofs.Common.{◌≡◌, ◌≤◌, Err, sym, ap, subst, ◌∙◌}
+use Rattle.std.proofs.Common.{◌≤◌, [], Err, sym, ap, subst, ◌∙◌}
 use Rattle.std.specs.Option.{option_copied}
 use Rattle.sqlite.specs.Held.{state}
+use Rattle.bh_http.proofs.BodyLemmas.{gives_none, going_may}
 use Rattle.bh_types.specs.declared.refusal.Refusal.{Refusal}
 use Rattle.bh_model.specs.Operations.{put_object}
 use Rattle.bh_storage.specs.Answers.{stored_answer}
+use Rattle.bh_storage.specs.declared.answer.StoredVersion.{StoredVersion}
 use Rattle.bh_tables.specs.Typed.{Tables}
 use Rattle.bh_view.specs.Blocks.{AreDigests}
 use Rattle.bh_view.specs.Bodies.{StoresPieces}
@@ -11,7 +13,7 @@ use Rattle.bh_view.specs.View.{view, latest_of}
 use Rattle.bh_cache.specs.Kept.{AreCopies}
 use Rattle.bh_schema.specs.Working.{tables_at}
 use Rattle.bh_objects.specs.Found.{mode_in}
-use Rattle.bh_objects.proofs.Receiving.{operates_asked, operates_refusing, put_nowhere, spoilt_kept}
+use Rattle.bh_objects.proofs.Receiving.{operates_asked, operates_failed, operates_refusing, put_nowhere, spoilt_kept, unless_spoilt}
 use Rattle.bh_objects.proofs.objects.put_object.Goals as goal
 
 pub put_into-requires-clause-working : goal.put_into-requires-clause-working
@@ -47,6 +49,13 @@ pub returns-in-Err-Refused-clause-operates : goal.returns-in-Err-Refused-clause-
 returns-in-Err-Refused-clause-operates g c =
     let object = c.args.object.now in
     let (given, gives, by) = c.refused_whole.ensures.came in
-    operates_refusing stored_answer object.tenant.now (λ bytes. put_object object.at object.bucket.now object.key.now bytes (option_copied c.args.given) object.date) _ _ _ _ _ _ given gives (λ r. r ≡ c.in-Err-Refused.refusal) c.refused_whole.result by (λ r count is clean.
+    operates_refusing stored_answer object.tenant.now (λ bytes. put_object object.at object.bucket.now object.key.now bytes (option_copied c.args.given) object.date) _ _ _ _ _ _ given gives _ c.refused_whole.result by (λ r count is clean.
     let d = rw c.in-Err-Refused.field-0-is at c.in-Err-Refused.ensures.decides clean in
-    (put_nowhere object.at object.bucket.now object.key.now given (option_copied c.args.given) object.date (view (tables_at (state g.S.Store c.args.connection.now)) object.tenant.now) r (d.0 ∙ ap (λ (x : Refusal). Err x) (sym is)), d.1))
+    (put_nowhere object.at object.bucket.now object.key.now given (option_copied c.args.given) object.date (view (tables_at (state g.S.Store c.args.connection.now)) object.tenant.now) r (d.0 ∙ ap (λ (x : Refusal). Err x) (sym (rw c.in-Err-Refused.field-0-is at is))), d.1))
+
+pub returns-in-Err-Refused-clause-working : goal.returns-in-Err-Refused-clause-working
+returns-in-Err-Refused-clause-working g c =
+    unless_spoilt {X = StoredVersion} {E = Refusal} (Err c.refused_whole.result) _ (λ clean. (rw c.in-Err-Refused.field-0-is at c.in-Err-Refused.ensures.working) clean g.D.Digester.digest_of)
+
+pub returns-in-Err-Failed-clause-operates : goal.returns-in-Err-Failed-clause-operates
+returns-in-Err-Failed-clause-operates g c = operates_failed _ _ _ _ _ _ _ _ _ [] (gives_none _ c.requires.going) _ (going_may _ c.requires.going)
