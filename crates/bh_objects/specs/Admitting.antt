@@ -1,6 +1,7 @@
 -- What a put of so many bytes gets, before any of them comes.
 use Rattle.std.specs.Prelude.{ℕ, Option, Result, Ok}
 use Rattle.bh_types.specs.Counts.{Counts}
+use Rattle.bh_types.specs.Outcomes.{◌>>=◌}
 use Rattle.bh_types.specs.declared.bucket_state.BucketState.{BucketState}
 use Rattle.bh_types.specs.declared.refusal.Refusal.{Refusal}
 use Rattle.bh_model.specs.State.{Octets, State}
