@@ -17,8 +17,7 @@ use Rattle.bh_http.specs.Transfers.{Logs, Gives, Takes}
 use Rattle.bh_link.proofs.TakingLemmas.{consumes_none}
 use Rattle.bh_http.proofs.TransferLemmas.{logs_nothing}
 use Rattle.bh_host.specs.Replies.{clock_text, wanting_text}
-use Rattle.bh_host.specs.Runs.{Told}
-use Rattle.bh_host.specs.Turns.{Applied, WouldApply, fixed, request_at}
+use Rattle.bh_host.specs.Turns.{Applied, fixed, request_at}
 use Rattle.bh_host.specs.declared.reply.Caller.TheVariants.{Request}
 use Rattle.bh_connection.specs.Connections.{Ends, EndsAs, IsApplied, IsTakenBack, CameTo}
 use Rattle.bh_connection.specs.declared.served.End.TheVariants.{ReadFailed}

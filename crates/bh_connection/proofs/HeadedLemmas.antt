@@ -1,18 +1,17 @@
 -- A request whose body came from the reader, as the event of all the bytes that the reader would give.
-use Rattle.std.proofs.Common.{◌≡◌, ◌≢◌, ℕ, ◌≤◌, ◌++◌, Bool, true, false, List, [], length, length-append, take, refl, sym, ap, subst, ◌∙◌, arith, Option, Some, None, Result, Ok, Err, inl, inr, ◌⊎◌}
+use Rattle.std.proofs.Common.{◌≡◌, ◌≢◌, ℕ, ◌≤◌, ◌++◌, Bool, true, false, List, [], length, take, refl, sym, ap, subst, ◌∙◌, arith, Option, Some, None, Ok, Err, inl, inr}
 use Rattle.std.specs.Prelude.{IfSome, nat_le, if◌then◌else◌}
-use Rattle.std.specs.Io.KnownBytes.{Appends, Consumes, Keeps, IsAtEnd}
+use Rattle.std.specs.Io.KnownBytes.{Appends, Keeps}
 use Rattle.std.proofs.lemmas.List.{take_all}
 use Rattle.bh_types.specs.Limits.{HostLimits}
 use Rattle.bh_types.specs.Rejections.{plain}
 use Rattle.bh_types.specs.declared.refusal.Refusal.{Refusal}
 use Rattle.bh_types.specs.declared.refusal.Refusal.TheVariants.{IncompleteBody}
 use Rattle.bh_http.specs.Arriving.{HasExtent}
-use Rattle.bh_http.specs.Bodies as bodies
 use Rattle.bh_http.specs.Bodies.{Coming, is_fault, broken_by}
 use Rattle.bh_http.specs.Reading.{Reads, ReadsHead, completed}
-use Rattle.bh_http.specs.Transfers.{Transfer, Logs, Gives, Takes}
-use Rattle.bh_http.specs.Views.{Taken, announced_view, with_body}
+use Rattle.bh_http.specs.Transfers.{Logs, Gives, Takes}
+use Rattle.bh_http.specs.Views.{announced_view, with_body}
 use Rattle.bh_http.specs.declared.body.Break.{Break}
 use Rattle.bh_http.specs.declared.body.Break.TheVariants.{Failed, Ended}
 use Rattle.bh_http.specs.declared.request.Head.{Head}

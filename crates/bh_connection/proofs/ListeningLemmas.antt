@@ -1,5 +1,5 @@
 -- Visits after visits.
-use Rattle.std.proofs.Common.{◌≡◌, ℕ, Bool, true, false, List, [], ◌∷◌, ◌++◌, refl, sym, ap, subst, ◌∙◌, Option, Some, None, Result, Ok, Err, append-nil}
+use Rattle.std.proofs.Common.{◌≡◌, ℕ, Bool, true, false, List, [], ◌∷◌, ◌++◌, refl, sym, ap, subst, ◌∙◌, Option, None, Result, Ok, Err, append-nil}
 use Rattle.std.specs.Prelude.{IsErr, MatchResult, filter_map}
 use Rattle.std.specs.List.{flat_map, cons_option}
 use Rattle.std.proofs.lemmas.Bool.{false≢true}
@@ -19,7 +19,7 @@ use Rattle.bh_connection.specs.Connections.{Ends}
 use Rattle.bh_connection.specs.declared.served.End.TheVariants.{ReadFailed}
 use Rattle.bh_connection.specs.declared.served.Served.{Served}
 use Rattle.bh_connection.specs.Operators.{Heard, CutOff, NotHeard, NoOrder, Obeyed, Obeys}
-use Rattle.bh_connection.specs.Visits.{Visit, OfClient, OfOperator, CameBy, AllCame, DidBy, DidFor, IsAdmitted, RanFor, event_of, told_of, event_heard, told_heard}
+use Rattle.bh_connection.specs.Visits.{Visit, OfClient, OfOperator, CameBy, AllCame, DidBy, DidFor, RanFor, event_of, told_of, event_heard, told_heard}
 use Rattle.bh_connection.specs.Listening.{Call, calls_for, calls_of, HasServedAll, IsServed, VisitedAs}
 use Rattle.bh_connection.proofs.EachLemmas.{ran_stays, ran_with, run_alone, ran_no_request, ran_request}
 

@@ -1,9 +1,8 @@
 -- A request that was read, or not, and answered, as its event.
-use Rattle.std.proofs.Common.{◌≡◌, ◌≤◌, ◌<◌, ◌⊎◌, ℕ, ◌++◌, length, take, drop, Bool, true, false, List, [], ◌∷◌, append-nil, Option, Some, None, Result, Ok, Err, refl, sym, ap, subst, ◌∙◌, arith, inl, inr}
-use Rattle.std.specs.Prelude.{IfSome, IfNone, nat_le, nat_lt, if◌then◌else◌}
+use Rattle.std.proofs.Common.{◌≡◌, ◌≤◌, ◌<◌, ◌⊎◌, ℕ, ◌++◌, length, take, Bool, false, List, [], ◌∷◌, append-nil, Option, Some, None, Result, Ok, Err, refl, sym, ap, subst, ◌∙◌, arith, inl, inr}
+use Rattle.std.specs.Prelude.{IfSome, IfNone, nat_lt, if◌then◌else◌}
 use Rattle.std.proofs.lemmas.Bool.{le-leb, lt-leb}
 use Rattle.std.proofs.lemmas.Bool.Decides.{nat_tests}
-use Rattle.bh_types.specs.Limits.{HostLimits}
 use Rattle.bh_types.specs.Rejections.{plain}
 use Rattle.bh_types.specs.declared.refusal.Refusal.{Refusal}
 use Rattle.bh_types.specs.declared.refusal.Refusal.TheVariants.{IncompleteBody}
@@ -17,7 +16,7 @@ use Rattle.bh_model.specs.Runs.{last_reading}
 use Rattle.bh_storage.specs.Calls.{Seen, Clean, IsAtRest}
 use Rattle.bh_tables.specs.Typed.{Tables}
 use Rattle.bh_view.specs.View.{limits_in}
-use Rattle.bh_host.specs.Receives.{answered, AppliedAs, HasCome, IsStamp, Records, AnewAs, ToldAs, ToldOf, Receives}
+use Rattle.bh_host.specs.Receives.{answered, AppliedAs, HasCome, AnewAs, ToldOf, Receives}
 use Rattle.bh_host.specs.Replies.{text, wanting_text}
 use Rattle.bh_host.specs.Turns.{Applied, AppliedTo, WouldApply, IsToldApart, fixed, request_at}
 use Rattle.bh_host.specs.declared.reply.Caller.TheVariants.{Request}

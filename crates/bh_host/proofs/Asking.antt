@@ -1,5 +1,5 @@
 -- A request, by what it asks for by its head and by what comes of its body.
-use Rattle.std.proofs.Common.{◌≡◌, ℕ, Option, Some, None, ok_or, Result, Ok, Err, refl, sym, ap, subst, ◌∙◌}
+use Rattle.std.proofs.Common.{◌≡◌, ℕ, Option, Some, None, ok_or, Result, Ok, Err, refl, ap, subst, ◌∙◌}
 use Rattle.std.specs.Prelude.{bytes_eq}
 use Rattle.bh_types.specs.Limits.{HostLimits}
 use Rattle.bh_types.specs.Outcomes.{◌>>=◌, require}
@@ -11,13 +11,11 @@ use Rattle.bh_types.specs.declared.refusal.Refusal.{Refusal}
 use Rattle.bh_types.specs.declared.refusal.Refusal.TheVariants.{InvalidAccessKeyId, AccessDenied}
 use Rattle.bh_types.specs.declared.access_key.AccessKeyId.{AccessKeyId}
 use Rattle.bh_types.specs.declared.rejection.Rejection.{Rejection}
-use Rattle.bh_http.specs.Bodies.{Coming, Gives}
+use Rattle.bh_http.specs.Bodies.{Coming}
 use Rattle.bh_http.specs.Credentials.{key_given, secret_given}
-use Rattle.bh_http.specs.Views.{Taken, with_body}
-use Rattle.bh_http.specs.declared.request.Head.{Head}
+use Rattle.bh_http.specs.Views.{Taken}
 use Rattle.bh_machine.specs.Machine.{requested, operated}
 use Rattle.bh_model.specs.Credentials.{authenticate, secret_of}
-use Rattle.bh_model.specs.Operations.{Answer}
 use Rattle.bh_model.specs.Operations.{Outcome as Stepped}
 use Rattle.bh_model.specs.State.{Octets, State}
 use Rattle.bh_operation.specs.Operations.{operation}

@@ -1,5 +1,5 @@
 -- A request that is served at its stamp, by how its step ends.
-use Rattle.std.proofs.Common.{◌≡◌, ℕ, List, [], Option, Some, None, Result, Ok, Err, sym, ap, subst, ◌∙◌, Vec, Global}
+use Rattle.std.proofs.Common.{◌≡◌, ℕ, [], Some, None, Result, Ok, Err, sym, ap, subst, ◌∙◌, Vec, Global}
 use Rattle.std.specs.Prelude.{option_map}
 use Rattle.bh_types.specs.Limits.{HostLimits}
 use Rattle.bh_types.specs.declared.access_key.AccessKeyId.{AccessKeyId}
@@ -17,7 +17,7 @@ use Rattle.bh_storage.specs.declared.answer.Answer.{Answer}
 use Rattle.bh_storage.specs.declared.error.Outcome.{Outcome}
 use Rattle.bh_storage.specs.declared.error.Outcome.TheVariants.{Done, Spoilt}
 use Rattle.bh_storage.specs.declared.error.StepError.{StepError}
-use Rattle.bh_storage.specs.declared.error.StepError.TheVariants.{Refused, Failed}
+use Rattle.bh_storage.specs.declared.error.StepError.TheVariants.{Refused}
 use Rattle.bh_storage.specs.declared.error.Trouble.{Trouble}
 use Rattle.bh_tables.specs.Typed.{Tables}
 use Rattle.bh_view.specs.View.{view, rows_purged}

@@ -1,6 +1,6 @@
 -- A request whose transaction was taken back, and whose stamp was recorded in another.
-use Rattle.std.proofs.Common.{◌≡◌, ◌≢◌, ◌≤◌, ◌<◌, ◌⊎◌, ℕ, length, Bool, true, false, List, Option, Some, None, Result, Ok, Err, refl, sym, ap, subst, ◌∙◌, arith, inl, inr}
-use Rattle.std.specs.Prelude.{IfSome, nat_le, if◌then◌else◌}
+use Rattle.std.proofs.Common.{◌≡◌, ◌≢◌, ◌≤◌, ◌<◌, ℕ, length, Bool, List, Option, Some, None, Result, Ok, Err, refl, sym, ap, subst, ◌∙◌, arith, inl, inr}
+use Rattle.std.specs.Prelude.{IfSome, if◌then◌else◌}
 use Rattle.std.specs.Io.KnownBytes.{IsAtEnd}
 use Rattle.std.proofs.lemmas.Bool.{le-leb, lt-leb}
 use Rattle.bh_types.specs.Limits.{HostLimits}
@@ -14,12 +14,11 @@ use Rattle.bh_http.specs.declared.body.Break.{Break}
 use Rattle.bh_http.specs.declared.body.Break.TheVariants.{Failed, Ended}
 use Rattle.bh_http.specs.declared.request.Head.{Head}
 use Rattle.bh_machine.specs.Machine.{RequestRead, change}
-use Rattle.bh_model.specs.Runs.{stamp_of}
 use Rattle.bh_model.specs.State.{Octets}
 use Rattle.bh_storage.specs.Calls.{Seen, Clean, LeavesNothingNew, IsAtRest, TakesBack, Stamps}
 use Rattle.bh_storage.specs.declared.error.Trouble.{Trouble}
 use Rattle.bh_tables.specs.Typed.{Tables}
-use Rattle.bh_view.specs.View.{view, latest_of, limits_in, with_latest, rows_purged}
+use Rattle.bh_view.specs.View.{view, limits_in, with_latest, rows_purged}
 use Rattle.bh_host.specs.Receives.{answered, AppliedAs, HasApplied, IsRefusedAs, HasCome, IsStamp, Records, Tries, AnewAs, ToldAs, Receives}
 use Rattle.bh_host.specs.Replies.{text, wanting_text}
 use Rattle.bh_host.specs.declared.reply.Caller.TheVariants.{Request}

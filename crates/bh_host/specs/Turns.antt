@@ -5,7 +5,7 @@ use Rattle.bh_types.specs.Rejections.{plain}
 use Rattle.bh_types.specs.declared.refusal.Refusal.{Refusal}
 use Rattle.bh_types.specs.declared.rejection.Rejection.{Rejection}
 use Rattle.bh_event.specs.Events.{Order, Message, Requested, Ordered, SweepOrdered, ReportOrdered, TenantsOrdered, Arrival}
-use Rattle.bh_machine.specs.Machine.{Act, RequestRead, Commanded, Acted, owner_of, step}
+use Rattle.bh_machine.specs.Machine.{Act, Commanded, Acted, owner_of, step}
 use Rattle.bh_model.specs.Operations.{Answer}
 use Rattle.bh_model.specs.Runs.{last_reading, stamp_of, purged_tenant}
 use Rattle.bh_model.specs.State.{Octets}

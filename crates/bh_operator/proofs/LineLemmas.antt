@@ -1,11 +1,11 @@
 -- What was taken so far of a line.
-use Rattle.std.proofs.Common.{◌≡◌, ◌≢◌, ℕ, ◌+◌, ◌<◌, ◌≤◌, Bool, true, false, List, [], ◌∷◌, ◌++◌, length, refl, sym, ap, subst, ◌∙◌, arith, Option, Some, None, append-nil, append_assoc, length-append, option_map}
-use Rattle.std.specs.Prelude.{◌==◌, nat_lt, option_and_then, if◌then◌else◌}
+use Rattle.std.proofs.Common.{◌≡◌, ◌≢◌, ℕ, ◌<◌, ◌≤◌, Bool, true, false, List, [], ◌∷◌, ◌++◌, length, refl, sym, ap, ◌∙◌, arith, Option, Some, None, append-nil, append_assoc, length-append, option_map}
+use Rattle.std.specs.Prelude.{◌==◌, nat_lt, option_and_then}
 use Rattle.std.specs.Io.KnownBytes.{Consumes, Keeps, IsAtEnd}
 use Rattle.std.proofs.lemmas.Bool.Decides.{nat_tests}
 use Rattle.bh_link.specs.Taking.{all_of}
-use Rattle.bh_link.proofs.TakingLemmas.{left_of, consumes_kept, consumes_none, consumes_pushed}
-use Rattle.bh_operator.specs.Lines.{before_feed, short_line, line_in, TookLine, TookPart}
+use Rattle.bh_link.proofs.TakingLemmas.{left_of, consumes_kept, consumes_pushed}
+use Rattle.bh_operator.specs.Lines.{before_feed, short_line, line_in, TookLine}
 
 -- a front without a line feed goes before the line
 pub feed_after : (front more : List ℕ) → before_feed front ≡ None → before_feed (front ++ more) ≡ option_map (λ l. front ++ l) (before_feed more)

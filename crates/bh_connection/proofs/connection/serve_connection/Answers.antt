@@ -1,8 +1,9 @@
-use Rattle.std.proofs.Common.{[], refl, sym, subst, ◌∙◌, rules}
+use Rattle.std.proofs.Common.{[], Bool, refl, sym, subst, ◌∙◌}
 use Rattle.bh_connection.proofs.ConnectionLemmas.{answered_fixed, broken, fixed_clock, fixed_wanting, took_nothing}
 use Rattle.bh_link.specs.Taking.{Opens}
 use Rattle.bh_connection.proofs.HeadedLemmas.{came_untouched, came_acknowledged}
 use Rattle.bh_http.proofs.TransferLemmas.{gives_nothing, gives_going}
+use Rattle.bh_connection.specs.Connections.{Ends, ends_of, CameTo}
 use Rattle.bh_connection.proofs.connection.serve_connection.Goals as goal
 
 pub returns-then-reading-gt-LAST_READING-clause-came_to : goal.returns-then-reading-gt-LAST_READING-clause-came_to
@@ -14,7 +15,18 @@ returns-then-reading-gt-LAST_READING-clause-came_to g c =
 
 pub returns-in-Ok-clause-came_to : goal.returns-in-Ok-clause-came_to
 returns-in-Ok-clause-came_to g c =
-    rw c.as_slice-bytes.ensures.value at c.serve_opened.ensures.came_to _ _ c.in-Ok.opening.body (subst (λ l. Opens l _ _ _ _) c.limits.ensures c.in-Ok.ensures.opens) c.in-Ok.ensures.given
+    let R = g.R.Source in
+    let W = g.W.Sink in
+    let reader = c.args.reader.now in
+    let writer = c.args.writer.now in
+    let start = R.remaining reader.inner in
+    let left = R.remaining c.take_head.new.reader.inner in
+    let opening = c.in-Ok.opening in
+    let before : Bool → Ends = λ failed. record (ends_of R.remaining R.transfers W.contents W.transfers c.args.reading reader writer) { reader_failed = failed } in
+    let after = ends_of R.remaining R.transfers W.contents W.transfers c.args.reading c.serve_opened.new.reader c.serve_opened.new.writer in
+    subst (λ failed. CameTo g.H.Storage.IsIntact g.H.Storage.IsOpen g.H.Storage.seen g.H.Storage.left (before failed) after c.serve_opened.result c.args.host.now c.serve_opened.new.host) (c.in-Ok.ensures.going ∙ sym c.requires.reads)
+    ((rw c.as_slice-bytes.ensures.value at c.serve_opened.ensures.came_to) start (R.transfers reader.inner) opening.body
+    (subst (λ l. Opens l start left opening.bytes.items opening.body) c.limits.ensures c.in-Ok.ensures.opens) c.in-Ok.ensures.given)
 
 pub returns-in-Err-OutOfMemory-clause-came_to : goal.returns-in-Err-OutOfMemory-clause-came_to
 returns-in-Err-OutOfMemory-clause-came_to g c =
@@ -29,7 +41,7 @@ pub returns-in-Err-ReadFailed-clause-came_to : goal.returns-in-Err-ReadFailed-cl
 returns-in-Err-ReadFailed-clause-came_to g c =
     let (taken, took, gave) = c.in-Err-ReadFailed.ensures.within in
     broken g.H.Storage.IsIntact g.H.Storage.IsOpen g.H.Storage.seen g.H.Storage.left c.limits.result _ _ _ taken _ _
-    c.limits.ensures took gave (rw c.in-Err-ReadFailed.field-0-is at c.in-Err-ReadFailed.ensures.failed) c.requires.writes refl refl refl refl refl refl
+    c.limits.ensures took gave (rw c.in-Err-ReadFailed.field-0-is at c.in-Err-ReadFailed.ensures.failed) c.requires.writes refl refl refl c.broken_off.ensures.ended c.broken_off.ensures.stamp c.broken_off.ensures.sent
 
 pub returns-in-Ok-clause-untouched : goal.returns-in-Ok-clause-untouched
 returns-in-Ok-clause-untouched g c = came_untouched g.H.Storage.IsIntact g.H.Storage.IsOpen g.H.Storage.seen g.H.Storage.left _ _ c.serve_opened.result _ _ (returns-in-Ok-clause-came_to g c)

@@ -1,4 +1,4 @@
-use Rattle.std.proofs.Common.{refl, sym, subst}
+use Rattle.std.proofs.Common.{false, refl, sym, subst}
 use Rattle.bh_http.specs.Transfers.{Gives}
 use Rattle.bh_link.specs.Taking.{Opens}
 use Rattle.bh_connection.proofs.HeadedLemmas.{headed_told, headed_broken, fault_is}
@@ -13,9 +13,9 @@ returns-in-Some-clause-came_to g c = λ start begun bytes opens reads gave.
       limits_are = refl;
       rest = c.requires.rest;
       still = c.receive.ensures.intact;
-      opens = subst (λ i. Opens _ start (g.R.Source.remaining i) bytes _) same opens;
+      opens = subst (λ i. Opens (g.H.Storage.seen c.args.host.now).limits start (g.R.Source.remaining i) bytes c.args.head.now.body_size) same opens;
       reads = reads;
-      gave = subst (λ i. Gives begun (g.R.Source.transfers i) bytes _) same gave;
+      gave = subst (λ i. Gives begun (g.R.Source.transfers i) bytes false) same gave;
       due = c.announce.ensures.due;
       left_is = refl;
       gave_is = refl;
@@ -31,9 +31,9 @@ returns-in-None-clause-came_to g c = λ start begun bytes opens reads gave.
       limits_are = refl;
       rest = c.requires.rest;
       still = c.receive.ensures.intact;
-      opens = subst (λ i. Opens _ start (g.R.Source.remaining i) bytes _) same opens;
+      opens = subst (λ i. Opens (g.H.Storage.seen c.args.host.now).limits start (g.R.Source.remaining i) bytes c.args.head.now.body_size) same opens;
       reads = reads;
-      gave = subst (λ i. Gives begun (g.R.Source.transfers i) bytes _) same gave;
+      gave = subst (λ i. Gives begun (g.R.Source.transfers i) bytes false) same gave;
       due = c.announce.ensures.due;
       left_is = refl;
       gave_is = refl;

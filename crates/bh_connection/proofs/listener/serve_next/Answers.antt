@@ -1,8 +1,8 @@
-use Rattle.std.proofs.Common.{[], ◌∷◌, refl, sym, subst, inr, ◌∙◌}
+use Rattle.std.proofs.Common.{[], ◌∷◌, refl, sym, subst, inr}
 use Rattle.bh_http.specs.Transfers.{Logs}
 use Rattle.bh_http.proofs.TransferLemmas.{logs_then}
 use Rattle.bh_connection.specs.Each.{ends}
-use Rattle.bh_connection.specs.Listening.{Accepted, ToldReading, ToldNone, Opened, Closed, calls_for}
+use Rattle.bh_connection.specs.Listening.{Accepted, ToldReading, ToldNone, Opened, Closed}
 use Rattle.bh_connection.proofs.ListeningLemmas.{at_err, visited_as, did_as, did_none}
 use Rattle.bh_connection.proofs.listener.serve_next.Goals as goal
 

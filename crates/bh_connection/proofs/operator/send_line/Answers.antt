@@ -1,4 +1,4 @@
-use Rattle.std.proofs.Common.{◌≡◌, ◌<◌, ◌≤◌, ◌+◌, Bool, true, false, length, refl, arith}
+use Rattle.std.proofs.Common.{◌≡◌, Bool, true, false, length, refl, arith}
 use Rattle.std.specs.Prelude.{IsTrue}
 use Rattle.bh_connection.proofs.OperatorLemmas.{sent_on, takes_on}
 use Rattle.bh_connection.proofs.operator.send_line.Goals as goal

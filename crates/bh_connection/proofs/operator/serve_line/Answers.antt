@@ -1,4 +1,4 @@
-use Rattle.std.proofs.Common.{refl, option_map, ◌∙◌}
+use Rattle.std.proofs.Common.{refl, option_map}
 use Rattle.bh_host.specs.Replies.{reply_bytes, wanting_text}
 use Rattle.bh_host.specs.declared.reply.Caller.TheVariants.{Operator}
 use Rattle.bh_connection.specs.Operators.{bad_line}

@@ -1,11 +1,11 @@
-use Rattle.std.proofs.Common.{Ok, Some, sym, ap, subst, ◌∙◌, inl, inr}
+use Rattle.std.proofs.Common.{Ok, sym, ap, subst, ◌∙◌, inl, inr}
 use Rattle.std.proofs.lemmas.Result.{err_from_is_err_and}
 use Rattle.bh_types.specs.Limits.{HostLimits}
 use Rattle.bh_http.specs.Views.{with_body}
 use Rattle.bh_http.proofs.BodyLemmas.{going_may}
 use Rattle.bh_tables.specs.Typed.{Tables}
-use Rattle.bh_view.specs.View.{limits_in, rows_purged, with_latest}
-use Rattle.bh_host.specs.Receives.{AppliedAs, IsRefusedAs, IsStamp, Tries}
+use Rattle.bh_view.specs.View.{rows_purged, with_latest}
+use Rattle.bh_host.specs.Receives.{AppliedAs, IsRefusedAs, IsStamp}
 use Rattle.bh_host.proofs.TakenBack.{applied_as}
 use Rattle.bh_host.proofs.receiving.try_receive.Goals as goal
 

@@ -1,6 +1,7 @@
-use Rattle.std.proofs.Common.{[], ◌≤◌, sym, ap, subst, ◌∙◌}
+use Rattle.std.proofs.Common.{[], Err, ◌≤◌, sym, ap, subst, ◌∙◌}
 use Rattle.std.proofs.lemmas.Result.{err_from_is_err_and}
 use Rattle.bh_types.specs.Limits.{HostLimits}
+use Rattle.bh_types.specs.declared.rejection.Rejection.{Rejection}
 use Rattle.bh_http.specs.Views.{with_body}
 use Rattle.bh_http.proofs.BodyLemmas.{gives_none, going_may}
 use Rattle.bh_machine.specs.Machine.{operated, requested}
@@ -38,8 +39,8 @@ returns-in_err-take_whole-in-Err-Refused-clause-operates g c =
     let (given, gives) = c.take_whole.ensures.some in
     rw (p.1, p.2) (record { given = given; gives = gives; decided = c.in_err-take_whole-in-Err-Refused.ensures.stopped; carries = λ _. tt })
 
-pub returns-in-Err-Refused-clause-operates : goal.returns-in-Err-Refused-clause-operates
-returns-in-Err-Refused-clause-operates g c =
+pub returns-in_ok-take_whole-in-Err-Refused-clause-operates : goal.returns-in_ok-take_whole-in-Err-Refused-clause-operates
+returns-in_ok-take_whole-in-Err-Refused-clause-operates g c =
     let old = g.H.Storage.seen c.args.host.now in
     let key = c.args.key.now in
     let head = c.args.head.now in
@@ -50,7 +51,7 @@ returns-in-Err-Refused-clause-operates g c =
       decided = c.in_ok-take_whole-in-Err-Refused.ensures.whole;
       carries = λ clean.
           let d = rw c.in-Err-Refused.field-0-is at c.in-Err-Refused.ensures.decides given clean in
-          (requested_err old.limits c.args.at key (with_body head given) (view old.now key.tenant) c.in-Err-Refused.rejection (c.requires.keyed given) d.0, d.1);
+          (requested_err old.limits c.args.at key (with_body head given) (view old.now key.tenant) c.in-Err-Refused.rejection (c.requires.keyed given) d.0 ∙ ap (λ (r : Rejection). Err r) (sym c.in-Err-Refused.rejection-is), d.1);
     }
 
 pub returns-in-Err-Failed-clause-operates : goal.returns-in-Err-Failed-clause-operates

@@ -1,4 +1,4 @@
-use Rattle.std.proofs.Common.{◌≡◌, ◌≢◌, ◌∷◌, ◌++◌, ◌+◌, ◌<◌, ◌≤◌, ℕ, List, [], None, Option, length, length-append, refl, sym, ap, subst, ◌∙◌, arith, rules}
+use Rattle.std.proofs.Common.{◌≡◌, ◌∷◌, ◌++◌, ◌+◌, ℕ, List, [], Option, length, length-append, refl, sym, ap, subst, ◌∙◌, arith, rules}
 use Rattle.std.specs.Io.KnownBytes.{Consumes}
 use Rattle.bh_link.specs.declared.link.ReadFault.{ReadFault}
 use Rattle.bh_link.proofs.TakingLemmas.{consumes_none, consumes_kept, consumes_pushed, if_err}
