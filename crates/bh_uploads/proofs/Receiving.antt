@@ -31,7 +31,7 @@ part_nowhere name key id k at bytes given v x e = go (find_upload name key id v)
     refusal_or (Ok y) other = other
     refusal_or (Err y) other = y
 
-    go : (o : Result FoundUpload Refusal) → find_upload name key id v ≡ o → result_map_both (λ f. (f.bucket.mode, f.number)) (λ refusal. refusal) o ≡ Err x → upload_part at name key id k bytes given v ≡ Err x
+    go : (o : Result FoundUpload Refusal) → find_upload name key id v ≡ o → result_map_both {U = BucketState × ℕ} (λ f. (f.bucket.mode, f.number)) (λ refusal. refusal) o ≡ Err x → upload_part at name key id k bytes given v ≡ Err x
     go (Ok f) is e = absurd (true≢false (ap is_ok e))
     go (Err y) is e = rw is (ap (λ (r : Result (BucketState × ℕ) Refusal). Err (refusal_or r x)) e)
 

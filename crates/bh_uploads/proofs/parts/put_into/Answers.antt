@@ -1,9 +1,11 @@
-use Rattle.std.proofs.Common.{◌≡◌, ◌≤◌, Ok, Err, sym, ap, subst, ◌∙◌}
+use Rattle.std.proofs.Common.{◌≡◌, ◌≤◌, [], Ok, Err, String, Global, sym, ap, subst, ◌∙◌}
 use Rattle.std.proofs.lemmas.Result.{err_from_is_err_and}
 use Rattle.std.specs.Prelude.{if◌then◌else◌}
 use Rattle.std.specs.Option.{option_copied}
 use Rattle.std.specs.String.{string_bytes}
 use Rattle.sqlite.specs.Held.{state}
+use Rattle.bh_http.proofs.BodyLemmas.{gives_none, going_may}
+use Rattle.bh_types.specs.declared.refusal.Refusal.{Refusal}
 use Rattle.bh_types.specs.declared.refusal.Refusal.TheVariants.{BadDigest}
 use Rattle.bh_model.specs.Operations.{PartStored}
 use Rattle.bh_model.specs.Parts.{is_checksum}
@@ -16,7 +18,7 @@ use Rattle.bh_cache.specs.Kept.{AreCopies}
 use Rattle.bh_tables.specs.Typed.{Tables}
 use Rattle.bh_schema.specs.Layer.{Holds, IsStateClean, standing}
 use Rattle.bh_schema.specs.Working.{tables_at}
-use Rattle.bh_objects.proofs.Receiving.{operates_failed, operates_outcome, operates_refusing, unless_outcome}
+use Rattle.bh_objects.proofs.Receiving.{operates_failed, operates_outcome, operates_refusing, unless_outcome, unless_spoilt}
 use Rattle.bh_objects.proofs.Working.{host_at}
 use Rattle.bh_uploads.specs.Found.{part_bytes_in, part_entry_in, replaced_body}
 use Rattle.bh_uploads.specs.Writes.{part_written}
@@ -44,14 +46,20 @@ returns-in-Err-Refused-clause-operates g c =
     let old = tables_at (state g.S.Store c.args.connection.now) in
     let refusal = c.in-Err-Refused.refusal in
     let (given, gives, by) = c.refused_checked.ensures.came in
-    operates_refusing _ part.upload.tenant.now (λ bytes. upload_part part.at part.upload.bucket.now part.upload.key.now part.upload.upload part.number bytes (option_copied c.args.given)) _ _ _ _ _ _ given gives (λ r. r ≡ (if is_checksum (option_copied c.args.given) given then refusal else BadDigest)) c.refused_checked.result by
+    operates_refusing _ part.upload.tenant.now (λ bytes. upload_part part.at part.upload.bucket.now part.upload.key.now part.upload.upload part.number bytes (option_copied c.args.given)) _ _ _ _ _ _ given gives _ c.refused_checked.result by
     (λ r count is clean.
     let clean_old = c.in-Err-Refused.ensures.within.follows.clean clean in
     let d = rw c.in-Err-Refused.field-0-is at c.in-Err-Refused.ensures.decides clean in (
       part_unfit old (c.requires.working clean_old).sound part.upload.tenant.now part.upload.bucket.now part.upload.key.now part.upload.upload c.args.found.mode c.args.found.number part.number part.at given (option_copied c.args.given) (c.requires.found clean_old) refusal
-          (subst (λ n. part_entry_in (part_bytes_in part.upload.tenant.now c.args.found.number part.number old) n (view old part.upload.tenant.now) ≡ Err refusal) (c.due.ensures ∙ count) d.0) r is,
+          (subst (λ n. part_entry_in (part_bytes_in part.upload.tenant.now c.args.found.number part.number old) n (view old part.upload.tenant.now) ≡ Err refusal) (c.due.ensures ∙ count) d.0) r (rw c.in-Err-Refused.field-0-is at is),
       d.1,
     ))
+
+pub returns-in-Err-Refused-clause-working : goal.returns-in-Err-Refused-clause-working
+returns-in-Err-Refused-clause-working g c = unless_spoilt {X = String Global} {E = Refusal} (Err c.refused_checked.result) _ (λ clean. (rw c.in-Err-Refused.field-0-is at c.in-Err-Refused.ensures.working) clean g.D.Digester.digest_of)
+
+pub returns-in-Err-Failed-clause-operates : goal.returns-in-Err-Failed-clause-operates
+returns-in-Err-Failed-clause-operates g c = record { given = []; gives = gives_none _ c.requires.going; decided = going_may _ c.requires.going; carries = λ _. tt; says = tt }
 
 pub returns-in_err-outcome-in-Ok-clause-operates : goal.returns-in_err-outcome-in-Ok-clause-operates
 returns-in_err-outcome-in-Ok-clause-operates g c =
@@ -59,8 +67,8 @@ returns-in_err-outcome-in-Ok-clause-operates g c =
     let it = c.in_err-outcome-in-Ok.ensures.stores in
     rw (p.1, p.2) (operates_failed _ _ _ _ _ _ _ _ _ it.bytes it.gives _ it.received)
 
-pub returns-in-Ok-clause-working : goal.returns-in-Ok-clause-working
-returns-in-Ok-clause-working g c =
+pub returns-in_ok-outcome-in-Ok-clause-working : goal.returns-in_ok-outcome-in-Ok-clause-working
+returns-in_ok-outcome-in-Ok-clause-working g c =
     let part = c.args.part.now in
     let old = tables_at (state g.S.Store c.args.connection.now) in
     let mid = tables_at (state g.S.Store c.part_entry.new.connection) in
@@ -75,15 +83,15 @@ returns-in-Ok-clause-working g c =
     (c.in-Ok.ensures.decides clean_mid).0 (c.due.ensures ∙ count) (c.in-Ok.ensures.decides clean_mid).1 (c.in-Ok.ensures.replaced clean_mid) (did.2 clean).is in
     record { is = record { inside = (did.2 clean).within; sound = it.sound; bodies = it.bodies }; limits = it.limits; digests = λ _. it.digests }) c.in_ok-outcome-in-Ok.ensures.stores
 
-pub returns-in-Ok-clause-operates : goal.returns-in-Ok-clause-operates
-returns-in-Ok-clause-operates g c =
+pub returns-in_ok-outcome-in-Ok-clause-operates : goal.returns-in_ok-outcome-in-Ok-clause-operates
+returns-in_ok-outcome-in-Ok-clause-operates g c =
     let part = c.args.part.now in
     let old = tables_at (state g.S.Store c.args.connection.now) in
     let mid = tables_at (state g.S.Store c.part_entry.new.connection) in
     let new = tables_at (state g.S.Store c.store_part.new.connection) in
     let Did : Octets → Type 0 = λ bytes. (1 ≤ part.number) × (part.number ≤ 10000) × (IsStateClean (state g.S.Store c.store_part.new.connection)
     → Holds (part_written g.D.Digester.digest_of c.args.block_size part.upload.tenant.now c.args.found.number part.number bytes part.at c.in-Ok.taken.entry c.in-Ok.taken.replaced mid) (standing (state g.S.Store c.store_part.new.connection))) in
-    let step = λ bytes. upload_part part.at part.upload.bucket.now part.upload.key.now part.upload.upload part.number bytes (option_copied c.args.given) in
+    let step = λ (bytes : Octets). upload_part part.at part.upload.bucket.now part.upload.key.now part.upload.upload part.number bytes (option_copied c.args.given) in
     operates_outcome (λ checksum. PartStored (string_bytes checksum)) part.upload.tenant.now step (λ bytes. StoresPieces g.D.Digester.digest_of c.args.block_size bytes old new) _ _ _ old new (option_copied c.args.given) Did c.in_ok-outcome-in-Ok.outcome
     (λ bytes text count right told did clean.
     let clean_mid = c.in_ok-outcome-in-Ok.ensures.within.follows.clean clean in

@@ -1,7 +1,8 @@
-use Rattle.std.proofs.Common.{◌≡◌, ◌≤◌, Err, String, sym, ap, subst, ◌∙◌}
+use Rattle.std.proofs.Common.{◌≡◌, ◌≤◌, [], Err, String, Global, sym, ap, subst, ◌∙◌}
 use Rattle.std.specs.Option.{option_copied}
 use Rattle.std.specs.String.{string_bytes}
 use Rattle.sqlite.specs.Held.{state}
+use Rattle.bh_http.proofs.BodyLemmas.{gives_none, going_may}
 use Rattle.bh_types.specs.declared.refusal.Refusal.{Refusal}
 use Rattle.bh_model.specs.Operations.{PartStored}
 use Rattle.bh_model.specs.Uploads.{upload_part}
@@ -11,7 +12,7 @@ use Rattle.bh_view.specs.Bodies.{StoresPieces}
 use Rattle.bh_view.specs.View.{view, latest_of}
 use Rattle.bh_cache.specs.Kept.{AreCopies}
 use Rattle.bh_schema.specs.Working.{tables_at}
-use Rattle.bh_objects.proofs.Receiving.{operates_asked, operates_refusing, spoilt_kept}
+use Rattle.bh_objects.proofs.Receiving.{operates_asked, operates_refusing, spoilt_kept, unless_spoilt}
 use Rattle.bh_uploads.specs.Found.{upload_in}
 use Rattle.bh_uploads.proofs.Receiving.{part_nowhere}
 use Rattle.bh_uploads.proofs.parts.put_part.Goals as goal
@@ -50,6 +51,12 @@ pub returns-in-Err-Refused-clause-operates : goal.returns-in-Err-Refused-clause-
 returns-in-Err-Refused-clause-operates g c =
     let part = c.args.part.now in
     let (given, gives, by) = c.refused_whole.ensures.came in
-    operates_refusing _ part.upload.tenant.now (λ bytes. upload_part part.at part.upload.bucket.now part.upload.key.now part.upload.upload part.number bytes (option_copied c.args.given)) _ _ _ _ _ _ given gives (λ r. r ≡ c.in-Err-Refused.refusal) c.refused_whole.result by (λ r count is clean.
+    operates_refusing _ part.upload.tenant.now (λ bytes. upload_part part.at part.upload.bucket.now part.upload.key.now part.upload.upload part.number bytes (option_copied c.args.given)) _ _ _ _ _ _ given gives _ c.refused_whole.result by (λ r count is clean.
     let d = rw c.in-Err-Refused.field-0-is at c.in-Err-Refused.ensures.decides clean in
-    (part_nowhere part.upload.bucket.now part.upload.key.now part.upload.upload part.number part.at given (option_copied c.args.given) (view (tables_at (state g.S.Store c.args.connection.now)) part.upload.tenant.now) r (d.0 ∙ ap (λ (x : Refusal). Err x) (sym is)), d.1))
+    (part_nowhere part.upload.bucket.now part.upload.key.now part.upload.upload part.number part.at given (option_copied c.args.given) (view (tables_at (state g.S.Store c.args.connection.now)) part.upload.tenant.now) r (d.0 ∙ ap (λ (x : Refusal). Err x) (sym (rw c.in-Err-Refused.field-0-is at is))), d.1))
+
+pub returns-in-Err-Refused-clause-working : goal.returns-in-Err-Refused-clause-working
+returns-in-Err-Refused-clause-working g c = unless_spoilt {X = String Global} {E = Refusal} (Err c.refused_whole.result) _ (λ clean. (rw c.in-Err-Refused.field-0-is at c.in-Err-Refused.ensures.working) clean g.D.Digester.digest_of)
+
+pub returns-in-Err-Failed-clause-operates : goal.returns-in-Err-Failed-clause-operates
+returns-in-Err-Failed-clause-operates g c = record { given = []; gives = gives_none _ c.requires.going; decided = going_may _ c.requires.going; carries = λ _. tt; says = tt }

@@ -31,24 +31,24 @@ returns-in-Spoilt-clause-stores g c =
     let it = rw c.in-Spoilt.is at c.in_ok-outcome.ensures.received in
     record { bytes = it.bytes; gives = it.gives; received = it.received }
 
-pub returns-in_err-add_part-clause-stores : goal.returns-in_err-add_part-clause-stores
-returns-in_err-add_part-clause-stores g c =
-    let p = err_from_is_err_and c.from_residual-in_err-add_part.result c.from_residual-in_err-add_part.ensures.1 in
+pub returns-in_err-add_part-in-Done-clause-stores : goal.returns-in_err-add_part-in-Done-clause-stores
+returns-in_err-add_part-in-Done-clause-stores g c =
+    let p = err_from_is_err_and c.from_residual-in_err-add_part-in-Done.result c.from_residual-in_err-add_part-in-Done.ensures.1 in
     let it = rw c.in-Done.is at c.in_ok-outcome.ensures.received in
-    received_err c.from_residual-in_err-add_part.result _ _ _ _ p.0 p.1 it.bytes it.gives (going_may _ it.received.0.going)
+    received_err c.from_residual-in_err-add_part-in-Done.result _ _ _ _ p.0 p.1 it.bytes it.gives (going_may _ it.received.0.going)
 
-pub returns-in_err-drop_old-clause-stores : goal.returns-in_err-drop_old-clause-stores
-returns-in_err-drop_old-clause-stores g c =
-    let p = err_from_is_err_and c.from_residual-in_err-drop_old.result c.from_residual-in_err-drop_old.ensures.1 in
+pub returns-in_err-drop_old-in-Done-clause-stores : goal.returns-in_err-drop_old-in-Done-clause-stores
+returns-in_err-drop_old-in-Done-clause-stores g c =
+    let p = err_from_is_err_and c.from_residual-in_err-drop_old-in-Done.result c.from_residual-in_err-drop_old-in-Done.ensures.1 in
     let it = rw c.in-Done.is at c.in_ok-outcome.ensures.received in
-    received_err c.from_residual-in_err-drop_old.result _ _ _ _ p.0 p.1 it.bytes it.gives (going_may _ it.received.0.going)
+    received_err c.from_residual-in_err-drop_old-in-Done.result _ _ _ _ p.0 p.1 it.bytes it.gives (going_may _ it.received.0.going)
 
-pub returns-in-Done-clause-stores : goal.returns-in-Done-clause-stores
-returns-in-Done-clause-stores g c =
+pub returns-in_ok-drop_old-in-Done-clause-stores : goal.returns-in_ok-drop_old-in-Done-clause-stores
+returns-in_ok-drop_old-in-Done-clause-stores g c =
     let part = c.args.part.now in
     let it = rw c.in-Done.is at c.in_ok-outcome.ensures.received in
     let (whole, right, told, becomes) = it.received in
-    let count = c.due.ensures ∙ counted_whole _ _ it.bytes it.gives whole in
+    let count = c.due-size.ensures ∙ counted_whole _ _ it.bytes it.gives whole in
     record {
       bytes = it.bytes;
       gives = it.gives;
@@ -60,15 +60,15 @@ returns-in-Done-clause-stores g c =
           c.in_ok-require_number.ensures.least,
           c.in_ok-require_number.ensures.most,
           λ clean.
-              let clean_row = c.in_ok-drop_old.ensures.within.follows.clean clean in
-              let clean_body = c.in_ok-add_part.ensures.within.follows.clean clean_row in
+              let clean_row = c.in_ok-drop_old-in-Done.ensures.within.follows.clean clean in
+              let clean_body = c.in_ok-add_part-in-Done.ensures.within.follows.clean clean_row in
               let clean_old = c.in_ok-outcome.ensures.within.follows.clean clean_body in
-              let last = c.in_ok-drop_old.ensures.holds clean in
+              let last = c.in_ok-drop_old-in-Done.ensures.holds clean in
               record {
                 within = last.within;
                 is = part_chain g.D.Digester.digest_of c.args.block_size part.upload.tenant.now c.args.upload part.number it.bytes part.at c.args.taken.entry c.args.taken.replaced
                     (tables_at (state g.S.Store c.args.connection.now)) (tables_at (state g.S.Store c.store_checked.new.connection)) (tables_at (state g.S.Store c.add_part.new.connection)) (tables_at (state g.S.Store c.drop_old.new.connection))
-                    (c.requires.replaced clean_old) (rw c.as_str.ensures.value at (becomes clean_body).is) (rw (count, c.as_str-text.ensures.value, told) at (c.in_ok-add_part.ensures.holds clean_row).is) last.is;
+                    (c.requires.replaced clean_old) (rw c.as_str.ensures.value at (becomes clean_body).is) (rw (count, c.as_str-in-Done.ensures.value, told) at (c.in_ok-add_part-in-Done.ensures.holds clean_row).is) last.is;
               },
         ),
       );
