@@ -67,13 +67,18 @@ operates_told t step Says clean before after old new shown made same (Err (Faile
 
 -- a refusal or trouble, once all of the body came
 pub operates_err : {X Y E : Type 0} (shown : X → Y) (t : Octets) (step : Octets → Option Machine → Result (Y × Option Machine) E) (clean : Type 0) (before after : Coming) (old new : Tables) (given : Octets) → Gives before after given → IsWhole after
-    → (error : StepError E) → (clean → Carries {X = X} shown t (step given) old new (Err error)) → Operates shown t step clean before after old new (Err error)
-operates_err shown t step clean before after old new given gives whole (Refused r) h = record { given = given; gives = gives; decided = whole; carries = h }
-operates_err shown t step clean before after old new given gives whole (Failed trouble) h = record { given = given; gives = gives; decided = going_may after whole.going; carries = λ c. tt }
+    → (read : Octets) → read ≡ given → (error : StepError E) → (clean → Carries {X = X} shown t (step read) old new (Err error)) → Operates shown t step clean before after old new (Err error)
+operates_err shown t step clean before after old new given gives whole read same (Refused r) h = record {
+  given = given;
+  gives = gives;
+  decided = whole;
+  carries = λ c. subst (λ bytes. (step bytes (view old t) ≡ Err r) × (new ≡ old)) same (h c);
+}
+operates_err shown t step clean before after old new given gives whole read same (Failed trouble) h = record { given = given; gives = gives; decided = going_may after whole.going; carries = λ c. tt }
 
-pub spoilt_err : {X E : Type 0} (error : StepError E) (P : Type 0) → Unless {X = X} {E = E} (Err error) P → UnlessSpoilt {X = X} {E = E} (Err error) P
-spoilt_err (Refused r) P h = h
-spoilt_err (Failed trouble) P h = tt
+pub spoilt_err : (X : Type 0) {E : Type 0} (error : StepError E) (P : Type 0) → Unless {X = X} {E = E} (Err error) P → UnlessSpoilt {X = X} {E = E} (Err error) P
+spoilt_err X (Refused r) P h = h
+spoilt_err X (Failed trouble) P h = tt
 
 -- nothing is said of the bytes of an operation that stores none
 pub says_nothing : {X Y E : Type 0} (shown : X → Y) (t : Octets) (step : Octets → Option Machine → Result (Y × Option Machine) E) (Says : Octets → Type 0) (clean : Type 0) (before after : Coming) (old new : Tables) (result : Result (Outcome X E) (StepError E))

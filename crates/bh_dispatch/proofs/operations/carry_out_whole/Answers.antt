@@ -2,6 +2,7 @@ use Rattle.std.proofs.lemmas.Result.{err_from_is_err_and}
 use Rattle.sqlite.specs.Held.{state}
 use Rattle.bh_machine.specs.Machine.{operated}
 use Rattle.bh_storage.specs.Answers.{answer_view}
+use Rattle.bh_storage.specs.declared.answer.Answer.{Answer}
 use Rattle.bh_schema.specs.Working.{tables_at}
 use Rattle.bh_dispatch.proofs.Receiving.{operates_err, spoilt_err}
 use Rattle.bh_dispatch.proofs.operations.carry_out_whole.Goals as goal
@@ -14,23 +15,23 @@ returns-in-Err-clause-operates g c =
 pub returns-in_err-answer-clause-opens : goal.returns-in_err-answer-clause-opens
 returns-in_err-answer-clause-opens g c =
     let p = err_from_is_err_and c.from_residual.result c.from_residual.ensures.1 in
-    rw (p.1, p.2) (spoilt_err c.in_err-answer.field-0.0 _ c.in_err-answer.ensures.opens)
+    rw (p.1, p.2) (spoilt_err Answer c.in_err-answer.field-0.0 _ c.in_err-answer.ensures.opens)
 
 pub returns-in_err-answer-clause-working : goal.returns-in_err-answer-clause-working
 returns-in_err-answer-clause-working g c =
     let p = err_from_is_err_and c.from_residual.result c.from_residual.ensures.1 in
-    rw (p.1, p.2) (spoilt_err c.in_err-answer.field-0.0 _ c.in_err-answer.ensures.working)
+    rw (p.1, p.2) (spoilt_err Answer c.in_err-answer.field-0.0 _ c.in_err-answer.ensures.working)
 
 pub returns-in_err-answer-clause-operates : goal.returns-in_err-answer-clause-operates
 returns-in_err-answer-clause-operates g c =
     let p = err_from_is_err_and c.from_residual.result c.from_residual.ensures.1 in
     rw (p.1, p.2) (operates_err answer_view c.args.tenant.now (λ bytes. operated c.args.limits.now c.args.at bytes c.args.operation.now) _ _ _ (tables_at (state g.S.Store c.args.connection.now)) (tables_at (state g.S.Store c.carry_out.new.connection))
-    c.in-Ok.bytes.items c.in-Ok.ensures.gives c.in-Ok.ensures.whole c.in_err-answer.field-0.0 (rw c.deref.ensures.value at c.in_err-answer.ensures.carries))
+    c.in-Ok.bytes.items c.in-Ok.ensures.gives c.in-Ok.ensures.whole c.deref.result.now c.deref.ensures.value c.in_err-answer.field-0.0 c.in_err-answer.ensures.carries)
 
 pub returns-in_err-answer-clause-kept : goal.returns-in_err-answer-clause-kept
 returns-in_err-answer-clause-kept g c =
     let p = err_from_is_err_and c.from_residual.result c.from_residual.ensures.1 in
-    rw (p.1, p.2) (spoilt_err c.in_err-answer.field-0.0 _ c.in_err-answer.ensures.kept)
+    rw (p.1, p.2) (spoilt_err Answer c.in_err-answer.field-0.0 _ c.in_err-answer.ensures.kept)
 
 pub returns-clause-operates : goal.returns-clause-operates
 returns-clause-operates g c = record { given = c.in-Ok.bytes.items; gives = c.in-Ok.ensures.gives; decided = c.in-Ok.ensures.whole; carries = rw c.deref.ensures.value at c.in_ok-answer.ensures.carries }

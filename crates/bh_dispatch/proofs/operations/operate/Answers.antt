@@ -1,4 +1,3 @@
-use Rattle.std.proofs.Common.{sym, ap, subst}
 use Rattle.sqlite.specs.Held.{state}
 use Rattle.bh_storage.specs.Answers.{answer_view}
 use Rattle.bh_cache.proofs.Agreeing.{copies}

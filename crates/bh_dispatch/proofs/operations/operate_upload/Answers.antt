@@ -1,5 +1,3 @@
-use Rattle.std.proofs.Common.{sym}
-use Rattle.sqlite.specs.Held.{state}
 use Rattle.bh_dispatch.proofs.Steps.{begins_upload, lists_parts, completes_upload, aborts_upload}
 use Rattle.bh_dispatch.proofs.operations.operate_upload.Goals as goal
 

@@ -4,15 +4,9 @@ use Rattle.bh_event.specs.Events.{ShowUsage, ShowKeys}
 use Rattle.bh_model.specs.Operations.{show_usage, show_keys}
 use Rattle.bh_machine.proofs.Bounded.{ordered_bounded}
 use Rattle.bh_storage.specs.Answers.{answer_view}
-use Rattle.bh_storage.specs.Calls.{Unless, Carries, IsWorking}
-use Rattle.bh_view.specs.Bodies.{IsSoundHost}
-use Rattle.bh_schema.specs.Layer.{IsStateClean, IsIntact, IsOpen}
-use Rattle.bh_cache.specs.Kept.{Agrees}
-use Rattle.bh_schema.specs.Storage.{seen_in, beside}
-use Rattle.bh_schema.specs.Working.{tables_at}
+use Rattle.bh_schema.specs.Layer.{IsIntact, IsOpen}
 use Rattle.bh_schema.proofs.Storing.{AreBoth, both, parts, keeps, under}
-use Rattle.bh_dispatch.proofs.Storing.{IsAtWork, seen_working, still_working, carried, stored, opened, by_any, agrees_seen, kept_carried, works_beside, carries_beside}
-use Rattle.bh_dispatch.proofs.storage.HostStorageStorage.command.Given as given
+use Rattle.bh_dispatch.proofs.Storing.{seen_working, still_working, carried, stored, opened, by_any, agrees_seen, kept_carried, works_beside, carries_beside}
 use Rattle.bh_dispatch.proofs.storage.HostStorageStorage.command.Goals as goal
 
 pub show_usage-requires : goal.show_usage-requires

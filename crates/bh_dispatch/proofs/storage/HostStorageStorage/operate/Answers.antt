@@ -2,6 +2,7 @@ use Rattle.std.proofs.Common.{refl, subst, ◌≤◌}
 use Rattle.sqlite.specs.Held.{state}
 use Rattle.bh_machine.specs.Machine.{operated}
 use Rattle.bh_machine.proofs.Bounded.{operated_bounded}
+use Rattle.bh_model.specs.State.{Octets}
 use Rattle.bh_storage.specs.Answers.{answer_view}
 use Rattle.bh_storage.specs.Calls.{Seen}
 use Rattle.bh_view.specs.View.{latest_of}
@@ -34,7 +35,7 @@ returns g c =
     let new = state g.S.Store c.operate.new.connection in
     let h = c.operate.ensures in
     let t = c.args.tenant.now in
-    let step = λ given. operated l c.args.at given c.args.operation.now in
+    let step = λ (given : Octets). operated l c.args.at given c.args.operation.now in
     let began = λ (clean : AreBoth new). c.requires.working (parts (h.within.follows.clean (both clean))) in
     let was : AreBoth new → IsAtWork digest l old = λ clean. under _ _ (began clean) in
     let works = operated_works digest l old new answer_view t step _ _ _ c.operate.result (λ given s bound. operated_bounded s bound l c.args.at given c.args.operation.now) was h.working h.operates in

@@ -1,8 +1,7 @@
-use Rattle.std.proofs.Common.{refl, ap}
+use Rattle.std.proofs.Common.{refl}
 use Rattle.sqlite.specs.Held.{state}
 use Rattle.bh_storage.specs.Calls.{Reports}
 use Rattle.bh_schema.specs.Layer.{IsIntact, IsOpen}
-use Rattle.bh_schema.specs.Working.{tables_at}
 use Rattle.bh_schema.proofs.Storing.{AreBoth, both, parts, keeps, under}
 use Rattle.bh_dispatch.proofs.Storing.{IsAtWork, seen_working, stored, told_works, told_after, told_blocks, opened_ok, agrees_seen, kept_ok, works_after_all, told_beside}
 use Rattle.bh_dispatch.proofs.storage.HostStorageStorage.report.Goals as goal
