@@ -1,11 +1,12 @@
 #!/usr/bin/env python3
 """Times puts and gets of bodies by `bucketd serve` over loopback, a connection each, one after another.
 
-    bench/bodies.py [PROGRAM] [PART..]      PROGRAM: crates/bucketd/out/bucketd; PART: sizes, growth, memory, plain, digest (all)
+    bench/bodies.py [PROGRAM] [PART..]      PROGRAM: crates/bucketd/out/bucketd; PART: sizes, growth, memory, great, plain, digest (all)
 
 sizes: bodies of 1 KiB to 16 MiB, of blocks that are new and of blocks that another object has, on a file that lies in
 memory and on the disk (FOLDER in the environment names its folder). growth: puts and gets of 1 KiB in a bucket with 100
-to 100,000 objects. memory: the greatest resident memory of a server that got or gave one body of 16 MiB. plain: a get of
+to 100,000 objects. memory: the greatest resident memory of a server that got or gave one body of 16 MiB; great: of
+one that got a body of 1 GiB. plain: a get of
 16 MiB beside a plain server's, which reads a file of the same bytes and sends it. digest: the share of SHA-256 in puts of
 16 MiB, by Linux's perf.
 """
@@ -75,6 +76,14 @@ def memory(program):
             print(f"GET of 16 MiB: peak {server.memory('VmHWM'):.0f} MB")
 
 
+def great(program):
+    size = 1 << 30
+    with in_folder(SHARED_MEMORY) as folder, Server(program, folder, limits=("--max-body", str(size))) as server:
+        before = server.memory("VmHWM")
+        took = server.put("/x", os.urandom(size))
+        print(f"PUT of 1 GiB: peak {server.memory('VmHWM'):.0f} MB, before it {before:.0f} MB; {took / 1000:.1f} s")
+
+
 def plain(program):
     """The two servers take turns, so that what else the machine does meets both."""
     body = os.urandom(1 << 24)
@@ -112,7 +121,7 @@ def digest(program):
 
 
 def main():
-    parts = {"sizes": sizes, "growth": growth, "memory": memory, "plain": plain, "digest": digest}
+    parts = {"sizes": sizes, "growth": growth, "memory": memory, "great": great, "plain": plain, "digest": digest}
     words = sys.argv[1:]
     program = os.path.abspath(words.pop(0) if words and words[0] not in parts else "crates/bucketd/out/bucketd")
     if not os.path.exists(program):

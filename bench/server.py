@@ -92,11 +92,11 @@ class PlainServer(Asked):
 class Server(Asked):
     """`bucketd serve` on a host in a folder, which is made with the tenant green and its bucket where it isn't there."""
 
-    def __init__(self, program, folder, *words, digest="sha256"):
+    def __init__(self, program, folder, *words, digest="sha256", limits=()):
         self.file, self.port = os.path.join(folder, "host"), free_port()
         is_new = not os.path.exists(self.file)
         if is_new:
-            self.command(program, "init", "--digest", digest)
+            self.command(program, "init", "--digest", digest, *limits)
             self.command(program, "tenant-add", "--tenant", "green", "--quota", str(1 << 40))
             self.command(program, "key-add", "--tenant", "green", "--name", "k1", "--secret", "greensecret")
         self.process = subprocess.Popen([program, "serve", "--file", self.file, "--port", str(self.port), "--count", str(10**9), *words])
