@@ -14,25 +14,23 @@ pub(crate) type Current = RefCell<Option<TcpStream>>;
 #[derive(Clone, Copy, Drop)]
 pub(crate) struct Peer<'a>(pub(crate) &'a Current);
 
-/// A reader or a writer that has so many seconds from its first call on: a call that begins later fails. A call that waits
-/// isn't ended.
+/// A reader or a writer whose calls have so much time in all: once they took longer, each call fails. What passes between
+/// two calls doesn't count. A call that waits isn't ended.
 #[derive(Clone, Copy, Drop)]
 pub(crate) struct Bounded<T, C> {
     inner: T,
     clock: C,
-    timeout: u64,
-    /// The last reading of the clock at which a call begins, once the first has begun.
-    last: Option<u64>,
+    /// How many milliseconds its calls may still take, while their time isn't over.
+    left: Option<u64>,
 }
 
 impl<T, C: Clock> Bounded<T, C> {
-    /// With the seconds that it has.
+    /// With the seconds that its calls have.
     pub(crate) fn new(inner: T, clock: C, timeout: u64) -> Bounded<T, C> {
         Bounded {
             inner,
             clock,
-            timeout,
-            last: None,
+            left: Some(timeout.saturating_mul(1000)),
         }
     }
 
@@ -41,25 +39,28 @@ impl<T, C: Clock> Bounded<T, C> {
         Bounded {
             inner,
             clock,
-            timeout: 0,
-            last: Some(0),
+            left: None,
         }
     }
 
-    /// Fails where its time is over.
-    fn check(&mut self) -> io::Result<()>
+    /// When a call begins, by the clock. Fails where the time is over.
+    fn begin(&self) -> io::Result<u64> {
+        match self.left {
+            Some(_) => self.clock.milliseconds(),
+            None => Err(io::Error::from(ErrorKind::TimedOut)),
+        }
+    }
+
+    /// Counts the time of a call that began then. A clock that tells nothing counts none.
+    fn end(&mut self, began: u64)
         ensures { self.new.inner ≡ self.old.inner }
     {
-        let now = self.clock.seconds()?;
-        let last = match self.last {
-            Some(last) => last,
-            None => now.saturating_add(self.timeout),
+        let now = self.clock.milliseconds().unwrap_or(began);
+        let took = now.saturating_sub(began);
+        self.left = match self.left {
+            Some(left) => left.checked_sub(took),
+            None => None,
         };
-        self.last = Some(last);
-        if now > last {
-            return Err(io::Error::from(ErrorKind::TimedOut));
-        }
-        Ok(())
     }
 }
 
@@ -67,8 +68,10 @@ impl<R: Read, C: Clock> Read for Bounded<R, C> {
     ghost remaining = { λ it. R.remaining it.inner };
 
     fn read(&mut self, buf: &mut [u8]) -> io::Result<usize> {
-        self.check()?;
-        self.inner.read(buf)
+        let began = self.begin()?;
+        let result = self.inner.read(buf);
+        self.end(began);
+        result
     }
 }
 
@@ -76,8 +79,10 @@ impl<W: Write, C: Clock> Write for Bounded<W, C> {
     ghost contents = { λ it. W.contents it.inner };
 
     fn write(&mut self, buf: &[u8]) -> io::Result<usize> {
-        self.check()?;
-        self.inner.write(buf)
+        let began = self.begin()?;
+        let result = self.inner.write(buf);
+        self.end(began);
+        result
     }
 
     fn flush(&mut self) -> io::Result<()> {
