@@ -5,8 +5,9 @@
 # (wrong-bodies/README.md); of one crate by CRATE=bh_docs. stamps: what CI asks of them, which stamps
 # aren't true, and those of one crate refused anew. lint: the layout of all sources.
 # bench: the program's speed and memory; lookups: the time of lookups by key at 1,000 and 100,000 rows; versions:
-# that of requests on many versions and keys; serving: puts and gets over sockets beside nginx; digests: puts by both digest functions; bodies: those of small and
-# great bodies, new and known, and their memory; blocks: the time of a block among 1,000 and 100,000; uploads: that of a part
+# that of requests on many versions and keys; serving: puts and gets over sockets beside nginx; digests: puts by both digest
+# functions; bodies: those of small and great bodies, new and known, and their memory; copies: how many bytes are copied for
+# each of a body; blocks: the time of a block among 1,000 and 100,000; uploads: that of a part
 # among 1,000 and 10,000; pages: that of pages of a listing; quotas: what a quota and rules for uploads cost; sweeps: a
 # sweep among 10,000 and 100,000 blocks in use; totals: what needn't be added up (PROGRAM=.. BEFORE=..: two programs in one run);
 # telling: an operator's lines beside clients, and what that port costs;
@@ -20,7 +21,7 @@
 # where the other's events, sweeps and reports are left out. front: nginx before the program, as deploy/nginx.conf has it, and slow
 # clients. hostile: what is made to break the program, at its full size; edits: ten minutes of edited requests, by a script and
 # over a socket.
-.PHONY: demo try build test gate times wrong-bodies stamps lint bench lookups versions serving digests bodies blocks uploads pages quotas sweeps totals telling shards profile memory others stops breaks ample opening migration front hostile edits
+.PHONY: demo try build test gate times wrong-bodies stamps lint bench lookups versions serving digests bodies copies blocks uploads pages quotas sweeps totals telling shards profile memory others stops breaks ample opening migration front hostile edits
 
 demo:
 	@tools/bucketd <crates/bucketd/stdin
@@ -68,7 +69,10 @@ digests:
 	@bench/digests.py $(PROGRAM)
 
 bodies:
-	@bench/bodies.py
+	@bench/bodies.py $(PROGRAM)
+
+copies:
+	@bench/copies.py $(PROGRAM)
 
 blocks:
 	@bench/blocks.py

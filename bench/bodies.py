@@ -6,9 +6,9 @@
 sizes: bodies of 1 KiB to 16 MiB, of blocks that are new and of blocks that another object has, on a file that lies in
 memory and on the disk (FOLDER in the environment names its folder). growth: puts and gets of 1 KiB in a bucket with 100
 to 100,000 objects. memory: the greatest resident memory of a server that got or gave one body of 16 MiB; great: of
-one that got a body of 1 GiB. plain: a get of
-16 MiB beside a plain server's, which reads a file of the same bytes and sends it. digest: the share of SHA-256 in puts of
-16 MiB, by Linux's perf.
+one that got and gave a body of 1 GiB, and how long the next client waits for one that reads nothing of it and is broken off
+after 2 seconds. plain: a get of 16 MiB beside a plain server's, which reads a file of the same bytes and sends it. digest:
+the share of SHA-256 in puts of 16 MiB, by Linux's perf.
 """
 import os
 import re
@@ -77,11 +77,18 @@ def memory(program):
 
 
 def great(program):
-    size = 1 << 30
-    with in_folder(SHARED_MEMORY) as folder, Server(program, folder, limits=("--max-body", str(size))) as server:
+    body = os.urandom(1 << 30)
+    with in_folder(SHARED_MEMORY) as folder, Server(program, folder, "--timeout", "2", limits=("--max-body", str(len(body)))) as server:
         before = server.memory("VmHWM")
-        took = server.put("/x", os.urandom(size))
-        print(f"PUT of 1 GiB: peak {server.memory('VmHWM'):.0f} MB, before it {before:.0f} MB; {took / 1000:.1f} s")
+        took = server.put("/x", body)
+        after = server.memory("VmHWM")
+        print(f"PUT of 1 GiB: peak {after:.0f} MB, before it {before:.0f} MB; {took / 1000:.1f} s", flush=True)
+        took = server.get("/x", body)
+        print(f"GET of 1 GiB then: peak {server.memory('VmHWM'):.0f} MB; {took / 1000:.1f} s", flush=True)
+        with server.silent("/x"):
+            begun = time.monotonic()
+            server.put("/y", b"y")
+            print(f"beside a client that reads nothing of it the next is answered after {time.monotonic() - begun:.1f} s, peak {server.memory('VmHWM'):.0f} MB")
 
 
 def plain(program):

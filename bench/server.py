@@ -71,6 +71,12 @@ class Asked:
             sys.exit(f"{method.decode()} {key}: {answered[:300]}")
         return milliseconds, answered[answered.index(b"\r\n\r\n") + 4 :]
 
+    def silent(self, key):
+        """A connection whose client has asked for an object and reads nothing."""
+        it = socket.create_connection(("127.0.0.1", self.port))
+        it.sendall(b"GET /plans%s HTTP/1.1\r\n" % key.encode() + CREDENTIALS + b"\r\n")
+        return it
+
     def get(self, key, body):
         milliseconds, got = self.ask(b"GET", key)
         if got != body:
@@ -92,14 +98,14 @@ class PlainServer(Asked):
 class Server(Asked):
     """`bucketd serve` on a host in a folder, which is made with the tenant green and its bucket where it isn't there."""
 
-    def __init__(self, program, folder, *words, digest="sha256", limits=()):
+    def __init__(self, program, folder, *words, digest="sha256", limits=(), count=10**9):
         self.file, self.port = os.path.join(folder, "host"), free_port()
         is_new = not os.path.exists(self.file)
         if is_new:
             self.command(program, "init", "--digest", digest, *limits)
             self.command(program, "tenant-add", "--tenant", "green", "--quota", str(1 << 40))
             self.command(program, "key-add", "--tenant", "green", "--name", "k1", "--secret", "greensecret")
-        self.process = subprocess.Popen([program, "serve", "--file", self.file, "--port", str(self.port), "--count", str(10**9), *words])
+        self.process = subprocess.Popen([program, "serve", "--file", self.file, "--port", str(self.port), "--count", str(count), *words])
         self.wait()
         if is_new:
             self.ask(b"PUT", "", b"")

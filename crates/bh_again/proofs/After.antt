@@ -24,7 +24,8 @@ use Rattle.bh_open.specs.Versions.{IsTypedIfFirst}
 use Rattle.bh_open.specs.declared.open.Opened.{Opened}
 use Rattle.bh_host.specs.Runs.{Told}
 use Rattle.bh_host.specs.Turns.{Applied, WouldApply}
-use Rattle.bh_again.specs.Stops.{seen_again, IsCleanAgain, CameBack, ComesBack, AllLeft, AllShown, kept_of, IsLeft, IsOlder, IsReopened, HasApplied, IsReady, AddsSound, IsLeftBy, Survives, AfterStop, OpensSound, StaysSound}
+use Rattle.bh_connection.specs.declared.served.End.{End}
+use Rattle.bh_again.specs.Stops.{seen_again, IsCleanAgain, CameBack, ComesBack, AllLeft, AllShown, kept_of, IsLeft, IsOlder, IsReopened, HasApplied, HasReplied, IsReady, AddsSound, IsLeftBy, IsLeftSince, Survives, AfterStop, AfterReply, OpensSound, StaysSound}
 
 -- ---- a database of version 2, and one of sound tables
 
@@ -88,22 +89,53 @@ module _ {D G : Type 0} {g : Ghosts D} (digest : Octets → Octets) (event : Arr
       let all = stays_sound digest old new adds were (again.intact clean) in
       (second_back opened it.0 (left_schema new digest all it.0 it.1) it.2).rest digest (all (tables_shown it.0) (left_shown new it.0 it.1)))
 
-  leaves : (told : Told) → HasApplied event told old new → IsLeftBy event told old new (seen_again opened).now
-  leaves (None, reply) applied =
-      let Before : Tables → Type 0 = λ x. left over_files old x ⊎ (IsOpen over_files old × WouldApply event (seen over_files old).now x) in
-      let found : (db : Database) → IsLeft new db → ComesBack db opened → Before (seen_again opened).now ⊎ IsOlder new (seen_again opened).now = λ db may back. elim back.schema [
+  -- what is said of all that a crash may leave is said of what an open finds, or that was brought over
+  found : (P : Tables → Type 0) → ((x : Tables) → left over_files new x → P x) → ∥ (P (seen_again opened).now ⊎ IsOlder new (seen_again opened).now) ∥₁
+  found P says = ∥∥₁_map (again.merely clean) (λ it. each it.0 it.1 it.2)
+    where
+      each : (db : Database) → IsLeft new db → ComesBack db opened → P (seen_again opened).now ⊎ IsOlder new (seen_again opened).now
+      each db may back = elim back.schema [
         | inl first ↦ inr (record { db = db; may = may; schema = first; shown = λ typed. (back.came_back typed).tables })
-        | inr second ↦ inl (subst Before (sym (second_back opened db second back).tables) (applied.crash (again.intact clean) (tables_shown db) (left_shown new db may)))
-      ] in (
-        λ up. (came_back up).tables ∙ (applied.applied (again.intact clean) up).1,
-        ∥∥₁_map (again.merely clean) (λ it. found it.0 it.1 it.2),
-      )
+        | inr second ↦ inl (subst P (sym (second_back opened db second back).tables) (says (tables_shown db) (left_shown new db may)))
+      ]
+
+  leaves : (told : Told) → HasApplied event told old new → IsLeftBy event told old new (seen_again opened).now
+  leaves (None, reply) applied = (
+    λ up. (came_back up).tables ∙ (applied.applied (again.intact clean) up).1,
+    found (λ x. left over_files old x ⊎ (IsOpen over_files old × WouldApply event (seen over_files old).now x)) (applied.crash (again.intact clean)),
+  )
   leaves (Some m, reply) applied =
       let did = applied.applied (again.intact clean) in
       subst (λ (x : Tables). Applied event (seen over_files old).now x (Some m) reply) (sym (came_back did.1).tables) did.2
 
-  pub survives : (told : Told) → HasApplied event told old new → Survives digest event told old new opened
+  pub survives : (told : Told) → HasApplied event told old new → Survives digest (IsLeftBy event told old new) old new opened
   survives told applied = record { tables = leaves told applied; rest = rests; merely = merely_rests }
+
+  -- a reply went out since
+  leaves_since : (told : Told) (ended : End) → HasReplied event told ended old new → IsLeftSince event told old new (seen_again opened).now
+  leaves_since (None, reply) ended did =
+      let whole = again.intact clean in
+      let applied = did.applied whole in
+      let was = did.kept.intact whole in (
+        λ up. (let (before, same) = did.kept.same whole up in (came_back up).tables ∙ same ∙ (applied.applied was before).1),
+        found (λ x. left over_files old x ⊎ (IsOpen over_files old × WouldApply event (seen over_files old).now x)) (λ x leaves. applied.crash was x (did.kept.survives whole x leaves)),
+      )
+  leaves_since (Some m, reply) ended did =
+      let whole = again.intact clean in
+      let applied = did.applied whole in
+      let was = did.kept.intact whole in
+      let end = (seen over_files did.mid).now in (
+        end,
+        (applied.applied was).2,
+        λ up. (came_back up).tables ∙ (did.kept.same whole up).1,
+        found (λ x. x ≡ end) (λ x leaves. applied.acknowledged was x (did.kept.survives whole x leaves)),
+      )
+
+  pub survives_since : (told : Told) (ended : End) → HasReplied event told ended old new → Survives digest (IsLeftSince event told old new) old new opened
+  survives_since told ended did = record { tables = leaves_since told ended did; rest = rests; merely = merely_rests }
 
 pub after_stop : {D G : Type 0} {g : Ghosts D} (digest : Octets → Octets) → AfterStop g G digest
 after_stop digest event told old new opened applied ready again clean = survives digest event old new opened ready again clean told applied
+
+pub after_reply : {D G : Type 0} {g : Ghosts D} (digest : Octets → Octets) → AfterReply g G digest
+after_reply digest event told ended old new opened did ready again clean = survives_since digest event old new opened ready again clean told ended did

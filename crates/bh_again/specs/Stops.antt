@@ -23,7 +23,8 @@ use Rattle.bh_open.specs.Versions.{IsTypedIfFirst}
 use Rattle.bh_open.specs.declared.open.Opened.{Opened}
 use Rattle.bh_host.specs.Runs.{Told}
 use Rattle.bh_host.specs.Turns.{Applied, WouldApply}
-use Rattle.bh_connection.specs.Connections.{IsApplied}
+use Rattle.bh_connection.specs.Connections.{IsApplied, HasAnswered}
+use Rattle.bh_connection.specs.declared.served.End.{End}
 use Rattle.bh_again.specs.declared.hosts.ReopenError.{ReopenError}
 use Rattle.bh_again.specs.declared.hosts.ReopenError.TheVariants as reopen
 
@@ -80,9 +81,13 @@ module _ {D : Type 0} {g : Ghosts D} where
 
     -- ---- an event before it
 
-    -- an event was applied: what `bh_host::apply` promises of it, and of one that came over a connection `serve_connection`
+    -- an event was applied: what `bh_host::apply` promises of it
     abbrev pub HasApplied : Arrival → Told → Host (FileStore D g) G → Host (FileStore D g) G → Type 0
     HasApplied = IsApplied (IsIntact over_files) (IsOpen over_files) (seen over_files) (left over_files)
+
+    -- and its reply went out: what `serve_connection` promises of one that came over a connection
+    abbrev pub HasReplied : Arrival → Told → End → Host (FileStore D g) G → Host (FileStore D g) G → Type 0
+    HasReplied = HasAnswered (IsIntact over_files) (IsOpen over_files) (seen over_files) (left over_files)
 
     abbrev pub IsReady : (Octets → Octets) → Host (FileStore D g) G → Type 0
     IsReady digest host = IsClean over_files host → IsAtRest (IsSoundHost digest) (seen over_files host)
@@ -106,8 +111,15 @@ module _ {D : Type 0} {g : Ghosts D} where
         × ∥ ((left over_files old x ⊎ (IsOpen over_files old × WouldApply event (seen over_files old).now x)) ⊎ IsOlder new x) ∥₁
     IsLeftBy event (Some m, reply) old new x = Applied event (seen over_files old).now x (Some m) reply
 
-    pub record Survives (digest : Octets → Octets) (event : Arrival) (told : Told) (old new : Host (FileStore D g) G) (opened : Opened (FileStore D g)) : Type 0 where
-      pub tables : IsLeftBy event told old new (seen_again opened).now
+    -- the same once its reply went out. With a stamp: what the event did, also where a fault has shut the store since
+    abbrev pub IsLeftSince : Arrival → Told → Host (FileStore D g) G → Host (FileStore D g) G → Tables → Type 0
+    IsLeftSince event (None, reply) old new x = IsLeftBy event (None, reply) old new x
+    IsLeftSince event (Some m, reply) old new x =
+        (end : Tables) × Applied event (seen over_files old).now end (Some m) reply × (IsOpen over_files new → x ≡ end) × ∥ ((x ≡ end) ⊎ IsOlder new x) ∥₁
+
+    -- a host came back with tables of which this is said
+    pub record Survives (digest : Octets → Octets) (Says : Tables → Type 0) (old new : Host (FileStore D g) G) (opened : Opened (FileStore D g)) : Type 0 where
+      pub tables : Says (seen_again opened).now
       -- it is at rest: outright, where no fault has shut the store
       pub rest : IsOpen over_files new → IsAtRest (IsSoundHost digest) (seen_again opened)
       pub merely : AddsSound digest old new → AllLeft (IsSoundHost digest) old → ∥ IsAtRest (IsSoundHost digest) (seen_again opened) ∥₁
@@ -115,7 +127,12 @@ module _ {D : Type 0} {g : Ghosts D} where
 -- a host comes back over a stop after an event with what stood before the event or after it
 abbrev pub AfterStop : {D : Type 0} → Ghosts D → Type 0 → (Octets → Octets) → Type 0
 AfterStop {D} g G digest = (event : Arrival) (told : Told) (old new : Host (FileStore D g) G) (opened : Opened (FileStore D g))
-    → HasApplied event told old new → IsReady digest new → IsReopened new opened → IsCleanAgain opened → Survives digest event told old new opened
+    → HasApplied event told old new → IsReady digest new → IsReopened new opened → IsCleanAgain opened → Survives digest (IsLeftBy event told old new) old new opened
+
+-- and so it does over a stop after a reply went out
+abbrev pub AfterReply : {D : Type 0} → Ghosts D → Type 0 → (Octets → Octets) → Type 0
+AfterReply {D} g G digest = (event : Arrival) (told : Told) (ended : End) (old new : Host (FileStore D g) G) (opened : Opened (FileStore D g))
+    → HasReplied event told ended old new → IsReady digest new → IsReopened new opened → IsCleanAgain opened → Survives digest (IsLeftSince event told old new) old new opened
 
 -- where a crash leaves none but sound tables, an open after it shows none but sound ones, and finds no database of version 1
 abbrev pub OpensSound : {D : Type 0} → Ghosts D → Type 0 → (Octets → Octets) → Type 0

@@ -1,6 +1,6 @@
 //! What follows for a host whose machine stops after an event, each law the contract of a function that does nothing.
 
-ghost use Rattle.bh_again.specs.Stops.{AfterStop, OpensSound, StaysSound};
+ghost use Rattle.bh_again.specs.Stops.{AfterReply, AfterStop, OpensSound, StaysSound};
 
 use bh_schema::host::Digester;
 use sqlite_disk::Crash;
@@ -9,6 +9,11 @@ use sqlite_disk::Crash;
 /// after an event with a stamp what it did, and is at rest.
 pub fn after_stop<D: Crash, G: Digester>()
     ensures { AfterStop D.Disk G G.digest_of }
+{}
+
+/// The same once the reply of an event went out, also where a fault has shut the store as the reply was read.
+pub fn after_reply<D: Crash, G: Digester>()
+    ensures { AfterReply D.Disk G G.digest_of }
 {}
 
 /// Whatever comes of an event, a crash after it leaves none but sound tables, where one before it would have.

@@ -1,2 +1,2 @@
 mod Copying
-mod Showing
+pub mod Showing

@@ -11,4 +11,4 @@ mod saving;
 pub use connections::back_up;
 pub use disks::copy_disk;
 pub use fault::BackupFault;
-pub use saving::{Saved, save};
+pub use saving::{Saved, save, save_files};

@@ -1,6 +1,5 @@
 -- A body stored piece by piece, and given the blocks that rows of references name.
-use Rattle.std.proofs.Common.{◌≡◌, ◌≢◌, ◌==◌, false, true, true≢false, append_assoc, append-nil, ℕ, zero, suc, ◌+◌, ◌≤◌, ◌<◌, List, [], ◌∷◌, ◌++◌, map, flat_map, take, drop, length, length-drop, get_or, refl, sym, ap, ap₂, ◌∙◌, arith}
-use Rattle.std.proofs.lemmas.Bool.{ne_eqb}
+use Rattle.std.proofs.Common.{◌≡◌, ◌≢◌, ◌==◌, false, true≢false, append_assoc, append-nil, ℕ, zero, suc, ◌+◌, ◌≤◌, ◌<◌, List, [], ◌∷◌, ◌++◌, map, flat_map, drop, length, get_or, refl, sym, ap, ap₂, ◌∙◌, arith}
 use Rattle.std.proofs.lemmas.List.{map-append, take_all, drop_all}
 use Rattle.sqlite.specs.Order.{Row}
 use Rattle.bh_tables.specs.Schema.{Octets}

@@ -1,9 +1,9 @@
 -- Counts of uses and what they count, in the midst of a write: laws of the pairs that come to an end.
-use Rattle.std.proofs.Common.{◌≡◌, ℕ, zero, suc, ◌+◌, ◌<◌, pos, true, List, [], ◌∷◌, ◌++◌, take, drop, length, None, Ok, Err, Result, IfErr, append-nil, arith, refl, sym, ap, subst, ◌∙◌}
+use Rattle.std.proofs.Common.{◌≡◌, ℕ, zero, suc, ◌+◌, pos, true, List, [], ◌∷◌, ◌++◌, take, drop, None, Ok, Err, Result, IfErr, arith, refl, sym, ap, subst, ◌∙◌}
 use Rattle.sqlite.specs.State.{State}
 use Rattle.sqlite.specs.declared.error.Error.{Error}
 use Rattle.bh_rows.specs.Means.{is_trouble}
-use Rattle.bh_tables.specs.Typed.{Totals, totals_of, counted, use_among, UseRow, BlockRow, RefRow, Tables, rebodied, lowered, lowered_by}
+use Rattle.bh_tables.specs.Typed.{Totals, totals_of, counted, BlockRow, RefRow, Tables, rebodied, lowered, lowered_by}
 use Rattle.bh_tables.specs.Bodies.{placed}
 use Rattle.bh_tables.specs.Shown.{Name, ref_name, block_name}
 use Rattle.bh_tables.proofs.ResolvedLemmas.{rebodied_twice}

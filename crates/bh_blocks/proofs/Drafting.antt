@@ -1,5 +1,5 @@
 -- A body that is cut as it comes.
-use Rattle.std.proofs.Common.{◌≡◌, ◌≢◌, ℕ, zero, suc, ◌+◌, ◌-◌, ◌≤◌, ◌<◌, List, [], ◌∷◌, ◌++◌, take, drop, length, length-take-le, length-append, refl, sym, ap, ap₂, subst, ◌∙◌, arith, append_assoc, append-nil, take-append-drop, take_at, drop_at}
+use Rattle.std.proofs.Common.{◌≡◌, ◌≢◌, ℕ, zero, suc, ◌+◌, ◌-◌, ◌≤◌, ◌<◌, [], ◌∷◌, ◌++◌, take, drop, length, length-take-le, length-append, refl, sym, ap, ap₂, subst, ◌∙◌, arith, append_assoc, append-nil, take-append-drop, take_at, drop_at}
 use Rattle.std.proofs.lemmas.List.{take_all, drop_all}
 use Rattle.bh_tables.specs.Schema.{Octets}
 use Rattle.bh_tables.specs.Typed.{Tables, rebodied}
@@ -8,7 +8,6 @@ use Rattle.bh_view.specs.Blocks.{AreDigests}
 use Rattle.bh_view.specs.Bodies.{IsResolved, pieces, body_stored, AddsBody}
 use Rattle.bh_view.proofs.StoringLemmas.{pieces_next}
 use Rattle.bh_view.proofs.BodyChanges.{body_stores}
-use Rattle.bh_schema.specs.Layer.{Standing, Holds}
 use Rattle.bh_blocks.specs.Added.{IsNewBody}
 use Rattle.bh_blocks.specs.Drafts.{Goes, drafted}
 use Rattle.bh_blocks.specs.declared.drafts.Draft.{Draft}

@@ -9,13 +9,17 @@ use Rattle.bh_view.specs.Bodies.{IsResolved, AddsBody, pieces, body_stored}
 use Rattle.bh_view.proofs.BodyChanges.{body_stores}
 use Rattle.bh_view.proofs.ResolvedLemmas.{tables_resolved}
 use Rattle.bh_tables.proofs.ResolvedLemmas.{own_bodies}
-use Rattle.bh_schema.specs.Layer.{standing, IsIntact, IsStateClean, IsInside, StateWithin}
+use Rattle.bh_schema.specs.Layer.{standing, IsIntact, IsStateClean, IsInside, IsReadable, StateWithin}
 use Rattle.bh_schema.specs.Working.{tables_at}
 use Rattle.bh_blocks.specs.Added.{IsNewBody}
 
 -- after a question the transaction is open still
 pub still_inside : (old new : State) → StateWithin old new → (IsIntact new → standing new ≡ standing old) → (IsStateClean old → IsInside (standing old)) → IsStateClean new → IsInside (standing new)
 still_inside old new within same inside clean = subst IsInside (sym (same clean.intact)) (inside (within.follows.clean clean))
+
+-- after a question the database can be read still
+pub still_readable : (old new : State) → StateWithin old new → (IsIntact new → standing new ≡ standing old) → (IsStateClean old → IsReadable (standing old)) → IsStateClean new → IsReadable (standing new)
+still_readable old new within same reads clean = subst IsReadable (sym (same clean.intact)) (reads (within.follows.clean clean))
 
 -- versions and parts have the bytes of their bodies
 pub resolved_at : (s : State) → IsResolved (tables_at s)

@@ -8,4 +8,5 @@ pub mod Cached
 pub mod Keeping
 pub mod Removing
 pub mod WindowSteps
+pub mod PlanSteps
 mod Vectors

@@ -1,5 +1,5 @@
 -- Calls over counts of uses, and over references and blocks beside them, in the midst of a write.
-use Rattle.std.proofs.Common.{◌≡◌, ℕ, ℤ, pos, ◌-ℤ◌, List, [], ◌∷◌, ◌++◌, Bool, true, false, None, int_lt, Ok, Err, Result, OnOk, IfErr, sym, subst, ap, ◌∙◌}
+use Rattle.std.proofs.Common.{◌≡◌, ℕ, pos, ◌-ℤ◌, List, [], ◌∷◌, ◌++◌, Bool, true, false, None, int_lt, Ok, Err, Result, OnOk, IfErr, sym, subst}
 use Rattle.std.specs.List.{list_any, AllByRecursion}
 use Rattle.sqlite.specs.Edit.{next_rowid}
 use Rattle.sqlite.specs.Effect.{IsDatabase}
@@ -13,7 +13,7 @@ use Rattle.bh_rows.specs.Form.{Entry, put, entries, typed}
 use Rattle.bh_rows.specs.Means.{is_trouble}
 use Rattle.bh_rows.proofs.TextLemmas as text
 use Rattle.bh_tables.specs.Schema.{host_schema, uses_table, refs_table, blocks_table, at}
-use Rattle.bh_tables.specs.Typed.{Totals, counted, UseRow, use_form, is_named, RefRow, ref_form, BlockRow, block_form, IsHostBy, Tables, tables, tables_in, rebodied}
+use Rattle.bh_tables.specs.Typed.{Totals, counted, UseRow, use_form, is_named, RefRow, ref_form, BlockRow, block_form, IsHostBy, tables, tables_in, rebodied}
 use Rattle.bh_tables.specs.Shown.{Name, block_name, ref_name, is_block, is_use, is_at_place}
 use Rattle.bh_tables.proofs.BlockTexts.{new_block, block_free, unreferenced_goes}
 use Rattle.bh_tables.proofs.OwnedLemmas.{block_unused}

@@ -4,12 +4,11 @@ use Rattle.std.specs.List.{AllByRecursion}
 use Rattle.std.proofs.lemmas.List.Sums.{sum_by-cons}
 use Rattle.std.proofs.lemmas.List.Concat.{length-flat_map}
 use Rattle.std.proofs.lemmas.List.{length-drop}
-use Rattle.bh_types.specs.declared.range.RangePlan.{RangePlan}
 use Rattle.bh_types.specs.declared.range.RangePlan.TheVariants.{Whole, Part}
 use Rattle.bh_types.specs.Ranges.{cut}
 use Rattle.bh_tables.specs.Schema.{Octets}
 use Rattle.bh_tables.specs.Typed.{BlockRow, RefRow}
-use Rattle.bh_tables.specs.Bodies.{Name, ref_name, block_at, placed}
+use Rattle.bh_tables.specs.Bodies.{Name, placed}
 use Rattle.bh_view.specs.Blocks.{whole}
 use Rattle.bh_blocks.specs.Windows.{piece_of, IsMeasured}
 
@@ -113,11 +112,9 @@ module _ (blocks : List BlockRow) where
 
 -- ---- a body
 
-pub read_is : (refs : List RefRow) (blocks : List BlockRow) (body : Name) (plan : RangePlan) (skip left total : ℕ) (start bytes : Octets) → AllByRecursion (IsMeasured blocks) (placed refs body)
-    → ((xs : Octets) → length xs ≡ total → take left (drop skip xs) ≡ cut plan xs) → total ≡ size_sum (placed refs body) → start ≡ [] → bytes ≡ start ++ shown_of blocks skip left (placed refs body) → bytes ≡ cut plan (whole refs blocks body)
+pub long_whole : (refs : List RefRow) (blocks : List BlockRow) (body : Name) → AllByRecursion (IsMeasured blocks) (placed refs body) → length (whole refs blocks body) ≡ size_sum (placed refs body)
 unfolding whole
-read_is refs blocks body plan skip left total start bytes sizes cuts sum none is =
-    is ∙ ap (λ l. l ++ shown_of blocks skip left (placed refs body)) none ∙ cuts (flat_map (piece_of blocks) (placed refs body)) (long_as blocks (placed refs body) sizes ∙ sym sum)
+long_whole refs blocks body sizes = long_as blocks (placed refs body) sizes
 
 pub total_starts : (n : ℕ) → 0 + n ≡ n
 total_starts n = omega arith
@@ -127,10 +124,3 @@ total_ends total all rs none is = sym (no_more total) ∙ sym (ap (λ l. total +
   where
     no_more : (n : ℕ) → n + 0 ≡ n
     no_more n = omega arith
-
--- what was appended of a block, in the words of its reference
-pub block_read : (found blocks : List BlockRow) (name : Name) (r : RefRow) (size skip left : ℕ) (bytes more : Octets) → found ≡ blocks → name ≡ ref_name r → size ≡ length (piece_of blocks r)
-    → (size ≡ length (block_at found name) → more ≡ bytes ++ take left (drop skip (block_at found name))) → more ≡ bytes ++ take left (drop skip (piece_of blocks r))
-block_read found blocks name r size skip left bytes more same named sized read =
-    let there : block_at found name ≡ piece_of blocks r = λ i. block_at (same i) (named i) in
-    read (sized ∙ sym (ap length there)) ∙ ap (λ l. bytes ++ take left (drop skip l)) there

@@ -1,7 +1,5 @@
 -- The functions that name blocks, and the digesters that compute them.
-use Rattle.std.specs.Prelude.{◌≡◌}
 use Rattle.sha2.specs.Sha256.{sha256}
-use Rattle.bh_types.specs.BlockDigests.{digest_number}
 use Rattle.bh_types.specs.declared.block_digest.BlockDigest.{BlockDigest}
 use Rattle.bh_types.specs.declared.block_digest.BlockDigest.TheVariants.{Sha256, Fast}
 use Rattle.bh_tables.specs.Schema.{Octets}

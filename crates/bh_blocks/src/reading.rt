@@ -1,20 +1,21 @@
-//! The bytes of a body, or of a part of it: of its blocks only those are read that the part touches.
+//! The bytes of a body, or of a part of it, block by block: of its blocks only those are read that the part touches.
 
-ghost use Rattle.std.specs.Prelude.{◌≡◌, ◌⊎◌, ◌++◌, ◌-◌, ◌<◌, ◌^◌, true, false, List, Contains, map, flat_map, take, drop, length, sum_by, IfOk, OnOk};
-ghost use Rattle.std.specs.List.{AllByRecursion};
+ghost use Rattle.std.specs.Prelude.{◌≡◌, ◌⊎◌, ◌++◌, ◌+◌, ◌-◌, ◌<◌, ◌≤◌, ◌^◌, [], List, Contains, map, drop, length, sum_by, Some, IfSome, IfNone, IfOk, OnOk, OnErr};
 ghost use Rattle.bh_types.specs.Ranges.{cut};
 ghost use Rattle.bh_tables.specs.Schema.{Octets};
-ghost use Rattle.bh_tables.specs.Typed.{BlockRow, RefRow};
-ghost use Rattle.bh_tables.specs.Bodies.{block_at};
+ghost use Rattle.bh_tables.specs.Typed.{BlockRow, RefRow, Tables};
+ghost use Rattle.bh_tables.specs.Bodies.{block_at, placed};
 ghost use Rattle.bh_tables.specs.Shown.{Name, shown_bytes, shown_ref};
 ghost use Rattle.bh_view.specs.Blocks.{whole};
 ghost use Rattle.bh_view.specs.Bodies.{HasBodies};
-ghost use Rattle.bh_schema.specs.Connections.{IsClean, tables, InTransaction, StaysWithin, WasOpen, StaysOpen, ChangesNothing};
+ghost use Rattle.bh_schema.specs.Connections.{IsClean, tables, CanRead, InTransaction, StaysWithin, WasOpen, StaysOpen, ChangesNothing};
 ghost use Rattle.bh_cache.specs.Kept.{Agrees};
 ghost use Rattle.bh_blocks.specs.Named.{named_by};
-ghost use Rattle.bh_blocks.specs.Windows.{seen_in, piece_of, IsMeasured};
+ghost use Rattle.bh_blocks.specs.Plans.{IsFirst, coming, planned, shown_from, size_of};
+ghost use Rattle.bh_blocks.specs.Windows.{seen_in};
 
-use crate::refs::{BlockRef, read_ref, ref_rows};
+use crate::drafts::{append, next_place};
+use crate::refs::{BlockRef, Place, read_ref, ref_at, ref_rows};
 use crate::rows::bytes_rows;
 use bh_cache::blocks::{BlockCache, BlockName};
 use bh_types::range::RangePlan;
@@ -24,14 +25,15 @@ use std::alloc::Global;
 
 /// A part of bytes: so many of them are left out, and at most so many of the others are in it.
 #[derive(Clone, Copy)]
-struct Window {
-    skip: u64,
-    left: u64,
+pub struct Window {
+    pub skip: u64,
+    pub left: u64,
 }
 
 /// The part that a plan names, of so many bytes.
 fn window_of(plan: RangePlan, total: u64) -> Window
-    ensures { (bytes : Octets) → length bytes ≡ total → seen_in result bytes ≡ cut plan bytes }
+    ensures part { (bytes : Octets) → length bytes ≡ total → seen_in result bytes ≡ cut plan bytes }
+    ensures left { result.left ≡ size_of plan total }
 {
     match plan {
         RangePlan::Whole => Window {
@@ -84,39 +86,6 @@ fn after(window: Window, size: u64) -> Window
     }
 }
 
-/// Appends the part of a block that a window shows.
-fn append_part(row: &Row, window: Window, bytes: &mut Vec<u8>) -> Result<(), Error>
-    ensures { OnOk result ((b : BlockRow) → row.now ≡ shown_bytes b → bytes.new.items ≡ bytes.old.items ++ seen_in window b.bytes) }
-{
-    match row.get_ref(0)? {
-        ValueRef::Blob(blob) => Ok(bytes.extend_from_slice(part_of(blob, window))?),
-        _ => Err(Error::SqliteFailure(ErrorCode::DatabaseCorrupt)),
-    }
-}
-
-/// The same of the block that a reference names, where it is kept in memory, and whether it is.
-fn append_kept(
-    cache: &mut BlockCache,
-    block: &BlockRef,
-    window: Window,
-    bytes: &mut Vec<u8>,
-) -> Result<bool, Error>
-    ensures entries { (e : Name × Octets) → Contains cache.new.entries e → Contains cache.old.entries e }
-    ensures bytes { IfOk result (λ kept. kept ≡ true → (blocks : List BlockRow) → Agrees cache.old blocks
-        → bytes.new.items ≡ bytes.old.items ++ seen_in window (block_at blocks (named_by block.now))) }
-    ensures none { IfOk result (λ kept. kept ≡ false → bytes.new ≡ bytes.old) }
-{
-    let Some(name) = BlockName::new(&block.digest, block.ord) else {
-        return Ok(false);
-    };
-    match cache.kept(&name) {
-        Some(kept) => bytes.extend_from_slice(part_of(kept, window))?,
-        None => return Ok(false),
-    }
-    cache.touch(&name);
-    Ok(true)
-}
-
 /// Keeps the block that a reference names, whose bytes a row shows.
 fn keep_row(cache: &mut BlockCache, alloc: Global, block: &BlockRef, row: &Row)
     ensures { (b : BlockRow) → row.now ≡ shown_bytes b → (e : Name × Octets) → Contains cache.new.entries e
@@ -134,90 +103,263 @@ fn keep_row(cache: &mut BlockCache, alloc: Global, block: &BlockRef, row: &Row)
     }
 }
 
-/// Appends the part of the block that a reference names that a window shows, as its row has it, and keeps the block.
-fn append_read<S: Alter>(
+/// The part of a block that a window shows, as its row has it, and the block is kept. The window is to show some of it.
+fn read_row<S: Alter>(
     connection: &mut Connection<S>,
     cache: &mut BlockCache,
     alloc: Global,
     block: &BlockRef,
     window: Window,
-    bytes: &mut Vec<u8>,
-) -> Result<(), Error>
-    requires inside { InTransaction S.Store connection.old }
+) -> Result<Vec<u8>, Error>
+    requires reads { CanRead S.Store connection.old }
+    requires agrees { IsClean S.Store connection.old → Agrees cache.old (tables S.Store connection.old).blocks }
     requires small { block.now.ord < 2 ^ 63 }
-    requires kept { IsClean S.Store connection.old → Agrees cache.old (tables S.Store connection.old).blocks }
     ensures within { StaysWithin S.Store connection.old connection.new }
-    ensures opens { OnOk result (StaysOpen S.Store connection.old connection.new) }
+    ensures opens { OnOk result (WasOpen S.Store connection.old connection.new) }
     ensures same { OnOk result (ChangesNothing S.Store connection.old connection.new) }
-    ensures kept { OnOk result (IsClean S.Store connection.new → Agrees cache.new (tables S.Store connection.new).blocks) }
-    ensures bytes { OnOk result (IsClean S.Store connection.new
-        → bytes.new.items ≡ bytes.old.items ++ seen_in window (block_at (tables S.Store connection.old).blocks (named_by block.now))) }
+    ensures agrees { OnOk result (IsClean S.Store connection.new → Agrees cache.new (tables S.Store connection.new).blocks) }
+    ensures some { IfOk result (λ bytes. 0 < length bytes.items) }
+    ensures most { IfOk result (λ bytes. length bytes.items ≤ window.left) }
+    ensures bytes { IfOk result (λ bytes. IsClean S.Store connection.new
+        → bytes.items ≡ seen_in window (block_at (tables S.Store connection.old).blocks (named_by block.now))) }
 {
     let rows = bytes_rows(connection, &block.digest, block.ord)?;
     match rows.first() {
-        None => Ok(()),
+        None => Err(Error::SqliteFailure(ErrorCode::DatabaseCorrupt)),
         Some(row) => {
             keep_row(cache, alloc, block, row);
-            append_part(row, window, bytes)
+            shown_part(alloc, row, window)
         }
     }
 }
 
-/// The same, which reads no row where the window shows nothing of the block, or it is kept in memory.
-fn append_block<S: Alter>(
+/// The part of a block that a window shows, where it is kept in memory. The window is to show some of it.
+fn kept_part(
+    cache: &mut BlockCache,
+    alloc: Global,
+    block: &BlockRef,
+    window: Window,
+) -> Result<Option<Vec<u8>>, Error>
+    ensures entries { (e : Name × Octets) → Contains cache.new.entries e → Contains cache.old.entries e }
+    ensures some { IfOk result (λ found. IfSome found (λ bytes. 0 < length bytes.items)) }
+    ensures most { IfOk result (λ found. IfSome found (λ bytes. length bytes.items ≤ window.left)) }
+    ensures bytes { IfOk result (λ found. IfSome found (λ bytes. (blocks : List BlockRow) → Agrees cache.old blocks
+        → bytes.items ≡ seen_in window (block_at blocks (named_by block.now)))) }
+{
+    let Some(name) = BlockName::new(&block.digest, block.ord) else {
+        return Ok(None);
+    };
+    let bytes = match cache.kept(&name) {
+        Some(kept) => copied(alloc, part_of(kept, window))?,
+        None => return Ok(None),
+    };
+    cache.touch(&name);
+    Ok(Some(bytes))
+}
+
+/// The same, which reads no row where the block is kept in memory.
+fn read_part<S: Alter>(
     connection: &mut Connection<S>,
     cache: &mut BlockCache,
     alloc: Global,
     block: &BlockRef,
     window: Window,
-    bytes: &mut Vec<u8>,
-) -> Result<(), Error>
-    requires inside { InTransaction S.Store connection.old }
+) -> Result<Vec<u8>, Error>
+    requires reads { CanRead S.Store connection.old }
+    requires agrees { IsClean S.Store connection.old → Agrees cache.old (tables S.Store connection.old).blocks }
     requires small { block.now.ord < 2 ^ 63 }
-    requires kept { IsClean S.Store connection.old → Agrees cache.old (tables S.Store connection.old).blocks }
     ensures within { StaysWithin S.Store connection.old connection.new }
     ensures opens { OnOk result (StaysOpen S.Store connection.old connection.new) }
     ensures same { OnOk result (ChangesNothing S.Store connection.old connection.new) }
-    ensures kept { OnOk result (IsClean S.Store connection.new → Agrees cache.new (tables S.Store connection.new).blocks) }
-    ensures bytes { OnOk result (IsClean S.Store connection.new
-        → block.now.size ≡ length (block_at (tables S.Store connection.old).blocks (named_by block.now))
-        → bytes.new.items ≡ bytes.old.items ++ seen_in window (block_at (tables S.Store connection.old).blocks (named_by block.now))) }
+    ensures agrees { OnOk result (IsClean S.Store connection.new → Agrees cache.new (tables S.Store connection.new).blocks) }
+    ensures some { IfOk result (λ bytes. 0 < length bytes.items) }
+    ensures most { IfOk result (λ bytes. length bytes.items ≤ window.left) }
+    ensures bytes { IfOk result (λ bytes. IsClean S.Store connection.new
+        → bytes.items ≡ seen_in window (block_at (tables S.Store connection.old).blocks (named_by block.now))) }
 {
-    if block.size <= window.skip || window.left == 0 {
-        return Ok(());
+    match kept_part(cache, alloc, block, window)? {
+        Some(bytes) => Ok(bytes),
+        None => read_row(connection, cache, alloc, block, window),
     }
-    if append_kept(cache, block, window, bytes)? {
-        return Ok(());
-    }
-    append_read(connection, cache, alloc, block, window, bytes)
 }
 
-/// The same of all blocks that rows of references name, one after the other.
-fn append_blocks<S: Alter>(
+/// The part of the bytes in a row that a window shows. It is to show some.
+fn shown_part(alloc: Global, row: &Row, window: Window) -> Result<Vec<u8>, Error>
+    ensures some { IfOk result (λ bytes. 0 < length bytes.items) }
+    ensures most { IfOk result (λ bytes. length bytes.items ≤ window.left) }
+    ensures bytes { IfOk result (λ bytes. (b : BlockRow) → row.now ≡ shown_bytes b → bytes.items ≡ seen_in window b.bytes) }
+{
+    match row.get_ref(0)? {
+        ValueRef::Blob(blob) => copied(alloc, part_of(blob, window)),
+        _ => Err(Error::SqliteFailure(ErrorCode::DatabaseCorrupt)),
+    }
+}
+
+/// A copy of bytes, which are to be some.
+fn copied(alloc: Global, part: &[u8]) -> Result<Vec<u8>, Error>
+    ensures some { IfOk result (λ bytes. 0 < length bytes.items) }
+    ensures same { IfOk result (λ bytes. bytes.items ≡ part.now) }
+{
+    if part.is_empty() {
+        return Err(Error::SqliteFailure(ErrorCode::DatabaseCorrupt));
+    }
+    Ok(part.to_vec(alloc)?)
+}
+
+/// What is still to come of the bytes that a range names of a body.
+#[derive(Drop)]
+pub struct Plan<'a> {
+    pub tenant: &'a str,
+    /// An entry number of the tenant.
+    pub body: u64,
+    /// Of the next block, counted from 0.
+    pub place: u64,
+    /// What is to come of its bytes and of those after it.
+    pub window: Window,
+}
+
+/// Plans the bytes that a range names of a body of so many bytes. No row is read.
+pub fn plan_body<'a>(tenant: &'a str, body: u64, size: u64, range: RangePlan) -> Plan<'a>
+    ensures of { planned result ≡ (tenant.now, body) }
+    ensures first { result.place ≡ 0 }
+    ensures left { result.window.left ≡ size_of range size }
+    ensures coming { (tables : Tables) → length (whole tables.refs tables.blocks (tenant.now, body)) ≡ size
+        → coming result tables ≡ cut range (whole tables.refs tables.blocks (tenant.now, body)) }
+{
+    Plan {
+        tenant,
+        body,
+        place: 0,
+        window: window_of(range, size),
+    }
+}
+
+/// A block of which a window shows some bytes.
+#[derive(Drop)]
+struct Shown {
+    block: BlockRef,
+    place: u64,
+    window: Window,
+}
+
+/// The next block of which a plan shows some bytes, if there is one: those before it are passed over.
+fn find_shown<S: Alter>(
+    connection: &mut Connection<S>,
+    plan: &Plan<'_>,
+) -> Result<Option<Shown>, Error>
+    requires reads { CanRead S.Store connection.old }
+    requires body { plan.now.body < 2 ^ 63 }
+    requires place { plan.now.place < 2 ^ 63 }
+    ensures within { StaysWithin S.Store connection.old connection.new }
+    ensures opens { OnOk result (StaysOpen S.Store connection.old connection.new) }
+    ensures same { OnOk result (ChangesNothing S.Store connection.old connection.new) }
+    ensures small { IfOk result (λ found. IfSome found (λ shown. shown.block.ord < 2 ^ 63)) }
+    ensures place { IfOk result (λ found. IfSome found (λ shown. shown.place < 2 ^ 63)) }
+    ensures shows { IfOk result (λ found. IfSome found (λ shown. shown.window.skip < shown.block.size)) }
+    ensures most { IfOk result (λ found. IfSome found (λ shown. shown.window.left ≤ plan.now.window.left)) }
+    ensures first { IfOk result (λ found. IsClean S.Store connection.new → HasBodies (tables S.Store connection.old)
+        → IfSome found (λ shown. IsFirst (Some shown.block) (drop shown.place (placed (tables S.Store connection.old).refs (planned plan.now)))
+        × (shown_from shown.window shown.place (planned plan.now) (tables S.Store connection.old)
+        ≡ coming plan.now (tables S.Store connection.old)))) }
+    ensures none { IfOk result (λ found. IsClean S.Store connection.new → HasBodies (tables S.Store connection.old)
+        → IfNone found (coming plan.now (tables S.Store connection.old) ≡ [])) }
+{
+    let mut place = plan.place;
+    let mut window = plan.window;
+    'places: while window.left > 0 {
+        let at = Place {
+            tenant: plan.tenant,
+            body: plan.body,
+            place,
+        };
+        match ref_at(connection, &at)? {
+            None => return Ok(None),
+            Some(block) => {
+                if block.size > window.skip {
+                    return Ok(Some(Shown {
+                        block,
+                        place,
+                        window,
+                    }));
+                }
+                window = after(window, block.size);
+                place = next_place(place)?;
+            }
+        }
+    }
+    Ok(None)
+}
+
+/// The part of the next block that a plan names, of which it names some bytes: `None` where nothing is left. It may be
+/// asked for in a transaction or outside. An error leaves the plan as it was, and may have taken the transaction back.
+pub fn next_piece<S: Alter>(
     connection: &mut Connection<S>,
     cache: &mut BlockCache,
     alloc: Global,
-    rows: &[Row],
-    window: Window,
-    bytes: &mut Vec<u8>,
-) -> Result<(), Error>
-    requires inside { InTransaction S.Store connection.old }
-    requires kept { IsClean S.Store connection.old → Agrees cache.old (tables S.Store connection.old).blocks }
+    plan: &mut Plan<'_>,
+) -> Result<Option<Vec<u8>>, Error>
+    requires reads { CanRead S.Store connection.old }
+    requires agrees { IsClean S.Store connection.old → Agrees cache.old (tables S.Store connection.old).blocks }
+    requires body { plan.old.body < 2 ^ 63 }
+    requires place { plan.old.place < 2 ^ 63 }
     ensures within { StaysWithin S.Store connection.old connection.new }
     ensures opens { OnOk result (StaysOpen S.Store connection.old connection.new) }
+    ensures agrees { OnOk result (IsClean S.Store connection.new → Agrees cache.new (tables S.Store connection.new).blocks) }
     ensures same { OnOk result (ChangesNothing S.Store connection.old connection.new) }
-    ensures kept { OnOk result (IsClean S.Store connection.new → Agrees cache.new (tables S.Store connection.new).blocks) }
-    ensures bytes { OnOk result (IsClean S.Store connection.new → (rs : List RefRow) → rows.now ≡ map shown_ref rs
-        → AllByRecursion (IsMeasured (tables S.Store connection.old).blocks) rs
-        → bytes.new.items ≡ bytes.old.items ++ seen_in window (flat_map (piece_of (tables S.Store connection.old).blocks) rs)) }
+    ensures kept { OnErr result (plan.new ≡ plan.old) }
+    ensures of { planned plan.new ≡ planned plan.old }
+    ensures body { plan.new.body ≡ plan.old.body }
+    ensures place { plan.new.place < 2 ^ 63 }
+    ensures some { IfOk result (λ piece. IfSome piece (λ bytes. 0 < length bytes.items)) }
+    ensures falls { IfOk result (λ piece. IfSome piece (λ bytes. length bytes.items + plan.new.window.left ≤ plan.old.window.left)) }
+    ensures gives { IfOk result (λ piece. IsClean S.Store connection.new → HasBodies (tables S.Store connection.old) → IfSome piece (λ bytes.
+        coming plan.old (tables S.Store connection.old) ≡ bytes.items ++ coming plan.new (tables S.Store connection.old))) }
+    ensures ends { IfOk result (λ piece. IsClean S.Store connection.new → HasBodies (tables S.Store connection.old)
+        → IfNone piece (coming plan.old (tables S.Store connection.old) ≡ [])) }
+    ensures stays { IfOk result (λ piece. IfNone piece (plan.new ≡ plan.old)) }
 {
-    let mut shown = window;
-    for row in rows {
-        let block = read_ref(row)?;
-        append_block(connection, cache, alloc, &block, shown, bytes)?;
-        shown = after(shown, block.size);
+    match find_shown(connection, plan)? {
+        None => Ok(None),
+        Some(shown) => {
+            let bytes = read_part(connection, cache, alloc, &shown.block, shown.window)?;
+            let place = next_place(shown.place)?;
+            let count = bytes.as_slice().len() as u64;
+            plan.place = place;
+            plan.window = Window {
+                skip: 0,
+                left: shown.window.left - count,
+            };
+            Ok(Some(bytes))
+        }
     }
-    Ok(())
+}
+
+/// Appends all that a plan is still to give.
+fn append_planned<S: Alter>(
+    connection: &mut Connection<S>,
+    cache: &mut BlockCache,
+    alloc: Global,
+    plan: Plan<'_>,
+    bytes: &mut Vec<u8>,
+) -> Result<(), Error>
+    requires reads { CanRead S.Store connection.old }
+    requires agrees { IsClean S.Store connection.old → Agrees cache.old (tables S.Store connection.old).blocks }
+    requires body { plan.body < 2 ^ 63 }
+    requires place { plan.place < 2 ^ 63 }
+    ensures within { StaysWithin S.Store connection.old connection.new }
+    ensures opens { OnOk result (StaysOpen S.Store connection.old connection.new) }
+    ensures agrees { OnOk result (IsClean S.Store connection.new → Agrees cache.new (tables S.Store connection.new).blocks) }
+    ensures same { OnOk result (ChangesNothing S.Store connection.old connection.new) }
+    ensures bytes { OnOk result (IsClean S.Store connection.new → HasBodies (tables S.Store connection.old)
+        → bytes.new.items ≡ bytes.old.items ++ coming plan.entry (tables S.Store connection.old)) }
+{
+    let mut left = plan;
+    'pieces: loop {
+        match next_piece(connection, cache, alloc, &mut left)? {
+            Some(piece) => append(bytes, &piece)?,
+            None => return Ok(()),
+        }
+    }
 }
 
 /// The bytes of a body that a plan names. Blocks that are read are kept in memory.
@@ -240,8 +382,8 @@ pub fn read_body<S: Alter>(
         → bytes.items ≡ cut plan (whole (tables S.Store connection.old).refs (tables S.Store connection.old).blocks (tenant.now, body))) }
 {
     let rows = ref_rows(connection, tenant, body)?;
-    let window = window_of(plan, total_size(&rows)?);
-    let mut bytes = Vec::with_capacity(alloc, window.left as usize)?;
-    append_blocks(connection, cache, alloc, &rows, window, &mut bytes)?;
+    let planned = plan_body(tenant, body, total_size(&rows)?, plan);
+    let mut bytes = Vec::with_capacity(alloc, planned.window.left as usize)?;
+    append_planned(connection, cache, alloc, planned, &mut bytes)?;
     Ok(bytes)
 }

@@ -1,13 +1,16 @@
 //! The SQL texts over references, one call for each, and what is read of their rows.
 
-ghost use Rattle.std.specs.Prelude.{◌≡◌, ◌++◌, ◌∷◌, [], ◌<◌, ◌^◌, true, false, map, filter, IfOk, IfErr, OnOk};
+ghost use Rattle.std.specs.Prelude.{◌≡◌, ◌++◌, ◌∷◌, [], ◌<◌, ◌^◌, true, false, map, filter, drop, IfSome, IfOk, IfErr, OnOk};
 ghost use Rattle.std.specs.List.{list_any};
 ghost use Rattle.sqlite_keyed.specs.Lists.{delete_where, sort_by};
 ghost use Rattle.bh_rows.specs.Means.{is_trouble};
+ghost use Rattle.bh_tables.specs.Bodies.{placed};
 ghost use Rattle.bh_tables.specs.Typed.{RefRow, rebodied};
 ghost use Rattle.bh_tables.specs.Shown.{ref_name, is_block, is_of_body, is_at_place, by_place, shown_ref};
-ghost use Rattle.bh_schema.specs.Connections.{IsClean, tables, InTransaction, InMidst, Rewrites, StaysWithin, WasOpen, StaysOpen, ChangesNothing, Becomes, IsTrouble, IsTroubleIf};
-ghost use Rattle.bh_blocks.specs.Named.{named_by, placed_at};
+ghost use Rattle.bh_schema.specs.Connections.{IsClean, tables, CanRead, InTransaction, InMidst, Rewrites, StaysWithin, WasOpen, StaysOpen, ChangesNothing, Becomes, IsTrouble, IsTroubleIf};
+ghost use Rattle.bh_view.specs.Bodies.{HasBodies};
+ghost use Rattle.bh_blocks.specs.Named.{named_by, placed_at, body_at};
+ghost use Rattle.bh_blocks.specs.Plans.{IsFirst};
 
 use crate::rows::in_range;
 use crate::uses::raise_uses;
@@ -68,6 +71,46 @@ pub fn ref_rows<S: Alter>(
         "SELECT digest, ord, size FROM refs WHERE tenant = ?1 AND body = ?2 ORDER BY place, rowid",
         &[tenant.to_sql(), number(body)],
     )
+}
+
+/// The reference at a place. It may be asked for in a transaction or outside.
+pub fn rows_at<S: Alter>(connection: &mut Connection<S>, at: &Place<'_>) -> Result<Vec<Row>, Error>
+    requires reads { CanRead S.Store connection.old }
+    requires body { at.now.body < 2 ^ 63 }
+    requires place { at.now.place < 2 ^ 63 }
+    ensures within { StaysWithin S.Store connection.old connection.new }
+    ensures opens { OnOk result (WasOpen S.Store connection.old connection.new) }
+    ensures same { OnOk result (ChangesNothing S.Store connection.old connection.new) }
+    ensures rows { IfOk result (λ rows. IsClean S.Store connection.new
+        → rows.items ≡ map shown_ref (filter (is_at_place (at.now.tenant.now, at.now.body) at.now.place) (tables S.Store connection.old).refs)) }
+    ensures trouble { IfErr result (IsTrouble S.Store connection.old connection.new) }
+{
+    connection.query_all(
+        "SELECT digest, ord, size FROM refs WHERE tenant = ?1 AND body = ?2 AND place = ?3 ORDER BY rowid",
+        &[at.tenant.to_sql(), number(at.body), number(at.place)],
+    )
+}
+
+/// What the reference at a place names, if there is one.
+pub fn ref_at<S: Alter>(
+    connection: &mut Connection<S>,
+    at: &Place<'_>,
+) -> Result<Option<BlockRef>, Error>
+    requires reads { CanRead S.Store connection.old }
+    requires body { at.now.body < 2 ^ 63 }
+    requires place { at.now.place < 2 ^ 63 }
+    ensures within { StaysWithin S.Store connection.old connection.new }
+    ensures opens { OnOk result (WasOpen S.Store connection.old connection.new) }
+    ensures same { OnOk result (ChangesNothing S.Store connection.old connection.new) }
+    ensures small { IfOk result (λ found. IfSome found (λ block. block.ord < 2 ^ 63)) }
+    ensures first { IfOk result (λ found. IsClean S.Store connection.new → HasBodies (tables S.Store connection.old)
+        → IsFirst found (drop at.now.place (placed (tables S.Store connection.old).refs (body_at at.now)))) }
+{
+    let rows = rows_at(connection, at)?;
+    match rows.first() {
+        None => Ok(None),
+        Some(row) => Ok(Some(read_ref(row)?)),
+    }
 }
 
 /// Adds a reference: in the midst of a write that counts it.

@@ -6,7 +6,7 @@ ghost use Rattle.sqlite_keyed.specs.Lists.{delete_where, sort_by};
 ghost use Rattle.bh_rows.specs.Means.{is_trouble};
 ghost use Rattle.bh_tables.specs.Typed.{BlockRow as Stored, rebodied};
 ghost use Rattle.bh_tables.specs.Shown.{block_name, is_copy, is_block, is_use, has_digest, by_ord, shown_ord, shown_name, shown_bytes};
-ghost use Rattle.bh_schema.specs.Connections.{IsClean, tables, InTransaction, InMidst, Rewrites, StaysWithin, WasOpen, StaysOpen, ChangesNothing, IsTrouble, IsTroubleIf};
+ghost use Rattle.bh_schema.specs.Connections.{IsClean, tables, CanRead, InTransaction, InMidst, Rewrites, StaysWithin, WasOpen, StaysOpen, ChangesNothing, IsTrouble, IsTroubleIf};
 ghost use Rattle.bh_blocks.specs.Named.{stored_name};
 ghost use Rattle.bh_blocks.specs.Uses.{IsNewName};
 
@@ -89,12 +89,13 @@ pub fn ord_rows<S: Alter>(connection: &mut Connection<S>, digest: &[u8]) -> Resu
     )
 }
 
+/// The block of a name. It may be asked for in a transaction or outside.
 pub fn bytes_rows<S: Alter>(
     connection: &mut Connection<S>,
     digest: &[u8],
     ord: u64,
 ) -> Result<Vec<Row>, Error>
-    requires inside { InTransaction S.Store connection.old }
+    requires reads { CanRead S.Store connection.old }
     requires small { ord < 2 ^ 63 }
     ensures within { StaysWithin S.Store connection.old connection.new }
     ensures opens { OnOk result (WasOpen S.Store connection.old connection.new) }

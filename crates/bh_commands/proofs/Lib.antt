@@ -1,3 +1,4 @@
 mod Found
 mod Printing
 mod Refused
+mod Kept

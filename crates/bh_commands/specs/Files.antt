@@ -4,7 +4,7 @@ use Rattle.sqlite_disk.specs.declared.Disk as disk
 use Rattle.sqlite_disk.specs.declared.Files.{Files}
 use Rattle.sqlite_wal.specs.Recovery.{Image}
 use Rattle.sqlite_store.specs.declared.store.FileStore.{FileStore}
-use Rattle.sqlite.specs.Files.{file_state, over_files}
+use Rattle.sqlite.specs.Files.{file_state}
 use Rattle.sqlite.specs.Held.{Held}
 use Rattle.bh_types.specs.declared.refusal.Refusal.TheVariants.{NotAHostFile}
 use Rattle.bh_file.specs.Opened.{IsOpenedOn}
@@ -24,7 +24,7 @@ HoldsFor (Host clock work) image = HoldsSoundHost image
 -- what was asked was done on a connection, and its files were closed
 pub record IsEnded {D : Type 0} {g : disk.Ghosts D} (old : Held (FileStore D g)) (asked : FileTask) (printed : Printed) (files : Files D) : Type 0 where
   pub new : Held (FileStore D g)
-  pub carried_out : CarriesOut over_files asked old new printed
+  pub carried_out : CarriesOut asked old new printed
   pub closed : AreClosed new files
 
 -- files with these contents were opened as a database, what was asked was done on its connection, and they were closed

@@ -1,7 +1,9 @@
 -- What a subcommand does to the connection of a file, and what it prints.
-use Rattle.std.specs.Prelude.{◌≡◌, ◌⊎◌, ℕ, Bool, true, false, IfSome, codes}
-use Rattle.sqlite_trees.specs.declared.store.Store.{Ghosts}
-use Rattle.sqlite.specs.Held.{Held, state}
+use Rattle.std.specs.Prelude.{◌≡◌, ◌⊎◌, ℕ, Bool, true, false, Some, IfSome, codes}
+use Rattle.sqlite_disk.specs.declared.Disk as disk
+use Rattle.sqlite_store.specs.declared.store.FileStore.{FileStore}
+use Rattle.sqlite.specs.Files.{file_state, over_files}
+use Rattle.sqlite.specs.Held.{Held}
 use Rattle.sqlite.specs.State.{State}
 use Rattle.bh_types.specs.BlockDigests.{digest_number}
 use Rattle.bh_types.specs.Limits.{HostLimits}
@@ -21,6 +23,8 @@ use Rattle.bh_open.specs.Opening.{digest_in}
 use Rattle.bh_open.specs.declared.open.Opened.{Opened}
 use Rattle.bh_blocks.specs.Digests.{digest_by, digester_of, the_digester}
 use Rattle.bh_dispatch.specs.declared.storage.HostStorage.{HostStorage}
+use Rattle.bh_kept.specs.Kept as kept
+use Rattle.bh_kept.specs.declared.host.KeptHost.{KeptHost}
 use Rattle.bh_words.specs.declared.lines.ClockGiven.{ClockGiven}
 use Rattle.bh_maintenance.specs.Endings.{IsLeft}
 use Rattle.bh_maintenance.specs.Found.{IsSoundIn, IsOpenedAs, IsLeftAlone, IsNotFound}
@@ -53,62 +57,67 @@ pub record IsMade (limits : HostLimits) (digest : BlockDigest) (old new : State)
 abbrev pub Makes : HostLimits → BlockDigest → State → State → Printed → Type 0
 Makes limits digest old new printed = IsNotMade old new printed ⊎ IsMade limits digest old new printed
 
-module _ {S : Type 0} (g : Ghosts S) where
+module _ {D : Type 0} {g : disk.Ghosts D} where
   -- the host of a database that was opened, by a digester, and by that of a function: it keeps no block in memory yet
-  abbrev pub host_with : {D : Type 0} → Opened S → D → HostStorage S D
+  abbrev pub host_with : {G : Type 0} → Opened (FileStore D g) → G → HostStorage (FileStore D g) G
   host_with opened digester = record { host = record { connection = opened.connection; digester = digester; limits = opened.limits; cache = no_blocks opened.tuning } }
 
-  abbrev pub host_by : (digest : BlockDigest) → Opened S → HostStorage S (digester_of digest)
+  abbrev pub host_by : (digest : BlockDigest) → Opened (FileStore D g) → HostStorage (FileStore D g) (digester_of digest)
   host_by digest opened = host_with opened (the_digester digest)
 
   -- a connection was opened as a host, which shows what stood, of version 1 brought over, and is at rest
-  pub record IsFound {D : Type 0} (digest : Octets → Octets) (old : Held S) (host : HostStorage S D) : Type 0 where
-    pub opened : IsOpenedAs (state g old) (state g host.host.connection)
-    pub shows : storage.IsClean g host.host → (storage.seen g host.host).now ≡ tables_opened (standing (state g old)).now
-    pub rest : storage.IsClean g host.host → IsAtRest (IsSoundHost digest) (storage.seen g host.host)
+  pub record IsFound {G : Type 0} (digest : Octets → Octets) (old : Held (FileStore D g)) (host : HostStorage (FileStore D g) G) : Type 0 where
+    pub opened : IsOpenedAs (file_state old) (file_state host.host.connection)
+    pub shows : storage.IsClean over_files host.host → (storage.seen over_files host.host).now ≡ tables_opened (standing (file_state old)).now
+    pub rest : storage.IsClean over_files host.host → IsAtRest (IsSoundHost digest) (storage.seen over_files host.host)
 
-  -- what is asked of it at a reading was done, all of it, and its connection is left
-  pub record IsWorkedOn {D : Type 0} (digest : Octets → Octets) (work : Work) (reading : ℕ) (host : HostStorage S D) (new : Held S) (printed : Printed) : Type 0 where
-    pub last : HostStorage S D
-    pub stays : StaysReady (λ h. storage.IsIntact g h.host) (λ h. storage.IsOpen g h.host) (IsSoundHost digest) (λ h. storage.seen g h.host) host last
-    pub done : HasDone (λ h. storage.IsIntact g h.host) (λ h. storage.IsOpen g h.host) (λ h. storage.seen g h.host) (λ h. storage.left g h.host) work reading host last printed
-    pub left : new ≡ last.host.connection
+  -- what is asked of it at a reading was done, all of it, and its connection is left; backups may have closed it and opened it
+  -- again, over which it wasn't lost
+  pub record IsWorkedOn {G : Type 0} (digest : Octets → Octets) (work : Work) (reading : ℕ) (host : HostStorage (FileStore D g) G) (new : Held (FileStore D g)) (printed : Printed) : Type 0 where
+    pub first : KeptHost D G g
+    pub last : KeptHost D G g
+    pub left_host : HostStorage (FileStore D g) G
+    pub begun : first.storage ≡ Some host
+    pub stays : StaysReady (λ h. kept.IsIntact h.storage) (λ h. kept.IsOpen h.storage) (IsSoundHost digest) (λ h. kept.seen h.limits h.storage) first last
+    pub done : HasDone (λ h. kept.IsIntact h.storage) (λ h. kept.IsOpen h.storage) (λ h. kept.seen h.limits h.storage) (λ h. kept.left h.storage) work reading first last printed
+    pub ended : last.storage ≡ Some left_host
+    pub left : new ≡ left_host.host.connection
 
   -- the clock, at the reading that was given or else at some reading, is further ahead of its last stamp than it may be, or not
-  pub record Reads {D : Type 0} (clock : ClockGiven) (host : HostStorage S D) (reading : ℕ) (is_leap : Bool) : Type 0 where
+  pub record Reads {G : Type 0} (clock : ClockGiven) (host : HostStorage (FileStore D g) G) (reading : ℕ) (is_leap : Bool) : Type 0 where
     pub given : IfSome clock.at (λ r. reading ≡ r)
-    pub leap : storage.IsClean g host.host → leaps clock.leap (latest_of (storage.seen g host.host).now) reading ≡ is_leap
+    pub leap : storage.IsClean over_files host.host → leaps clock.leap (latest_of (storage.seen over_files host.host).now) reading ≡ is_leap
 
   -- it is: that alone is told, and what stood stands
-  pub record IsHeldBack {D : Type 0} (clock : ClockGiven) (host : HostStorage S D) (new : Held S) (printed : Printed) : Type 0 where
+  pub record IsHeldBack {G : Type 0} (clock : ClockGiven) (host : HostStorage (FileStore D g) G) (new : Held (FileStore D g)) (printed : Printed) : Type 0 where
     pub reading : ℕ
     pub reads : Reads clock host reading true
     pub left : new ≡ host.host.connection
     pub line : IsFault printed
 
   -- it isn't, and what is asked was done at that reading
-  pub record IsDone {D : Type 0} (digest : Octets → Octets) (clock : ClockGiven) (work : Work) (host : HostStorage S D) (new : Held S) (printed : Printed) : Type 0 where
+  pub record IsDone {G : Type 0} (digest : Octets → Octets) (clock : ClockGiven) (work : Work) (host : HostStorage (FileStore D g) G) (new : Held (FileStore D g)) (printed : Printed) : Type 0 where
     pub reading : ℕ
     pub reads : Reads clock host reading false
     pub worked : IsWorkedOn digest work reading host new printed
 
-  abbrev pub IsWorkedInTime : {D : Type 0} → (Octets → Octets) → ClockGiven → Work → HostStorage S D → Held S → Printed → Type 0
+  abbrev pub IsWorkedInTime : {G : Type 0} → (Octets → Octets) → ClockGiven → Work → HostStorage (FileStore D g) G → Held (FileStore D g) → Printed → Type 0
   IsWorkedInTime digest clock work host new printed = IsHeldBack clock host new printed ⊎ IsDone digest clock work host new printed
 
   -- the host was opened by the digester of the function that its row tells
-  pub record HasWorked (clock : ClockGiven) (work : Work) (old new : Held S) (printed : Printed) : Type 0 where
-    pub opened : Opened S
-    pub row : IsStateClean (state g opened.connection) → digest_number opened.digest ≡ digest_in (seen_in opened.limits (state g opened.connection)).now
+  pub record HasWorked (clock : ClockGiven) (work : Work) (old new : Held (FileStore D g)) (printed : Printed) : Type 0 where
+    pub opened : Opened (FileStore D g)
+    pub row : IsStateClean (file_state opened.connection) → digest_number opened.digest ≡ digest_in (seen_in opened.limits (file_state opened.connection)).now
     pub found : IsFound (digest_by opened.digest) old (host_by opened.digest opened)
     pub worked : IsWorkedInTime (digest_by opened.digest) clock work (host_by opened.digest opened) new printed
 
-  abbrev pub Works : ClockGiven → Work → Held S → Held S → Printed → Type 0
-  Works clock work old new printed = IsNotFound (state g old) (state g new) printed ⊎ HasWorked clock work old new printed
+  abbrev pub Works : ClockGiven → Work → Held (FileStore D g) → Held (FileStore D g) → Printed → Type 0
+  Works clock work old new printed = IsNotFound (file_state old) (file_state new) printed ⊎ HasWorked clock work old new printed
 
-  abbrev pub CarriesOut : FileTask → Held S → Held S → Printed → Type 0
-  CarriesOut (Init limits digest) old new printed = Makes limits digest (state g old) (state g new) printed
+  abbrev pub CarriesOut : FileTask → Held (FileStore D g) → Held (FileStore D g) → Printed → Type 0
+  CarriesOut (Init limits digest) old new printed = Makes limits digest (file_state old) (file_state new) printed
   CarriesOut (Host clock work) old new printed = Works clock work old new printed
 
   -- it is done, and this is printed and left of the connection
-  abbrev pub LeavesDone : FileTask → Held S → Printed → Left S → Type 0
-  LeavesDone asked old printed left = (new : Held S) × CarriesOut asked old new printed × IsLeft g new left
+  abbrev pub LeavesDone : FileTask → Held (FileStore D g) → Printed → Left (FileStore D g) → Type 0
+  LeavesDone asked old printed left = (new : Held (FileStore D g)) × CarriesOut asked old new printed × IsLeft over_files new left

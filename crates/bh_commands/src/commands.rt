@@ -8,7 +8,7 @@ ghost use Rattle.bh_commands.specs.Commands.{message_of, ordered_at, IsTold, Has
 
 use crate::asked::{Serving, Work};
 use crate::task::Task;
-use bh_connection::{MachineClock, serve_port};
+use bh_connection::{BackUp, MachineClock, serve_port};
 use bh_host::{Reply, apply};
 use bh_maintenance::fault::Fault;
 use bh_maintenance::printed::Printed;
@@ -42,7 +42,7 @@ pub fn apply_command<H: Storage>(
 }
 
 /// Serves connections, and operators' lines where they are taken, by the machine's clock, and prints nothing.
-fn serve<H: Storage>(
+fn serve<H: BackUp>(
     rt: &HostRuntime,
     routes: &Routes,
     host: &mut H,
@@ -65,7 +65,7 @@ fn serve<H: Storage>(
 }
 
 /// Does what is asked of a host, whose requests' targets this router tells.
-fn do_routed<H: Storage>(
+fn do_routed<H: BackUp>(
     rt: &HostRuntime,
     routes: &Routes,
     host: &mut H,
@@ -84,7 +84,7 @@ fn do_routed<H: Storage>(
 
 /// Does what is asked of a host at a reading of the clock, in seconds since 1970, and gives what is printed of it. Connections
 /// have the machine's clock.
-pub fn do_work<H: Storage>(
+pub fn do_work<H: BackUp>(
     rt: &HostRuntime,
     host: &mut H,
     reading: u64,

@@ -1,6 +1,7 @@
-//! What is asked of a file, done on its connection, whatever store that is over.
+//! What is asked of a file, done on its connection, whatever disk its files are on.
 
 ghost use Rattle.std.specs.Prelude.{◌≡◌, IfOk};
+ghost use Rattle.sqlite.specs.Files.{file_state, over_files};
 ghost use Rattle.sqlite.specs.Held.{state};
 ghost use Rattle.bh_blocks.specs.Digests.{digest_by};
 ghost use Rattle.bh_view.specs.Bodies.{IsSoundHost};
@@ -10,14 +11,15 @@ ghost use Rattle.bh_storage.specs.Calls.{IsAtRest};
 ghost use Rattle.bh_maintenance.specs.Endings.{IsLeft};
 ghost use Rattle.bh_maintenance.specs.Found.{IsSoundIn, IsReadyBy, IsNotFound};
 ghost use Rattle.bh_maintenance.specs.Printing.{IsFault};
-ghost use Rattle.bh_commands.specs.Subcommands.{IsReadyFor, host_with, host_by, Makes, IsWorkedOn, IsWorkedInTime, Works, CarriesOut, LeavesDone};
+ghost use Rattle.bh_commands.specs.Subcommands.{IsReadyFor, host_with, host_by, Makes, IsWorkedOn, IsWorkedInTime, Works, CarriesOut};
+ghost use Rattle.bh_commands.specs.Subcommands.{LeavesDone};
 
 use crate::asked::{FileTask, Work};
 use crate::clocks::{leaps, reading_of};
 use crate::commands::do_work;
 use bh_blocks::digester::{FastDigester, Sha256Digester};
 use bh_create::create;
-use bh_dispatch::storage::HostStorage;
+use bh_kept::KeptHost;
 use bh_maintenance::ending::{Done, Left, leave};
 use bh_maintenance::fault::Fault;
 use bh_maintenance::hosts::{refused, why_not_found};
@@ -28,7 +30,8 @@ use bh_schema::host::{Digester, Host};
 use bh_types::block_digest::BlockDigest;
 use bh_types::limits::{Limits, Tuning};
 use bh_words::ClockGiven;
-use sqlite::{Alter, Connection, Error};
+use sqlite::{Alter, Connection, Error, FileStore};
+use sqlite_disk::Disk;
 use std::alloc::{AllocError, Global};
 
 /// Why no host was made in a database.
@@ -83,30 +86,33 @@ fn make<S: Alter + Drop>(
 }
 
 /// Does what is asked of a host at a reading of the clock.
-fn work_on<S: Alter + Drop, D: Digester + Drop>(
+fn work_on<D: Disk + Drop, G: Digester + Drop>(
     rt: &HostRuntime,
-    storage: HostStorage<S, D>,
+    host: Host<FileStore<D>, G>,
     reading: u64,
     asked: Work,
-) -> Result<Done<S>, Fault>
-    requires { IsClean S.Store storage.host → IsAtRest (IsSoundHost D.digest_of) (seen S.Store storage.host) }
-    ensures { IfOk result (λ done. IsWorkedOn S.Store D.digest_of asked reading storage done.connection done.printed) }
+) -> Result<Done<FileStore<D>>, Fault>
+    requires { IsClean over_files host → IsAtRest (IsSoundHost G.digest_of) (seen over_files host) }
+    ensures { IfOk result (λ done. IsWorkedOn G.digest_of asked reading (record { host = host }) done.connection done.printed) }
 {
-    let mut storage = storage;
-    let printed = do_work(rt, &mut storage, reading, asked)?;
-    Ok(Done {
-        printed,
-        connection: storage.host.into_connection(),
-    })
+    let mut kept = KeptHost::new(rt, host);
+    let printed = do_work(rt, &mut kept, reading, asked)?;
+    match kept.into_connection() {
+        Some(connection) => Ok(Done {
+            printed,
+            connection,
+        }),
+        None => Err(Fault::LostHost),
+    }
 }
 
 /// That the clock is too far ahead, of a connection that stays.
-fn held_back<S: Alter + Drop>(
+fn held_back<D: Disk + Drop>(
     rt: &HostRuntime,
     path: &str,
-    connection: Connection<S>,
+    connection: Connection<FileStore<D>>,
     ahead: Ahead,
-) -> Result<Done<S>, AllocError>
+) -> Result<Done<FileStore<D>>, AllocError>
     ensures { IfOk result (λ done. (done.connection ≡ connection) × IsFault done.printed) }
 {
     let printed = Printed::fault(rt.alloc())?;
@@ -125,17 +131,17 @@ fn tell_stamp(rt: &HostRuntime, path: &str, asked: &Work, latest: u64) {
 }
 
 /// Does what is asked of a host whose last stamp this is, if the clock isn't too far ahead.
-fn work_in_time<S: Alter + Drop, D: Digester + Drop>(
+fn work_in_time<D: Disk + Drop, G: Digester + Drop>(
     rt: &HostRuntime,
     path: &str,
-    host: Host<S, D>,
+    host: Host<FileStore<D>, G>,
     latest: u64,
     clock: ClockGiven,
     asked: Work,
-) -> Result<Done<S>, Fault>
-    requires rest { IsClean S.Store host → IsAtRest (IsSoundHost D.digest_of) (seen S.Store host) }
-    requires latest { IsClean S.Store host → latest ≡ latest_of (seen S.Store host).now }
-    ensures { IfOk result (λ done. IsWorkedInTime S.Store D.digest_of clock asked (record { host = host }) done.connection done.printed) }
+) -> Result<Done<FileStore<D>>, Fault>
+    requires rest { IsClean over_files host → IsAtRest (IsSoundHost G.digest_of) (seen over_files host) }
+    requires latest { IsClean over_files host → latest ≡ latest_of (seen over_files host).now }
+    ensures { IfOk result (λ done. IsWorkedInTime G.digest_of clock asked (record { host = host }) done.connection done.printed) }
 {
     let reading = reading_of(rt, clock.at)?;
     if leaps(clock.leap, latest, reading) {
@@ -143,20 +149,20 @@ fn work_in_time<S: Alter + Drop, D: Digester + Drop>(
         return Ok(held_back(rt, path, host.into_connection(), ahead)?);
     }
     tell_stamp(rt, path, &asked, latest);
-    Ok(work_on(rt, HostStorage { host }, reading, asked)?)
+    Ok(work_on(rt, host, reading, asked)?)
 }
 
 /// The same of a database that was opened, by a digester of the function that names its blocks.
-fn work_by<S: Alter + Drop, D: Digester + Drop>(
+fn work_by<D: Disk + Drop, G: Digester + Drop>(
     rt: &HostRuntime,
     path: &str,
-    opened: Opened<S>,
-    digester: D,
+    opened: Opened<FileStore<D>>,
+    digester: G,
     clock: ClockGiven,
     asked: Work,
-) -> Result<Done<S>, Fault>
-    requires { IsReadyBy S.Store D.digest_of opened }
-    ensures { IfOk result (λ done. IsWorkedInTime S.Store D.digest_of clock asked (host_with S.Store opened digester)
+) -> Result<Done<FileStore<D>>, Fault>
+    requires { IsReadyBy over_files G.digest_of opened }
+    ensures { IfOk result (λ done. IsWorkedInTime G.digest_of clock asked (host_with opened digester)
         done.connection done.printed) }
 {
     let latest = opened.latest;
@@ -164,15 +170,15 @@ fn work_by<S: Alter + Drop, D: Digester + Drop>(
 }
 
 /// The same, by the digester of the function that its row tells.
-fn work_by_digest<S: Alter + Drop>(
+fn work_by_digest<D: Disk + Drop>(
     rt: &HostRuntime,
     path: &str,
-    opened: Opened<S>,
+    opened: Opened<FileStore<D>>,
     clock: ClockGiven,
     asked: Work,
-) -> Result<Done<S>, Fault>
-    requires { IsReadyBy S.Store (digest_by opened.digest) opened }
-    ensures { IfOk result (λ done. IsWorkedInTime S.Store (digest_by opened.digest) clock asked (host_by S.Store opened.digest opened)
+) -> Result<Done<FileStore<D>>, Fault>
+    requires { IsReadyBy over_files (digest_by opened.digest) opened }
+    ensures { IfOk result (λ done. IsWorkedInTime (digest_by opened.digest) clock asked (host_by opened.digest opened)
         done.connection done.printed) }
 {
     match opened.digest {
@@ -182,16 +188,16 @@ fn work_by_digest<S: Alter + Drop>(
 }
 
 /// Opens the host of a database, and does what is asked of it.
-fn find<S: Alter + Drop>(
+fn find<D: Disk + Drop>(
     rt: &HostRuntime,
     path: &str,
-    connection: Connection<S>,
+    connection: Connection<FileStore<D>>,
     tuning: Tuning,
     clock: ClockGiven,
     asked: Work,
-) -> Result<Done<S>, Fault>
-    requires { IsSoundIn (state S.Store connection) }
-    ensures { IfOk result (λ done. Works S.Store clock asked connection done.connection done.printed) }
+) -> Result<Done<FileStore<D>>, Fault>
+    requires { IsSoundIn (file_state connection) }
+    ensures { IfOk result (λ done. Works clock asked connection done.connection done.printed) }
 {
     match open_host(rt.alloc(), connection, tuning) {
         Ok(opened) => Ok(work_by_digest(rt, path, opened, clock, asked)?),
@@ -202,15 +208,15 @@ fn find<S: Alter + Drop>(
     }
 }
 
-fn carry_out<S: Alter + Drop>(
+fn carry_out<D: Disk + Drop>(
     rt: &HostRuntime,
     path: &str,
-    connection: Connection<S>,
+    connection: Connection<FileStore<D>>,
     tuning: Tuning,
     asked: FileTask,
-) -> Result<Done<S>, Fault>
-    requires { IsReadyFor asked (state S.Store connection) }
-    ensures { IfOk result (λ done. CarriesOut S.Store asked connection done.connection done.printed) }
+) -> Result<Done<FileStore<D>>, Fault>
+    requires { IsReadyFor asked (file_state connection) }
+    ensures { IfOk result (λ done. CarriesOut asked connection done.connection done.printed) }
 {
     match asked {
         FileTask::Init { limits, digest } => Ok(make(rt, path, connection, limits, digest)?),
@@ -219,15 +225,15 @@ fn carry_out<S: Alter + Drop>(
 }
 
 /// Does what is asked of a connection, and gives what is printed and what is left of it.
-pub(crate) fn on_connection<S: Alter + Drop>(
+pub(crate) fn on_connection<D: Disk + Drop>(
     rt: &HostRuntime,
     path: &str,
-    connection: Connection<S>,
+    connection: Connection<FileStore<D>>,
     tuning: Tuning,
     asked: FileTask,
-) -> Result<(Printed, Left<S>), Fault>
-    requires { IsReadyFor asked (state S.Store connection) }
-    ensures { IfOk result (λ it. LeavesDone S.Store asked connection it.0 it.1) }
+) -> Result<(Printed, Left<FileStore<D>>), Fault>
+    requires { IsReadyFor asked (file_state connection) }
+    ensures { IfOk result (λ it. LeavesDone asked connection it.0 it.1) }
 {
     let done = carry_out(rt, path, connection, tuning, asked)?;
     Ok(leave(done))

@@ -19,8 +19,9 @@ use Rattle.bh_http.proofs.TransferLemmas.{logs_nothing}
 use Rattle.bh_host.specs.Replies.{clock_text, wanting_text}
 use Rattle.bh_host.specs.Turns.{Applied, fixed, request_at}
 use Rattle.bh_host.specs.declared.reply.Caller.TheVariants.{Request}
-use Rattle.bh_connection.specs.Connections.{Ends, EndsAs, IsApplied, IsTakenBack, CameTo}
-use Rattle.bh_connection.specs.declared.served.End.TheVariants.{ReadFailed}
+use Rattle.bh_connection.specs.Connections.{Ends, EndsAs, EndsIn, IsApplied, IsKept, HasAnswered, IsTakenBack, CameTo}
+use Rattle.bh_connection.specs.declared.served.End.{End}
+use Rattle.bh_connection.specs.declared.served.End.TheVariants.{Whole, ReadFailed, WriteFailed, StoreFailed}
 use Rattle.bh_connection.specs.declared.served.Served.{Served}
 
 -- what an event does is what it does with all bytes
@@ -31,11 +32,22 @@ applied_all limits reading given rest taken old new m reply same took (stamp, la
     let P : HostLimits → Type 0 = λ l. (a : Result Taken Refusal) → Reads l taken a → Reads l (all_of given taken) a in
     (stamp, latest, (act, (answer, subst P (sym same) took.decided answer reads, is), turned))
 
+-- a reply that is there as a whole
+pub ends_in : (ended : End) (stamp : Option ℕ) (sent : ℕ) (reply : List ℕ) (failed : Bool) → EndsAs ended sent reply failed → EndsIn ended stamp sent reply failed
+ends_in Whole stamp sent reply failed ends = ends
+ends_in WriteFailed stamp sent reply failed ends = ends
+ends_in ReadFailed stamp sent reply failed ends = ends
+ends_in StoreFailed stamp sent reply failed ends = absurd ends
+
 -- as its link says whether it failed
 gives_as : (before after : Ends) (taken : List ℕ) (failed : Bool) → after.reader_failed ≡ failed → Gives before.gave after.gave taken after.reader_failed → Gives before.gave after.gave taken failed
 gives_as before after taken failed is given = let P : Bool → Type 0 = λ f. Gives before.gave after.gave taken f in subst P is given
 
 module _ {H : Type 0} (IsIntact IsOpen : H → Type 0) (seen : H → Seen) (left : H → Tables → Type 0) where
+  -- no storage is asked while a reply goes out
+  pub not_asked : (ended : End) (old : H) → IsKept IsIntact IsOpen seen left ended old old
+  not_asked ended old = record { intact = λ intact. intact; opens = λ intact opened. inr opened; same = λ intact opened. (opened, refl); survives = λ intact x leaves. leaves }
+
   is_applied_all : {IsSound : Tables → Type 0} (reading : ℕ) (given rest : Option (List ℕ)) (taken : List ℕ) (stamp : Option ℕ) (reply : List ℕ) (old new : H)
       → (Clean IsIntact IsOpen old → IsAtRest IsSound (seen old)) → (IsIntact new → IsIntact old) → Took (seen old).limits given rest taken
       → IsApplied IsIntact IsOpen seen left (request_at reading taken) (stamp, reply) old new
@@ -79,12 +91,16 @@ module _ {H : Type 0} (IsIntact IsOpen : H → Type 0) (seen : H → Seen) (left
           whole = some_whole served.stamp took.whole;
           stamp = sym is;
           out = out;
-          ended = ended;
+          ended = ends_in served.ended stamp served.sent reply after.writer_failed ended;
           gave = gave;
           took = took_out;
           reader = going;
         };
-        did = is_applied_all before.reading before.left after.left taken stamp reply old new ready still took did;
+        did = record {
+          mid = new;
+          applied = λ _. is_applied_all before.reading before.left after.left taken stamp reply old new ready still took did;
+          kept = not_asked served.ended new;
+        };
       }
     where
       some_whole : (s : Option ℕ) {P : Type 0} → P → IfSome s (λ _. P)
@@ -102,8 +118,12 @@ module _ {H : Type 0} (IsIntact IsOpen : H → Type 0) (seen : H → Seen) (left
       let took : TookAtMost (seen old).limits before.left after.left taken = subst (λ l. TookAtMost l before.left after.left taken) same was in
       let all = all_of before.left taken in
       let W : Option ℕ → Type 0 = λ s. IfSome s (λ _. (n : ℕ) → HasExtent (seen old).limits all n → length taken ≡ n) in
-      let D : H → Type 0 = λ x. IsApplied IsIntact IsOpen seen left (request_at before.reading all) (None, reply) old x in
-      let none : D old = record { applied = λ _ opened. (opened, refl); told_apart = λ _. told; acknowledged = tt; crash = λ _ x leaves. inl leaves } in
+      let D : H → Type 0 = λ x. HasAnswered IsIntact IsOpen seen left (request_at before.reading all) (None, reply) served.ended old x in
+      let none : D old = record {
+        mid = old;
+        applied = λ _. record { applied = λ _ opened. (opened, refl); told_apart = λ _. told; acknowledged = tt; crash = λ _ x leaves. inl leaves };
+        kept = not_asked served.ended old;
+      } in
       record {
         outcome = Some (all, (None, reply));
         came = record {
@@ -114,7 +134,7 @@ module _ {H : Type 0} (IsIntact IsOpen : H → Type 0) (seen : H → Seen) (left
           whole = subst W (sym is) tt;
           stamp = sym is;
           out = out;
-          ended = ended;
+          ended = ends_in served.ended None served.sent reply after.writer_failed ended;
           gave = gave;
           took = took_out;
           reader = going;

@@ -11,8 +11,10 @@ use Rattle.bh_storage.specs.Calls.{Seen, LeavesSound}
 use Rattle.bh_host.specs.Runs.{Told, RanOn, HasRunOn}
 use Rattle.bh_host.proofs.Running as running
 use Rattle.bh_host.specs.Turns.{request_at}
-use Rattle.bh_connection.specs.Connections.{Ends, Outcome, Came, Did, DidSome, CameTo, IsTakenBack}
+use Rattle.bh_connection.specs.Connections.{Ends, Outcome, Came, Did, DidSome, CameTo, IsApplied, IsTakenBack}
 use Rattle.bh_connection.specs.Each.{Row, EachCame, event_of, told_of, HasServed, HasServedAlone, RanSome}
+use Rattle.bh_connection.specs.declared.served.End.{End}
+use Rattle.bh_connection.specs.declared.served.End.TheVariants.{ReadFailed}
 use Rattle.bh_connection.specs.declared.served.Served.{Served}
 
 pub each-append : (limits : HostLimits) (rows : List Row) (row : Row) → EachCame limits rows → Came limits row.before row.after row.served row.outcome → EachCame limits (rows ++ row ∷ [])
@@ -37,13 +39,21 @@ module _ {H : Type 0} (IsIntact IsOpen : H → Type 0) (seen : H → Seen) (left
     crash = λ x leaves. ran.crash x (back.survives intact x leaves);
   }
 
+  -- a run, and one event more
+  pub ran_applied : (events : List Event) (tolds : List Told) (event : Event) (told : Told) (old mid new : H) → IsIntact new → RanOn IsOpen seen left events tolds old mid → IsApplied IsIntact IsOpen seen left event told mid new
+      → RanOn IsOpen seen left (events ++ event ∷ []) (tolds ++ told ∷ []) old new
+  ran_applied events tolds event (stamp, reply) old mid new intact ran did =
+      running.ran_one IsOpen seen left events tolds event stamp reply old mid new ran (did.applied intact) (did.told_apart intact) (IsIntact new) intact did.acknowledged did.crash
+
   -- a run, and one connection more
-  pub ran_with : (events : List Event) (tolds : List Told) (reading : ℕ) (outcome : Outcome) (old mid new : H) → IsIntact new → RanOn IsOpen seen left events tolds old mid
-      → Did IsIntact IsOpen seen left reading outcome mid new
+  pub ran_with : (events : List Event) (tolds : List Told) (reading : ℕ) (ended : End) (outcome : Outcome) (old mid new : H) → IsIntact new → RanOn IsOpen seen left events tolds old mid
+      → Did IsIntact IsOpen seen left reading ended outcome mid new
       → RanOn IsOpen seen left (events ++ cons_option (option_map (λ o. request_at reading o.0) outcome) []) (tolds ++ cons_option (option_map (λ o. o.1) outcome) []) old new
-  ran_with events tolds reading None old mid new intact ran back = ran_stays events tolds old new new (ran_back events tolds old mid new intact ran back) refl
-  ran_with events tolds reading (Some (request, (stamp, reply))) old mid new intact ran did =
-      running.ran_one IsOpen seen left events tolds (request_at reading request) stamp reply old mid new ran (did.applied intact) (did.told_apart intact) (IsIntact new) intact did.acknowledged did.crash
+  ran_with events tolds reading ended None old mid new intact ran back = ran_stays events tolds old new new (ran_back events tolds old mid new intact ran back) refl
+  ran_with events tolds reading ended (Some (request, told)) old mid new intact ran did =
+      let event = request_at reading request in
+      let went = did.kept in
+      ran_back (events ++ event ∷ []) (tolds ++ told ∷ []) old did.mid new intact (ran_applied events tolds event told old mid did.mid (went.intact intact) ran (did.applied intact)) (record { same = went.same; survives = went.survives })
 
   pub served_none : (old : H) → HasServed IsIntact IsOpen seen left [] [] [] old old
   served_none old = ([], record { befores = refl; afters = refl; served = refl; each = tt; ran = λ _. running.ran_none IsOpen seen left old })
@@ -64,7 +74,7 @@ module _ {H : Type 0} (IsIntact IsOpen : H → Type 0) (seen : H → Seen) (left
           each = each-append (seen old).limits rows row so_far.each (subst (λ l. Came l before after served one.outcome) limits one.came);
           ran = λ intact. subst (λ es. P es (filter_map told_of (rows ++ row ∷ []))) (sym (filter_map-append event_of rows (row ∷ [])))
               (subst (P (filter_map event_of rows ++ filter_map event_of (row ∷ []))) (sym (filter_map-append told_of rows (row ∷ [])))
-              (ran_with (filter_map event_of rows) (filter_map told_of rows) before.reading one.outcome old mid new intact (so_far.ran (still intact)) one.did));
+              (ran_with (filter_map event_of rows) (filter_map told_of rows) before.reading served.ended one.outcome old mid new intact (so_far.ran (still intact)) one.did));
         },
       )
 
@@ -110,21 +120,21 @@ module _ {H : Type 0} (IsIntact IsOpen : H → Type 0) (seen : H → Seen) (left
   ran_no_request old = ([], [], running.ran_none IsOpen seen left old)
 
   pub ran_request : (old mid new : H) → IsIntact new → RanSome IsOpen seen left old mid → DidSome IsIntact IsOpen seen left mid new → RanSome IsOpen seen left old new
-  ran_request old mid new intact (requests, tolds, ran) (reading, None, back) = (requests, tolds, ran_back (map (λ r. request_at r.0 r.1) requests) tolds old mid new intact ran back)
-  ran_request old mid new intact (requests, tolds, ran) (reading, Some (request, (stamp, reply)), did) =
+  ran_request old mid new intact (requests, tolds, ran) (reading, ended, None, back) = (requests, tolds, ran_back (map (λ r. request_at r.0 r.1) requests) tolds old mid new intact ran back)
+  ran_request old mid new intact (requests, tolds, ran) (reading, ended, Some (request, (stamp, reply)), did) =
       let arrived : ℕ × List ℕ → Event = λ r. request_at r.0 r.1 in
       let all : map arrived (requests ++ (reading, request) ∷ []) ≡ map arrived requests ++ request_at reading request ∷ [] = map-append arrived requests ((reading, request) ∷ []) in (
         requests ++ (reading, request) ∷ [],
         tolds ++ (stamp, reply) ∷ [],
         subst (λ es. RanOn IsOpen seen left es (tolds ++ (stamp, reply) ∷ []) old new) (sym all)
-            (ran_with (map arrived requests) tolds reading (Some (request, (stamp, reply))) old mid new intact ran did),
+            (ran_with (map arrived requests) tolds reading ended (Some (request, (stamp, reply))) old mid new intact ran did),
       )
 
   pub came_to_some : (before after : Ends) (served : Served) (old new : H) → CameTo IsIntact IsOpen seen left before after served old new → DidSome IsIntact IsOpen seen left old new
-  came_to_some before after served old new came = (before.reading, came.outcome, came.did)
+  came_to_some before after served old new came = (before.reading, served.ended, came.outcome, came.did)
 
   pub no_connection : (old : H) → DidSome IsIntact IsOpen seen left old old
-  no_connection old = (0, None, record { same = λ intact opened. (opened, refl); survives = λ intact x leaves. leaves })
+  no_connection old = (0, ReadFailed, None, record { same = λ intact opened. (opened, refl); survives = λ intact x leaves. leaves })
 
 -- ---- what a crash may leave
 

@@ -31,7 +31,7 @@ use Rattle.bh_host.proofs.Answered.{anew_told, told_happened}
 use Rattle.bh_host.proofs.ToldApart.{apart_on}
 use Rattle.bh_connection.proofs.ConnectionLemmas.{fixed_wanting}
 use Rattle.bh_connection.proofs.ConnectionLemmas.{answered as connected}
-use Rattle.bh_connection.specs.Connections.{Ends, EndsAs, IsTakenBack, Outcome, Came, Did, CameTo}
+use Rattle.bh_connection.specs.Connections.{Ends, EndsAs, EndsIn, IsApplied, IsKept, IsTakenBack, Outcome, Came, Did, CameTo}
 use Rattle.bh_connection.specs.declared.served.End.TheVariants.{ReadFailed}
 use Rattle.bh_connection.specs.declared.served.Served.{Served}
 
@@ -106,11 +106,11 @@ module _ {H : Type 0} (IsIntact IsOpen : H → Type 0) (seen : H → Seen) (left
         let reads : Reads (limits_in (seen old).now) (all_of before.left all) (answered head given) = subst (λ l. Reads l (all_of before.left all) (answered head given)) (sym same) ((taken come).decided (answered head given) reads_so) in
         (stamp, latest, (RequestRead (answered head given), (answered head given, reads, refl), turned))
 
-  -- a request that is answered
-  pub headed_told : (stamp : Option ℕ) (reply : List ℕ) → Goes (Some (stamp, reply)) → before.reading ≤ last_reading
-      → served.stamp ≡ stamp → Appends before.held after.held (take served.sent reply) → Takes before.took after.took (take served.sent reply) after.writer_failed → EndsAs served.ended served.sent reply after.writer_failed
-      → CameTo IsIntact IsOpen seen left before after served old new
-  headed_told None reply h early is out took ended =
+  -- a request that is answered: its reply goes out, as it was composed where the storage is intact
+  pub headed_told : (last : H) → IsKept IsIntact IsOpen seen left served.ended new last → (stamp : Option ℕ) (said reply : List ℕ) → (IsIntact last → reply ≡ said) → Goes (Some (stamp, said)) → before.reading ≤ last_reading
+      → served.stamp ≡ stamp → Appends before.held after.held (take served.sent reply) → Takes before.took after.took (take served.sent reply) after.writer_failed → EndsIn served.ended stamp served.sent reply after.writer_failed
+      → CameTo IsIntact IsOpen seen left before after served old last
+  headed_told last goes None said reply as_said h early is out took ended =
       let (same, told, going, crash) = h.receives.came in
       let W : Option ℕ → Type 0 = λ s. IfSome s (λ _. (n : ℕ) → HasExtent (seen old).limits (all_of before.left (all _ h)) n → length (all _ h) ≡ n) in
       record {
@@ -129,21 +129,25 @@ module _ {H : Type 0} (IsIntact IsOpen : H → Type 0) (seen : H → Seen) (left
           reader = h.failed_is ∙ no_fault came.broken going;
         };
         did = record {
-          applied = λ intact opened. same intact opened;
-          told_apart = λ _. told ∙ fixed_wanting before.reading early;
-          acknowledged = tt;
-          crash = λ intact x leaves. elim (crash intact x leaves) [
-            | inl stays ↦ inl stays
-            | inr (come, (was, (m, text, would))) ↦ inr (was, (m, text, applied_so _ h come x m text intact was would))
-          ];
+          mid = new;
+          applied = λ whole. subst (λ r. IsApplied IsIntact IsOpen seen left (request_at before.reading (all_of before.left (all _ h))) (None, r) old new) (sym (as_said whole)) (record {
+            applied = λ intact opened. same intact opened;
+            told_apart = λ _. told ∙ fixed_wanting before.reading early;
+            acknowledged = tt;
+            crash = λ intact x leaves. elim (crash intact x leaves) [
+              | inl stays ↦ inl stays
+              | inr (come, (was, (m, text, would))) ↦ inr (was, (m, text, applied_so _ h come x m text intact was would))
+            ];
+          });
+          kept = goes;
         };
       }
-  headed_told (Some m) reply h early is out took ended =
+  headed_told last goes (Some m) said reply as_said h early is out took ended =
       let (come, going, did, survives) = h.receives.came in
       let it = taken _ h come in
       let W : Option ℕ → Type 0 = λ s. IfSome s (λ _. (n : ℕ) → HasExtent (seen old).limits (all_of before.left (all _ h)) n → length (all _ h) ≡ n) in
       let event = request_at before.reading (all_of before.left (all _ h)) in
-      let applied : IsIntact new → AppliedTo IsOpen seen event old new (Some m) reply = λ intact. (let (was, now, turned) = did intact in (was, now, applied_so _ h come (seen new).now m reply intact was turned)) in
+      let applied : IsIntact new → AppliedTo IsOpen seen event old new (Some m) said = λ intact. (let (was, now, turned) = did intact in (was, now, applied_so _ h come (seen new).now m said intact was turned)) in
       record {
         outcome = Some (all_of before.left (all _ h), (Some m, reply));
         came = record {
@@ -160,10 +164,14 @@ module _ {H : Type 0} (IsIntact IsOpen : H → Type 0) (seen : H → Seen) (left
           reader = h.failed_is ∙ no_fault came.broken going;
         };
         did = record {
-          applied = applied;
-          told_apart = λ intact. apart_on IsOpen seen event m old new reply (applied intact);
-          acknowledged = survives;
-          crash = tt;
+          mid = new;
+          applied = λ whole. subst (λ r. IsApplied IsIntact IsOpen seen left event (Some m, r) old new) (sym (as_said whole)) (record {
+            applied = applied;
+            told_apart = λ intact. apart_on IsOpen seen event m old new said (applied intact);
+            acknowledged = survives;
+            crash = tt;
+          });
+          kept = goes;
         };
       }
 
@@ -213,16 +221,17 @@ module _ {H : Type 0} (IsIntact IsOpen : H → Type 0) (seen : H → Seen) (left
   pub came_untouched : (before after : Ends) (served : Served) (old new : H) → CameTo IsIntact IsOpen seen left before after served old new → served.ended ≡ ReadFailed → IsTakenBack IsIntact IsOpen seen left old new
   came_untouched before after served old new came = go came.outcome came.came came.did
     where
-      go : (outcome : Outcome) → Came (seen old).limits before after served outcome → Did IsIntact IsOpen seen left before.reading outcome old new → served.ended ≡ ReadFailed → IsTakenBack IsIntact IsOpen seen left old new
+      go : (outcome : Outcome) → Came (seen old).limits before after served outcome → Did IsIntact IsOpen seen left before.reading served.ended outcome old new → served.ended ≡ ReadFailed → IsTakenBack IsIntact IsOpen seen left old new
       go None is did ended = did
-      go (Some (bytes, (stamp, reply))) is did ended = absurd (subst (λ e. EndsAs e served.sent reply after.writer_failed) ended is.ended)
+      go (Some (bytes, (stamp, reply))) is did ended = absurd (subst (λ e. EndsIn e stamp served.sent reply after.writer_failed) ended is.ended)
 
-  pub came_acknowledged : (before after : Ends) (served : Served) (old new : H) → CameTo IsIntact IsOpen seen left before after served old new → IfSome served.stamp (λ _. IsIntact new → (x : Tables) → left new x → x ≡ (seen new).now)
+  pub came_acknowledged : (before after : Ends) (served : Served) (old new : H) → CameTo IsIntact IsOpen seen left before after served old new → IfSome served.stamp (λ _. Clean IsIntact IsOpen new → (x : Tables) → left new x → x ≡ (seen new).now)
   came_acknowledged before after served old new came = go came.outcome came.came came.did
     where
       S : Option ℕ → Type 0
-      S stamp = IfSome stamp (λ _. IsIntact new → (x : Tables) → left new x → x ≡ (seen new).now)
+      S stamp = IfSome stamp (λ _. Clean IsIntact IsOpen new → (x : Tables) → left new x → x ≡ (seen new).now)
 
-      go : (outcome : Outcome) → Came (seen old).limits before after served outcome → Did IsIntact IsOpen seen left before.reading outcome old new → S served.stamp
+      go : (outcome : Outcome) → Came (seen old).limits before after served outcome → Did IsIntact IsOpen seen left before.reading served.ended outcome old new → S served.stamp
       go None is did = subst S (sym is.stamp) tt
-      go (Some (bytes, (stamp, reply))) is did = subst S is.stamp did.acknowledged
+      go (Some (bytes, (None, reply))) is did = subst S is.stamp tt
+      go (Some (bytes, (Some m, reply))) is did = subst S is.stamp (λ clean x leaves. (did.applied clean.0).acknowledged (did.kept.intact clean.0) x (did.kept.survives clean.0 x leaves) ∙ sym (did.kept.same clean.0 clean.1).1)

@@ -3,3 +3,4 @@ pub mod HeadedLemmas
 pub mod EachLemmas
 pub mod ListeningLemmas
 pub mod OperatorLemmas
+pub mod Pieces

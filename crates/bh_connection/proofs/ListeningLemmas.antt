@@ -18,10 +18,10 @@ use Rattle.bh_host.specs.declared.reply.Caller.TheVariants.{Request, Operator}
 use Rattle.bh_connection.specs.Connections.{Ends}
 use Rattle.bh_connection.specs.declared.served.End.TheVariants.{ReadFailed}
 use Rattle.bh_connection.specs.declared.served.Served.{Served}
-use Rattle.bh_connection.specs.Operators.{Heard, CutOff, NotHeard, NoOrder, Obeyed, Obeys}
+use Rattle.bh_connection.specs.Operators.{Heard, CutOff, NotHeard, NoOrder, Obeyed, Copied, Obeys}
 use Rattle.bh_connection.specs.Visits.{Visit, OfClient, OfOperator, CameBy, AllCame, DidBy, DidFor, RanFor, event_of, told_of, event_heard, told_heard}
 use Rattle.bh_connection.specs.Listening.{Call, calls_for, calls_of, HasServedAll, IsServed, VisitedAs}
-use Rattle.bh_connection.proofs.EachLemmas.{ran_stays, ran_with, run_alone, ran_no_request, ran_request}
+use Rattle.bh_connection.proofs.EachLemmas.{ran_stays, ran_applied, ran_back, ran_with, run_alone, ran_no_request, ran_request}
 
 -- one connection more
 pub logs_more : (a b c : Option (List Call)) (visits : List Visit) (visit : Visit) → Logs a b (flat_map calls_of visits) → Logs b c (calls_of visit)
@@ -38,53 +38,54 @@ all_came-append secret limits (v ∷ visits) visit (first, rest) came = (first, 
 
 -- ---- runs
 
-module _ {H : Type 0} (IsIntact IsOpen : H → Type 0) (seen : H → Seen) (left : H → Tables → Type 0) where
+module _ {H C : Type 0} (IsIntact IsOpen : H → Type 0) (seen : H → Seen) (left : H → Tables → Type 0) (shows : C → Tables → Type 0) where
   -- a run, and an operator's visit more
   ran_heard : (events : List Event) (tolds : List Told) (heard : Heard) (old mid new : H) → IsIntact new → RanOn IsOpen seen left events tolds old mid
-      → Obeys IsIntact IsOpen seen left heard mid new
+      → Obeys IsIntact IsOpen seen left shows heard mid new
       → RanOn IsOpen seen left (events ++ cons_option (event_heard heard) []) (tolds ++ cons_option (told_heard heard) []) old new
   ran_heard events tolds CutOff old mid new intact ran same = ran_stays IsIntact IsOpen seen left events tolds old mid new ran same
   ran_heard events tolds NotHeard old mid new intact ran same = ran_stays IsIntact IsOpen seen left events tolds old mid new ran same
   ran_heard events tolds NoOrder old mid new intact ran same = ran_stays IsIntact IsOpen seen left events tolds old mid new ran same
-  ran_heard events tolds (Obeyed event (stamp, reply)) old mid new intact ran did =
-      running.ran_one IsOpen seen left events tolds event stamp reply old mid new ran (did.applied intact) (did.told_apart intact) (IsIntact new) intact did.acknowledged did.crash
+  ran_heard events tolds (Obeyed event told) old mid new intact ran did = ran_applied IsIntact IsOpen seen left events tolds event told old mid new intact ran did
+  ran_heard events tolds (Copied to reply) old mid new intact ran did =
+      ran_stays IsIntact IsOpen seen left events tolds old new new (ran_back IsIntact IsOpen seen left events tolds old mid new intact ran did.stays) refl
 
   -- a run, and a visit more
   ran_visit : (events : List Event) (tolds : List Told) (visit : Visit) (old mid new : H) → IsIntact new → RanOn IsOpen seen left events tolds old mid
-      → DidBy IsIntact IsOpen seen left visit mid new
+      → DidBy IsIntact IsOpen seen left shows visit mid new
       → RanOn IsOpen seen left (events ++ cons_option (event_of visit) []) (tolds ++ cons_option (told_of visit) []) old new
-  ran_visit events tolds (OfClient row) old mid new intact ran did = ran_with IsIntact IsOpen seen left events tolds row.before.reading row.outcome old mid new intact ran did
+  ran_visit events tolds (OfClient row) old mid new intact ran did = ran_with IsIntact IsOpen seen left events tolds row.before.reading row.served.ended row.outcome old mid new intact ran did
   ran_visit events tolds (OfOperator row) old mid new intact ran did = ran_heard events tolds row.heard old mid new intact ran did
 
   pub ran_nothing : (operated : Bool) (old : H) → RanFor operated IsOpen seen left old old
   ran_nothing false old = ran_no_request IsIntact IsOpen seen left old
   ran_nothing true old = ([], [], running.ran_none IsOpen seen left old)
 
-  pub ran_more : (operated : Bool) (old mid new : H) → IsIntact new → RanFor operated IsOpen seen left old mid → DidFor IsIntact IsOpen seen left operated mid new
+  pub ran_more : (operated : Bool) (old mid new : H) → IsIntact new → RanFor operated IsOpen seen left old mid → DidFor IsIntact IsOpen seen left shows operated mid new
       → RanFor operated IsOpen seen left old new
-  ran_more false old mid new intact ran (OfClient row, admitted, did) = ran_request IsIntact IsOpen seen left old mid new intact ran (row.before.reading, row.outcome, did)
+  ran_more false old mid new intact ran (OfClient row, admitted, did) = ran_request IsIntact IsOpen seen left old mid new intact ran (row.before.reading, row.served.ended, row.outcome, did)
   ran_more false old mid new intact ran (OfOperator row, admitted, did) = absurd (false≢true admitted)
   ran_more true old mid new intact (events, tolds, ran) (visit, admitted, did) =
       (events ++ cons_option (event_of visit) [], tolds ++ cons_option (told_of visit) [], ran_visit events tolds visit old mid new intact ran did)
 
   -- ---- one visit
 
-  pub did_none : (operated : Bool) (old : H) → DidFor IsIntact IsOpen seen left operated old old
+  pub did_none : (operated : Bool) (old : H) → DidFor IsIntact IsOpen seen left shows operated old old
   did_none operated old =
       let none : Ends = record { reading = 0; left = None; held = None; gave = None; took = None; reader_failed = false; writer_failed = false } in
       let served : Served = record { stamp = None; sent = 0; ended = ReadFailed; trouble = None } in
       (OfClient (record { before = none; after = none; served = served; outcome = None }), tt, record { same = λ intact opened. (opened, refl); survives = λ intact x leaves. leaves })
 
   pub did_as : (secret : Option (List ℕ)) (operated : Bool) (caller : Caller) (before after : Ends) (served : Served) (old new : H)
-      → (caller ≡ Operator → operated ≡ true) → VisitedAs IsIntact IsOpen seen left secret caller before after served old new → DidFor IsIntact IsOpen seen left operated old new
+      → (caller ≡ Operator → operated ≡ true) → VisitedAs IsIntact IsOpen seen left shows secret caller before after served old new → DidFor IsIntact IsOpen seen left shows operated old new
   did_as secret operated Request before after served old new admitted came =
       (OfClient (record { before = before; after = after; served = served; outcome = came.outcome }), tt, came.did)
   did_as secret operated Operator before after served old new admitted came =
       (OfOperator (record { before = before; after = after; served = served; heard = came.heard }), admitted refl, came.obeys)
 
   pub visited_as : (secret : Option (List ℕ)) (a b : Option (List Call)) (caller : Caller) (before after : Ends) (served : Served) (old new : H)
-      → Logs a b (calls_for caller before after served) → VisitedAs IsIntact IsOpen seen left secret caller before after served old new
-      → (visit : Visit) × IsServed IsIntact IsOpen seen left secret a b old new visit
+      → Logs a b (calls_for caller before after served) → VisitedAs IsIntact IsOpen seen left shows secret caller before after served old new
+      → (visit : Visit) × IsServed IsIntact IsOpen seen left shows secret a b old new visit
   visited_as secret a b Request before after served old new calls came =
       (OfClient (record { before = before; after = after; served = served; outcome = came.outcome }), record { calls = calls; came = came.came; did = came.did })
   visited_as secret a b Operator before after served old new calls came =
@@ -105,7 +106,7 @@ module _ {H : Type 0} (IsIntact IsOpen : H → Type 0) (seen : H → Seen) (left
     nothing_came old = has_served [] old old tt (λ _. running.ran_none IsOpen seen left old)
 
     pub visits_more : (visits : List Visit) (visit : Visit) (old mid new : H) → (IsIntact new → IsIntact mid) → (seen mid).limits ≡ (seen old).limits
-        → HasServedAll IsIntact IsOpen seen left secret visits old mid → CameBy secret (seen mid).limits visit → DidBy IsIntact IsOpen seen left visit mid new
+        → HasServedAll IsIntact IsOpen seen left secret visits old mid → CameBy secret (seen mid).limits visit → DidBy IsIntact IsOpen seen left shows visit mid new
         → HasServedAll IsIntact IsOpen seen left secret (visits ++ visit ∷ []) old new
     visits_more visits visit old mid new still limits so_far came did =
         let P : List Event → List Told → Type 0 = λ es ts. RanOn IsOpen seen left es ts old new in

@@ -12,9 +12,10 @@ use Rattle.bh_host.specs.declared.reply.Caller.TheVariants.{Operator}
 use Rattle.bh_http.specs.Transfers.{Transfer, Moved, Failed, Logs, MovesThen, Gives, Takes}
 use Rattle.bh_http.proofs.TransferLemmas.{logs_nothing, logs_then}
 use Rattle.bh_operator.specs.Lines.{TookPart}
-use Rattle.bh_operator.specs.Orders.{TookOrder}
+use Rattle.bh_operator.specs.Orders.{ToDo, ToCopy, TookOrder}
+use Rattle.bh_connection.specs.Backups.{IsBackedUp}
 use Rattle.bh_connection.specs.Connections.{Ends, EndsAs, IsApplied}
-use Rattle.bh_connection.specs.Operators.{bad_line, line_text, CutOff, NotHeard, NoOrder, Obeyed, IsReplied, WasOrdered}
+use Rattle.bh_connection.specs.Operators.{bad_line, line_text, CutOff, NotHeard, NoOrder, Obeyed, Copied, IsReplied, WasOrdered}
 use Rattle.bh_connection.specs.declared.served.End.TheVariants.{ReadFailed}
 use Rattle.bh_connection.specs.declared.served.Served.{Served}
 
@@ -62,17 +63,35 @@ takes_on a b c x y z before failed e going p q =
 gives_as : (a b : Option (List Transfer)) (taken : List ℕ) (was failed : Bool) → was ≡ failed → Gives a b taken was → Gives a b taken failed
 gives_as a b taken was failed is given = let P : Bool → Type 0 = λ f. Gives a b taken f in subst P is given
 
-module _ {H : Type 0} (IsIntact IsOpen : H → Type 0) (seen : H → Seen) (left : H → Tables → Type 0) (secret : Option (List ℕ)) where
+module _ {H C : Type 0} (IsIntact IsOpen : H → Type 0) (seen : H → Seen) (left : H → Tables → Type 0) (shows : C → Tables → Type 0) (secret : Option (List ℕ)) where
   -- an order was applied
   pub obeyed : (before after : Ends) (served : Served) (taken reply : List ℕ) (event : Event) (stamp : Option ℕ) (old new : H)
-      → TookOrder secret before.reading before.left after.left taken (Some event) → Gives before.gave after.gave taken false → after.reader_failed ≡ false
+      → TookOrder secret before.reading before.left after.left taken (Some (ToDo event)) → Gives before.gave after.gave taken false → after.reader_failed ≡ false
       → IsApplied IsIntact IsOpen seen left event (stamp, reply) old new
       → served.stamp ≡ stamp → Appends before.held after.held (take served.sent (line_text reply))
       → Takes before.took after.took (take served.sent (line_text reply)) after.writer_failed
       → EndsAs served.ended served.sent (line_text reply) after.writer_failed
-      → WasOrdered IsIntact IsOpen seen left secret before after served old new
+      → WasOrdered IsIntact IsOpen seen left shows secret before after served old new
   obeyed before after served taken reply event stamp old new took gave going did is out took_out ended = record {
     heard = Obeyed event (stamp, reply);
+    hears = record {
+      taken = taken;
+      replied = record { consumed = took.consumed; short = took.short; stamp = is; out = out; ended = ended; gave = gave; took = took_out; reader = going };
+      is = took.is;
+    };
+    obeys = did;
+  }
+
+  -- a copy was ordered
+  pub copied : (before after : Ends) (served : Served) (taken reply to : List ℕ) (old new : H)
+      → TookOrder secret before.reading before.left after.left taken (Some (ToCopy to)) → Gives before.gave after.gave taken false → after.reader_failed ≡ false
+      → IsBackedUp IsIntact IsOpen seen left shows reply old new
+      → served.stamp ≡ None → Appends before.held after.held (take served.sent (line_text reply))
+      → Takes before.took after.took (take served.sent (line_text reply)) after.writer_failed
+      → EndsAs served.ended served.sent (line_text reply) after.writer_failed
+      → WasOrdered IsIntact IsOpen seen left shows secret before after served old new
+  copied before after served taken reply to old new took gave going did is out took_out ended = record {
+    heard = Copied to reply;
     hears = record {
       taken = taken;
       replied = record { consumed = took.consumed; short = took.short; stamp = is; out = out; ended = ended; gave = gave; took = took_out; reader = going };
@@ -87,7 +106,7 @@ module _ {H : Type 0} (IsIntact IsOpen : H → Type 0) (seen : H → Seen) (left
       → served.stamp ≡ None → Appends before.held after.held (take served.sent (line_text reply))
       → Takes before.took after.took (take served.sent (line_text reply)) after.writer_failed
       → EndsAs served.ended served.sent (line_text reply) after.writer_failed
-      → WasOrdered IsIntact IsOpen seen left secret before after served old new
+      → WasOrdered IsIntact IsOpen seen left shows secret before after served old new
   not_ordered before after served taken reply old new took gave going same text is out took_out ended =
       let P : List ℕ → Type 0 = λ r. IsReplied before after served taken (None, r) in
       let replied : P reply = record { consumed = took.consumed; short = took.short; stamp = is; out = out; ended = ended; gave = gave; took = took_out; reader = going } in
@@ -99,7 +118,7 @@ module _ {H : Type 0} (IsIntact IsOpen : H → Type 0) (seen : H → Seen) (left
       → served.stamp ≡ None → Appends before.held after.held (take served.sent (line_text reply))
       → Takes before.took after.took (take served.sent (line_text reply)) after.writer_failed
       → EndsAs served.ended served.sent (line_text reply) after.writer_failed
-      → WasOrdered IsIntact IsOpen seen left secret before after served old new
+      → WasOrdered IsIntact IsOpen seen left shows secret before after served old new
   not_heard before after served taken reply old new took given going same text is out took_out ended =
       let gave : Gives before.gave after.gave taken false = gives_as before.gave after.gave taken after.reader_failed false going given in
       let P : List ℕ → Type 0 = λ r. IsReplied before after served taken (None, r) in
@@ -111,7 +130,7 @@ module _ {H : Type 0} (IsIntact IsOpen : H → Type 0) (seen : H → Seen) (left
       → TookPart before.left after.left taken → Gives before.gave after.gave taken after.reader_failed → after.reader_failed ≡ true → after.writer_failed ≡ false
       → after.held ≡ before.held → after.took ≡ before.took → new ≡ old
       → served.ended ≡ ReadFailed → served.stamp ≡ None → served.sent ≡ 0
-      → WasOrdered IsIntact IsOpen seen left secret before after served old new
+      → WasOrdered IsIntact IsOpen seen left shows secret before after served old new
   cut_off before after served taken old new took given failed going kept untaken same ended stamp sent =
       let gave : Gives before.gave after.gave taken true = gives_as before.gave after.gave taken after.reader_failed true failed given in
       let K : Option (List ℕ) → Type 0 = λ h. Keeps before.held h in

@@ -12,7 +12,7 @@ use Rattle.bh_link.specs.Taking.{all_of}
 use Rattle.bh_http.specs.Transfers.{Transfer, Logs, Gives, Takes}
 use Rattle.bh_link.specs.declared.link.Link.{Link}
 use Rattle.bh_connection.specs.declared.served.End.{End}
-use Rattle.bh_connection.specs.declared.served.End.TheVariants.{Whole, ReadFailed, WriteFailed}
+use Rattle.bh_connection.specs.declared.served.End.TheVariants.{Whole, ReadFailed, WriteFailed, StoreFailed}
 use Rattle.bh_connection.specs.declared.served.Served.{Served}
 
 -- ---- its ends
@@ -47,6 +47,23 @@ abbrev pub EndsAs : End → ℕ → List ℕ → Bool → Type 0
 EndsAs Whole sent reply failed = (sent ≡ length reply) × (failed ≡ false)
 EndsAs WriteFailed sent reply failed = (sent < length reply) × (failed ≡ true)
 EndsAs ReadFailed sent reply failed = ⊥
+EndsAs StoreFailed sent reply failed = ⊥
+
+-- the same of a reply that may be read from the store as it goes out: once its event counts, it may end there
+abbrev pub EndsIn : End → Option ℕ → ℕ → List ℕ → Bool → Type 0
+EndsIn Whole stamp sent reply failed = EndsAs Whole sent reply failed
+EndsIn WriteFailed stamp sent reply failed = EndsAs WriteFailed sent reply failed
+EndsIn ReadFailed stamp sent reply failed = ⊥
+EndsIn StoreFailed None sent reply failed = ⊥
+EndsIn StoreFailed (Some m) sent reply failed = (sent ≤ length reply) × (failed ≡ false)
+
+-- the bytes out are the first ones of a reply, which is as planned where the storage is intact
+pub record Sends (intact : Type 0) (stamp : ℕ) (planned : List ℕ) (held held_after : Option (List ℕ)) (moved moved_after : Option (List Transfer)) (failed : Bool) (sent : ℕ) (end : End) : Type 0 where
+  pub reply : List ℕ
+  pub is : intact → reply ≡ planned
+  pub out : Appends held held_after (take sent reply)
+  pub took : Takes moved moved_after (take sent reply) failed
+  pub ended : EndsIn end (Some stamp) sent reply failed
 
 -- the bytes of the request that it brought, with the stamp and the reply; none where its reader failed
 abbrev pub Outcome : Type 0
@@ -67,7 +84,7 @@ pub record IsBroken (limits : HostLimits) (before after : Ends) (served : Served
   pub writer : after.writer_failed ≡ false
 
 -- no call of the reader failed, and the request is all the bytes that it would give; the bytes out are the first ones of its reply,
--- and all of them unless a call of the writer failed or took none of some bytes
+-- and all of them unless a call of the writer failed or took none of some bytes, or the store was wanting once the event counted
 pub record IsAnswered (limits : HostLimits) (before after : Ends) (served : Served) (request : List ℕ) (told : Told) : Type 0 where
   pub taken : List ℕ
   pub consumed : Consumes before.left after.left taken
@@ -77,7 +94,7 @@ pub record IsAnswered (limits : HostLimits) (before after : Ends) (served : Serv
   pub whole : IfSome served.stamp (λ _. (n : ℕ) → HasExtent limits request n → length taken ≡ n)
   pub stamp : told.0 ≡ served.stamp
   pub out : Appends before.held after.held (take served.sent told.1)
-  pub ended : EndsAs served.ended served.sent told.1 after.writer_failed
+  pub ended : EndsIn served.ended told.0 served.sent told.1 after.writer_failed
   pub gave : Gives before.gave after.gave taken false
   pub took : Takes before.took after.took (take served.sent told.1) after.writer_failed
   pub reader : after.reader_failed ≡ false
@@ -100,16 +117,30 @@ pub record IsTakenBack {H : Type 0} (IsIntact IsOpen : H → Type 0) (seen : H �
   pub same : IsIntact new → IsOpen new → IsOpen old × ((seen new).now ≡ (seen old).now)
   pub survives : IsIntact new → LeavesNothingNew left old new
 
+-- what stands stays while a reply goes out, and a crash may leave nothing new. Only where the store was wanting for it may a fault
+-- have shut the storage
+pub record IsKept {H : Type 0} (IsIntact IsOpen : H → Type 0) (seen : H → Seen) (left : H → Tables → Type 0) (ended : End) (old new : H) : Type 0 where
+  pub intact : IsIntact new → IsIntact old
+  pub opens : IsIntact new → IsOpen old → (ended ≡ StoreFailed) ⊎ IsOpen new
+  pub same : IsIntact new → IsOpen new → IsOpen old × ((seen new).now ≡ (seen old).now)
+  pub survives : IsIntact new → LeavesNothingNew left old new
+
+-- an event was applied, and then its reply went out
+pub record HasAnswered {H : Type 0} (IsIntact IsOpen : H → Type 0) (seen : H → Seen) (left : H → Tables → Type 0) (event : Event) (told : Told) (ended : End) (old new : H) : Type 0 where
+  pub mid : H
+  pub applied : IsIntact new → IsApplied IsIntact IsOpen seen left event told old mid
+  pub kept : IsKept IsIntact IsOpen seen left ended mid new
+
 -- where its reader failed, nothing of it is left
-abbrev pub Did : {H : Type 0} → (H → Type 0) → (H → Type 0) → (H → Seen) → (H → Tables → Type 0) → ℕ → Outcome → H → H → Type 0
-Did IsIntact IsOpen seen left reading None old new = IsTakenBack IsIntact IsOpen seen left old new
-Did IsIntact IsOpen seen left reading (Some (request, told)) old new = IsApplied IsIntact IsOpen seen left (request_at reading request) told old new
+abbrev pub Did : {H : Type 0} → (H → Type 0) → (H → Type 0) → (H → Seen) → (H → Tables → Type 0) → ℕ → End → Outcome → H → H → Type 0
+Did IsIntact IsOpen seen left reading ended None old new = IsTakenBack IsIntact IsOpen seen left old new
+Did IsIntact IsOpen seen left reading ended (Some (request, told)) old new = HasAnswered IsIntact IsOpen seen left (request_at reading request) told ended old new
 
 pub record CameTo {H : Type 0} (IsIntact IsOpen : H → Type 0) (seen : H → Seen) (left : H → Tables → Type 0) (before after : Ends) (served : Served) (old new : H) : Type 0 where
   pub outcome : Outcome
   pub came : Came (seen old).limits before after served outcome
-  pub did : Did IsIntact IsOpen seen left before.reading outcome old new
+  pub did : Did IsIntact IsOpen seen left before.reading served.ended outcome old new
 
 -- some connection came, or none
 abbrev pub DidSome : {H : Type 0} → (H → Type 0) → (H → Type 0) → (H → Seen) → (H → Tables → Type 0) → H → H → Type 0
-DidSome IsIntact IsOpen seen left old new = (reading : ℕ) × (outcome : Outcome) × Did IsIntact IsOpen seen left reading outcome old new
+DidSome IsIntact IsOpen seen left old new = (reading : ℕ) × (ended : End) × (outcome : Outcome) × Did IsIntact IsOpen seen left reading ended outcome old new

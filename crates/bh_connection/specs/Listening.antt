@@ -1,5 +1,5 @@
 -- Visits that an acceptor gave, and the calls by which they came.
-use Rattle.std.specs.Prelude.{◌≡◌, ◌⊎◌, ◌<◌, ℕ, List, [], ◌∷◌, ◌++◌, length, filter_map, Option, Result, MatchResult, option_map, option_and_then}
+use Rattle.std.specs.Prelude.{◌≡◌, ◌⊎◌, ◌<◌, ◌≤◌, ℕ, Bool, true, false, List, [], ◌∷◌, ◌++◌, length, filter_map, Option, Result, MatchResult, option_map, option_and_then}
 use Rattle.std.specs.List.{flat_map}
 use Rattle.bh_tables.specs.Typed.{Tables}
 use Rattle.bh_storage.specs.Calls.{Seen}
@@ -38,17 +38,17 @@ IsFault calls = (calls ≡ NotAccepted ∷ []) ⊎ ((caller : Caller) × (calls 
 
 -- ---- one connection
 
-module _ {H : Type 0} (IsIntact IsOpen : H → Type 0) (seen : H → Seen) (left : H → Tables → Type 0) (secret : Option (List ℕ)) where
+module _ {H C : Type 0} (IsIntact IsOpen : H → Type 0) (seen : H → Seen) (left : H → Tables → Type 0) (shows : C → Tables → Type 0) (secret : Option (List ℕ)) where
   -- one was served as its caller's
   abbrev pub VisitedAs : Caller → Ends → Ends → Served → H → H → Type 0
   VisitedAs Request before after served old new = CameTo IsIntact IsOpen seen left before after served old new
-  VisitedAs Operator before after served old new = WasOrdered IsIntact IsOpen seen left secret before after served old new
+  VisitedAs Operator before after served old new = WasOrdered IsIntact IsOpen seen left shows secret before after served old new
 
   -- one was accepted and served
   pub record IsServed (before after : Option (List Call)) (old new : H) (visit : Visit) : Type 0 where
     pub calls : Logs before after (calls_of visit)
     pub came : CameBy secret (seen old).limits visit
-    pub did : DidBy IsIntact IsOpen seen left visit old new
+    pub did : DidBy IsIntact IsOpen seen left shows visit old new
 
   -- nothing is done after a fault
   pub record HasFailed (before after : Option (List Call)) (old new : H) (fault : List Call) : Type 0 where
@@ -60,8 +60,9 @@ module _ {H : Type 0} (IsIntact IsOpen : H → Type 0) (seen : H → Seen) (left
   ComesOne before after result old new =
       MatchResult result (λ _. (visit : Visit) × IsServed before after old new visit) (λ _. (fault : List Call) × HasFailed before after old new fault)
 
-  -- ---- connections in turn
+-- ---- connections in turn
 
+module _ {H : Type 0} (IsIntact IsOpen : H → Type 0) (seen : H → Seen) (left : H → Tables → Type 0) (secret : Option (List ℕ)) where
   -- those that brought a request or an order are the events of a run, and each tenant is alone in it
   pub record HasServedAll (visits : List Visit) (old new : H) : Type 0 where
     pub each : AllCame secret (seen old).limits visits
@@ -72,11 +73,18 @@ module _ {H : Type 0} (IsIntact IsOpen : H → Type 0) (seen : H → Seen) (left
   abbrev pub WasVisited : H → H → Type 0
   WasVisited old new = (visits : List Visit) × HasServedAll visits old new
 
-  -- so many were served, each that was accepted, or fewer and then a fault ended all; no other call was made
-  abbrev pub HasListened : {X E : Type 0} → Option (List Call) → Option (List Call) → ℕ → Result X E → H → H → Type 0
-  HasListened before after count result old new = (visits : List Visit) × HasServedAll visits old new × MatchResult result
+  -- so many were served, each that was accepted; or fewer and then a fault ended all, or a backup over which the host was lost;
+  -- no other call was made
+  abbrev pub HasListened : {X E : Type 0} → (H → Bool) → Option (List Call) → Option (List Call) → ℕ → Result X E → H → H → Type 0
+  HasListened lost before after count result old new = (visits : List Visit) × HasServedAll visits old new × MatchResult result
       (λ _. (length visits ≡ count) × Logs before after (flat_map calls_of visits))
-      (λ _. (length visits < count) × ((fault : List Call) × IsFault fault × Logs before after (flat_map calls_of visits ++ fault)))
+      (λ _. ((length visits < count) × ((fault : List Call) × IsFault fault × Logs before after (flat_map calls_of visits ++ fault)))
+      ⊎ ((lost new ≡ true) × (length visits ≤ count) × Logs before after (flat_map calls_of visits)))
+
+  -- a host that was lost had been served with until a visit
+  abbrev pub WasLost : {C : Type 0} → (C → Tables → Type 0) → (H → Bool) → H → H → Type 0
+  WasLost shows lost old new = lost old ≡ false → lost new ≡ true
+      → (visits : List Visit) × (mid : H) × (visit : Visit) × HasServedAll visits old mid × DidBy IsIntact IsOpen seen left shows visit mid new
 
 -- the secret of the operators of a port, if there is one
 abbrev pub secret_of : Ports → Option (List ℕ)

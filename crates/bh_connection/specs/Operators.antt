@@ -9,7 +9,8 @@ use Rattle.bh_host.specs.Runs.{Told}
 use Rattle.bh_host.specs.declared.reply.Caller.TheVariants.{Operator}
 use Rattle.bh_link.specs.Taking.{all_of}
 use Rattle.bh_http.specs.Transfers.{Logs, Gives, Takes}
-use Rattle.bh_operator.specs.Orders.{ordered_by}
+use Rattle.bh_operator.specs.Orders.{Order, ToDo, ToCopy, ordered_by}
+use Rattle.bh_connection.specs.Backups.{IsBackedUp}
 use Rattle.bh_connection.specs.Connections.{Ends, EndsAs, IsApplied}
 use Rattle.bh_connection.specs.declared.served.End.TheVariants.{ReadFailed}
 use Rattle.bh_connection.specs.declared.served.Served.{Served}
@@ -23,12 +24,13 @@ abbrev pub line_text : List ℕ → List ℕ
 line_text reply = reply ++ 10 ∷ []
 
 -- what an operator's line came to: its reader failed; memory was wanting before it was known what it orders; it orders
--- nothing; or what it orders was applied
+-- nothing; what it orders was applied; or it orders a copy under this name, and this was replied
 pub data Heard : Type 0 where
   CutOff : Heard
   NotHeard : Heard
   NoOrder : Heard
   Obeyed : (event : Event) (told : Told) → Heard
+  Copied : (to : List ℕ) (reply : List ℕ) → Heard
 
 -- ---- its ends
 
@@ -59,7 +61,7 @@ pub record IsReplied (before after : Ends) (served : Served) (taken : List ℕ) 
   pub reader : after.reader_failed ≡ false
 
 -- all the bytes that its reader would give order this, or nothing, under the secret if there is one
-pub record IsHeard (secret : Option (List ℕ)) (before after : Ends) (served : Served) (order : Option Event) (told : Told) : Type 0 where
+pub record IsHeard (secret : Option (List ℕ)) (before after : Ends) (served : Served) (order : Option Order) (told : Told) : Type 0 where
   pub taken : List ℕ
   pub replied : IsReplied before after served taken told
   pub is : order ≡ ordered_by secret before.reading (all_of before.left taken)
@@ -68,18 +70,20 @@ abbrev pub Hears : Option (List ℕ) → Ends → Ends → Served → Heard → 
 Hears secret before after served CutOff = IsCutOff before after served
 Hears secret before after served NotHeard = (taken : List ℕ) × IsReplied before after served taken (None, wanting_text Operator)
 Hears secret before after served NoOrder = IsHeard secret before after served None (None, bad_line)
-Hears secret before after served (Obeyed event told) = IsHeard secret before after served (Some event) told
+Hears secret before after served (Obeyed event told) = IsHeard secret before after served (Some (ToDo event)) told
+Hears secret before after served (Copied to reply) = IsHeard secret before after served (Some (ToCopy to)) (None, reply)
 
 -- ---- its host
 
--- it stays unless a line orders something, and then that is applied
-abbrev pub Obeys : {H : Type 0} → (H → Type 0) → (H → Type 0) → (H → Seen) → (H → Tables → Type 0) → Heard → H → H → Type 0
-Obeys IsIntact IsOpen seen left CutOff old new = new ≡ old
-Obeys IsIntact IsOpen seen left NotHeard old new = new ≡ old
-Obeys IsIntact IsOpen seen left NoOrder old new = new ≡ old
-Obeys IsIntact IsOpen seen left (Obeyed event told) old new = IsApplied IsIntact IsOpen seen left event told old new
+-- it stays unless a line orders something, and then that is applied, or it is copied
+abbrev pub Obeys : {H C : Type 0} → (H → Type 0) → (H → Type 0) → (H → Seen) → (H → Tables → Type 0) → (C → Tables → Type 0) → Heard → H → H → Type 0
+Obeys IsIntact IsOpen seen left shows CutOff old new = new ≡ old
+Obeys IsIntact IsOpen seen left shows NotHeard old new = new ≡ old
+Obeys IsIntact IsOpen seen left shows NoOrder old new = new ≡ old
+Obeys IsIntact IsOpen seen left shows (Obeyed event told) old new = IsApplied IsIntact IsOpen seen left event told old new
+Obeys IsIntact IsOpen seen left shows (Copied to reply) old new = IsBackedUp IsIntact IsOpen seen left shows reply old new
 
-pub record WasOrdered {H : Type 0} (IsIntact IsOpen : H → Type 0) (seen : H → Seen) (left : H → Tables → Type 0) (secret : Option (List ℕ)) (before after : Ends) (served : Served) (old new : H) : Type 0 where
+pub record WasOrdered {H C : Type 0} (IsIntact IsOpen : H → Type 0) (seen : H → Seen) (left : H → Tables → Type 0) (shows : C → Tables → Type 0) (secret : Option (List ℕ)) (before after : Ends) (served : Served) (old new : H) : Type 0 where
   pub heard : Heard
   pub hears : Hears secret before after served heard
-  pub obeys : Obeys IsIntact IsOpen seen left heard old new
+  pub obeys : Obeys IsIntact IsOpen seen left shows heard old new

@@ -8,7 +8,7 @@ use Rattle.bh_host.specs.Runs.{Told, RanOn}
 use Rattle.bh_connection.specs.Connections.{Ends, Came, Did}
 use Rattle.bh_connection.specs.Each as each
 use Rattle.bh_connection.specs.Each.{Row, RanSome}
-use Rattle.bh_connection.specs.Operators.{Heard, CutOff, NotHeard, NoOrder, Obeyed, Hears, Obeys}
+use Rattle.bh_connection.specs.Operators.{Heard, CutOff, NotHeard, NoOrder, Obeyed, Copied, Hears, Obeys}
 use Rattle.bh_connection.specs.declared.doors.Operators.{Operators}
 use Rattle.bh_connection.specs.declared.served.Served.{Served}
 
@@ -23,18 +23,20 @@ pub data Visit : Type 0 where
   OfClient : (row : Row) → Visit
   OfOperator : (row : LineRow) → Visit
 
--- the event that it brought, and what was told of it
+-- the event that it brought, and what was told of it; a copy is none
 abbrev pub event_heard : Heard → Option Event
 event_heard CutOff = None
 event_heard NotHeard = None
 event_heard NoOrder = None
 event_heard (Obeyed event told) = Some event
+event_heard (Copied to reply) = None
 
 abbrev pub told_heard : Heard → Option Told
 told_heard CutOff = None
 told_heard NotHeard = None
 told_heard NoOrder = None
 told_heard (Obeyed event told) = Some told
+told_heard (Copied to reply) = None
 
 abbrev pub event_of : Visit → Option Event
 event_of (OfClient row) = each.event_of row
@@ -62,10 +64,10 @@ abbrev pub IsAdmitted : Bool → Visit → Type 0
 IsAdmitted operated (OfClient row) = Unit {0}
 IsAdmitted operated (OfOperator row) = operated ≡ true
 
-module _ {H : Type 0} (IsIntact IsOpen : H → Type 0) (seen : H → Seen) (left : H → Tables → Type 0) where
+module _ {H C : Type 0} (IsIntact IsOpen : H → Type 0) (seen : H → Seen) (left : H → Tables → Type 0) (shows : C → Tables → Type 0) where
   abbrev pub DidBy : Visit → H → H → Type 0
-  DidBy (OfClient row) old new = Did IsIntact IsOpen seen left row.before.reading row.outcome old new
-  DidBy (OfOperator row) old new = Obeys IsIntact IsOpen seen left row.heard old new
+  DidBy (OfClient row) old new = Did IsIntact IsOpen seen left row.before.reading row.served.ended row.outcome old new
+  DidBy (OfOperator row) old new = Obeys IsIntact IsOpen seen left shows row.heard old new
 
   -- some visit was made, or none
   abbrev pub DidFor : Bool → H → H → Type 0

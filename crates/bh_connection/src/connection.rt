@@ -11,8 +11,9 @@ ghost use Rattle.bh_host.specs.Replies.{reply_bytes, reply_trouble, clock_text};
 ghost use Rattle.bh_host.specs.declared.reply.Caller.TheVariants.{Request};
 ghost use Rattle.bh_connection.specs.Connections.{ends_of, begun_by, EndsAs, CameTo, IsTakenBack};
 
+use crate::sending::send_planned;
 use crate::served::{End, Served};
-use bh_host::{Caller, Reply, Told, receive, refuse_unread};
+use bh_host::{Caller, Delivery, Replied, Reply, Told, receive, refuse_unread};
 use bh_http::read::split_head;
 use bh_http::request::Head;
 use bh_link::ends::{Sink, Source};
@@ -29,6 +30,9 @@ use std::alloc::Global;
 /// A reading above 250,000,000,000 seconds is answered ClockOutOfRange, and nothing is read. Otherwise the head is read
 /// a byte at a time, and no byte after the body of a request that is accepted. What is done and answered is what
 /// [`bh_host::apply`] does and answers at all the bytes that the reader would give.
+///
+/// The bytes of an object are read and sent in pieces, once its transaction is committed. Where one can't be read, what goes out
+/// ends there, and a fault may have shut the store: what was acknowledged stands.
 pub fn serve_connection<H: Storage, R: Source, W: Sink>(
     alloc: Global,
     routes: &Routes,
@@ -53,7 +57,7 @@ pub fn serve_connection<H: Storage, R: Source, W: Sink>(
         → (result.stamp ≡ None) × (host.new ≡ host.old) × (reader.new ≡ reader.old)
         × Appends (W.contents writer.old.inner) (W.contents writer.new.inner) (take result.sent (clock_text Request))
         × EndsAs result.ended result.sent (clock_text Request) writer.new.failed }
-    ensures acknowledged { IfSome result.stamp (λ _. H.IsIntact host.new
+    ensures acknowledged { IfSome result.stamp (λ _. Clean H.IsIntact H.IsOpen host.new
         → (x : Tables) → H.left host.new x → x ≡ (H.seen host.new).now) }
 {
     if reading > LAST_READING {
@@ -101,8 +105,17 @@ fn serve_headed<H: Storage, R: Source, W: Sink>(
         (ends_of R.remaining R.transfers W.contents W.transfers reading reader.new writer.new) result host.old host.new }
 {
     reader.announce(head.body_size);
-    match receive(alloc, routes, host, reading, head, reader) {
-        Some(told) => answer(writer, told),
+    match receive(
+        alloc,
+        routes,
+        host,
+        reading,
+        head,
+        reader,
+        Delivery::InPieces,
+    ) {
+        Some(Replied::Told(told)) => answer(writer, told),
+        Some(Replied::Planned(reply)) => send_planned(alloc, host, writer, reply),
         None => broken_off(),
     }
 }

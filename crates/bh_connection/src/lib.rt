@@ -2,6 +2,7 @@
 #![tactic(auto)]
 
 mod acceptor;
+mod backup;
 mod bounded;
 mod clock;
 mod connection;
@@ -11,10 +12,12 @@ mod listener;
 mod log;
 mod noted;
 mod operator;
+mod sending;
 mod served;
 mod sockets;
 
 pub use acceptor::Acceptor;
+pub use backup::BackUp;
 pub use clock::{Clock, MachineClock};
 pub use connection::serve_connection;
 pub use doors::{Doors, Operators};

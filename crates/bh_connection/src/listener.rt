@@ -1,10 +1,11 @@
 ghost use Rattle.std.specs.Prelude.{◌≡◌, is_some, option_map};
 ghost use Rattle.bh_storage.specs.Calls.{Clean, LeavesSound, IsAtRest};
 ghost use Rattle.bh_connection.specs.Each.{IsGoing, ends};
-ghost use Rattle.bh_connection.specs.Listening.{ComesOne, HasListened, VisitedAs, WasVisited, secret_of};
+ghost use Rattle.bh_connection.specs.Listening.{ComesOne, HasListened, VisitedAs, WasLost, WasVisited, secret_of};
 ghost use Rattle.bh_connection.specs.Visits.{DidFor, RanFor, secret_at};
 
 use crate::acceptor::Acceptor;
+use crate::backup::BackUp;
 use crate::bounded::Current;
 use crate::clock::Clock;
 use crate::doors::{Doors, Operators};
@@ -15,11 +16,14 @@ use crate::sockets::{Manner, Sockets};
 use bh_host::Caller;
 use bh_link::ends::{Sink, Source};
 use bh_operation::routes::Routes;
-use bh_storage::storage::Storage;
 use std::alloc::Global;
 use std::cell::RefCell;
 use std::io;
+use std::io::ErrorKind;
 use std::net::{Ipv4Addr, Net, TcpListener, TcpStream};
+
+/// Why serving ends once a backup has lost the host.
+const LOST: &str = "the host isn't open any more";
 
 /// Where operators come to a port of 127.0.0.1.
 #[derive(Clone, Copy)]
@@ -41,7 +45,7 @@ pub struct Ports<'a> {
 /// error, with each port.
 pub fn serve_port<
     N: Net<Stream = TcpStream, Listener = TcpListener> + AllocGlobal + Eprint,
-    H: Storage,
+    H: BackUp,
     C: Clock,
 >(
     net: &N,
@@ -58,6 +62,7 @@ pub fn serve_port<
     ensures ready { Clean H.IsIntact H.IsOpen host.new → IsAtRest H.IsSoundStore (H.seen host.new) }
     ensures limits { (H.seen host.new).limits ≡ (H.seen host.old).limits }
     ensures leaves { H.IsIntact host.new → LeavesSound H.IsSoundStore H.left host.old host.new }
+    ensures lost { WasLost H.IsIntact H.IsOpen H.seen H.left (secret_of ports.entry) H.shows H.lost host.old host.new }
     ensures ran { H.IsIntact host.new → RanFor (is_some ports.entry.operator) H.IsOpen H.seen H.left host.old host.new }
     ensures visited { WasVisited H.IsIntact H.IsOpen H.seen H.left (secret_of ports.entry) host.old host.new }
 {
@@ -116,7 +121,7 @@ fn tell_address<E: Eprint>(errors: &E, what: &str, listener: &TcpListener) {
 /// written in time, counts, and serving goes on; a fault of a listener that doesn't pass, or of the clock, ends it. Whatever
 /// the sockets gave, only requests were applied, and orders where operators may come, and to each tenant the replies are
 /// those of a machine that it has to itself.
-pub fn serve_listener<E: Eprint + AllocGlobal, H: Storage, C: Clock>(
+pub fn serve_listener<E: Eprint + AllocGlobal, H: BackUp, C: Clock>(
     errors: &E,
     routes: &Routes,
     host: &mut H,
@@ -131,6 +136,7 @@ pub fn serve_listener<E: Eprint + AllocGlobal, H: Storage, C: Clock>(
     ensures ready { Clean H.IsIntact H.IsOpen host.new → IsAtRest H.IsSoundStore (H.seen host.new) }
     ensures limits { (H.seen host.new).limits ≡ (H.seen host.old).limits }
     ensures leaves { H.IsIntact host.new → LeavesSound H.IsSoundStore H.left host.old host.new }
+    ensures lost { WasLost H.IsIntact H.IsOpen H.seen H.left (secret_at doors.entry.operators) H.shows H.lost host.old host.new }
     ensures ran { H.IsIntact host.new → RanFor (is_some doors.entry.operators) H.IsOpen H.seen H.left host.old host.new }
     ensures visited { WasVisited H.IsIntact H.IsOpen H.seen H.left (secret_at doors.entry.operators) host.old host.new }
 {
@@ -158,8 +164,9 @@ pub fn serve_listener<E: Eprint + AllocGlobal, H: Storage, C: Clock>(
 
 /// Serves so many connections of an acceptor, one after another: each that is accepted, at the reading that the clock gives
 /// after that, a client's as a request and an operator's as a line, under a secret if there is one; and each is closed
-/// before the next is waited for. A fault of an accept or of the clock ends it, and nothing is done after it.
-pub fn serve_from<H: Storage, A: Acceptor>(
+/// before the next is waited for. A fault of an accept or of the clock ends it, and nothing is done after it. So does a backup
+/// over which the host is lost, once it is answered.
+pub fn serve_from<H: BackUp, A: Acceptor>(
     alloc: Global,
     routes: &Routes,
     host: &mut H,
@@ -173,18 +180,22 @@ pub fn serve_from<H: Storage, A: Acceptor>(
     ensures ready { Clean H.IsIntact H.IsOpen host.new → IsAtRest H.IsSoundStore (H.seen host.new) }
     ensures limits { (H.seen host.new).limits ≡ (H.seen host.old).limits }
     ensures leaves { H.IsIntact host.new → LeavesSound H.IsSoundStore H.left host.old host.new }
+    ensures lost { WasLost H.IsIntact H.IsOpen H.seen H.left (option_map (λ s. s.now) secret.entry) H.shows H.lost host.old host.new }
     ensures ran { H.IsIntact host.new → RanFor (A.operated acceptor.old) H.IsOpen H.seen H.left host.old host.new }
-    ensures listened { HasListened H.IsIntact H.IsOpen H.seen H.left (option_map (λ s. s.now) secret.entry)
+    ensures listened { HasListened H.IsIntact H.IsOpen H.seen H.left (option_map (λ s. s.now) secret.entry) H.lost
         (A.calls acceptor.old) (A.calls acceptor.new) count result host.old host.new }
 {
     for served in 0..count {
         serve_next(alloc, routes, host, acceptor, secret)?;
+        if host.is_lost() {
+            return Err(io::Error::new(ErrorKind::Other, LOST));
+        }
     }
     Ok(())
 }
 
 /// Serves the next connection of an acceptor.
-fn serve_next<H: Storage, A: Acceptor>(
+fn serve_next<H: BackUp, A: Acceptor>(
     alloc: Global,
     routes: &Routes,
     host: &mut H,
@@ -198,8 +209,8 @@ fn serve_next<H: Storage, A: Acceptor>(
     ensures limits { (H.seen host.new).limits ≡ (H.seen host.old).limits }
     ensures leaves { H.IsIntact host.new → LeavesSound H.IsSoundStore H.left host.old host.new }
     ensures operated { A.operated acceptor.new ≡ A.operated acceptor.old }
-    ensures did { DidFor H.IsIntact H.IsOpen H.seen H.left (A.operated acceptor.old) host.old host.new }
-    ensures comes { ComesOne H.IsIntact H.IsOpen H.seen H.left (option_map (λ s. s.now) secret.entry)
+    ensures did { DidFor H.IsIntact H.IsOpen H.seen H.left H.shows (A.operated acceptor.old) host.old host.new }
+    ensures comes { ComesOne H.IsIntact H.IsOpen H.seen H.left H.shows (option_map (λ s. s.now) secret.entry)
         (A.calls acceptor.old) (A.calls acceptor.new) result host.old host.new }
 {
     let caller = acceptor.accept()?;
@@ -211,7 +222,7 @@ fn serve_next<H: Storage, A: Acceptor>(
 }
 
 /// Serves one connection, as its caller's.
-fn serve_visit<H: Storage, R: Source, W: Sink>(
+fn serve_visit<H: BackUp, R: Source, W: Sink>(
     alloc: Global,
     routes: &Routes,
     host: &mut H,
@@ -226,7 +237,7 @@ fn serve_visit<H: Storage, R: Source, W: Sink>(
     ensures ready { Clean H.IsIntact H.IsOpen host.new → IsAtRest H.IsSoundStore (H.seen host.new) }
     ensures limits { (H.seen host.new).limits ≡ (H.seen host.old).limits }
     ensures leaves { H.IsIntact host.new → LeavesSound H.IsSoundStore H.left host.old host.new }
-    ensures visited { VisitedAs H.IsIntact H.IsOpen H.seen H.left (option_map (λ s. s.now) secret.entry) caller
+    ensures visited { VisitedAs H.IsIntact H.IsOpen H.seen H.left H.shows (option_map (λ s. s.now) secret.entry) caller
         (ends R.remaining R.transfers W.contents W.transfers arrival.old)
         (ends R.remaining R.transfers W.contents W.transfers arrival.new) result host.old host.new }
 {

@@ -6,27 +6,28 @@ ghost use Rattle.bh_http.specs.Transfers.{Takes};
 ghost use Rattle.bh_connection.specs.Connections.{ends_of, EndsAs};
 ghost use Rattle.bh_connection.specs.Operators.{line_text, WasOrdered};
 
+use crate::backup::{BackUp, backup_reply};
 use crate::served::{End, Served};
 use bh_host::{Caller, Reply, apply};
 use bh_link::ends::{Sink, Source};
 use bh_link::link::Link;
 use bh_link::request::TakeError;
 use bh_operation::routes::Routes;
-use bh_operator::order::take_order;
+use bh_operator::order::{Order, take_order};
 use bh_storage::error::Trouble;
-use bh_storage::storage::Storage;
 use bh_types::moment::Moment;
 use std::alloc::Global;
 
 /// What is answered to a line that orders nothing.
 const BAD_LINE: &[u8] = b"bad line";
 
-/// Serves one connection of an operator: takes its line, applies what it orders, and writes the reply and a line feed.
+/// Serves one connection of an operator: takes its line, does what it orders, and writes the reply and a line feed.
 ///
 /// The line is read a byte at a time, and no byte after its line feed. What it orders, under the secret if there is one, is
 /// what [`bh_operator::order::order_of_line`] says, at the reading; one that orders nothing changes nothing and is answered
-/// `bad line`. What is done and answered of an order is what [`apply`] does and answers.
-pub fn serve_line<H: Storage, R: Source, W: Sink>(
+/// `bad line`. What is done and answered of an event is what [`apply`] does and answers. A backup is answered `backup` once
+/// the copy is whole and synced, or `fault`.
+pub fn serve_line<H: BackUp, R: Source, W: Sink>(
     alloc: Global,
     routes: &Routes,
     host: &mut H,
@@ -43,7 +44,7 @@ pub fn serve_line<H: Storage, R: Source, W: Sink>(
     ensures ready { Clean H.IsIntact H.IsOpen host.new → IsAtRest H.IsSoundStore (H.seen host.new) }
     ensures limits { (H.seen host.new).limits ≡ (H.seen host.old).limits }
     ensures leaves { H.IsIntact host.new → LeavesSound H.IsSoundStore H.left host.old host.new }
-    ensures ordered { WasOrdered H.IsIntact H.IsOpen H.seen H.left (option_map (λ s. s.now) secret.entry)
+    ensures ordered { WasOrdered H.IsIntact H.IsOpen H.seen H.left H.shows (option_map (λ s. s.now) secret.entry)
         (ends_of R.remaining R.transfers W.contents W.transfers reading reader.old writer.old)
         (ends_of R.remaining R.transfers W.contents W.transfers reading reader.new writer.new) result host.old host.new }
     ensures untouched { result.ended ≡ End.ReadFailed → host.new ≡ host.old }
@@ -51,9 +52,13 @@ pub fn serve_line<H: Storage, R: Source, W: Sink>(
         → (x : Tables) → H.left host.new x → x ≡ (H.seen host.new).now) }
 {
     match take_order(alloc, secret, reading, reader) {
-        Ok(Some(event)) => {
+        Ok(Some(Order::Event(event))) => {
             let told = apply(alloc, routes, host, &event);
             answer_line(writer, told.stamp, told.reply.bytes(), told.reply.trouble())
+        }
+        Ok(Some(Order::Backup { to })) => {
+            let reply = backup_reply(host, to.as_str());
+            answer_line(writer, None, reply, None)
         }
         Ok(None) => answer_line(writer, None, BAD_LINE, None),
         Err(TakeError::OutOfMemory) => {

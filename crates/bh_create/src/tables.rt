@@ -2,7 +2,9 @@ ghost use Rattle.std.specs.Prelude.{◌≡◌, true, IfErr};
 ghost use Rattle.sqlite.specs.Held.{state};
 ghost use Rattle.bh_rows.specs.Means.{is_trouble};
 ghost use Rattle.bh_tables.specs.Schema.{no_schema, first_schema};
-ghost use Rattle.bh_tables.specs.Made.{with_host, with_tenants, with_keys, with_buckets, with_versions, with_blocks, with_refs, with_newest, with_refs_by_block, with_uploads, with_parts, with_uploads_by_key, with_uploads_by_moment, with_uses, with_uses_by_count, with_locks, with_retains};
+ghost use Rattle.bh_tables.specs.Made.{with_host, with_tenants, with_keys, with_buckets, with_versions, with_blocks, with_refs};
+ghost use Rattle.bh_tables.specs.Made.{with_newest, with_refs_by_block, with_uploads, with_parts, with_uploads_by_key};
+ghost use Rattle.bh_tables.specs.Made.{with_uploads_by_moment, with_uses, with_uses_by_count, with_locks, with_retains};
 ghost use Rattle.bh_schema.specs.Layer.{IsIntact, IsStateClean};
 ghost use Rattle.bh_create.specs.Creation.{IsMaking, Makes};
 

@@ -1,3 +1,5 @@
 pub mod Storing
 pub mod Steps
+pub mod Offering
 pub mod Receiving
+pub mod Piecing

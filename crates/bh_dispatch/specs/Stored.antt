@@ -9,6 +9,8 @@ use Rattle.bh_types.specs.Rejections.{plain}
 use Rattle.bh_types.specs.declared.refusal.Refusal.{Refusal}
 use Rattle.bh_types.specs.declared.rejection.Rejection.{Rejection}
 use Rattle.bh_storage.specs.declared.answer.Answer.{Answer}
+use Rattle.bh_storage.specs.declared.answer.Offer.{Offer}
+use Rattle.bh_storage.specs.declared.answer.Offer.TheVariants.{Whole}
 use Rattle.bh_storage.specs.declared.error.Outcome.{Outcome}
 use Rattle.bh_storage.specs.declared.error.Outcome.TheVariants.{Done, Spoilt}
 
@@ -22,3 +24,8 @@ StoresBody digest size body operation old new = Unit {0}
 abbrev pub outcome_as : {X : Type 0} → (X → Answer) → Outcome X Refusal → Outcome Answer Rejection
 outcome_as shown (Done x) = Done (shown x)
 outcome_as shown (Spoilt r) = Spoilt (plain r)
+
+-- an answer that is there as a whole
+abbrev pub offer_as : Outcome Answer Rejection → Outcome Offer Rejection
+offer_as (Done answer) = Done (Whole answer)
+offer_as (Spoilt r) = Spoilt r

@@ -2,12 +2,12 @@
 ghost use Rattle.std.specs.Prelude.{◌≡◌};
 ghost use Rattle.std.specs.Result.{result_map_both};
 ghost use Rattle.bh_storage.specs.Errors.{step_rejected};
-ghost use Rattle.bh_dispatch.specs.Stored.{outcome_as};
+ghost use Rattle.bh_dispatch.specs.Stored.{outcome_as, offer_as};
 ghost use Rattle.bh_storage.specs.declared.answer.Answer.TheVariants as answer;
 
 use bh_docs::{BucketEntry, ObjectsPage, PartsPage, UploadsPage, Usage, VersionsPage};
 use bh_storage::answer::{
-    Answer, BegunUpload, CompletedUpload, CopiedVersion, RemovedEntry, StoredVersion,
+    Answer, BegunUpload, CompletedUpload, CopiedVersion, Offer, RemovedEntry, StoredVersion,
 };
 use bh_storage::error::{Outcome, StepError};
 use bh_types::bucket_state::BucketState;
@@ -37,6 +37,19 @@ pub fn stored(
     match outcome? {
         Outcome::Done(version) => Ok(Outcome::Done(Answer::Stored(version))),
         Outcome::Spoilt(refusal) => Ok(Outcome::Spoilt(Rejection::from(refusal))),
+    }
+}
+
+/// An answer that is there as a whole.
+pub fn offered(
+    outcome: Result<Outcome<Answer, Rejection>, StepError<Rejection>>,
+) -> Result<Outcome<Offer, Rejection>, StepError<Rejection>>
+    ensures { result ≡ result_map_both offer_as (λ error. error) outcome }
+{
+    match outcome {
+        Ok(Outcome::Done(answer)) => Ok(Outcome::Done(Offer::Whole(answer))),
+        Ok(Outcome::Spoilt(rejection)) => Ok(Outcome::Spoilt(rejection)),
+        Err(error) => Err(error),
     }
 }
 

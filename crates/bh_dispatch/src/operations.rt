@@ -8,7 +8,8 @@ ghost use Rattle.bh_model.specs.Listings.{list_objects, list_versions};
 ghost use Rattle.bh_view.specs.Blocks.{AreDigests};
 ghost use Rattle.bh_view.specs.Bodies.{StoresPieces};
 ghost use Rattle.bh_view.specs.View.{latest_of};
-ghost use Rattle.bh_storage.specs.Answers.{answer_view};
+ghost use Rattle.bh_storage.specs.Answers.{answer_view, offer_view};
+ghost use Rattle.bh_storage.specs.Plans.{IfPlanned, IsMeasured};
 ghost use Rattle.bh_storage.specs.Calls.{Unless, UnlessSpoilt, Carries, Operates, OperatesBy};
 ghost use Rattle.bh_model.specs.State.{Octets};
 ghost use Rattle.bh_schema.specs.Connections.{IsClean, tables, StaysWithin, StaysOpen};
@@ -19,7 +20,7 @@ ghost use Rattle.bh_dispatch.specs.Stored.{StoresBody};
 use crate::{answers, lifecycle, retention, uploads};
 use bh_cache::blocks::BlockCache;
 use bh_docs::read_versioning;
-use bh_http::body::{Body, collect};
+use bh_http::body::{Body, collect, drain};
 use bh_objects::copies::NewCopy;
 use bh_objects::writes::NewObject;
 use bh_objects::{buckets, copies, deletes, gets, heads, objects};
@@ -29,9 +30,10 @@ use bh_operation::page::{Page, VersionMarker};
 use bh_operation::text::Bytes;
 use bh_pages::gathering::PageAsked;
 use bh_schema::host::Digester;
-use bh_storage::answer::Answer;
+use bh_storage::answer::{Answer, Offer};
 use bh_storage::error::{Outcome, StepError, Trouble};
 use bh_types::bucket::BucketName;
+use bh_types::id::UploadId;
 use bh_types::limits::Limits;
 use bh_types::moment::Moment;
 use bh_types::names::TenantName;
@@ -220,31 +222,33 @@ fn copy_object<S: Alter>(
     answers::copied(copies::copy_object(connection, &copy))
 }
 
-fn get_object<S: Alter>(
+/// Finds an object, once the body of its request came. Its bytes are still to be read.
+fn get_object<S: Alter, B: Body>(
     connection: &mut Connection<S>,
-    cache: &mut BlockCache,
-    alloc: Global,
     tenant: &TenantName,
     object: &ObjectName,
     version: Wanted,
     range: Option<&[u8]>,
-) -> Result<Answer, StepError<Rejection>>
+    body: &mut B,
+) -> Result<Outcome<Offer, Rejection>, StepError<Rejection>>
     requires working { Works S.Store connection.old }
-    requires kept { IsClean S.Store connection.old → Agrees cache.old (tables S.Store connection.old).blocks }
+    requires going { (B.coming body.old).broken ≡ None }
     ensures within { StaysWithin S.Store connection.old connection.new }
-    ensures opens { Unless result (StaysOpen S.Store connection.old connection.new) }
-    ensures working { Unless result (StillWorks S.Store connection.old connection.new) }
-    ensures carries { IsClean S.Store connection.new
-        → Carries answer_view tenant.now (machine.get_object object.now.bucket object.now.key version (option_copied range.entry))
+    ensures opens { UnlessSpoilt result (StaysOpen S.Store connection.old connection.new) }
+    ensures working { UnlessSpoilt result (StillWorks S.Store connection.old connection.new) }
+    ensures operates { Operates (offer_view (tables S.Store connection.new)) tenant.now
+        (λ _. machine.get_object object.now.bucket object.now.key version (option_copied range.entry))
+        (IsClean S.Store connection.new) (B.coming body.old) (B.coming body.new)
         (tables S.Store connection.old) (tables S.Store connection.new) result }
-    ensures kept { Unless result (IsClean S.Store connection.new → Agrees cache.new (tables S.Store connection.new).blocks) }
+    ensures measured { IfPlanned result (λ found. IsClean S.Store connection.new → IsMeasured (tables S.Store connection.new) found) }
 {
-    let (bucket, key) = (&object.bucket, &object.key);
-    match gets::get_object(
-        connection, cache, alloc, tenant, bucket, key, version, range,
-    ) {
-        Ok(found) => Ok(Answer::Found(found)),
-        Err(error) => Err(error),
+    match drain(body) {
+        Ok(()) => {
+            let (bucket, key) = (&object.bucket, &object.key);
+            let found = gets::get_object(connection, tenant, bucket, key, version, range)?;
+            Ok(Outcome::Done(Offer::Planned(found)))
+        }
+        Err(cause) => Err(StepError::Failed(Trouble::from(cause))),
     }
 }
 
@@ -416,17 +420,15 @@ fn operate_bucket<S: Alter>(
     }
 }
 
-/// Carries out an operation on an object that reads no body. Another is trouble: `carry_out` sends none here.
+/// Carries out an operation on an object that neither takes nor gives its bytes. Another is trouble: `operate_drained` sends none
+/// here.
 fn operate_object<S: Alter>(
     connection: &mut Connection<S>,
-    cache: &mut BlockCache,
-    alloc: Global,
     tenant: &TenantName,
     at: Moment,
     operation: &Operation,
 ) -> Result<Answer, StepError<Rejection>>
     requires working { Works S.Store connection.old }
-    requires kept { IsClean S.Store connection.old → Agrees cache.old (tables S.Store connection.old).blocks }
     requires early { IsClean S.Store connection.old → at ≤ latest_of (tables S.Store connection.old) }
     ensures within { StaysWithin S.Store connection.old connection.new }
     ensures opens { Unless result (StaysOpen S.Store connection.old connection.new) }
@@ -434,7 +436,6 @@ fn operate_object<S: Alter>(
     ensures carries { (limits : HostLimits) (body : Octets) → IsClean S.Store connection.new
         → Carries answer_view tenant.now (operated limits at body operation.now)
         (tables S.Store connection.old) (tables S.Store connection.new) result }
-    ensures kept { Unless result (IsClean S.Store connection.new → Agrees cache.new (tables S.Store connection.new).blocks) }
 {
     match operation {
         Operation::CopyObject {
@@ -442,14 +443,6 @@ fn operate_object<S: Alter>(
             source,
             date,
         } => { copy_object(connection, tenant, at, object, source, *date) }
-        Operation::GetObject {
-            object,
-            version,
-            range,
-        } => {
-            let range = bytes_of(range);
-            get_object(connection, cache, alloc, tenant, object, *version, range)
-        }
         Operation::HeadObject { object, version } => {
             head_object(connection, tenant, object, *version)
         }
@@ -498,10 +491,9 @@ fn operate_upload<S: Alter>(
     }
 }
 
-/// Carries out an operation of a tenant that stores no bytes of its body. Another is trouble: `operate` sends none here.
+/// Carries out an operation of a tenant whose body is taken whole. Another is trouble: `carry_out_whole` sends none here.
 fn carry_out<S: Alter>(
     connection: &mut Connection<S>,
-    cache: &mut BlockCache,
     alloc: Global,
     limits: &Limits,
     tenant: &TenantName,
@@ -510,7 +502,6 @@ fn carry_out<S: Alter>(
     body: &[u8],
 ) -> Result<Answer, StepError<Rejection>>
     requires working { Works S.Store connection.old }
-    requires kept { IsClean S.Store connection.old → Agrees cache.old (tables S.Store connection.old).blocks }
     requires early { IsClean S.Store connection.old → at ≤ latest_of (tables S.Store connection.old) }
     ensures within { StaysWithin S.Store connection.old connection.new }
     ensures opens { Unless result (StaysOpen S.Store connection.old connection.new) }
@@ -518,7 +509,6 @@ fn carry_out<S: Alter>(
     ensures carries { IsClean S.Store connection.new
         → Carries answer_view tenant.now (operated limits.now at body.now operation.now)
         (tables S.Store connection.old) (tables S.Store connection.new) result }
-    ensures kept { Unless result (IsClean S.Store connection.new → Agrees cache.new (tables S.Store connection.new).blocks) }
 {
     match operation {
         Operation::ListBuckets
@@ -535,12 +525,6 @@ fn carry_out<S: Alter>(
         Operation::GetLifecycle(_) | Operation::PutLifecycle(_) | Operation::DeleteLifecycle(_) => {
             lifecycle::operate_lifecycle(connection, alloc, tenant, operation, body)
         }
-        Operation::CopyObject { .. }
-        | Operation::GetObject { .. }
-        | Operation::HeadObject { .. }
-        | Operation::DeleteObject { .. } => {
-            operate_object(connection, cache, alloc, tenant, at, operation)
-        }
         Operation::CreateMultipartUpload(_)
         | Operation::ListParts { .. }
         | Operation::CompleteMultipartUpload { .. }
@@ -551,16 +535,47 @@ fn carry_out<S: Alter>(
             retention::operate_retention(connection, alloc, tenant, at, operation, body)
         }
         Operation::Usage => usage(connection, tenant),
-        Operation::PutObject { .. } | Operation::UploadPart { .. } => {
-            Err(StepError::Failed(Trouble::Store))
-        }
+        Operation::CopyObject { .. }
+        | Operation::GetObject { .. }
+        | Operation::HeadObject { .. }
+        | Operation::DeleteObject { .. }
+        | Operation::PutObject { .. }
+        | Operation::UploadPart { .. } => Err(StepError::Failed(Trouble::Store)),
     }
 }
 
-/// The same, once its body came. A document is taken whole.
+/// Carries out an operation on an object that neither takes nor gives its bytes, once the body of its request came, which is
+/// forgotten. Another is trouble: `carry_out_whole` sends none here.
+fn operate_drained<S: Alter, B: Body>(
+    connection: &mut Connection<S>,
+    tenant: &TenantName,
+    at: Moment,
+    operation: &Operation,
+    body: &mut B,
+) -> Result<Outcome<Answer, Rejection>, StepError<Rejection>>
+    requires working { Works S.Store connection.old }
+    requires early { IsClean S.Store connection.old → at ≤ latest_of (tables S.Store connection.old) }
+    requires going { (B.coming body.old).broken ≡ None }
+    ensures within { StaysWithin S.Store connection.old connection.new }
+    ensures opens { UnlessSpoilt result (StaysOpen S.Store connection.old connection.new) }
+    ensures working { UnlessSpoilt result (StillWorks S.Store connection.old connection.new) }
+    ensures operates { (limits : HostLimits) → Operates answer_view tenant.now (λ bytes. operated limits at bytes operation.now)
+        (IsClean S.Store connection.new) (B.coming body.old) (B.coming body.new)
+        (tables S.Store connection.old) (tables S.Store connection.new) result }
+{
+    match drain(body) {
+        Ok(()) => {
+            let answer = operate_object(connection, tenant, at, operation)?;
+            Ok(Outcome::Done(answer))
+        }
+        Err(cause) => Err(StepError::Failed(Trouble::from(cause))),
+    }
+}
+
+/// Carries out an operation of a tenant that neither takes nor gives an object's bytes, once the body of its request came. A
+/// document is taken whole.
 fn carry_out_whole<S: Alter, B: Body>(
     connection: &mut Connection<S>,
-    cache: &mut BlockCache,
     alloc: Global,
     limits: &Limits,
     tenant: &TenantName,
@@ -569,7 +584,6 @@ fn carry_out_whole<S: Alter, B: Body>(
     body: &mut B,
 ) -> Result<Outcome<Answer, Rejection>, StepError<Rejection>>
     requires working { Works S.Store connection.old }
-    requires kept { IsClean S.Store connection.old → Agrees cache.old (tables S.Store connection.old).blocks }
     requires early { IsClean S.Store connection.old → at ≤ latest_of (tables S.Store connection.old) }
     requires going { (B.coming body.old).broken ≡ None }
     ensures within { StaysWithin S.Store connection.old connection.new }
@@ -578,24 +592,77 @@ fn carry_out_whole<S: Alter, B: Body>(
     ensures operates { Operates answer_view tenant.now (λ bytes. operated limits.now at bytes operation.now)
         (IsClean S.Store connection.new) (B.coming body.old) (B.coming body.new)
         (tables S.Store connection.old) (tables S.Store connection.new) result }
-    ensures kept { UnlessSpoilt result (IsClean S.Store connection.new → Agrees cache.new (tables S.Store connection.new).blocks) }
 {
-    let bytes = match collect(alloc, body) {
-        Ok(bytes) => bytes,
-        Err(error) => return Err(StepError::Failed(Trouble::from(error))),
-    };
-    let answer = carry_out(
-        connection, cache, alloc, limits, tenant, at, operation, &bytes,
-    )?;
-    Ok(Outcome::Done(answer))
+    match operation {
+        Operation::CopyObject { .. }
+        | Operation::HeadObject { .. }
+        | Operation::DeleteObject { .. } => {
+            operate_drained(connection, tenant, at, operation, body)
+        }
+        _ => {
+            let bytes = match collect(alloc, body) {
+                Ok(bytes) => bytes,
+                Err(error) => return Err(StepError::Failed(Trouble::from(error))),
+            };
+            let answer = carry_out(connection, alloc, limits, tenant, at, operation, &bytes)?;
+            Ok(Outcome::Done(answer))
+        }
+    }
 }
 
-/// Carries out an operation of a tenant, on a host with these limits and at a moment that is not after the last stamp.
-/// The bytes of objects and of parts are stored as they come, in blocks of at most this size, and blocks that are read are
-/// kept in memory; a document is taken whole.
-pub fn operate<S: Alter, D: Digester, B: Body>(
+/// The version that is sent for an object.
+fn new_object<'a>(
+    tenant: &'a TenantName,
+    object: &'a ObjectName,
+    at: Moment,
+    date: Option<Option<Moment>>,
+) -> NewObject<'a>
+    ensures tenant { result.tenant.now ≡ tenant.now }
+    ensures bucket { result.bucket.now ≡ object.now.bucket }
+    ensures key { result.key.now ≡ object.now.key }
+    ensures at { result.at ≡ at }
+    ensures date { result.date ≡ date }
+{
+    NewObject {
+        tenant,
+        bucket: &object.bucket,
+        key: &object.key,
+        at,
+        date,
+    }
+}
+
+/// The part that is sent for an object's upload.
+fn new_part<'a>(
+    tenant: &'a TenantName,
+    object: &'a ObjectName,
+    upload: Option<UploadId>,
+    number: u32,
+    at: Moment,
+) -> NewPart<'a>
+    ensures tenant { result.upload.tenant.now ≡ tenant.now }
+    ensures bucket { result.upload.bucket.now ≡ object.now.bucket }
+    ensures key { result.upload.key.now ≡ object.now.key }
+    ensures upload { result.upload.upload ≡ upload }
+    ensures number { result.number ≡ number }
+    ensures at { result.at ≡ at }
+{
+    NewPart {
+        upload: NamedUpload {
+            tenant,
+            bucket: &object.bucket,
+            key: &object.key,
+            upload,
+        },
+        number,
+        at,
+    }
+}
+
+/// Carries out an operation of a tenant that gives no object's bytes. Another is trouble: `operate` sends none here.
+fn operate_whole<S: Alter, D: Digester, B: Body>(
     connection: &mut Connection<S>,
-    cache: &mut BlockCache,
+    cache: &BlockCache,
     alloc: Global,
     digester: &D,
     block_size: u64,
@@ -606,7 +673,7 @@ pub fn operate<S: Alter, D: Digester, B: Body>(
     body: &mut B,
 ) -> Result<Outcome<Answer, Rejection>, StepError<Rejection>>
     requires working { Works S.Store connection.old }
-    requires kept { IsClean S.Store connection.old → Agrees cache.old (tables S.Store connection.old).blocks }
+    requires kept { IsClean S.Store connection.old → Agrees cache.now (tables S.Store connection.old).blocks }
     requires digests { IsClean S.Store connection.old → AreDigests D.digest_of (tables S.Store connection.old).blocks }
     requires positive { 1 ≤ block_size }
     requires early { IsClean S.Store connection.old → at ≤ latest_of (tables S.Store connection.old) }
@@ -618,7 +685,7 @@ pub fn operate<S: Alter, D: Digester, B: Body>(
         (λ bytes. StoresBody D.digest_of block_size bytes operation.now (tables S.Store connection.old) (tables S.Store connection.new))
         (IsClean S.Store connection.new) (B.coming body.old) (B.coming body.new)
         (tables S.Store connection.old) (tables S.Store connection.new) result }
-    ensures kept { UnlessSpoilt result (IsClean S.Store connection.new → Agrees cache.new (tables S.Store connection.new).blocks) }
+    ensures kept { UnlessSpoilt result (IsClean S.Store connection.new → Agrees cache.now (tables S.Store connection.new).blocks) }
 {
     match operation {
         Operation::PutObject {
@@ -626,14 +693,8 @@ pub fn operate<S: Alter, D: Digester, B: Body>(
             checksum,
             date,
         } => {
-            let (bucket, key, given) = (&object.bucket, &object.key, bytes_of(checksum));
-            let object = NewObject {
-                tenant,
-                bucket,
-                key,
-                at,
-                date: *date,
-            };
+            let given = bytes_of(checksum);
+            let object = new_object(tenant, object, at, *date);
             put_object(
                 connection, cache, alloc, digester, block_size, &object, given, body,
             )
@@ -644,29 +705,56 @@ pub fn operate<S: Alter, D: Digester, B: Body>(
             number,
             checksum,
         } => {
-            let part = NewPart {
-                upload: NamedUpload {
-                    tenant,
-                    bucket: &object.bucket,
-                    key: &object.key,
-                    upload: *upload,
-                },
-                number: *number,
-                at,
-            };
+            let given = bytes_of(checksum);
+            let part = new_part(tenant, object, *upload, *number, at);
             uploads::put_part(
-                connection,
-                cache,
-                alloc,
-                digester,
-                block_size,
-                &part,
-                bytes_of(checksum),
-                body,
+                connection, cache, alloc, digester, block_size, &part, given, body,
             )
         }
-        _ => carry_out_whole(
-            connection, cache, alloc, limits, tenant, at, operation, body,
-        ),
+        _ => carry_out_whole(connection, alloc, limits, tenant, at, operation, body),
+    }
+}
+
+/// Carries out an operation of a tenant, on a host with these limits and at a moment that is not after the last stamp.
+/// The bytes of objects and of parts are stored as they come, in blocks of at most this size; a document is taken whole. An
+/// object that is found is answered by a plan of its bytes.
+pub fn operate<S: Alter, D: Digester, B: Body>(
+    connection: &mut Connection<S>,
+    cache: &BlockCache,
+    alloc: Global,
+    digester: &D,
+    block_size: u64,
+    limits: &Limits,
+    tenant: &TenantName,
+    at: Moment,
+    operation: &Operation,
+    body: &mut B,
+) -> Result<Outcome<Offer, Rejection>, StepError<Rejection>>
+    requires working { Works S.Store connection.old }
+    requires kept { IsClean S.Store connection.old → Agrees cache.now (tables S.Store connection.old).blocks }
+    requires digests { IsClean S.Store connection.old → AreDigests D.digest_of (tables S.Store connection.old).blocks }
+    requires positive { 1 ≤ block_size }
+    requires early { IsClean S.Store connection.old → at ≤ latest_of (tables S.Store connection.old) }
+    requires going { (B.coming body.old).broken ≡ None }
+    ensures within { StaysWithin S.Store connection.old connection.new }
+    ensures opens { UnlessSpoilt result (StaysOpen S.Store connection.old connection.new) }
+    ensures working { UnlessSpoilt result (StillWorksBy S.Store D.digest_of connection.old connection.new) }
+    ensures operates { OperatesBy (offer_view (tables S.Store connection.new)) tenant.now
+        (λ bytes. operated limits.now at bytes operation.now)
+        (λ bytes. StoresBody D.digest_of block_size bytes operation.now (tables S.Store connection.old) (tables S.Store connection.new))
+        (IsClean S.Store connection.new) (B.coming body.old) (B.coming body.new)
+        (tables S.Store connection.old) (tables S.Store connection.new) result }
+    ensures measured { IfPlanned result (λ found. IsClean S.Store connection.new → IsMeasured (tables S.Store connection.new) found) }
+    ensures kept { UnlessSpoilt result (IsClean S.Store connection.new → Agrees cache.now (tables S.Store connection.new).blocks) }
+{
+    match operation {
+        Operation::GetObject {
+            object,
+            version,
+            range,
+        } => get_object(connection, tenant, object, *version, bytes_of(range), body),
+        _ => answers::offered(operate_whole(
+            connection, cache, alloc, digester, block_size, limits, tenant, at, operation, body,
+        )),
     }
 }

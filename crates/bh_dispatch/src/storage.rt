@@ -4,10 +4,12 @@ use crate::{answers, commands, operations};
 use bh_cache::blocks::BlockCache;
 use bh_event::event::Command;
 use bh_http::body::Body;
+use bh_objects::gets;
 use bh_operation::operation::Operation;
 use bh_schema::host::{Digester, Host};
-use bh_storage::answer::Answer;
+use bh_storage::answer::{Answer, Offer};
 use bh_storage::error::{Outcome, StepError, Trouble};
+use bh_storage::plan::Plan;
 use bh_storage::report::{StoreReport, SweepReport, TenantReport};
 use bh_storage::storage::Storage;
 use bh_types::access_key::AccessKeyId;
@@ -89,11 +91,11 @@ impl<S: Alter + Drop, D: Digester + Drop> Storage for HostStorage<S, D> {
         at: Moment,
         operation: &Operation,
         body: &mut B,
-    ) -> Result<Outcome<Answer, Rejection>, StepError<Rejection>> {
+    ) -> Result<Outcome<Offer, Rejection>, StepError<Rejection>> {
         let block_size = block_size_of(&self.host.cache);
         operations::operate(
             &mut self.host.connection,
-            &mut self.host.cache,
+            &self.host.cache,
             alloc,
             &self.host.digester,
             block_size,
@@ -103,6 +105,11 @@ impl<S: Alter + Drop, D: Digester + Drop> Storage for HostStorage<S, D> {
             operation,
             body,
         )
+    }
+
+    fn next_piece(&mut self, alloc: Global, plan: &mut Plan) -> Result<Option<Vec<u8>>, Trouble> {
+        let host = &mut self.host;
+        gets::next_piece(&mut host.connection, &mut host.cache, alloc, plan)
     }
 
     fn command(&mut self, alloc: Global, command: &Command) -> Result<Answer, StepError<Refusal>> {

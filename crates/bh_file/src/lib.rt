@@ -6,4 +6,4 @@ mod look;
 mod opening;
 
 pub use fault::OpenFault;
-pub use opening::{FileConnection, open_file, open_files};
+pub use opening::{FileConnection, open_database, open_file, open_files};

@@ -1,7 +1,8 @@
 //! Databases in files.
 
 ghost use Rattle.std.specs.Prelude.{true, false, IsTrue, IfOk};
-ghost use Rattle.sqlite.specs.Files.{file_state};
+ghost use Rattle.sqlite.specs.Files.{file_state, Finds, IsOpened};
+ghost use Rattle.sqlite.specs.State.{HasCleanDisk};
 ghost use Rattle.sqlite_std_file.specs.File.{file_is_usable, IsFresh};
 ghost use Rattle.sqlite_wal.specs.Files.{image_at};
 ghost use Rattle.bh_file.specs.Opened.{IsOpenedOn};
@@ -9,7 +10,7 @@ ghost use Rattle.bh_file.specs.Opened.{IsOpenedOn};
 use crate::fault::OpenFault;
 use crate::look::look;
 use sqlite::{Connection, FileFrom, FileStore, Options, Start};
-use sqlite_disk::Files;
+use sqlite_disk::{Disk, Files};
 use std::hash::{BuildHasher, RandomState};
 use std::io;
 
@@ -71,6 +72,20 @@ pub fn open_file<S: Start>(
     ensures { IfOk result (λ connection. IsOpenedOn (image_at S.Start) (file_state connection)) }
 {
     let files = open_files(rt, path, start)?;
+    let connection = open_database(rt, files)?;
+    Ok(connection)
+}
+
+/// Opens the database of two files, which stay locked.
+pub fn open_database<D: Disk + Drop>(
+    rt: &HostRuntime,
+    files: Files<D>,
+) -> Result<Connection<FileStore<D>>, OpenFault>
+    requires log { IsTrue (D.Disk.is_usable files.log) }
+    requires db { IsTrue (D.Disk.is_usable files.db) }
+    ensures opened { IfOk result (λ connection. HasCleanDisk (file_state connection) → IsOpened connection) }
+    ensures found { IfOk result (λ connection. HasCleanDisk (file_state connection) → Finds files connection) }
+{
     let options = options(rt)?;
     match Connection::open_files_with(rt.alloc(), files, options, true) {
         Ok(mut connection) => {

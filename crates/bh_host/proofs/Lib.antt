@@ -1,5 +1,6 @@
 mod Apart
 mod Listing
+mod Delivering
 pub mod ToldApart
 mod Turning
 mod Asking

@@ -11,9 +11,10 @@ use Rattle.bh_http.specs.declared.request.Head.{Head}
 use Rattle.bh_http.proofs.BodyLemmas.{gives_none, going_may}
 use Rattle.bh_machine.specs.Machine.{RequestRead, requested}
 use Rattle.bh_model.specs.State.{Octets}
-use Rattle.bh_storage.specs.Answers.{answer_view}
+use Rattle.bh_storage.specs.Answers.{offer_view}
 use Rattle.bh_storage.specs.Calls.{Seen, Clean, Within, IsWorking, Purges, Carries, Operates}
-use Rattle.bh_storage.specs.declared.answer.Answer.{Answer}
+use Rattle.bh_storage.specs.Plans.{IfFound, IsMeasured}
+use Rattle.bh_storage.specs.declared.answer.Offer.{Offer}
 use Rattle.bh_storage.specs.declared.error.Outcome.{Outcome}
 use Rattle.bh_storage.specs.declared.error.Outcome.TheVariants.{Done, Spoilt}
 use Rattle.bh_storage.specs.declared.error.StepError.{StepError}
@@ -21,10 +22,14 @@ use Rattle.bh_storage.specs.declared.error.StepError.TheVariants.{Refused}
 use Rattle.bh_storage.specs.declared.error.Trouble.{Trouble}
 use Rattle.bh_tables.specs.Typed.{Tables}
 use Rattle.bh_view.specs.View.{view, rows_purged}
+use Rattle.bh_host.specs.Answers.{composed_in}
 use Rattle.bh_host.specs.Receives.{Serves}
 use Rattle.bh_host.specs.Replies.{text}
-use Rattle.bh_host.specs.declared.receiving.Served.{Served}
-use Rattle.bh_host.specs.declared.receiving.Served.TheVariants.{Kept, TakenBack}
+use Rattle.bh_host.specs.Turns.{IsActDone}
+use Rattle.bh_host.specs.declared.delivery.Composed.{Composed}
+use Rattle.bh_host.specs.declared.delivery.Composed.TheVariants.{Whole}
+use Rattle.bh_host.specs.declared.delivery.Served.{Served}
+use Rattle.bh_host.specs.declared.delivery.Served.TheVariants.{Kept, TakenBack}
 use Rattle.bh_host.proofs.Turning.{limits_stay, turned_request, turned_nobody}
 
 -- memory or the store was wanting
@@ -38,7 +43,7 @@ served_none clean limits head m before old new result trouble is going = served_
 
 -- a request of nobody is refused once its body came
 pub served_nobody : (clean : Type 0) (limits : HostLimits) (head : Head) (m : ℕ) (before after : Coming) (old : Tables) (reply : Vec ℕ Global) (e : Rejection) (given : Octets) → Gives before after given → IsWhole after → key_given (with_body head given) ≡ None
-    → ((n : ℕ) → requested limits n (with_body head given) None ≡ Err e) → reply.items ≡ text (RequestRead (Ok (with_body head given))) (Err e) → Serves clean limits head m before after old old (Ok (Kept reply))
+    → ((n : ℕ) → requested limits n (with_body head given) None ≡ Err e) → reply.items ≡ text (RequestRead (Ok (with_body head given))) (Err e) → Serves clean limits head m before after old old (Ok (Kept (Whole reply)))
 served_nobody clean limits head m before after old reply e given gives whole none refused told = record {
   given = given;
   gives = gives;
@@ -51,8 +56,8 @@ module _ {H : Type 0} (IsIntact IsOpen : H → Type 0) (seen : H → Seen) (left
   abbrev Now : Type 0
   Now = Clean IsIntact IsOpen new
 
-  abbrev Came : Result (Outcome Answer Rejection) (StepError Rejection) → Type 0
-  Came outcome = Operates answer_view key.tenant (λ given. requested (seen mid).limits at (with_body head given)) Now before after (seen mid).now (seen new).now outcome
+  abbrev Came : Result (Outcome Offer Rejection) (StepError Rejection) → Type 0
+  Came outcome = Operates (offer_view (seen new).now) key.tenant (λ given. requested (seen mid).limits at (with_body head given)) Now before after (seen mid).now (seen new).now outcome
 
   abbrev Gave : Result Served Trouble → Type 0
   Gave result = Serves Now (seen old).limits head at before after (seen old).now (seen new).now result
@@ -63,26 +68,38 @@ module _ {H : Type 0} (IsIntact IsOpen : H → Type 0) (seen : H → Seen) (left
   clean_old : Now → Clean IsIntact IsOpen old
   clean_old c = let m = clean_mid c in (first.intact m.0, first.opened m.0 m.1)
 
-  pub served_done : (answer : Answer) (reply : Vec ℕ Global) → (Now → IsWorking IsSound (seen new)) → Came (Ok (Done answer)) → ((given : Octets) → reply.items ≡ text (RequestRead (Ok (with_body head given))) (Ok (answer_view answer))) → Gave (Ok (Kept reply))
-  served_done answer reply working o told = record {
-    given = o.given;
-    gives = o.gives;
-    served = (
-      o.decided,
-      λ c. turned_request (seen old).limits answer_view key at (with_body head o.given) (seen old).now (seen mid).now (seen new).now (Ok answer) reply.items (keyed o.given) (purges (clean_mid c))
-          (subst (λ l. Carries {E = Rejection} answer_view key.tenant (requested l at (with_body head o.given)) (seen mid).now (seen new).now (Ok answer)) first.limits (o.carries c))
-          (limits_stay (seen old) (seen new) (works (clean_old c)) (working c) (second.limits ∙ first.limits)) (told o.given),
-    );
-  }
+  -- an answer, and then it is delivered: what the storage shows stays
+  module _ (last : H) (third : Within IsIntact IsOpen seen left new last) (same : Clean IsIntact IsOpen last → seen last ≡ seen new) where
+    still : Clean IsIntact IsOpen last → Now
+    still c = (third.intact c.0, third.opened c.0 c.1)
 
-  pub served_refused : (rejection : Rejection) (reply : Vec ℕ Global) → (Now → IsWorking IsSound (seen new)) → Came (Err (Refused rejection)) → ((given : Octets) → reply.items ≡ text (RequestRead (Ok (with_body head given))) (Err rejection)) → Gave (Ok (Kept reply))
+    pub served_done : (offer : Offer) (made given : Composed) → (Now → IsWorking IsSound (seen new)) → Came (Ok (Done offer)) → (Now → IfFound offer (IsMeasured (seen new).now))
+        → ((body : Octets) (tables : Tables) → IfFound offer (IsMeasured tables) → composed_in tables made ≡ text (RequestRead (Ok (with_body head body))) (Ok (offer_view tables offer)))
+        → (Clean IsIntact IsOpen last → composed_in (seen new).now given ≡ composed_in (seen new).now made)
+        → Serves (Clean IsIntact IsOpen last) (seen old).limits head at before after (seen old).now (seen last).now (Ok (Kept given))
+    served_done offer made given working o measured told delivered = record {
+      given = o.given;
+      gives = o.gives;
+      served = (
+        o.decided,
+        λ c. (
+            let n = still c in
+            subst (λ (s : Seen). IsActDone (seen old).limits (RequestRead (Ok (with_body head o.given))) at (seen old).now s.now (composed_in s.now given)) (sym (same c))
+            (turned_request (seen old).limits (offer_view (seen new).now) key at (with_body head o.given) (seen old).now (seen mid).now (seen new).now (Ok offer) (composed_in (seen new).now given) (keyed o.given) (purges (clean_mid n))
+            (subst (λ l. Carries {E = Rejection} (offer_view (seen new).now) key.tenant (requested l at (with_body head o.given)) (seen mid).now (seen new).now (Ok offer)) first.limits (o.carries n))
+            (limits_stay (seen old) (seen new) (works (clean_old n)) (working n) (second.limits ∙ first.limits)) (delivered c ∙ told o.given (seen new).now (measured n)))
+            ),
+      );
+    }
+
+  pub served_refused : (rejection : Rejection) (reply : Vec ℕ Global) → (Now → IsWorking IsSound (seen new)) → Came (Err (Refused rejection)) → ((given : Octets) → reply.items ≡ text (RequestRead (Ok (with_body head given))) (Err rejection)) → Gave (Ok (Kept (Whole reply)))
   served_refused rejection reply working o told = record {
     given = o.given;
     gives = o.gives;
     served = (
       o.decided,
-      λ c. turned_request {X = Answer} (seen old).limits answer_view key at (with_body head o.given) (seen old).now (seen mid).now (seen new).now (Err (Refused rejection)) reply.items (keyed o.given) (purges (clean_mid c))
-          (subst (λ l. Carries {X = Answer} answer_view key.tenant (requested l at (with_body head o.given)) (seen mid).now (seen new).now (Err (Refused rejection))) first.limits (o.carries c))
+      λ c. turned_request {X = Offer} (seen old).limits (offer_view (seen new).now) key at (with_body head o.given) (seen old).now (seen mid).now (seen new).now (Err (Refused rejection)) reply.items (keyed o.given) (purges (clean_mid c))
+          (subst (λ l. Carries {X = Offer} (offer_view (seen new).now) key.tenant (requested l at (with_body head o.given)) (seen mid).now (seen new).now (Err (Refused rejection))) first.limits (o.carries c))
           (limits_stay (seen old) (seen new) (works (clean_old c)) (working c) (second.limits ∙ first.limits)) (told o.given),
     );
   }

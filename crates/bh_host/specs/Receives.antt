@@ -17,13 +17,14 @@ use Rattle.bh_storage.specs.Calls.{Seen, Clean, LeavesNothingNew, Purges}
 use Rattle.bh_storage.specs.declared.error.Trouble.{Trouble}
 use Rattle.bh_tables.specs.Typed.{Tables}
 use Rattle.bh_view.specs.View.{view, latest_of, limits_in, with_latest, rows_purged}
-use Rattle.bh_host.specs.Replies.{text, reply_bytes, wanting_text}
+use Rattle.bh_host.specs.Replies.{text, wanting_text}
 use Rattle.bh_host.specs.declared.reply.Caller.TheVariants.{Request}
+use Rattle.bh_host.specs.Answers.{composed_in, told_in}
 use Rattle.bh_host.specs.Turns.{IsActDone}
-use Rattle.bh_host.specs.declared.receiving.Served.{Served}
-use Rattle.bh_host.specs.declared.receiving.Served.TheVariants.{Kept, TakenBack}
-use Rattle.bh_host.specs.declared.receiving.Tried.{Tried}
-use Rattle.bh_host.specs.declared.receiving.Tried.TheVariants as tried
+use Rattle.bh_host.specs.declared.delivery.Served.{Served}
+use Rattle.bh_host.specs.declared.delivery.Served.TheVariants.{Kept, TakenBack}
+use Rattle.bh_host.specs.declared.delivery.Tried.{Tried}
+use Rattle.bh_host.specs.declared.delivery.Tried.TheVariants as tried
 
 -- the reading of a request, by its head and the bytes of its body that came: with fewer than it announces it is incomplete
 abbrev pub answered : Head → Octets → Result Taken Refusal
@@ -48,19 +49,19 @@ abbrev pub HasCome : Coming → Type 0
 HasCome body = (body.due ≡ 0) ⊎ IsAtEnd body.left
 
 abbrev pub IfKept : Served → Type 0 → Type 0
-IfKept (Kept text) P = P
+IfKept (Kept composed) P = P
 IfKept (TakenBack t text) P = Unit {0}
 
 abbrev pub IfApplied : Tried → Type 0 → Type 0
-IfApplied (tried.Applied told) P = P
+IfApplied (tried.Applied replied) P = P
 IfApplied (tried.TakenBack t text) P = Unit {0}
 
 -- ---- the stages
 
 -- a request at the stamp m, before its transaction ends: answered as its turn, or refused; or wanting, or its body broke off
 abbrev pub ServedAs : Type 0 → HostLimits → Head → Octets → ℕ → Tables → Tables → Coming → Result Served Trouble → Type 0
-ServedAs clean limits head given m stamped new after (Ok (Kept text)) =
-    IsWhole after × (clean → IsActDone limits (RequestRead (Ok (with_body head given))) m stamped new text.items)
+ServedAs clean limits head given m stamped new after (Ok (Kept composed)) =
+    IsWhole after × (clean → IsActDone limits (RequestRead (Ok (with_body head given))) m stamped new (composed_in new composed))
 ServedAs clean limits head given m stamped new after (Ok (TakenBack t text)) =
     IsWhole after × (owner (with_body head given) ≡ Some t) × (clean → IsRefusedAs limits t (with_body head given) m (rows_purged t m stamped) text.items)
 ServedAs clean limits head given m stamped new after (Err trouble) = MayBreak after
@@ -89,7 +90,7 @@ module _ {H : Type 0} (IsIntact IsOpen : H → Type 0) (seen : H → Seen) (left
 
   -- a transaction that was begun for a request: committed; to be taken back, with the text of its refusal; or wanting
   abbrev pub TriedAs : ℕ → Head → Octets → Coming → H → H → Result Tried Trouble → Type 0
-  TriedAs reading head given after old new (Ok (tried.Applied told)) = IsWhole after × HasApplied reading (Ok (with_body head given)) old new told.stamp (reply_bytes told.reply)
+  TriedAs reading head given after old new (Ok (tried.Applied replied)) = IsWhole after × HasApplied reading (Ok (with_body head given)) old new (told_in (seen new).now replied).0 (told_in (seen new).now replied).1
   TriedAs reading head given after old new (Ok (tried.TakenBack t text)) =
       IsWhole after
       × (owner (with_body head given) ≡ Some t)

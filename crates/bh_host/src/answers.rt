@@ -1,11 +1,12 @@
-ghost use Rattle.std.specs.Prelude.{◌≡◌, map, IfOk};
+ghost use Rattle.std.specs.Prelude.{◌≡◌, [], length, map, IfOk};
 ghost use Rattle.std.specs.String.{string_bytes};
 ghost use Rattle.bh_docs.specs.Documents.{bucket_view, usage_view};
 ghost use Rattle.bh_docs.specs.Pages.{page_view, versions_view, uploads_view, parts_view};
 ghost use Rattle.bh_http.specs.Answers.{response_view};
 ghost use Rattle.bh_host.specs.Replies as spec;
-ghost use Rattle.bh_model.specs.Operations.{Buckets, Versioning, Objects, Versions, Lifecycle, Retention, Uploads, Parts, PartStored, Used};
-ghost use Rattle.bh_storage.specs.Answers.{answer_view, removed_answer, stored_answer, copied_answer, head_answer, found_answer, begun_answer, completed_answer};
+ghost use Rattle.bh_model.specs.State.{Octets};
+ghost use Rattle.bh_model.specs.Operations.{Object, Buckets, Versioning, Objects, Versions, Lifecycle, Retention, Uploads, Parts, PartStored, Used};
+ghost use Rattle.bh_storage.specs.Answers.{answer_view, removed_answer, stored_answer, copied_answer, head_answer, begun_answer, completed_answer};
 
 use bh_docs::{
     BucketEntry, ObjectsPage, PartsPage, UploadsPage, Usage, VersionsPage, begun_document,
@@ -17,8 +18,7 @@ use bh_http::StatusCode;
 use bh_http::response::Response;
 use bh_http::values::{ContentRange, ContentType};
 use bh_storage::answer::{
-    Answer, BegunUpload, CompletedUpload, CopiedVersion, FoundVersion, ObjectHead, RemovedEntry,
-    StoredVersion,
+    Answer, BegunUpload, CompletedUpload, CopiedVersion, ObjectHead, RemovedEntry, StoredVersion,
 };
 use bh_types::bucket_state::BucketState;
 use bh_types::moment::Moment;
@@ -35,7 +35,6 @@ pub fn response_to(alloc: Global, answer: Answer) -> Result<Response, AllocError
         Answer::Stored(version) => Ok(stored(alloc, version)),
         Answer::Copied(version) => copied(alloc, &version),
         Answer::Head(head) => Ok(headed(alloc, head)),
-        Answer::Found(version) => Ok(found(alloc, version)),
         Answer::Buckets(buckets) => listed(alloc, &buckets),
         Answer::Versioning(state) => versioning(alloc, state),
         Answer::Objects(page) => objects(alloc, &page),
@@ -93,16 +92,18 @@ fn headed(alloc: Global, head: ObjectHead) -> Response
     response
 }
 
-/// An object's bytes, or the part of them that was asked for (RFC 9110, section 15.3.7).
-fn found(alloc: Global, version: FoundVersion) -> Response
-    ensures { response_view result ≡ spec.response_to (found_answer version) }
+/// The head of an object's bytes, or of the part of them that was asked for (RFC 9110, section 15.3.7): so many.
+pub fn found(alloc: Global, head: ObjectHead, range: RangePlan, count: u64) -> Response
+    ensures is { (bytes : Octets) → count ≡ length bytes
+        → record (response_view result) { body = bytes }
+        ≡ spec.response_to (Object head.id head.size range bytes (string_bytes head.checksum)) }
+    ensures bare { (response_view result).body ≡ [] }
 {
-    let size = version.head.size;
-    let mut response = headed(alloc, version.head);
-    response.status = status_for(version.plan);
-    response.content_length = Some(version.bytes.len() as u64);
-    response.content_range = part_told(size, version.plan);
-    response.body = version.bytes;
+    let size = head.size;
+    let mut response = headed(alloc, head);
+    response.status = status_for(range);
+    response.content_length = Some(count);
+    response.content_range = part_told(size, range);
     response
 }
 

@@ -13,6 +13,7 @@ ghost use Rattle.bh_host.specs.Replies.{clock_text, reply_bytes};
 ghost use Rattle.bh_host.specs.Replies as reply;
 ghost use Rattle.bh_host.specs.Turns.{IsServed, IsActDone, IsSweepDone, IsReportDone, IsListDone, IsOrder, IsToldApart, WouldApply, AppliedTo, request_at};
 
+use crate::delivery::{Delivery, Replied};
 use crate::lists::tenants_line;
 use crate::receiving::{receive, refuse_unread, wanting};
 use crate::reply::{Caller, Reply, order_text, refusal_line, report_line, sweep_line};
@@ -249,8 +250,11 @@ fn apply_headed<H: Storage>(
         return refuse_unread(alloc, routes, host, reading, Refusal::IncompleteBody);
     }
     let mut body = WholeBody::new(&rest[..head.body_size as usize]);
-    match receive(alloc, routes, host, reading, head, &mut body) {
-        Some(told) => told,
+    let delivery = Delivery::AtOnce;
+    match receive(alloc, routes, host, reading, head, &mut body, delivery) {
+        Some(Replied::Told(told)) => told,
+        // Nothing is left to be read.
+        Some(Replied::Planned(_)) => wanting(Trouble::Store),
         // No reader of it can fail.
         None => wanting(Trouble::Body),
     }

@@ -2,6 +2,7 @@
 #![tactic(auto)]
 
 mod answers;
+mod delivery;
 mod event;
 mod events;
 pub mod laws;
@@ -10,6 +11,7 @@ mod receiving;
 mod reply;
 mod serve;
 
+pub use delivery::{Delivery, PlannedReply, Replied};
 pub use event::{Told, apply};
 pub use events::run;
 pub use receiving::{receive, refuse_unread};

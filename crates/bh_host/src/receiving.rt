@@ -1,6 +1,6 @@
 //! A request whose head was read, and whose body comes in pieces.
 
-ghost use Rattle.std.specs.Prelude.{◌≡◌, ◌⊎◌, ◌≤◌, ℕ, None, Some, Err, IfOk, OnOk, OnErr, option_map};
+ghost use Rattle.std.specs.Prelude.{◌≡◌, ◌⊎◌, ◌≤◌, ℕ, None, Some, Ok, Err, IfOk, IfSome, OnOk, OnErr, option_map};
 ghost use Rattle.std.specs.Option.{option_copied};
 ghost use Rattle.bh_http.specs.Credentials.{key_given};
 ghost use Rattle.bh_http.specs.Views.{with_body};
@@ -11,18 +11,25 @@ ghost use Rattle.bh_model.specs.State.{Octets};
 ghost use Rattle.bh_storage.specs.Calls.{Clean, Within, LeavesSound, IsAtRest, IsWorking};
 ghost use Rattle.bh_tables.specs.Typed.{Tables};
 ghost use Rattle.bh_view.specs.View.{latest_of};
-ghost use Rattle.bh_host.specs.Answers.{told};
+ghost use Rattle.bh_storage.specs.Answers.{found_answer, offer_view};
+ghost use Rattle.bh_storage.specs.Plans.{IfFound, IsMeasured};
+ghost use Rattle.bh_host.specs.Answers.{composed_in, told, told_in, IsServedWhole, IsTriedWhole, IsToldWhole};
 ghost use Rattle.bh_host.specs.Receives.{Serves, Tries, AnewAs, Receives, IsStamp, Records, IfKept, IfApplied};
 ghost use Rattle.bh_host.specs.Replies.{text, wanting_text};
+ghost use Rattle.bh_host.specs.declared.delivery.Delivery.TheVariants.{AtOnce};
 ghost use Rattle.bh_host.specs.declared.reply.Caller.TheVariants.{Request};
 
+use crate::delivery::{Composed, Delivery, Replied, Served, Tried, delivered, replied_at};
 use crate::event::Told;
-use crate::reply::{Caller, Reply, answer_text, refused_request_text, unread_text};
+use crate::reply::{
+    Caller, Reply, answer_text, found_text, is_head, refused_request_text, unread_text,
+};
 use crate::serve::{requested, stranger_refusal};
 use bh_http::body::{Body, Break, drain};
 use bh_http::credentials::access_key_of;
 use bh_http::request::Head;
 use bh_operation::routes::Routes;
+use bh_storage::answer::{FoundVersion, Offer};
 use bh_storage::error::{Outcome, StepError, Trouble};
 use bh_storage::storage::Storage;
 use bh_types::access_key::AccessKeyId;
@@ -30,22 +37,32 @@ use bh_types::moment::Moment;
 use bh_types::names::TenantName;
 use bh_types::refusal::Refusal;
 use bh_types::rejection::Rejection;
-use std::alloc::Global;
+use std::alloc::{AllocError, Global};
 
-/// What a request was answered, before its transaction ends.
-#[derive(Drop)]
-pub enum Served {
-    Kept(Vec<u8>),
-    /// A refusal of a tenant's request, after which the tables are to be taken back.
-    TakenBack(TenantName, Vec<u8>),
+/// The answer to a request of this head, whatever its body, where an object was found. A request for the head alone gets no
+/// byte of it.
+fn found(alloc: Global, head: &Head, version: FoundVersion) -> Result<Composed, AllocError>
+    ensures { (body : Octets) (tables : Tables) → IsMeasured tables version → IfOk result (λ composed. composed_in tables composed
+        ≡ text (RequestRead (Ok (with_body head.now body))) (Ok (found_answer tables version))) }
+{
+    let count = version.plan.left;
+    let bytes = found_text(alloc, version.head, version.range, count)?;
+    if is_head(head.method) {
+        Ok(Composed::Whole(bytes))
+    } else {
+        Ok(Composed::Planned(bytes, version.plan))
+    }
 }
 
-/// What a transaction for a request came to.
-#[derive(Drop)]
-pub enum Tried {
-    Applied(Told),
-    /// A refusal: only the stamp and the going of the tenant's stale uploads are to be recorded.
-    TakenBack(TenantName, Vec<u8>),
+/// The answer to a request of this head, whatever its body. Of an object no byte is read yet.
+fn offered(alloc: Global, head: &Head, offer: Offer) -> Result<Composed, AllocError>
+    ensures { (body : Octets) (tables : Tables) → IfFound offer (IsMeasured tables) → IfOk result (λ composed. composed_in tables composed
+        ≡ text (RequestRead (Ok (with_body head.now body))) (Ok (offer_view tables offer))) }
+{
+    match offer {
+        Offer::Whole(answer) => Ok(Composed::Whole(answer_text(alloc, head, answer)?)),
+        Offer::Planned(version) => found(alloc, head, version),
+    }
 }
 
 /// A request of the tenant of this access key.
@@ -57,6 +74,7 @@ fn serve_tenant<H: Storage, B: Body>(
     at: Moment,
     head: &Head,
     body: &mut B,
+    delivery: Delivery,
 ) -> Result<Served, Trouble>
     requires keyed { (given : Octets) → key_given (with_body head.now given) ≡ Some key }
     requires working { Clean H.IsIntact H.IsOpen host.old → IsWorking H.IsSoundStore (H.seen host.old) }
@@ -67,16 +85,21 @@ fn serve_tenant<H: Storage, B: Body>(
     ensures working { IfOk result (λ served. IfKept served (Clean H.IsIntact H.IsOpen host.new → IsWorking H.IsSoundStore (H.seen host.new))) }
     ensures serves { Serves (Clean H.IsIntact H.IsOpen host.new) (H.seen host.old).limits head.now at (B.coming body.old) (B.coming body.new)
         (H.seen host.old).now (H.seen host.new).now result }
+    ensures whole { IfOk result (λ served. delivery ≡ AtOnce → IsServedWhole served) }
 {
     host.purge(alloc, &key.tenant, at)?;
     match requested(alloc, routes, host, &key, at, head, body) {
-        Ok(Outcome::Done(answer)) => Ok(Served::Kept(answer_text(alloc, head, answer)?)),
+        Ok(Outcome::Done(offer)) => {
+            let composed = offered(alloc, head, offer)?;
+            Ok(Served::Kept(delivered(alloc, host, delivery, composed)?))
+        }
         Ok(Outcome::Spoilt(rejection)) => {
             let text = refused_request_text(alloc, routes, head, rejection)?;
             Ok(Served::TakenBack(key.tenant, text))
         }
         Err(StepError::Refused(rejection)) => {
-            Ok(Served::Kept(refused_request_text(alloc, routes, head, rejection)?))
+            let text = refused_request_text(alloc, routes, head, rejection)?;
+            Ok(Served::Kept(Composed::Whole(text)))
         }
         Err(StepError::Failed(trouble)) => Err(trouble),
     }
@@ -90,6 +113,7 @@ fn serve<H: Storage, B: Body>(
     at: Moment,
     head: &Head,
     body: &mut B,
+    delivery: Delivery,
 ) -> Result<Served, Trouble>
     requires working { Clean H.IsIntact H.IsOpen host.old → IsWorking H.IsSoundStore (H.seen host.old) }
     requires early { Clean H.IsIntact H.IsOpen host.old → at ≤ latest_of (H.seen host.old).now }
@@ -99,13 +123,15 @@ fn serve<H: Storage, B: Body>(
     ensures working { IfOk result (λ served. IfKept served (Clean H.IsIntact H.IsOpen host.new → IsWorking H.IsSoundStore (H.seen host.new))) }
     ensures serves { Serves (Clean H.IsIntact H.IsOpen host.new) (H.seen host.old).limits head.now at (B.coming body.old) (B.coming body.new)
         (H.seen host.old).now (H.seen host.new).now result }
+    ensures whole { IfOk result (λ served. delivery ≡ AtOnce → IsServedWhole served) }
 {
     match access_key_of(alloc, head)? {
-        Some(key) => serve_tenant(alloc, routes, host, key, at, head, body),
+        Some(key) => serve_tenant(alloc, routes, host, key, at, head, body, delivery),
         None => {
             drain(body)?;
             let rejection = Rejection::from(stranger_refusal(head));
-            Ok(Served::Kept(refused_request_text(alloc, routes, head, rejection)?))
+            let text = refused_request_text(alloc, routes, head, rejection)?;
+            Ok(Served::Kept(Composed::Whole(text)))
         }
     }
 }
@@ -118,6 +144,7 @@ fn try_receive<H: Storage, B: Body>(
     reading: u64,
     head: &Head,
     body: &mut B,
+    delivery: Delivery,
 ) -> Result<Tried, Trouble>
     requires in_range { reading ≤ last_reading }
     requires rest { Clean H.IsIntact H.IsOpen host.old → IsAtRest H.IsSoundStore (H.seen host.old) }
@@ -128,17 +155,15 @@ fn try_receive<H: Storage, B: Body>(
     ensures ready { IfOk result (λ tried. IfApplied tried (Clean H.IsIntact H.IsOpen host.new → IsAtRest H.IsSoundStore (H.seen host.new))) }
     ensures tries { Tries H.IsIntact H.IsOpen H.seen H.left reading head.now (B.coming body.old) (B.coming body.new)
         host.old host.new result }
+    ensures whole { IfOk result (λ tried. delivery ≡ AtOnce → IsTriedWhole tried) }
     ensures leaves { H.IsIntact host.new → LeavesSound H.IsSoundStore H.left host.old host.new }
 {
     host.begin()?;
     let stamp = host.stamp(reading)?;
-    match serve(alloc, routes, host, stamp, head, body)? {
-        Served::Kept(bytes) => {
+    match serve(alloc, routes, host, stamp, head, body, delivery)? {
+        Served::Kept(composed) => {
             host.commit()?;
-            Ok(Tried::Applied(Told {
-                stamp: Some(stamp),
-                reply: Reply::Text(bytes),
-            }))
+            Ok(Tried::Applied(replied_at(stamp, composed)))
         }
         Served::TakenBack(tenant, bytes) => Ok(Tried::TakenBack(tenant, bytes)),
     }
@@ -245,6 +270,8 @@ pub fn refuse_unread<H: Storage>(
 ///
 /// Where too few bytes come, and where it shows after bytes were stored that they have another checksum than is given, the
 /// transaction is taken back, and the stamp (with the going of what is stale) is recorded in a second one.
+///
+/// Of an object that is to be delivered in pieces nothing is read yet, and the store is open then.
 pub fn receive<H: Storage, B: Body>(
     alloc: Global,
     routes: &Routes,
@@ -252,7 +279,8 @@ pub fn receive<H: Storage, B: Body>(
     reading: u64,
     head: &Head,
     body: &mut B,
-) -> Option<Told>
+    delivery: Delivery,
+) -> Option<Replied>
     requires in_range { reading ≤ last_reading }
     requires rest { Clean H.IsIntact H.IsOpen host.old → IsAtRest H.IsSoundStore (H.seen host.old) }
     requires going { (B.coming body.old).broken ≡ None }
@@ -262,22 +290,25 @@ pub fn receive<H: Storage, B: Body>(
     ensures limits { (H.seen host.new).limits ≡ (H.seen host.old).limits }
     ensures ready { Clean H.IsIntact H.IsOpen host.new → IsAtRest H.IsSoundStore (H.seen host.new) }
     ensures receives { Receives H.IsIntact H.IsOpen H.seen H.left reading head.now (B.coming body.old) (B.coming body.new)
-        host.old host.new (option_map told result) }
+        host.old host.new (option_map (told_in (H.seen host.new).now) result) }
+    ensures whole { delivery ≡ AtOnce → IfSome result IsToldWhole }
     ensures leaves { H.IsIntact host.new → LeavesSound H.IsSoundStore H.left host.old host.new }
 {
-    match try_receive(alloc, routes, host, reading, head, body) {
-        Ok(Tried::Applied(told)) => Some(told),
+    match try_receive(alloc, routes, host, reading, head, body, delivery) {
+        Ok(Tried::Applied(replied)) => Some(replied),
         Ok(Tried::TakenBack(tenant, text)) => {
             host.take_back();
-            Some(answer_anew(alloc, host, reading, Some(&tenant), text))
+            let told = answer_anew(alloc, host, reading, Some(&tenant), text);
+            Some(Replied::Told(told))
         }
         Err(trouble) => {
             host.take_back();
             match body.broken() {
-                None => Some(wanting(trouble)),
+                None => Some(Replied::Told(wanting(trouble))),
                 Some(Break::Failed) => None,
                 Some(Break::Ended) => {
-                    Some(refuse_unread(alloc, routes, host, reading, Refusal::IncompleteBody))
+                    let refusal = Refusal::IncompleteBody;
+                    Some(Replied::Told(refuse_unread(alloc, routes, host, reading, refusal)))
                 }
             }
         }

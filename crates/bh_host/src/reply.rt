@@ -1,18 +1,19 @@
-ghost use Rattle.std.specs.Prelude.{◌≡◌, ℕ, List, Ok, Err, IfOk};
+ghost use Rattle.std.specs.Prelude.{◌≡◌, ℕ, List, [], codes, length, Ok, Err, IfOk};
+ghost use Rattle.std.specs.Str.{bytes_eq};
 ghost use Rattle.bh_event.specs.Events.{order_of};
 ghost use Rattle.bh_http.specs.Answers.{response_view, refused};
 ghost use Rattle.bh_http.specs.Responses.{response_text, refusal_text};
 ghost use Rattle.bh_http.specs.Views.{with_body};
 ghost use Rattle.bh_docs.specs.Documents.{usage_view};
 ghost use Rattle.bh_machine.specs.Machine.{RequestRead};
-ghost use Rattle.bh_model.specs.Operations.{Used};
+ghost use Rattle.bh_model.specs.Operations.{Object, Used};
 ghost use Rattle.bh_storage.specs.Answers.{answer_view};
 ghost use Rattle.bh_types.specs.Rejections.{plain};
 ghost use Rattle.std.specs.String.{string_bytes};
 ghost use Rattle.bh_host.specs.Replies as spec;
 ghost use Rattle.bh_host.specs.Turns.{TellsOrder};
 
-use crate::answers::response_to;
+use crate::answers::{found, response_to};
 use crate::lists::names_end;
 use bh_docs::reply::{Usage, error_document};
 use bh_event::event::Command;
@@ -24,9 +25,10 @@ use bh_http::values::{Allow, ContentRange};
 use bh_operation::allow::allow_of;
 use bh_operation::path_of;
 use bh_operation::routes::Routes;
-use bh_storage::answer::Answer;
+use bh_storage::answer::{Answer, ObjectHead};
 use bh_storage::error::{StepError, Trouble};
 use bh_storage::report::{StoreReport, SweepReport};
+use bh_types::range::RangePlan;
 use bh_types::refusal::Refusal;
 use bh_types::rejection::{Detail, Rejection};
 use std::alloc::{AllocError, Global};
@@ -114,6 +116,20 @@ pub fn answer_text(alloc: Global, head: &Head, answer: Answer) -> Result<Vec<u8>
     sent_text(alloc, head.method, response)
 }
 
+/// What comes before the bytes of an object, or of the part of them that was asked for: so many are to follow.
+pub fn found_text(
+    alloc: Global,
+    head: ObjectHead,
+    range: RangePlan,
+    count: u64,
+) -> Result<Vec<u8>, AllocError>
+    ensures { (bytes : List ℕ) → count ≡ length bytes → IfOk result (λ text. text.items ≡ response_text
+        (record (spec.response_to (Object head.id head.size range bytes (string_bytes head.checksum))) { body = [] })) }
+{
+    let response = found(alloc, head, range, count);
+    response_bytes(alloc, &response)
+}
+
 /// The bytes of a response to a request of this method.
 fn sent_text(alloc: Global, method: &[u8], response: Response) -> Result<Vec<u8>, AllocError>
     ensures { IfOk result (λ bytes. bytes.items ≡ response_text (spec.sent_for method.now (response_view response))) }
@@ -122,11 +138,18 @@ fn sent_text(alloc: Global, method: &[u8], response: Response) -> Result<Vec<u8>
     response_bytes(alloc, &sent)
 }
 
+/// Whether a method asks for the head of a response alone.
+pub fn is_head(method: &[u8]) -> bool
+    ensures { result ≡ bytes_eq method.now (codes "HEAD") }
+{
+    matches!(method, b"HEAD")
+}
+
 /// The response to this method: HEAD is answered with the head alone (RFC 9110, section 9.3.2).
 fn sent_for(alloc: Global, method: &[u8], response: Response) -> Response
     ensures { response_view result ≡ spec.sent_for method.now (response_view response) }
 {
-    if matches!(method, b"HEAD") {
+    if is_head(method) {
         let mut head = response;
         head.body = Vec::new(alloc);
         head

@@ -4,7 +4,8 @@ ghost use Rattle.bh_http.specs.Credentials.{key_given};
 ghost use Rattle.bh_http.specs.Views.{with_body};
 ghost use Rattle.bh_machine.specs.Machine as machine;
 ghost use Rattle.bh_model.specs.State.{Octets};
-ghost use Rattle.bh_storage.specs.Answers.{answer_view};
+ghost use Rattle.bh_storage.specs.Answers.{offer_view};
+ghost use Rattle.bh_storage.specs.Plans.{IfPlanned, IsMeasured};
 ghost use Rattle.bh_storage.specs.Calls.{Clean, Within, Decides, IsWorking, Unless, UnlessSpoilt, Operates};
 ghost use Rattle.bh_types.specs.Limits.{HostLimits};
 ghost use Rattle.bh_types.specs.Rejections.{plain};
@@ -16,7 +17,7 @@ use bh_http::credentials::secret_of;
 use bh_http::request::Head;
 use bh_operation::operation::{Operation, operation_of};
 use bh_operation::routes::Routes;
-use bh_storage::answer::Answer;
+use bh_storage::answer::Offer;
 use bh_storage::error::{Outcome, StepError, Trouble};
 use bh_storage::storage::Storage;
 use bh_types::access_key::AccessKeyId;
@@ -78,7 +79,7 @@ pub fn requested<H: Storage, B: Body>(
     at: Moment,
     head: &Head,
     body: &mut B,
-) -> Result<Outcome<Answer, Rejection>, StepError<Rejection>>
+) -> Result<Outcome<Offer, Rejection>, StepError<Rejection>>
     requires keyed { (given : Octets) → key_given (with_body head.now given) ≡ Some key.now }
     requires working { Clean H.IsIntact H.IsOpen host.old → IsWorking H.IsSoundStore (H.seen host.old) }
     requires early { Clean H.IsIntact H.IsOpen host.old → at ≤ latest_of (H.seen host.old).now }
@@ -86,8 +87,10 @@ pub fn requested<H: Storage, B: Body>(
     ensures within { Within H.IsIntact H.IsOpen H.seen H.left host.old host.new }
     ensures opens { UnlessSpoilt result (H.IsOpen host.old → H.IsIntact host.new → H.IsOpen host.new) }
     ensures working { UnlessSpoilt result (Clean H.IsIntact H.IsOpen host.new → IsWorking H.IsSoundStore (H.seen host.new)) }
-    ensures operates { Operates answer_view key.now.tenant (λ given. machine.requested (H.seen host.old).limits at (with_body head.now given))
+    ensures operates { Operates (offer_view (H.seen host.new).now) key.now.tenant
+        (λ given. machine.requested (H.seen host.old).limits at (with_body head.now given))
         (Clean H.IsIntact H.IsOpen host.new) (B.coming body.old) (B.coming body.new) (H.seen host.old).now (H.seen host.new).now result }
+    ensures measured { IfPlanned result (λ found. Clean H.IsIntact H.IsOpen host.new → IsMeasured (H.seen host.new).now found) }
 {
     match operation_asked(alloc, routes, host, key, head) {
         Ok(operation) => host.operate(alloc, &key.tenant, at, &operation, body),

@@ -78,7 +78,8 @@ fn read_version(row: &Row) -> Result<VersionLine, Error>
 }
 
 fn read_versions(alloc: Global, rows: &[Row]) -> Result<Vec<VersionLine>, Error>
-    ensures { IfOk result (λ lines. (vs : _) → rows.now ≡ map shown_numbered vs → map versions.seen_line lines.items ≡ map row_numbered vs) }
+    ensures { IfOk result (λ lines. (vs : _) → rows.now ≡ map shown_numbered vs → map versions.seen_line lines.items
+        ≡ map row_numbered vs) }
 {
     let mut lines = Vec::with_capacity(alloc, rows.len())?;
     for row in rows {

@@ -14,7 +14,8 @@ ghost use Rattle.bh_pages.specs.Gathered.{IsPage};
 ghost use Rattle.bh_pages.specs.Versions.{seen_entry};
 ghost use Rattle.bh_docs.specs.Pages.{versions_view};
 ghost use Rattle.bh_listing.specs.Told.{asked_view};
-ghost use Rattle.bh_listing.specs.Versions.{own_rows, versions_of_rows, listed_from, seen_start, past_marker, past_entry, marked, place_view};
+ghost use Rattle.bh_listing.specs.Versions.{own_rows, versions_of_rows, listed_from, seen_start, past_marker, past_entry, marked};
+ghost use Rattle.bh_listing.specs.Versions.{place_view};
 
 use crate::lines::lines_at;
 use crate::told_versions::told_versions;

@@ -1,5 +1,5 @@
 -- What a subcommand prints, and its status.
-use Rattle.std.specs.Prelude.{◌≡◌, ℕ, Bool, false, nat_le, ◌&&◌, List, [], ◌∷◌, ◌++◌, codes, if◌then◌else◌}
+use Rattle.std.specs.Prelude.{◌≡◌, ℕ, Bool, false, nat_le, ◌&&◌, ◌||◌, List, [], ◌∷◌, ◌++◌, codes, if◌then◌else◌}
 use Rattle.std.specs.Str.{bytes_eq}
 use Rattle.bh_types.specs.declared.refusal.Refusal.{Refusal}
 use Rattle.bh_http.specs.Responses.{refusal_text}
@@ -18,9 +18,9 @@ is_refusal (b ∷ text) = nat_le 48 b && nat_le b 57
 abbrev pub status_of : List ℕ → ℕ
 status_of text = if is_refusal text then 1 else 0
 
--- so for a line that a host that serves didn't take
+-- so for a line that a host that serves didn't take, and for a backup that it didn't make
 abbrev pub status_told : List ℕ → ℕ
-status_told text = if bytes_eq text (codes "bad line") then 1 else status_of text
+status_told text = if bytes_eq text (codes "bad line") || bytes_eq text (codes "fault") then 1 else status_of text
 
 -- what a refusal prints
 abbrev pub refused_line : Refusal → List ℕ
@@ -40,7 +40,7 @@ pub record IsFault (printed : Printed) : Type 0 where
   pub text : printed.text.items ≡ line_of (codes "fault")
   pub status : printed.status ≡ 1
 
--- a host's reply to a line that was sent to it, and status 1 where it is a refusal or `bad line`
+-- a host's reply to a line that was sent to it, and status 1 where it is a refusal, `bad line` or `fault`
 pub record IsReply (reply : List ℕ) (printed : Printed) : Type 0 where
   pub text : printed.text.items ≡ line_of reply
   pub status : printed.status ≡ status_told reply

@@ -62,6 +62,8 @@ pub enum Fault {
     Secret { path: String, reason: SecretFault },
     /// A file of an operator's secret was named, and no port for operators.
     NoOperatorPort,
+    /// A host that was closed to be copied couldn't be opened again.
+    LostHost,
     /// A host that was told a line closed the connection before it had answered.
     NoReply,
 }
@@ -125,6 +127,7 @@ impl fmt::Display for Fault {
             Fault::NoOperatorPort => f.write_str(
                 "error: '--operator-secret-file <operator-secret-file>' needs '--operator-port <operator-port>'\n\nFor more information, try '--help'.\n",
             ),
+            Fault::LostHost => f.write_str("the host isn't open any more"),
             Fault::NoReply => f.write_str("the host closed the connection without a reply"),
         }
     }

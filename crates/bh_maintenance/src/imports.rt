@@ -7,7 +7,8 @@ ghost use Rattle.sqlite_wal.specs.Files.{image_at};
 ghost use Rattle.bh_blocks.specs.Digests.{digest_by};
 ghost use Rattle.bh_maintenance.specs.Files.{HoldsSoundHost};
 ghost use Rattle.bh_maintenance.specs.Found.{IsReadyByRow};
-ghost use Rattle.bh_maintenance.specs.Moves.{Stays, TellsName, HasNoName, IsOneName, Imports, IsImportedInto, ImportsTo, IsImportedOf, IsImported};
+ghost use Rattle.bh_maintenance.specs.Moves.{Stays, TellsName, HasNoName, IsOneName, Imports, IsImportedInto, ImportsTo, IsImportedOf};
+ghost use Rattle.bh_maintenance.specs.Moves.{IsImported};
 ghost use Rattle.bh_maintenance.specs.Printing.{IsLine};
 
 use crate::ending::{Done, Ended, close, leave, let_go};

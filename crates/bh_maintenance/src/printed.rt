@@ -66,7 +66,7 @@ impl Printed {
         ensures { IfOk result (IsReply reply.now) }
     {
         let Printed { text, status } = Printed::line(alloc, reply)?;
-        if reply == b"bad line".as_slice() {
+        if reply == b"bad line".as_slice() || reply == b"fault".as_slice() {
             return Ok(Printed { text, status: 1 });
         }
         Ok(Printed { text, status })

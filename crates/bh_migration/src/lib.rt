@@ -9,7 +9,8 @@ ghost use Rattle.bh_tables.specs.Hosts.{IsOfVersion1, brought_over, tables_shown
 ghost use Rattle.bh_tables.specs.Typed.{IsHost, IsFirstHost};
 ghost use Rattle.bh_schema.specs.Connections.{IsIntact, IsOpen, IsClean, stands, tables, StaysWithin, StaysOpen, IsTroubleIf};
 ghost use Rattle.bh_schema.specs.Layer.{Leaves, Holds, taken_back, KeepsDisk};
-ghost use Rattle.bh_migration.specs.Migration.{IsFirst, IsInsideFirst, IsHalfway, HasAll, HasLocks, HasRetains, Brings, Settles, LeavesChanged};
+ghost use Rattle.bh_migration.specs.Migration.{IsFirst, IsInsideFirst, IsHalfway, HasAll, HasLocks, HasRetains, Brings, Settles};
+ghost use Rattle.bh_migration.specs.Migration.{LeavesChanged};
 
 use bh_schema::rows::transactions::{begin, commit, take_back};
 use sqlite::{Alter, Connection, Error};

@@ -1,11 +1,14 @@
 -- GetObject and HeadObject: the row that was read is the version that the machine finds.
-use Rattle.std.proofs.Common.{◌≡◌, ℕ, zero, suc, length, is_ok, true≢false, filter, Option, Some, None, option_map, Result, Ok, Err, refl, sym, ap, ◌∙◌}
+use Rattle.std.proofs.Common.{◌≡◌, ℕ, zero, suc, ◌+◌, ◌-◌, drop, length, length-drop, length-take, arith, is_ok, true≢false, filter, Option, Some, None, option_map, Result, Ok, Err, refl, sym, ap, ◌∙◌}
 use Rattle.std.specs.Result.{result_map_both}
+use Rattle.std.proofs.lemmas.Bool.Decides.{nat_tests}
 use Rattle.std.specs.FinMap.{get}
 use Rattle.bh_types.specs.Outcomes.{◌>>=◌}
 use Rattle.bh_types.specs.Ranges.{cut}
 use Rattle.bh_types.specs.declared.bucket_state.BucketState.{BucketState}
 use Rattle.bh_types.specs.declared.range.RangePlan.{RangePlan}
+use Rattle.bh_types.specs.declared.range.RangePlan.TheVariants.{Whole, Part}
+use Rattle.bh_blocks.specs.Plans.{size_of}
 use Rattle.bh_types.specs.declared.refusal.Refusal.TheVariants.{NoSuchKey, MethodNotAllowed}
 use Rattle.bh_types.specs.declared.rejection.Rejection.{Rejection}
 use Rattle.bh_types.specs.declared.wanted.Wanted.{Wanted}
@@ -174,6 +177,14 @@ module _ (tables : Tables) (t b k : Octets) (sound : IsSound tables) (mode : Buc
           planned_at ∙ ap (λ r. r >>= (λ p. Ok (Object (id_told mode (id_of head.id)) head.size p (cut p its.row.bytes) head.checksum, view tables t))) within
           ∙ ap (λ l. Ok (Object (id_told mode (id_of head.id)) head.size plan l head.checksum, view tables t)) kept
 
+-- a range names so many bytes
+pub cut_length : (range : RangePlan) (size : ℕ) (bytes : Octets) → length bytes ≡ size → length (cut range bytes) ≡ size_of range size
+cut_length Whole size bytes is = is
+cut_length (Part first last) size bytes is =
+    let rest = length-drop first bytes in
+    let part = length-take (last + 1 - first) (drop first bytes) in
+    grind (arith, nat_tests)
+
 -- ---- the calls, one after another
 
 abbrev pub as_object : RangePlan → Octets → Answer → Answer
@@ -226,3 +237,10 @@ module _ (old middle : Tables) (t b k : Octets) (sound : IsSound old) (mode : Bu
           latest = ap latest_of same;
           shared = shared_none old new same;
         }
+
+  -- the body of the version is as long as its row says
+  pub body_size : (last : Tables) → last ≡ middle → (head : SeenHead) → Looked (Ok head) → IsResolved old → length (whole last.refs last.blocks (t, head.seq)) ≡ head.size
+  body_size last two head e resolved =
+      let is = looked_first (Ok head) e in
+      ap (λ (x : Tables). length (whole x.refs x.blocks (t, head.seq))) (two ∙ one)
+      ∙ ap length (sym (row_bytes old t b k sound mode found wanted head is resolved)) ∙ sym (sized old t b k sound mode found wanted head is)

@@ -14,18 +14,21 @@ use Rattle.bh_view.specs.Blocks.{AreDigests}
 use Rattle.bh_view.specs.Bodies.{HasBodies}
 use Rattle.bh_view.specs.View.{limits_in}
 use Rattle.bh_view.proofs.ResolvedLemmas.{tables_resolved}
-use Rattle.bh_schema.specs.Layer.{Standing, standing, IsIntact, IsStateClean, IsInside, StateWithin}
+use Rattle.bh_schema.specs.Layer.{Standing, standing, IsIntact, IsStateClean, IsInside, IsStandingSettled, StateWithin}
 use Rattle.bh_schema.specs.Working.{tables_at, IsWorking, StillWorking, StillWorkingBy}
 use Rattle.bh_objects.proofs.Written.{IsHostOf}
 
 -- no call
-pub no_call : (s : State) → (IsStateClean s → IsInside (standing s)) → StateWithin s s
-no_call s inside = record {
+pub none_called : (s : State) → (IsStateClean s → IsStandingSettled (standing s)) → StateWithin s s
+none_called s settled = record {
   follows = record { clean = λ clean. clean; intact = λ intact. intact; limit = refl };
   kept = λ clean. refl;
-  settled = λ clean. inl (inside clean).inside;
+  settled = settled;
   survives = λ up intact db left. left;
 }
+
+pub no_call : (s : State) → (IsStateClean s → IsInside (standing s)) → StateWithin s s
+no_call s inside = none_called s (λ clean. inl (inside clean).inside)
 
 -- a question leaves what there was
 pub same_tables : (old new : State) → standing new ≡ standing old → tables_at new ≡ tables_at old

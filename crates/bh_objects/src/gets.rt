@@ -1,23 +1,27 @@
-ghost use Rattle.std.specs.Prelude.{◌≡◌, IfOk, OnOk};
+ghost use Rattle.std.specs.Prelude.{◌≡◌, ◌++◌, ◌+◌, ◌<◌, ◌≤◌, [], length, IfOk, IfSome, IfNone, OnOk, OnErr};
 ghost use Rattle.std.specs.Option.{option_copied};
 ghost use Rattle.bh_types.specs.Ranges.{cut};
 ghost use Rattle.bh_model.specs.Operations as machine;
 ghost use Rattle.bh_view.specs.Blocks.{whole};
 ghost use Rattle.bh_view.specs.Bodies.{HasBodies};
-ghost use Rattle.bh_schema.specs.Connections.{IsClean, tables, InTransaction, StaysWithin, StaysOpen, ChangesNothing};
+ghost use Rattle.bh_schema.specs.Connections.{IsClean, tables, HasHost, StaysWithin, StaysOpen, ChangesNothing};
 ghost use Rattle.bh_cache.specs.Kept.{Agrees};
 ghost use Rattle.bh_schema.specs.Working.{Works, StillWorks};
 ghost use Rattle.bh_storage.specs.Answers.{found_answer};
 ghost use Rattle.bh_storage.specs.Calls.{Unless, Carries};
+ghost use Rattle.bh_storage.specs.Plans.{to_come, IsMeasured};
+ghost use Rattle.bh_tables.specs.Typed.{Tables};
+ghost use Rattle.bh_blocks.specs.Plans.{size_of};
 
 use crate::heads::{told_head, wanted_head};
 use crate::reads::bucket_state;
-use bh_blocks::reading::read_body;
+use bh_blocks::reading::{self, Plan as BodyPlan, Window, plan_body};
 use bh_cache::blocks::BlockCache;
 use bh_core::ranges::range_of;
-use bh_schema::trouble::or_trouble;
+use bh_schema::trouble::trouble_of;
 use bh_storage::answer::FoundVersion;
 use bh_storage::error::{StepError, Trouble};
+use bh_storage::plan::Plan;
 use bh_types::bucket::BucketName;
 use bh_types::counters::COUNTER_END;
 use bh_types::key::ObjectKey;
@@ -41,61 +45,101 @@ fn planned(range: Option<&[u8]>, size: u64) -> Result<RangePlan, Rejection>
     }
 }
 
-/// The bytes that a plan names, of the version with this entry number. Of its blocks only those are read that the
-/// plan touches.
-fn planned_bytes<S: Alter>(
-    connection: &mut Connection<S>,
-    cache: &mut BlockCache,
-    alloc: Global,
-    tenant: &TenantName,
-    seq: u64,
-    plan: RangePlan,
-) -> Result<Vec<u8>, Trouble>
-    requires inside { InTransaction S.Store connection.old }
-    requires kept { IsClean S.Store connection.old → Agrees cache.old (tables S.Store connection.old).blocks }
-    ensures within { StaysWithin S.Store connection.old connection.new }
-    ensures opens { OnOk result (StaysOpen S.Store connection.old connection.new) }
-    ensures same { OnOk result (ChangesNothing S.Store connection.old connection.new) }
-    ensures kept { OnOk result (IsClean S.Store connection.new → Agrees cache.new (tables S.Store connection.new).blocks) }
-    ensures read { IfOk result (λ bytes. IsClean S.Store connection.new → HasBodies (tables S.Store connection.old)
-        → bytes.items ≡ cut plan (whole (tables S.Store connection.old).refs (tables S.Store connection.old).blocks (tenant.now, seq))) }
+/// The plan of the bytes that a range names, of a version with this entry number and so many bytes. No row is read.
+fn version_plan(tenant: &TenantName, seq: u64, size: u64, range: RangePlan) -> Result<Plan, Trouble>
+    ensures names { IfOk result (λ plan. (tables : Tables) → length (whole tables.refs tables.blocks (tenant.now, seq)) ≡ size
+        → to_come plan tables ≡ cut range (whole tables.refs tables.blocks (tenant.now, seq))) }
+    ensures left { IfOk result (λ plan. plan.left ≡ size_of range size) }
 {
     // No counter gives such a number.
     if seq >= COUNTER_END {
         return Err(Trouble::Store);
     }
-    or_trouble(read_body(connection, cache, alloc, tenant.as_str(), seq, plan))
+    let plan = plan_body(tenant.as_str(), seq, size, range);
+    Ok(Plan {
+        tenant: tenant.clone()?,
+        body: seq,
+        place: plan.place,
+        skip: plan.window.skip,
+        left: plan.window.left,
+    })
 }
 
 /// S3's GetObject, where the request may have a Range field: NoSuchBucket, NoSuchKey, NoSuchVersion,
-/// MethodNotAllowed, InvalidRange. Blocks that are read are kept in memory.
+/// MethodNotAllowed, InvalidRange. No block is read: the answer plans the bytes.
 pub fn get_object<S: Alter>(
     connection: &mut Connection<S>,
-    cache: &mut BlockCache,
-    alloc: Global,
     tenant: &TenantName,
     bucket: &BucketName,
     key: &ObjectKey,
     wanted: Wanted,
     range: Option<&[u8]>,
 ) -> Result<FoundVersion, StepError<Rejection>>
-    requires working { Works S.Store connection.old }
-    requires kept { IsClean S.Store connection.old → Agrees cache.old (tables S.Store connection.old).blocks }
+    requires { Works S.Store connection.old }
     ensures within { StaysWithin S.Store connection.old connection.new }
     ensures opens { Unless result (StaysOpen S.Store connection.old connection.new) }
     ensures working { Unless result (StillWorks S.Store connection.old connection.new) }
     ensures carries { IsClean S.Store connection.new
-        → Carries found_answer tenant.now (machine.get_object bucket.now key.now wanted (option_copied range.entry))
+        → Carries (found_answer (tables S.Store connection.new)) tenant.now (machine.get_object bucket.now key.now wanted (option_copied range.entry))
         (tables S.Store connection.old) (tables S.Store connection.new) result }
-    ensures kept { Unless result (IsClean S.Store connection.new → Agrees cache.new (tables S.Store connection.new).blocks) }
+    ensures measured { IfOk result (λ found. IsClean S.Store connection.new → IsMeasured (tables S.Store connection.new) found) }
 {
     let mode = bucket_state(connection, tenant, bucket)?;
     let head = wanted_head(connection, tenant, bucket, key, wanted)?;
-    let plan = planned(range, head.size)?;
-    let bytes = planned_bytes(connection, cache, alloc, tenant, head.seq, plan)?;
+    let range = planned(range, head.size)?;
+    let plan = version_plan(tenant, head.seq, head.size, range)?;
     Ok(FoundVersion {
         head: told_head(mode, head),
+        range,
         plan,
-        bytes,
     })
+}
+
+/// The next bytes of a version, of one block at most: `None` where none are left. It may be called in a transaction, and
+/// outside. An error leaves the plan as it was. A block that is read is kept in memory.
+pub fn next_piece<S: Alter>(
+    connection: &mut Connection<S>,
+    cache: &mut BlockCache,
+    alloc: Global,
+    plan: &mut Plan,
+) -> Result<Option<Vec<u8>>, Trouble>
+    requires host { HasHost S.Store connection.old }
+    requires agrees { IsClean S.Store connection.old → Agrees cache.old (tables S.Store connection.old).blocks }
+    ensures within { StaysWithin S.Store connection.old connection.new }
+    ensures opens { OnOk result (StaysOpen S.Store connection.old connection.new) }
+    ensures same { OnOk result (ChangesNothing S.Store connection.old connection.new) }
+    ensures agrees { OnOk result (IsClean S.Store connection.new → Agrees cache.new (tables S.Store connection.new).blocks) }
+    ensures gives { IfOk result (λ piece. IsClean S.Store connection.new → HasBodies (tables S.Store connection.old) → IfSome piece (λ bytes.
+        to_come plan.old (tables S.Store connection.old) ≡ bytes.items ++ to_come plan.new (tables S.Store connection.old))) }
+    ensures ends { IfOk result (λ piece. IsClean S.Store connection.new → HasBodies (tables S.Store connection.old)
+        → IfNone piece (to_come plan.old (tables S.Store connection.old) ≡ [])) }
+    ensures some { IfOk result (λ piece. IfSome piece (λ bytes. 0 < length bytes.items)) }
+    ensures falls { IfOk result (λ piece. IfSome piece (λ bytes. length bytes.items + plan.new.left ≤ plan.old.left)) }
+    ensures kept { OnErr result (plan.new ≡ plan.old) }
+{
+    // Asked for what it ensures: outside a transaction what stands was committed.
+    let _outside = connection.is_autocommit();
+    // No counter gives such numbers.
+    if plan.body >= COUNTER_END || plan.place >= COUNTER_END {
+        return Err(Trouble::Store);
+    }
+    let mut rest = BodyPlan {
+        tenant: plan.tenant.as_str(),
+        body: plan.body,
+        place: plan.place,
+        window: Window {
+            skip: plan.skip,
+            left: plan.left,
+        },
+    };
+    match reading::next_piece(connection, cache, alloc, &mut rest) {
+        Ok(piece) => {
+            let (place, window) = (rest.place, rest.window);
+            plan.place = place;
+            plan.skip = window.skip;
+            plan.left = window.left;
+            Ok(piece)
+        }
+        Err(error) => Err(trouble_of(error)),
+    }
 }

@@ -1,13 +1,17 @@
--- What an operator's line orders. A line is a JSON object as a line of a script is, of an order: its `at` may be missing, and
--- where it stands it doesn't count.
-use Rattle.std.specs.Prelude.{◌≡◌, ◌≤◌, ℕ, ◌+◌, List, [], ◌∷◌, ◌++◌, ◌==◌, codes, length, take, drop, position, Option, Some, None, option_map, option_and_then, if◌then◌else◌}
+-- What an operator's line orders. A line is a JSON object as a line of a script is, of an order, or that of a backup: its `at`
+-- may be missing, and where it stands it doesn't count.
+use Rattle.std.specs.Prelude.{◌≡◌, ◌≤◌, ℕ, ◌+◌, Bool, false, ◌&&◌, is_some, unwrap_or, List, [], ◌∷◌, ◌++◌, ◌==◌, codes, length, take, drop, position, Option, Some, None, option_map, option_and_then, if◌then◌else◌}
 use Rattle.std.specs.Option.{option_or}
 use Rattle.std.specs.Str.{bytes_eq}
 use Rattle.std.specs.Io.KnownBytes.{Consumes}
-use Rattle.bh_event.specs.Events.{Arrival, Message, Requested, Ordered, SweepOrdered, ReportOrdered, TenantsOrdered}
-use Rattle.bh_event.specs.Lines.{arrival_at, told_by}
+use Rattle.std.specs.String.{string_bytes}
+use Rattle.serde_json.specs.Data.{Data}
+use Rattle.bh_event.specs.Events.{Arrival, arrival, Message, Requested, Ordered, SweepOrdered, ReportOrdered, TenantsOrdered}
+use Rattle.bh_event.specs.Lines.{arrival_at, told_by, text_at, number_at, has_members, value_in}
 use Rattle.bh_link.specs.Taking.{all_of}
 use Rattle.bh_operator.specs.Lines.{line_in}
+use Rattle.bh_operator.specs.declared.order.Order.{Order as Given}
+use Rattle.bh_operator.specs.declared.order.Order.TheVariants as given
 
 -- ---- the secret
 
@@ -25,6 +29,15 @@ admitted None line = Some line
 admitted (Some secret) line = after_word secret line
 
 -- ---- the order
+
+-- something that is an event of the host, or a copy of it under a name, which is none
+pub data Order : Type 0 where
+  ToDo : (event : Arrival) → Order
+  ToCopy : (to : List ℕ) → Order
+
+abbrev pub order_view : Given → Order
+order_view (given.Event event) = ToDo (arrival event)
+order_view (given.Backup to) = ToCopy (string_bytes to)
 
 -- an object with an `at` put first
 abbrev pub with_at : List ℕ → Option (List ℕ)
@@ -46,15 +59,38 @@ order_of TenantsOrdered = Some TenantsOrdered
 abbrev pub order_at : ℕ → Arrival → Option Arrival
 order_at reading told = option_map (arrival_at reading) (order_of told.message)
 
-abbrev pub order_told : ℕ → List ℕ → Option Arrival
-order_told reading line = option_and_then (order_at reading) (told_with_at line)
+abbrev pub event_told : ℕ → List ℕ → Option Arrival
+event_told reading line = option_and_then (order_at reading) (told_with_at line)
+
+-- {"at":n,"op":"backup","to":name}
+abbrev pub has_at : Data → Bool
+has_at d = is_some (number_at (codes "at") d)
+
+abbrev pub is_named_backup : List ℕ → Bool
+is_named_backup op = bytes_eq op (codes "backup")
+
+abbrev pub is_backup : Data → Bool
+is_backup d = has_members 3 d && has_at d && unwrap_or (option_map is_named_backup (text_at (codes "op") d)) false
+
+abbrev pub backup_in : Data → Option (List ℕ)
+backup_in d = if is_backup d then text_at (codes "to") d else None
+
+abbrev pub backup_told : List ℕ → Option (List ℕ)
+backup_told line = option_and_then backup_in (value_in line)
+
+-- the name that a line orders a backup under, with its `at` or with one put there
+abbrev pub backup_with_at : List ℕ → Option (List ℕ)
+backup_with_at line = option_or (backup_told line) (option_and_then backup_told (with_at line))
+
+abbrev pub order_told : ℕ → List ℕ → Option Order
+order_told reading line = option_or (option_map ToDo (event_told reading line)) (option_map ToCopy (backup_with_at line))
 
 -- what the bytes of a connection order, under a secret if there is one
-abbrev pub ordered_by : Option (List ℕ) → ℕ → List ℕ → Option Arrival
+abbrev pub ordered_by : Option (List ℕ) → ℕ → List ℕ → Option Order
 ordered_by secret reading bytes = option_and_then (order_told reading) (option_and_then (admitted secret) (line_in bytes))
 
 -- what was taken orders what all the bytes do that the reader would give
-pub record TookOrder (secret : Option (List ℕ)) (reading : ℕ) (old new : Option (List ℕ)) (taken : List ℕ) (order : Option Arrival) : Type 0 where
+pub record TookOrder (secret : Option (List ℕ)) (reading : ℕ) (old new : Option (List ℕ)) (taken : List ℕ) (order : Option Order) : Type 0 where
   pub consumed : Consumes old new taken
   pub short : length taken ≤ 16384
   pub is : order ≡ ordered_by secret reading (all_of old taken)

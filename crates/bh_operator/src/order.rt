@@ -1,11 +1,13 @@
 //! What a line orders.
 ghost use Rattle.std.specs.Prelude.{◌≡◌, ◌<◌, ◌==◌, ◌++◌, ℕ, List, codes, false, length, position, vec_items, IfOk, IfErr, IfSome, OnOk, option_map, option_and_then};
+ghost use Rattle.std.specs.String.{string_bytes};
 ghost use Rattle.bh_event.specs.Events.{arrival};
 ghost use Rattle.bh_link.specs.Taking.{is_fault};
 ghost use Rattle.bh_http.specs.Transfers.{Gives};
 ghost use Rattle.bh_operator.specs.Lines.{TookPart};
 ghost use Rattle.bh_operator.specs.Orders as spec;
 
+use crate::backup::backup_told;
 use crate::line::take_line;
 use bh_event::event::Event;
 use bh_event::line::read_line;
@@ -14,21 +16,30 @@ use bh_link::link::Link;
 use bh_link::request::TakeError;
 use std::alloc::{AllocError, Global};
 
+/// What a line orders.
+#[derive(Drop)]
+pub enum Order {
+    /// Something that is an event of the host.
+    Event(Event),
+    /// A copy of the host in a new file of this name, which is none.
+    Backup { to: String },
+}
+
 /// The `at` that is put into an object that has none. It doesn't count.
 const AT: &[u8] = b"\"at\":0,";
 
-/// Takes a line, as [`take_line`] does, and gives the event that it orders at a reading of the clock, as [`order_of_line`]
-/// says; none where no line comes.
+/// Takes a line, as [`take_line`] does, and gives what it orders at a reading of the clock, as [`order_of_line`] says; none
+/// where no line comes.
 pub fn take_order<R: Source>(
     alloc: Global,
     secret: Option<&[u8]>,
     reading: u64,
     reader: &mut Link<R>,
-) -> Result<Option<Event>, TakeError>
+) -> Result<Option<Order>, TakeError>
     requires { reader.old.failed ≡ false }
     ensures took { IfOk result (λ order. (taken : List ℕ)
         × spec.TookOrder (option_map (λ s. s.now) secret.entry) reading (R.remaining reader.old.inner) (R.remaining reader.new.inner)
-        taken (option_map arrival order)
+        taken (option_map spec.order_view order)
         × Gives (R.transfers reader.old.inner) (R.transfers reader.new.inner) taken false) }
     ensures going { OnOk result (reader.new.failed ≡ false) }
     ensures within { IfErr result (λ _. (taken : List ℕ)
@@ -42,23 +53,56 @@ pub fn take_order<R: Source>(
     }
 }
 
-/// The event that a line orders at a reading of the clock, in seconds since 1970; none where it isn't an order. Where there
-/// is a secret the line begins with it and a space. Then comes a JSON object (RFC 8259) as a line of a script has: its `at`
-/// may be missing and doesn't count, and it is no request.
+/// What a line orders at a reading of the clock, in seconds since 1970; none where it isn't an order. Where there is a secret
+/// the line begins with it and a space. Then comes a JSON object (RFC 8259) as a line of a script has, which is no request, or
+/// that of a backup, `{"op":"backup","to":".."}`: its `at` may be missing and doesn't count.
 pub fn order_of_line(
     alloc: Global,
     secret: Option<&[u8]>,
     reading: u64,
     line: &[u8],
-) -> Result<Option<Event>, AllocError>
-    ensures { IfOk result (λ found. option_map arrival found
+) -> Result<Option<Order>, AllocError>
+    ensures { IfOk result (λ found. option_map spec.order_view found
         ≡ option_and_then (spec.order_told reading) (spec.admitted (option_map (λ s. s.now) secret.entry) line.now)) }
 {
-    let Some(object) = admitted(secret, line) else {
-        return Ok(None);
-    };
-    match told_with_at(alloc, object)? {
+    match admitted(secret, line) {
+        Some(object) => order_told(alloc, reading, object),
+        None => Ok(None),
+    }
+}
+
+/// What an object orders.
+fn order_told(alloc: Global, reading: u64, line: &[u8]) -> Result<Option<Order>, AllocError>
+    ensures { IfOk result (λ found. option_map spec.order_view found ≡ spec.order_told reading line.now) }
+{
+    if let Some(event) = event_told(alloc, reading, line)? {
+        return Ok(Some(Order::Event(event)));
+    }
+    match backup_with_at(alloc, line)? {
+        Some(to) => Ok(Some(Order::Backup { to })),
+        None => Ok(None),
+    }
+}
+
+/// The event that an object orders.
+fn event_told(alloc: Global, reading: u64, line: &[u8]) -> Result<Option<Event>, AllocError>
+    ensures { IfOk result (λ found. option_map arrival found ≡ spec.event_told reading line.now) }
+{
+    match told_with_at(alloc, line)? {
         Some(event) => Ok(order_at(reading, event)),
+        None => Ok(None),
+    }
+}
+
+/// The name of the backup that a line orders, with its `at` or with one put there.
+fn backup_with_at(alloc: Global, line: &[u8]) -> Result<Option<String>, AllocError>
+    ensures { IfOk result (λ to. option_map string_bytes to ≡ spec.backup_with_at line.now) }
+{
+    if let Some(to) = backup_told(alloc, line)? {
+        return Ok(Some(to));
+    }
+    match with_at(alloc, line)? {
+        Some(text) => backup_told(alloc, text.as_slice()),
         None => Ok(None),
     }
 }

@@ -77,11 +77,6 @@ module _ (sql : List ℕ) (params : Row) (old new : State) where
       go (Some what) c full (inl it) = inl it.1.0.was_open
       go (Some what) c full (inr it) = inr (failed_is_trouble old new _ e it)
 
-  -- a query commits nothing inside a transaction
-  pub shows_outside : Survives old new (CommitsShowing sql params old) → Survives old new (λ _. IsOutside old)
-  unfolding CommitsShowing
-  shows_outside = survives_weaker old new _ _ (λ clean db wrote. inl wrote.3.0)
-
 quiet_write : (k : Command) (r : Option Returning) → is_write k ≡ true → r ≡ None → (is_query k || (is_pragma k || is_some r)) ≡ false
 quiet_write (Insert at from) r h none = rw none
 quiet_write (InsertOr at how from clauses) r h none = rw none
@@ -223,6 +218,18 @@ pub query_up : {X : Type 0} (sql : List ℕ) (params : Row) (old new : State) (r
     → (HasCleanDisk new → Rattle.std.proofs.Common.IfErr r (FailsToQuery sql params old new)) → HasCleanDisk new → IsTrue new.is_open → IsTrue old.is_open
 query_up sql params old new rows_in (Ok x) ok err clean up = shown_open sql params old new (rows_in x) (ok clean)
 query_up sql params old new rows_in (Err e) ok err clean up = undone_up old new (query_undone sql params old new e (err clean)) up
+
+-- a SELECT of an open connection commits nothing, inside a transaction or outside
+pub shows_nothing : (sql : List ℕ) (params : Row) (old new : State) (schema : Schema) (command : Command) (parameters : ℕ) → Means schema sql command parameters
+    → (HasCleanDisk old → IsTrue old.is_open → old.now.schema ≡ schema) → Survives old new (CommitsShowing sql params old) → Survives old new (λ _. old.is_open ≡ false)
+unfolding CommitsShowing
+shows_nothing sql params old new schema command parameters means ready s = survives_weaker old new (CommitsShowing sql params old) (λ _. old.is_open ≡ false) (λ clean db wrote. elim (cases_Bool old.is_open) [
+  | inl up ↦ absurd (none_some (compiled_plain sql params old new schema (ready (clean_before old new _ s clean) up) command parameters means wrote.0 wrote.1).0 wrote.2)
+  | inr down ↦ down
+]) s
+  where
+    none_some : {X : Type 0} {o : Option X} → o ≡ None → IsSome o → ⊥
+    none_some e h = let it = subst IsSome e h in true≢false (sym it)
 
 -- what each write leaves, from what `execute` says
 pub write_changes : (sql : List ℕ) (params : Row) (old new : State) (schema : Schema) (command : Command) (parameters : ℕ) → Means schema sql command parameters → is_write command ≡ true

@@ -47,7 +47,7 @@ use Rattle.sqlite_rules.specs.Lists.{Has}
 use Rattle.std.proofs.Common.{Result, Ok, Err, IfOk, IfErr, IsTrue}
 use Rattle.sqlite.specs.State.{HasCleanDisk, Survives, CommitsShowing}
 use Rattle.bh_rows.specs.Means.{Means, is_trouble, Asks}
-use Rattle.bh_rows.proofs.CallLemmas.{compiled_plain, compiled_command, not_run, shown_open, shown_same, shows_outside, query_undone, query_open, query_up, clean_before}
+use Rattle.bh_rows.proofs.CallLemmas.{compiled_plain, compiled_command, not_run, shown_open, shown_same, shows_nothing, query_undone, query_open, query_up, clean_before}
 use Rattle.bh_rows.specs.Form.{Form, AreRows, Entry, put, entries, typed}
 pub use Rattle.bh_rows.specs.Scan.{summing}
 use Rattle.bh_rows.specs.Scan.{scan, no_limit, by_rowid}
@@ -130,7 +130,7 @@ module _ (sql : List ℕ) (schema : Schema) (tree : ℕ) (test show : List Term)
         undone = λ _. tt;
         trouble = λ _ _. tt;
         up = query_up sql params old new rows_in (Ok x) ok err;
-        survives = shows_outside sql params old new survives;
+        survives = shows_nothing sql params old new schema _ parameters means ready survives;
       }
       go (Err e) ok err = record {
         same = λ _. tt;
@@ -140,7 +140,7 @@ module _ (sql : List ℕ) (schema : Schema) (tree : ℕ) (test show : List Term)
           | inr bad ↦ bad
         ];
         up = query_up sql params old new rows_in (Err e) ok err;
-        survives = shows_outside sql params old new survives;
+        survives = shows_nothing sql params old new schema _ parameters means ready survives;
       }
 
 module _ {T : Type 0} (form : Form T) (sql : List ℕ) (schema : Schema) (tree : ℕ) (test show : List Term) (limit : Term) (names : List (List ℕ)) (parameters : ℕ)

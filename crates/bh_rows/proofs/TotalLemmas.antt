@@ -34,7 +34,7 @@ use Rattle.bh_rows.specs.Means.{Means, Asks, is_trouble}
 use Rattle.bh_rows.specs.Form.{Form, AreRows, Entry, put, entries, typed}
 pub use Rattle.bh_rows.specs.Scan.{counting, counting_rows}
 use Rattle.bh_rows.specs.Scan.{summing}
-use Rattle.bh_rows.proofs.CallLemmas.{compiled_plain, compiled_command, not_run, shown_open, shown_same, shows_outside, query_undone, query_open, query_up, clean_before}
+use Rattle.bh_rows.proofs.CallLemmas.{compiled_plain, compiled_command, not_run, shown_open, shown_same, shows_nothing, query_undone, query_open, query_up, clean_before}
 use Rattle.bh_rows.proofs.FormLemmas.{stored, keyed, picked}
 
 -- ---- SELECT count(*)
@@ -122,7 +122,7 @@ module _ (sql : List ℕ) (schema : Schema) (body : Query) (names : List (List �
       undone = λ _. tt;
       trouble = λ _ _. tt;
       up = query_up sql params old new rows_in (Ok x) ok err;
-      survives = shows_outside sql params old new survives;
+      survives = shows_nothing sql params old new schema _ parameters means ready survives;
     }
     body_asks fits rows_in (Err e) ok err survives = record {
       same = λ _. tt;
@@ -134,7 +134,7 @@ module _ (sql : List ℕ) (schema : Schema) (body : Query) (names : List (List �
         | inr bad ↦ bad
       ];
       up = query_up sql params old new rows_in (Err e) ok err;
-      survives = shows_outside sql params old new survives;
+      survives = shows_nothing sql params old new schema _ parameters means ready survives;
     }
 
 -- over one table no other part of the query sums

@@ -75,7 +75,8 @@ pub record Asks {X : Type 0} (old new : State) (result : Result X Error) : Type 
   pub trouble : HasCleanDisk new → old.step_limit ≡ None → IfErr result (λ e. is_trouble e ≡ true)
   -- it was open before, if it is afterwards
   pub up : HasCleanDisk new → IsTrue new.is_open → IsTrue old.is_open
-  pub survives : Survives old new (λ _. IsOutside old)
+  -- it commits nothing, inside a transaction or outside
+  pub survives : Survives old new (λ _. old.is_open ≡ false)
 
 -- the transaction goes on, and nothing is committed
 pub record StaysInside (old new : State) : Type 0 where

@@ -1,5 +1,5 @@
 -- A call inside a transaction, in the words of the layer.
-use Rattle.std.proofs.Common.{◌≡◌, inl, inr, ℕ, ℤ, List, [], ◌∷◌, ◌++◌, map, filter, Bool, true, IsTrue, None, Ok, Err, Result, OnOk, OnErr, IfOk, IfErr, Ordering, refl, sym, ap, ◌∙◌, true≢false, subst, take, length, pos, ◌<◌, ◌^◌, sum_by}
+use Rattle.std.proofs.Common.{◌≡◌, inl, inr, ℕ, ℤ, List, [], ◌∷◌, ◌++◌, map, filter, Bool, true, false, IsTrue, None, Ok, Err, Result, OnOk, OnErr, IfOk, IfErr, Ordering, refl, sym, ap, ◌∙◌, true≢false, subst, take, length, pos, ◌<◌, ◌^◌, sum_by}
 use Rattle.std.specs.List.{AllByRecursion}
 use Rattle.sqlite.specs.Order.{Row, column}
 use Rattle.sqlite.specs.Table.{Table}
@@ -24,29 +24,36 @@ use Rattle.bh_tables.proofs.Places.{Place, Goes, orderly}
 use Rattle.bh_tables.proofs.Terms.{one_row}
 use Rattle.bh_tables.proofs.Statements.{Writes, Shows, Sums, told_as, ones}
 use Rattle.bh_tables.proofs.Statements as statement
-use Rattle.bh_schema.specs.Layer.{Standing, standing, IsIntact, IsOpen, IsStateClean, Leaves, IsInside, IsInsideBy, IsMidst, Holds, HoldsBy, KeepsDisk, LeavesNothingNew, IsStandingSettled, StateWithin, Unwinds}
+use Rattle.bh_schema.specs.Layer.{Standing, standing, IsIntact, IsOpen, IsStateClean, Leaves, IsInside, IsInsideBy, IsMidst, Holds, HoldsBy, KeepsDisk, LeavesNothingNew, IsStandingSettled, IsReadable, StateWithin, Unwinds}
 use Rattle.bh_schema.proofs.TurnLemmas.{follows, unwinds}
 
 pub ready : (old : State) → (IsStateClean old → IsInside (standing old)) → IsReady old
 unfolding standing IsIntact IsOpen
 ready old inside clean up = (inside (record { intact = clean; is_open = up })).host
 
-module _ (old new : State) (inside : IsStateClean old → (standing old).inside ≡ true) where
-  -- ---- what an error leaves, and a crash
+-- a host's database in a transaction can be read
+pub reads_inside : (x : Standing) → IsInside x → IsReadable x
+reads_inside x inside = record { settled = inl inside.inside; host = inside.host }
 
-  undone_leaves : IsStateClean new → (standing old).inside ≡ true → Unwinds (standing old) (standing new) → ((standing new).kept ≡ (standing old).kept) × IsStandingSettled (standing new)
-  undone_leaves c was (inl same) = (ap (λ (x : Standing). x.kept) same, inl (ap (λ (x : Standing). x.inside) same ∙ was))
-  undone_leaves c was (inr back) = (ap (λ (x : Standing). x.kept) back, subst IsStandingSettled (sym back) (inr refl))
+pub readable : (old : State) → (IsStateClean old → IsReadable (standing old)) → IsReady old
+unfolding standing IsIntact IsOpen
+readable old reads clean up = (reads (record { intact = clean; is_open = up })).host
 
-  crash_within : KeepsDisk old new → Survives old new (λ _. IsOutside old) → IsOpen old → LeavesNothingNew old new
-  unfolding IsIntact IsOpen Leaves standing
-  crash_within f s up clean db h = elim (s.crash clean db h) [
-    | inl was ↦ was
-    | inr (inl outside) ↦ absurd (true≢false (sym (inside (record { intact = f.intact clean; is_open = up })) ∙ outside))
-    | inr (inr shut) ↦ absurd (true≢false (sym up ∙ shut))
-  ]
+-- what an error leaves
+undone_leaves : (old new : State) → IsStandingSettled (standing old) → Unwinds (standing old) (standing new) → ((standing new).kept ≡ (standing old).kept) × IsStandingSettled (standing new)
+undone_leaves old new was (inl same) = (ap (λ (x : Standing). x.kept) same, subst IsStandingSettled (sym same) was)
+undone_leaves old new was (inr back) = (ap (λ (x : Standing). x.kept) back, subst IsStandingSettled (sym back) (inr refl))
 
+module _ (old new : State) (settled : IsStateClean old → IsStandingSettled (standing old)) where
   -- ---- a question
+
+  -- it leaves nothing new, inside a transaction or outside
+  asks_crash : Survives old new (λ _. old.is_open ≡ false) → IsOpen old → LeavesNothingNew old new
+  unfolding IsIntact IsOpen Leaves
+  asks_crash s up clean db h = elim (s.crash clean db h) [
+    | inl was ↦ was
+    | inr shut ↦ absurd (true≢false (sym up ∙ shut))
+  ]
 
   module _ {X : Type 0} (result : Result X Error) (asks : Asks old new result) where
     asks_follows : KeepsDisk old new
@@ -89,14 +96,23 @@ module _ (old new : State) (inside : IsStateClean old → (standing old).inside 
       follows = asks_follows;
       kept = λ c. (go result asks_same asks_unwinds c).0;
       settled = λ c. (go result asks_same asks_unwinds c).1;
-      survives = crash_within asks_follows asks.survives;
+      survives = asks_crash asks.survives;
     }
       where
         go : (r : Result X Error) → OnOk r (IsIntact new → standing new ≡ standing old) → OnErr r (IsStateClean new → Unwinds (standing old) (standing new)) → IsStateClean new → ((standing new).kept ≡ (standing old).kept) × IsStandingSettled (standing new)
-        go (Ok x) ok err c = undone_leaves c (inside (asks_follows.clean c)) (inl (ok c.intact))
-        go (Err e) ok err c = undone_leaves c (inside (asks_follows.clean c)) (err c)
+        go (Ok x) ok err c = undone_leaves old new (settled (asks_follows.clean c)) (inl (ok c.intact))
+        go (Err e) ok err c = undone_leaves old new (settled (asks_follows.clean c)) (err c)
 
+module _ (old new : State) (inside : IsStateClean old → (standing old).inside ≡ true) where
   -- ---- a write
+
+  crash_within : KeepsDisk old new → Survives old new (λ _. IsOutside old) → IsOpen old → LeavesNothingNew old new
+  unfolding IsIntact IsOpen Leaves standing
+  crash_within f s up clean db h = elim (s.crash clean db h) [
+    | inl was ↦ was
+    | inr (inl outside) ↦ absurd (true≢false (sym (inside (record { intact = f.intact clean; is_open = up })) ∙ outside))
+    | inr (inr shut) ↦ absurd (true≢false (sym up ∙ shut))
+  ]
 
   module _ {X : Type 0} (result : Result X Error) (changes : Changes old new result) where
     changes_follows : KeepsDisk old new
@@ -140,7 +156,7 @@ module _ (old new : State) (inside : IsStateClean old → (standing old).inside 
       where
         go : (r : Result X Error) → OnOk r (IsStateClean new → StaysInside old new) → OnErr r (IsStateClean new → Unwinds (standing old) (standing new)) → IsStateClean new → ((standing new).kept ≡ (standing old).kept) × IsStandingSettled (standing new)
         go (Ok x) ok err c = let it = stayed (inside (changes_follows.clean c)) (ok c) in (it.0, inl it.1)
-        go (Err e) ok err c = undone_leaves c (inside (changes_follows.clean c)) (err c)
+        go (Err e) ok err c = undone_leaves old new (inl (inside (changes_follows.clean c))) (err c)
 
     -- the transaction goes on
     pub changes_inside : OnOk result (IsStateClean new → (standing new).inside ≡ true)
@@ -183,15 +199,19 @@ pub record Question {X : Type 0} (old new : State) (rows_in : X → List Row) (s
   pub rows : IfOk result (λ x. IsStateClean new → rows_in x ≡ shown (tables_in (standing old).now))
   pub trouble : IfErr result (λ e. IsIntact new → (standing old).limit ≡ None → is_trouble e ≡ true)
 
-pub question : {X : Type 0} (old new : State) (rows_in : X → List Row) (shown : Tables → List Row) (result : Result X Error) → (IsStateClean old → IsInside (standing old)) → Shows old new rows_in shown result → Question old new rows_in shown result
+-- it may be asked in a transaction or outside
+pub question_read : {X : Type 0} (old new : State) (rows_in : X → List Row) (shown : Tables → List Row) (result : Result X Error) → (IsStateClean old → IsReadable (standing old)) → Shows old new rows_in shown result → Question old new rows_in shown result
 unfolding standing
-question old new rows_in shown result inside it = record {
-  within = asks_within old new (λ c. (inside c).inside) result it.asks;
-  opens = asks_opens old new (λ c. (inside c).inside) result it.asks;
-  same = asks_same old new (λ c. (inside c).inside) result it.asks;
+question_read old new rows_in shown result reads it = record {
+  within = asks_within old new (λ c. (reads c).settled) result it.asks;
+  opens = asks_opens old new (λ c. (reads c).settled) result it.asks;
+  same = asks_same old new (λ c. (reads c).settled) result it.asks;
   rows = if_clean new result (λ x. rows_in x ≡ shown (tables old)) it.rows;
-  trouble = asks_trouble old new (λ c. (inside c).inside) result it.asks;
+  trouble = asks_trouble old new (λ c. (reads c).settled) result it.asks;
 }
+
+pub question : {X : Type 0} (old new : State) (rows_in : X → List Row) (shown : Tables → List Row) (result : Result X Error) → (IsStateClean old → IsInside (standing old)) → Shows old new rows_in shown result → Question old new rows_in shown result
+question old new rows_in shown result inside it = question_read old new rows_in shown result (λ c. reads_inside (standing old) (inside c)) it
 
 pub record Write (old new : State) (change : Tables → Tables) (allowed : Error → Type 0) (result : Result ℕ Error) : Type 0 where
   pub within : StateWithin old new
@@ -234,9 +254,9 @@ unfolding standing
 totalled old new rows_in total result inside it =
     let asks = it.asks any_trouble refl in
     record {
-      within = asks_within old new (λ c. (inside c).inside) (told_as any_trouble result) asks;
-      opens = answered _ result (asks_opens old new (λ c. (inside c).inside) (told_as any_trouble result) asks);
-      same = answered _ result (asks_same old new (λ c. (inside c).inside) (told_as any_trouble result) asks);
+      within = asks_within old new (λ c. inl (inside c).inside) (told_as any_trouble result) asks;
+      opens = answered _ result (asks_opens old new (λ c. inl (inside c).inside) (told_as any_trouble result) asks);
+      same = answered _ result (asks_same old new (λ c. inl (inside c).inside) (told_as any_trouble result) asks);
       rows = if_clean new result (λ x. rows_in x ≡ (Int (pos (total (tables old))) ∷ []) ∷ []) it.rows;
       trouble = if_error old new result (λ e. total (tables old) < 2 ^ 63 → is_trouble e ≡ true) it.trouble;
     }
@@ -262,6 +282,14 @@ written {old} {new} {allowed} {result} f g same w = record {
 }
 
 -- ---- the kinds of texts, over any of the tables
+
+-- rows that are read in a transaction or outside
+pub selected_read : {T : Type 0} (place : (sums : Totals) → Place sums T) (old new : State) → (IsStateClean old → IsReadable (standing old)) → {X : Type 0} (rows_in : X → List Row) (result : Result X Error) {sql : List ℕ} {params : Row} {m : T → Bool} {view : T → Row}
+    → SelectText (place (totals_of (tables old))).form host_schema (place (totals_of (tables old))).table.tree sql params m view no_limit
+    → (HasCleanDisk new → IfOk result (λ x. Shown sql params old new (rows_in x))) → (HasCleanDisk new → IfErr result (FailsToQuery sql params old new)) → Survives old new (CommitsShowing sql params old)
+    → Question old new rows_in (λ t. map view (filter m ((place (totals_of (tables old))).rows t))) result
+selected_read place old new reads rows_in result it ok err survives =
+    question_read old new rows_in _ result reads (statement.selected (place (totals_of (tables old))) old new (readable old reads) rows_in result _ _ _ _ it ok err survives)
 
 module _ {T : Type 0} (place : (sums : Totals) → Place sums T) (old new : State) (inside : IsStateClean old → IsInside (standing old)) where
   abbrev p : Place (totals_of (tables old)) T

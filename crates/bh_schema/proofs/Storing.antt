@@ -65,7 +65,7 @@ holds_seen l tables s h = (host_shows (standing s).now h.within.host ∙ h.is, h
 -- ---- beside blocks that are kept in memory
 
 -- no rows are a sound host's
-agreeing : (kept : KeptBlocks) (s : Seen) → IsSound (beside kept s).now → Agrees kept s.now.blocks
+pub agreeing : (kept : KeptBlocks) (s : Seen) → IsSound (beside kept s).now → Agrees kept s.now.blocks
 unfolding beside
 agreeing kept s = go (agrees kept s.now.blocks)
   where
@@ -90,6 +90,19 @@ module _ {digest : Octets → Octets} (kept : KeptBlocks) (s : Seen) (working : 
   -- the blocks stay
   pub plain_after : (t : Seen) → t.now.blocks ≡ s.now.blocks → beside kept t ≡ t
   plain_after t same = beside_agreed kept t (subst (Agrees kept) (sym same) works_agreed)
+
+-- ---- sound tables, in a transaction or outside
+
+pub readable_host : {digest : Octets → Octets} (l : HostLimits) (s : State) → IsSoundHost digest (seen_in l s).now → IsHost (standing s).now
+unfolding seen_in
+readable_host l s sound = sound_host (standing s).now sound.sound
+
+pub readable_shows : {digest : Octets → Octets} (l : HostLimits) (s : State) → IsSoundHost digest (seen_in l s).now → (seen_in l s).now ≡ tables_in (standing s).now
+unfolding seen_in
+readable_shows l s sound = host_shows (standing s).now (sound_host (standing s).now sound.sound)
+
+pub plain_sound : {digest : Octets → Octets} (kept : KeptBlocks) (s : Seen) → IsSoundHost digest (beside kept s).now → beside kept s ≡ s
+plain_sound kept s sound = beside_agreed kept s (agreeing kept s sound.sound)
 
 -- ---- tables whose bodies stay
 

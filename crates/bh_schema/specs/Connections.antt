@@ -4,8 +4,8 @@ use Rattle.sqlite.specs.Held.{Held, state}
 use Rattle.sqlite.specs.declared.error.Error.{Error}
 use Rattle.sqlite_trees.specs.declared.store.Store.{Ghosts}
 use Rattle.bh_rows.specs.Means.{is_trouble}
-use Rattle.bh_tables.specs.Typed.{Totals, Tables, tables_in}
-use Rattle.bh_schema.specs.Layer.{Standing, standing, IsInside, IsInsideBy, IsMidst, Holds, HoldsBy, StateWithin}
+use Rattle.bh_tables.specs.Typed.{Totals, IsHost, Tables, tables_in}
+use Rattle.bh_schema.specs.Layer.{Standing, standing, IsInside, IsReadable, IsInsideBy, IsMidst, Holds, HoldsBy, StateWithin}
 use Rattle.bh_schema.specs.Layer as layer
 
 module _ {S : Type 0} (g : Ghosts S) where
@@ -31,6 +31,14 @@ module _ {S : Type 0} (g : Ghosts S) where
   -- while it is clean, a transaction is open on a host's database
   abbrev pub InTransaction : Held S → Type 0
   InTransaction c = IsClean c → IsInside (stands c)
+
+  -- while it is clean, a host's database stands, in a transaction or as it was committed
+  abbrev pub CanRead : Held S → Type 0
+  CanRead c = IsClean c → IsReadable (stands c)
+
+  -- while it is clean, a host's database stands
+  abbrev pub HasHost : Held S → Type 0
+  HasHost c = IsClean c → IsHost (stands c).now
 
   -- while it is clean, a transaction is open in the midst of a write
   abbrev pub InMidst : Held S → Type 0

@@ -5,13 +5,17 @@ use Rattle.bh_docs.specs.Documents.{bucket_view, usage_view}
 use Rattle.bh_docs.specs.Pages.{page_view, versions_view, uploads_view, parts_view}
 use Rattle.bh_docs.specs.declared.reply.Usage.{Usage}
 use Rattle.bh_model.specs.Operations as model
+use Rattle.bh_tables.specs.Typed.{Tables}
+use Rattle.bh_storage.specs.Plans.{to_come}
 use Rattle.bh_storage.specs.declared.answer.Answer.{Answer}
-use Rattle.bh_storage.specs.declared.answer.Answer.TheVariants.{Done, Removed, Stored, Copied, Head, Found, Buckets, Versioning, Objects, Versions, Uploads, Parts, Begun, PartStored, Completed, Lifecycle, Retention, Used, Keys}
+use Rattle.bh_storage.specs.declared.answer.Answer.TheVariants.{Done, Removed, Stored, Copied, Head, Buckets, Versioning, Objects, Versions, Uploads, Parts, Begun, PartStored, Completed, Lifecycle, Retention, Used, Keys}
 use Rattle.bh_storage.specs.declared.answer.RemovedEntry.{RemovedEntry}
 use Rattle.bh_storage.specs.declared.answer.StoredVersion.{StoredVersion}
 use Rattle.bh_storage.specs.declared.answer.CopiedVersion.{CopiedVersion}
 use Rattle.bh_storage.specs.declared.answer.ObjectHead.{ObjectHead}
 use Rattle.bh_storage.specs.declared.answer.FoundVersion.{FoundVersion}
+use Rattle.bh_storage.specs.declared.answer.Offer.{Offer}
+use Rattle.bh_storage.specs.declared.answer.Offer.TheVariants.{Whole, Planned}
 use Rattle.bh_storage.specs.declared.answer.BegunUpload.{BegunUpload}
 use Rattle.bh_storage.specs.declared.answer.CompletedUpload.{CompletedUpload}
 
@@ -27,8 +31,9 @@ copied_answer v = model.Copied v.id v.modified (string_bytes v.checksum)
 abbrev pub head_answer : ObjectHead → model.Answer
 head_answer v = model.Head v.id v.size (string_bytes v.checksum)
 
-abbrev pub found_answer : FoundVersion → model.Answer
-found_answer v = model.Object v.head.id v.head.size v.plan v.bytes.items (string_bytes v.head.checksum)
+-- a version that was found, by the tables from which its bytes are to be read
+abbrev pub found_answer : Tables → FoundVersion → model.Answer
+found_answer tables v = model.Object v.head.id v.head.size v.range (to_come v.plan tables) (string_bytes v.head.checksum)
 
 abbrev pub begun_answer : BegunUpload → model.Answer
 begun_answer u = model.Begun (string_bytes u.bucket) (string_bytes u.key) u.upload u.abort
@@ -45,7 +50,6 @@ answer_view (Removed entry) = removed_answer entry
 answer_view (Stored version) = stored_answer version
 answer_view (Copied version) = copied_answer version
 answer_view (Head version) = head_answer version
-answer_view (Found version) = found_answer version
 answer_view (Buckets buckets) = model.Buckets (map bucket_view buckets.items)
 answer_view (Versioning state) = model.Versioning state
 answer_view (Objects page) = model.Objects (page_view page)
@@ -59,3 +63,8 @@ answer_view (PartStored checksum) = model.PartStored (string_bytes checksum)
 answer_view (Completed upload) = completed_answer upload
 answer_view (Used usage) = used_answer usage
 answer_view (Keys names) = model.Keys (map string_bytes names.items)
+
+-- the same of what an operation answers, by the tables that it leaves
+abbrev pub offer_view : Tables → Offer → model.Answer
+offer_view tables (Whole answer) = answer_view answer
+offer_view tables (Planned found) = found_answer tables found

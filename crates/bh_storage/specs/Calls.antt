@@ -38,6 +38,10 @@ pub record IsWorking (IsSound : Tables → Type 0) (s : Seen) : Type 0 where
   pub sound : IsSound s.now
   pub limits : limits_in s.now ≡ s.limits
 
+-- sound tables stand: all of them are committed, or a transaction is open on them
+abbrev pub IsReadable : (Tables → Type 0) → Seen → Type 0
+IsReadable IsSound s = IsAtRest IsSound s ⊎ IsWorking IsSound s
+
 -- the store gave back what was written to it, and no fault has shut it
 abbrev pub Clean : {H : Type 0} → (H → Type 0) → (H → Type 0) → H → Type 0
 Clean IsIntact IsOpen host = IsIntact host × IsOpen host

@@ -1,4 +1,5 @@
 pub mod Answers
 pub mod Calls
 pub mod Errors
+pub mod Plans
 pub mod Reports

@@ -1,10 +1,11 @@
+use crate::plan::Plan;
 use bh_docs::{BucketEntry, ObjectsPage, PartsPage, UploadsPage, Usage, VersionsPage};
 use bh_types::bucket_state::BucketState;
 use bh_types::id::{UploadId, VersionId};
 use bh_types::moment::Moment;
 use bh_types::range::RangePlan;
 
-/// What an operation answers where nothing is refused.
+/// What a step answers where nothing is refused.
 #[derive(Drop)]
 pub enum Answer {
     /// Nothing but that it is done.
@@ -13,7 +14,6 @@ pub enum Answer {
     Stored(StoredVersion),
     Copied(CopiedVersion),
     Head(ObjectHead),
-    Found(FoundVersion),
     /// The buckets of a tenant, by their names.
     Buckets(Vec<BucketEntry>),
     Versioning(BucketState),
@@ -37,6 +37,15 @@ pub enum Answer {
     Used(Usage),
     /// The names of a tenant's access keys, in byte order.
     Keys(Vec<String>),
+}
+
+/// What an operation of a tenant answers where nothing is refused.
+#[derive(Drop)]
+pub enum Offer {
+    /// An answer that is there as a whole.
+    Whole(Answer),
+    /// An object, whose bytes are still to be read.
+    Planned(FoundVersion),
 }
 
 /// What a delete answers.
@@ -86,9 +95,9 @@ pub struct FoundVersion {
     /// The version, of which `size` and `checksum` are those of the whole object.
     pub head: ObjectHead,
     /// Which of the object's bytes are answered.
-    pub plan: RangePlan,
-    /// These bytes.
-    pub bytes: Vec<u8>,
+    pub range: RangePlan,
+    /// What is to come of them: all.
+    pub plan: Plan,
 }
 
 /// What beginning a multipart upload answers.

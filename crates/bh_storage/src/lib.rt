@@ -3,5 +3,6 @@
 
 pub mod answer;
 pub mod error;
+pub mod plan;
 pub mod report;
 pub mod storage;

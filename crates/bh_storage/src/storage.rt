@@ -1,15 +1,17 @@
-ghost use Rattle.std.specs.Prelude.{◌≡◌, ◌⊎◌, ◌≤◌, None, IfOk, OnOk, OnErr};
+ghost use Rattle.std.specs.Prelude.{◌≡◌, ◌⊎◌, ◌++◌, ◌+◌, ◌<◌, ◌≤◌, [], length, None, IfOk, IfSome, IfNone, OnOk, OnErr};
 ghost use Rattle.bh_event.specs.Events.{order_of, tenant_of};
 ghost use Rattle.bh_machine.specs.Machine.{operated, ordered};
 ghost use Rattle.bh_model.specs.Credentials as machine;
 ghost use Rattle.bh_model.specs.Runs.{last_reading};
 ghost use Rattle.bh_tables.specs.Typed.{Tables};
 ghost use Rattle.bh_view.specs.View.{view, latest_of};
-ghost use Rattle.bh_storage.specs.Answers.{answer_view};
-ghost use Rattle.bh_storage.specs.Calls.{Seen, Clean, Within, StaysAtWork, LeavesNothingNew, IsAtRest, IsWorking, Commits, TakesBack, Unless, UnlessSpoilt, Stamps, Purges, Operates, Carries, Decides, Sweeps, Reports, Lists};
+ghost use Rattle.bh_storage.specs.Answers.{answer_view, offer_view};
+ghost use Rattle.bh_storage.specs.Calls.{Seen, Clean, Within, StaysAtWork, LeavesNothingNew, IsAtRest, IsReadable, IsWorking, Commits, TakesBack, Unless, UnlessSpoilt, Stamps, Purges, Operates, Carries, Decides, Sweeps, Reports, Lists};
+ghost use Rattle.bh_storage.specs.Plans.{IfPlanned, IsMeasured, to_come};
 
-use crate::answer::Answer;
+use crate::answer::{Answer, Offer};
 use crate::error::{Outcome, StepError, Trouble};
+use crate::plan::Plan;
 use crate::report::{StoreReport, SweepReport, TenantReport};
 use bh_event::event::Command;
 use bh_http::body::Body;
@@ -22,7 +24,7 @@ use bh_types::refusal::Refusal;
 use bh_types::rejection::Rejection;
 use std::alloc::Global;
 
-/// The calls of a host's storage. All but `limits`, `begin` and `take_back` work in an open transaction. A call
+/// The calls of a host's storage. All but `limits`, `begin`, `take_back` and `next_piece` work in an open transaction. A call
 /// that refuses leaves the tables as they were; where memory or the store was wanting, `take_back` brings back
 /// what was committed.
 ///
@@ -103,7 +105,7 @@ pub trait Storage {
             → Decides (λ _. tt) (machine.authenticate key.now secret.now (view (seen self.old).now key.now.tenant)) (seen self.old).now (seen self.new).now result };
 
     /// Carries out an operation of a tenant, at a moment that is not after the last stamp. Its body comes as it is wanted, and
-    /// all of it comes wherever the operation is decided.
+    /// all of it comes wherever the operation is decided. Of an object that is answered no byte is read yet.
     fn operate<B: Body>(
         &mut self,
         alloc: Global,
@@ -111,13 +113,28 @@ pub trait Storage {
         at: Moment,
         operation: &Operation,
         body: &mut B,
-    ) -> Result<Outcome<Answer, Rejection>, StepError<Rejection>>
+    ) -> Result<Outcome<Offer, Rejection>, StepError<Rejection>>
         requires going { (B.coming body.old).broken ≡ None }
         requires working { Clean IsIntact IsOpen self.old → IsWorking IsSoundStore (seen self.old) }
         requires early { Clean IsIntact IsOpen self.old → at ≤ latest_of (seen self.old).now }
         ensures goes_on { StaysAtWork IsIntact IsOpen IsSoundStore seen left (UnlessSpoilt result) self.old self.new }
-        ensures operates { Operates answer_view tenant.now (λ given. operated (seen self.old).limits at given operation.now)
-            (Clean IsIntact IsOpen self.new) (B.coming body.old) (B.coming body.new) (seen self.old).now (seen self.new).now result };
+        ensures operates { Operates (offer_view (seen self.new).now) tenant.now (λ given. operated (seen self.old).limits at given operation.now)
+            (Clean IsIntact IsOpen self.new) (B.coming body.old) (B.coming body.new) (seen self.old).now (seen self.new).now result }
+        ensures measured { IfPlanned result (λ found. Clean IsIntact IsOpen self.new → IsMeasured (seen self.new).now found) };
+
+    /// The next bytes of an object, of one block at most: `None` where none are left. It may be called in a transaction, and
+    /// outside. An error leaves the plan as it was; of the rows nothing is said until `take_back`.
+    fn next_piece(&mut self, alloc: Global, plan: &mut Plan) -> Result<Option<Vec<u8>>, Trouble>
+        requires { Clean IsIntact IsOpen self.old → IsReadable IsSoundStore (seen self.old) }
+        ensures within { Within IsIntact IsOpen seen left self.old self.new }
+        ensures opens { OnOk result (IsOpen self.old → IsIntact self.new → IsOpen self.new) }
+        ensures same { OnOk result (Clean IsIntact IsOpen self.new → seen self.new ≡ seen self.old) }
+        ensures gives { IfOk result (λ piece. Clean IsIntact IsOpen self.new → IfSome piece (λ bytes.
+            to_come plan.old (seen self.old).now ≡ bytes.items ++ to_come plan.new (seen self.old).now)) }
+        ensures ends { IfOk result (λ piece. Clean IsIntact IsOpen self.new → IfNone piece (to_come plan.old (seen self.old).now ≡ [])) }
+        ensures some { IfOk result (λ piece. IfSome piece (λ bytes. 0 < length bytes.items)) }
+        ensures falls { IfOk result (λ piece. IfSome piece (λ bytes. length bytes.items + plan.new.left ≤ plan.old.left)) }
+        ensures kept { OnErr result (plan.new ≡ plan.old) };
 
     /// Carries out an operator's command on the tenant that it names.
     fn command(&mut self, alloc: Global, command: &Command) -> Result<Answer, StepError<Refusal>>

@@ -1,5 +1,5 @@
 -- The texts over references, and the one that reads a block.
-use Rattle.std.proofs.Common.{◌≡◌, ℤ, pos, List, codes, [], ◌∷◌, ◌&&◌, true, false, refl, ap, ◌∙◌}
+use Rattle.std.proofs.Common.{◌≡◌, ℕ, ℤ, pos, List, codes, [], ◌∷◌, ◌&&◌, true, false, refl, ap, ◌∙◌}
 use Rattle.std.specs.List.{list_any}
 use Rattle.sqlite.specs.declared.types.Value.TheVariants.{Null, Text, Blob}
 use Rattle.sqlite.specs.Edit.{next_rowid}
@@ -61,6 +61,19 @@ refs_listed q = record {
   tests = λ id r. then_term (at_texts false Eq r.tenant q.0) (last_term (at_ints false Eq (pos r.body) (pos q.1)));
   shows = λ id r. refl;
   orders = λ a b. then_key (value_cmp-Int (pos a.1.place) (pos b.1.place)) (last_key (value_cmp-Int a.0 b.0));
+}
+
+pub ref_shown : (q : Name) (place : ℕ) → SelectText ref_form host_schema 12 (codes "SELECT digest, ord, size FROM refs WHERE tenant = ?1 AND body = ?2 AND place = ?3 ORDER BY rowid") (Text q.0 ∷ number q.1 ∷ number place ∷ []) (is_at_place q place) shown_ref no_limit
+unfolding understood everything
+ref_shown q place = record {
+  test = is 1 0 ∷ is 2 1 ∷ is 3 2 ∷ [];
+  show = col 1 4 ∷ col 1 5 ∷ col 1 6 ∷ [];
+  names = codes "digest" ∷ codes "ord" ∷ codes "size" ∷ [];
+  means = record { is = refl; plain = (refl, refl); unlisted = refl; whole = refl; given = refl };
+  low = refl;
+  accepts = refl;
+  tests = λ id r. then_term (at_texts false Eq r.tenant q.0) (then_term (at_ints false Eq (pos r.body) (pos q.1)) (last_term (at_ints false Eq (pos r.place) (pos place))));
+  shows = λ id r. refl;
 }
 
 pub ref_inserted : (r : RefRow) → InsertText ref_form host_schema 6 (at 12 refs_table) (codes "INSERT INTO refs (tenant, body, place, digest, ord, size) VALUES (?1, ?2, ?3, ?4, ?5, ?6)") (ref_columns r) r

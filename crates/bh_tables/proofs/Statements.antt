@@ -16,7 +16,7 @@ use Rattle.bh_rows.specs.Keys.{AreUnused}
 use Rattle.bh_rows.specs.Means.{Means, is_trouble, Asks, Changes}
 use Rattle.bh_rows.specs.Scan.{no_limit}
 use Rattle.bh_rows.specs.Texts.{IsReadyAt, Leaves, MayAdd, MayChange, InsertText, UpdateText, DeleteText, SelectText, SortedText, SumText}
-use Rattle.bh_rows.proofs.CallLemmas.{clean_before, shown_same, shown_open, query_up, query_undone, shows_outside}
+use Rattle.bh_rows.proofs.CallLemmas.{clean_before, shown_same, shown_open, query_up, query_undone, shows_nothing}
 use Rattle.bh_rows.proofs.TotalLemmas.{summed_fails}
 use Rattle.bh_rows.proofs.TextLemmas as text
 use Rattle.bh_tables.specs.Schema.{host_schema}
@@ -80,14 +80,14 @@ module _ {sums : Totals} (old new : State) (ready : IsReadyBy sums old) (sql : L
     undone = λ _. tt;
     trouble = λ _ _. tt;
     up = query_up sql params old new rows_in (Ok x) ok err;
-    survives = shows_outside sql params old new survives;
+    survives = shows_nothing sql params old new host_schema _ parameters means (λ clean up. (ready clean up).schema) survives;
   }
   sum_ends (Err e) ok err = record {
     same = λ _. tt;
     undone = λ clean. query_undone sql params old new e (err clean);
     trouble = λ _ _. bad;
     up = query_up sql params old new rows_in (Err e) ok err;
-    survives = shows_outside sql params old new survives;
+    survives = shows_nothing sql params old new host_schema _ parameters means (λ clean up. (ready clean up).schema) survives;
   }
 
 module _ {sums : Totals} {T : Type 0} (p : Place sums T) (old new : State) (ready : IsReadyBy sums old) where

@@ -3,7 +3,8 @@
 ghost use Rattle.std.specs.Prelude.{◌≡◌, map, IfOk, OnOk};
 ghost use Rattle.bh_view.specs.View.{rows_of};
 ghost use Rattle.bh_schema.specs.Connections.{IsClean, tables, InTransaction, StaysWithin, WasOpen, ChangesNothing};
-ghost use Rattle.bh_tenant_rows.specs.Shown.{shown_name, shown_key, shown_bucket, shown_lock, shown_version, shown_upload, shown_part, shown_retain};
+ghost use Rattle.bh_tenant_rows.specs.Shown.{shown_name, shown_key, shown_bucket, shown_lock, shown_version, shown_upload, shown_part};
+ghost use Rattle.bh_tenant_rows.specs.Shown.{shown_retain};
 
 use sqlite::types::ToSql;
 use sqlite::{Alter, Connection, Error, Row};

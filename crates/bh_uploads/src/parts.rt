@@ -194,7 +194,8 @@ fn put_into<S: Alter, D: Digester, B: Body>(
     requires going { (B.coming body.old).broken ≡ None }
     requires small { found.number < 2 ^ 62 }
     requires found { IsClean S.Store connection.old
-        → upload_in part.now.upload.bucket.now part.now.upload.key.now part.now.upload.upload (view (tables S.Store connection.old) part.now.upload.tenant.now)
+        → upload_in part.now.upload.bucket.now part.now.upload.key.now part.now.upload.upload
+        (view (tables S.Store connection.old) part.now.upload.tenant.now)
         ≡ Ok (found.mode, found.number) }
     ensures within { StaysWithin S.Store connection.old connection.new }
     ensures opens { UnlessSpoilt result (StaysOpen S.Store connection.old connection.new) }

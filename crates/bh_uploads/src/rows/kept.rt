@@ -3,7 +3,8 @@
 ghost use Rattle.std.specs.Prelude.{ℕ, ◌≡◌, ◌∷◌, [], ◌<◌, ◌^◌, map, filter, IfOk, IfErr, OnOk};
 ghost use Rattle.bh_tables.specs.Typed.{number as stored, totals_of, bytes_kept, kept_changed};
 ghost use Rattle.bh_tables.specs.Shown.{is_upload, shown_kept};
-ghost use Rattle.bh_schema.specs.Connections.{IsClean, tables, InTransaction, InMidst, Rewrites, StaysWithin, WasOpen, StaysOpen, ChangesNothing, Becomes, IsTrouble};
+ghost use Rattle.bh_schema.specs.Connections.{IsClean, tables, InTransaction, InMidst, Rewrites, StaysWithin, WasOpen, StaysOpen};
+ghost use Rattle.bh_schema.specs.Connections.{ChangesNothing, Becomes, IsTrouble};
 ghost use Rattle.bh_uploads.specs.Rows.{stored_part};
 ghost use Rattle.bh_uploads.specs.Found.{part_bytes_in};
 ghost use Rattle.bh_uploads.specs.Writes.{part_placed, without_parts};
@@ -29,7 +30,8 @@ fn keep_bytes<S: Alter>(
     ensures within { StaysWithin S.Store connection.old connection.new }
     ensures opens { OnOk result (StaysOpen S.Store connection.old connection.new) }
     ensures midst { OnOk result (InMidst S.Store connection.new) }
-    ensures rewrites { OnOk result (Rewrites S.Store connection.old connection.new (kept_changed (tenant.now, upload) more less) (λ rows. rows)) }
+    ensures rewrites { OnOk result (Rewrites S.Store connection.old connection.new (kept_changed (tenant.now, upload) more less)
+        (λ rows. rows)) }
 {
     // Asked for what it ensures: the rows obey the schema.
     let _schema = connection.schema();

@@ -4,7 +4,8 @@ ghost use Rattle.bh_rows.specs.Means.{is_trouble};
 ghost use Rattle.bh_tables.specs.Typed.{PartRow as Stored};
 ghost use Rattle.bh_tables.specs.Bodies.{resolved_part};
 ghost use Rattle.bh_tables.specs.Shown.{is_part, is_part_of, shown_part, shown_body};
-ghost use Rattle.bh_schema.specs.Connections.{IsClean, tables, InTransaction, InMidst, Rewrites, StaysWithin, WasOpen, StaysOpen, ChangesNothing, IsTrouble};
+ghost use Rattle.bh_schema.specs.Connections.{IsClean, tables, InTransaction, InMidst, Rewrites, StaysWithin, WasOpen, StaysOpen};
+ghost use Rattle.bh_schema.specs.Connections.{ChangesNothing, IsTrouble};
 ghost use Rattle.bh_uploads.specs.Rows.{seen_row, row_seen, part_body, stored_part, listed_parts};
 
 use bh_core::parts::PartRow;

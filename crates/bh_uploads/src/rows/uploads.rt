@@ -4,7 +4,8 @@ ghost use Rattle.sqlite_keyed.specs.Lists.{update_where, delete_where};
 ghost use Rattle.bh_rows.specs.Means.{is_trouble};
 ghost use Rattle.bh_tables.specs.Typed.{UploadRow as Stored};
 ghost use Rattle.bh_tables.specs.Shown.{is_tenant, is_upload, is_part_of, shown_upload, shown_number};
-ghost use Rattle.bh_schema.specs.Connections.{IsClean, tables, InTransaction, StaysWithin, WasOpen, StaysOpen, ChangesNothing, Becomes, IsTrouble, IsTroubleIf};
+ghost use Rattle.bh_schema.specs.Connections.{IsClean, tables, InTransaction, StaysWithin, WasOpen, StaysOpen, ChangesNothing, Becomes};
+ghost use Rattle.bh_schema.specs.Connections.{IsTrouble, IsTroubleIf};
 ghost use Rattle.bh_uploads.specs.Rows.{seen_upload, upload_seen, stored_upload, begun_before, IsNewUpload};
 
 use bh_schema::rows::number::number;

@@ -6,8 +6,7 @@ use Rattle.bh_tables.specs.Typed.{Totals, Tables, counted, lowered_by, totals_of
 use Rattle.bh_tables.specs.Bodies.{Name, placed}
 use Rattle.bh_tables.specs.Shown.{is_of_body}
 use Rattle.bh_tables.proofs.TotalLemmas.{totals_dropped}
-use Rattle.bh_view.specs.Bodies.{body_dropped}
-use Rattle.bh_schema.specs.Layer.{Standing, standing, IsStateClean, IsInside, IsInsideBy, Holds}
+use Rattle.bh_schema.specs.Layer.{Standing, standing, IsStateClean, IsInside, Holds}
 use Rattle.bh_schema.proofs.Calls.{in_midst}
 use Rattle.bh_schema.proofs.Finds.{handed_on}
 use Rattle.bh_schema.proofs.VersionSteps.{then_turned, ended}

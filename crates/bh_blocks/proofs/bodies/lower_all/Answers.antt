@@ -1,7 +1,7 @@
-use Rattle.std.proofs.Common.{arith, ◌≡◌, ◌+◌, take, sym, ap, ◌∙◌, subst}
+use Rattle.std.proofs.Common.{arith, take, ap, ◌∙◌, subst}
 use Rattle.sqlite.specs.Held.{state}
 use Rattle.bh_rows.specs.Means.{is_trouble}
-use Rattle.bh_tables.specs.Typed.{Totals, counted, lowered_by, tables_in}
+use Rattle.bh_tables.specs.Typed.{counted, lowered_by, tables_in}
 use Rattle.bh_tables.specs.Shown.{shown_ref}
 use Rattle.bh_schema.specs.Layer.{standing, IsStateClean, HoldsBy}
 use Rattle.bh_schema.proofs.Finds.{handed_on}

@@ -1,8 +1,8 @@
-use Rattle.std.proofs.Common.{◌≡◌, ◌∷◌, [], List, ap, sym, ◌∙◌}
+use Rattle.std.proofs.Common.{List, ap, sym, ◌∙◌}
 use Rattle.std.proofs.lemmas.Result.{on_ok_weaker}
 use Rattle.sqlite.specs.Held.{state}
 use Rattle.bh_tables.specs.Schema.{Octets}
-use Rattle.bh_view.specs.Bodies.{pieces, body_stored}
+use Rattle.bh_view.specs.Bodies.{body_stored}
 use Rattle.bh_schema.specs.Working.{tables_at}
 use Rattle.bh_blocks.proofs.Keeping.{stored_adds}
 use Rattle.bh_blocks.proofs.bodies.store_body.Goals as goal

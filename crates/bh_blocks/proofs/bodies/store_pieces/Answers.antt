@@ -1,6 +1,5 @@
 use Rattle.std.proofs.Common.{◌≡◌, [], ◌∙◌}
 use Rattle.sqlite.specs.Held.{state}
-use Rattle.bh_tables.specs.Shown.{Name}
 use Rattle.bh_view.specs.Bodies.{pieces, body_stored}
 use Rattle.bh_schema.specs.Working.{tables_at}
 use Rattle.bh_blocks.specs.Drafts.{drafted}

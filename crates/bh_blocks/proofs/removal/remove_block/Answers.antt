@@ -1,7 +1,6 @@
 use Rattle.std.proofs.Common.{sym}
 use Rattle.sqlite.specs.Held.{state}
 use Rattle.sqlite_keyed.specs.Lists.{delete_where}
-use Rattle.bh_rows.specs.Means.{is_trouble}
 use Rattle.bh_tables.specs.Typed.{Tables, counted, is_named, tables_in, rebodied}
 use Rattle.bh_tables.specs.Shown.{Name, is_block}
 use Rattle.bh_tables.proofs.TotalLemmas.{totals_without}

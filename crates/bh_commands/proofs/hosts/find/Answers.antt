@@ -1,5 +1,5 @@
 use Rattle.std.proofs.Common.{◌≡◌, ◌∙◌, refl, sym, ap, subst, inl, inr}
-use Rattle.sqlite.specs.Held.{state}
+use Rattle.sqlite.specs.Files.{file_state, over_files}
 use Rattle.bh_storage.specs.Calls.{Seen, IsAtRest}
 use Rattle.bh_view.specs.Bodies.{IsSoundHost}
 use Rattle.bh_cache.specs.Kept.{no_blocks}
@@ -14,8 +14,8 @@ pub work_by_digest-requires : goal.work_by_digest-requires
 work_by_digest-requires g c =
     let it = c.in-Ok.ensures in
     let opened = c.in-Ok.opened in
-    let old = state g.S.Store c.args.connection in
-    let new = state g.S.Store opened.connection in
+    let old = file_state c.args.connection in
+    let new = file_state opened.connection in
     let found : IsOpenedAs old new = opened_as opened.limits old new it.schema it.same it.brought it.shows it.follows it.crash in
     record {
       rest = λ clean. it.rest _ clean (typed_when opened.limits old new c.requires found clean) (sound_seen opened.limits old new c.requires found opened.digest it.named clean);
@@ -26,8 +26,8 @@ pub returns-in_ok-work_by_digest-in-Ok : goal.returns-in_ok-work_by_digest-in-Ok
 returns-in_ok-work_by_digest-in-Ok g c =
     let it = c.in-Ok.ensures in
     let opened = c.in-Ok.opened in
-    let old = state g.S.Store c.args.connection in
-    let new = state g.S.Store opened.connection in
+    let old = file_state c.args.connection in
+    let new = file_state opened.connection in
     let found : IsOpenedAs old new = opened_as opened.limits old new it.schema it.same it.brought it.shows it.follows it.crash in
     let shown : beside (no_blocks opened.tuning) (seen_in opened.limits new) ≡ seen_in opened.limits new = beside_agreed (no_blocks opened.tuning) (seen_in opened.limits new) refl in
     inr (record {
@@ -45,4 +45,4 @@ pub returns-in_ok-refused-in-Err : goal.returns-in_ok-refused-in-Err
 returns-in_ok-refused-in-Err g c =
     let it = c.in-Err.ensures in
     let told = c.in_ok-refused-in-Err.ensures in
-    rw told.0 (inl (not_found g.S.Store c.args.connection c.in-Err.error.connection _ _ told.1 it.refused it.failed it.keeps it.quiet it.leaves))
+    rw told.0 (inl (not_found over_files c.args.connection c.in-Err.error.connection _ _ told.1 it.refused it.failed it.keeps it.quiet it.leaves))

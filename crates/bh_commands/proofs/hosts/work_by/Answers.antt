@@ -1,5 +1,5 @@
 use Rattle.std.proofs.Common.{◌≡◌, refl, sym, subst}
-use Rattle.sqlite.specs.Held.{state}
+use Rattle.sqlite.specs.Files.{file_state, over_files}
 use Rattle.bh_view.specs.Bodies.{IsSoundHost}
 use Rattle.bh_view.specs.View.{latest_of}
 use Rattle.bh_storage.specs.Calls.{Seen, IsAtRest}
@@ -11,10 +11,10 @@ use Rattle.bh_commands.proofs.hosts.work_by.Goals as goal
 
 pub work_in_time-requires : goal.work_in_time-requires
 work_in_time-requires g c =
-    let shown = sym (beside_agreed (no_blocks c.args.opened.tuning) (storage.seen_in c.args.opened.limits (state g.S.Store c.args.opened.connection)) refl) in
+    let shown = sym (beside_agreed (no_blocks c.args.opened.tuning) (storage.seen_in c.args.opened.limits (file_state c.args.opened.connection)) refl) in
     record {
-      rest = subst (λ h. storage.IsClean g.S.Store h → IsAtRest (IsSoundHost g.D.Digester.digest_of) (storage.seen g.S.Store h)) (sym c.into_host.ensures) (λ clean. subst (IsAtRest (IsSoundHost g.D.Digester.digest_of)) shown (c.requires.rest (is_clean clean)));
-      latest = subst (λ h. storage.IsClean g.S.Store h → c.args.opened.latest ≡ latest_of (storage.seen g.S.Store h).now) (sym c.into_host.ensures) (λ clean. subst (λ (x : Seen). c.args.opened.latest ≡ latest_of x.now) shown (c.requires.latest (is_clean clean)));
+      rest = subst (λ h. storage.IsClean over_files h → IsAtRest (IsSoundHost g.G.Digester.digest_of) (storage.seen over_files h)) (sym c.into_host.ensures) (λ clean. subst (IsAtRest (IsSoundHost g.G.Digester.digest_of)) shown (c.requires.rest (is_clean clean)));
+      latest = subst (λ h. storage.IsClean over_files h → c.args.opened.latest ≡ latest_of (storage.seen over_files h).now) (sym c.into_host.ensures) (λ clean. subst (λ (x : Seen). c.args.opened.latest ≡ latest_of x.now) shown (c.requires.latest (is_clean clean)));
     }
 
 pub returns : goal.returns

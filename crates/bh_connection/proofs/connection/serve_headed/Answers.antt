@@ -1,14 +1,18 @@
-use Rattle.std.proofs.Common.{false, refl, sym, subst}
+use Rattle.std.proofs.Common.{◌++◌, Some, false, refl, sym, subst}
 use Rattle.bh_http.specs.Transfers.{Gives}
+use Rattle.bh_host.specs.Replies.{reply_bytes}
 use Rattle.bh_link.specs.Taking.{Opens}
+use Rattle.bh_storage.specs.Plans.{to_come}
+use Rattle.bh_connection.proofs.ConnectionLemmas.{not_asked, ends_in}
 use Rattle.bh_connection.proofs.HeadedLemmas.{headed_told, headed_broken, fault_is}
 use Rattle.bh_connection.proofs.connection.serve_headed.Goals as goal
 
-pub returns-in-Some-clause-came_to : goal.returns-in-Some-clause-came_to
-returns-in-Some-clause-came_to g c = λ start begun bytes opens reads gave.
-    let sent = c.answer.ensures in
+pub returns-in-Some-Told-clause-came_to : goal.returns-in-Some-Told-clause-came_to
+returns-in-Some-Told-clause-came_to g c = λ start begun bytes opens reads gave.
     let same = sym c.announce.ensures.inner in
-    headed_told g.H.Storage.IsIntact g.H.Storage.IsOpen g.H.Storage.seen g.H.Storage.left g.H.Storage.IsSoundStore (g.H.Storage.seen c.args.host.now).limits _ _ c.args.head.now bytes _ _ c.args.host.now c.receive.new.host c.answer.result _ _
+    let sent = c.answer.ensures in
+    headed_told g.H.Storage.IsIntact g.H.Storage.IsOpen g.H.Storage.seen g.H.Storage.left g.H.Storage.IsSoundStore (g.H.Storage.seen c.args.host.now).limits _ _ c.args.head.now bytes _ _ c.args.host.now c.receive.new.host c.answer.result
+    c.receive.new.host (not_asked g.H.Storage.IsIntact g.H.Storage.IsOpen g.H.Storage.seen g.H.Storage.left c.answer.result.ended c.receive.new.host) c.in-Some-Told.told.stamp (reply_bytes c.in-Some-Told.told.reply) (reply_bytes c.in-Some-Told.told.reply) (λ _. refl)
     (record {
       limits_are = refl;
       rest = c.requires.rest;
@@ -20,8 +24,36 @@ returns-in-Some-clause-came_to g c = λ start begun bytes opens reads gave.
       left_is = refl;
       gave_is = refl;
       failed_is = sym (fault_is _ _);
-      receives = c.in-Some.ensures.receives;
-    }) c.requires.in_range sent.stamp sent.out sent.took sent.ended
+      receives = rw c.in-Some-Told.field-0-is at c.in-Some-Told.ensures.receives;
+    }) c.requires.in_range sent.stamp sent.out sent.took (ends_in c.answer.result.ended c.in-Some-Told.told.stamp c.answer.result.sent (reply_bytes c.in-Some-Told.told.reply) _ sent.ended)
+
+-- a storage of which a reply is still to be read is open
+pub send_planned-requires-clause-open : goal.send_planned-requires-clause-open
+send_planned-requires-clause-open g c intact = let (come, going, did, survives) = (rw c.in-Some-Planned.field-0-is at c.in-Some-Planned.ensures.receives).came in (did intact).1
+
+pub returns-in-Some-Planned-clause-came_to : goal.returns-in-Some-Planned-clause-came_to
+returns-in-Some-Planned-clause-came_to g c = λ start begun bytes opens reads gave.
+    let same = sym c.announce.ensures.inner in
+    let out = c.send_planned.ensures in
+    let sent = out.sends in
+    let reply = c.in-Some-Planned.reply in
+    let receives = rw c.in-Some-Planned.field-0-is at c.in-Some-Planned.ensures.receives in
+    headed_told g.H.Storage.IsIntact g.H.Storage.IsOpen g.H.Storage.seen g.H.Storage.left g.H.Storage.IsSoundStore (g.H.Storage.seen c.args.host.now).limits _ _ c.args.head.now bytes _ _ c.args.host.now c.receive.new.host c.send_planned.result
+    c.send_planned.new.host (record { intact = out.intact; opens = λ intact opened. out.opens intact; survives = out.survives; same = λ intact opened. ((let (come, going, did, kept) = receives.came in (did (out.intact intact)).1), out.same (intact, opened)) })
+    (Some reply.stamp) (reply.head.items ++ to_come reply.plan (g.H.Storage.seen c.receive.new.host).now) sent.reply sent.is
+    (record {
+      limits_are = refl;
+      rest = c.requires.rest;
+      still = c.receive.ensures.intact;
+      opens = subst (λ i. Opens (g.H.Storage.seen c.args.host.now).limits start (g.R.Source.remaining i) bytes c.args.head.now.body_size) same opens;
+      reads = reads;
+      gave = subst (λ i. Gives begun (g.R.Source.transfers i) bytes false) same gave;
+      due = c.announce.ensures.due;
+      left_is = refl;
+      gave_is = refl;
+      failed_is = sym (fault_is _ _);
+      receives = receives;
+    }) c.requires.in_range out.stamp sent.out sent.took sent.ended
 
 pub returns-in-None-clause-came_to : goal.returns-in-None-clause-came_to
 returns-in-None-clause-came_to g c = λ start begun bytes opens reads gave.

@@ -1,4 +1,5 @@
-use Rattle.std.proofs.Common.{[], ◌∷◌, ◌++◌, refl, sym, subst, inl, ◌∙◌, arith, length-append, option_map}
+use Rattle.std.proofs.Common.{[], ◌∷◌, ◌++◌, refl, sym, ap, subst, inl, inr, ◌∙◌, arith, length-append, option_map}
+use Rattle.std.proofs.lemmas.Bool.{false≢true}
 use Rattle.std.specs.List.{flat_map}
 use Rattle.bh_http.proofs.TransferLemmas.{logs_nothing, logs_then}
 use Rattle.bh_connection.specs.Listening.{calls_of, HasServedAll}
@@ -15,8 +16,9 @@ loop-served-init g c = record {
   limits = refl;
   leaves = λ _ x leaves. inl leaves;
   operated = refl;
-  ran = λ h. ran_nothing g.H.Storage.IsIntact g.H.Storage.IsOpen g.H.Storage.seen g.H.Storage.left _ c.args.host.now;
-  listened = ([], refl, logs_nothing _, nothing_came g.H.Storage.IsIntact g.H.Storage.IsOpen g.H.Storage.seen g.H.Storage.left _ c.args.host.now);
+  alive = λ up. up;
+  ran = λ h. ran_nothing g.H.Storage.IsIntact g.H.Storage.IsOpen g.H.Storage.seen g.H.Storage.left g.H.BackUp.shows _ c.args.host.now;
+  listened = ([], refl, logs_nothing _, nothing_came g.H.Storage.IsIntact g.H.Storage.IsOpen g.H.Storage.seen g.H.Storage.left g.H.BackUp.shows _ c.args.host.now);
 }
 
 pub loop-served-preserved : goal.loop-served-preserved
@@ -32,13 +34,14 @@ loop-served-preserved g c =
       limits = one.limits ∙ so_far.limits;
       leaves = λ intact. leaves_then g.H.Storage.IsSoundStore g.H.Storage.left _ _ _ (so_far.leaves (one.intact intact)) (one.leaves intact);
       operated = one.operated ∙ so_far.operated;
-      ran = λ intact. ran_more g.H.Storage.IsIntact g.H.Storage.IsOpen g.H.Storage.seen g.H.Storage.left _ _ _ _ intact (so_far.ran (one.intact intact))
-          (subst (λ b. DidFor g.H.Storage.IsIntact g.H.Storage.IsOpen g.H.Storage.seen g.H.Storage.left b c.loop-served.host c.serve_next.new.host) so_far.operated one.did);
+      alive = λ _. sym c.is_lost.ensures ∙ c.if-is_lost.false;
+      ran = λ intact. ran_more g.H.Storage.IsIntact g.H.Storage.IsOpen g.H.Storage.seen g.H.Storage.left g.H.BackUp.shows _ _ _ _ intact (so_far.ran (one.intact intact))
+          (subst (λ b. DidFor g.H.Storage.IsIntact g.H.Storage.IsOpen g.H.Storage.seen g.H.Storage.left g.H.BackUp.shows b c.loop-served.host c.serve_next.new.host) so_far.operated one.did);
       listened = (
         visits ++ visit ∷ [],
         omega (arith, count, length-append visits (visit ∷ [])),
         logs_more _ _ _ visits visit log is.calls,
-        visits_more g.H.Storage.IsIntact g.H.Storage.IsOpen g.H.Storage.seen g.H.Storage.left _ visits visit _ _ _ one.intact so_far.limits served is.came is.did,
+        visits_more g.H.Storage.IsIntact g.H.Storage.IsOpen g.H.Storage.seen g.H.Storage.left g.H.BackUp.shows _ visits visit _ _ _ one.intact so_far.limits served is.came is.did,
       );
     }
 
@@ -46,8 +49,8 @@ pub returns-in_err-serve_next-clause-ran : goal.returns-in_err-serve_next-clause
 returns-in_err-serve_next-clause-ran g c = λ intact.
     let so_far = c.loop-served.invariant in
     let one = c.serve_next.ensures in
-    ran_more g.H.Storage.IsIntact g.H.Storage.IsOpen g.H.Storage.seen g.H.Storage.left _ _ _ _ intact (so_far.ran (one.intact intact))
-    (subst (λ b. DidFor g.H.Storage.IsIntact g.H.Storage.IsOpen g.H.Storage.seen g.H.Storage.left b c.loop-served.host c.serve_next.new.host) so_far.operated one.did)
+    ran_more g.H.Storage.IsIntact g.H.Storage.IsOpen g.H.Storage.seen g.H.Storage.left g.H.BackUp.shows _ _ _ _ intact (so_far.ran (one.intact intact))
+    (subst (λ b. DidFor g.H.Storage.IsIntact g.H.Storage.IsOpen g.H.Storage.seen g.H.Storage.left g.H.BackUp.shows b c.loop-served.host c.serve_next.new.host) so_far.operated one.did)
 
 pub returns-in_err-serve_next-clause-listened : goal.returns-in_err-serve_next-clause-listened
 returns-in_err-serve_next-clause-listened g c =
@@ -55,7 +58,7 @@ returns-in_err-serve_next-clause-listened g c =
     let (fault, is) = c.in_err-serve_next.ensures.comes in (
       visits,
       subst (λ x. HasServedAll g.H.Storage.IsIntact g.H.Storage.IsOpen g.H.Storage.seen g.H.Storage.left (option_map (λ s. s.now) c.args.secret) visits c.args.host.now x) (sym is.same) served,
-      at_err c.from_residual.result _ c.from_residual.ensures.0 (omega (arith, count, c.loop-served-test.true), (fault, is.which, logs_then _ _ _ (flat_map calls_of visits) fault log is.calls)),
+      at_err c.from_residual.result _ c.from_residual.ensures.0 (inl (omega (arith, count, c.loop-served-test.true), (fault, is.which, logs_then _ _ _ (flat_map calls_of visits) fault log is.calls))),
     )
 
 pub returns-clause-listened : goal.returns-clause-listened
@@ -67,3 +70,48 @@ pub returns-in_err-serve_next-clause-leaves : goal.returns-in_err-serve_next-cla
 returns-in_err-serve_next-clause-leaves g c = λ intact.
     let one = c.serve_next.ensures in
     leaves_then g.H.Storage.IsSoundStore g.H.Storage.left _ _ _ (c.loop-served.invariant.leaves (one.intact intact)) (one.leaves intact)
+
+-- a backup over which the host is lost
+
+pub returns-then-is_lost-clause-ran : goal.returns-then-is_lost-clause-ran
+returns-then-is_lost-clause-ran g c = λ intact.
+    let so_far = c.loop-served.invariant in
+    let one = c.serve_next.ensures in
+    ran_more g.H.Storage.IsIntact g.H.Storage.IsOpen g.H.Storage.seen g.H.Storage.left g.H.BackUp.shows _ _ _ _ intact (so_far.ran (one.intact intact))
+    (subst (λ b. DidFor g.H.Storage.IsIntact g.H.Storage.IsOpen g.H.Storage.seen g.H.Storage.left g.H.BackUp.shows b c.loop-served.host c.serve_next.new.host) so_far.operated one.did)
+
+pub returns-then-is_lost-clause-leaves : goal.returns-then-is_lost-clause-leaves
+returns-then-is_lost-clause-leaves g c = λ intact.
+    let one = c.serve_next.ensures in
+    leaves_then g.H.Storage.IsSoundStore g.H.Storage.left _ _ _ (c.loop-served.invariant.leaves (one.intact intact)) (one.leaves intact)
+
+pub returns-then-is_lost-clause-listened : goal.returns-then-is_lost-clause-listened
+returns-then-is_lost-clause-listened g c =
+    let so_far = c.loop-served.invariant in
+    let one = c.serve_next.ensures in
+    let (visits, count, log, served) = so_far.listened in
+    let (visit, is) = c.in_ok-serve_next.ensures.comes in (
+      visits ++ visit ∷ [],
+      visits_more g.H.Storage.IsIntact g.H.Storage.IsOpen g.H.Storage.seen g.H.Storage.left g.H.BackUp.shows _ visits visit _ _ _ one.intact so_far.limits served is.came is.did,
+      inr (
+        sym c.is_lost.ensures ∙ c.if-is_lost.true,
+        omega (arith, count, c.loop-served-test.true, length-append visits (visit ∷ [])),
+        logs_more _ _ _ visits visit log is.calls,
+      ),
+    )
+
+pub returns-then-is_lost-clause-lost : goal.returns-then-is_lost-clause-lost
+returns-then-is_lost-clause-lost g c = λ was now.
+    let (visits, count, log, served) = c.loop-served.invariant.listened in
+    let (visit, is) = c.in_ok-serve_next.ensures.comes in
+    (visits, c.loop-served.host, visit, served, is.did)
+
+-- it isn't lost but by that
+
+pub returns-in_err-serve_next-clause-lost : goal.returns-in_err-serve_next-clause-lost
+returns-in_err-serve_next-clause-lost g c = λ was now.
+    let (fault, is) = c.in_err-serve_next.ensures.comes in
+    absurd (false≢true (sym (c.loop-served.invariant.alive was) ∙ ap g.H.BackUp.lost (sym is.same) ∙ now))
+
+pub returns-clause-lost : goal.returns-clause-lost
+returns-clause-lost g c = λ was now. absurd (false≢true (sym (c.loop-served.invariant.alive was) ∙ now))

@@ -1,4 +1,4 @@
-use Rattle.std.proofs.Common.{◌≡◌, List, length, option_map}
+use Rattle.std.proofs.Common.{◌≡◌, false, List, length, option_map}
 use Rattle.std.specs.List.{flat_map}
 use Rattle.bh_storage.specs.Calls.{Clean, LeavesSound, IsAtRest}
 use Rattle.bh_http.specs.Transfers.{Logs}
@@ -14,6 +14,7 @@ invariant-loop-served g l = record {
   limits : (g.H.Storage.seen l.host).limits ≡ (g.H.Storage.seen l.fn.host).limits;
   leaves : g.H.Storage.IsIntact l.host → LeavesSound g.H.Storage.IsSoundStore g.H.Storage.left l.fn.host l.host;
   operated : g.A.Acceptor.operated l.acceptor ≡ g.A.Acceptor.operated l.fn.acceptor;
+  alive : g.H.BackUp.lost l.fn.host ≡ false → g.H.BackUp.lost l.host ≡ false;
   ran : g.H.Storage.IsIntact l.host → RanFor (g.A.Acceptor.operated l.fn.acceptor) g.H.Storage.IsOpen g.H.Storage.seen g.H.Storage.left l.fn.host l.host;
   listened : (visits : List Visit) × (length visits ≡ l.served) × Logs (g.A.Acceptor.calls l.fn.acceptor) (g.A.Acceptor.calls l.acceptor) (flat_map calls_of visits)
       × HasServedAll g.H.Storage.IsIntact g.H.Storage.IsOpen g.H.Storage.seen g.H.Storage.left (option_map (λ s. s.now) l.fn.secret) visits l.fn.host l.host;

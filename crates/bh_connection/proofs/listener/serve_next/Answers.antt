@@ -7,10 +7,10 @@ use Rattle.bh_connection.proofs.ListeningLemmas.{at_err, visited_as, did_as, did
 use Rattle.bh_connection.proofs.listener.serve_next.Goals as goal
 
 pub returns-in_err-caller-clause-did : goal.returns-in_err-caller-clause-did
-returns-in_err-caller-clause-did g c = did_none g.H.Storage.IsIntact g.H.Storage.IsOpen g.H.Storage.seen g.H.Storage.left _ c.args.host.now
+returns-in_err-caller-clause-did g c = did_none g.H.Storage.IsIntact g.H.Storage.IsOpen g.H.Storage.seen g.H.Storage.left g.H.BackUp.shows _ c.args.host.now
 
 pub returns-in_err-reading-clause-did : goal.returns-in_err-reading-clause-did
-returns-in_err-reading-clause-did g c = did_none g.H.Storage.IsIntact g.H.Storage.IsOpen g.H.Storage.seen g.H.Storage.left _ c.args.host.now
+returns-in_err-reading-clause-did g c = did_none g.H.Storage.IsIntact g.H.Storage.IsOpen g.H.Storage.seen g.H.Storage.left g.H.BackUp.shows _ c.args.host.now
 
 pub returns-in_err-reading-clause-comes : goal.returns-in_err-reading-clause-comes
 returns-in_err-reading-clause-comes g c =
@@ -25,7 +25,7 @@ returns-in_err-reading-clause-comes g c =
 
 pub returns-clause-did : goal.returns-clause-did
 returns-clause-did g c =
-    did_as g.H.Storage.IsIntact g.H.Storage.IsOpen g.H.Storage.seen g.H.Storage.left _ _ c.in_ok-caller.caller _ _ c.serve_visit-served.result _ _
+    did_as g.H.Storage.IsIntact g.H.Storage.IsOpen g.H.Storage.seen g.H.Storage.left g.H.BackUp.shows _ _ c.in_ok-caller.caller _ _ c.serve_visit-served.result _ _
     c.in_ok-caller.ensures.admitted c.serve_visit-served.ensures.visited
 
 pub returns-clause-comes : goal.returns-clause-comes
@@ -34,7 +34,7 @@ returns-clause-comes g c =
     let after = ends g.A.Reader.Source.remaining g.A.Reader.Source.transfers g.A.Writer.Sink.contents g.A.Writer.Sink.transfers c.serve_visit-served.new.arrival in
     let told : Logs (g.A.Acceptor.calls c.accept.new.self) (g.A.Acceptor.calls c.seconds.new.self) (ToldReading before.reading ∷ []) =
     subst (λ r. Logs (g.A.Acceptor.calls c.accept.new.self) (g.A.Acceptor.calls c.seconds.new.self) (ToldReading r ∷ [])) (sym c.open-arrival.ensures.reading) c.in_ok-reading.ensures.calls in
-    visited_as g.H.Storage.IsIntact g.H.Storage.IsOpen g.H.Storage.seen g.H.Storage.left _ _ _ c.in_ok-caller.caller before after c.serve_visit-served.result _ _
+    visited_as g.H.Storage.IsIntact g.H.Storage.IsOpen g.H.Storage.seen g.H.Storage.left g.H.BackUp.shows _ _ _ c.in_ok-caller.caller before after c.serve_visit-served.result _ _
     (logs_then _ _ _ (Accepted c.in_ok-caller.caller ∷ []) (ToldReading before.reading ∷ Opened before ∷ Closed after c.serve_visit-served.result ∷ []) c.in_ok-caller.ensures.calls
     (logs_then _ _ _ (ToldReading before.reading ∷ []) (Opened before ∷ Closed after c.serve_visit-served.result ∷ []) told
     (logs_then _ _ _ (Opened before ∷ []) (Closed after c.serve_visit-served.result ∷ []) c.open-arrival.ensures.calls c.close.ensures.calls)))

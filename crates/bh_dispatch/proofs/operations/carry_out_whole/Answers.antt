@@ -12,26 +12,24 @@ returns-in-Err-clause-operates g c =
     let (given, gives) = c.in-Err.ensures.some in
     record { given = given; gives = gives; decided = c.in-Err.ensures.broken; carries = λ _. tt }
 
-pub returns-in_err-answer-clause-opens : goal.returns-in_err-answer-clause-opens
-returns-in_err-answer-clause-opens g c =
+pub returns-in_err-answer-in_default-clause-opens : goal.returns-in_err-answer-in_default-clause-opens
+returns-in_err-answer-in_default-clause-opens g c =
     let p = err_from_is_err_and c.from_residual.result c.from_residual.ensures.1 in
-    rw (p.1, p.2) (spoilt_err Answer c.in_err-answer.field-0.0 _ c.in_err-answer.ensures.opens)
+    rw (p.1, p.2) (spoilt_err Answer c.in_err-answer-in_default.field-0.0 _ c.in_err-answer-in_default.ensures.opens)
 
-pub returns-in_err-answer-clause-working : goal.returns-in_err-answer-clause-working
-returns-in_err-answer-clause-working g c =
+pub returns-in_err-answer-in_default-clause-working : goal.returns-in_err-answer-in_default-clause-working
+returns-in_err-answer-in_default-clause-working g c =
     let p = err_from_is_err_and c.from_residual.result c.from_residual.ensures.1 in
-    rw (p.1, p.2) (spoilt_err Answer c.in_err-answer.field-0.0 _ c.in_err-answer.ensures.working)
+    rw (p.1, p.2) (spoilt_err Answer c.in_err-answer-in_default.field-0.0 _ c.in_err-answer-in_default.ensures.working)
 
-pub returns-in_err-answer-clause-operates : goal.returns-in_err-answer-clause-operates
-returns-in_err-answer-clause-operates g c =
+pub returns-in_err-answer-in_default-clause-operates : goal.returns-in_err-answer-in_default-clause-operates
+returns-in_err-answer-in_default-clause-operates g c =
     let p = err_from_is_err_and c.from_residual.result c.from_residual.ensures.1 in
     rw (p.1, p.2) (operates_err answer_view c.args.tenant.now (λ bytes. operated c.args.limits.now c.args.at bytes c.args.operation.now) _ _ _ (tables_at (state g.S.Store c.args.connection.now)) (tables_at (state g.S.Store c.carry_out.new.connection))
-    c.in-Ok.bytes.items c.in-Ok.ensures.gives c.in-Ok.ensures.whole c.deref.result.now c.deref.ensures.value c.in_err-answer.field-0.0 c.in_err-answer.ensures.carries)
+    c.in-Ok.bytes.items c.in-Ok.ensures.gives c.in-Ok.ensures.whole c.deref.result.now c.deref.ensures.value c.in_err-answer-in_default.field-0.0 c.in_err-answer-in_default.ensures.carries)
 
-pub returns-in_err-answer-clause-kept : goal.returns-in_err-answer-clause-kept
-returns-in_err-answer-clause-kept g c =
-    let p = err_from_is_err_and c.from_residual.result c.from_residual.ensures.1 in
-    rw (p.1, p.2) (spoilt_err Answer c.in_err-answer.field-0.0 _ c.in_err-answer.ensures.kept)
+pub returns-in_ok-answer-in_default-clause-operates : goal.returns-in_ok-answer-in_default-clause-operates
+returns-in_ok-answer-in_default-clause-operates g c = record { given = c.in-Ok.bytes.items; gives = c.in-Ok.ensures.gives; decided = c.in-Ok.ensures.whole; carries = rw c.deref.ensures.value at c.in_ok-answer-in_default.ensures.carries }
 
-pub returns-clause-operates : goal.returns-clause-operates
-returns-clause-operates g c = record { given = c.in-Ok.bytes.items; gives = c.in-Ok.ensures.gives; decided = c.in-Ok.ensures.whole; carries = rw c.deref.ensures.value at c.in_ok-answer.ensures.carries }
+pub returns-in-CopyObject-clause-operates : goal.returns-in-CopyObject-clause-operates
+returns-in-CopyObject-clause-operates g c = c.operate_drained.ensures.operates c.args.limits.now

@@ -1,39 +1,34 @@
 use Rattle.sqlite.specs.Held.{state}
-use Rattle.bh_storage.specs.Answers.{answer_view}
-use Rattle.bh_cache.proofs.Agreeing.{copies}
+use Rattle.bh_storage.specs.Answers.{offer_view}
 use Rattle.bh_schema.specs.Working.{tables_at}
-use Rattle.bh_dispatch.proofs.Receiving.{spoilt_by_any, says_nothing, kept_operated, stores_object, stores_part, stores_nothing}
+use Rattle.bh_dispatch.proofs.Offering.{offered_spoilt, offered_operates, offered_plans, finds_object, stores_no_object}
+use Rattle.bh_dispatch.proofs.Receiving.{spoilt_by_any, kept_operated}
 use Rattle.bh_dispatch.proofs.operations.operate.Goals as goal
 
-pub put_object-requires-clause-copies : goal.put_object-requires-clause-copies
-put_object-requires-clause-copies g c clean = copies c.args.cache.now (tables_at (state g.S.Store c.args.connection.now)).blocks (c.requires.working clean).sound.stored.once (c.requires.kept clean)
+pub returns-in-GetObject-clause-working : goal.returns-in-GetObject-clause-working
+returns-in-GetObject-clause-working g c = spoilt_by_any g.D.Digester.digest_of (state g.S.Store c.args.connection.now) (state g.S.Store c.get_object.new.connection) c.get_object.result c.get_object.ensures.working
 
-pub put_part-requires-clause-copies : goal.put_part-requires-clause-copies
-put_part-requires-clause-copies g c clean = copies c.args.cache.now (tables_at (state g.S.Store c.args.connection.now)).blocks (c.requires.working clean).sound.stored.once (c.requires.kept clean)
+pub returns-in-GetObject-clause-operates : goal.returns-in-GetObject-clause-operates
+returns-in-GetObject-clause-operates g c =
+    finds_object g.D.Digester.digest_of c.args.block_size c.args.limits.now c.args.at c.args.tenant.now c.in-GetObject.object c.in-GetObject.version c.in-GetObject.range _ _ _ (tables_at (state g.S.Store c.args.connection.now)) (tables_at (state g.S.Store c.get_object.new.connection)) c.get_object.result c.args.operation.now c.in-GetObject.is
+    (rw c.bytes_of.ensures at c.get_object.ensures.operates)
 
-pub returns-in-PutObject-clause-operates : goal.returns-in-PutObject-clause-operates
-returns-in-PutObject-clause-operates g c =
-    stores_object g.D.Digester.digest_of c.args.block_size c.args.limits.now c.args.at c.args.tenant.now c.in-PutObject.object c.in-PutObject.checksum c.in-PutObject.date _ _ _ (tables_at (state g.S.Store c.args.connection.now)) (tables_at (state g.S.Store c.put_object.new.connection)) c.put_object.result c.args.operation.now c.in-PutObject.is
-    (rw c.bytes_of-given.ensures at c.put_object.ensures.operates)
+pub returns-in-GetObject-clause-kept : goal.returns-in-GetObject-clause-kept
+returns-in-GetObject-clause-kept g c =
+    kept_operated c.args.cache.now (offer_view (tables_at (state g.S.Store c.get_object.new.connection))) c.args.tenant.now _ (λ _. Unit {0}) _ _ c.get_object.result (state g.S.Store c.args.connection.now) (state g.S.Store c.get_object.new.connection) (λ clean. c.requires.kept (c.get_object.ensures.within.follows.clean clean))
+    (stores_no_object _ _ _ _ _ _ _ _ c.get_object.result c.get_object.ensures.operates)
 
-pub returns-in-PutObject-clause-kept : goal.returns-in-PutObject-clause-kept
-returns-in-PutObject-clause-kept g c =
-    kept_operated c.args.cache.now answer_view _ _ _ _ _ c.put_object.result (state g.S.Store c.args.connection.now) (state g.S.Store c.put_object.new.connection) (λ clean. c.requires.kept (c.put_object.ensures.within.follows.clean clean)) c.put_object.ensures.operates
-
-pub returns-in-UploadPart-clause-operates : goal.returns-in-UploadPart-clause-operates
-returns-in-UploadPart-clause-operates g c =
-    stores_part g.D.Digester.digest_of c.args.block_size c.args.limits.now c.args.at c.args.tenant.now c.in-UploadPart.object c.in-UploadPart.upload c.in-UploadPart.number c.in-UploadPart.checksum _ _ _ (tables_at (state g.S.Store c.args.connection.now)) (tables_at (state g.S.Store c.put_part.new.connection)) c.put_part.result c.args.operation.now c.in-UploadPart.is
-    (rw c.bytes_of.ensures at c.put_part.ensures.operates)
-
-pub returns-in-UploadPart-clause-kept : goal.returns-in-UploadPart-clause-kept
-returns-in-UploadPart-clause-kept g c =
-    kept_operated c.args.cache.now answer_view _ _ _ _ _ c.put_part.result (state g.S.Store c.args.connection.now) (state g.S.Store c.put_part.new.connection) (λ clean. c.requires.kept (c.put_part.ensures.within.follows.clean clean)) c.put_part.ensures.operates
+pub returns-in_default-clause-opens : goal.returns-in_default-clause-opens
+returns-in_default-clause-opens g c = rw c.offered.ensures (offered_spoilt c.operate_whole.result _ c.operate_whole.ensures.opens)
 
 pub returns-in_default-clause-working : goal.returns-in_default-clause-working
-returns-in_default-clause-working g c = spoilt_by_any g.D.Digester.digest_of (state g.S.Store c.args.connection.now) (state g.S.Store c.carry_out_whole.new.connection) c.carry_out_whole.result c.carry_out_whole.ensures.working
+returns-in_default-clause-working g c = rw c.offered.ensures (offered_spoilt c.operate_whole.result _ c.operate_whole.ensures.working)
 
 pub returns-in_default-clause-operates : goal.returns-in_default-clause-operates
-returns-in_default-clause-operates g c =
-    says_nothing answer_view c.args.tenant.now _ _ _ _ _ (tables_at (state g.S.Store c.args.connection.now)) (tables_at (state g.S.Store c.carry_out_whole.new.connection)) c.carry_out_whole.result
-    (λ given. stores_nothing g.D.Digester.digest_of c.args.block_size given (tables_at (state g.S.Store c.args.connection.now)) (tables_at (state g.S.Store c.carry_out_whole.new.connection)) c.args.operation.now c.in_default.not-PutObject c.in_default.not-UploadPart)
-    c.carry_out_whole.ensures.operates
+returns-in_default-clause-operates g c = rw c.offered.ensures (offered_operates (tables_at (state g.S.Store c.operate_whole.new.connection)) c.args.tenant.now _ _ _ _ _ _ _ c.operate_whole.result c.operate_whole.ensures.operates)
+
+pub returns-in_default-clause-measured : goal.returns-in_default-clause-measured
+returns-in_default-clause-measured g c = rw c.offered.ensures (offered_plans c.operate_whole.result _)
+
+pub returns-in_default-clause-kept : goal.returns-in_default-clause-kept
+returns-in_default-clause-kept g c = rw c.offered.ensures (offered_spoilt c.operate_whole.result _ c.operate_whole.ensures.kept)

@@ -12,12 +12,12 @@ image log db = record { log = log; db = db }
 abbrev seen : List ℕ → List ℕ → Bool → List Event → List ℕ
 seen log db is_log history = (replay (cond is_log log db) history).seen
 
-pub returns-in-Ok : goal.returns-in-Ok
-returns-in-Ok g c = rw c.set_clock.ensures (record {
-  opened = c.in-Ok.ensures.opened;
+pub returns : goal.returns
+returns g c = record {
+  opened = c.in_ok-connection.ensures.opened;
   found = λ clean.
       let (log, db) = c.in_ok-files.ensures.fresh in
-      let found = c.in-Ok.ensures.found clean in
+      let found = c.in_ok-connection.ensures.found clean in
       let same = ap₂ image (ap₂ (seen g.S.Start.log g.S.Start.db) log.0 log.1) (ap₂ (seen g.S.Start.log g.S.Start.db) db.0 db.1) in
-      subst (λ i. FindsIn i (file_state c.in-Ok.connection)) same (record { holds = found.holds; reads = found.reads });
-})
+      subst (λ i. FindsIn i (file_state c.in_ok-connection.connection)) same (record { holds = found.holds; reads = found.reads });
+}

@@ -17,7 +17,7 @@ returns-in-Ok-TakenBack-clause-receives g c =
     let (whole, owned, refused, survives, kept) = tried.tries.tried in
     let back = c.take_back.ensures in
     spoilt_received g.H.Storage.IsIntact g.H.Storage.IsOpen g.H.Storage.seen g.H.Storage.left g.H.Storage.IsSoundStore c.args.reading c.args.host.now c.try_receive.new.host c.take_back.new.self _
-    c.requires.rest tried.intact tried.opened kept back.intact back.opened back.survives back.back c.answer_anew.ensures.intact c.args.head.now _ _ tried.tries.given tried.tries.gives whole _ _ c.requires.due owned refused survives _ _ c.answer_anew.ensures.anew
+    c.requires.rest tried.intact tried.opened kept back.intact back.opened back.survives back.back c.answer_anew-told.ensures.intact c.args.head.now _ _ tried.tries.given tried.tries.gives whole _ _ c.requires.due owned refused survives _ _ c.answer_anew-told.ensures.anew
 
 pub returns-in-Ok-Applied-clause-receives : goal.returns-in-Ok-Applied-clause-receives
 returns-in-Ok-Applied-clause-receives g c =

@@ -1,4 +1,5 @@
 use Rattle.std.proofs.lemmas.Result.{err_from_is_err_and}
+use Rattle.bh_host.proofs.Delivering.{found_when}
 use Rattle.bh_host.proofs.Serving.{served_none, served_done, served_refused, served_spoilt}
 use Rattle.bh_host.proofs.receiving.serve_tenant.Goals as goal
 
@@ -10,7 +11,9 @@ returns-in_err-purge-clause-serves g c =
 pub returns-in-Ok-Done-clause-serves : goal.returns-in-Ok-Done-clause-serves
 returns-in-Ok-Done-clause-serves g c =
     let came = rw c.in-Ok-Done.field-0-is at c.in-Ok-Done.ensures in
-    served_done g.H.Storage.IsIntact g.H.Storage.IsOpen g.H.Storage.seen g.H.Storage.left g.H.Storage.IsSoundStore c.args.key c.args.at c.args.head.now _ _ c.args.host.now c.purge.new.self c.requested.new.host c.requires.keyed c.requires.working c.in_ok-purge.ensures.goes_on.within c.in_ok-purge.ensures.purges c.requested.ensures.within c.in-Ok-Done.answer _ came.working came.operates c.in_ok-answer_text-in-Ok-Done.ensures
+    let out = c.in_ok-delivered-in-Ok-Done.ensures in
+    served_done g.H.Storage.IsIntact g.H.Storage.IsOpen g.H.Storage.seen g.H.Storage.left g.H.Storage.IsSoundStore c.args.key c.args.at c.args.head.now _ _ c.args.host.now c.purge.new.self c.requested.new.host c.requires.keyed c.requires.working c.in_ok-purge.ensures.goes_on.within c.in_ok-purge.ensures.purges c.requested.ensures.within
+    c.delivered.new.host out.within out.same c.in-Ok-Done.offer c.in_ok-composed-in-Ok-Done.composed c.in_ok-delivered-in-Ok-Done.field-0 came.working came.operates (found_when c.in-Ok-Done.offer _ _ came.measured) c.in_ok-composed-in-Ok-Done.ensures out.bytes
 
 pub returns-in-Ok-Spoilt-clause-serves : goal.returns-in-Ok-Spoilt-clause-serves
 returns-in-Ok-Spoilt-clause-serves g c =
@@ -20,4 +23,4 @@ returns-in-Ok-Spoilt-clause-serves g c =
 pub returns-in-Err-Refused-clause-serves : goal.returns-in-Err-Refused-clause-serves
 returns-in-Err-Refused-clause-serves g c =
     let came = rw c.in-Err-Refused.field-0-is at c.in-Err-Refused.ensures in
-    served_refused g.H.Storage.IsIntact g.H.Storage.IsOpen g.H.Storage.seen g.H.Storage.left g.H.Storage.IsSoundStore c.args.key c.args.at c.args.head.now _ _ c.args.host.now c.purge.new.self c.requested.new.host c.requires.keyed c.requires.working c.in_ok-purge.ensures.goes_on.within c.in_ok-purge.ensures.purges c.requested.ensures.within c.in-Err-Refused.rejection _ came.working came.operates c.in_ok-refused_request_text-in-Err-Refused.ensures
+    served_refused g.H.Storage.IsIntact g.H.Storage.IsOpen g.H.Storage.seen g.H.Storage.left g.H.Storage.IsSoundStore c.args.key c.args.at c.args.head.now _ _ c.args.host.now c.purge.new.self c.requested.new.host c.requires.keyed c.requires.working c.in_ok-purge.ensures.goes_on.within c.in_ok-purge.ensures.purges c.requested.ensures.within c.in-Err-Refused.rejection c.in_ok-text-in-Err-Refused.text came.working came.operates (rw c.in-Err-Refused.field-0-is at c.in_ok-text-in-Err-Refused.ensures)

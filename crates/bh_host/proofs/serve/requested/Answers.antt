@@ -5,7 +5,7 @@ use Rattle.bh_types.specs.declared.rejection.Rejection.{Rejection}
 use Rattle.bh_http.specs.Views.{with_body}
 use Rattle.bh_http.proofs.BodyLemmas.{gives_none, going_may}
 use Rattle.bh_machine.specs.Machine.{operated, requested}
-use Rattle.bh_storage.specs.Answers.{answer_view}
+use Rattle.bh_storage.specs.Answers.{offer_view}
 use Rattle.bh_storage.specs.Calls.{Clean}
 use Rattle.bh_tables.specs.Typed.{Tables}
 use Rattle.bh_view.specs.View.{latest_of, view}
@@ -26,7 +26,7 @@ returns-in-Ok-clause-operates g c =
     let head = c.args.head.now in
     let operation = c.in-Ok.operation in
     let within = c.operate.ensures.goes_on.within in
-    operates_as answer_view key.tenant (λ given. operated mid.limits c.args.at given operation) (λ given. requested old.limits c.args.at (with_body head given)) (Clean g.H.Storage.IsIntact g.H.Storage.IsOpen c.operate.new.self) _ _ old.now mid.now (seen c.operate.new.self).now c.operate.result
+    operates_as (offer_view (seen c.operate.new.self).now) key.tenant (λ given. operated mid.limits c.args.at given operation) (λ given. requested old.limits c.args.at (with_body head given)) (Clean g.H.Storage.IsIntact g.H.Storage.IsOpen c.operate.new.self) _ _ old.now mid.now (seen c.operate.new.self).now c.operate.result
     (λ clean. (c.in-Ok.ensures.decides [] (within.intact clean.0, within.opened clean.0 clean.1)).1)
     (λ clean given.
     requested_ok old.limits c.args.at key (with_body head given) (view old.now key.tenant) operation (c.requires.keyed given) (c.in-Ok.ensures.decides given (within.intact clean.0, within.opened clean.0 clean.1)).0

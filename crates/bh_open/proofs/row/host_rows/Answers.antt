@@ -1,3 +1,4 @@
+use Rattle.std.proofs.Common.{inl}
 use Rattle.sqlite.specs.Held.{state}
 use Rattle.bh_schema.proofs.Calls.{asks_within, asks_opens, asks_same, asks_trouble}
 use Rattle.bh_open.proofs.Texts.{row_asks, row_rows}
@@ -11,9 +12,9 @@ returns g c =
     let r = c.query_all.result in
     let asks = row_asks c.args.version old new c.requires.schema (λ v. v.items) r h.ok h.survives h.err in
     record {
-      within = asks_within old new c.requires.inside r asks;
-      opens = asks_opens old new c.requires.inside r asks;
-      same = asks_same old new c.requires.inside r asks;
+      within = asks_within old new (λ clean. inl (c.requires.inside clean)) r asks;
+      opens = asks_opens old new (λ clean. inl (c.requires.inside clean)) r asks;
+      same = asks_same old new (λ clean. inl (c.requires.inside clean)) r asks;
       rows = row_rows c.args.version old new c.requires.schema (λ v. v.items) r h.ok h.survives;
-      trouble = asks_trouble old new c.requires.inside r asks;
+      trouble = asks_trouble old new (λ clean. inl (c.requires.inside clean)) r asks;
     }

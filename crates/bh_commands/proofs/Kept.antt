@@ -1,0 +1,24 @@
+-- A host that is kept, as the one that it is of.
+use Rattle.std.proofs.Common.{◌≡◌, Option, Some, None, option_map, refl, sym, subst}
+use Rattle.sqlite_disk.specs.declared.Disk.{Ghosts}
+use Rattle.sqlite_store.specs.declared.store.FileStore.{FileStore}
+use Rattle.sqlite.specs.Files.{over_files}
+use Rattle.bh_tables.specs.Schema.{Octets}
+use Rattle.bh_view.specs.Bodies.{IsSoundHost}
+use Rattle.bh_storage.specs.Calls.{Clean, IsAtRest}
+use Rattle.bh_schema.specs.Storage as storage
+use Rattle.bh_dispatch.specs.declared.storage.HostStorage.{HostStorage}
+use Rattle.bh_kept.specs.Kept as kept
+use Rattle.bh_kept.specs.declared.host.KeptHost.{KeptHost}
+
+pub rests_kept : {D G : Type 0} {g : Ghosts D} (digest : Octets → Octets) (first : KeptHost D G g) (host : HostStorage (FileStore D g) G) → first.storage ≡ Some host
+    → (storage.IsClean over_files host.host → IsAtRest (IsSoundHost digest) (storage.seen over_files host.host))
+    → Clean (λ h. kept.IsIntact h.storage) (λ h. kept.IsOpen h.storage) first → IsAtRest (IsSoundHost digest) (kept.seen first.limits first.storage)
+rests_kept {D} {G} {g} digest first host is rest clean =
+    let P : Option (HostStorage (FileStore D g) G) → Type 0 = λ o. kept.IsIntact o × kept.IsOpen o → IsAtRest (IsSoundHost digest) (kept.seen first.limits o) in
+    subst P (sym is) rest clean
+
+-- what is left of a value that is there
+pub left_of : {A B : Type 0} (f : A → B) (o : Option A) (y : B) → option_map f o ≡ Some y → (x : A) × (o ≡ Some x) × (y ≡ f x)
+left_of f None y is = absurd (cc)
+left_of {A} {B} f (Some x) y is = let same : f x ≡ y = cc in (x, refl, sym same)

@@ -1,0 +1,54 @@
+//! A storage that can be copied between two events.
+
+ghost use Rattle.std.specs.Prelude.{◌≡◌, Bool, IfSome};
+ghost use Rattle.bh_tables.specs.Typed.{Tables};
+ghost use Rattle.bh_storage.specs.Calls.{Clean, IsAtRest};
+ghost use Rattle.bh_connection.specs.Backups.{IsBackedUp};
+ghost use Rattle.bh_connection.specs.Connections.{IsTakenBack};
+
+use bh_storage::storage::Storage;
+
+/// What is answered once a copy is made and synced.
+const BACKUP: &[u8] = b"backup";
+
+/// What is answered where none was made, or the host was lost over it.
+const FAULT: &[u8] = b"fault";
+
+/// A storage of which a copy can be made in a file of its own.
+pub trait BackUp: Storage {
+    /// A copy.
+    type Copy: Drop;
+
+    /// Whoever opens it, also after a crash, is shown these tables.
+    ghost shows: { Self.Copy → Tables → Type 0 };
+
+    /// It was closed to be copied, and couldn't be opened again: no call on it does anything from then on.
+    ghost lost: { Self → Bool };
+
+    fn is_lost(&self) -> bool
+        ensures { result ≡ lost self.now };
+
+    /// Copies what stands to a new file of this name, and syncs it. None where the name is taken, the copy isn't made, or the
+    /// storage isn't opened again: standard error tells why.
+    fn back_up(&mut self, to: &str) -> Option<Self::Copy>
+        requires { Clean Self.IsIntact Self.IsOpen self.old → IsAtRest Self.IsSoundStore (Self.seen self.old) }
+        ensures intact { Self.IsIntact self.new → Self.IsIntact self.old }
+        ensures stays { IsTakenBack Self.IsIntact Self.IsOpen Self.seen Self.left self.old self.new }
+        ensures ready { Clean Self.IsIntact Self.IsOpen self.new → IsAtRest Self.IsSoundStore (Self.seen self.new) }
+        ensures limits { (Self.seen self.new).limits ≡ (Self.seen self.old).limits }
+        ensures copied { IfSome result (λ copy. Self.IsIntact self.new → shows copy (Self.seen self.old).now) };
+}
+
+/// Copies a storage, and gives what is answered.
+pub(crate) fn backup_reply<H: BackUp>(host: &mut H, to: &str) -> &'static [u8]
+    requires { Clean H.IsIntact H.IsOpen host.old → IsAtRest H.IsSoundStore (H.seen host.old) }
+    ensures intact { H.IsIntact host.new → H.IsIntact host.old }
+    ensures ready { Clean H.IsIntact H.IsOpen host.new → IsAtRest H.IsSoundStore (H.seen host.new) }
+    ensures limits { (H.seen host.new).limits ≡ (H.seen host.old).limits }
+    ensures backed_up { IsBackedUp H.IsIntact H.IsOpen H.seen H.left H.shows result.now host.old host.new }
+{
+    match host.back_up(to) {
+        Some(_) => BACKUP,
+        None => FAULT,
+    }
+}

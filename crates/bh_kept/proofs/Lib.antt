@@ -1,0 +1,4 @@
+mod Held
+mod Again
+mod Keeping
+mod Shown

@@ -1,0 +1,130 @@
+-- What a host shows that was closed and opened again.
+use Rattle.std.proofs.Common.{◌≡◌, false, Option, Some, IfSome, refl, sym, ap, subst, ◌∙◌}
+use Rattle.sqlite_disk.specs.declared.Disk.{Ghosts}
+use Rattle.sqlite_store.specs.declared.store.FileStore.{FileStore}
+use Rattle.sqlite.specs.Files.{file_state}
+use Rattle.sqlite.specs.Held.{Held}
+use Rattle.sqlite.specs.State.{HasCleanDisk}
+use Rattle.bh_types.specs.Limits.{HostLimits, HostTuning}
+use Rattle.bh_tables.specs.Hosts.{tables_shown}
+use Rattle.bh_tables.specs.Typed.{Tables}
+use Rattle.bh_view.specs.View.{limits_in}
+use Rattle.bh_storage.specs.Calls.{IsAtRest}
+use Rattle.bh_cache.specs.Kept.{KeptBlocks, no_blocks}
+use Rattle.bh_schema.specs.Layer.{standing, IsIntact, IsOpen, Leaves}
+use Rattle.bh_schema.specs.Storage.{beside, seen_in, left_in}
+use Rattle.bh_backup.specs.Copies.{IsFileOf}
+use Rattle.bh_dispatch.specs.declared.storage.HostStorage.{HostStorage}
+use Rattle.bh_kept.specs.Closings.{IsOpenAgain}
+use Rattle.bh_kept.specs.Kept as kept
+use Rattle.bh_kept.specs.Kept.{Shows}
+use Rattle.bh_kept.proofs.Held.{if_some}
+
+module _ {D : Type 0} {g : Ghosts D} (cache : KeptBlocks) (tuning : HostTuning) (limits : HostLimits) (old again : Held (FileStore D g)) where
+  kept_shown : (beside cache (seen_in limits (file_state old))).kept ≡ tables_shown (file_state old).committed
+  unfolding beside seen_in standing
+  kept_shown = refl
+
+  now_shown : IsOpenAgain old again → (beside (no_blocks tuning) (seen_in limits (file_state again))).now ≡ tables_shown (file_state old).committed
+  unfolding beside seen_in standing
+  now_shown it = ap tables_shown (it.opens.clean ∙ it.same)
+
+  kept_again : IsOpenAgain old again → (beside (no_blocks tuning) (seen_in limits (file_state again))).kept ≡ tables_shown (file_state old).committed
+  unfolding beside seen_in standing
+  kept_again it = ap tables_shown it.same
+
+  outside_again : IsOpenAgain old again → (beside (no_blocks tuning) (seen_in limits (file_state again))).inside ≡ false
+  unfolding beside seen_in standing
+  outside_again it = it.opens.autocommit
+
+  pub limits_kept : (beside (no_blocks tuning) (seen_in limits (file_state again))).limits ≡ (beside cache (seen_in limits (file_state old))).limits
+  unfolding beside seen_in standing
+  limits_kept = refl
+
+  limits_again : (beside (no_blocks tuning) (seen_in limits (file_state again))).limits ≡ limits
+  unfolding beside seen_in standing
+  limits_again = refl
+
+  limits_before : (beside cache (seen_in limits (file_state old))).limits ≡ limits
+  unfolding beside seen_in standing
+  limits_before = refl
+
+  pub opened_before : (HasCleanDisk (file_state again) → IsOpenAgain old again) → IsIntact (file_state again) → IsIntact (file_state old)
+  unfolding IsIntact
+  opened_before found intact = (found intact).was_clean
+
+  pub was_up : (HasCleanDisk (file_state again) → IsOpenAgain old again) → IsIntact (file_state again) → IsOpen (file_state old)
+  unfolding IsIntact IsOpen
+  was_up found intact = (found intact).was_open
+
+  pub found_again : (HasCleanDisk (file_state again) → IsOpenAgain old again) → IsIntact (file_state again) → IsOpenAgain old again
+  unfolding IsIntact
+  found_again found intact = found intact
+
+  pub clean_again : IsIntact (file_state again) → HasCleanDisk (file_state again)
+  unfolding IsIntact
+  clean_again intact = intact
+
+  pub left_before : IsOpenAgain old again → (x : Tables) → left_in (file_state again) x → left_in (file_state old) x
+  unfolding left_in Leaves
+  left_before it x (db, may, sound, is) = (db, it.leaves db.trees may, sound, is)
+
+  module _ (it : IsOpenAgain old again) (IsSound : Tables → Type 0) (rest : IsAtRest IsSound (beside cache (seen_in limits (file_state old)))) where
+    pub stands : (beside (no_blocks tuning) (seen_in limits (file_state again))).now ≡ (beside cache (seen_in limits (file_state old))).now
+    stands = now_shown it ∙ sym kept_shown ∙ rest.committed
+
+    pub rests : IsAtRest IsSound (beside (no_blocks tuning) (seen_in limits (file_state again)))
+    rests = record {
+      outside = outside_again it;
+      committed = kept_again it ∙ sym (now_shown it);
+      sound = subst IsSound (sym stands) rest.sound;
+      limits = ap limits_in stands ∙ rest.limits ∙ limits_before ∙ sym limits_again;
+    }
+
+    pub copy_shows : {E : Type 0} (e : Ghosts E) (copy : E) → IsFileOf e (file_state old).committed copy → Shows e copy (beside cache (seen_in limits (file_state old))).now
+    copy_shows e copy file = ((file_state old).committed, file, sym rest.committed ∙ kept_shown)
+
+-- ---- the same of a host that is kept
+
+module _ {D G : Type 0} {g : Ghosts D} (digester : G) (cache : KeptBlocks) (limits made_with : HostLimits) (old : Held (FileStore D g))
+    (was : Option (HostStorage (FileStore D g) G)) (is : was ≡ Some (record { host = record { connection = old; digester = digester; limits = limits; cache = cache } })) where
+  pub limits_stay : limits ≡ (kept.seen made_with was).limits
+  limits_stay = sym (ap (λ o. (kept.seen made_with o).limits) is ∙ limits_before cache cache.tuning limits old old)
+
+  module _ (tuning : HostTuning) (again : Held (FileStore D g)) where
+    pub limits_after : (beside (no_blocks tuning) (seen_in limits (file_state again))).limits ≡ (kept.seen made_with was).limits
+    limits_after = limits_again cache tuning limits old again ∙ limits_stay
+
+    module _ (found : HasCleanDisk (file_state again) → IsOpenAgain old again) where
+      pub intact_kept : IsIntact (file_state again) → kept.IsIntact was
+      intact_kept intact = subst (λ o. kept.IsIntact o) (sym is) (opened_before cache tuning limits old again found intact)
+
+      up_kept : IsIntact (file_state again) → kept.IsOpen was
+      up_kept intact = subst (λ o. kept.IsOpen o) (sym is) (was_up cache tuning limits old again found intact)
+
+      pub left_kept : IsIntact (file_state again) → (x : Tables) → left_in (file_state again) x → kept.left was x
+      left_kept intact x may = subst (λ o. kept.left o x) (sym is) (left_before cache tuning limits old again (found_again cache tuning limits old again found intact) x may)
+
+      module _ (IsSound : Tables → Type 0) (rest : kept.IsIntact was × kept.IsOpen was → IsAtRest IsSound (kept.seen made_with was)) where
+        rest_before : IsIntact (file_state again) → IsAtRest IsSound (beside cache (seen_in limits (file_state old)))
+        rest_before intact = subst (λ o. IsAtRest IsSound (kept.seen made_with o)) is (rest (intact_kept intact, up_kept intact))
+
+        pub same_kept : IsIntact (file_state again) → kept.IsOpen was × ((beside (no_blocks tuning) (seen_in limits (file_state again))).now ≡ (kept.seen made_with was).now)
+        same_kept intact =
+            let stay = stands cache tuning limits old again (found_again cache tuning limits old again found intact) IsSound (rest_before intact) in
+            (up_kept intact, stay ∙ sym (ap (λ o. (kept.seen made_with o).now) is))
+
+        pub rests_kept : IsIntact (file_state again) → IsAtRest IsSound (beside (no_blocks tuning) (seen_in limits (file_state again)))
+        rests_kept intact = rests cache tuning limits old again (found_again cache tuning limits old again found intact) IsSound (rest_before intact)
+
+        copy_kept : {E : Type 0} (e : Ghosts E) (copy : E) → (HasCleanDisk (file_state again) → IsFileOf e (file_state old).committed copy) → IsIntact (file_state again) → Shows e copy (kept.seen made_with was).now
+        copy_kept e copy file intact =
+            let it = found_again cache tuning limits old again found intact in
+            subst (λ o. Shows e copy (kept.seen made_with o).now) (sym is) (copy_shows cache tuning limits old again it IsSound (rest_before intact) e copy (file (clean_again cache tuning limits old again intact)))
+
+        pub copies_kept : {E : Type 0} (e : Ghosts E) (made : Option E) (opened : Option (Held (FileStore D g))) → opened ≡ Some again
+            → IfSome made (λ copy. IfSome opened (λ it. HasCleanDisk (file_state it) → IsFileOf e (file_state old).committed copy))
+            → IfSome made (λ copy. IsIntact (file_state again) → Shows e copy (kept.seen made_with was).now)
+        copies_kept e made opened same copies =
+            if_some {Q = λ copy. IsIntact (file_state again) → Shows e copy (kept.seen made_with was).now} made
+            (λ copy file. copy_kept e copy (subst (λ o. IfSome o (λ it. HasCleanDisk (file_state it) → IsFileOf e (file_state old).committed copy)) same file)) copies

@@ -1,0 +1,134 @@
+//! The files of a connection, closed, copied and opened again.
+
+ghost use Rattle.std.specs.Prelude.{◌≡◌, IfSome, IsTrue};
+ghost use Rattle.sqlite.specs.Files.{file_state};
+ghost use Rattle.sqlite.specs.Held.{state};
+ghost use Rattle.sqlite.specs.State.{HasCleanDisk, IsLive};
+ghost use Rattle.sqlite_wal.specs.Reads.{AreClean, IsClean, OnlyReads};
+ghost use Rattle.bh_backup.specs.Copies.{HasAlone, IsFileOf};
+ghost use Rattle.bh_kept.specs.Closings.{IsHeldIn, IsOpenAgain};
+
+use crate::closing::{Unclosed, close};
+use bh_backup::save_files;
+use bh_file::open_database;
+use sqlite::{Alter, Connection, FileFrom, FileStore, Files, Wary};
+use sqlite_disk::Disk;
+use std::fmt;
+
+/// A file that was made as a copy. Its bytes are those that were written to it: whatever it held before is cut off first.
+pub type CopyFile = FileFrom<Wary>;
+
+/// The files of a connection, closed, and the copy of the database file, if one was made.
+#[derive(Drop)]
+struct ClosedHost<D: Disk + Drop> {
+    files: Files<D>,
+    copy: Option<CopyFile>,
+}
+
+/// A copy of a database file, if one was made, and the connection, opened again if it could be.
+#[derive(Drop)]
+pub struct CopiedHost<D: Disk + Drop> {
+    pub copy: Option<CopyFile>,
+    pub connection: Option<Connection<FileStore<D>>>,
+}
+
+/// Says on standard error what became of a backup. What standard error doesn't take is lost.
+fn tell(errors: &impl Eprint, to: &str, what: &str, why: &impl fmt::Display) {
+    let _ = eprintln!(errors; "bucketd: {what} {to}: {why}");
+}
+
+/// Copies a database file that is closed to a new one, if nothing hinders it.
+fn copy_of<D: Disk + Drop>(rt: &HostRuntime, files: &mut Files<D>, to: &str) -> Option<CopyFile>
+    requires { IsTrue (D.Disk.is_usable files.old.db) }
+    ensures copied { IfSome result (λ copy. IsClean D.Disk files.new.db
+        → HasAlone ⟦<FileFrom<Wary> as Disk>⟧ (D.Disk.seen files.old.db) copy) }
+    ensures read { OnlyReads D.Disk files.old.db files.new.db }
+    ensures log { files.new.log ≡ files.old.log }
+{
+    match save_files(rt, files, to, Wary) {
+        Ok(copy) => Some(copy),
+        Err(fault) => {
+            tell(rt, to, "no backup in", &fault);
+            None
+        }
+    }
+}
+
+/// Closes the files of a connection and copies the database file. Without a copy where the log isn't copied into that; none
+/// where a fault has shut them.
+fn closed_and_copied<D: Disk + Drop>(
+    rt: &HostRuntime,
+    connection: Connection<FileStore<D>>,
+    to: &str,
+) -> Option<ClosedHost<D>>
+    ensures usable { IfSome result (λ it. IsTrue (D.Disk.is_usable it.files.log) × IsTrue (D.Disk.is_usable it.files.db)) }
+    ensures held { IfSome result (λ it. AreClean D.Disk it.files.log it.files.db → IsHeldIn connection it.files) }
+    ensures copied { IfSome result (λ it. IfSome it.copy (λ copy. AreClean D.Disk it.files.log it.files.db
+        → IsFileOf ⟦<FileFrom<Wary> as Disk>⟧ (file_state connection).committed copy)) }
+{
+    look(&connection);
+    match close(connection) {
+        Ok(mut files) => {
+            let copy = copy_of(rt, &mut files, to);
+            Some(ClosedHost { files, copy })
+        }
+        Err(Unclosed { error, files }) => {
+            tell(
+                rt,
+                to,
+                "the host's log isn't copied into its file, so there is no backup in",
+                &error,
+            );
+            Some(ClosedHost {
+                files: files?,
+                copy: None,
+            })
+        }
+    }
+}
+
+/// Copies the database file of a connection to a new one, and opens the connection again.
+///
+/// Where that fails, or a fault has shut the files, there is no connection: standard error tells why.
+pub fn copy_and_open<D: Disk + Drop>(
+    rt: &HostRuntime,
+    connection: Connection<FileStore<D>>,
+    to: &str,
+) -> CopiedHost<D>
+    ensures again { IfSome result.connection (λ again. HasCleanDisk (file_state again) → IsOpenAgain connection again) }
+    ensures copied { IfSome result.copy (λ copy. IfSome result.connection (λ again. HasCleanDisk (file_state again)
+        → IsFileOf ⟦<FileFrom<Wary> as Disk>⟧ (file_state connection).committed copy)) }
+{
+    look(&connection);
+    let Some(closed) = closed_and_copied(rt, connection, to) else {
+        return CopiedHost {
+            copy: None,
+            connection: None,
+        };
+    };
+    match open_database(rt, closed.files) {
+        Ok(again) => CopiedHost {
+            copy: closed.copy,
+            connection: Some(again),
+        },
+        Err(fault) => {
+            tell(
+                rt,
+                to,
+                "the host isn't opened again after the backup in",
+                &fault,
+            );
+            CopiedHost {
+                copy: closed.copy,
+                connection: None,
+            }
+        }
+    }
+}
+
+/// While no fault has shut a connection, its databases list their schemas.
+fn look<S: Alter>(connection: &Connection<S>)
+    ensures { IsLive (state S.Store connection.now) }
+{
+    let _schema = connection.schema();
+}

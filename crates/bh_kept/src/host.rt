@@ -1,0 +1,46 @@
+//! A host in files, as long as it can be opened.
+
+ghost use Rattle.std.specs.Prelude.{◌≡◌, Some, option_map};
+
+use bh_dispatch::storage::HostStorage;
+use bh_schema::host::{Digester, Host};
+use bh_types::limits::Limits;
+use sqlite::{Connection, FileStore};
+use sqlite_disk::Disk;
+
+/// A host in files. A backup closes them, and a host that can't be opened again then is lost.
+#[derive(Drop)]
+pub struct KeptHost<'a, D: Disk + Drop, G: Digester + Drop> {
+    pub(crate) rt: &'a HostRuntime,
+    /// The host, until it is lost.
+    pub storage: Option<HostStorage<FileStore<D>, G>>,
+    /// What it was made with.
+    pub limits: Limits,
+}
+
+impl<'a, D: Disk + Drop, G: Digester + Drop> KeptHost<'a, D, G> {
+    pub fn new(rt: &'a HostRuntime, host: Host<FileStore<D>, G>) -> KeptHost<'a, D, G>
+        ensures { result.storage ≡ Some (record { host = host }) }
+    {
+        KeptHost {
+            rt,
+            limits: host.limits,
+            storage: Some(HostStorage { host }),
+        }
+    }
+
+    /// The database, which is what is left of the host, unless that was lost.
+    pub fn into_connection(self) -> Option<Connection<FileStore<D>>>
+        ensures { result ≡ option_map (λ it. it.host.connection) self.entry.storage }
+    {
+        let KeptHost {
+            rt: _,
+            storage,
+            limits: _,
+        } = self;
+        match storage {
+            Some(storage) => Some(storage.host.into_connection()),
+            None => None,
+        }
+    }
+}

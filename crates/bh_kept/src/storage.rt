@@ -1,0 +1,177 @@
+use crate::copying::{CopiedHost, CopyFile, copy_and_open};
+use crate::host::KeptHost;
+use bh_cache::blocks::BlockCache;
+use bh_connection::BackUp;
+use bh_dispatch::storage::HostStorage;
+use bh_event::event::Command;
+use bh_http::body::Body;
+use bh_operation::operation::Operation;
+use bh_schema::host::{Digester, Host};
+use bh_storage::answer::{Answer, Offer};
+use bh_storage::error::{Outcome, StepError, Trouble};
+use bh_storage::plan::Plan;
+use bh_storage::report::{StoreReport, SweepReport, TenantReport};
+use bh_storage::storage::Storage;
+use bh_types::access_key::AccessKeyId;
+use bh_types::limits::Limits;
+use bh_types::moment::Moment;
+use bh_types::names::TenantName;
+use bh_types::refusal::Refusal;
+use bh_types::rejection::Rejection;
+use sqlite::{FileFrom, FileStore, Wary};
+use sqlite_disk::Disk;
+use std::alloc::Global;
+
+/// Each call is the host's; of one that was lost it says that the store was wanting.
+impl<'a, D: Disk + Drop, G: Digester + Drop> Storage for KeptHost<'a, D, G> {
+    ghost use Rattle.bh_kept.specs.Kept as kept;
+    ghost use Rattle.bh_view.specs.Bodies.{IsSoundHost};
+
+    ghost seen = { λ h. kept.seen h.limits h.storage };
+
+    ghost IsIntact = { λ h. kept.IsIntact h.storage };
+
+    ghost IsOpen = { λ h. kept.IsOpen h.storage };
+
+    ghost IsSoundStore = { IsSoundHost G.digest_of };
+
+    ghost left = { λ h. kept.left h.storage };
+
+    fn limits(&self) -> Limits {
+        match &self.storage {
+            Some(storage) => storage.limits(),
+            None => self.limits,
+        }
+    }
+
+    fn begin(&mut self) -> Result<(), Trouble> {
+        match &mut self.storage {
+            Some(storage) => storage.begin(),
+            None => Err(Trouble::Store),
+        }
+    }
+
+    fn commit(&mut self) -> Result<(), Trouble> {
+        match &mut self.storage {
+            Some(storage) => storage.commit(),
+            None => Err(Trouble::Store),
+        }
+    }
+
+    fn take_back(&mut self) {
+        match &mut self.storage {
+            Some(storage) => storage.take_back(),
+            None => {}
+        }
+    }
+
+    fn stamp(&mut self, reading: u64) -> Result<Moment, Trouble> {
+        match &mut self.storage {
+            Some(storage) => storage.stamp(reading),
+            None => Err(Trouble::Store),
+        }
+    }
+
+    fn purge(&mut self, alloc: Global, tenant: &TenantName, at: Moment) -> Result<(), Trouble> {
+        match &mut self.storage {
+            Some(storage) => storage.purge(alloc, tenant, at),
+            None => Err(Trouble::Store),
+        }
+    }
+
+    fn authenticate(
+        &mut self,
+        alloc: Global,
+        key: &AccessKeyId,
+        secret: &[u8],
+    ) -> Result<(), StepError<Refusal>> {
+        match &mut self.storage {
+            Some(storage) => storage.authenticate(alloc, key, secret),
+            None => Err(StepError::Failed(Trouble::Store)),
+        }
+    }
+
+    fn operate<B: Body>(
+        &mut self,
+        alloc: Global,
+        tenant: &TenantName,
+        at: Moment,
+        operation: &Operation,
+        body: &mut B,
+    ) -> Result<Outcome<Offer, Rejection>, StepError<Rejection>> {
+        match &mut self.storage {
+            Some(storage) => storage.operate(alloc, tenant, at, operation, body),
+            None => Err(StepError::Failed(Trouble::Store)),
+        }
+    }
+
+    fn next_piece(&mut self, alloc: Global, plan: &mut Plan) -> Result<Option<Vec<u8>>, Trouble> {
+        match &mut self.storage {
+            Some(storage) => storage.next_piece(alloc, plan),
+            None => Err(Trouble::Store),
+        }
+    }
+
+    fn command(&mut self, alloc: Global, command: &Command) -> Result<Answer, StepError<Refusal>> {
+        match &mut self.storage {
+            Some(storage) => storage.command(alloc, command),
+            None => Err(StepError::Failed(Trouble::Store)),
+        }
+    }
+
+    fn sweep(&mut self, alloc: Global, at: Moment, limit: u32) -> Result<SweepReport, Trouble> {
+        match &mut self.storage {
+            Some(storage) => storage.sweep(alloc, at, limit),
+            None => Err(Trouble::Store),
+        }
+    }
+
+    fn report(&mut self) -> Result<StoreReport, Trouble> {
+        match &mut self.storage {
+            Some(storage) => storage.report(),
+            None => Err(Trouble::Store),
+        }
+    }
+
+    fn tenants(&mut self, alloc: Global) -> Result<Vec<TenantReport>, Trouble> {
+        match &mut self.storage {
+            Some(storage) => storage.tenants(alloc),
+            None => Err(Trouble::Store),
+        }
+    }
+}
+
+impl<'a, D: Disk + Drop, G: Digester + Drop> BackUp for KeptHost<'a, D, G> {
+    ghost use Rattle.bh_kept.specs.Kept as kept;
+
+    type Copy = CopyFile;
+
+    ghost shows = { kept.Shows ⟦<FileFrom<Wary> as Disk>⟧ };
+
+    ghost lost = { λ h. kept.is_lost h.storage };
+
+    fn is_lost(&self) -> bool {
+        self.storage.is_none()
+    }
+
+    fn back_up(&mut self, to: &str) -> Option<CopyFile> {
+        let HostStorage { host } = self.storage.take()?;
+        let Host {
+            connection,
+            digester,
+            limits,
+            cache,
+        } = host;
+        self.limits = limits;
+        let CopiedHost { copy, connection } = copy_and_open(self.rt, connection, to);
+        self.storage = Some(HostStorage {
+            host: Host {
+                connection: connection?,
+                digester,
+                limits,
+                cache: BlockCache::new(cache.tuning()),
+            },
+        });
+        copy
+    }
+}
