@@ -6,8 +6,8 @@
 sizes: bodies of 1 KiB to 16 MiB, of blocks that are new and of blocks that another object has, on a file that lies in
 memory and on the disk (FOLDER in the environment names its folder). growth: puts and gets of 1 KiB in a bucket with 100
 to 100,000 objects. memory: the greatest resident memory of a server that got or gave one body of 16 MiB; great: of
-one that got and gave a body of 1 GiB, and how long the next client waits for one that reads nothing of it and is broken off
-after 2 seconds. plain: a get of 16 MiB beside a plain server's, which reads a file of the same bytes and sends it. digest:
+one that got 1 GiB as a document and with a request that reads no body, of one that got and gave an object of 1 GiB, and
+how long the next client waits for one that reads nothing of that and is broken off after 2 seconds. plain: a get of 16 MiB beside a plain server's, which reads a file of the same bytes and sends it. digest:
 the share of SHA-256 in puts of 16 MiB, by Linux's perf.
 """
 import os
@@ -77,6 +77,11 @@ def memory(program):
 
 
 def great(program):
+    with in_folder(SHARED_MEMORY) as folder, Server(program, folder, limits=("--max-body", str(1 << 30))) as server:
+        took, _ = server.ask(b"PUT", "?versioning", b" " * (1 << 30), b"400 Bad Request")
+        print(f"a document of 1 GiB, refused: peak {server.memory('VmHWM'):.0f} MB; {took / 1000:.1f} s", flush=True)
+        took, _ = server.ask(b"GET", "?versioning", b" " * (1 << 30))
+        print(f"1 GiB that nothing reads: peak {server.memory('VmHWM'):.0f} MB; {took / 1000:.1f} s", flush=True)
     body = os.urandom(1 << 30)
     with in_folder(SHARED_MEMORY) as folder, Server(program, folder, "--timeout", "2", limits=("--max-body", str(len(body)))) as server:
         before = server.memory("VmHWM")

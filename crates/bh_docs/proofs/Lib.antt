@@ -4,3 +4,4 @@ pub mod Floats
 pub mod Markers
 pub mod Ranges
 pub mod Retained
+pub mod Lengths

@@ -1,6 +1,6 @@
 -- What request documents ask: MalformedJSON where the shape is another, anywhere in the document,
 -- and then InvalidArgument where a whole number is out of its range.
-use Rattle.std.specs.Prelude.{ℕ, ℤ, pos, negsuc, ◌&&◌, nat_le, List, [], ◌∷◌, codes, Option, Some, None, option_map, ok_or, Result, Ok, Err, if◌then◌else◌, string_bytes}
+use Rattle.std.specs.Prelude.{ℕ, ℤ, pos, negsuc, ◌&&◌, nat_le, List, [], ◌∷◌, length, codes, Option, Some, None, option_map, ok_or, Result, Ok, Err, if◌then◌else◌, string_bytes}
 use Rattle.std.specs.Str.{bytes_eq}
 use Rattle.serde_json.specs.Data.{Data}
 use Rattle.bh_types.specs.Moments.{moment_of}
@@ -20,9 +20,13 @@ abbrev pub ranged : ℕ → ℕ → ℤ → Result ℕ Refusal
 ranged low high (pos n) = if nat_le low n && nat_le n high then Ok n else Err InvalidArgument
 ranged low high (negsuc n) = Err InvalidArgument
 
--- the document of a body
+-- how many bytes a request document has at most
+abbrev pub document_end : ℕ
+document_end = 2097152
+
+-- the document of a body, which is not longer
 abbrev pub document_of : List ℕ → Result Data Refusal
-document_of body = or_malformed (data_of body)
+document_of body = if nat_le (length body) document_end then or_malformed (data_of body) else Err MalformedJson
 
 -- the state that a bucket's versioning is to have
 -- Amazon S3 API Reference, PutBucketVersioning

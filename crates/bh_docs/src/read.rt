@@ -1,11 +1,11 @@
 //! Reading request documents. Each reader answers with what the document asks, a refusal, or want
-//! of memory.
+//! of memory. A body of more than `DOCUMENT_END` bytes is refused with `MalformedJson`, as one of another shape is.
 
 ghost use Rattle.std.specs.Prelude.{◌≡◌, map};
 ghost use Rattle.serde_json.specs.View.{view};
 ghost use Rattle.bh_types.specs.Outcomes.{Gives};
 ghost use Rattle.bh_docs.specs.Requests as spec;
-ghost use Rattle.bh_docs.specs.Shapes.{part_view, retention_view};
+ghost use Rattle.bh_docs.specs.Shapes.{data_of, part_view, retention_view};
 
 use crate::shape::{
     PartShape, RetentionShape, complete_shape, lifecycle_shape, retention_shape, versioning_shape,
@@ -17,6 +17,10 @@ use bh_types::refusal::Refusal;
 use bh_types::wanted::Named;
 use serde_json::Value;
 use std::alloc::{AllocError, Global};
+
+/// How many bytes a request document has at most: a completion of 10,000 parts has 0.9 million, and 1.2 million where each
+/// member has a line of its own.
+pub const DOCUMENT_END: u64 = 2_097_152;
 
 /// The state that a bucket's versioning is to have, by `{"Status":"Enabled"}` or
 /// `{"Status":"Suspended"}`. Any other body is refused with `MalformedJson`.
@@ -121,8 +125,8 @@ fn or_malformed<T: Drop>(found: Option<T>) -> Result<T, RequestError>
     }
 }
 
-fn read_document(alloc: Global, body: &[u8]) -> Result<Value, RequestError>
-    ensures { Gives view result (spec.document_of body.now) }
+fn parse_document(alloc: Global, body: &[u8]) -> Result<Value, RequestError>
+    ensures { Gives view result (spec.or_malformed (data_of body.now)) }
 {
     match Value::from_slice(alloc, body) {
         Ok(document) => Ok(document),
@@ -134,4 +138,13 @@ fn read_document(alloc: Global, body: &[u8]) -> Result<Value, RequestError>
             }
         }
     }
+}
+
+fn read_document(alloc: Global, body: &[u8]) -> Result<Value, RequestError>
+    ensures { Gives view result (spec.document_of body.now) }
+{
+    if body.len() as u64 > DOCUMENT_END {
+        return Err(RequestError::Refused(Refusal::MalformedJson));
+    }
+    parse_document(alloc, body)
 }

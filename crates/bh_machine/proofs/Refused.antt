@@ -24,7 +24,7 @@ use Rattle.bh_types.specs.declared.refusal.Refusal.{Refusal}
 use Rattle.bh_types.specs.declared.refusal.Refusal.TheVariants.{BadRequest, NotImplemented, MissingContentLength, EntityTooLarge, AccessDenied, InvalidAccessKeyId, InvalidUri, InvalidBucketName, KeyTooLong, InvalidArgument, MalformedJson, NoSuchBucket, NoSuchKey, NoSuchVersion, NoSuchUpload, MethodNotAllowed, BucketAlreadyOwnedByYou, BucketNotEmpty, InvalidBucketState, NoSuchLifecycleConfiguration, InvalidPart, InvalidPartOrder, EntityTooSmall, QuotaExceeded, InvalidRange, BadDigest, IncompleteBody, InvalidRequest, CounterExhausted, ClockOutOfRange, ServiceUnavailable, TenantExists, NoSuchTenant, KeyExists, NoSuchKeyName, InvalidName, InvalidQuota, NotAHostFile, Unavailable}
 use Rattle.bh_types.specs.declared.rejection.Rejection.{Rejection}
 use Rattle.bh_types.proofs.Refusing.{then_only, if_only, require_only, ok_or_only, weaker_only}
-use Rattle.bh_docs.specs.Requests.{or_malformed, ranged, document_of, versioning_of, in_range, in_ranges, complete_of, lifecycle_of, date_told, retention_of}
+use Rattle.bh_docs.specs.Requests.{or_malformed, ranged, document_end, document_of, versioning_of, in_range, in_ranges, complete_of, lifecycle_of, date_told, retention_of}
 use Rattle.bh_docs.specs.Shapes.{Part as Shape, data_of, versioning_shape, complete_shape, lifecycle_shape, retention_shape}
 use Rattle.bh_event.specs.Events.{Order, AddTenant, SetQuota, AddKey, RemoveKey, ShowUsage, ShowKeys, Message, Requested, Ordered, SweepOrdered, ReportOrdered, TenantsOrdered}
 use Rattle.bh_http.specs.Credentials.{key_field, secret_field, secret_of_both, secret_given, key_given}
@@ -302,8 +302,14 @@ or_malformed_only : {A : Type 0} (o : Option A) → Only (or_malformed o)
 or_malformed_only None = refl
 or_malformed_only (Some a) = tt
 
+document_only : (body : Octets) → Only (document_of body)
+document_only body = elim (nat_le (length body) document_end) as (λ b. Only (cond b (or_malformed (data_of body)) (Err MalformedJson))) [
+  | true ↦ or_malformed_only (data_of body)
+  | false ↦ refl
+]
+
 versioning_only : (body : Octets) → Only (versioning_of body)
-versioning_only body = then_only may (document_of body) _ (or_malformed_only (data_of body)) (λ document. or_malformed_only (versioning_shape document))
+versioning_only body = then_only may (document_of body) _ (document_only body) (λ document. or_malformed_only (versioning_shape document))
 
 set_only : (bucket body : Octets) (s : Option State) → Only (set_versioning bucket body s)
 set_only bucket body s = then_only may (versioning_of body) _ (versioning_only body) (λ mode. bucket_only bucket s _
@@ -319,7 +325,7 @@ told_only mode date = elim (bytes_eq mode (codes "COMPLIANCE")) as (λ b. Only (
 
 retention_only : (body : Octets) → Only (retention_of body)
 retention_only body =
-    then_only may (document_of body) _ (or_malformed_only (data_of body))
+    then_only may (document_of body) _ (document_only body)
     (λ document. then_only may (or_malformed (retention_shape document)) _ (or_malformed_only (retention_shape document)) (λ told. told_only told.0 told.1))
 
 retention_set_only : (now : ℕ) (bucket key : Octets) (wanted : Wanted) (body : Octets) (s : Option State) → MaySay (set_retention now bucket key wanted body s)
@@ -378,7 +384,7 @@ ranged_only low high (negsuc n) = refl
 
 lifecycle_only : (body : Octets) → Only (lifecycle_of body)
 lifecycle_only body =
-    then_only may (document_of body) _ (or_malformed_only (data_of body))
+    then_only may (document_of body) _ (document_only body)
     (λ document. then_only may (or_malformed (lifecycle_shape document)) _ (or_malformed_only (lifecycle_shape document)) (λ days. ranged_only 1 3650 days))
 
 rule_set_only : (bucket body : Octets) (s : Option State) → Only (set_lifecycle bucket body s)
@@ -395,7 +401,7 @@ in_ranges_only (part ∷ rest) =
 
 complete_only : (body : Octets) → Only (complete_of body)
 complete_only body =
-    then_only may (document_of body) _ (or_malformed_only (data_of body))
+    then_only may (document_of body) _ (document_only body)
     (λ document. then_only may (or_malformed (complete_shape document)) _ (or_malformed_only (complete_shape document)) in_ranges_only)
 
 finished_only : (limits : HostLimits) (now : ℕ) (bucket key : Octets) (upload : Option UploadId) (body : Octets) (s : Option State)
