@@ -9,6 +9,7 @@ use Rattle.bh_model.specs.State.{Octets}
 use Rattle.bh_tables.specs.Bodies.{resolved_part}
 use Rattle.bh_tables.specs.Typed.{HostRow, TenantRow, VersionRow, PartColumns, Tables}
 use Rattle.bh_tables.specs.Shown.{is_tenant, is_part}
+use Rattle.bh_view.specs.Bodies.{IsResolved}
 use Rattle.bh_view.specs.Grouped.{first}
 use Rattle.bh_view.specs.View.{rows_of, TenantRows, latest_of}
 use Rattle.bh_view.proofs.FactLemmas.{none_first}
@@ -17,12 +18,13 @@ use Rattle.bh_view.proofs.FindLemmas.{first_find}
 use Rattle.bh_view.proofs.Keys.{octets}
 use Rattle.bh_schema.specs.Rows.{latest_in, tenant_numbers}
 use Rattle.bh_schema.specs.declared.rows.tenants.TenantNumbers.{TenantNumbers}
-use Rattle.bh_tenant_rows.specs.Brought.{with_tenants, with_keys, with_buckets, with_locks, with_uploads, with_retains, with_version, with_versions, with_parts, with_names, with_contents, with_rows, IsNext}
+use Rattle.bh_tenant_rows.specs.Brought.{with_tenants, with_keys, with_buckets, with_locks, with_uploads, with_retains, with_version, with_versions, with_part, with_parts, with_names, with_contents, with_rows, IsNext}
 use Rattle.bh_tenant_rows.specs.Shown.{shown_name}
 use Rattle.bh_uploads.specs.Writes.{part_placed}
-use Rattle.bh_moved.specs.Parts.{part_row_after}
-use Rattle.bh_moved.specs.Rows.{tenant_row}
-use Rattle.bh_moved.proofs.Steps.{update_last, version_tenants}
+use Rattle.bh_moved.specs.Parts.{part_of, part_row_after}
+use Rattle.bh_moved.specs.Rows.{all_added, tenant_row, key_of, bucket_of, lock_of, upload_of, retain_of, version_of, version_tenants}
+use Rattle.bh_moved.proofs.OwnRows.{keys_come, buckets_come, locks_come, uploads_come, retains_come, versions_come, parts_come}
+use Rattle.bh_moved.proofs.Steps.{update_last}
 
 -- ---- what is found
 
@@ -76,29 +78,34 @@ module _ (t : Octets) (q v u e : ℕ) (old one two three : Tables) (absent : lis
       ∙ ap (λ l. record old { tenants = update_where (is_tenant t) (λ r. record r { next_upload = u }) l }) (update_last t (λ r. record r { next_version = v; next_entry = e }) old.tenants (record { tenant = t; quota = q; next_version = 1; next_upload = 1; next_entry = 1 }) absent refl)
       ∙ ap (λ l. record old { tenants = l }) (update_last t (λ r. record r { next_upload = u }) old.tenants (record { tenant = t; quota = q; next_version = v; next_upload = 1; next_entry = e }) absent refl)
 
--- ---- table by table
+-- ---- table by table, each row after the other
 
 module _ (t : Octets) (from : Tables) where
-  pub names_chain : (own : List TenantRow) (second third old a k b l : Tables) → second ≡ from → third ≡ from → a ≡ with_tenants own old → k ≡ with_keys (rows_of t from).keys a → b ≡ with_buckets (rows_of t second).buckets k
-      → l ≡ with_locks (rows_of t third).locks b → l ≡ with_names own (rows_of t from) old
+  pub names_chain : (own : List TenantRow) (second third old a k b l : Tables) → second ≡ from → third ≡ from → a ≡ with_tenants own old → k ≡ all_added (λ r. with_keys (key_of t r ∷ [])) (rows_of t from).keys a
+      → b ≡ all_added (λ r. with_buckets (bucket_of t r ∷ [])) (rows_of t second).buckets k → l ≡ all_added (λ r. with_locks (lock_of t r ∷ [])) (rows_of t third).locks b → l ≡ with_names own (rows_of t from) old
   names_chain own second third old a k b l two three first keys buckets locks =
-      locks
-      ∙ (λ i. with_locks (rows_of t (three i)).locks (buckets i))
-      ∙ (λ i. with_locks (rows_of t from).locks (with_buckets (rows_of t (two i)).buckets (keys i)))
+      locks ∙ locks_come t third b
+      ∙ (λ i. with_locks (rows_of t (three i)).locks ((buckets ∙ buckets_come t second k) i))
+      ∙ (λ i. with_locks (rows_of t from).locks (with_buckets (rows_of t (two i)).buckets ((keys ∙ keys_come t from a) i)))
       ∙ ap (λ (x : Tables). with_locks (rows_of t from).locks (with_buckets (rows_of t from).buckets (with_keys (rows_of t from).keys x))) first
 
   module _ (digest : Octets → Octets) (size : ℕ) where
-    pub versions_tenants : (vs : List VersionRow) (tables : Tables) → (with_versions digest size vs tables).tenants ≡ tables.tenants
+    versions_tenants : (vs : List VersionRow) (tables : Tables) → (with_versions digest size vs tables).tenants ≡ tables.tenants
     versions_tenants [] tables = refl
     versions_tenants (v ∷ vs) tables = versions_tenants vs (with_version digest size v tables) ∙ version_tenants digest size v tables
 
-    pub contents_chain : (second third fourth old v u p r : Tables) → second ≡ from → third ≡ from → fourth ≡ from → v ≡ with_versions digest size (rows_of t from).versions old → u ≡ with_uploads (rows_of t second).uploads v
-        → p ≡ with_parts digest size (rows_of t third).parts u → r ≡ with_retains (rows_of t fourth).retains p → r ≡ with_contents digest size (rows_of t from) old
-    contents_chain second third fourth old v u p r two three four versions uploads parts retains =
-        retains
-        ∙ (λ i. with_retains (rows_of t (four i)).retains (parts i))
-        ∙ (λ i. with_retains (rows_of t from).retains (with_parts digest size (rows_of t (three i)).parts (uploads i)))
-        ∙ (λ i. with_retains (rows_of t from).retains (with_parts digest size (rows_of t from).parts (with_uploads (rows_of t (two i)).uploads (versions i))))
+    module _ (second old v u : Tables) (resolved : IsResolved from) (versions : v ≡ all_added (λ r. with_version digest size (version_of t from r)) (rows_of t from).versions old) (uploads : u ≡ all_added (λ r. with_uploads (upload_of t r ∷ [])) (rows_of t second).uploads v) where
+      -- until the parts come, no tenant changes
+      pub tenants_kept : old.tenants ≡ u.tenants
+      tenants_kept = sym (ap (λ (x : Tables). x.tenants) (uploads ∙ uploads_come t second v) ∙ ap (λ (x : Tables). x.tenants) (versions ∙ versions_come t from digest size resolved old) ∙ versions_tenants (rows_of t from).versions old)
+
+      pub contents_chain : (third fourth p r : Tables) → IsResolved third → second ≡ from → third ≡ from → fourth ≡ from → p ≡ all_added (λ x. with_part digest size (part_of t third x)) (rows_of t third).parts u
+          → r ≡ all_added (λ x. with_retains (retain_of t x ∷ [])) (rows_of t fourth).retains p → r ≡ with_contents digest size (rows_of t from) old
+      contents_chain third fourth p r whole two three four parts retains =
+          retains ∙ retains_come t fourth p
+          ∙ (λ i. with_retains (rows_of t (four i)).retains ((parts ∙ parts_come t third digest size whole u) i))
+          ∙ (λ i. with_retains (rows_of t from).retains (with_parts digest size (rows_of t (three i)).parts ((uploads ∙ uploads_come t second v) i)))
+          ∙ (λ i. with_retains (rows_of t from).retains (with_parts digest size (rows_of t from).parts (with_uploads (rows_of t (two i)).uploads ((versions ∙ versions_come t from digest size resolved old) i))))
 
     pub rows_chain : (own : List TenantRow) (second old m r : Tables) → second ≡ from → own ≡ (rows_of t from).tenants → m ≡ with_names own (rows_of t from) old → r ≡ with_contents digest size (rows_of t second) m → r ≡ with_rows digest size (rows_of t from) old
     rows_chain own second old m r two its names contents =

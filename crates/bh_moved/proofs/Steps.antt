@@ -1,24 +1,17 @@
 -- A tenant's row, and what its numbers are while its rows come.
-use Rattle.std.proofs.Common.{◌≡◌, ℕ, true, false, if◌then◌else◌, ◌||◌, cond, List, [], ◌∷◌, ◌++◌, refl, ap, ◌∙◌, subst}
+use Rattle.std.proofs.Common.{◌≡◌, ℕ, true, false, ◌||◌, cond, List, [], ◌∷◌, ◌++◌, ap, ◌∙◌, subst}
 use Rattle.std.specs.List.{list_any}
 use Rattle.sqlite_keyed.specs.Lists.{update_where}
 use Rattle.bh_model.specs.State.{Octets}
-use Rattle.bh_tables.specs.Bodies.{version_name}
-use Rattle.bh_tables.specs.Typed.{TenantRow, VersionRow, Tables}
+use Rattle.bh_tables.specs.Typed.{TenantRow, Tables}
 use Rattle.bh_tables.specs.Shown.{is_tenant}
-use Rattle.bh_view.specs.Bodies.{pieces, body_stored}
-use Rattle.bh_view.specs.Grouped.{same_number}
 use Rattle.bh_view.proofs.GroupedLemmas.{is_itself}
 use Rattle.bh_view.proofs.Keys.{octets}
-use Rattle.bh_tenant_rows.specs.Brought.{with_version, version_after, IsNext}
+use Rattle.bh_tenant_rows.specs.Brought.{IsNext}
 
 -- the tenants are the same
 pub next_same : (t : Octets) (next : ℕ) (old new : Tables) → old.tenants ≡ new.tenants → IsNext t next old → IsNext t next new
 next_same t next old new same is = subst (λ l. update_where (is_tenant t) (λ r. record r { next_entry = next }) l ≡ l) same is
-
--- a version that comes changes no tenant
-pub version_tenants : (digest : Octets → Octets) (size : ℕ) (v : VersionRow) (tables : Tables) → (with_version digest size v tables).tenants ≡ tables.tenants
-version_tenants digest size v tables = elim (same_number v.marker 0) as (λ b. (if b then version_after v (body_stored digest (version_name v) 0 (pieces size v.bytes) tables) else version_after v tables).tenants ≡ tables.tenants) [ true ↦ refl | false ↦ refl ]
 
 -- a row after those of others is the only one that is updated
 pub update_last : (t : Octets) (f : TenantRow → TenantRow) (rows : List TenantRow) (r : TenantRow) → list_any (is_tenant t) rows ≡ false → r.tenant ≡ t → update_where (is_tenant t) f (rows ++ r ∷ []) ≡ rows ++ f r ∷ []

@@ -1,3 +1,4 @@
+pub mod Calls
 pub mod Rows
 pub mod Parts
 pub mod Moves

@@ -1,13 +1,16 @@
 -- When a tenant may be moved between two connections, how that is refused, and what a commit leaves.
-use Rattle.std.specs.Prelude.{◌≡◌, false, Option, Some, None}
+use Rattle.std.specs.Prelude.{◌≡◌, true, false, Option, Some, None, is_some, Result, IfOk}
 use Rattle.sqlite.specs.Held.{Held}
+use Rattle.sqlite.specs.declared.error.Error.{Error}
 use Rattle.sqlite_trees.specs.declared.store.Store.{Ghosts}
 use Rattle.bh_types.specs.declared.refusal.Refusal.{Refusal}
 use Rattle.bh_types.specs.declared.refusal.Refusal.TheVariants.{NoSuchTenant, TenantExists}
-use Rattle.bh_model.specs.State.{State}
+use Rattle.bh_model.specs.State.{State, Octets}
 use Rattle.bh_tables.specs.Typed.{IsHost}
+use Rattle.bh_view.specs.View.{view}
 use Rattle.bh_schema.specs.Layer.{Standing}
-use Rattle.bh_schema.specs.Connections.{IsClean, stands}
+use Rattle.bh_schema.specs.Connections.{IsClean, stands, tables}
+use Rattle.bh_tenant_rows.specs.Brought.{IsMoved}
 
 -- no transaction is open on a host's database
 pub record IsSettled (x : Standing) : Type 0 where
@@ -29,3 +32,16 @@ module _ {S : Type 0} (g : Ghosts S) where
   -- while the connection is clean
   abbrev pub IsReady : Held S → Type 0
   IsReady c = IsClean g c → IsSettled (stands g c)
+
+module _ {S T : Type 0} (g : Ghosts S) (h : Ghosts T) (digest : Octets → Octets) (t : Octets)
+    (from from_new : Held S) (to to_new : Held T) (outcome : Result (Option Refusal) Error) where
+  -- what is told of a tenant that was to be moved
+  pub record Tells : Type 0 where
+    pub moved : IfOk outcome (λ refused. refused ≡ None → IsClean g from_new → IsClean h to_new
+        → IsMoved digest t (tables g from) (tables h to) (tables h to_new))
+    pub answered : IfOk outcome (λ refused. IsClean g from_new → IsClean h to_new
+        → refused ≡ move_refused (view (tables g from) t) (view (tables h to) t))
+    pub missing : IfOk outcome (λ refused. refused ≡ Some NoSuchTenant → IsClean g from_new
+        → is_some (view (tables g from) t) ≡ false)
+    pub exists : IfOk outcome (λ refused. refused ≡ Some TenantExists → IsClean h to_new
+        → is_some (view (tables h to) t) ≡ true)

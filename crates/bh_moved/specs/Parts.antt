@@ -28,4 +28,11 @@ abbrev pub seen_part : PartRow → SeenPart
 seen_part p = record { upload = p.upload; number = p.part; size = p.size; checksum = p.checksum; stamp = p.stamp; body = p.body }
 
 abbrev pub part_seen : ReadPart → SeenPart
-part_seen p = record { upload = p.upload; number = p.number; size = p.size; checksum = string_bytes p.checksum; stamp = p.stamp; body = p.body }
+part_seen p = record {
+  upload = p.upload;
+  number = p.number;
+  size = p.size;
+  checksum = string_bytes p.checksum;
+  stamp = p.stamp;
+  body = p.body;
+}

@@ -1,14 +1,28 @@
 -- Rows as they are read: the tenant is known, and the bytes are those that the body has in the tables.
-use Rattle.std.specs.Prelude.{ℕ}
+use Rattle.std.specs.Prelude.{◌≡◌, ℕ, true, false, if◌then◌else◌, List, [], ◌∷◌, refl}
 use Rattle.std.specs.String.{string_bytes}
 use Rattle.bh_tables.specs.Schema.{Octets}
-use Rattle.bh_tables.specs.Bodies.{whole}
+use Rattle.bh_tables.specs.Bodies.{version_name, whole}
 use Rattle.bh_tables.specs.Typed.{TenantRow, KeyRow, BucketRow, VersionRow, UploadRow, LockRow, RetainRow, Tables}
 use Rattle.bh_schema.specs.declared.rows.tenants.TenantNumbers.{TenantNumbers}
+use Rattle.bh_view.specs.Bodies.{pieces, body_stored}
+use Rattle.bh_view.specs.Grouped.{same_number}
+use Rattle.bh_tenant_rows.specs.Brought.{version_after, with_version}
 use Rattle.bh_moved.specs.declared.versions.ReadVersion.{ReadVersion}
 
+-- the tables once rows have come to them, one after another
+abbrev pub all_added : {R : Type 0} → (R → Tables → Tables) → List R → Tables → Tables
+all_added added [] tables = tables
+all_added added (r ∷ rs) tables = all_added added rs (added r tables)
+
 abbrev pub tenant_row : Octets → TenantNumbers → TenantRow
-tenant_row t n = record { tenant = t; quota = n.quota; next_version = n.next_version; next_upload = n.next_upload; next_entry = n.next_entry }
+tenant_row t n = record {
+  tenant = t;
+  quota = n.quota;
+  next_version = n.next_version;
+  next_upload = n.next_upload;
+  next_entry = n.next_entry;
+}
 
 abbrev pub key_of : Octets → KeyRow → KeyRow
 key_of t k = record k { tenant = t }
@@ -46,4 +60,20 @@ abbrev pub seen_version : VersionRow → SeenVersion
 seen_version v = record { seq = v.seq; bucket = v.bucket; okey = v.okey; id = v.id; stamp = v.stamp; size = v.size; checksum = v.checksum }
 
 abbrev pub version_seen : ReadVersion → SeenVersion
-version_seen v = record { seq = v.seq; bucket = string_bytes v.bucket; okey = v.okey.items; id = v.id; stamp = v.stamp; size = v.size; checksum = string_bytes v.checksum }
+version_seen v = record {
+  seq = v.seq;
+  bucket = string_bytes v.bucket;
+  okey = v.okey.items;
+  id = v.id;
+  stamp = v.stamp;
+  size = v.size;
+  checksum = string_bytes v.checksum;
+}
+
+-- a version that comes changes no tenant
+pub version_tenants : (digest : Octets → Octets) (size : ℕ) (v : VersionRow) (tables : Tables)
+    → (with_version digest size v tables).tenants ≡ tables.tenants
+version_tenants digest size v tables =
+    let body = body_stored digest (version_name v) 0 (pieces size v.bytes) tables in
+    elim (same_number v.marker 0) as (λ b. (if b then version_after v body else version_after v tables).tenants ≡ tables.tenants)
+    [ true ↦ refl | false ↦ refl ]

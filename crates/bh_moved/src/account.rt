@@ -3,8 +3,9 @@
 ghost use Rattle.std.specs.Prelude.{◌≡◌, ◌∷◌, [], false, OnOk};
 ghost use Rattle.std.specs.List.{list_any};
 ghost use Rattle.bh_tables.specs.Shown.{is_tenant};
-ghost use Rattle.bh_schema.specs.Connections.{tables, InTransaction, StaysWithin, StaysOpen, Becomes};
+ghost use Rattle.bh_schema.specs.Connections.{tables, InTransaction, Becomes};
 ghost use Rattle.bh_tenant_rows.specs.Brought.{with_tenants};
+ghost use Rattle.bh_moved.specs.Calls.{Writes};
 ghost use Rattle.bh_moved.specs.Rows.{tenant_row};
 
 use crate::cells::in_range;
@@ -19,9 +20,7 @@ pub fn bring_account<T: Alter>(
     numbers: TenantNumbers,
 ) -> Result<(), Error>
     requires inside { InTransaction T.Store to.old }
-    ensures within { StaysWithin T.Store to.old to.new }
-    ensures opens { OnOk result (StaysOpen T.Store to.old to.new) }
-    ensures inside { OnOk result (InTransaction T.Store to.new) }
+    ensures writes { Writes T.Store to.old to.new result }
     ensures holds { OnOk result (list_any (is_tenant tenant.now) (tables T.Store to.old).tenants ≡ false
         → Becomes T.Store to.old to.new (with_tenants (tenant_row tenant.now numbers ∷ []))) }
 {

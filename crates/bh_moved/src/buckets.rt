@@ -1,14 +1,15 @@
 //! The buckets of a tenant, and their locks.
 
-ghost use Rattle.std.specs.Prelude.{◌≡◌, ◌∷◌, [], List, map, OnOk, ◌<◌, ◌^◌, None, Some, IfSome};
+ghost use Rattle.std.specs.Prelude.{◌∷◌, [], OnOk, ◌<◌, ◌^◌, None, Some, IfSome};
 ghost use Rattle.bh_tables.specs.Typed.{BucketRow, LockRow};
-ghost use Rattle.bh_view.specs.View.{rows_of};
-ghost use Rattle.bh_schema.specs.Connections.{IsClean, tables, InTransaction, StaysWithin, WasOpen, StaysOpen, ChangesNothing, Becomes};
+ghost use Rattle.bh_schema.specs.Connections.{InTransaction, Becomes};
 ghost use Rattle.bh_tenant_rows.specs.Shown.{shown_bucket, shown_lock};
 ghost use Rattle.bh_tenant_rows.specs.Brought.{with_buckets, with_locks};
+ghost use Rattle.bh_moved.specs.Calls.{Writes};
 ghost use Rattle.bh_moved.specs.Rows.{bucket_of, lock_of};
 
 use crate::cells::{maybe_number_at, number_at};
+use crate::plain::Plain;
 use bh_schema::rows::locks::insert_lock;
 use bh_schema::rows::number::number;
 use bh_tenant_rows::reads::{bucket_rows, lock_rows};
@@ -26,8 +27,7 @@ fn insert_plain<T: Alter>(
     requires inside { InTransaction T.Store to.old }
     requires created { created < 2 ^ 63 }
     requires state { state < 2 ^ 63 }
-    ensures within { StaysWithin T.Store to.old to.new }
-    ensures opens { OnOk result (StaysOpen T.Store to.old to.new) }
+    ensures writes { Writes T.Store to.old to.new result }
     ensures holds { OnOk result (Becomes T.Store to.old to.new
         (with_buckets (record { tenant = tenant.now; bucket = bucket.now; created = created; state = state; days = None } ∷ []))) }
 {
@@ -57,8 +57,7 @@ fn insert_ruled<T: Alter>(
     requires created { created < 2 ^ 63 }
     requires state { state < 2 ^ 63 }
     requires days { days < 2 ^ 63 }
-    ensures within { StaysWithin T.Store to.old to.new }
-    ensures opens { OnOk result (StaysOpen T.Store to.old to.new) }
+    ensures writes { Writes T.Store to.old to.new result }
     ensures holds { OnOk result (Becomes T.Store to.old to.new
         (with_buckets (record { tenant = tenant.now; bucket = bucket.now; created = created; state = state; days = Some days } ∷ []))) }
 {
@@ -89,8 +88,7 @@ fn insert_bucket<T: Alter>(
     requires created { created < 2 ^ 63 }
     requires state { state < 2 ^ 63 }
     requires days { IfSome days (λ n. n < 2 ^ 63) }
-    ensures within { StaysWithin T.Store to.old to.new }
-    ensures opens { OnOk result (StaysOpen T.Store to.old to.new) }
+    ensures writes { Writes T.Store to.old to.new result }
     ensures holds { OnOk result (Becomes T.Store to.old to.new
         (with_buckets (record { tenant = tenant.now; bucket = bucket.now; created = created; state = state; days = days } ∷ []))) }
 {
@@ -100,115 +98,53 @@ fn insert_bucket<T: Alter>(
     }
 }
 
-/// Adds the bucket of a row.
-fn bring_bucket<T: Alter>(to: &mut Connection<T>, tenant: &str, row: &Row) -> Result<(), Error>
-    requires inside { InTransaction T.Store to.old }
-    ensures within { StaysWithin T.Store to.old to.new }
-    ensures opens { OnOk result (StaysOpen T.Store to.old to.new) }
-    ensures inside { OnOk result (InTransaction T.Store to.new) }
-    ensures brought { OnOk result ((r : BucketRow) → row.now ≡ shown_bucket r
-        → Becomes T.Store to.old to.new (with_buckets (bucket_of tenant.now r ∷ []))) }
-{
-    let bucket: String = row.get(0)?;
-    let created = number_at(row, 1)?;
-    let state = number_at(row, 2)?;
-    let days = maybe_number_at(row, 3)?;
-    insert_bucket(to, tenant, &bucket, created, state, days)?;
-    Ok(())
-}
+/// Buckets, each in its state, with its rule.
+#[derive(Clone, Copy)]
+pub struct Buckets;
 
-/// Adds the buckets of rows.
-fn bring_bucket_rows<T: Alter>(
-    to: &mut Connection<T>,
-    tenant: &str,
-    rows: &[Row],
-) -> Result<(), Error>
-    requires inside { InTransaction T.Store to.old }
-    ensures within { StaysWithin T.Store to.old to.new }
-    ensures opens { OnOk result (StaysOpen T.Store to.old to.new) }
-    ensures inside { OnOk result (InTransaction T.Store to.new) }
-    ensures brought { OnOk result ((rs : List BucketRow) → rows.now ≡ map shown_bucket rs
-        → Becomes T.Store to.old to.new (with_buckets (map (bucket_of tenant.now) rs))) }
-{
-    for row in rows {
-        bring_bucket(to, tenant, row)?;
+impl Plain for Buckets {
+    ghost Typed = { BucketRow };
+
+    ghost shown = { shown_bucket };
+
+    ghost among = { λ rows. rows.buckets };
+
+    ghost added = { λ t r. with_buckets (bucket_of t r ∷ []) };
+
+    fn read<S: Alter>(&self, from: &mut Connection<S>, tenant: &str) -> Result<Vec<Row>, Error> {
+        bucket_rows(from, tenant)
     }
-    Ok(())
-}
 
-/// Adds the buckets that a tenant of another host has, each in its state, with its rule.
-pub fn bring_buckets<S: Alter, T: Alter>(
-    from: &mut Connection<S>,
-    to: &mut Connection<T>,
-    tenant: &str,
-) -> Result<(), Error>
-    requires reading { InTransaction S.Store from.old }
-    requires inside { InTransaction T.Store to.old }
-    ensures reads { StaysWithin S.Store from.old from.new }
-    ensures read { OnOk result (WasOpen S.Store from.old from.new) }
-    ensures same { OnOk result (ChangesNothing S.Store from.old from.new) }
-    ensures within { StaysWithin T.Store to.old to.new }
-    ensures opens { OnOk result (StaysOpen T.Store to.old to.new) }
-    ensures inside { OnOk result (InTransaction T.Store to.new) }
-    ensures brought { OnOk result (IsClean S.Store from.new
-        → Becomes T.Store to.old to.new (with_buckets (rows_of tenant.now (tables S.Store from.old)).buckets)) }
-{
-    let rows = bucket_rows(from, tenant)?;
-    bring_bucket_rows(to, tenant, &rows)?;
-    Ok(())
-}
-
-/// Locks the bucket of a row.
-fn bring_lock<T: Alter>(to: &mut Connection<T>, tenant: &str, row: &Row) -> Result<(), Error>
-    requires inside { InTransaction T.Store to.old }
-    ensures within { StaysWithin T.Store to.old to.new }
-    ensures opens { OnOk result (StaysOpen T.Store to.old to.new) }
-    ensures inside { OnOk result (InTransaction T.Store to.new) }
-    ensures brought { OnOk result ((r : LockRow) → row.now ≡ shown_lock r
-        → Becomes T.Store to.old to.new (with_locks (lock_of tenant.now r ∷ []))) }
-{
-    let bucket: String = row.get(0)?;
-    insert_lock(to, tenant, &bucket)?;
-    Ok(())
-}
-
-/// Locks the buckets of rows.
-fn bring_lock_rows<T: Alter>(
-    to: &mut Connection<T>,
-    tenant: &str,
-    rows: &[Row],
-) -> Result<(), Error>
-    requires inside { InTransaction T.Store to.old }
-    ensures within { StaysWithin T.Store to.old to.new }
-    ensures opens { OnOk result (StaysOpen T.Store to.old to.new) }
-    ensures inside { OnOk result (InTransaction T.Store to.new) }
-    ensures brought { OnOk result ((rs : List LockRow) → rows.now ≡ map shown_lock rs
-        → Becomes T.Store to.old to.new (with_locks (map (lock_of tenant.now) rs))) }
-{
-    for row in rows {
-        bring_lock(to, tenant, row)?;
+    fn add<T: Alter>(&self, to: &mut Connection<T>, tenant: &str, row: &Row) -> Result<(), Error> {
+        let bucket: String = row.get(0)?;
+        let created = number_at(row, 1)?;
+        let state = number_at(row, 2)?;
+        let days = maybe_number_at(row, 3)?;
+        insert_bucket(to, tenant, &bucket, created, state, days)?;
+        Ok(())
     }
-    Ok(())
 }
 
-/// Locks those buckets that are locked in the other host.
-pub fn bring_locks<S: Alter, T: Alter>(
-    from: &mut Connection<S>,
-    to: &mut Connection<T>,
-    tenant: &str,
-) -> Result<(), Error>
-    requires reading { InTransaction S.Store from.old }
-    requires inside { InTransaction T.Store to.old }
-    ensures reads { StaysWithin S.Store from.old from.new }
-    ensures read { OnOk result (WasOpen S.Store from.old from.new) }
-    ensures same { OnOk result (ChangesNothing S.Store from.old from.new) }
-    ensures within { StaysWithin T.Store to.old to.new }
-    ensures opens { OnOk result (StaysOpen T.Store to.old to.new) }
-    ensures inside { OnOk result (InTransaction T.Store to.new) }
-    ensures brought { OnOk result (IsClean S.Store from.new
-        → Becomes T.Store to.old to.new (with_locks (rows_of tenant.now (tables S.Store from.old)).locks)) }
-{
-    let rows = lock_rows(from, tenant)?;
-    bring_lock_rows(to, tenant, &rows)?;
-    Ok(())
+/// Which buckets are locked.
+#[derive(Clone, Copy)]
+pub struct Locks;
+
+impl Plain for Locks {
+    ghost Typed = { LockRow };
+
+    ghost shown = { shown_lock };
+
+    ghost among = { λ rows. rows.locks };
+
+    ghost added = { λ t r. with_locks (lock_of t r ∷ []) };
+
+    fn read<S: Alter>(&self, from: &mut Connection<S>, tenant: &str) -> Result<Vec<Row>, Error> {
+        lock_rows(from, tenant)
+    }
+
+    fn add<T: Alter>(&self, to: &mut Connection<T>, tenant: &str, row: &Row) -> Result<(), Error> {
+        let bucket: String = row.get(0)?;
+        insert_lock(to, tenant, &bucket)?;
+        Ok(())
+    }
 }

@@ -2,11 +2,15 @@
 #![tactic(auto)]
 
 mod account;
+mod bodied;
+mod body;
 mod buckets;
 mod cells;
 mod keys;
 mod moves;
+mod moving;
 mod parts;
+mod plain;
 mod retains;
 mod rows;
 mod sole;

@@ -8,7 +8,7 @@ ghost use Rattle.bh_view.specs.View.{view};
 ghost use Rattle.bh_schema.specs.Connections.{IsClean, stands, tables, InTransaction};
 ghost use Rattle.bh_schema.specs.Layer.{taken_back, KeepsDisk};
 ghost use Rattle.bh_tenant_rows.specs.Brought.{IsMoved};
-ghost use Rattle.bh_moved.specs.Moves.{IsReady, IsCommitted, move_refused};
+ghost use Rattle.bh_moved.specs.Moves.{IsReady, IsCommitted, Tells, move_refused};
 
 use crate::tenant::bring_tenant;
 use bh_schema::host::Digester;
@@ -34,14 +34,7 @@ fn begin_and_bring<S: Alter, T: Alter, D: Digester>(
     ensures follows { KeepsDisk (state T.Store to.old) (state T.Store to.new) }
     ensures kept { IsClean T.Store to.new → (stands T.Store to.new).kept ≡ (stands T.Store to.old).kept }
     ensures inside { OnOk result (InTransaction T.Store to.new) }
-    ensures moved { IfOk result (λ refused. refused ≡ None → IsClean S.Store from.new → IsClean T.Store to.new
-        → IsMoved D.digest_of tenant.now (tables S.Store from.old) (tables T.Store to.old) (tables T.Store to.new)) }
-    ensures answered { IfOk result (λ refused. IsClean S.Store from.new → IsClean T.Store to.new
-        → refused ≡ move_refused (view (tables S.Store from.old) tenant.now) (view (tables T.Store to.old) tenant.now)) }
-    ensures missing { IfOk result (λ refused. refused ≡ Some NoSuchTenant → IsClean S.Store from.new
-        → is_some (view (tables S.Store from.old) tenant.now) ≡ false) }
-    ensures exists { IfOk result (λ refused. refused ≡ Some TenantExists → IsClean T.Store to.new
-        → is_some (view (tables T.Store to.old) tenant.now) ≡ true) }
+    ensures tells { Tells S.Store T.Store D.digest_of tenant.now from.old from.new to.old to.new result }
 {
     begin(from)?;
     begin(to)?;
@@ -67,14 +60,7 @@ fn bring_and_commit<S: Alter, T: Alter, D: Digester>(
     ensures kept { result ≢ Ok None → IsClean T.Store to.new → (stands T.Store to.new).kept ≡ (stands T.Store to.old).kept }
     ensures committed { result ≡ Ok None → IsClean T.Store to.new → IsCommitted (stands T.Store to.new) }
     ensures host { result ≡ Ok None → IsClean T.Store to.new → IsHost (stands T.Store to.new).now }
-    ensures moved { IfOk result (λ refused. refused ≡ None → IsClean S.Store from.new → IsClean T.Store to.new
-        → IsMoved D.digest_of tenant.now (tables S.Store from.old) (tables T.Store to.old) (tables T.Store to.new)) }
-    ensures answered { IfOk result (λ refused. IsClean S.Store from.new → IsClean T.Store to.new
-        → refused ≡ move_refused (view (tables S.Store from.old) tenant.now) (view (tables T.Store to.old) tenant.now)) }
-    ensures missing { IfOk result (λ refused. refused ≡ Some NoSuchTenant → IsClean S.Store from.new
-        → is_some (view (tables S.Store from.old) tenant.now) ≡ false) }
-    ensures exists { IfOk result (λ refused. refused ≡ Some TenantExists → IsClean T.Store to.new
-        → is_some (view (tables T.Store to.old) tenant.now) ≡ true) }
+    ensures tells { Tells S.Store T.Store D.digest_of tenant.now from.old from.new to.old to.new result }
 {
     let refused = begin_and_bring(from, to, alloc, digester, block_size, tenant)?;
     if refused.is_none() {

@@ -2,7 +2,8 @@
 
 ghost use Rattle.std.specs.Prelude.{max, OnOk};
 ghost use Rattle.bh_view.specs.View.{latest_of, with_latest};
-ghost use Rattle.bh_schema.specs.Connections.{IsClean, tables, InTransaction, StaysWithin, WasOpen, StaysOpen, ChangesNothing, Becomes};
+ghost use Rattle.bh_schema.specs.Connections.{IsClean, tables, InTransaction, Becomes};
+ghost use Rattle.bh_moved.specs.Calls.{Reads, Writes};
 
 use crate::cells::in_range;
 use bh_schema::rows::host::{find_latest, set_latest};
@@ -15,12 +16,8 @@ pub fn stamp_later<S: Alter, T: Alter>(
 ) -> Result<(), Error>
     requires reading { InTransaction S.Store from.old }
     requires inside { InTransaction T.Store to.old }
-    ensures reads { StaysWithin S.Store from.old from.new }
-    ensures read { OnOk result (WasOpen S.Store from.old from.new) }
-    ensures same { OnOk result (ChangesNothing S.Store from.old from.new) }
-    ensures within { StaysWithin T.Store to.old to.new }
-    ensures opens { OnOk result (StaysOpen T.Store to.old to.new) }
-    ensures inside { OnOk result (InTransaction T.Store to.new) }
+    ensures reads { Reads S.Store from.old from.new result }
+    ensures writes { Writes T.Store to.old to.new result }
     ensures stamped { OnOk result (IsClean S.Store from.new → Becomes T.Store to.old to.new
         (with_latest (max (latest_of (tables T.Store to.old)) (latest_of (tables S.Store from.old))))) }
 {

@@ -4,44 +4,38 @@ ghost use Rattle.std.specs.Prelude.{◌≡◌, ◌≤◌, true, false, Some, Non
 ghost use Rattle.bh_types.specs.declared.refusal.Refusal.TheVariants.{NoSuchTenant, TenantExists};
 ghost use Rattle.bh_tables.specs.Shown.{is_tenant};
 ghost use Rattle.bh_view.specs.View.{view};
-ghost use Rattle.bh_schema.specs.Connections.{IsClean, tables, InTransaction, StaysWithin, WasOpen, StaysOpen, ChangesNothing};
+ghost use Rattle.bh_schema.specs.Connections.{IsClean, tables, InTransaction, StaysWithin};
 ghost use Rattle.bh_tenant_rows.specs.Brought.{IsMoved};
+ghost use Rattle.bh_moved.specs.Calls.{Reads, Writes};
 ghost use Rattle.bh_moved.specs.Moves.{move_refused};
 ghost use Rattle.bh_moved.specs.Rows.{tenant_row};
 
+use crate::cells::in_range;
+use crate::moving::Moving;
 use crate::rows::bring_rows;
 use crate::stamps::stamp_later;
 use bh_schema::host::Digester;
-use bh_schema::rows::tenants::{TenantNumbers, find_tenant};
+use bh_schema::rows::tenants::find_tenant;
 use bh_types::refusal::Refusal;
 use sqlite::{Alter, Connection, Error};
 use std::alloc::Global;
 
-/// Adds a tenant that there isn't, with these numbers and all that it has in another host, whose last stamp counts as well.
+/// Adds a tenant that there isn't, with all that it has in another host, whose last stamp counts as well.
 fn bring_all<S: Alter, T: Alter, D: Digester>(
     from: &mut Connection<S>,
     to: &mut Connection<T>,
-    alloc: Global,
-    digester: &D,
-    block_size: u64,
-    tenant: &str,
-    numbers: TenantNumbers,
+    moving: &Moving<'_, D>,
 ) -> Result<(), Error>
     requires reading { InTransaction S.Store from.old }
     requires inside { InTransaction T.Store to.old }
-    requires positive { 1 ≤ block_size }
-    ensures reads { StaysWithin S.Store from.old from.new }
-    ensures read { OnOk result (WasOpen S.Store from.old from.new) }
-    ensures same { OnOk result (ChangesNothing S.Store from.old from.new) }
-    ensures within { StaysWithin T.Store to.old to.new }
-    ensures opens { OnOk result (StaysOpen T.Store to.old to.new) }
-    ensures inside { OnOk result (InTransaction T.Store to.new) }
-    ensures brought { OnOk result (IsClean S.Store from.new → IsClean T.Store to.new
-        → find (is_tenant tenant.now) (tables S.Store from.old).tenants ≡ Some (tenant_row tenant.now numbers)
-        → find (is_tenant tenant.now) (tables T.Store to.old).tenants ≡ None
-        → IsMoved D.digest_of tenant.now (tables S.Store from.old) (tables T.Store to.old) (tables T.Store to.new)) }
+    ensures reads { Reads S.Store from.old from.new result }
+    ensures writes { Writes T.Store to.old to.new result }
+    ensures brought { let t = moving.now.tenant.now in OnOk result (IsClean S.Store from.new → IsClean T.Store to.new
+        → find (is_tenant t) (tables S.Store from.old).tenants ≡ Some (tenant_row t moving.now.numbers)
+        → find (is_tenant t) (tables T.Store to.old).tenants ≡ None
+        → IsMoved D.digest_of t (tables S.Store from.old) (tables T.Store to.old) (tables T.Store to.new)) }
 {
-    bring_rows(from, to, alloc, digester, block_size, tenant, numbers)?;
+    bring_rows(from, to, moving)?;
     stamp_later(from, to)?;
     Ok(())
 }
@@ -79,6 +73,15 @@ pub fn bring_tenant<S: Alter, T: Alter, D: Digester>(
     if find_tenant(to, tenant)?.is_some() {
         return Ok(Some(Refusal::TenantExists));
     }
-    bring_all(from, to, alloc, digester, block_size, tenant, numbers)?;
+    // No column holds a larger one.
+    in_range(numbers.next_entry)?;
+    let moving = Moving {
+        alloc,
+        digester,
+        block_size,
+        tenant,
+        numbers,
+    };
+    bring_all(from, to, &moving)?;
     Ok(None)
 }

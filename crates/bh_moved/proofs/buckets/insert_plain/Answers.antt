@@ -1,4 +1,5 @@
 use Rattle.std.proofs.Common.{refl}
+use Rattle.std.proofs.lemmas.Result.{on_ok_weaker}
 use Rattle.sqlite.specs.Held.{state}
 use Rattle.bh_tables.proofs.Places.{buckets}
 use Rattle.bh_schema.proofs.Calls.{inserted}
@@ -9,4 +10,4 @@ pub returns : goal.returns
 returns g c =
     let h = rw (c.to_sql.ensures, c.to_sql-2.ensures, c.number.ensures, c.number-2.ensures) at c.execute.ensures in
     let w = inserted buckets (state g.T.Store c.args.to.now) (state g.T.Store c.execute.new.self) c.requires.inside (λ t l. refl) c.execute.result c.schema-schema.ensures.live (bucket_inserted c.args.tenant.now c.args.bucket.now c.args.created c.args.state) (λ clean (no : ⊥). absurd no) h.runs h.survives in
-    record { within = w.within; opens = w.opens; holds = w.holds }
+    record { writes = record { within = w.within; opens = w.opens; inside = on_ok_weaker c.execute.result (λ holds clean. (holds clean).within) w.holds }; holds = w.holds }

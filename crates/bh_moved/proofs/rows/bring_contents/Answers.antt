@@ -1,48 +1,56 @@
-use Rattle.std.proofs.Common.{◌≡◌, sym, ap, ◌∙◌, subst}
+use Rattle.std.proofs.Common.{◌≡◌, sym, ◌∙◌, subst}
 use Rattle.sqlite.specs.Held.{state}
-use Rattle.bh_tables.specs.Typed.{Tables, tables_in}
-use Rattle.bh_schema.specs.Layer.{Standing}
-use Rattle.bh_schema.specs.Working.{tables_at}
+use Rattle.bh_tables.specs.Typed.{Tables}
 use Rattle.bh_view.specs.Bodies.{HasBodies}
-use Rattle.bh_view.specs.View.{rows_of}
-use Rattle.bh_blocks.proofs.Keeping.{still_inside}
+use Rattle.bh_schema.specs.Connections.{tables}
+use Rattle.bh_blocks.proofs.Keeping.{resolved_at}
+use Rattle.bh_moved.proofs.Calling.{read_inside, read_tables}
+use Rattle.bh_moved.proofs.Chains.{contents_chain, tenants_kept}
 use Rattle.bh_moved.proofs.Steps.{next_same}
-use Rattle.bh_moved.proofs.Chains.{contents_chain, versions_tenants}
 use Rattle.bh_moved.proofs.rows.bring_contents.Goals as goal
 
-pub bring_uploads-requires-clause-reading : goal.bring_uploads-requires-clause-reading
-bring_uploads-requires-clause-reading g c = still_inside _ _ c.in_ok-bring_versions.ensures.reads c.in_ok-bring_versions.ensures.same c.requires.reading
+pub bring_plain-requires-clause-reading : goal.bring_plain-requires-clause-reading
+bring_plain-requires-clause-reading g c = read_inside c.in_ok-bring_bodied.ensures.reads c.requires.reading
 
-pub bring_parts-requires-clause-reading : goal.bring_parts-requires-clause-reading
-bring_parts-requires-clause-reading g c = still_inside _ _ c.in_ok-bring_uploads.ensures.reads c.in_ok-bring_uploads.ensures.same (still_inside _ _ c.in_ok-bring_versions.ensures.reads c.in_ok-bring_versions.ensures.same c.requires.reading)
+pub bring_bodied-requires-2-clause-reading : goal.bring_bodied-requires-2-clause-reading
+bring_bodied-requires-2-clause-reading g c = read_inside c.in_ok-bring_plain.ensures.reads (read_inside c.in_ok-bring_bodied.ensures.reads c.requires.reading)
 
-pub bring_retains-requires-clause-reading : goal.bring_retains-requires-clause-reading
-bring_retains-requires-clause-reading g c = still_inside _ _ c.in_ok-bring_parts.ensures.reads c.in_ok-bring_parts.ensures.same
-    (still_inside _ _ c.in_ok-bring_uploads.ensures.reads c.in_ok-bring_uploads.ensures.same (still_inside _ _ c.in_ok-bring_versions.ensures.reads c.in_ok-bring_versions.ensures.same c.requires.reading))
+pub bring_plain-requires-2-clause-reading : goal.bring_plain-requires-2-clause-reading
+bring_plain-requires-2-clause-reading g c = read_inside c.in_ok-bring_bodied-2.ensures.reads (read_inside c.in_ok-bring_plain.ensures.reads (read_inside c.in_ok-bring_bodied.ensures.reads c.requires.reading))
 
 pub returns-clause-brought : goal.returns-clause-brought
 returns-clause-brought g c reading bodies next clean =
-    let versions = c.in_ok-bring_versions.ensures in
-    let uploads = c.in_ok-bring_uploads.ensures in
-    let parts = c.in_ok-bring_parts.ensures in
-    let retains = c.in_ok-bring_retains.ensures in
-    let clean_p = retains.within.follows.clean clean in
-    let clean_u = parts.within.follows.clean clean_p in
-    let clean_v = uploads.within.follows.clean clean_u in
-    let reading_p = retains.reads.follows.clean reading in
-    let reading_u = parts.reads.follows.clean reading_p in
-    let reading_v = uploads.reads.follows.clean reading_u in
-    let t = c.args.tenant.now in
+    let versions = c.in_ok-bring_bodied.ensures in
+    let uploads = c.in_ok-bring_plain.ensures in
+    let parts = c.in_ok-bring_bodied-2.ensures in
+    let retains = c.in_ok-bring_plain-2.ensures in
+    let clean_p = retains.writes.within.follows.clean clean in
+    let clean_u = parts.writes.within.follows.clean clean_p in
+    let clean_v = uploads.writes.within.follows.clean clean_u in
+    let reading_p = retains.reads.within.follows.clean reading in
+    let reading_u = parts.reads.within.follows.clean reading_p in
+    let reading_v = uploads.reads.within.follows.clean reading_u in
+    let moving = c.args.moving.now in
+    let t = moving.tenant.now in
     let digest = g.D.Digester.digest_of in
-    let size = c.args.block_size in
-    let from : Tables = tables_at (state g.S.Store c.args.from.now) in
-    let old : Tables = tables_at (state g.T.Store c.args.to.now) in
-    let two : tables_at (state g.S.Store c.bring_versions.new.from) ≡ from = ap (λ (x : Standing). tables_in x.now) (versions.same reading_v.intact) in
-    let three : tables_at (state g.S.Store c.bring_uploads.new.from) ≡ from = ap (λ (x : Standing). tables_in x.now) (uploads.same reading_u.intact) ∙ two in
-    let four : tables_at (state g.S.Store c.bring_parts.new.from) ≡ from = ap (λ (x : Standing). tables_in x.now) (parts.same reading_p.intact) ∙ three in
-    let v = (versions.brought reading_v bodies next clean_v).is in
-    let u = (uploads.brought reading_u clean_u).is in
-    let kept : old.tenants ≡ (tables_at (state g.T.Store c.bring_uploads.new.to)).tenants = sym (ap (λ (x : Tables). x.tenants) u ∙ ap (λ (x : Tables). x.tenants) v ∙ versions_tenants t from digest size (rows_of t from).versions old) in
-    let p = (parts.brought reading_p (subst HasBodies (sym three) bodies) (next_same t c.args.next old (tables_at (state g.T.Store c.bring_uploads.new.to)) kept next) clean_p).is in
+    let from : Tables = tables g.S.Store c.args.from.now in
+    let second : Tables = tables g.S.Store c.bring_bodied.new.from in
+    let third : Tables = tables g.S.Store c.bring_plain.new.from in
+    let fourth : Tables = tables g.S.Store c.bring_bodied-2.new.from in
+    let old : Tables = tables g.T.Store c.args.to.now in
+    let v : Tables = tables g.T.Store c.bring_bodied.new.to in
+    let u : Tables = tables g.T.Store c.bring_plain.new.to in
+    let p : Tables = tables g.T.Store c.bring_bodied-2.new.to in
+    let two : second ≡ from = read_tables versions.reads reading_v in
+    let three : third ≡ from = read_tables uploads.reads reading_u ∙ two in
+    let four : fourth ≡ from = read_tables parts.reads reading_p ∙ three in
+    let resolved = resolved_at (state g.S.Store c.args.from.now) in
+    let versions_is = (versions.brought reading_v bodies next clean_v).is in
+    let uploads_is = (uploads.brought reading_u clean_u).is in
+    let kept : old.tenants ≡ u.tenants = tenants_kept t from digest moving.block_size second old v u resolved versions_is uploads_is in
+    let parts_is = (parts.brought reading_p (subst HasBodies (sym three) bodies) (next_same t moving.numbers.next_entry old u kept next) clean_p).is in
     let last = retains.brought reading clean in
-    record { within = last.within; is = contents_chain t from digest size _ _ _ old _ _ _ _ two three four v u p last.is }
+    record {
+      within = last.within;
+      is = contents_chain t from digest moving.block_size second old v u resolved versions_is uploads_is third fourth p _ (resolved_at (state g.S.Store c.bring_plain.new.from)) two three four parts_is last.is;
+    }

@@ -1,35 +1,36 @@
-use Rattle.std.proofs.Common.{◌≡◌, ap, ◌∙◌, [], ◌∷◌}
-use Rattle.sqlite.specs.Held.{state}
-use Rattle.bh_tables.specs.Typed.{Tables, tables_in}
-use Rattle.bh_schema.specs.Layer.{Standing}
-use Rattle.bh_schema.specs.Working.{tables_at}
-use Rattle.bh_blocks.proofs.Keeping.{still_inside}
+use Rattle.std.proofs.Common.{◌≡◌, ◌∙◌, [], ◌∷◌}
+use Rattle.bh_tables.specs.Typed.{Tables}
+use Rattle.bh_schema.specs.Connections.{tables}
 use Rattle.bh_moved.specs.Rows.{tenant_row}
+use Rattle.bh_moved.proofs.Calling.{read_inside, read_tables}
 use Rattle.bh_moved.proofs.Chains.{names_chain}
 use Rattle.bh_moved.proofs.rows.bring_names.Goals as goal
 
-pub bring_buckets-requires-clause-reading : goal.bring_buckets-requires-clause-reading
-bring_buckets-requires-clause-reading g c = still_inside _ _ c.in_ok-bring_keys.ensures.reads c.in_ok-bring_keys.ensures.same c.requires.reading
+pub bring_plain-requires-2-clause-reading : goal.bring_plain-requires-2-clause-reading
+bring_plain-requires-2-clause-reading g c = read_inside c.in_ok-bring_plain.ensures.reads c.requires.reading
 
-pub bring_locks-requires-clause-reading : goal.bring_locks-requires-clause-reading
-bring_locks-requires-clause-reading g c = still_inside _ _ c.in_ok-bring_buckets.ensures.reads c.in_ok-bring_buckets.ensures.same (still_inside _ _ c.in_ok-bring_keys.ensures.reads c.in_ok-bring_keys.ensures.same c.requires.reading)
+pub bring_plain-requires-3-clause-reading : goal.bring_plain-requires-3-clause-reading
+bring_plain-requires-3-clause-reading g c = read_inside c.in_ok-bring_plain-2.ensures.reads (read_inside c.in_ok-bring_plain.ensures.reads c.requires.reading)
 
 pub returns-clause-brought : goal.returns-clause-brought
 returns-clause-brought g c reading absent clean =
-    let locks = c.in_ok-bring_locks.ensures in
-    let buckets = c.in_ok-bring_buckets.ensures in
-    let keys = c.in_ok-bring_keys.ensures in
-    let clean_b = locks.within.follows.clean clean in
-    let clean_k = buckets.within.follows.clean clean_b in
-    let clean_a = keys.within.follows.clean clean_k in
-    let reading_b = locks.reads.follows.clean reading in
-    let reading_k = buckets.reads.follows.clean reading_b in
-    let from : Tables = tables_at (state g.S.Store c.args.from.now) in
-    let two : tables_at (state g.S.Store c.bring_keys.new.from) ≡ from = ap (λ (x : Standing). tables_in x.now) (keys.same reading_k.intact) in
-    let three : tables_at (state g.S.Store c.bring_buckets.new.from) ≡ from = ap (λ (x : Standing). tables_in x.now) (buckets.same reading_b.intact) ∙ two in
+    let keys = c.in_ok-bring_plain.ensures in
+    let buckets = c.in_ok-bring_plain-2.ensures in
+    let locks = c.in_ok-bring_plain-3.ensures in
+    let clean_b = locks.writes.within.follows.clean clean in
+    let clean_k = buckets.writes.within.follows.clean clean_b in
+    let clean_a = keys.writes.within.follows.clean clean_k in
+    let reading_b = locks.reads.within.follows.clean reading in
+    let reading_k = buckets.reads.within.follows.clean reading_b in
+    let t = c.args.tenant.now in
+    let from : Tables = tables g.S.Store c.args.from.now in
+    let second : Tables = tables g.S.Store c.bring_plain.new.from in
+    let third : Tables = tables g.S.Store c.bring_plain-2.new.from in
+    let two : second ≡ from = read_tables keys.reads reading_k in
+    let three : third ≡ from = read_tables buckets.reads reading_b ∙ two in
     let last = locks.brought reading clean in
     record {
       within = last.within;
-      is = names_chain c.args.tenant.now from (tenant_row c.args.tenant.now c.args.numbers ∷ []) _ _ (tables_at (state g.T.Store c.args.to.now)) _ _ _ _ two three
+      is = names_chain t from (tenant_row t c.args.numbers ∷ []) second third (tables g.T.Store c.args.to.now) (tables g.T.Store c.bring_account.new.to) (tables g.T.Store c.bring_plain.new.to) (tables g.T.Store c.bring_plain-2.new.to) _ two three
           (c.in_ok-bring_account.ensures.holds absent clean_a).is (keys.brought reading_k clean_k).is (buckets.brought reading_b clean_b).is last.is;
     }

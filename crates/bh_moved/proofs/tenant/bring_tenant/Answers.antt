@@ -39,8 +39,8 @@ bring_all-requires-clause-inside g c = still_inside _ _ c.in_ok-find_tenant.ensu
 pub returns-clause-moved : goal.returns-clause-moved
 returns-clause-moved g c same reading clean other given host =
     let all = c.in_ok-bring_all.ensures in
-    let reading_n = all.reads.follows.clean reading in
-    let clean_f = all.within.follows.clean clean in
+    let reading_n = all.reads.within.follows.clean reading in
+    let clean_f = all.writes.within.follows.clean clean in
     let t = c.args.tenant.now in
     let digest = g.D.Digester.digest_of in
     let from : Tables = tables_at (state g.S.Store c.args.from.now) in
@@ -77,7 +77,7 @@ returns-clause-answered g c reading clean =
     let t = c.args.tenant.now in
     let from : Tables = tables_at (state g.S.Store c.args.from.now) in
     let old : Tables = tables_at (state g.T.Store c.args.to.now) in
-    let found : find (is_tenant t) from.tenants ≡ Some (tenant_row t c.in-Some.numbers) = numbers_found t c.in-Some.numbers from.tenants (sym c.in-Some.is ∙ c.in_ok-numbers.ensures.found (all.reads.follows.clean reading)) in
+    let found : find (is_tenant t) from.tenants ≡ Some (tenant_row t c.in-Some.numbers) = numbers_found t c.in-Some.numbers from.tenants (sym c.in-Some.is ∙ c.in_ok-numbers.ensures.found (all.reads.within.follows.clean reading)) in
     let absent : is_some c.in_ok-find_tenant.field-0 ≡ false = search rules in
-    let vacant : find (is_tenant t) old.tenants ≡ None = none_mapped tenant_numbers _ (sym (c.in_ok-find_tenant.ensures.found (all.within.follows.clean clean)) ∙ none_of _ absent) in
+    let vacant : find (is_tenant t) old.tenants ≡ None = none_mapped tenant_numbers _ (sym (c.in_ok-find_tenant.ensures.found (all.writes.within.follows.clean clean)) ∙ none_of _ absent) in
     refused_not (view from t) (view old t) (view_found from t ∙ ap is_some found) (view_found old t ∙ ap is_some vacant)

@@ -1,0 +1,24 @@
+-- What a call leaves of a connection that is in a transaction, with this result.
+use Rattle.std.specs.Prelude.{Result, OnOk}
+use Rattle.sqlite.specs.Held.{Held}
+use Rattle.sqlite_trees.specs.declared.store.Store.{Ghosts}
+use Rattle.bh_schema.specs.Connections.{InTransaction, StaysWithin, WasOpen, StaysOpen, ChangesNothing}
+
+module _ {S A E : Type 0} (g : Ghosts S) (old new : Held S) (result : Result A E) where
+  -- it reads the host: an answer tells that the connection was open
+  pub record Reads : Type 0 where
+    pub within : StaysWithin g old new
+    pub opens : OnOk result (WasOpen g old new)
+    pub same : OnOk result (ChangesNothing g old new)
+
+  -- it reads the host or not
+  pub record MayRead : Type 0 where
+    pub within : StaysWithin g old new
+    pub opens : OnOk result (StaysOpen g old new)
+    pub same : OnOk result (ChangesNothing g old new)
+
+  -- it writes to the host
+  pub record Writes : Type 0 where
+    pub within : StaysWithin g old new
+    pub opens : OnOk result (StaysOpen g old new)
+    pub inside : OnOk result (InTransaction g new)
