@@ -7,16 +7,19 @@ use Rattle.bh_tables.specs.Schema.{Octets}
 use Rattle.bh_view.specs.Bodies.{IsSoundHost}
 use Rattle.bh_storage.specs.Calls.{Clean, IsAtRest}
 use Rattle.bh_schema.specs.Storage as storage
+use Rattle.bh_memo.specs.Facts.{nothing}
+use Rattle.bh_memo.proofs.Recalling.{nothing_recalled}
+use Rattle.bh_dispatch.specs.declared.recalling.RecallingStorage.{RecallingStorage}
 use Rattle.bh_dispatch.specs.declared.storage.HostStorage.{HostStorage}
 use Rattle.bh_kept.specs.Kept as kept
 use Rattle.bh_kept.specs.declared.host.KeptHost.{KeptHost}
 
-pub rests_kept : {D G : Type 0} {g : Ghosts D} (digest : Octets → Octets) (first : KeptHost D G g) (host : HostStorage (FileStore D g) G) → first.storage ≡ Some host
+pub rests_kept : {D G : Type 0} {g : Ghosts D} (digest : Octets → Octets) (first : KeptHost D G g) (host : HostStorage (FileStore D g) G) → first.storage ≡ Some (record { storage = host; memo = nothing })
     → (storage.IsClean over_files host.host → IsAtRest (IsSoundHost digest) (storage.seen over_files host.host))
     → Clean (λ h. kept.IsIntact h.storage) (λ h. kept.IsOpen h.storage) first → IsAtRest (IsSoundHost digest) (kept.seen first.limits first.storage)
 rests_kept {D} {G} {g} digest first host is rest clean =
-    let P : Option (HostStorage (FileStore D g) G) → Type 0 = λ o. kept.IsIntact o × kept.IsOpen o → IsAtRest (IsSoundHost digest) (kept.seen first.limits o) in
-    subst P (sym is) rest clean
+    let P : Option (RecallingStorage (FileStore D g) G) → Type 0 = λ o. kept.IsIntact o × kept.IsOpen o → IsAtRest (IsSoundHost digest) (kept.seen first.limits o) in
+    subst P (sym is) (λ (up : storage.IsClean over_files host.host). subst (IsAtRest (IsSoundHost digest)) (sym (nothing_recalled (storage.seen over_files host.host))) (rest up)) clean
 
 -- what is left of a value that is there
 pub left_of : {A B : Type 0} (f : A → B) (o : Option A) (y : B) → option_map f o ≡ Some y → (x : A) × (o ≡ Some x) × (y ≡ f x)

@@ -22,6 +22,8 @@ use Rattle.bh_create.specs.Creation.{IsEmpty, IsNewHost}
 use Rattle.bh_open.specs.Opening.{digest_in}
 use Rattle.bh_open.specs.declared.open.Opened.{Opened}
 use Rattle.bh_blocks.specs.Digests.{digest_by, digester_of, the_digester}
+use Rattle.bh_memo.specs.Facts.{nothing}
+use Rattle.bh_dispatch.specs.declared.recalling.RecallingStorage.{RecallingStorage}
 use Rattle.bh_dispatch.specs.declared.storage.HostStorage.{HostStorage}
 use Rattle.bh_kept.specs.Kept as kept
 use Rattle.bh_kept.specs.declared.host.KeptHost.{KeptHost}
@@ -76,12 +78,12 @@ module _ {D : Type 0} {g : disk.Ghosts D} where
   pub record IsWorkedOn {G : Type 0} (digest : Octets → Octets) (work : Work) (reading : ℕ) (host : HostStorage (FileStore D g) G) (new : Held (FileStore D g)) (printed : Printed) : Type 0 where
     pub first : KeptHost D G g
     pub last : KeptHost D G g
-    pub left_host : HostStorage (FileStore D g) G
-    pub begun : first.storage ≡ Some host
+    pub left_host : RecallingStorage (FileStore D g) G
+    pub begun : first.storage ≡ Some (record { storage = host; memo = nothing })
     pub stays : StaysReady (λ h. kept.IsIntact h.storage) (λ h. kept.IsOpen h.storage) (IsSoundHost digest) (λ h. kept.seen h.limits h.storage) first last
     pub done : HasDone (λ h. kept.IsIntact h.storage) (λ h. kept.IsOpen h.storage) (λ h. kept.seen h.limits h.storage) (λ h. kept.left h.storage) work reading first last printed
     pub ended : last.storage ≡ Some left_host
-    pub left : new ≡ left_host.host.connection
+    pub left : new ≡ left_host.storage.host.connection
 
   -- the clock, at the reading that was given or else at some reading, is further ahead of its last stamp than it may be, or not
   pub record Reads {G : Type 0} (clock : ClockGiven) (host : HostStorage (FileStore D g) G) (reading : ℕ) (is_leap : Bool) : Type 0 where

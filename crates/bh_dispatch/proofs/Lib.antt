@@ -1,5 +1,9 @@
 pub mod Storing
+pub mod Asking
+pub mod Remembering
 pub mod Steps
 pub mod Offering
 pub mod Receiving
+pub mod Documented
+pub mod Unchanged
 pub mod Piecing

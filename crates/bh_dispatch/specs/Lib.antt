@@ -1,1 +1,4 @@
+pub mod Documents
+pub mod Seeing
 pub mod Stored
+pub mod Telling

@@ -4,8 +4,11 @@
 
 mod answers;
 mod commands;
+mod documents;
 pub mod lifecycle;
 pub mod operations;
+pub mod recalling;
 pub mod retention;
 pub mod storage;
+mod telling;
 pub mod uploads;

@@ -4,6 +4,7 @@ ghost use Rattle.bh_types.specs.Limits.{HostLimits};
 ghost use Rattle.bh_types.specs.Rejections.{plainly};
 ghost use Rattle.bh_machine.specs.Machine.{set_lifecycle, operated};
 ghost use Rattle.bh_model.specs.Operations as machine;
+ghost use Rattle.bh_model.specs.State.{Octets};
 ghost use Rattle.bh_storage.specs.Answers.{answer_view};
 ghost use Rattle.bh_storage.specs.Calls.{Unless, Carries};
 ghost use Rattle.bh_schema.specs.Connections.{IsClean, tables, StaysWithin, StaysOpen};
@@ -38,7 +39,7 @@ fn get_lifecycle<S: Alter>(
 }
 
 /// The document tells the days.
-fn put_lifecycle<S: Alter>(
+pub fn put_lifecycle<S: Alter>(
     connection: &mut Connection<S>,
     alloc: Global,
     tenant: &TenantName,
@@ -73,25 +74,23 @@ fn delete_lifecycle<S: Alter>(
     answers::removed(lifecycle::delete_lifecycle(connection, tenant, bucket))
 }
 
-/// Carries out an operation on the rule of a bucket. Another is trouble: `operate` sends none here.
+/// Carries out an operation on the rule of a bucket that reads no document. Another is trouble: `carry_out` sends none
+/// here.
 pub fn operate_lifecycle<S: Alter>(
     connection: &mut Connection<S>,
-    alloc: Global,
     tenant: &TenantName,
     operation: &Operation,
-    body: &[u8],
 ) -> Result<Answer, StepError<Rejection>>
     requires { Works S.Store connection.old }
     ensures within { StaysWithin S.Store connection.old connection.new }
     ensures opens { Unless result (StaysOpen S.Store connection.old connection.new) }
     ensures working { Unless result (StillWorks S.Store connection.old connection.new) }
-    ensures carries { (limits : HostLimits) (at : ℕ) → IsClean S.Store connection.new
-        → Carries answer_view tenant.now (operated limits at body.now operation.now)
+    ensures carries { (limits : HostLimits) (at : ℕ) (body : Octets) → IsClean S.Store connection.new
+        → Carries answer_view tenant.now (operated limits at body operation.now)
         (tables S.Store connection.old) (tables S.Store connection.new) result }
 {
     match operation {
         Operation::GetLifecycle(bucket) => get_lifecycle(connection, tenant, bucket),
-        Operation::PutLifecycle(bucket) => put_lifecycle(connection, alloc, tenant, bucket, body),
         Operation::DeleteLifecycle(bucket) => delete_lifecycle(connection, tenant, bucket),
         _ => Err(StepError::Failed(Trouble::Store)),
     }

@@ -17,10 +17,11 @@ ghost use Rattle.bh_cache.specs.Kept.{Agrees, AreCopies};
 ghost use Rattle.bh_schema.specs.Working.{Works, StillWorks, StillWorksBy};
 ghost use Rattle.bh_dispatch.specs.Stored.{StoresBody};
 
+use crate::documents::{operate_document, reads_document};
 use crate::{answers, lifecycle, retention, uploads};
 use bh_cache::blocks::BlockCache;
 use bh_docs::read_versioning;
-use bh_http::body::{Body, collect, drain};
+use bh_http::body::{Body, drain};
 use bh_objects::copies::NewCopy;
 use bh_objects::writes::NewObject;
 use bh_objects::{buckets, copies, deletes, gets, heads, objects};
@@ -142,7 +143,8 @@ fn versioning<S: Alter>(
     answers::versioning(buckets::versioning(connection, tenant, bucket))
 }
 
-fn set_versioning<S: Alter>(
+/// The document tells the state.
+pub fn set_versioning<S: Alter>(
     connection: &mut Connection<S>,
     alloc: Global,
     tenant: &TenantName,
@@ -292,7 +294,8 @@ fn delete_object<S: Alter>(
     answers::removed(deletes::delete_object(connection, tenant, at, bucket, key, version))
 }
 
-fn bytes_of(bytes: &Option<Bytes>) -> Option<&[u8]>
+/// The bytes that are there.
+pub fn bytes_of(bytes: &Option<Bytes>) -> Option<&[u8]>
     ensures { option_copied result ≡ bytes.now }
 {
     match bytes {
@@ -372,22 +375,22 @@ fn list_versions<S: Alter>(
     ))
 }
 
-/// Carries out an operation on a bucket, or on all of them. Another is trouble: `operate` sends none here.
+/// Carries out an operation on a bucket, or on all of them, that reads no document. Another is trouble: `carry_out` sends none
+/// here.
 fn operate_bucket<S: Alter>(
     connection: &mut Connection<S>,
     alloc: Global,
     tenant: &TenantName,
     at: Moment,
     operation: &Operation,
-    body: &[u8],
 ) -> Result<Answer, StepError<Rejection>>
     requires working { Works S.Store connection.old }
     requires early { IsClean S.Store connection.old → at ≤ latest_of (tables S.Store connection.old) }
     ensures within { StaysWithin S.Store connection.old connection.new }
     ensures opens { Unless result (StaysOpen S.Store connection.old connection.new) }
     ensures working { Unless result (StillWorks S.Store connection.old connection.new) }
-    ensures carries { (limits : HostLimits) → IsClean S.Store connection.new
-        → Carries answer_view tenant.now (operated limits at body.now operation.now)
+    ensures carries { (limits : HostLimits) (body : Octets) → IsClean S.Store connection.new
+        → Carries answer_view tenant.now (operated limits at body operation.now)
         (tables S.Store connection.old) (tables S.Store connection.new) result }
 {
     match operation {
@@ -413,15 +416,12 @@ fn operate_bucket<S: Alter>(
             after,
         } => uploads::list_uploads(connection, alloc, tenant, bucket, page, after),
         Operation::GetBucketVersioning(bucket) => versioning(connection, tenant, bucket),
-        Operation::PutBucketVersioning(bucket) => {
-            set_versioning(connection, alloc, tenant, bucket, body)
-        }
         _ => Err(StepError::Failed(Trouble::Store)),
     }
 }
 
-/// Carries out an operation on an object that neither takes nor gives its bytes. Another is trouble: `operate_drained` sends none
-/// here.
+/// Carries out an operation on an object that neither takes nor gives its bytes, and reads no document. Another is trouble:
+/// `carry_out` sends none here.
 fn operate_object<S: Alter>(
     connection: &mut Connection<S>,
     tenant: &TenantName,
@@ -449,27 +449,28 @@ fn operate_object<S: Alter>(
         Operation::DeleteObject { object, version } => {
             delete_object(connection, tenant, at, object, *version)
         }
+        Operation::GetRetention { object, version } => {
+            retention::get_retention(connection, tenant, object, *version)
+        }
         _ => Err(StepError::Failed(Trouble::Store)),
     }
 }
 
-/// Carries out an operation on a multipart upload that puts no part. Another is trouble: `carry_out` sends none here.
+/// Carries out an operation on a multipart upload that puts no part and reads no document. Another is trouble: `carry_out` sends none here.
 fn operate_upload<S: Alter>(
     connection: &mut Connection<S>,
     alloc: Global,
-    limits: &Limits,
     tenant: &TenantName,
     at: Moment,
     operation: &Operation,
-    body: &[u8],
 ) -> Result<Answer, StepError<Rejection>>
     requires working { Works S.Store connection.old }
     requires early { IsClean S.Store connection.old → at ≤ latest_of (tables S.Store connection.old) }
     ensures within { StaysWithin S.Store connection.old connection.new }
     ensures opens { Unless result (StaysOpen S.Store connection.old connection.new) }
     ensures working { Unless result (StillWorks S.Store connection.old connection.new) }
-    ensures carries { IsClean S.Store connection.new
-        → Carries answer_view tenant.now (operated limits.now at body.now operation.now)
+    ensures carries { (limits : HostLimits) (body : Octets) → IsClean S.Store connection.new
+        → Carries answer_view tenant.now (operated limits at body operation.now)
         (tables S.Store connection.old) (tables S.Store connection.new) result }
 {
     match operation {
@@ -481,9 +482,6 @@ fn operate_upload<S: Alter>(
             upload,
             page,
         } => { uploads::list_parts(connection, alloc, tenant, object, *upload, *page) }
-        Operation::CompleteMultipartUpload { object, upload } => {
-            uploads::complete_upload(connection, alloc, limits, tenant, at, object, *upload, body)
-        }
         Operation::AbortMultipartUpload { object, upload } => {
             uploads::abort_upload(connection, alloc, tenant, object, *upload)
         }
@@ -491,23 +489,22 @@ fn operate_upload<S: Alter>(
     }
 }
 
-/// Carries out an operation of a tenant whose body is taken whole. Another is trouble: `carry_out_whole` sends none here.
+/// Carries out an operation of a tenant that neither takes nor gives an object's bytes, and reads no document. Another is trouble:
+/// `carry_out_whole` sends none here.
 fn carry_out<S: Alter>(
     connection: &mut Connection<S>,
     alloc: Global,
-    limits: &Limits,
     tenant: &TenantName,
     at: Moment,
     operation: &Operation,
-    body: &[u8],
 ) -> Result<Answer, StepError<Rejection>>
     requires working { Works S.Store connection.old }
     requires early { IsClean S.Store connection.old → at ≤ latest_of (tables S.Store connection.old) }
     ensures within { StaysWithin S.Store connection.old connection.new }
     ensures opens { Unless result (StaysOpen S.Store connection.old connection.new) }
     ensures working { Unless result (StillWorks S.Store connection.old connection.new) }
-    ensures carries { IsClean S.Store connection.new
-        → Carries answer_view tenant.now (operated limits.now at body.now operation.now)
+    ensures carries { (limits : HostLimits) (body : Octets) → IsClean S.Store connection.new
+        → Carries answer_view tenant.now (operated limits at body operation.now)
         (tables S.Store connection.old) (tables S.Store connection.new) result }
 {
     match operation {
@@ -518,36 +515,30 @@ fn carry_out<S: Alter>(
         | Operation::ListObjectsV2 { .. }
         | Operation::ListObjectVersions { .. }
         | Operation::ListMultipartUploads { .. }
-        | Operation::GetBucketVersioning(_)
-        | Operation::PutBucketVersioning(_) => {
-            operate_bucket(connection, alloc, tenant, at, operation, body)
+        | Operation::GetBucketVersioning(_) => {
+            operate_bucket(connection, alloc, tenant, at, operation)
         }
-        Operation::GetLifecycle(_) | Operation::PutLifecycle(_) | Operation::DeleteLifecycle(_) => {
-            lifecycle::operate_lifecycle(connection, alloc, tenant, operation, body)
+        Operation::GetLifecycle(_) | Operation::DeleteLifecycle(_) => {
+            lifecycle::operate_lifecycle(connection, tenant, operation)
         }
         Operation::CreateMultipartUpload(_)
         | Operation::ListParts { .. }
-        | Operation::CompleteMultipartUpload { .. }
         | Operation::AbortMultipartUpload { .. } => {
-            operate_upload(connection, alloc, limits, tenant, at, operation, body)
+            operate_upload(connection, alloc, tenant, at, operation)
         }
-        Operation::GetRetention { .. } | Operation::PutRetention { .. } => {
-            retention::operate_retention(connection, alloc, tenant, at, operation, body)
-        }
-        Operation::Usage => usage(connection, tenant),
         Operation::CopyObject { .. }
-        | Operation::GetObject { .. }
         | Operation::HeadObject { .. }
         | Operation::DeleteObject { .. }
-        | Operation::PutObject { .. }
-        | Operation::UploadPart { .. } => Err(StepError::Failed(Trouble::Store)),
+        | Operation::GetRetention { .. } => operate_object(connection, tenant, at, operation),
+        Operation::Usage => usage(connection, tenant),
+        _ => Err(StepError::Failed(Trouble::Store)),
     }
 }
 
-/// Carries out an operation on an object that neither takes nor gives its bytes, once the body of its request came, which is
-/// forgotten. Another is trouble: `carry_out_whole` sends none here.
+/// Carries out an operation that reads nothing of its request's body once that came, of which no byte is kept.
 fn operate_drained<S: Alter, B: Body>(
     connection: &mut Connection<S>,
+    alloc: Global,
     tenant: &TenantName,
     at: Moment,
     operation: &Operation,
@@ -565,7 +556,7 @@ fn operate_drained<S: Alter, B: Body>(
 {
     match drain(body) {
         Ok(()) => {
-            let answer = operate_object(connection, tenant, at, operation)?;
+            let answer = carry_out(connection, alloc, tenant, at, operation)?;
             Ok(Outcome::Done(answer))
         }
         Err(cause) => Err(StepError::Failed(Trouble::from(cause))),
@@ -573,7 +564,7 @@ fn operate_drained<S: Alter, B: Body>(
 }
 
 /// Carries out an operation of a tenant that neither takes nor gives an object's bytes, once the body of its request came. A
-/// document is taken whole.
+/// document is taken whole, of at most `DOCUMENT_END` bytes.
 fn carry_out_whole<S: Alter, B: Body>(
     connection: &mut Connection<S>,
     alloc: Global,
@@ -593,20 +584,10 @@ fn carry_out_whole<S: Alter, B: Body>(
         (IsClean S.Store connection.new) (B.coming body.old) (B.coming body.new)
         (tables S.Store connection.old) (tables S.Store connection.new) result }
 {
-    match operation {
-        Operation::CopyObject { .. }
-        | Operation::HeadObject { .. }
-        | Operation::DeleteObject { .. } => {
-            operate_drained(connection, tenant, at, operation, body)
-        }
-        _ => {
-            let bytes = match collect(alloc, body) {
-                Ok(bytes) => bytes,
-                Err(error) => return Err(StepError::Failed(Trouble::from(error))),
-            };
-            let answer = carry_out(connection, alloc, limits, tenant, at, operation, &bytes)?;
-            Ok(Outcome::Done(answer))
-        }
+    if reads_document(operation) {
+        operate_document(connection, alloc, limits, tenant, at, operation, body)
+    } else {
+        operate_drained(connection, alloc, tenant, at, operation, body)
     }
 }
 
@@ -716,8 +697,8 @@ fn operate_whole<S: Alter, D: Digester, B: Body>(
 }
 
 /// Carries out an operation of a tenant, on a host with these limits and at a moment that is not after the last stamp.
-/// The bytes of objects and of parts are stored as they come, in blocks of at most this size; a document is taken whole. An
-/// object that is found is answered by a plan of its bytes.
+/// The bytes of objects and of parts are stored as they come, in blocks of at most this size; a document is taken whole, of at
+/// most `DOCUMENT_END` bytes. An object that is found is answered by a plan of its bytes.
 pub fn operate<S: Alter, D: Digester, B: Body>(
     connection: &mut Connection<S>,
     cache: &BlockCache,

@@ -1,6 +1,5 @@
 //! The operations on the date of a version, as answers of a host's storage.
-ghost use Rattle.bh_types.specs.Limits.{HostLimits};
-ghost use Rattle.bh_machine.specs.Machine.{set_retention, operated};
+ghost use Rattle.bh_machine.specs.Machine.{set_retention};
 ghost use Rattle.bh_model.specs.Operations as machine;
 ghost use Rattle.bh_storage.specs.Answers.{answer_view};
 ghost use Rattle.bh_storage.specs.Calls.{Unless, Carries};
@@ -10,9 +9,8 @@ ghost use Rattle.bh_schema.specs.Working.{Works, StillWorks};
 use bh_docs::read_retention;
 use bh_objects::retention;
 use bh_operation::address::ObjectName;
-use bh_operation::operation::Operation;
 use bh_storage::answer::Answer;
-use bh_storage::error::{StepError, Trouble};
+use bh_storage::error::StepError;
 use bh_types::moment::Moment;
 use bh_types::names::TenantName;
 use bh_types::rejection::Rejection;
@@ -20,7 +18,7 @@ use bh_types::wanted::Wanted;
 use sqlite::{Alter, Connection};
 use std::alloc::Global;
 
-fn get_retention<S: Alter>(
+pub fn get_retention<S: Alter>(
     connection: &mut Connection<S>,
     tenant: &TenantName,
     object: &ObjectName,
@@ -41,7 +39,7 @@ fn get_retention<S: Alter>(
 }
 
 /// The document tells the date.
-fn put_retention<S: Alter>(
+pub fn put_retention<S: Alter>(
     connection: &mut Connection<S>,
     alloc: Global,
     tenant: &TenantName,
@@ -63,33 +61,5 @@ fn put_retention<S: Alter>(
     match retention::set_retention(connection, tenant, at, bucket, key, version, date) {
         Ok(()) => Ok(Answer::Done),
         Err(error) => Err(error),
-    }
-}
-
-/// Carries out an operation on the date of a version. Another is trouble: `operate` sends none here.
-pub fn operate_retention<S: Alter>(
-    connection: &mut Connection<S>,
-    alloc: Global,
-    tenant: &TenantName,
-    at: Moment,
-    operation: &Operation,
-    body: &[u8],
-) -> Result<Answer, StepError<Rejection>>
-    requires { Works S.Store connection.old }
-    ensures within { StaysWithin S.Store connection.old connection.new }
-    ensures opens { Unless result (StaysOpen S.Store connection.old connection.new) }
-    ensures working { Unless result (StillWorks S.Store connection.old connection.new) }
-    ensures carries { (limits : HostLimits) → IsClean S.Store connection.new
-        → Carries answer_view tenant.now (operated limits at body.now operation.now)
-        (tables S.Store connection.old) (tables S.Store connection.new) result }
-{
-    match operation {
-        Operation::GetRetention { object, version } => {
-            get_retention(connection, tenant, object, *version)
-        }
-        Operation::PutRetention { object, version } => {
-            put_retention(connection, alloc, tenant, at, object, *version, body)
-        }
-        _ => Err(StepError::Failed(Trouble::Store)),
     }
 }

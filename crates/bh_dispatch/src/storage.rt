@@ -1,23 +1,37 @@
-ghost use Rattle.std.specs.Prelude.{◌≡◌, ◌≤◌};
+ghost use Rattle.std.specs.Prelude.{◌≡◌, ◌≤◌, false, true, Ok, IfOk, OnOk};
+ghost use Rattle.std.specs.Option.{option_copied};
+ghost use Rattle.bh_model.specs.Operations as machine;
+ghost use Rattle.bh_view.specs.View.{view};
+ghost use Rattle.bh_storage.specs.Answers.{found_answer};
+ghost use Rattle.bh_storage.specs.Calls.{Unless, Purges, Decides, Carries};
+ghost use Rattle.bh_storage.specs.Plans.{IsMeasured};
+ghost use Rattle.bh_schema.specs.Storage.{IsClean, seen, Works};
+ghost use Rattle.bh_memo.specs.Facts.{has_no_rule};
+ghost use Rattle.bh_objects.specs.Found.{mode_in};
+ghost use Rattle.bh_dispatch.specs.Seeing.{GoesOn};
 
 use crate::{answers, commands, operations};
 use bh_cache::blocks::BlockCache;
 use bh_event::event::Command;
 use bh_http::body::Body;
-use bh_objects::gets;
+use bh_objects::{gets, reads};
+use bh_operation::address::ObjectName;
 use bh_operation::operation::Operation;
 use bh_schema::host::{Digester, Host};
-use bh_storage::answer::{Answer, Offer};
+use bh_storage::answer::{Answer, FoundVersion, Offer};
 use bh_storage::error::{Outcome, StepError, Trouble};
 use bh_storage::plan::Plan;
 use bh_storage::report::{StoreReport, SweepReport, TenantReport};
 use bh_storage::storage::Storage;
 use bh_types::access_key::AccessKeyId;
+use bh_types::bucket::BucketName;
+use bh_types::bucket_state::BucketState;
 use bh_types::limits::Limits;
 use bh_types::moment::Moment;
 use bh_types::names::TenantName;
 use bh_types::refusal::Refusal;
 use bh_types::rejection::Rejection;
+use bh_types::wanted::Wanted;
 use sqlite::Alter;
 use std::alloc::Global;
 
@@ -35,6 +49,65 @@ fn block_size_of(cache: &BlockCache) -> u64
 pub struct HostStorage<S: Alter + Drop, D: Digester + Drop> {
     /// Its database, and what it was made with.
     pub host: Host<S, D>,
+}
+
+impl<S: Alter + Drop, D: Digester + Drop> HostStorage<S, D> {
+    /// Takes away a tenant's uploads that are stale at a moment, and tells whether any of its buckets has a rule.
+    pub fn purge_telling(
+        &mut self,
+        alloc: Global,
+        tenant: &TenantName,
+        at: Moment,
+    ) -> Result<bool, Trouble>
+        requires { Works S.Store D.digest_of self.old.host }
+        ensures goes_on { GoesOn S.Store D.digest_of (OnOk result) self.old self.new }
+        ensures purges { OnOk result (IsClean S.Store self.new.host
+            → Purges tenant.now at (seen S.Store self.old.host).now (seen S.Store self.new.host).now) }
+        ensures ruled { IfOk result (λ ruled. IsClean S.Store self.new.host → ruled ≡ false
+            → has_no_rule (view (seen S.Store self.old.host).now tenant.now) ≡ true) }
+    {
+        bh_uploads::purge::purge(&mut self.host.connection, alloc, tenant, at)
+    }
+
+    /// The state of a tenant's bucket: NoSuchBucket.
+    pub fn bucket_state(
+        &mut self,
+        tenant: &TenantName,
+        bucket: &BucketName,
+    ) -> Result<BucketState, StepError<Refusal>>
+        requires { Works S.Store D.digest_of self.old.host }
+        ensures goes_on { GoesOn S.Store D.digest_of (Unless result) self.old self.new }
+        ensures decides { IsClean S.Store self.new.host
+            → Decides (λ state. state) (mode_in bucket.now (view (seen S.Store self.old.host).now tenant.now))
+            (seen S.Store self.old.host).now (seen S.Store self.new.host).now result }
+    {
+        reads::bucket_state(&mut self.host.connection, tenant, bucket)
+    }
+
+    /// An object of a bucket in this state: NoSuchKey, NoSuchVersion, MethodNotAllowed, InvalidRange.
+    pub fn find_object(
+        &mut self,
+        tenant: &TenantName,
+        object: &ObjectName,
+        version: Wanted,
+        range: Option<&[u8]>,
+        state: BucketState,
+    ) -> Result<FoundVersion, StepError<Rejection>>
+        requires working { Works S.Store D.digest_of self.old.host }
+        requires state { IsClean S.Store self.old.host
+            → mode_in object.now.bucket (view (seen S.Store self.old.host).now tenant.now) ≡ Ok state }
+        ensures goes_on { GoesOn S.Store D.digest_of (Unless result) self.old self.new }
+        ensures same { Unless result (IsClean S.Store self.new.host → (seen S.Store self.new.host).now ≡ (seen S.Store self.old.host).now) }
+        ensures carries { IsClean S.Store self.new.host
+            → Carries (found_answer (seen S.Store self.new.host).now) tenant.now
+            (machine.get_object object.now.bucket object.now.key version (option_copied range.entry))
+            (seen S.Store self.old.host).now (seen S.Store self.new.host).now result }
+        ensures measured { IfOk result (λ found. IsClean S.Store self.new.host → IsMeasured (seen S.Store self.new.host).now found) }
+    {
+        let (bucket, key) = (&object.bucket, &object.key);
+        let connection = &mut self.host.connection;
+        gets::find_object(connection, tenant, bucket, key, version, range, state)
+    }
 }
 
 impl<S: Alter + Drop, D: Digester + Drop> Storage for HostStorage<S, D> {
@@ -72,7 +145,8 @@ impl<S: Alter + Drop, D: Digester + Drop> Storage for HostStorage<S, D> {
     }
 
     fn purge(&mut self, alloc: Global, tenant: &TenantName, at: Moment) -> Result<(), Trouble> {
-        bh_uploads::purge::purge(&mut self.host.connection, alloc, tenant, at)
+        self.purge_telling(alloc, tenant, at)?;
+        Ok(())
     }
 
     fn authenticate(

@@ -9,12 +9,17 @@ use Rattle.bh_types.specs.Limits.{HostLimits, HostTuning}
 use Rattle.bh_tables.specs.Hosts.{tables_shown}
 use Rattle.bh_tables.specs.Typed.{Tables}
 use Rattle.bh_view.specs.View.{limits_in}
-use Rattle.bh_storage.specs.Calls.{IsAtRest}
+use Rattle.bh_tables.specs.Schema.{Octets}
+use Rattle.bh_view.specs.Bodies.{IsSoundHost}
+use Rattle.bh_storage.specs.Calls.{Seen, IsAtRest}
+use Rattle.bh_memo.specs.Facts.{Facts, nothing}
+use Rattle.bh_memo.specs.Recalled.{recalled}
+use Rattle.bh_memo.proofs.Recalling.{nothing_recalled, same_limits, rests_alone, rests_under}
 use Rattle.bh_cache.specs.Kept.{KeptBlocks, no_blocks}
 use Rattle.bh_schema.specs.Layer.{standing, IsIntact, IsOpen, Leaves}
 use Rattle.bh_schema.specs.Storage.{beside, seen_in, left_in}
 use Rattle.bh_backup.specs.Copies.{IsFileOf}
-use Rattle.bh_dispatch.specs.declared.storage.HostStorage.{HostStorage}
+use Rattle.bh_dispatch.specs.declared.recalling.RecallingStorage.{RecallingStorage}
 use Rattle.bh_kept.specs.Closings.{IsOpenAgain}
 use Rattle.bh_kept.specs.Kept as kept
 use Rattle.bh_kept.specs.Kept.{Shows}
@@ -86,14 +91,22 @@ module _ {D : Type 0} {g : Ghosts D} (cache : KeptBlocks) (tuning : HostTuning) 
 
 -- ---- the same of a host that is kept
 
-module _ {D G : Type 0} {g : Ghosts D} (digester : G) (cache : KeptBlocks) (limits made_with : HostLimits) (old : Held (FileStore D g))
-    (was : Option (HostStorage (FileStore D g) G)) (is : was ≡ Some (record { host = record { connection = old; digester = digester; limits = limits; cache = cache } })) where
+module _ {D G : Type 0} {g : Ghosts D} (digester : G) (facts : Facts) (cache : KeptBlocks) (limits made_with : HostLimits) (old : Held (FileStore D g))
+    (was : Option (RecallingStorage (FileStore D g) G)) (is : was ≡ Some (record { storage = record { host = record { connection = old; digester = digester; limits = limits; cache = cache } }; memo = facts })) where
+  -- what it showed, but for what is remembered
+  abbrev alone : Seen
+  alone = beside cache (seen_in limits (file_state old))
+
   pub limits_stay : limits ≡ (kept.seen made_with was).limits
-  limits_stay = sym (ap (λ o. (kept.seen made_with o).limits) is ∙ limits_before cache cache.tuning limits old old)
+  limits_stay = sym (ap (λ o. (kept.seen made_with o).limits) is ∙ same_limits facts alone ∙ limits_before cache cache.tuning limits old old)
 
   module _ (tuning : HostTuning) (again : Held (FileStore D g)) where
-    pub limits_after : (beside (no_blocks tuning) (seen_in limits (file_state again))).limits ≡ (kept.seen made_with was).limits
-    limits_after = limits_again cache tuning limits old again ∙ limits_stay
+    -- what it shows, of which nothing is remembered
+    abbrev after : Seen
+    after = beside (no_blocks tuning) (seen_in limits (file_state again))
+
+    pub limits_after : (recalled nothing after).limits ≡ (kept.seen made_with was).limits
+    limits_after = same_limits nothing after ∙ limits_again cache tuning limits old again ∙ limits_stay
 
     module _ (found : HasCleanDisk (file_state again) → IsOpenAgain old again) where
       pub intact_kept : IsIntact (file_state again) → kept.IsIntact was
@@ -105,22 +118,29 @@ module _ {D G : Type 0} {g : Ghosts D} (digester : G) (cache : KeptBlocks) (limi
       pub left_kept : IsIntact (file_state again) → (x : Tables) → left_in (file_state again) x → kept.left was x
       left_kept intact x may = subst (λ o. kept.left o x) (sym is) (left_before cache tuning limits old again (found_again cache tuning limits old again found intact) x may)
 
-      module _ (IsSound : Tables → Type 0) (rest : kept.IsIntact was × kept.IsOpen was → IsAtRest IsSound (kept.seen made_with was)) where
-        rest_before : IsIntact (file_state again) → IsAtRest IsSound (beside cache (seen_in limits (file_state old)))
-        rest_before intact = subst (λ o. IsAtRest IsSound (kept.seen made_with o)) is (rest (intact_kept intact, up_kept intact))
+      module _ (digest : Octets → Octets) (rest : kept.IsIntact was × kept.IsOpen was → IsAtRest (IsSoundHost digest) (kept.seen made_with was)) where
+        rest_recalled : IsIntact (file_state again) → IsAtRest (IsSoundHost digest) (recalled facts alone)
+        rest_recalled intact = subst (λ o. IsAtRest (IsSoundHost digest) (kept.seen made_with o)) is (rest (intact_kept intact, up_kept intact))
 
-        pub same_kept : IsIntact (file_state again) → kept.IsOpen was × ((beside (no_blocks tuning) (seen_in limits (file_state again))).now ≡ (kept.seen made_with was).now)
+        rest_before : IsIntact (file_state again) → IsAtRest (IsSoundHost digest) alone
+        rest_before intact = rests_under facts alone (rest_recalled intact)
+
+        shown_before : IsIntact (file_state again) → (kept.seen made_with was).now ≡ alone.now
+        shown_before intact = ap (λ o. (kept.seen made_with o).now) is ∙ ap (λ (x : Seen). x.now) (rests_alone facts alone (rest_recalled intact))
+
+        pub same_kept : IsIntact (file_state again) → kept.IsOpen was × ((recalled nothing after).now ≡ (kept.seen made_with was).now)
         same_kept intact =
-            let stay = stands cache tuning limits old again (found_again cache tuning limits old again found intact) IsSound (rest_before intact) in
-            (up_kept intact, stay ∙ sym (ap (λ o. (kept.seen made_with o).now) is))
+            let stay = stands cache tuning limits old again (found_again cache tuning limits old again found intact) (IsSoundHost digest) (rest_before intact) in
+            (up_kept intact, ap (λ (x : Seen). x.now) (nothing_recalled after) ∙ stay ∙ sym (shown_before intact))
 
-        pub rests_kept : IsIntact (file_state again) → IsAtRest IsSound (beside (no_blocks tuning) (seen_in limits (file_state again)))
-        rests_kept intact = rests cache tuning limits old again (found_again cache tuning limits old again found intact) IsSound (rest_before intact)
+        pub rests_kept : IsIntact (file_state again) → IsAtRest (IsSoundHost digest) (recalled nothing after)
+        rests_kept intact =
+            subst (IsAtRest (IsSoundHost digest)) (sym (nothing_recalled after)) (rests cache tuning limits old again (found_again cache tuning limits old again found intact) (IsSoundHost digest) (rest_before intact))
 
         copy_kept : {E : Type 0} (e : Ghosts E) (copy : E) → (HasCleanDisk (file_state again) → IsFileOf e (file_state old).committed copy) → IsIntact (file_state again) → Shows e copy (kept.seen made_with was).now
         copy_kept e copy file intact =
             let it = found_again cache tuning limits old again found intact in
-            subst (λ o. Shows e copy (kept.seen made_with o).now) (sym is) (copy_shows cache tuning limits old again it IsSound (rest_before intact) e copy (file (clean_again cache tuning limits old again intact)))
+            subst (Shows e copy) (sym (shown_before intact)) (copy_shows cache tuning limits old again it (IsSoundHost digest) (rest_before intact) e copy (file (clean_again cache tuning limits old again intact)))
 
         pub copies_kept : {E : Type 0} (e : Ghosts E) (made : Option E) (opened : Option (Held (FileStore D g))) → opened ≡ Some again
             → IfSome made (λ copy. IfSome opened (λ it. HasCleanDisk (file_state it) → IsFileOf e (file_state old).committed copy))

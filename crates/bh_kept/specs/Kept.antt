@@ -10,7 +10,8 @@ use Rattle.bh_tables.specs.Typed.{Tables, no_rows}
 use Rattle.bh_storage.specs.Calls.{Seen}
 use Rattle.bh_backup.specs.Copies.{IsFileOf}
 use Rattle.bh_schema.specs.Storage as storage
-use Rattle.bh_dispatch.specs.declared.storage.HostStorage.{HostStorage}
+use Rattle.bh_dispatch.specs.Seeing as recalling
+use Rattle.bh_dispatch.specs.declared.recalling.RecallingStorage.{RecallingStorage}
 
 -- a file holds a host's database with these tables, as it reads and as a crash leaves it
 abbrev pub Shows : {E : Type 0} → disk.Ghosts E → E → Tables → Type 0
@@ -18,22 +19,22 @@ Shows e copy x = (db : Database) × IsFileOf e db copy × (x ≡ tables_shown db
 
 module _ {D G : Type 0} {g : disk.Ghosts D} where
   -- of one that was lost nothing is known
-  abbrev pub IsIntact : Option (HostStorage (FileStore D g) G) → Type 0
-  IsIntact (Some it) = storage.IsIntact over_files it.host
+  abbrev pub IsIntact : Option (RecallingStorage (FileStore D g) G) → Type 0
+  IsIntact (Some it) = storage.IsIntact over_files it.storage.host
   IsIntact None = ⊥
 
-  abbrev pub IsOpen : Option (HostStorage (FileStore D g) G) → Type 0
-  IsOpen (Some it) = storage.IsOpen over_files it.host
+  abbrev pub IsOpen : Option (RecallingStorage (FileStore D g) G) → Type 0
+  IsOpen (Some it) = storage.IsOpen over_files it.storage.host
   IsOpen None = ⊥
 
-  abbrev pub seen : HostLimits → Option (HostStorage (FileStore D g) G) → Seen
-  seen limits (Some it) = storage.seen over_files it.host
+  abbrev pub seen : HostLimits → Option (RecallingStorage (FileStore D g) G) → Seen
+  seen limits (Some it) = recalling.seen over_files it
   seen limits None = record { now = no_rows; kept = no_rows; inside = false; limits = limits }
 
-  abbrev pub left : Option (HostStorage (FileStore D g) G) → Tables → Type 0
-  left (Some it) x = storage.left over_files it.host x
+  abbrev pub left : Option (RecallingStorage (FileStore D g) G) → Tables → Type 0
+  left (Some it) x = storage.left over_files it.storage.host x
   left None x = Unit {0}
 
-  abbrev pub is_lost : Option (HostStorage (FileStore D g) G) → Bool
+  abbrev pub is_lost : Option (RecallingStorage (FileStore D g) G) → Bool
   is_lost (Some it) = false
   is_lost None = true

@@ -1,8 +1,9 @@
 //! A host in files, as long as it can be opened.
 
 ghost use Rattle.std.specs.Prelude.{◌≡◌, Some, option_map};
+ghost use Rattle.bh_memo.specs.Facts.{nothing};
 
-use bh_dispatch::storage::HostStorage;
+use bh_dispatch::recalling::RecallingStorage;
 use bh_schema::host::{Digester, Host};
 use bh_types::limits::Limits;
 use sqlite::{Connection, FileStore};
@@ -13,25 +14,25 @@ use sqlite_disk::Disk;
 pub struct KeptHost<'a, D: Disk + Drop, G: Digester + Drop> {
     pub(crate) rt: &'a HostRuntime,
     /// The host, until it is lost.
-    pub storage: Option<HostStorage<FileStore<D>, G>>,
+    pub storage: Option<RecallingStorage<FileStore<D>, G>>,
     /// What it was made with.
     pub limits: Limits,
 }
 
 impl<'a, D: Disk + Drop, G: Digester + Drop> KeptHost<'a, D, G> {
     pub fn new(rt: &'a HostRuntime, host: Host<FileStore<D>, G>) -> KeptHost<'a, D, G>
-        ensures { result.storage ≡ Some (record { host = host }) }
+        ensures { result.storage ≡ Some (record { storage = record { host = host }; memo = nothing }) }
     {
         KeptHost {
             rt,
             limits: host.limits,
-            storage: Some(HostStorage { host }),
+            storage: Some(RecallingStorage::new(rt.alloc(), host)),
         }
     }
 
     /// The database, which is what is left of the host, unless that was lost.
     pub fn into_connection(self) -> Option<Connection<FileStore<D>>>
-        ensures { result ≡ option_map (λ it. it.host.connection) self.entry.storage }
+        ensures { result ≡ option_map (λ it. it.storage.host.connection) self.entry.storage }
     {
         let KeptHost {
             rt: _,
@@ -39,7 +40,7 @@ impl<'a, D: Disk + Drop, G: Digester + Drop> KeptHost<'a, D, G> {
             limits: _,
         } = self;
         match storage {
-            Some(storage) => Some(storage.host.into_connection()),
+            Some(kept) => Some(kept.storage.host.into_connection()),
             None => None,
         }
     }

@@ -2,9 +2,11 @@ use crate::copying::{CopiedHost, CopyFile, copy_and_open};
 use crate::host::KeptHost;
 use bh_cache::blocks::BlockCache;
 use bh_connection::BackUp;
+use bh_dispatch::recalling::RecallingStorage;
 use bh_dispatch::storage::HostStorage;
 use bh_event::event::Command;
 use bh_http::body::Body;
+use bh_memo::memo::Memo;
 use bh_operation::operation::Operation;
 use bh_schema::host::{Digester, Host};
 use bh_storage::answer::{Answer, Offer};
@@ -155,7 +157,8 @@ impl<'a, D: Disk + Drop, G: Digester + Drop> BackUp for KeptHost<'a, D, G> {
     }
 
     fn back_up(&mut self, to: &str) -> Option<CopyFile> {
-        let HostStorage { host } = self.storage.take()?;
+        let RecallingStorage { storage, memo: _ } = self.storage.take()?;
+        let HostStorage { host } = storage;
         let Host {
             connection,
             digester,
@@ -164,13 +167,16 @@ impl<'a, D: Disk + Drop, G: Digester + Drop> BackUp for KeptHost<'a, D, G> {
         } = host;
         self.limits = limits;
         let CopiedHost { copy, connection } = copy_and_open(self.rt, connection, to);
-        self.storage = Some(HostStorage {
-            host: Host {
-                connection: connection?,
-                digester,
-                limits,
-                cache: BlockCache::new(cache.tuning()),
+        self.storage = Some(RecallingStorage {
+            storage: HostStorage {
+                host: Host {
+                    connection: connection?,
+                    digester,
+                    limits,
+                    cache: BlockCache::new(cache.tuning()),
+                },
             },
+            memo: Memo::new(self.rt.alloc()),
         });
         copy
     }

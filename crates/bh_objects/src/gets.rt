@@ -1,9 +1,11 @@
-ghost use Rattle.std.specs.Prelude.{◌≡◌, ◌++◌, ◌+◌, ◌<◌, ◌≤◌, [], length, IfOk, IfSome, IfNone, OnOk, OnErr};
+ghost use Rattle.std.specs.Prelude.{◌≡◌, ◌++◌, ◌+◌, ◌<◌, ◌≤◌, [], length, Ok, IfOk, IfSome, IfNone, OnOk, OnErr};
 ghost use Rattle.std.specs.Option.{option_copied};
 ghost use Rattle.bh_types.specs.Ranges.{cut};
 ghost use Rattle.bh_model.specs.Operations as machine;
 ghost use Rattle.bh_view.specs.Blocks.{whole};
 ghost use Rattle.bh_view.specs.Bodies.{HasBodies};
+ghost use Rattle.bh_view.specs.View.{view};
+ghost use Rattle.bh_objects.specs.Found.{mode_in};
 ghost use Rattle.bh_schema.specs.Connections.{IsClean, tables, HasHost, StaysWithin, StaysOpen, ChangesNothing};
 ghost use Rattle.bh_cache.specs.Kept.{Agrees};
 ghost use Rattle.bh_schema.specs.Working.{Works, StillWorks};
@@ -23,6 +25,7 @@ use bh_storage::answer::FoundVersion;
 use bh_storage::error::{StepError, Trouble};
 use bh_storage::plan::Plan;
 use bh_types::bucket::BucketName;
+use bh_types::bucket_state::BucketState;
 use bh_types::counters::COUNTER_END;
 use bh_types::key::ObjectKey;
 use bh_types::names::TenantName;
@@ -65,8 +68,40 @@ fn version_plan(tenant: &TenantName, seq: u64, size: u64, range: RangePlan) -> R
     })
 }
 
-/// S3's GetObject, where the request may have a Range field: NoSuchBucket, NoSuchKey, NoSuchVersion,
+/// An object of a bucket in this state, where the request may have a Range field: NoSuchKey, NoSuchVersion,
 /// MethodNotAllowed, InvalidRange. No block is read: the answer plans the bytes.
+pub fn find_object<S: Alter>(
+    connection: &mut Connection<S>,
+    tenant: &TenantName,
+    bucket: &BucketName,
+    key: &ObjectKey,
+    wanted: Wanted,
+    range: Option<&[u8]>,
+    mode: BucketState,
+) -> Result<FoundVersion, StepError<Rejection>>
+    requires working { Works S.Store connection.old }
+    requires mode { IsClean S.Store connection.old → mode_in bucket.now (view (tables S.Store connection.old) tenant.now) ≡ Ok mode }
+    ensures within { StaysWithin S.Store connection.old connection.new }
+    ensures opens { Unless result (StaysOpen S.Store connection.old connection.new) }
+    ensures working { Unless result (StillWorks S.Store connection.old connection.new) }
+    ensures same { Unless result (IsClean S.Store connection.new → tables S.Store connection.new ≡ tables S.Store connection.old) }
+    ensures carries { IsClean S.Store connection.new
+        → Carries (found_answer (tables S.Store connection.new)) tenant.now (machine.get_object bucket.now key.now wanted (option_copied range.entry))
+        (tables S.Store connection.old) (tables S.Store connection.new) result }
+    ensures measured { IfOk result (λ found. IsClean S.Store connection.new → IsMeasured (tables S.Store connection.new) found) }
+{
+    let head = wanted_head(connection, tenant, bucket, key, wanted)?;
+    let range = planned(range, head.size)?;
+    let plan = version_plan(tenant, head.seq, head.size, range)?;
+    Ok(FoundVersion {
+        head: told_head(mode, head),
+        range,
+        plan,
+    })
+}
+
+/// S3's GetObject, where the request may have a Range field: NoSuchBucket, and what `find_object` refuses. No block is
+/// read: the answer plans the bytes.
 pub fn get_object<S: Alter>(
     connection: &mut Connection<S>,
     tenant: &TenantName,
@@ -85,14 +120,7 @@ pub fn get_object<S: Alter>(
     ensures measured { IfOk result (λ found. IsClean S.Store connection.new → IsMeasured (tables S.Store connection.new) found) }
 {
     let mode = bucket_state(connection, tenant, bucket)?;
-    let head = wanted_head(connection, tenant, bucket, key, wanted)?;
-    let range = planned(range, head.size)?;
-    let plan = version_plan(tenant, head.seq, head.size, range)?;
-    Ok(FoundVersion {
-        head: told_head(mode, head),
-        range,
-        plan,
-    })
+    find_object(connection, tenant, bucket, key, wanted, range, mode)
 }
 
 /// The next bytes of a version, of one block at most: `None` where none are left. It may be called in a transaction, and

@@ -12,12 +12,18 @@ use Rattle.bh_event.specs.Events.{Arrival}
 use Rattle.bh_event.specs.Flaws.{flaw_of}
 use Rattle.bh_event.specs.Lines.{told_by}
 use Rattle.bh_types.specs.BlockDigests.{digest_number}
-use Rattle.bh_types.specs.Limits.{HostLimits}
+use Rattle.bh_types.specs.Limits.{HostLimits, HostTuning}
 use Rattle.bh_types.specs.declared.block_digest.BlockDigest.{BlockDigest}
 use Rattle.bh_tables.specs.Typed.{Tables}
 use Rattle.bh_view.specs.Laws.{new_host}
 use Rattle.bh_view.specs.View.{limits_in}
 use Rattle.bh_storage.specs.Calls.{Seen}
+use Rattle.bh_memo.specs.Facts.{Facts, nothing}
+use Rattle.bh_memo.specs.Recalled.{recalled}
+use Rattle.bh_memo.proofs.Recalling.{nothing_recalled}
+use Rattle.bh_cache.specs.Kept.{KeptBlocks, no_blocks}
+use Rattle.bh_schema.specs.Storage.{beside}
+use Rattle.bh_create.proofs.Resting.{beside_new}
 use Rattle.bh_host.specs.Runs.{Told, Ran, HasRun}
 use Rattle.bh_host.specs.Turns.{AppliedTo, IsToldApart, fixed}
 use Rattle.bh_host.proofs.Running.{each_is_alone, ran-append}
@@ -251,3 +257,7 @@ script_alone limits digest input result old new (text, (dones, (end, ran), told)
     let has_run : HasRun limits (events_of input) dones alone.0 first end =
     subst (λ l. HasRun l (events_of input) dones alone.0 first end) (first_limits limits digest) alone.1 in
     (text, (dones, (end, ran, (alone.0, has_run)), told), out)
+
+-- of a new host nothing is remembered, and no block is kept in memory
+pub seen_new : (facts : Facts) (s : Seen) (tuning : HostTuning) (kept : KeptBlocks) → facts ≡ nothing → kept ≡ no_blocks tuning → recalled facts (beside kept s) ≡ s
+seen_new facts s tuning kept none empty = ap (λ f. recalled f (beside kept s)) none ∙ nothing_recalled (beside kept s) ∙ beside_new tuning kept s empty

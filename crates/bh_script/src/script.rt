@@ -3,6 +3,7 @@ ghost use Rattle.sqlite.specs.Held.{state};
 ghost use Rattle.sqlite.specs.Steps.{over_memory};
 ghost use Rattle.bh_create.specs.Creation.{IsNewHost};
 ghost use Rattle.bh_cache.specs.Kept.{no_blocks};
+ghost use Rattle.bh_memo.specs.Facts.{nothing};
 ghost use Rattle.bh_script.specs.Lines.{bad_line_of};
 ghost use Rattle.bh_script.specs.Answers.{WritesScript, WritesScriptAlone, is_write};
 
@@ -10,7 +11,7 @@ use crate::answers::answer_lines;
 use crate::error::ScriptError;
 use crate::input::BadLine;
 use bh_create::create;
-use bh_dispatch::storage::HostStorage;
+use bh_dispatch::recalling::RecallingStorage;
 use bh_link::ends::Sink;
 use bh_link::link::Link;
 use bh_operation::routes::Routes;
@@ -48,21 +49,22 @@ pub fn answer_script<W: Sink, D: Digester + Drop>(
     answer_lines(alloc, &routes, &mut storage, bytes, writer)
 }
 
-/// A new host in memory, which keeps no block beside it yet.
+/// A new host in memory, which keeps no block beside it yet, and nothing is remembered of it.
 fn new_host<D: Digester + Drop>(
     alloc: Global,
     digester: D,
     digest: BlockDigest,
     limits: Limits,
     tuning: Tuning,
-) -> Result<HostStorage<MemStore, D>, Trouble>
-    ensures limits { IfOk result (λ storage. storage.host.limits ≡ limits) }
-    ensures made { IfOk result (λ storage. IsNewHost storage.host.limits digest (state over_memory storage.host.connection)) }
-    ensures cache { IfOk result (λ storage. storage.host.cache ≡ no_blocks tuning) }
+) -> Result<RecallingStorage<MemStore, D>, Trouble>
+    ensures limits { IfOk result (λ made. made.storage.host.limits ≡ limits) }
+    ensures made { IfOk result (λ made. IsNewHost made.storage.host.limits digest (state over_memory made.storage.host.connection)) }
+    ensures cache { IfOk result (λ made. made.storage.host.cache ≡ no_blocks tuning) }
+    ensures memo { IfOk result (λ made. made.memo ≡ nothing) }
 {
     let connection = Connection::open_in_memory(alloc)?;
     match create(connection, digester, digest, limits, tuning) {
-        Ok(host) => Ok(HostStorage { host }),
+        Ok(host) => Ok(RecallingStorage::new(alloc, host)),
         Err(_) => Err(Trouble::Store),
     }
 }

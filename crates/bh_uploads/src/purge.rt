@@ -1,5 +1,5 @@
 //! What goes by the rules of buckets.
-ghost use Rattle.std.specs.Prelude.{◌≡◌, ◌++◌, ◌<◌, ◌^◌, map, flat_map, IfOk, OnOk};
+ghost use Rattle.std.specs.Prelude.{◌≡◌, ◌++◌, ◌<◌, ◌^◌, false, [], map, flat_map, IfOk, OnOk};
 ghost use Rattle.bh_view.specs.View.{without_uploads, rows_purged};
 ghost use Rattle.bh_view.specs.Grouped.{same_number};
 ghost use Rattle.bh_schema.specs.Connections.{IsClean, tables, InTransaction, StaysWithin, WasOpen, StaysOpen, ChangesNothing};
@@ -92,24 +92,36 @@ fn stale_of_rules<S: Alter>(
     Ok(numbers)
 }
 
-/// The numbers of a tenant's uploads that are stale at a moment.
-fn stale_numbers<S: Alter>(
+/// What is stale of a tenant's.
+#[derive(Drop)]
+struct StaleUploads {
+    /// Their numbers.
+    numbers: Vec<u64>,
+    /// Whether any of its buckets has a rule.
+    ruled: bool,
+}
+
+/// The tenant's uploads that are stale at a moment.
+fn stale_uploads<S: Alter>(
     connection: &mut Connection<S>,
     alloc: Global,
     tenant: &TenantName,
     at: Moment,
-) -> Result<Vec<u64>, Trouble>
+) -> Result<StaleUploads, Trouble>
     requires inside { InTransaction S.Store connection.old }
     ensures within { StaysWithin S.Store connection.old connection.new }
     ensures opens { OnOk result (StaysOpen S.Store connection.old connection.new) }
     ensures same { OnOk result (ChangesNothing S.Store connection.old connection.new) }
-    ensures numbers { IfOk result (λ list. IsClean S.Store connection.new → list.items
+    ensures ruled { IfOk result (λ stale. IsClean S.Store connection.new → stale.ruled ≡ false
+        → listed_rules tenant.now (tables S.Store connection.old) ≡ []) }
+    ensures numbers { IfOk result (λ stale. IsClean S.Store connection.new → stale.numbers.items
         ≡ flat_map (stale_by tenant.now at (tables S.Store connection.old).uploads)
         (map rule_in (listed_rules tenant.now (tables S.Store connection.old)))) }
 {
     let rules = or_trouble(rule_list(connection, alloc, tenant.as_str()))?;
     let numbers = stale_of_rules(connection, alloc, tenant, &rules, at)?;
-    Ok(numbers)
+    let ruled = !rules.is_empty();
+    Ok(StaleUploads { numbers, ruled })
 }
 
 /// Takes a tenant's upload of a number away with its parts, if it is there.
@@ -154,21 +166,24 @@ fn remove_uploads<S: Alter>(
 
 /// Takes a tenant's uploads that are stale at a moment away, by the rules of their buckets (Amazon S3 API Reference,
 /// AbortIncompleteMultipartUpload): their parts go, and the references of these to blocks, and no block. Where
-/// nothing is stale, it is one seek for the tenant's rules and one for each of them.
+/// nothing is stale, it is one seek for the tenant's rules and one for each of them. It tells whether any of its buckets has a
+/// rule: where none has, nothing can be stale.
 pub fn purge<S: Alter>(
     connection: &mut Connection<S>,
     alloc: Global,
     tenant: &TenantName,
     at: Moment,
-) -> Result<(), Trouble>
+) -> Result<bool, Trouble>
     requires { Works S.Store connection.old }
     ensures within { StaysWithin S.Store connection.old connection.new }
     ensures opens { OnOk result (StaysOpen S.Store connection.old connection.new) }
     ensures working { OnOk result (StillWorks S.Store connection.old connection.new) }
     ensures purges { OnOk result (IsClean S.Store connection.new
         → tables S.Store connection.new ≡ rows_purged tenant.now at (tables S.Store connection.old)) }
+    ensures ruled { IfOk result (λ ruled. IsClean S.Store connection.new → ruled ≡ false
+        → listed_rules tenant.now (tables S.Store connection.old) ≡ []) }
 {
-    let numbers = stale_numbers(connection, alloc, tenant, at)?;
-    remove_uploads(connection, alloc, tenant, &numbers)?;
-    Ok(())
+    let stale = stale_uploads(connection, alloc, tenant, at)?;
+    remove_uploads(connection, alloc, tenant, &stale.numbers)?;
+    Ok(stale.ruled)
 }

@@ -1,14 +1,10 @@
-use Rattle.bh_dispatch.proofs.Steps.{tells_rule, sets_rule, clears_rule}
+use Rattle.bh_dispatch.proofs.Steps.{tells_rule, clears_rule}
 use Rattle.bh_dispatch.proofs.lifecycle.operate_lifecycle.Goals as goal
 
 pub returns-in-GetLifecycle-clause-carries : goal.returns-in-GetLifecycle-clause-carries
-returns-in-GetLifecycle-clause-carries g c limits at clean =
-    rw (c.in-GetLifecycle.is, tells_rule limits at c.args.body.now c.in-GetLifecycle.bucket) (c.get_lifecycle.ensures.carries clean)
-
-pub returns-in-PutLifecycle-clause-carries : goal.returns-in-PutLifecycle-clause-carries
-returns-in-PutLifecycle-clause-carries g c limits at clean =
-    rw (c.in-PutLifecycle.is, sets_rule limits at c.args.body.now c.in-PutLifecycle.bucket) (c.put_lifecycle.ensures.carries clean)
+returns-in-GetLifecycle-clause-carries g c limits at body clean =
+    rw (c.in-GetLifecycle.is, tells_rule limits at body c.in-GetLifecycle.bucket) (c.get_lifecycle.ensures.carries clean)
 
 pub returns-in-DeleteLifecycle-clause-carries : goal.returns-in-DeleteLifecycle-clause-carries
-returns-in-DeleteLifecycle-clause-carries g c limits at clean =
-    rw (c.in-DeleteLifecycle.is, clears_rule limits at c.args.body.now c.in-DeleteLifecycle.bucket) (c.delete_lifecycle.ensures.carries clean)
+returns-in-DeleteLifecycle-clause-carries g c limits at body clean =
+    rw (c.in-DeleteLifecycle.is, clears_rule limits at body c.in-DeleteLifecycle.bucket) (c.delete_lifecycle.ensures.carries clean)

@@ -28,7 +28,7 @@ pub returns-in_err-answer-in-Ok-clause-operates : goal.returns-in_err-answer-in-
 returns-in_err-answer-in-Ok-clause-operates g c limits =
     let p = err_from_is_err_and c.from_residual.result c.from_residual.ensures.1 in
     let (given, gives) = c.drain.ensures.some in
-    rw (p.1, p.2) (operates_err answer_view c.args.tenant.now (λ bytes. operated limits c.args.at bytes c.args.operation.now) _ _ _ (tables_at (state g.S.Store c.args.connection.now)) (tables_at (state g.S.Store c.operate_object.new.connection))
+    rw (p.1, p.2) (operates_err answer_view c.args.tenant.now (λ bytes. operated limits c.args.at bytes c.args.operation.now) _ _ _ (tables_at (state g.S.Store c.args.connection.now)) (tables_at (state g.S.Store c.carry_out.new.connection))
     given gives c.in-Ok.ensures.whole given refl c.in_err-answer-in-Ok.field-0.0 (c.in_err-answer-in-Ok.ensures.carries limits given))
 
 pub returns-in_ok-answer-in-Ok-clause-operates : goal.returns-in_ok-answer-in-Ok-clause-operates

@@ -10,32 +10,32 @@ use Rattle.bh_uploads.specs.Purging.{stale_by, is_among}
 use Rattle.bh_uploads.proofs.Staleness.{numbers_are}
 use Rattle.bh_uploads.proofs.purge.purge.Goals as goal
 
-pub stale_numbers-requires : goal.stale_numbers-requires
-stale_numbers-requires g c = record { inside = λ clean. (c.requires clean).inside }
+pub stale_uploads-requires : goal.stale_uploads-requires
+stale_uploads-requires g c = record { inside = λ clean. (c.requires clean).inside }
 
 pub remove_uploads-requires : goal.remove_uploads-requires
 remove_uploads-requires g c clean =
-    (asked_working (state g.S.Store c.args.connection.now) (state g.S.Store c.stale_numbers.new.connection) c.requires c.in_ok-numbers.ensures.within c.in_ok-numbers.ensures.same clean (λ bytes. bytes)).is
+    (asked_working (state g.S.Store c.args.connection.now) (state g.S.Store c.stale_uploads.new.connection) c.requires c.in_ok-stale.ensures.within c.in_ok-stale.ensures.same clean (λ bytes. bytes)).is
 
 pub returns-clause-working : goal.returns-clause-working
 returns-clause-working g c clean =
     let old = state g.S.Store c.args.connection.now in
-    let mid = state g.S.Store c.stale_numbers.new.connection in
+    let mid = state g.S.Store c.stale_uploads.new.connection in
     let new = state g.S.Store c.remove_uploads.new.connection in
     let clean_mid = c.in_ok-remove_uploads.ensures.within.follows.clean clean in
-    works_then old mid new (asked_working old mid c.requires c.in_ok-numbers.ensures.within c.in_ok-numbers.ensures.same clean_mid) (c.in_ok-remove_uploads.ensures.working clean)
+    works_then old mid new (asked_working old mid c.requires c.in_ok-stale.ensures.within c.in_ok-stale.ensures.same clean_mid) (c.in_ok-remove_uploads.ensures.working clean)
 
 pub returns-clause-purges : goal.returns-clause-purges
 unfolding rows_purged
 returns-clause-purges g c clean =
     let old = state g.S.Store c.args.connection.now in
-    let mid = state g.S.Store c.stale_numbers.new.connection in
+    let mid = state g.S.Store c.stale_uploads.new.connection in
     let t = c.args.tenant.now in
     let clean_mid = c.in_ok-remove_uploads.ensures.within.follows.clean clean in
-    let clean_old = c.in_ok-numbers.ensures.within.follows.clean clean_mid in
-    let same = same_tables old mid (c.in_ok-numbers.ensures.same clean_mid.intact) in
+    let clean_old = c.in_ok-stale.ensures.within.follows.clean clean_mid in
+    let same = same_tables old mid (c.in_ok-stale.ensures.same clean_mid.intact) in
     let tables = tables_at old in
     (rw c.deref.ensures.value at (c.in_ok-remove_uploads.ensures.removed clean))
-    ∙ ap (without_uploads t (is_among c.in_ok-numbers.numbers.items)) same
-    ∙ ap (λ l. without_uploads t (is_among l) tables) (c.in_ok-numbers.ensures.numbers clean_mid)
+    ∙ ap (without_uploads t (is_among c.in_ok-stale.stale.numbers.items)) same
+    ∙ ap (λ l. without_uploads t (is_among l) tables) (c.in_ok-stale.ensures.numbers clean_mid)
     ∙ (λ i. without_uploads t (λ n. numbers_are tables t c.args.at n (c.requires clean_old).sound i) tables)

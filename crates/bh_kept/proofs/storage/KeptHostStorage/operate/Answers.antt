@@ -6,6 +6,7 @@ use Rattle.bh_view.specs.Bodies.{IsSoundHost}
 use Rattle.bh_storage.specs.Answers.{offer_view}
 use Rattle.bh_storage.specs.Calls.{Operates, UnlessSpoilt}
 use Rattle.bh_schema.specs.Storage as storage
+use Rattle.bh_dispatch.specs.Seeing as recalling
 use Rattle.bh_kept.specs.Kept as kept
 use Rattle.bh_kept.proofs.Keeping.{at_work_kept}
 use Rattle.bh_kept.proofs.storage.KeptHostStorage.operate.Goals as goal
@@ -15,10 +16,10 @@ returns-in-Some-clause-goes_on g c = at_work_kept c.args.self.now c.in-Some.stor
 
 pub returns-in-Some-clause-operates : goal.returns-in-Some-clause-operates
 returns-in-Some-clause-operates g c =
-    let new = c.operate.new.self.host in
+    let new = c.operate.new.self in
     let limits = c.args.self.now.limits in
-    subst (λ o. Operates (offer_view (storage.seen over_files new).now) c.args.tenant.now (λ given. operated (kept.seen limits o).limits c.args.at given c.args.operation.now)
-    (storage.IsIntact over_files new × storage.IsOpen over_files new) (g.B.Body.coming c.args.body.now) (g.B.Body.coming c.operate.new.body) (kept.seen limits o).now (storage.seen over_files new).now c.operate.result) (sym c.in-Some.is)
+    subst (λ o. Operates (offer_view (recalling.seen over_files new).now) c.args.tenant.now (λ given. operated (kept.seen limits o).limits c.args.at given c.args.operation.now)
+    (storage.IsIntact over_files new.storage.host × storage.IsOpen over_files new.storage.host) (g.B.Body.coming c.args.body.now) (g.B.Body.coming c.operate.new.body) (kept.seen limits o).now (recalling.seen over_files new).now c.operate.result) (sym c.in-Some.is)
     c.operate.ensures.operates
 
 pub returns-in-None-clause-operates : goal.returns-in-None-clause-operates

@@ -2,6 +2,7 @@ use Rattle.std.proofs.Common.{sym, subst}
 use Rattle.sqlite.specs.Files.{over_files}
 use Rattle.bh_storage.specs.Calls.{TakesBack}
 use Rattle.bh_schema.specs.Storage as storage
+use Rattle.bh_dispatch.specs.Seeing as recalling
 use Rattle.bh_kept.specs.Kept as kept
 use Rattle.bh_kept.proofs.storage.KeptHostStorage.take_back.Goals as goal
 
@@ -16,4 +17,4 @@ returns-in-Some-clause-survives g c intact x may = subst (λ o. kept.left o x) (
 
 pub returns-in-Some-clause-back : goal.returns-in-Some-clause-back
 returns-in-Some-clause-back g c clean =
-    subst (λ o. TakesBack (kept.seen c.args.self.now.limits o) (storage.seen over_files c.take_back.new.self.host)) (sym c.in-Some.is) (c.take_back.ensures.back clean)
+    subst (λ o. TakesBack (kept.seen c.args.self.now.limits o) (recalling.seen over_files c.take_back.new.self)) (sym c.in-Some.is) (c.take_back.ensures.back clean)

@@ -6,8 +6,9 @@ use Rattle.bh_storage.specs.Calls.{Purges}
 use Rattle.bh_schema.specs.Layer.{IsIntact, IsOpen}
 use Rattle.bh_schema.specs.Working.{tables_at}
 use Rattle.bh_schema.proofs.Storing.{AreBoth, both, parts, keeps, under}
+use Rattle.bh_dispatch.proofs.Asking.{ruled_beside}
 use Rattle.bh_dispatch.proofs.Storing.{IsAtWork, seen_working, stored, works_after, purged_after, opened_ok, agrees_seen, kept_ok, purged_blocks, works_after_all, shown_beside}
-use Rattle.bh_dispatch.proofs.storage.HostStorageStorage.purge.Goals as goal
+use Rattle.bh_dispatch.proofs.storage.HostStorage.purge_telling.Goals as goal
 
 pub purge-requires : goal.purge-requires
 purge-requires g c clean = seen_working g.D.Digester.digest_of c.args.self.now.host.limits (state g.S.Store c.args.self.now.host.connection) (under _ _ (c.requires (parts clean)))
@@ -33,4 +34,5 @@ returns g c =
         working = works_after_all digest k k l old new began c.purge.result works agrees;
       };
       purges = shown_beside digest k k l old new began c.purge.result works agrees (Purges t c.args.at) (purged_after digest l old new c.purge.result t c.args.at was h.working h.purges);
+      ruled = ruled_beside digest k l old new began t c.purge.result h.ruled;
     }

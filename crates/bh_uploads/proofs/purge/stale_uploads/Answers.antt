@@ -9,7 +9,7 @@ use Rattle.std.proofs.lemmas.Result.{IfOk-at_ok}
 use Rattle.bh_objects.proofs.Working.{same_tables}
 use Rattle.bh_uploads.specs.Purging.{stale_by}
 use Rattle.bh_uploads.proofs.Taking.{flat_named}
-use Rattle.bh_uploads.proofs.purge.stale_numbers.Goals as goal
+use Rattle.bh_uploads.proofs.purge.stale_uploads.Goals as goal
 
 pub stale_of_rules-requires : goal.stale_of_rules-requires
 stale_of_rules-requires g c = record {

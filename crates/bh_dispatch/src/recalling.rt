@@ -1,0 +1,239 @@
+ghost use Rattle.std.specs.Prelude.{◌≡◌, None, Ok, IfOk};
+ghost use Rattle.std.specs.Option.{option_copied};
+ghost use Rattle.bh_model.specs.Operations as machine;
+ghost use Rattle.bh_view.specs.View.{view};
+ghost use Rattle.bh_memo.specs.Facts.{nothing};
+ghost use Rattle.bh_storage.specs.Answers.{found_answer, offer_view};
+ghost use Rattle.bh_storage.specs.Calls.{Clean, IsWorking, Unless, UnlessSpoilt, Decides, Carries, Operates};
+ghost use Rattle.bh_storage.specs.Plans.{IsMeasured, IfPlanned};
+ghost use Rattle.bh_schema.specs.Storage.{IsClean};
+ghost use Rattle.bh_view.specs.Bodies.{IsSoundHost};
+ghost use Rattle.bh_objects.specs.Found.{mode_in};
+ghost use Rattle.bh_dispatch.specs.Seeing.{seen, RecallsOn};
+
+use crate::operations::bytes_of;
+use crate::storage::HostStorage;
+use crate::telling::only_tells;
+use bh_event::event::Command;
+use bh_http::body::{Body, drain};
+use bh_memo::memo::Memo;
+use bh_operation::address::ObjectName;
+use bh_operation::operation::Operation;
+use bh_schema::host::{Digester, Host};
+use bh_storage::answer::{Answer, FoundVersion, Offer};
+use bh_storage::error::{Outcome, StepError, Trouble};
+use bh_storage::plan::Plan;
+use bh_storage::report::{StoreReport, SweepReport, TenantReport};
+use bh_storage::storage::Storage;
+use bh_types::access_key::AccessKeyId;
+use bh_types::bucket::BucketName;
+use bh_types::bucket_state::BucketState;
+use bh_types::limits::Limits;
+use bh_types::moment::Moment;
+use bh_types::names::TenantName;
+use bh_types::refusal::Refusal;
+use bh_types::rejection::Rejection;
+use bh_types::wanted::Wanted;
+use sqlite::Alter;
+use std::alloc::Global;
+
+/// A host as a storage that needn't ask its tables twice.
+#[derive(Drop)]
+pub struct RecallingStorage<S: Alter + Drop, D: Digester + Drop> {
+    pub storage: HostStorage<S, D>,
+    /// What is remembered of its tables.
+    pub memo: Memo,
+}
+
+impl<S: Alter + Drop, D: Digester + Drop> RecallingStorage<S, D> {
+    /// Nothing is remembered yet.
+    pub fn new(alloc: Global, host: Host<S, D>) -> RecallingStorage<S, D>
+        ensures storage { result.storage ≡ record { host = host } }
+        ensures memo { result.memo ≡ nothing }
+    {
+        RecallingStorage {
+            storage: HostStorage { host },
+            memo: Memo::new(alloc),
+        }
+    }
+
+    /// The state of a tenant's bucket, which is remembered from then on: NoSuchBucket.
+    fn bucket_state(
+        &mut self,
+        tenant: &TenantName,
+        bucket: &BucketName,
+    ) -> Result<BucketState, StepError<Refusal>>
+        requires { IsClean S.Store self.old.storage.host → IsWorking (IsSoundHost D.digest_of) (seen S.Store self.old) }
+        ensures goes_on { RecallsOn S.Store D.digest_of (Unless result) self.old self.new }
+        ensures decides { IsClean S.Store self.new.storage.host
+            → Decides (λ state. state) (mode_in bucket.now (view (seen S.Store self.old).now tenant.now))
+            (seen S.Store self.old).now (seen S.Store self.new).now result }
+    {
+        if let Some(state) = self.memo.state(tenant, bucket) {
+            return Ok(state);
+        }
+        let state = self.storage.bucket_state(tenant, bucket)?;
+        self.memo.remember_state(tenant, bucket, state);
+        Ok(state)
+    }
+
+    /// An object, whose bucket is asked for where its state isn't remembered: NoSuchBucket, NoSuchKey, NoSuchVersion,
+    /// MethodNotAllowed, InvalidRange.
+    fn find_object(
+        &mut self,
+        tenant: &TenantName,
+        object: &ObjectName,
+        version: Wanted,
+        range: Option<&[u8]>,
+    ) -> Result<FoundVersion, StepError<Rejection>>
+        requires { IsClean S.Store self.old.storage.host → IsWorking (IsSoundHost D.digest_of) (seen S.Store self.old) }
+        ensures goes_on { RecallsOn S.Store D.digest_of (Unless result) self.old self.new }
+        ensures carries { IsClean S.Store self.new.storage.host
+            → Carries (found_answer (seen S.Store self.new).now) tenant.now
+            (machine.get_object object.now.bucket object.now.key version (option_copied range.entry))
+            (seen S.Store self.old).now (seen S.Store self.new).now result }
+        ensures measured { IfOk result (λ found. IsClean S.Store self.new.storage.host → IsMeasured (seen S.Store self.new).now found) }
+    {
+        let state = self.bucket_state(tenant, &object.bucket)?;
+        self.storage
+            .find_object(tenant, object, version, range, state)
+    }
+
+    /// The same, once the body of its request came.
+    fn get_object<B: Body>(
+        &mut self,
+        tenant: &TenantName,
+        object: &ObjectName,
+        version: Wanted,
+        range: Option<&[u8]>,
+        body: &mut B,
+    ) -> Result<Outcome<Offer, Rejection>, StepError<Rejection>>
+        requires going { (B.coming body.old).broken ≡ None }
+        requires working { IsClean S.Store self.old.storage.host → IsWorking (IsSoundHost D.digest_of) (seen S.Store self.old) }
+        ensures goes_on { RecallsOn S.Store D.digest_of (UnlessSpoilt result) self.old self.new }
+        ensures operates { Operates (offer_view (seen S.Store self.new).now) tenant.now
+            (λ _. machine.get_object object.now.bucket object.now.key version (option_copied range.entry))
+            (IsClean S.Store self.new.storage.host) (B.coming body.old) (B.coming body.new)
+            (seen S.Store self.old).now (seen S.Store self.new).now result }
+        ensures measured { IfPlanned result (λ found. IsClean S.Store self.new.storage.host → IsMeasured (seen S.Store self.new).now found) }
+    {
+        match drain(body) {
+            Ok(()) => {
+                let found = self.find_object(tenant, object, version, range)?;
+                Ok(Outcome::Done(Offer::Planned(found)))
+            }
+            Err(cause) => Err(StepError::Failed(Trouble::from(cause))),
+        }
+    }
+}
+
+impl<S: Alter + Drop, D: Digester + Drop> Storage for RecallingStorage<S, D> {
+    ghost use Rattle.bh_schema.specs.Storage as storage;
+    ghost use Rattle.bh_memo.specs.Recalled.{recalled};
+    ghost use Rattle.bh_view.specs.Bodies.{IsSoundHost};
+
+    ghost seen = { λ r. recalled r.memo (storage.seen S.Store r.storage.host) };
+
+    ghost IsIntact = { λ r. storage.IsIntact S.Store r.storage.host };
+
+    ghost IsOpen = { λ r. storage.IsOpen S.Store r.storage.host };
+
+    ghost IsSoundStore = { IsSoundHost D.digest_of };
+
+    ghost left = { λ r. storage.left S.Store r.storage.host };
+
+    fn limits(&self) -> Limits {
+        self.storage.limits()
+    }
+
+    fn begin(&mut self) -> Result<(), Trouble> {
+        self.storage.begin()
+    }
+
+    fn commit(&mut self) -> Result<(), Trouble> {
+        self.storage.commit()
+    }
+
+    /// What is remembered may be of the transaction.
+    fn take_back(&mut self) {
+        self.storage.take_back();
+        self.memo.clear();
+    }
+
+    fn stamp(&mut self, reading: u64) -> Result<Moment, Trouble> {
+        if let Some(latest) = self.memo.latest() {
+            if reading <= latest.seconds() {
+                return Ok(latest);
+            }
+        }
+        let stamp = self.storage.stamp(reading)?;
+        self.memo.set_latest(stamp);
+        Ok(stamp)
+    }
+
+    fn purge(&mut self, alloc: Global, tenant: &TenantName, at: Moment) -> Result<(), Trouble> {
+        if self.memo.is_quiet(tenant) {
+            return Ok(());
+        }
+        let ruled = self.storage.purge_telling(alloc, tenant, at)?;
+        if ruled {
+            self.memo.forget(tenant);
+        } else {
+            self.memo.remember_quiet(tenant);
+        }
+        Ok(())
+    }
+
+    fn authenticate(
+        &mut self,
+        alloc: Global,
+        key: &AccessKeyId,
+        secret: &[u8],
+    ) -> Result<(), StepError<Refusal>> {
+        self.storage.authenticate(alloc, key, secret)
+    }
+
+    fn operate<B: Body>(
+        &mut self,
+        alloc: Global,
+        tenant: &TenantName,
+        at: Moment,
+        operation: &Operation,
+        body: &mut B,
+    ) -> Result<Outcome<Offer, Rejection>, StepError<Rejection>> {
+        match operation {
+            Operation::GetObject {
+                object,
+                version,
+                range,
+            } => self.get_object(tenant, object, *version, bytes_of(range), body),
+            _ if only_tells(operation) => self.storage.operate(alloc, tenant, at, operation, body),
+            _ => {
+                self.memo.forget(tenant);
+                self.storage.operate(alloc, tenant, at, operation, body)
+            }
+        }
+    }
+
+    fn next_piece(&mut self, alloc: Global, plan: &mut Plan) -> Result<Option<Vec<u8>>, Trouble> {
+        self.storage.next_piece(alloc, plan)
+    }
+
+    fn command(&mut self, alloc: Global, command: &Command) -> Result<Answer, StepError<Refusal>> {
+        self.memo.clear();
+        self.storage.command(alloc, command)
+    }
+
+    fn sweep(&mut self, alloc: Global, at: Moment, limit: u32) -> Result<SweepReport, Trouble> {
+        self.memo.clear();
+        self.storage.sweep(alloc, at, limit)
+    }
+
+    fn report(&mut self) -> Result<StoreReport, Trouble> {
+        self.storage.report()
+    }
+
+    fn tenants(&mut self, alloc: Global) -> Result<Vec<TenantReport>, Trouble> {
+        self.storage.tenants(alloc)
+    }
+}

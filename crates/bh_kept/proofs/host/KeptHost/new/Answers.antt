@@ -1,0 +1,5 @@
+use Rattle.std.proofs.Common.{Some}
+use Rattle.bh_kept.proofs.host.KeptHost.new.Goals as goal
+
+pub returns : goal.returns
+returns g c = λ i. Some (record { storage = c.new.ensures.storage i; memo = c.new.ensures.memo i })

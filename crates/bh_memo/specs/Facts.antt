@@ -1,0 +1,44 @@
+-- What is remembered of a host's tables.
+use Rattle.std.specs.Prelude.{ℕ, Bool, true, false, nat_eq, ◌&&◌, List, [], Option, None, option_and_then, is_none}
+use Rattle.std.specs.List.{list_all}
+use Rattle.std.specs.Option.{option_map_or}
+use Rattle.std.specs.FinMap.{entries, get}
+use Rattle.bh_types.specs.BucketStates.{state_number}
+use Rattle.bh_types.specs.declared.bucket_state.BucketState.{BucketState}
+use Rattle.bh_model.specs.State.{Octets, Bucket, State}
+use Rattle.bh_tables.specs.Typed.{Tables}
+use Rattle.bh_view.specs.View.{view, latest_of}
+use Rattle.bh_memo.specs.declared.facts.KnownBucket.{KnownBucket}
+
+-- the last stamp, tenants of which no bucket has a rule, and the states of buckets
+pub record Facts : Type 0 where
+  pub latest : Option ℕ
+  pub quiet : List Octets
+  pub buckets : List KnownBucket
+
+abbrev pub nothing : Facts
+nothing = record { latest = None; quiet = []; buckets = [] }
+
+-- ---- whether it is so
+
+-- no bucket of a tenant has a rule
+abbrev pub has_no_rule : Option State → Bool
+has_no_rule s = option_map_or (λ (t : State). list_all (λ (e : Octets × Bucket). is_none e.1.days) (entries t.buckets)) s true
+
+-- a tenant has a bucket of this name, in this state
+abbrev pub has_state : Octets → BucketState → Option State → Bool
+has_state name state s = option_map_or (λ (b : Bucket). nat_eq (state_number b.mode) (state_number state)) (option_and_then (λ (t : State). get t.buckets name) s) false
+
+-- it is the last stamp, if it is one
+abbrev pub is_latest : Option ℕ → Tables → Bool
+is_latest latest tables = option_map_or (λ n. nat_eq n (latest_of tables)) latest true
+
+abbrev pub is_quiet : Tables → Octets → Bool
+is_quiet tables t = has_no_rule (view tables t)
+
+abbrev pub is_known : Tables → KnownBucket → Bool
+is_known tables b = has_state b.bucket b.state (view tables b.tenant)
+
+-- so is each fact
+abbrev pub holds : Facts → Tables → Bool
+holds facts tables = is_latest facts.latest tables && (list_all (is_quiet tables) facts.quiet && list_all (is_known tables) facts.buckets)

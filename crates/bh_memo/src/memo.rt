@@ -1,0 +1,138 @@
+ghost use Rattle.std.specs.Prelude.{◌≡◌, ◌≢◌, ◌⊎◌, Some, IsTrue, IfSome, Contains};
+ghost use Rattle.bh_model.specs.State.{Octets};
+ghost use Rattle.bh_memo.specs.declared.facts.KnownBucket.{KnownBucket as Known};
+ghost use Rattle.bh_memo.specs.Facts.{nothing};
+
+use crate::facts::{KnownBucket, same_bucket, same_tenant};
+use bh_types::bucket::BucketName;
+use bh_types::bucket_state::BucketState;
+use bh_types::moment::Moment;
+use bh_types::names::TenantName;
+use std::alloc::{AllocError, Global};
+use std::marker::Model;
+
+/// So many tenants without a rule are remembered, and the states of so many buckets. Each look-up reads them from the first to
+/// the last, so there are few.
+const MOST: usize = 64;
+
+/// What is remembered of a host's tables. A fact for which there is no memory isn't remembered.
+#[derive(Drop)]
+pub struct Memo {
+    latest: Option<Moment>,
+    /// Tenants of which no bucket has a rule.
+    quiet: Vec<TenantName>,
+    buckets: Vec<KnownBucket>,
+}
+
+impl Model for Memo {
+    ghost use Rattle.bh_memo.specs.Facts.{Facts};
+
+    ghost Value = { Facts };
+
+    ghost view = { λ m. record { latest = m.latest; quiet = m.quiet.items; buckets = m.buckets.items } };
+}
+
+/// Adds a fact, in place of all of them where they are so many. It isn't added where there is no memory.
+fn add<T: Drop>(facts: &mut Vec<T>, fact: T)
+    ensures { (x : T) → Contains facts.new.items x → Contains facts.old.items x ⊎ (x ≡ fact) }
+{
+    if facts.len() >= MOST {
+        facts.clear();
+    }
+    let _kept = facts.push(fact);
+}
+
+impl Memo {
+    /// Nothing is remembered yet.
+    pub fn new(alloc: Global) -> Memo
+        ensures { result ≡ nothing }
+    {
+        Memo {
+            latest: None,
+            quiet: Vec::new(alloc),
+            buckets: Vec::new(alloc),
+        }
+    }
+
+    /// The last stamp, in seconds since 1970, where it is remembered.
+    pub fn latest(&self) -> Option<Moment>
+        ensures { result ≡ self.now.latest }
+    {
+        self.latest
+    }
+
+    /// Remembers the last stamp, in place of the one before.
+    pub fn set_latest(&mut self, latest: Moment)
+        ensures { self.new ≡ record self.old { latest = Some latest } }
+    {
+        self.latest = Some(latest);
+    }
+
+    /// Whether it is remembered of a tenant that none of its buckets has a rule.
+    pub fn is_quiet(&self, tenant: &TenantName) -> bool
+        ensures { IsTrue result → Contains self.now.quiet tenant.now }
+    {
+        for name in &self.quiet {
+            if same_tenant(name, tenant) {
+                return true;
+            }
+        }
+        false
+    }
+
+    /// Remembers of a tenant that none of its buckets has a rule.
+    pub fn remember_quiet(&mut self, tenant: &TenantName)
+        ensures latest { self.new.latest ≡ self.old.latest }
+        ensures quiet { (t : Octets) → Contains self.new.quiet t → Contains self.old.quiet t ⊎ (t ≡ tenant.now) }
+        ensures buckets { self.new.buckets ≡ self.old.buckets }
+    {
+        let name: Result<TenantName, AllocError> = tenant.clone();
+        if let Ok(name) = name {
+            add(&mut self.quiet, name);
+        }
+    }
+
+    /// The state of a tenant's bucket, where it is remembered.
+    pub fn state(&self, tenant: &TenantName, bucket: &BucketName) -> Option<BucketState>
+        ensures { IfSome result (λ state. Contains self.now.buckets (record { tenant = tenant.now; bucket = bucket.now; state = state })) }
+    {
+        for known in &self.buckets {
+            if same_bucket(&known.bucket, bucket) && same_tenant(&known.tenant, tenant) {
+                return Some(known.state);
+            }
+        }
+        None
+    }
+
+    /// Remembers the state of a tenant's bucket.
+    pub fn remember_state(&mut self, tenant: &TenantName, bucket: &BucketName, state: BucketState)
+        ensures latest { self.new.latest ≡ self.old.latest }
+        ensures quiet { self.new.quiet ≡ self.old.quiet }
+        ensures buckets { (b : Known) → Contains self.new.buckets b
+            → Contains self.old.buckets b ⊎ (b ≡ record { tenant = tenant.now; bucket = bucket.now; state = state }) }
+    {
+        if let Ok(known) = KnownBucket::new(tenant, bucket, state) {
+            add(&mut self.buckets, known);
+        }
+    }
+
+    /// Forgets what is remembered of a tenant.
+    pub fn forget(&mut self, tenant: &TenantName)
+        ensures latest { self.new.latest ≡ self.old.latest }
+        ensures quiet { (t : Octets) → Contains self.new.quiet t → Contains self.old.quiet t × (t ≢ tenant.now) }
+        ensures buckets { (b : Known) → Contains self.new.buckets b → Contains self.old.buckets b × (b.tenant ≢ tenant.now) }
+    {
+        self.quiet.retain(|name| !same_tenant(name, tenant));
+        self.buckets
+            .retain(|known| !same_tenant(&known.tenant, tenant));
+    }
+
+    /// Forgets all.
+    pub fn clear(&mut self)
+        ensures { self.new ≡ nothing }
+    {
+        self.latest = None;
+        self.quiet.clear();
+        self.buckets.clear();
+    }
+}
