@@ -6,7 +6,7 @@ use Rattle.bh_tables.specs.Typed.{tables_in}
 use Rattle.bh_schema.specs.Layer.{Standing}
 use Rattle.bh_schema.specs.Connections.{IsClean, tables, InTransaction}
 use Rattle.bh_blocks.proofs.Keeping.{still_inside}
-use Rattle.bh_moved.specs.Calls.{Reads}
+use Rattle.bh_schema.specs.Calls.{Reads}
 
 module _ {S A E : Type 0} {g : Ghosts S} {old new : Held S} {a : A} where
   pub read_inside : Reads {E = E} g old new (Ok a) → InTransaction g old → InTransaction g new

@@ -1,4 +1,3 @@
-pub mod Calls
 pub mod Rows
 pub mod Parts
 pub mod Moves

@@ -5,7 +5,7 @@ ghost use Rattle.std.specs.List.{list_any};
 ghost use Rattle.bh_tables.specs.Shown.{is_tenant};
 ghost use Rattle.bh_schema.specs.Connections.{tables, InTransaction, Becomes};
 ghost use Rattle.bh_tenant_rows.specs.Brought.{with_tenants};
-ghost use Rattle.bh_moved.specs.Calls.{Writes};
+ghost use Rattle.bh_schema.specs.Calls.{Writes};
 ghost use Rattle.bh_moved.specs.Rows.{tenant_row};
 
 use crate::cells::in_range;

@@ -8,7 +8,7 @@ ghost use Rattle.bh_view.specs.Bodies.{HasBodies};
 ghost use Rattle.bh_view.specs.View.{TenantRows, rows_of};
 ghost use Rattle.bh_schema.specs.Connections.{IsClean, tables, InTransaction, Becomes};
 ghost use Rattle.bh_tenant_rows.specs.Brought.{IsNext};
-ghost use Rattle.bh_moved.specs.Calls.{Reads, MayRead, Writes};
+ghost use Rattle.bh_schema.specs.Calls.{Reads, MayRead, Writes};
 ghost use Rattle.bh_moved.specs.Rows.{all_added};
 
 use crate::moving::Moving;

@@ -6,7 +6,7 @@ ghost use Rattle.bh_view.specs.Blocks.{whole};
 ghost use Rattle.bh_view.specs.Bodies.{HasBodies, pieces, body_stored};
 ghost use Rattle.bh_cache.specs.Kept.{Agrees, AreCopies};
 ghost use Rattle.bh_schema.specs.Connections.{IsClean, tables, InTransaction, Becomes};
-ghost use Rattle.bh_moved.specs.Calls.{Reads, Writes};
+ghost use Rattle.bh_schema.specs.Calls.{Reads, Writes};
 
 use crate::moving::Moving;
 use bh_blocks::bodies::store_body;

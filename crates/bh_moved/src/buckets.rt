@@ -5,7 +5,7 @@ ghost use Rattle.bh_tables.specs.Typed.{BucketRow, LockRow};
 ghost use Rattle.bh_schema.specs.Connections.{InTransaction, Becomes};
 ghost use Rattle.bh_tenant_rows.specs.Shown.{shown_bucket, shown_lock};
 ghost use Rattle.bh_tenant_rows.specs.Brought.{with_buckets, with_locks};
-ghost use Rattle.bh_moved.specs.Calls.{Writes};
+ghost use Rattle.bh_schema.specs.Calls.{Writes};
 ghost use Rattle.bh_moved.specs.Rows.{bucket_of, lock_of};
 
 use crate::cells::{maybe_number_at, number_at};

@@ -5,7 +5,7 @@ ghost use Rattle.bh_tables.specs.Typed.{PartRow};
 ghost use Rattle.bh_schema.specs.Connections.{tables, InTransaction, Becomes};
 ghost use Rattle.bh_tenant_rows.specs.Shown.{shown_part};
 ghost use Rattle.bh_tenant_rows.specs.Brought.{part_after, with_part, IsNext};
-ghost use Rattle.bh_moved.specs.Calls.{Writes};
+ghost use Rattle.bh_schema.specs.Calls.{Writes};
 ghost use Rattle.bh_moved.specs.Parts.{own_part, part_of, part_row_after, seen_part, part_seen};
 ghost use Rattle.bh_uploads.specs.Rows.{stored_part};
 

@@ -6,7 +6,7 @@ ghost use Rattle.bh_model.specs.State.{Octets};
 ghost use Rattle.bh_tables.specs.Typed.{Tables};
 ghost use Rattle.bh_view.specs.View.{TenantRows, rows_of};
 ghost use Rattle.bh_schema.specs.Connections.{IsClean, tables, InTransaction, Becomes};
-ghost use Rattle.bh_moved.specs.Calls.{Reads, Writes};
+ghost use Rattle.bh_schema.specs.Calls.{Reads, Writes};
 ghost use Rattle.bh_moved.specs.Rows.{all_added};
 
 use sqlite::{Alter, Connection, Error, Row};

@@ -7,7 +7,7 @@ ghost use Rattle.bh_view.specs.Bodies.{HasBodies};
 ghost use Rattle.bh_view.specs.View.{rows_of};
 ghost use Rattle.bh_schema.specs.Connections.{IsClean, tables, InTransaction, Becomes};
 ghost use Rattle.bh_tenant_rows.specs.Brought.{with_names, with_contents, with_rows, IsNext};
-ghost use Rattle.bh_moved.specs.Calls.{Reads, Writes};
+ghost use Rattle.bh_schema.specs.Calls.{Reads, Writes};
 ghost use Rattle.bh_moved.specs.Rows.{tenant_row};
 
 use crate::account::bring_account;

@@ -3,7 +3,7 @@
 ghost use Rattle.std.specs.Prelude.{max, OnOk};
 ghost use Rattle.bh_view.specs.View.{latest_of, with_latest};
 ghost use Rattle.bh_schema.specs.Connections.{IsClean, tables, InTransaction, Becomes};
-ghost use Rattle.bh_moved.specs.Calls.{Reads, Writes};
+ghost use Rattle.bh_schema.specs.Calls.{Reads, Writes};
 
 use crate::cells::in_range;
 use bh_schema::rows::host::{find_latest, set_latest};

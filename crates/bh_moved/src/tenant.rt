@@ -6,7 +6,7 @@ ghost use Rattle.bh_tables.specs.Shown.{is_tenant};
 ghost use Rattle.bh_view.specs.View.{view};
 ghost use Rattle.bh_schema.specs.Connections.{IsClean, tables, InTransaction, StaysWithin};
 ghost use Rattle.bh_tenant_rows.specs.Brought.{IsMoved};
-ghost use Rattle.bh_moved.specs.Calls.{Reads, Writes};
+ghost use Rattle.bh_schema.specs.Calls.{Reads, Writes};
 ghost use Rattle.bh_moved.specs.Moves.{move_refused};
 ghost use Rattle.bh_moved.specs.Rows.{tenant_row};
 

@@ -6,7 +6,7 @@ ghost use Rattle.bh_view.specs.Bodies.{HasBodies};
 ghost use Rattle.bh_schema.specs.Connections.{IsClean, tables, InTransaction, Becomes};
 ghost use Rattle.bh_tenant_rows.specs.Shown.{shown_version};
 ghost use Rattle.bh_tenant_rows.specs.Brought.{version_after, with_version, IsNext};
-ghost use Rattle.bh_moved.specs.Calls.{Reads, Writes};
+ghost use Rattle.bh_schema.specs.Calls.{Reads, Writes};
 ghost use Rattle.bh_moved.specs.Rows.{own_version, version_of, seen_version, version_seen, version_tenants};
 
 use crate::bodied::Bodied;

@@ -5,5 +5,6 @@ pub mod Troubles
 pub mod Views
 pub mod Known
 pub mod Connections
+pub mod Calls
 pub mod Working
 pub mod Written

@@ -10,7 +10,7 @@ use Rattle.bh_view.specs.Blocks.{AreDigests}
 use Rattle.bh_view.specs.Bodies.{HasBodies}
 use Rattle.bh_view.specs.View.{limits_in}
 use Rattle.bh_schema.specs.Layer.{standing, IsInside}
-use Rattle.bh_schema.specs.Connections.{IsClean}
+use Rattle.bh_schema.specs.Connections.{IsClean, StaysWithin, StaysOpen}
 
 -- the tables as they stand
 abbrev pub tables_at : State → Tables
@@ -42,3 +42,16 @@ module _ {S : Type 0} (g : Ghosts S) where
 
   abbrev pub StillWorksBy : (Octets → Octets) → Held S → Held S → Type 0
   StillWorksBy digest old new = IsClean g new → StillWorkingBy digest (state g old) (state g new)
+
+  -- a call commits nothing, and doesn't shut the connection, which is still at work; the last two unless the call ended so that
+  -- neither is said
+  pub record WorksOn (Unless : Type 0 → Type 0) (old new : Held S) : Type 0 where
+    pub within : StaysWithin g old new
+    pub opens : Unless (StaysOpen g old new)
+    pub working : Unless (StillWorks old new)
+
+  -- the same, where blocks are named by this function
+  pub record WorksOnBy (digest : Octets → Octets) (Unless : Type 0 → Type 0) (old new : Held S) : Type 0 where
+    pub within : StaysWithin g old new
+    pub opens : Unless (StaysOpen g old new)
+    pub working : Unless (StillWorksBy digest old new)

@@ -1,4 +1,4 @@
--- What a call leaves of a connection that is in a transaction, with this result.
+-- What a call on a connection that is in a transaction leaves of it, with this result: the clauses that such calls share.
 use Rattle.std.specs.Prelude.{Result, OnOk}
 use Rattle.sqlite.specs.Held.{Held}
 use Rattle.sqlite_trees.specs.declared.store.Store.{Ghosts}
