@@ -1,11 +1,11 @@
 ghost use Rattle.std.specs.Prelude.{◌≡◌};
 
-use bh_link::ends::{Sink, Source};
 use std::alloc::Global;
 use std::io;
+use std::io::{Read, Write};
 
-/// An end of a connection, its first bytes and how many passed. Of a writer these are the bytes of its first call, though
-/// it didn't take them.
+/// A reader or a writer, its first bytes and how many passed. Of a writer these are the bytes of its first call, though it
+/// didn't take them.
 #[derive(Drop)]
 pub(crate) struct Noted<T> {
     inner: T,
@@ -60,30 +60,30 @@ impl<T> Noted<T> {
     }
 }
 
-impl<R: Source> Source for Noted<R> {
+impl<R: Read> Read for Noted<R> {
     ghost remaining = { λ it. R.remaining it.inner };
 
-    ghost transfers = { λ it. R.transfers it.inner };
-
-    fn give(&mut self, room: &mut [u8]) -> io::Result<usize> {
-        let count = self.inner.give(room)?;
-        self.note(&room[..count]);
+    fn read(&mut self, buf: &mut [u8]) -> io::Result<usize> {
+        let count = self.inner.read(buf)?;
+        self.note(&buf[..count]);
         self.count(count);
         Ok(count)
     }
 }
 
-impl<W: Sink> Sink for Noted<W> {
+impl<W: Write> Write for Noted<W> {
     ghost contents = { λ it. W.contents it.inner };
 
-    ghost transfers = { λ it. W.transfers it.inner };
-
-    fn take(&mut self, bytes: &[u8]) -> io::Result<usize> {
+    fn write(&mut self, buf: &[u8]) -> io::Result<usize> {
         if self.first.len() == 0 {
-            self.note(bytes);
+            self.note(buf);
         }
-        let count = self.inner.take(bytes)?;
+        let count = self.inner.write(buf)?;
         self.count(count);
         Ok(count)
+    }
+
+    fn flush(&mut self) -> io::Result<()> {
+        self.inner.flush()
     }
 }

@@ -24,8 +24,13 @@ use std::time::Duration;
 /// How long a client that was answered is waited for, in seconds.
 const CLOSING: u64 = 1;
 
-/// How many reads of a client that was answered are thrown away at most.
-const LATE_READS: u32 = 1024;
+/// How many reads of a client that was answered are thrown away at most, and how many bytes each takes.
+const LATE_READS: u32 = 8192;
+
+const LATE: usize = 512;
+
+/// How many bytes are read ahead: most heads have fewer. A body is read past them into a room of its own.
+const AHEAD: usize = 1024;
 
 /// More bytes than the head of a response has.
 const RESPONSE_HEAD: usize = 1024;
@@ -60,8 +65,11 @@ pub struct Manner {
 /// One way of a connection, by the clock of its listener.
 type Way<'a, C> = Bounded<Peer<'a>, &'a C>;
 
+/// One way of it, and what passed there.
+type NotedWay<'a, C> = Noted<Way<'a, C>>;
+
 /// The bytes that come, read ahead into a buffer; where memory for it is wanting, without one.
-type Ahead<'a, C> = Either<BufReader<Way<'a, C>>, Way<'a, C>>;
+type Ahead<'a, C> = Either<BufReader<NotedWay<'a, C>>, NotedWay<'a, C>>;
 
 /// The connections of a listener of TCP, and of one of operators, where they may come.
 #[derive(Drop)]
@@ -80,9 +88,9 @@ pub(crate) struct Sockets<'a, C, E> {
 }
 
 impl<'a, C: Clock, E: Eprint> Acceptor for Sockets<'a, C, E> {
-    type Reader = Noted<Untold<Ahead<'a, C>>>;
+    type Reader = Untold<Ahead<'a, C>>;
 
-    type Writer = Noted<Untold<Way<'a, C>>>;
+    type Writer = Untold<NotedWay<'a, C>>;
 
     ghost operated = { λ it. is_some it.doors.operators };
 
@@ -104,8 +112,8 @@ impl<'a, C: Clock, E: Eprint> Acceptor for Sockets<'a, C, E> {
         let (request, response) = self.noted();
         Arrival {
             reading,
-            reader: Link::new(Noted::new(self.alloc, Untold(read_ahead(self.alloc, way)), request)),
-            writer: Link::new(Noted::new(self.alloc, Untold(way), response)),
+            reader: Link::new(Untold(read_ahead(self.alloc, way, request))),
+            writer: Link::new(Untold(Noted::new(self.alloc, way, response))),
         }
     }
 
@@ -113,13 +121,13 @@ impl<'a, C: Clock, E: Eprint> Acceptor for Sockets<'a, C, E> {
         ensures calls { ⊤ }
         ensures operated { is_some self.new.doors.operators ≡ is_some self.old.doors.operators }
     {
-        let reader = arrival.reader.into_inner();
-        let writer = arrival.writer.into_inner();
+        let reader = way_of(arrival.reader.into_inner().0);
+        let writer = arrival.writer.into_inner().0;
         if self.manner.is_logged {
             self.tell(arrival.reading, &reader, &writer, served.trouble);
         }
         if served.ended == End::Whole {
-            see_off(self.current, writer.into_inner().0);
+            see_off(self.current, writer.into_inner());
         }
         let _ = self.current.try_replace(None);
     }
@@ -252,10 +260,18 @@ fn wait_out<C: Clock>(clock: &C, error: io::Error) -> io::Result<()> {
     }
 }
 
-fn read_ahead<'a, C: Clock>(alloc: Global, way: Way<'a, C>) -> Ahead<'a, C> {
-    match BufReader::new(alloc, way) {
+fn read_ahead<'a, C: Clock>(alloc: Global, way: Way<'a, C>, noted: usize) -> Ahead<'a, C> {
+    match BufReader::with_capacity(alloc, AHEAD, Noted::new(alloc, way, noted)) {
         Ok(reader) => Either::Left(reader),
-        Err(_) => Either::Right(way),
+        Err(_) => Either::Right(Noted::new(alloc, way, noted)),
+    }
+}
+
+/// The way by which the bytes came.
+fn way_of<'a, C: Clock>(ahead: Ahead<'a, C>) -> NotedWay<'a, C> {
+    match ahead {
+        Either::Left(reader) => reader.into_inner(),
+        Either::Right(way) => way,
     }
 }
 
@@ -279,7 +295,7 @@ fn see_off<S: Read + Drop>(current: &Current, mut rest: S) {
     if shut(current).is_err() {
         return;
     }
-    let mut room = [0u8; 4096];
+    let mut room = [0u8; LATE];
     for read in 0..LATE_READS {
         match rest.read(&mut room) {
             Ok(0) | Err(_) => return,

@@ -1,13 +1,18 @@
 -- What the bytes so far say of the request that they begin.
-use Rattle.std.specs.Prelude.{◌≡◌, ℕ, ◌+◌, ◌≤◌, ◌⊎◌, Bool, ◌||◌, not, ◌==◌, List, [], ◌∷◌, ◌++◌, length, Result, Ok, Err}
+use Rattle.std.specs.Prelude.{◌≡◌, ℕ, ◌+◌, ◌≤◌, ◌⊎◌, Bool, ◌||◌, not, ◌==◌, List, [], ◌∷◌, ◌++◌, length, drop, Result, Ok, Err}
 use Rattle.std.specs.List.{ends_with}
 use Rattle.httparse.specs.Grammar.{RequestHead, print_request}
+use Rattle.httparse.specs.Spans.{IsRequestWithin}
+use Rattle.httparse.specs.declared.spans.HeaderSpan.{HeaderSpan}
+use Rattle.httparse.specs.declared.spans.RequestSpans.{RequestSpans}
 use Rattle.bh_types.specs.Limits.{HostLimits}
 use Rattle.bh_types.specs.declared.refusal.Refusal.{Refusal}
-use Rattle.bh_http.specs.Reading.{HasHead, HasNoHead, Reads, framing, parts_of}
+use Rattle.bh_http.specs.HeadSpans.{announced_at}
+use Rattle.bh_http.specs.Reading.{HasHead, HasNoHead, Reads, ReadsHead, framing, parts_of}
 use Rattle.bh_http.specs.Views.{Taken}
 use Rattle.bh_http.specs.declared.arriving.Arriving.{Arriving}
-use Rattle.bh_http.specs.declared.arriving.Arriving.TheVariants.{NotYet, Body, Refused}
+use Rattle.bh_http.specs.declared.arriving.Arriving.TheVariants.{NotYet, Found, Refused}
+use Rattle.bh_http.specs.declared.head.FoundHead.{FoundHead}
 
 -- whatever bytes follow, no front is a head
 abbrev pub NeverHasHead : List ℕ → Type 0
@@ -25,15 +30,30 @@ IsRefusedByHead limits bytes = (head : RequestHead) × (rest : List ℕ) × (ref
 abbrev pub NeverAccepted : HostLimits → List ℕ → Type 0
 NeverAccepted limits bytes = NeverHasHead bytes ⊎ IsRefusedByHead limits bytes
 
--- what a head's framing makes of it
-abbrev pub announcing : Result ℕ Refusal → Arriving
-announcing (Ok size) = Body size
-announcing (Err refusal) = Refused
+-- what the framing of a head that was found makes of it
+abbrev pub announcing : RequestSpans → Result ℕ Refusal → Arriving
+announcing spans (Ok size) = Found (record { spans = spans; body_size = size })
+announcing spans (Err refusal) = Refused refusal
 
 abbrev pub Says : HostLimits → List ℕ → Arriving → Type 0
 Says limits bytes NotYet = HasNoHead bytes
-Says limits bytes (Body size) = Announces limits bytes size
-Says limits bytes Refused = NeverAccepted limits bytes
+Says limits bytes (Found head) = Announces limits bytes head.body_size
+Says limits bytes (Refused refusal) = NeverAccepted limits bytes
+
+-- the parts of a head that is accepted are where these spans say
+pub record IsFound (limits : HostLimits) (bytes : List ℕ) (headers : List HeaderSpan) (head : FoundHead) : Type 0 where
+  pub within : IsRequestWithin bytes headers head.spans
+  pub reads : ReadsHead limits bytes (Ok (announced_at bytes headers head, drop head.spans.len bytes))
+
+-- a head that was found is that of the bytes, or a refusal is theirs
+abbrev pub Finds : HostLimits → List ℕ → List HeaderSpan → Result FoundHead Refusal → Type 0
+Finds limits bytes headers (Ok head) = IsFound limits bytes headers head
+Finds limits bytes headers (Err refusal) = ReadsHead limits bytes (Err refusal)
+
+abbrev pub FindsIn : HostLimits → List ℕ → List HeaderSpan → Arriving → Type 0
+FindsIn limits bytes headers NotYet = Unit {0}
+FindsIn limits bytes headers (Found head) = Finds limits bytes headers (Ok head)
+FindsIn limits bytes headers (Refused refusal) = Finds limits bytes headers (Err refusal)
 
 -- a byte that ends no line: neither CR nor LF
 abbrev pub is_text : ℕ → Bool

@@ -1,41 +1,41 @@
 ghost use Rattle.std.specs.Prelude.{◌≡◌};
 ghost use Rattle.httparse.specs.Spans.{IsRequestWithin};
 ghost use Rattle.bh_http.specs.Reading.{framing as framing_of};
-ghost use Rattle.bh_http.specs.Arriving.{Says, announcing, ends_blank as blank_at_end};
+ghost use Rattle.bh_http.specs.Arriving.{Says, FindsIn, announcing, ends_blank as blank_at_end};
 ghost use Rattle.bh_http.specs.HeadSpans.{parts_at};
 
 use crate::framing::framing;
-pub use crate::head::MAX_HEAD;
 use crate::head::head_at;
+pub use crate::head::{FoundHead, MAX_HEAD};
 use crate::request::MAX_FIELDS;
 use bh_types::limits::Limits;
 use bh_types::refusal::Refusal;
 use httparse::Status;
-use httparse::spans::{EMPTY_HEADER_SPAN, HeaderSpan, RequestSpans, parse_request};
+use httparse::spans::{HeaderSpan, RequestSpans, parse_request};
 
 /// What the bytes so far say of the request that they begin.
 #[derive(Clone, Copy)]
 pub enum Arriving {
     /// No front is a head, and more bytes may make one.
     NotYet,
-    /// They begin with a head, after which a body of so many bytes is announced.
-    Body(u64),
-    /// Whatever bytes follow, they are refused as these are.
-    Refused,
+    /// They begin with a head, after which the body comes that it announces.
+    Found(FoundHead),
+    /// Whatever bytes follow, they are refused as these are, with this.
+    Refused(Refusal),
 }
 
-/// Looks for the head at the front of the bytes so far. It takes no memory.
-pub fn search(limits: &Limits, bytes: &[u8]) -> Arriving
-    ensures { Says limits.now bytes.now result }
+/// Looks for the head at the front of the bytes so far. Where its fields are is left in `headers`. It takes no memory.
+pub fn search(limits: &Limits, bytes: &[u8], headers: &mut [HeaderSpan; MAX_FIELDS]) -> Arriving
+    ensures says { Says limits.now bytes.now result }
+    ensures finds { FindsIn limits.now bytes.now headers.new result }
 {
-    let mut headers = [EMPTY_HEADER_SPAN; MAX_FIELDS];
     match parse_request(bytes, headers.as_mut_slice()) {
         Ok(Status::Complete(spans)) if spans.len <= MAX_HEAD => {
-            announced(limits, bytes, &headers, spans)
+            announced(limits, bytes, headers, spans)
         }
-        Ok(Status::Complete(_)) => Arriving::Refused,
+        Ok(Status::Complete(_)) => Arriving::Refused(Refusal::BadRequest),
         Ok(Status::Partial) => Arriving::NotYet,
-        Err(_) => Arriving::Refused,
+        Err(_) => Arriving::Refused(Refusal::BadRequest),
     }
 }
 
@@ -47,17 +47,17 @@ fn announced(
     spans: RequestSpans,
 ) -> Arriving
     requires { IsRequestWithin bytes.now headers.now spans }
-    ensures { result ≡ announcing (framing_of limits.now (parts_at bytes.now headers.now spans)) }
+    ensures { result ≡ announcing spans (framing_of limits.now (parts_at bytes.now headers.now spans)) }
 {
-    announced_by(framing(limits, &head_at(bytes, headers, spans)))
+    announced_by(spans, framing(limits, &head_at(bytes, headers, spans)))
 }
 
-fn announced_by(framing: Result<u64, Refusal>) -> Arriving
-    ensures { result ≡ announcing framing }
+fn announced_by(spans: RequestSpans, framing: Result<u64, Refusal>) -> Arriving
+    ensures { result ≡ announcing spans framing }
 {
     match framing {
-        Ok(size) => Arriving::Body(size),
-        Err(_) => Arriving::Refused,
+        Ok(body_size) => Arriving::Found(FoundHead { spans, body_size }),
+        Err(refusal) => Arriving::Refused(refusal),
     }
 }
 

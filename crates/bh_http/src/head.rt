@@ -1,11 +1,11 @@
 ghost use Rattle.std.specs.Prelude.{◌≡◌, ◌≤◌, ℕ, List, length, map, All, IfSome, IfNone};
 ghost use Rattle.httparse.specs.Grammar.{RequestHead, print_request};
 ghost use Rattle.httparse.specs.Spans.{IsHeaderWithin, IsRequestAt, IsRequestWithin, header_bytes};
-ghost use Rattle.bh_http.specs.HeadSpans.{parts_at, head_view};
+ghost use Rattle.bh_http.specs.HeadSpans.{parts_at, head_view, announced_at};
 ghost use Rattle.bh_http.specs.Reading.{HasNoHead};
-ghost use Rattle.bh_http.specs.Views.{pair_of, pairs_of};
+ghost use Rattle.bh_http.specs.Views.{pair_of, pairs_of, announced_view};
 
-use crate::request::{Field, Fields, MAX_FIELDS};
+use crate::request::{Field, Fields, Head, MAX_FIELDS};
 use arrayvec::ArrayVec;
 use httparse::Status;
 use httparse::spans::{HeaderSpan, RequestSpans, parse_request};
@@ -20,6 +20,29 @@ pub struct HeadParts<'a> {
     pub target: &'a [u8],
     pub minor: u8,
     pub fields: Fields<'a>,
+}
+
+/// A head that was found: where its parts are in the bytes, and the size in bytes of the body that it announces.
+#[derive(Clone, Copy)]
+pub struct FoundHead {
+    pub spans: RequestSpans,
+    pub body_size: u64,
+}
+
+impl FoundHead {
+    /// The head in the bytes in which it was found.
+    pub fn of<'a>(&self, bytes: &'a [u8], headers: &[HeaderSpan; MAX_FIELDS]) -> Head<'a>
+        requires { IsRequestWithin bytes.now headers.now self.now.spans }
+        ensures { announced_view result ≡ announced_at bytes.now headers.now self.now }
+    {
+        let parts = head_at(bytes, headers, self.spans);
+        Head {
+            method: parts.method,
+            target: parts.target,
+            fields: parts.fields,
+            body_size: self.body_size,
+        }
+    }
 }
 
 /// Where the parts of the head at the front are, if there is one within the limits.

@@ -1,5 +1,5 @@
 -- What was taken from a reader that tells its bytes, or that does not.
-use Rattle.std.specs.Prelude.{◌≡◌, ◌≤◌, ◌+◌, ◌⊎◌, ℕ, Bool, true, false, Ok, List, [], ◌∷◌, length, Option, Some, None, Result}
+use Rattle.std.specs.Prelude.{◌≡◌, ◌≤◌, ◌+◌, ◌⊎◌, ℕ, Bool, true, false, Ok, Err, List, [], ◌∷◌, length, Option, Some, None, Result}
 use Rattle.std.specs.Io.KnownBytes.{Consumes, Keeps, IsAtEnd}
 use Rattle.bh_types.specs.Limits.{HostLimits}
 use Rattle.bh_types.specs.declared.refusal.Refusal.{Refusal}
@@ -7,6 +7,7 @@ use Rattle.httparse.specs.Grammar.{RequestHead}
 use Rattle.bh_http.specs.Reading.{Reads, HasHead, HasNoHead, framing, parts_of}
 use Rattle.bh_http.specs.Views.{Taken}
 use Rattle.bh_http.specs.Arriving.{HasExtent, NeverAccepted, Announces}
+use Rattle.bh_http.specs.declared.head.FoundHead.{FoundHead}
 use Rattle.bh_link.specs.declared.request.TakeError.{TakeError}
 use Rattle.bh_link.specs.declared.request.TakeError.TheVariants.{ReadFailed, OutOfMemory}
 
@@ -49,6 +50,11 @@ pub record Opens (limits : HostLimits) (old new : Option (List ℕ)) (bytes : Li
   pub consumed : Consumes old new bytes
   pub short : length bytes ≤ 16384
   pub came_to : CameTo limits new bytes body
+
+-- how many bytes of a body are to come after a head
+abbrev pub announced_size : Result FoundHead Refusal → ℕ
+announced_size (Ok head) = head.body_size
+announced_size (Err refusal) = 0
 
 abbrev pub is_fault : TakeError → Bool
 is_fault ReadFailed = true

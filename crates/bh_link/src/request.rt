@@ -1,12 +1,15 @@
 ghost use Rattle.std.specs.Prelude.{◌≡◌, ◌∷◌, ◌||◌, ◌&&◌, ℕ, List, [], ◌++◌, false, IfOk, IfErr, OnOk};
-ghost use Rattle.bh_http.specs.Arriving.{is_text as is_text_byte, ends_blank as is_blank_at_end};
-ghost use Rattle.bh_link.specs.Taking.{TookAtMost, Opens, is_fault};
+ghost use Rattle.bh_http.specs.Arriving.{Finds, is_text as is_text_byte, ends_blank as is_blank_at_end};
+ghost use Rattle.bh_link.specs.Taking.{TookAtMost, Opens, announced_size, is_fault};
 ghost use Rattle.bh_http.specs.Transfers.{Gives};
 
 use crate::ends::Source;
 use crate::link::{Link, ReadFault};
-use bh_http::arriving::{Arriving, MAX_HEAD, ends_blank, search};
+use bh_http::arriving::{Arriving, FoundHead, MAX_HEAD, ends_blank, search};
+use bh_http::request::MAX_FIELDS;
 use bh_types::limits::Limits;
+use bh_types::refusal::Refusal;
+use httparse::spans::HeaderSpan;
 use std::alloc::{AllocError, Global};
 
 /// Why no head was taken.
@@ -40,23 +43,28 @@ impl From<AllocError> for TakeError {
     }
 }
 
-/// The bytes up to the end of a head, and how many of a body are to come after them.
+/// The bytes up to the end of a head, and the head in them, or what they are refused with.
 #[derive(Drop)]
 pub struct Opening {
     pub bytes: Vec<u8>,
-    pub body: u64,
+    pub head: Result<FoundHead, Refusal>,
 }
 
-/// Takes the bytes up to the end of a request's head, a byte at a time. Where they are no head, or one that is refused, it takes
-/// as many as show so, at most 16,384, or all.
+/// Most heads have fewer bytes.
+const USUAL_HEAD: usize = 512;
+
+/// Takes the bytes up to the end of a request's head, a byte at a time, and leaves in `headers` where its fields are. Where they
+/// are no head, or one that is refused, it takes as many as show so, at most 16,384, or all.
 pub fn take_head<R: Source>(
     alloc: Global,
     limits: &Limits,
+    headers: &mut [HeaderSpan; MAX_FIELDS],
     reader: &mut Link<R>,
 ) -> Result<Opening, TakeError>
     requires { reader.old.failed ≡ false }
-    ensures opens { IfOk result (λ opening.
-        Opens limits.now (R.remaining reader.old.inner) (R.remaining reader.new.inner) opening.bytes.items opening.body) }
+    ensures opens { IfOk result (λ opening. Opens limits.now (R.remaining reader.old.inner) (R.remaining reader.new.inner)
+        opening.bytes.items (announced_size opening.head)) }
+    ensures finds { IfOk result (λ opening. Finds limits.now opening.bytes.items headers.new opening.head) }
     ensures given { IfOk result (λ opening.
         Gives (R.transfers reader.old.inner) (R.transfers reader.new.inner) opening.bytes.items false) }
     ensures going { OnOk result (reader.new.failed ≡ false) }
@@ -65,23 +73,35 @@ pub fn take_head<R: Source>(
         × Gives (R.transfers reader.old.inner) (R.transfers reader.new.inner) taken reader.new.failed) }
     ensures failed { IfErr result (λ e. reader.new.failed ≡ is_fault e) }
 {
-    let mut bytes = Vec::new(alloc);
+    let mut bytes = Vec::with_capacity(alloc, USUAL_HEAD)?;
     let mut started = false;
     for count in 0..MAX_HEAD {
         let Some(byte) = reader.next_byte()? else {
-            return Ok(Opening { bytes, body: 0 });
+            return Ok(Opening {
+                bytes,
+                head: Err(Refusal::BadRequest),
+            });
         };
         push(&mut bytes, byte)?;
         started = has_started(started, byte);
         if may_end(started, bytes.as_slice()) {
-            match search(limits, bytes.as_slice()) {
+            match search(limits, bytes.as_slice(), headers) {
                 Arriving::NotYet => {}
-                Arriving::Body(body) => return Ok(Opening { bytes, body }),
-                Arriving::Refused => return Ok(Opening { bytes, body: 0 }),
+                Arriving::Found(head) => return Ok(Opening {
+                    bytes,
+                    head: Ok(head),
+                }),
+                Arriving::Refused(refusal) => return Ok(Opening {
+                    bytes,
+                    head: Err(refusal),
+                }),
             }
         }
     }
-    Ok(Opening { bytes, body: 0 })
+    Ok(Opening {
+        bytes,
+        head: Err(Refusal::BadRequest),
+    })
 }
 
 fn push(bytes: &mut Vec<u8>, byte: u8) -> Result<(), AllocError>

@@ -3,12 +3,12 @@ use Rattle.std.proofs.Common.{Bool, false, rules, ◌≡◌, ◌≤◌, ◌<◌,
 use Rattle.std.specs.List.{list_any}
 use Rattle.std.specs.Io.KnownBytes.{Consumes}
 use Rattle.bh_http.specs.Reading.{HasNoHead}
-use Rattle.bh_http.specs.declared.arriving.Arriving.TheVariants.{Body, Refused, NotYet}
-use Rattle.bh_http.specs.Arriving.{is_text, ends_blank, Says}
+use Rattle.bh_http.specs.declared.arriving.Arriving.TheVariants.{Found, Refused, NotYet}
+use Rattle.bh_http.specs.Arriving.{is_text, ends_blank, Says, FindsIn}
 use Rattle.bh_http.proofs.ArrivingLemmas.{no_head_of_none}
 use Rattle.bh_link.specs.declared.link.ReadFault.{ReadFault}
 use Rattle.bh_link.proofs.TakingLemmas.{consumes_none, consumes_kept, consumes_pushed, part_none, part_pushed, opens_pushed, opens_never, opens_limit, started_pushed, none_pushed, if_err}
-use Rattle.bh_http.proofs.TransferLemmas.{gives_none, gives_pushed, gives_byte_end, gives_fault, gives_going}
+use Rattle.bh_http.proofs.TransferLemmas.{gives_none, gives_nothing, gives_pushed, gives_byte_end, gives_fault, gives_going}
 use Rattle.bh_link.proofs.request.take_head.Goals as goal
 use Rattle.bh_link.proofs.request.take_head.Goals.{then-may_end+in-NotYet, else-may_end}
 
@@ -26,7 +26,7 @@ room bytes next byte count is lt same = omega (arith, is, lt, ap length same, le
 
 pub loop-count-init : goal.loop-count-init
 loop-count-init g c =
-    let none = c.new-bytes.ensures.items in
+    let none = c.in_ok-bytes.ensures.items in
     record {
       going = c.requires;
       count = ap length none;
@@ -36,10 +36,14 @@ loop-count-init g c =
       started = ap (list_any is_text) (sym none);
     }
 
+pub returns-in_err-bytes-clause-within : goal.returns-in_err-bytes-clause-within
+returns-in_err-bytes-clause-within g c =
+    if_err c.from_residual.result ([], part_none c.args.limits.now _ _ [] (consumes_none _) (omega arith) no_head_of_none, gives_going _ _ _ _ c.requires (gives_nothing _))
+
 pub returns-in_err-byte-clause-within : goal.returns-in_err-byte-clause-within
 returns-in_err-byte-clause-within g c =
     let so_far = c.loop-count.invariant in
-    if_err c.from_residual.result (
+    if_err c.from_residual-in_err-byte.result (
       c.loop-count.bytes.items,
       part_none c.args.limits.now _ _ _ (consumes_kept _ _ _ _ so_far.consumed c.in_err-byte.ensures.fault)
           (omega (arith, so_far.count, c.loop-count-test.true)) so_far.none,
@@ -60,24 +64,24 @@ returns-in_err-push-clause-within g c =
       gives_going _ _ _ _ (search rules) (gives_pushed _ _ _ bytes (bytes ++ byte ∷ []) byte refl so_far.given (rw c.in-Some.is at c.in_ok-byte.ensures.transfer)),
     )
 
-pub returns-in-Body-clause-opens : goal.returns-in-Body-clause-opens
-returns-in-Body-clause-opens g c =
+pub returns-in-Found-clause-opens : goal.returns-in-Found-clause-opens
+returns-in-Found-clause-opens g c =
     let so_far = c.loop-count.invariant in
     let bytes = c.loop-count.bytes.items in
     let byte = c.in-Some.byte in
     let next = c.push.new.bytes.items in
     let taken = rw c.in-Some.is at c.in_ok-byte.ensures.byte in
     let consumed = consumes_pushed _ _ _ bytes next byte c.in_ok-push.ensures so_far.consumed taken in
-    let P : List ℕ → Type 0 = λ t. Says c.args.limits.now t (Body c.in-Body.body) in
-    let said = subst P c.as_slice-then-may_end.ensures.value (rw c.in-Body.is at c.search.ensures) in
-    opens_pushed c.args.limits.now _ _ bytes next byte c.in-Body.body c.in_ok-push.ensures consumed
+    let P : List ℕ → Type 0 = λ t. Says c.args.limits.now t (Found c.in-Found.head) in
+    let said = subst P c.as_slice-then-may_end.ensures.value (rw c.in-Found.is at c.search.ensures.says) in
+    opens_pushed c.args.limits.now _ _ bytes next byte c.in-Found.head.body_size c.in_ok-push.ensures consumed
     (room bytes next byte c.loop-count.count so_far.count c.loop-count-test.true c.in_ok-push.ensures) so_far.none said
 
 pub returns-in_default-clause-given : goal.returns-in_default-clause-given
 returns-in_default-clause-given g c = gives_byte_end ReadFault _ _ _ _ c.in_ok-byte.field-0 (search rules) c.loop-count.invariant.given c.in_ok-byte.ensures.transfer
 
-pub returns-in-Body-clause-given : goal.returns-in-Body-clause-given
-returns-in-Body-clause-given g c = gives_pushed _ _ _ _ _ _ c.in_ok-push.ensures c.loop-count.invariant.given (rw c.in-Some.is at c.in_ok-byte.ensures.transfer)
+pub returns-in-Found-clause-given : goal.returns-in-Found-clause-given
+returns-in-Found-clause-given g c = gives_pushed _ _ _ _ _ _ c.in_ok-push.ensures c.loop-count.invariant.given (rw c.in-Some.is at c.in_ok-byte.ensures.transfer)
 
 pub returns-in-Refused-clause-given : goal.returns-in-Refused-clause-given
 returns-in-Refused-clause-given g c = gives_pushed _ _ _ _ _ _ c.in_ok-push.ensures c.loop-count.invariant.given (rw c.in-Some.is at c.in_ok-byte.ensures.transfer)
@@ -90,10 +94,15 @@ returns-in-Refused-clause-opens g c =
     let next = c.push.new.bytes.items in
     let taken = rw c.in-Some.is at c.in_ok-byte.ensures.byte in
     let consumed = consumes_pushed _ _ _ bytes next byte c.in_ok-push.ensures so_far.consumed taken in
-    let P : List ℕ → Type 0 = λ t. Says c.args.limits.now t Refused in
-    let said = subst P c.as_slice-then-may_end.ensures.value (rw c.in-Refused.is at c.search.ensures) in
+    let P : List ℕ → Type 0 = λ t. Says c.args.limits.now t (Refused c.in-Refused.refusal) in
+    let said = subst P c.as_slice-then-may_end.ensures.value (rw c.in-Refused.is at c.search.ensures.says) in
     opens_never c.args.limits.now _ _ next consumed
     (room bytes next byte c.loop-count.count so_far.count c.loop-count-test.true c.in_ok-push.ensures) said
+
+pub returns-in-Refused-clause-finds : goal.returns-in-Refused-clause-finds
+returns-in-Refused-clause-finds g c =
+    let P : List ℕ → Type 0 = λ t. FindsIn c.args.limits.now t c.search.new.headers (Refused c.in-Refused.refusal) in
+    subst P c.as_slice-then-may_end.ensures.value (rw c.in-Refused.is at c.search.ensures.finds)
 
 pub loop-count-preserved : goal.loop-count-preserved
 loop-count-preserved g c =
@@ -107,7 +116,7 @@ loop-count-preserved g c =
     let P : List ℕ → Type 0 = λ t. Says c.args.limits.now t NotYet in
     let Q : List ℕ → Type 0 = λ t. HasNoHead t in
     let none : HasNoHead next = elim c.if-may_end.branch [
-      | then-may_end+in-NotYet w ↦ subst Q w.as_slice-then-may_end.ensures.value (rw w.in-NotYet.is at w.search.ensures)
+      | then-may_end+in-NotYet w ↦ subst Q w.as_slice-then-may_end.ensures.value (rw w.in-NotYet.is at w.search.ensures.says)
       | else-may_end w ↦ none_pushed bytes next byte c.has_started-started.result same so_far.none started (open_end _ _ _ next c.as_slice.ensures.value c.may_end.ensures w.if-may_end.false)
     ] in
     record {

@@ -1,6 +1,6 @@
 use Rattle.std.proofs.Common.{◌≡◌, List, ℕ, None}
 use Rattle.bh_http.specs.Bodies.{Gives}
-use Rattle.bh_http.proofs.body.drain.Given as goal
+use Rattle.bh_http.proofs.body.drain_due.Given as goal
 
 -- so far some of the body came
 abbrev pub invariant-taking : goal.invariant-taking

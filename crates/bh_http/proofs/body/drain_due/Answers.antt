@@ -1,5 +1,5 @@
 use Rattle.bh_http.proofs.BodyLemmas.{gives_then}
-use Rattle.bh_http.proofs.body.drain.Goals as goal
+use Rattle.bh_http.proofs.body.drain_due.Goals as goal
 
 pub taking-preserved : goal.taking-preserved
 taking-preserved g c =
