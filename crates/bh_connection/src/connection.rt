@@ -1,9 +1,10 @@
 ghost use Rattle.std.specs.Prelude.{◌≡◌, ◌<◌, ◌≤◌, ℕ, List, [], take, false, None, Option, Ok, IfSome};
 ghost use Rattle.std.specs.Io.KnownBytes.{Appends};
+ghost use Rattle.bh_http.specs.Arriving.{Finds};
 ghost use Rattle.bh_http.specs.Reading.{ReadsHead};
 ghost use Rattle.bh_http.specs.Transfers.{Transfer, Gives, Takes};
 ghost use Rattle.bh_http.specs.Views.{announced_view};
-ghost use Rattle.bh_link.specs.Taking.{Opens};
+ghost use Rattle.bh_link.specs.Taking.{Opens, announced_size};
 ghost use Rattle.bh_model.specs.Runs.{last_reading};
 ghost use Rattle.bh_storage.specs.Calls.{Clean, LeavesSound, IsAtRest};
 ghost use Rattle.bh_tables.specs.Typed.{Tables};
@@ -14,15 +15,15 @@ ghost use Rattle.bh_connection.specs.Connections.{ends_of, begun_by, EndsAs, Cam
 use crate::sending::send_planned;
 use crate::served::{End, Served};
 use bh_host::{Caller, Delivery, Replied, Reply, Told, receive, refuse_unread};
-use bh_http::read::split_head;
-use bh_http::request::Head;
+use bh_http::request::{Head, MAX_FIELDS};
 use bh_link::ends::{Sink, Source};
 use bh_link::link::Link;
-use bh_link::request::{TakeError, take_head};
+use bh_link::request::{Opening, TakeError, take_head};
 use bh_operation::routes::Routes;
 use bh_storage::error::Trouble;
 use bh_storage::storage::Storage;
 use bh_types::moment::LAST_READING;
+use httparse::spans::{EMPTY_HEADER_SPAN, HeaderSpan};
 use std::alloc::Global;
 
 /// Serves one connection: takes its request, applies it as its body comes, and writes the response.
@@ -63,11 +64,11 @@ pub fn serve_connection<H: Storage, R: Source, W: Sink>(
     if reading > LAST_READING {
         return answer(writer, left_out(Reply::ClockOutOfRange(Caller::Request)));
     }
-    match take_head(alloc, &host.limits(), reader) {
-        Ok(opening) => {
-            let bytes = opening.bytes.as_slice();
-            serve_opened(alloc, routes, host, reading, bytes, reader, writer)
-        }
+    let mut headers = [EMPTY_HEADER_SPAN; MAX_FIELDS];
+    match take_head(alloc, &host.limits(), &mut headers, reader) {
+        Ok(opening) => serve_opened(
+            alloc, routes, host, reading, &opening, &headers, reader, writer,
+        ),
         Err(TakeError::OutOfMemory) => {
             let reply = Reply::Wanting(Caller::Request, Trouble::Memory);
             answer(writer, left_out(reply))
@@ -120,19 +121,21 @@ fn serve_headed<H: Storage, R: Source, W: Sink>(
     }
 }
 
-/// Applies what the bytes up to the end of a head turn out to be, and writes the response. Bytes that are no head, or one that
-/// is refused, are answered as they are.
+/// Applies the request of the head that was taken, and writes the response. Bytes that are no head, or one that is refused, are
+/// answered as they are.
 fn serve_opened<H: Storage, R: Source, W: Sink>(
     alloc: Global,
     routes: &Routes,
     host: &mut H,
     reading: u64,
-    bytes: &[u8],
+    opening: &Opening,
+    headers: &[HeaderSpan; MAX_FIELDS],
     reader: &mut Link<R>,
     writer: &mut Link<W>,
 ) -> Served
     requires in_range { reading ≤ last_reading }
     requires rest { Clean H.IsIntact H.IsOpen host.old → IsAtRest H.IsSoundStore (H.seen host.old) }
+    requires finds { Finds (H.seen host.old).limits opening.now.bytes.items headers.now opening.now.head }
     requires reads { reader.old.failed ≡ false }
     requires writes { writer.old.failed ≡ false }
     ensures intact { H.IsIntact host.new → H.IsIntact host.old }
@@ -140,15 +143,18 @@ fn serve_opened<H: Storage, R: Source, W: Sink>(
     ensures ready { Clean H.IsIntact H.IsOpen host.new → IsAtRest H.IsSoundStore (H.seen host.new) }
     ensures limits { (H.seen host.new).limits ≡ (H.seen host.old).limits }
     ensures leaves { H.IsIntact host.new → LeavesSound H.IsSoundStore H.left host.old host.new }
-    ensures came_to { (start : Option (List ℕ)) (begun : Option (List Transfer)) (body : ℕ)
-        → Opens (H.seen host.old).limits start (R.remaining reader.old.inner) bytes.now body
-        → Gives begun (R.transfers reader.old.inner) bytes.now false
+    ensures came_to { (start : Option (List ℕ)) (begun : Option (List Transfer))
+        → Opens (H.seen host.old).limits start (R.remaining reader.old.inner) opening.now.bytes.items (announced_size opening.now.head)
+        → Gives begun (R.transfers reader.old.inner) opening.now.bytes.items false
         → CameTo H.IsIntact H.IsOpen H.seen H.left
         (begun_by start begun (ends_of R.remaining R.transfers W.contents W.transfers reading reader.old writer.old))
         (ends_of R.remaining R.transfers W.contents W.transfers reading reader.new writer.new) result host.old host.new }
 {
-    match split_head(bytes, &host.limits()) {
-        Ok((head, _)) => serve_headed(alloc, routes, host, reading, &head, reader, writer),
+    match opening.head {
+        Ok(found) => {
+            let head = found.of(opening.bytes.as_slice(), headers);
+            serve_headed(alloc, routes, host, reading, &head, reader, writer)
+        }
         Err(refusal) => answer(writer, refuse_unread(alloc, routes, host, reading, refusal)),
     }
 }

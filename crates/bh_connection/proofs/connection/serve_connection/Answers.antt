@@ -1,6 +1,6 @@
 use Rattle.std.proofs.Common.{[], Bool, refl, sym, subst, ◌∙◌}
 use Rattle.bh_connection.proofs.ConnectionLemmas.{answered_fixed, broken, fixed_clock, fixed_wanting, took_nothing}
-use Rattle.bh_link.specs.Taking.{Opens}
+use Rattle.bh_link.specs.Taking.{Opens, announced_size}
 use Rattle.bh_connection.proofs.HeadedLemmas.{came_untouched, came_acknowledged}
 use Rattle.bh_http.proofs.TransferLemmas.{gives_nothing, gives_going}
 use Rattle.bh_connection.specs.Connections.{Ends, ends_of, CameTo}
@@ -25,8 +25,8 @@ returns-in-Ok-clause-came_to g c =
     let before : Bool → Ends = λ failed. record (ends_of R.remaining R.transfers W.contents W.transfers c.args.reading reader writer) { reader_failed = failed } in
     let after = ends_of R.remaining R.transfers W.contents W.transfers c.args.reading c.serve_opened.new.reader c.serve_opened.new.writer in
     subst (λ failed. CameTo g.H.Storage.IsIntact g.H.Storage.IsOpen g.H.Storage.seen g.H.Storage.left (before failed) after c.serve_opened.result c.args.host.now c.serve_opened.new.host) (c.in-Ok.ensures.going ∙ sym c.requires.reads)
-    ((rw c.as_slice-bytes.ensures.value at c.serve_opened.ensures.came_to) start (R.transfers reader.inner) opening.body
-    (subst (λ l. Opens l start left opening.bytes.items opening.body) c.limits.ensures c.in-Ok.ensures.opens) c.in-Ok.ensures.given)
+    (c.serve_opened.ensures.came_to start (R.transfers reader.inner)
+    (subst (λ l. Opens l start left opening.bytes.items (announced_size opening.head)) c.limits.ensures c.in-Ok.ensures.opens) c.in-Ok.ensures.given)
 
 pub returns-in-Err-OutOfMemory-clause-came_to : goal.returns-in-Err-OutOfMemory-clause-came_to
 returns-in-Err-OutOfMemory-clause-came_to g c =
