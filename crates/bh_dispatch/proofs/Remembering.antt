@@ -1,7 +1,8 @@
 -- A host as a storage, beside what is remembered of its tables.
-use Rattle.std.proofs.Common.{rules, ◌≡◌, ℕ, true, false, true≢false, Option, Some, Result, Ok, Err, OnOk, IfOk, refl, sym, ap, ◌∙◌, subst}
+use Rattle.std.proofs.Common.{rules, ◌≡◌, ℕ, true, false, true≢false, is_ok, Option, Some, Result, Ok, Err, OnOk, IfOk, refl, sym, ap, ◌∙◌, subst}
 use Rattle.sqlite_trees.specs.declared.store.Store.{Ghosts}
 use Rattle.bh_types.specs.Limits.{HostLimits}
+use Rattle.bh_types.specs.declared.access_key.AccessKeyId.{AccessKeyId}
 use Rattle.bh_types.specs.declared.bucket_state.BucketState.{BucketState}
 use Rattle.bh_types.specs.Rejections.{plain}
 use Rattle.bh_types.specs.declared.refusal.Refusal.{Refusal}
@@ -10,6 +11,7 @@ use Rattle.std.specs.Result.{result_map_both}
 use Rattle.bh_types.specs.declared.wanted.Wanted.{Wanted}
 use Rattle.bh_http.specs.Bodies.{Coming}
 use Rattle.bh_machine.specs.Machine.{operated}
+use Rattle.bh_model.specs.Credentials.{authenticate}
 use Rattle.bh_model.specs.Operations as machine
 use Rattle.bh_model.specs.State.{Octets, Bucket, State}
 use Rattle.bh_operation.specs.declared.address.ObjectName.{ObjectName}
@@ -28,10 +30,10 @@ use Rattle.bh_storage.specs.declared.error.StepError.{StepError}
 use Rattle.bh_storage.specs.declared.error.StepError.TheVariants.{Refused, Failed}
 use Rattle.bh_view.specs.Bodies.{IsSoundHost}
 use Rattle.bh_view.specs.View.{view}
-use Rattle.bh_memo.specs.Facts.{Facts, nothing, has_no_rule, has_state, holds}
+use Rattle.bh_memo.specs.Facts.{Facts, nothing, has_no_rule, has_state, is_accepted, holds}
 use Rattle.bh_memo.specs.Recalled.{recalled}
 use Rattle.bh_memo.proofs.Calls.{ok_with, unless_with, spoilt_with, within_recalled, within_then, goes_on, stays_same}
-use Rattle.bh_memo.proofs.Holding.{holds_same, Forgets, AddsQuiet, AddsBucket, holds_others, holds_stamped, holds_quiet, holds_bucket, mode_of_bucket, state_by}
+use Rattle.bh_memo.proofs.Holding.{holds_same, Forgets, AddsQuiet, AddsBucket, AddsSecret, holds_others, holds_stamped, holds_quiet, holds_bucket, holds_secret, mode_of_bucket, state_by}
 use Rattle.bh_memo.proofs.Rules.{purged_same}
 use Rattle.bh_memo.proofs.Recalling.{alone, works_holding, works_alone, works_under}
 use Rattle.bh_schema.specs.Storage as storage
@@ -140,6 +142,14 @@ module _ {S D : Type 0} (g : Ghosts S) where
         let a = (storage.seen g old.storage.host).now in
         holds_bucket (record { tenant = t; bucket = name; state = state }) old.memo after (storage.seen g b.host).now adds
         (ap (λ (x : Tables). has_state name state (view x t)) it.1 ∙ state_by name state (view a t) it.0) (ap (holds old.memo) it.1 ∙ held clean)
+
+    -- a key was accepted, and its secret is remembered
+    pub secret_so : (key : AccessKeyId) (secret : Octets) → AddsSecret (record { key = key; secret = secret }) old.memo after
+        → (Clean → (authenticate key secret (view (storage.seen g old.storage.host).now key.tenant) ≡ Ok tt) × ((storage.seen g b.host).now ≡ (storage.seen g old.storage.host).now)) → Clean → holds after (storage.seen g b.host).now ≡ true
+    secret_so key secret adds decided clean =
+        let it = decided clean in
+        holds_secret (record { key = key; secret = secret }) old.memo after (storage.seen g b.host).now adds
+        (ap (λ (x : Tables). is_accepted (record { key = key; secret = secret }) (view x key.tenant)) it.1 ∙ ap is_ok it.0) (ap (holds old.memo) it.1 ∙ held clean)
 
 -- ---- whether each fact is still so
 

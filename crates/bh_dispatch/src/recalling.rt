@@ -190,7 +190,16 @@ impl<S: Alter + Drop, D: Digester + Drop> Storage for RecallingStorage<S, D> {
         key: &AccessKeyId,
         secret: &[u8],
     ) -> Result<(), StepError<Refusal>> {
-        self.storage.authenticate(alloc, key, secret)
+        if let Some(known) = self.memo.secret(key) {
+            if known.as_str().as_bytes() == secret {
+                return Ok(());
+            }
+            return Err(StepError::Refused(Refusal::AccessDenied));
+        }
+        self.storage.authenticate(alloc, key, secret)?;
+        // Not before, since what is refused isn't to be kept.
+        self.memo.remember_secret(alloc, key, secret);
+        Ok(())
     }
 
     fn operate<B: Body>(

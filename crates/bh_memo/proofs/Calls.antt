@@ -1,12 +1,14 @@
 -- A call on a storage, in the words of one that is shown beside what is remembered of its tables.
-use Rattle.std.proofs.Common.{arith, ◌≡◌, ◌⊎◌, inl, inr, ℕ, ◌≤◌, max, cond, true, Contains, Option, Some, Result, Ok, Err, OnOk, OnErr, IfOk, refl, sym, ap, ◌∙◌, subst, subst₂}
+use Rattle.std.proofs.Common.{arith, ◌≡◌, ◌⊎◌, inl, inr, ℕ, ◌≤◌, max, cond, true, Contains, Option, Some, Result, Ok, Err, OnOk, OnErr, IfOk, bytes_eq, false, refl, sym, ap, ◌∙◌, subst, subst₂}
 use Rattle.std.proofs.lemmas.Bool.{le-leb}
 use Rattle.bh_http.specs.Bodies.{Coming}
+use Rattle.bh_model.specs.Credentials.{authenticate}
 use Rattle.bh_model.specs.Operations as machine
 use Rattle.bh_model.specs.Runs.{last_reading}
 use Rattle.bh_model.specs.State.{Octets, State as Machine}
+use Rattle.bh_types.specs.declared.access_key.AccessKeyId.{AccessKeyId}
 use Rattle.bh_types.specs.declared.bucket_state.BucketState.{BucketState}
-use Rattle.bh_types.specs.declared.refusal.Refusal.TheVariants.{ClockOutOfRange}
+use Rattle.bh_types.specs.declared.refusal.Refusal.TheVariants.{AccessDenied, ClockOutOfRange}
 use Rattle.bh_view.proofs.HostChanges.{stamped_again}
 use Rattle.bh_view.proofs.PurgeLemmas.{rows_gone}
 use Rattle.bh_tables.specs.Typed.{Tables}
@@ -22,9 +24,9 @@ use Rattle.bh_storage.specs.declared.error.Outcome.TheVariants.{Done, Spoilt}
 use Rattle.bh_storage.specs.declared.error.StepError.{StepError}
 use Rattle.bh_storage.specs.declared.error.StepError.TheVariants.{Refused, Failed}
 use Rattle.bh_storage.specs.declared.error.Trouble.{Trouble}
-use Rattle.bh_memo.specs.Facts.{Facts, nothing, has_no_rule, holds}
+use Rattle.bh_memo.specs.Facts.{Facts, nothing, has_no_rule, is_accepted, holds}
 use Rattle.bh_memo.specs.Recalled.{recalled}
-use Rattle.bh_memo.proofs.Holding.{Forgets, are_so, holds_others, latest_is, mode_of_bucket, mode_by}
+use Rattle.bh_memo.proofs.Holding.{Forgets, are_so, holds_others, latest_is, mode_of_bucket, mode_by, accepts_same, denies_other}
 use Rattle.bh_memo.proofs.Recalling.{holding, alone, nothing_recalled, same_now, same_kept, same_limits, same_inside, works_holding, works_alone}
 use Rattle.bh_memo.proofs.Rules.{purged_same}
 
@@ -239,3 +241,14 @@ pub mode_known : {digest : Octets → Octets} (facts : Facts) (s : Seen) (t name
     → mode_of_bucket name (view (recalled facts s).now t) ≡ Ok state
 mode_known facts s t name state works known =
     ap (λ (x : Seen). mode_of_bucket name (view x.now t)) (works_alone facts s works) ∙ mode_by name state (view s.now t) ((are_so facts s.now (works_holding facts s works)).buckets _ known)
+
+-- an access key
+module _ {digest : Octets → Octets} (facts : Facts) (s : Seen) (key : AccessKeyId) (known given : Octets) (works : IsWorking (IsSoundHost digest) (recalled facts s)) (there : Contains facts.secrets (record { key = key; secret = known })) where
+  accepted : is_accepted (record { key = key; secret = known }) (view (recalled facts s).now key.tenant) ≡ true
+  accepted = ap (λ (x : Seen). is_accepted (record { key = key; secret = known }) (view x.now key.tenant)) (works_alone facts s works) ∙ (are_so facts s.now (works_holding facts s works)).secrets _ there
+
+  pub known_accepted : bytes_eq given known ≡ true → authenticate key given (view (recalled facts s).now key.tenant) ≡ Ok tt
+  known_accepted same = accepts_same known given (view (recalled facts s).now key.tenant) key accepted same
+
+  pub other_denied : bytes_eq given known ≡ false → authenticate key given (view (recalled facts s).now key.tenant) ≡ Err AccessDenied
+  other_denied other = denies_other known given (view (recalled facts s).now key.tenant) key accepted other

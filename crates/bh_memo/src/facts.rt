@@ -1,10 +1,11 @@
-ghost use Rattle.std.specs.Prelude.{◌≡◌, IsTrue, IfOk};
+ghost use Rattle.std.specs.Prelude.{◌≡◌, IsTrue, IfOk, IfSome};
 ghost use Rattle.sqlite_typed.specs.Tests.{bytes_eq};
 
+use bh_types::access_key::AccessKeyId;
 use bh_types::bucket::BucketName;
 use bh_types::bucket_state::BucketState;
-use bh_types::names::TenantName;
-use std::alloc::AllocError;
+use bh_types::names::{KeyName, Secret, TenantName};
+use std::alloc::{AllocError, Global};
 
 /// A bucket of a tenant, and its state.
 #[derive(Drop)]
@@ -31,6 +32,37 @@ impl KnownBucket {
     }
 }
 
+/// An access key, and its secret. It has no `Debug`, so that none is printed by mistake.
+#[derive(Drop)]
+pub struct KnownSecret {
+    pub key: AccessKeyId,
+    pub secret: Secret,
+}
+
+impl KnownSecret {
+    /// With copies of both, or `None` where the key has no name, or the bytes are no secret. An error says that memory ran out.
+    pub fn read(
+        alloc: Global,
+        key: &AccessKeyId,
+        secret: &[u8],
+    ) -> Result<Option<KnownSecret>, AllocError>
+        ensures { IfOk result (λ found. IfSome found (λ known. known ≡ record { key = key.now; secret = secret.now })) }
+    {
+        let (Some(name), Ok(text)) = (&key.name, str::from_utf8(secret)) else {
+            return Ok(None);
+        };
+        let Some(secret) = Secret::read(alloc, text)? else {
+            return Ok(None);
+        };
+        let tenant = key.tenant.clone()?;
+        let name = Some(name.clone()?);
+        Ok(Some(KnownSecret {
+            key: AccessKeyId { tenant, name },
+            secret,
+        }))
+    }
+}
+
 /// Whether two tenants' names are the same.
 pub fn same_tenant(a: &TenantName, b: &TenantName) -> bool
     ensures test { result ≡ bytes_eq a.now b.now }
@@ -43,6 +75,22 @@ pub fn same_tenant(a: &TenantName, b: &TenantName) -> bool
 pub fn same_bucket(a: &BucketName, b: &BucketName) -> bool
     ensures test { result ≡ bytes_eq a.now b.now }
     ensures same { IsTrue result → a.now ≡ b.now }
+{
+    a.as_str() == b.as_str()
+}
+
+/// Whether two access keys are the same, and have a name.
+pub fn same_key(a: &AccessKeyId, b: &AccessKeyId) -> bool
+    ensures { IsTrue result → a.now ≡ b.now }
+{
+    match (&a.name, &b.name) {
+        (Some(name), Some(other)) => same_name(name, other) && same_tenant(&a.tenant, &b.tenant),
+        _ => false,
+    }
+}
+
+fn same_name(a: &KeyName, b: &KeyName) -> bool
+    ensures { IsTrue result → a.now ≡ b.now }
 {
     a.as_str() == b.as_str()
 }

@@ -1,18 +1,20 @@
 ghost use Rattle.std.specs.Prelude.{◌≡◌, ◌≢◌, ◌⊎◌, Some, IsTrue, IfSome, Contains};
 ghost use Rattle.bh_model.specs.State.{Octets};
 ghost use Rattle.bh_memo.specs.declared.facts.KnownBucket.{KnownBucket as Known};
+ghost use Rattle.bh_memo.specs.declared.facts.KnownSecret.{KnownSecret as Accepted};
 ghost use Rattle.bh_memo.specs.Facts.{nothing};
 
-use crate::facts::{KnownBucket, same_bucket, same_tenant};
+use crate::facts::{KnownBucket, KnownSecret, same_bucket, same_key, same_tenant};
+use bh_types::access_key::AccessKeyId;
 use bh_types::bucket::BucketName;
 use bh_types::bucket_state::BucketState;
 use bh_types::moment::Moment;
-use bh_types::names::TenantName;
+use bh_types::names::{Secret, TenantName};
 use std::alloc::{AllocError, Global};
 use std::marker::Model;
 
-/// So many tenants without a rule are remembered, and the states of so many buckets. Each look-up reads them from the first to
-/// the last, so there are few.
+/// So many tenants without a rule are remembered, the states of so many buckets, and the secrets of so many keys. Each look-up
+/// reads them from the first to the last, so there are few.
 const MOST: usize = 64;
 
 /// What is remembered of a host's tables. A fact for which there is no memory isn't remembered.
@@ -22,6 +24,8 @@ pub struct Memo {
     /// Tenants of which no bucket has a rule.
     quiet: Vec<TenantName>,
     buckets: Vec<KnownBucket>,
+    /// Access keys that were accepted.
+    secrets: Vec<KnownSecret>,
 }
 
 impl Model for Memo {
@@ -29,7 +33,7 @@ impl Model for Memo {
 
     ghost Value = { Facts };
 
-    ghost view = { λ m. record { latest = m.latest; quiet = m.quiet.items; buckets = m.buckets.items } };
+    ghost view = { λ m. record { latest = m.latest; quiet = m.quiet.items; buckets = m.buckets.items; secrets = m.secrets.items } };
 }
 
 /// Adds a fact, in place of all of them where they are so many. It isn't added where there is no memory.
@@ -51,6 +55,7 @@ impl Memo {
             latest: None,
             quiet: Vec::new(alloc),
             buckets: Vec::new(alloc),
+            secrets: Vec::new(alloc),
         }
     }
 
@@ -85,6 +90,7 @@ impl Memo {
         ensures latest { self.new.latest ≡ self.old.latest }
         ensures quiet { (t : Octets) → Contains self.new.quiet t → Contains self.old.quiet t ⊎ (t ≡ tenant.now) }
         ensures buckets { self.new.buckets ≡ self.old.buckets }
+        ensures secrets { self.new.secrets ≡ self.old.secrets }
     {
         let name: Result<TenantName, AllocError> = tenant.clone();
         if let Ok(name) = name {
@@ -110,9 +116,35 @@ impl Memo {
         ensures quiet { self.new.quiet ≡ self.old.quiet }
         ensures buckets { (b : Known) → Contains self.new.buckets b
             → Contains self.old.buckets b ⊎ (b ≡ record { tenant = tenant.now; bucket = bucket.now; state = state }) }
+        ensures secrets { self.new.secrets ≡ self.old.secrets }
     {
         if let Ok(known) = KnownBucket::new(tenant, bucket, state) {
             add(&mut self.buckets, known);
+        }
+    }
+
+    /// The secret of an access key, where it is remembered.
+    pub fn secret(&self, key: &AccessKeyId) -> Option<&Secret>
+        ensures { IfSome result (λ secret. Contains self.now.secrets (record { key = key.now; secret = secret.now })) }
+    {
+        for known in &self.secrets {
+            if same_key(&known.key, key) {
+                return Some(&known.secret);
+            }
+        }
+        None
+    }
+
+    /// Remembers the secret with which an access key was accepted.
+    pub fn remember_secret(&mut self, alloc: Global, key: &AccessKeyId, secret: &[u8])
+        ensures latest { self.new.latest ≡ self.old.latest }
+        ensures quiet { self.new.quiet ≡ self.old.quiet }
+        ensures buckets { self.new.buckets ≡ self.old.buckets }
+        ensures secrets { (k : Accepted) → Contains self.new.secrets k
+            → Contains self.old.secrets k ⊎ (k ≡ record { key = key.now; secret = secret.now }) }
+    {
+        if let Ok(Some(known)) = KnownSecret::read(alloc, key, secret) {
+            add(&mut self.secrets, known);
         }
     }
 
@@ -121,10 +153,13 @@ impl Memo {
         ensures latest { self.new.latest ≡ self.old.latest }
         ensures quiet { (t : Octets) → Contains self.new.quiet t → Contains self.old.quiet t × (t ≢ tenant.now) }
         ensures buckets { (b : Known) → Contains self.new.buckets b → Contains self.old.buckets b × (b.tenant ≢ tenant.now) }
+        ensures secrets { (k : Accepted) → Contains self.new.secrets k → Contains self.old.secrets k × (k.key.tenant ≢ tenant.now) }
     {
         self.quiet.retain(|name| !same_tenant(name, tenant));
         self.buckets
             .retain(|known| !same_tenant(&known.tenant, tenant));
+        self.secrets
+            .retain(|known| !same_tenant(&known.key.tenant, tenant));
     }
 
     /// Forgets all.
@@ -134,5 +169,6 @@ impl Memo {
         self.latest = None;
         self.quiet.clear();
         self.buckets.clear();
+        self.secrets.clear();
     }
 }

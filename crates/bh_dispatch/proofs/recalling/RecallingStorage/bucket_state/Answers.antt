@@ -58,7 +58,7 @@ returns-clause-goes_on g c =
     let h = c.in_ok-state.ensures in
     unless g.S.Store g.D.Digester.digest_of old (record old { storage = c.bucket_state.new.self; memo = c.remember_state.new.self }) {E = Refusal} (Ok c.in_ok-state.state) h.goes_on
     (bucket_so g.S.Store g.D.Digester.digest_of old c.requires c.remember_state.new.self c.bucket_state.new.self h.goes_on.within c.args.tenant.now c.args.bucket.now c.in_ok-state.state
-    (record { latest = c.remember_state.ensures.latest; quiet = c.remember_state.ensures.quiet; buckets = c.remember_state.ensures.buckets }) h.decides)
+    (record { latest = c.remember_state.ensures.latest; quiet = c.remember_state.ensures.quiet; buckets = c.remember_state.ensures.buckets; secrets = c.remember_state.ensures.secrets }) h.decides)
 
 pub returns-clause-decides : goal.returns-clause-decides
 returns-clause-decides g c clean =
@@ -69,4 +69,4 @@ returns-clause-decides g c clean =
     (was g.S.Store g.D.Digester.digest_of old c.requires c.remember_state.new.self c.bucket_state.new.self w)
     (λ x y. (mode_of_bucket c.args.bucket.now (view x c.args.tenant.now) ≡ Ok c.in_ok-state.state) × (y ≡ x)) clean
     (bucket_so g.S.Store g.D.Digester.digest_of old c.requires c.remember_state.new.self c.bucket_state.new.self w c.args.tenant.now c.args.bucket.now c.in_ok-state.state
-    (record { latest = c.remember_state.ensures.latest; quiet = c.remember_state.ensures.quiet; buckets = c.remember_state.ensures.buckets }) h.decides clean) (h.decides clean)
+    (record { latest = c.remember_state.ensures.latest; quiet = c.remember_state.ensures.quiet; buckets = c.remember_state.ensures.buckets; secrets = c.remember_state.ensures.secrets }) h.decides clean) (h.decides clean)

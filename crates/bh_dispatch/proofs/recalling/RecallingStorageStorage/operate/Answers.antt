@@ -80,7 +80,7 @@ returns-in_default-2 g c =
     let start = g.B.Body.coming c.args.body.now in
     let end = g.B.Body.coming c.operate-in_default-2.new.body in
     let was = λ (clean : Clean). alone_is g.S.Store digest old c.requires.working (first clean) in
-    let it = forgotten old.memo c.forget.new.self a b Clean was t step start end (record { latest = c.forget.ensures.latest; quiet = c.forget.ensures.quiet; buckets = c.forget.ensures.buckets })
+    let it = forgotten old.memo c.forget.new.self a b Clean was t step start end (record { latest = c.forget.ensures.latest; quiet = c.forget.ensures.quiet; buckets = c.forget.ensures.buckets; secrets = c.forget.ensures.secrets })
     (λ clean. so g.S.Store digest old c.requires.working (first clean)) c.operate-in_default-2.result h.operates in
     record {
       goes_on = unless_spoilt g.S.Store digest old new c.operate-in_default-2.result h.goes_on it;
