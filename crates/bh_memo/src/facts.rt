@@ -32,7 +32,7 @@ impl KnownBucket {
     }
 }
 
-/// An access key, and its secret. It has no `Debug`, so that none is printed by mistake.
+/// An access key, and its secret.
 #[derive(Drop)]
 pub struct KnownSecret {
     pub key: AccessKeyId,
