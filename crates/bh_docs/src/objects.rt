@@ -1,6 +1,6 @@
 //! Pages of ListObjectsV2.
 
-ghost use Rattle.std.specs.Prelude.{◌≡◌, ◌+◌, None, length, option_map, IfOk};
+ghost use Rattle.std.specs.Prelude.{◌≡◌, ◌+◌, length, option_map, IfOk};
 ghost use Rattle.std.specs.String.{string_bytes};
 ghost use Rattle.serde_json.specs.View.{view};
 ghost use Rattle.bh_docs.specs.Members.{shown_data};
@@ -65,24 +65,19 @@ pub fn objects_document(alloc: Global, page: &ObjectsPage) -> Result<String, All
 fn objects_value(alloc: Global, page: &ObjectsPage) -> Result<Value, AllocError>
     ensures { IfOk result (λ value. view value ≡ spec.objects_data (spec.page_view page.now)) }
 {
-    let document = objects_without_token(alloc, page)?;
-    with_shown(
+    let document = plain_members(alloc, page)?;
+    let document = with_shown(
         alloc,
         document,
         "NextContinuationToken",
         &next_token(&page.next),
-    )
-}
-
-fn objects_without_token(alloc: Global, page: &ObjectsPage) -> Result<Value, AllocError>
-    ensures { IfOk result (λ value. view value ≡ spec.objects_with (spec.page_view page.now) None) }
-{
-    let document = objects_without_lists(alloc, page)?;
+    )?;
     let document = with_entries(alloc, document, "CommonPrefixes", page.prefixes.as_slice())?;
     with_entries(alloc, document, "Contents", page.objects.as_slice())
 }
 
-fn objects_without_lists(alloc: Global, page: &ObjectsPage) -> Result<Value, AllocError>
+// Without its lists, and without where the next page begins.
+fn plain_members(alloc: Global, page: &ObjectsPage) -> Result<Value, AllocError>
     ensures { IfOk result (λ value. view value ≡ spec.objects_plain (spec.page_view page.now)) }
 {
     object_of(

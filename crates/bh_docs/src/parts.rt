@@ -1,6 +1,6 @@
 //! Pages of ListParts.
 
-ghost use Rattle.std.specs.Prelude.{◌≡◌, None, option_map, IfOk};
+ghost use Rattle.std.specs.Prelude.{◌≡◌, option_map, IfOk};
 ghost use Rattle.std.specs.String.{string_bytes};
 ghost use Rattle.serde_json.specs.View.{view};
 ghost use Rattle.bh_docs.specs.Documents.{natural};
@@ -66,23 +66,18 @@ pub fn parts_document(alloc: Global, page: &PartsPage) -> Result<String, AllocEr
 fn parts_value(alloc: Global, page: &PartsPage) -> Result<Value, AllocError>
     ensures { IfOk result (λ value. view value ≡ spec.parts_data (spec.parts_view page.now)) }
 {
-    let document = parts_without_next(alloc, page)?;
-    with_shown(
+    let document = plain_members(alloc, page)?;
+    let document = with_shown(
         alloc,
         document,
         "NextPartNumberMarker",
         &next_number(page.next),
-    )
-}
-
-fn parts_without_next(alloc: Global, page: &PartsPage) -> Result<Value, AllocError>
-    ensures { IfOk result (λ value. view value ≡ spec.parts_with (spec.parts_view page.now) None) }
-{
-    let document = parts_without_list(alloc, page)?;
+    )?;
     with_entries(alloc, document, "Parts", page.parts.as_slice())
 }
 
-fn parts_without_list(alloc: Global, page: &PartsPage) -> Result<Value, AllocError>
+// Without its lists, and without where the next page begins.
+fn plain_members(alloc: Global, page: &PartsPage) -> Result<Value, AllocError>
     ensures { IfOk result (λ value. view value ≡ spec.parts_plain (spec.parts_view page.now)) }
 {
     object_of(

@@ -1,6 +1,6 @@
 //! Pages of ListMultipartUploads.
 
-ghost use Rattle.std.specs.Prelude.{◌≡◌, None, option_map, IfOk};
+ghost use Rattle.std.specs.Prelude.{◌≡◌, option_map, IfOk};
 ghost use Rattle.std.specs.String.{string_bytes};
 ghost use Rattle.serde_json.specs.View.{view};
 ghost use Rattle.bh_docs.specs.Members.{shown_data};
@@ -73,20 +73,15 @@ pub fn uploads_document(alloc: Global, page: &UploadsPage) -> Result<String, All
 fn uploads_value(alloc: Global, page: &UploadsPage) -> Result<Value, AllocError>
     ensures { IfOk result (λ value. view value ≡ spec.uploads_data (spec.uploads_view page.now)) }
 {
-    let document = uploads_without_next(alloc, page)?;
+    let document = plain_members(alloc, page)?;
     let document = with_shown(alloc, document, "NextKeyMarker", &next_name(&page.next))?;
-    with_shown(alloc, document, "NextUploadIdMarker", &next_id(&page.next))
-}
-
-fn uploads_without_next(alloc: Global, page: &UploadsPage) -> Result<Value, AllocError>
-    ensures { IfOk result (λ value. view value ≡ spec.uploads_with (spec.uploads_view page.now) None None) }
-{
-    let document = uploads_without_lists(alloc, page)?;
+    let document = with_shown(alloc, document, "NextUploadIdMarker", &next_id(&page.next))?;
     let document = with_entries(alloc, document, "CommonPrefixes", page.prefixes.as_slice())?;
     with_entries(alloc, document, "Uploads", page.uploads.as_slice())
 }
 
-fn uploads_without_lists(alloc: Global, page: &UploadsPage) -> Result<Value, AllocError>
+// Without its lists, and without where the next page begins.
+fn plain_members(alloc: Global, page: &UploadsPage) -> Result<Value, AllocError>
     ensures { IfOk result (λ value. view value ≡ spec.uploads_plain (spec.uploads_view page.now)) }
 {
     object_of(

@@ -117,20 +117,15 @@ pub fn versions_document(alloc: Global, page: &VersionsPage) -> Result<String, A
 fn versions_value(alloc: Global, page: &VersionsPage) -> Result<Value, AllocError>
     ensures { IfOk result (λ value. view value ≡ spec.versions_data (spec.versions_view page.now)) }
 {
-    let document = versions_without_next(alloc, page)?;
+    let document = plain_members(alloc, page)?;
     let document = with_shown(alloc, document, "NextKeyMarker", &next_name(&page.next))?;
-    with_shown(alloc, document, "NextVersionIdMarker", &next_id(&page.next))
-}
-
-fn versions_without_next(alloc: Global, page: &VersionsPage) -> Result<Value, AllocError>
-    ensures { IfOk result (λ value. view value ≡ spec.versions_with (spec.versions_view page.now) None None) }
-{
-    let document = versions_without_lists(alloc, page)?;
+    let document = with_shown(alloc, document, "NextVersionIdMarker", &next_id(&page.next))?;
     let document = with_entries(alloc, document, "CommonPrefixes", page.prefixes.as_slice())?;
     with_entries(alloc, document, "Versions", page.versions.as_slice())
 }
 
-fn versions_without_lists(alloc: Global, page: &VersionsPage) -> Result<Value, AllocError>
+// Without its lists, and without where the next page begins.
+fn plain_members(alloc: Global, page: &VersionsPage) -> Result<Value, AllocError>
     ensures { IfOk result (λ value. view value ≡ spec.versions_plain (spec.versions_view page.now)) }
 {
     object_of(
