@@ -4,6 +4,11 @@ ghost use Rattle.std.specs.Str.{bytes_eq};
 ghost use Rattle.bh_words.specs.Commands as spec;
 
 use crate::options::OptionName;
+use crate::options::OptionName::{
+    At, BlockSize, CacheBlocks, CacheBytes, ClockLeap, Count, Digest, File, Force, Limit, Log,
+    MaxBody, MinPart, Name, OperatorPort, OperatorSecretFile, Order, Port, Quota, Secret,
+    SecretFile, Tenant, Timeout, To,
+};
 
 /// A subcommand of the program.
 #[derive(Clone, Copy)]
@@ -27,146 +32,94 @@ pub(crate) enum Subcommand {
     Tell,
 }
 
-static SCRIPT: [OptionName; 6] = [
-    OptionName::BlockSize,
-    OptionName::MinPart,
-    OptionName::MaxBody,
-    OptionName::CacheBlocks,
-    OptionName::CacheBytes,
-    OptionName::Digest,
-];
+static SCRIPT: [OptionName; 6] = [BlockSize, MinPart, MaxBody, CacheBlocks, CacheBytes, Digest];
 
-static INIT: [OptionName; 4] = [
-    OptionName::File,
-    OptionName::MinPart,
-    OptionName::MaxBody,
-    OptionName::Digest,
-];
+static INIT: [OptionName; 4] = [File, MinPart, MaxBody, Digest];
 
-static TENANT_QUOTA: [OptionName; 6] = [
-    OptionName::File,
-    OptionName::Tenant,
-    OptionName::Quota,
-    OptionName::At,
-    OptionName::ClockLeap,
-    OptionName::Force,
-];
+static TENANT_QUOTA: [OptionName; 6] = [File, Tenant, Quota, At, ClockLeap, Force];
 
-static KEY_ADD: [OptionName; 7] = [
-    OptionName::File,
-    OptionName::Tenant,
-    OptionName::Name,
-    OptionName::Secret,
-    OptionName::At,
-    OptionName::ClockLeap,
-    OptionName::Force,
-];
+static KEY_ADD: [OptionName; 7] = [File, Tenant, Name, Secret, At, ClockLeap, Force];
 
-static KEY_REMOVE: [OptionName; 6] = [
-    OptionName::File,
-    OptionName::Tenant,
-    OptionName::Name,
-    OptionName::At,
-    OptionName::ClockLeap,
-    OptionName::Force,
-];
+static KEY_REMOVE: [OptionName; 6] = [File, Tenant, Name, At, ClockLeap, Force];
 
-static ONE_TENANT: [OptionName; 5] = [
-    OptionName::File,
-    OptionName::Tenant,
-    OptionName::At,
-    OptionName::ClockLeap,
-    OptionName::Force,
-];
+static ONE_TENANT: [OptionName; 5] = [File, Tenant, At, ClockLeap, Force];
 
-static ALL_TENANTS: [OptionName; 4] = [
-    OptionName::File,
-    OptionName::At,
-    OptionName::ClockLeap,
-    OptionName::Force,
-];
+static ALL_TENANTS: [OptionName; 4] = [File, At, ClockLeap, Force];
 
-static CHECK: [OptionName; 1] = [OptionName::File];
+static CHECK: [OptionName; 1] = [File];
 
-static SWEEP: [OptionName; 5] = [
-    OptionName::File,
-    OptionName::Limit,
-    OptionName::At,
-    OptionName::ClockLeap,
-    OptionName::Force,
-];
+static SWEEP: [OptionName; 5] = [File, Limit, At, ClockLeap, Force];
 
-static BACKUP: [OptionName; 2] = [OptionName::File, OptionName::To];
+static BACKUP: [OptionName; 2] = [File, To];
 
-static EXPORT: [OptionName; 3] = [OptionName::File, OptionName::Tenant, OptionName::To];
+static EXPORT: [OptionName; 3] = [File, Tenant, To];
 
-static IMPORT: [OptionName; 2] = [OptionName::File, OptionName::From];
+static IMPORT: [OptionName; 2] = [File, OptionName::From];
 
 static SERVE: [OptionName; 12] = [
-    OptionName::File,
-    OptionName::Port,
-    OptionName::Count,
-    OptionName::Log,
-    OptionName::Timeout,
-    OptionName::ClockLeap,
-    OptionName::Force,
-    OptionName::BlockSize,
-    OptionName::CacheBlocks,
-    OptionName::CacheBytes,
-    OptionName::OperatorPort,
-    OptionName::OperatorSecretFile,
+    File,
+    Port,
+    Count,
+    Log,
+    Timeout,
+    ClockLeap,
+    Force,
+    BlockSize,
+    CacheBlocks,
+    CacheBytes,
+    OperatorPort,
+    OperatorSecretFile,
 ];
 
-static TELL: [OptionName; 3] = [OptionName::Port, OptionName::SecretFile, OptionName::Order];
+static TELL: [OptionName; 3] = [Port, SecretFile, Order];
 
 impl Subcommand {
     /// The subcommand's name.
     pub(crate) fn word<'a>(self) -> &'a str
         ensures { result.now ≡ spec.word self }
     {
-        match self {
-            Subcommand::Script => "script",
-            Subcommand::Init => "init",
-            Subcommand::TenantAdd => "tenant-add",
-            Subcommand::Quota => "quota",
-            Subcommand::KeyAdd => "key-add",
-            Subcommand::KeyRemove => "key-remove",
-            Subcommand::Keys => "keys",
-            Subcommand::Usage => "usage",
-            Subcommand::Tenants => "tenants",
-            Subcommand::Report => "report",
-            Subcommand::Check => "check",
-            Subcommand::Sweep => "sweep",
-            Subcommand::Backup => "backup",
-            Subcommand::Export => "export",
-            Subcommand::Import => "import",
-            Subcommand::Serve => "serve",
-            Subcommand::Tell => "tell",
-        }
+        self.texts().0
     }
 
     /// What it does, for the help.
     pub(crate) fn about<'a>(self) -> &'a str {
+        self.texts().1
+    }
+
+    // The subcommand's name, and what it does.
+    fn texts<'a>(self) -> (&'a str, &'a str)
+        ensures { result.0.now ≡ spec.word self }
+    {
         match self {
-            Subcommand::Script =>
+            Subcommand::Script => (
+                "script",
                 "Applies events from standard input to a new host in memory, and writes their answers",
-            Subcommand::Init => "Makes a host in a file",
-            Subcommand::TenantAdd => "Adds a tenant",
-            Subcommand::Quota => "Sets a tenant's quota",
-            Subcommand::KeyAdd => "Adds an access key to a tenant",
-            Subcommand::KeyRemove => "Removes an access key of a tenant",
-            Subcommand::Keys => "Names a tenant's access keys",
-            Subcommand::Usage => "Says how many bytes a tenant uses",
-            Subcommand::Tenants => "Names all tenants, and says what each uses",
-            Subcommand::Report => "Says how many blocks are stored",
-            Subcommand::Check => "Says whether all that a file holds is sound",
-            Subcommand::Sweep => "Removes stale uploads and blocks that nothing refers to",
-            Subcommand::Backup => "Copies the host to a new file",
-            Subcommand::Export => "Copies a tenant to a host of its own in a new file",
-            Subcommand::Import => "Adds the tenant of such a file to the host",
-            Subcommand::Serve => "Serves connections on a port",
-            Subcommand::Tell =>
+            ),
+            Subcommand::Init => ("init", "Makes a host in a file"),
+            Subcommand::TenantAdd => ("tenant-add", "Adds a tenant"),
+            Subcommand::Quota => ("quota", "Sets a tenant's quota"),
+            Subcommand::KeyAdd => ("key-add", "Adds an access key to a tenant"),
+            Subcommand::KeyRemove => ("key-remove", "Removes an access key of a tenant"),
+            Subcommand::Keys => ("keys", "Names a tenant's access keys"),
+            Subcommand::Usage => ("usage", "Says how many bytes a tenant uses"),
+            Subcommand::Tenants => ("tenants", "Names all tenants, and says what each uses"),
+            Subcommand::Report => ("report", "Says how many blocks are stored"),
+            Subcommand::Check => ("check", "Says whether all that a file holds is sound"),
+            Subcommand::Sweep => (
+                "sweep",
+                "Removes stale uploads and blocks that nothing refers to",
+            ),
+            Subcommand::Backup => ("backup", "Copies the host to a new file"),
+            Subcommand::Export => (
+                "export",
+                "Copies a tenant to a host of its own in a new file",
+            ),
+            Subcommand::Import => ("import", "Adds the tenant of such a file to the host"),
+            Subcommand::Serve => ("serve", "Serves connections on a port"),
+            Subcommand::Tell => (
+                "tell",
                 "Sends an operator's line to a host that serves, and writes the reply",
+            ),
         }
     }
 
