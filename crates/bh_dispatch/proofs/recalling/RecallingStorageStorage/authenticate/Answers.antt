@@ -40,7 +40,7 @@ returns-in_err-authenticate-clause-goes_on g c =
     let Clean = storage.IsClean g.S.Store c.authenticate.new.self.host in
     rw (p.1, p.2) (unless g.S.Store digest old (record old { storage = c.authenticate.new.self }) {X = Unit {0}} (Err c.in_err-authenticate.field-0.0) h.goes_on
     (still_so {X = Unit {0}} old.memo a.now b.now Clean (Err c.in_err-authenticate.field-0.0) (λ (clean : Clean). so g.S.Store digest old c.requires (first g.S.Store digest old c.requires old.memo c.authenticate.new.self w clean))
-    (decided_same (λ _. tt) (authenticate c.args.key.now c.args.secret.now (view a.now c.args.key.now.tenant)) a.now b.now Clean (Err c.in_err-authenticate.field-0.0) h.decides)))
+    (decided_same {X = Unit {0}} (λ _. tt) (authenticate c.args.key.now c.args.secret.now (view a.now c.args.key.now.tenant)) a.now b.now Clean (Err c.in_err-authenticate.field-0.0) h.decides)))
 
 pub returns-in_err-authenticate-clause-decides : goal.returns-in_err-authenticate-clause-decides
 returns-in_err-authenticate-clause-decides g c =
@@ -55,7 +55,7 @@ returns-in_err-authenticate-clause-decides g c =
     rw (p.1, p.2) (shown_unless old.memo old.memo a b Clean (was g.S.Store digest old c.requires old.memo c.authenticate.new.self w) {X = Unit {0}} {E = Refusal}
     (λ r x y. Decides (λ _. tt) (authenticate c.args.key.now c.args.secret.now (view x c.args.key.now.tenant)) x y r) (λ trouble x y. tt) (Err c.in_err-authenticate.field-0.0)
     (still_so {X = Unit {0}} old.memo a.now b.now Clean (Err c.in_err-authenticate.field-0.0) (λ (clean : Clean). so g.S.Store digest old c.requires (first g.S.Store digest old c.requires old.memo c.authenticate.new.self w clean))
-    (decided_same (λ _. tt) (authenticate c.args.key.now c.args.secret.now (view a.now c.args.key.now.tenant)) a.now b.now Clean (Err c.in_err-authenticate.field-0.0) h.decides))
+    (decided_same {X = Unit {0}} (λ _. tt) (authenticate c.args.key.now c.args.secret.now (view a.now c.args.key.now.tenant)) a.now b.now Clean (Err c.in_err-authenticate.field-0.0) h.decides))
     h.decides)
 
 pub returns-clause-goes_on : goal.returns-clause-goes_on
