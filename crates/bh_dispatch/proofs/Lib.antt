@@ -4,6 +4,7 @@ pub mod Remembering
 pub mod Steps
 pub mod Offering
 pub mod Receiving
+pub mod Operating
 pub mod Documented
 pub mod Unchanged
 pub mod Piecing

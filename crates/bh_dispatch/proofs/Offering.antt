@@ -1,17 +1,11 @@
 -- An answer that is there as a whole, and an object whose bytes are still to be read, as what an operation answers.
-use Rattle.std.proofs.Common.{◌≡◌, ℕ, Option, Result, Ok, Err, sym, subst}
+use Rattle.std.proofs.Common.{◌≡◌, Option, Result, Ok, Err, subst}
 use Rattle.std.specs.Result.{result_map_both}
-use Rattle.bh_types.specs.Limits.{HostLimits}
 use Rattle.bh_types.specs.declared.rejection.Rejection.{Rejection}
-use Rattle.bh_types.specs.declared.wanted.Wanted.{Wanted}
 use Rattle.bh_http.specs.Bodies.{Coming, Gives, IsWhole}
 use Rattle.bh_http.proofs.BodyLemmas.{going_may}
-use Rattle.bh_machine.specs.Machine.{operated}
 use Rattle.bh_model.specs.Operations as machine
 use Rattle.bh_model.specs.State.{Octets, State as Machine}
-use Rattle.bh_operation.specs.declared.address.ObjectName.{ObjectName}
-use Rattle.bh_operation.specs.declared.operation.Operation.{Operation}
-use Rattle.bh_operation.specs.declared.operation.Operation.TheVariants.{GetObject}
 use Rattle.bh_storage.specs.Answers.{answer_view, found_answer, offer_view}
 use Rattle.bh_storage.specs.Calls.{Carries, GivesStep, Operates, OperatesBy, UnlessSpoilt}
 use Rattle.bh_storage.specs.Plans.{IfPlanned, IsMeasured}
@@ -24,7 +18,7 @@ use Rattle.bh_storage.specs.declared.error.Outcome.TheVariants.{Done, Spoilt}
 use Rattle.bh_storage.specs.declared.error.StepError.{StepError}
 use Rattle.bh_storage.specs.declared.error.StepError.TheVariants.{Refused, Failed}
 use Rattle.bh_tables.specs.Typed.{Tables}
-use Rattle.bh_dispatch.specs.Stored.{StoresBody, offer_as}
+use Rattle.bh_dispatch.specs.Stored.{offer_as}
 use Rattle.bh_dispatch.proofs.Receiving.{says_nothing}
 
 abbrev pub Answers : Type 0
@@ -64,14 +58,6 @@ found_err tables others t step clean before after old new given gives whole (Fai
 pub stores_no_object : {X Y E : Type 0} (shown : X → Y) (t : Octets) (step : Octets → Option Machine → Result (Y × Option Machine) E) (clean : Type 0) (before after : Coming) (old new : Tables) (result : Result (Outcome X E) (StepError E))
     → Operates shown t step clean before after old new result → OperatesBy shown t step (λ _. Unit {0}) clean before after old new result
 stores_no_object shown t step clean before after old new result h = says_nothing shown t step (λ _. Unit {0}) clean before after old new result (λ _. tt) h
-
-module _ (digest : Octets → Octets) (size : ℕ) (limits : HostLimits) (at : ℕ) (t : Octets) (object : ObjectName) (version : Wanted) (range : Option Octets) (clean : Type 0) (before after : Coming) (old new : Tables) (result : Result (Outcome Offer Rejection) (StepError Rejection)) where
-  abbrev FoundBy : Operation → Type 0
-  FoundBy operation = OperatesBy (offer_view new) t (λ bytes. operated limits at bytes operation) (λ bytes. StoresBody digest size bytes operation old new) clean before after old new result
-
-  pub finds_object : (operation : Operation) → operation ≡ GetObject object version range → Operates (offer_view new) t (λ _. machine.get_object object.bucket object.key version range) clean before after old new result → FoundBy operation
-  unfolding operated
-  finds_object operation is h = subst FoundBy (sym is) (says_nothing (offer_view new) t (λ _. machine.get_object object.bucket object.key version range) (λ _. Unit {0}) clean before after old new result (λ _. tt) h)
 
 -- ---- in the words of a host's storage
 

@@ -5,10 +5,7 @@ use Rattle.sqlite.specs.State.{State}
 use Rattle.bh_types.specs.Limits.{HostLimits}
 use Rattle.bh_types.specs.Rejections.{plainly}
 use Rattle.bh_types.specs.declared.refusal.Refusal.{Refusal}
-use Rattle.bh_types.specs.declared.rejection.Rejection.{Rejection}
 use Rattle.bh_types.specs.declared.id.UploadId.{UploadId}
-use Rattle.bh_machine.specs.Machine.{operated}
-use Rattle.bh_model.specs.Uploads.{upload_part}
 use Rattle.bh_operation.specs.declared.address.ObjectName.{ObjectName}
 use Rattle.bh_operation.specs.declared.operation.Operation.{Operation}
 use Rattle.bh_operation.specs.declared.operation.Operation.TheVariants.{ListBuckets, Usage, CreateBucket, HeadBucket, DeleteBucket, ListObjectsV2, ListObjectVersions, ListMultipartUploads, GetBucketVersioning, PutBucketVersioning, GetLifecycle, PutLifecycle, DeleteLifecycle, CopyObject, GetObject, HeadObject, DeleteObject, CreateMultipartUpload, ListParts, CompleteMultipartUpload, AbortMultipartUpload, GetRetention, PutRetention, PutObject, UploadPart}
@@ -34,7 +31,7 @@ use Rattle.bh_storage.specs.declared.error.StepError.{StepError}
 use Rattle.bh_storage.specs.declared.error.StepError.TheVariants.{Refused, Failed}
 use Rattle.bh_tables.specs.Typed.{Tables}
 use Rattle.bh_view.specs.View.{view}
-use Rattle.bh_view.specs.Bodies.{IsSoundHost, StoresPieces}
+use Rattle.bh_view.specs.Bodies.{IsSoundHost}
 use Rattle.bh_dispatch.specs.Stored.{StoresBody, outcome_as}
 use Rattle.bh_dispatch.proofs.Storing.{IsAtWork, working_seen, shown_now, bounded_seen, carried_bounded, at_work, told}
 
@@ -75,6 +72,12 @@ operates_err shown t step clean before after old new given gives whole read same
   carries = λ c. subst (λ bytes. (step bytes (view old t) ≡ Err r) × (new ≡ old)) same (h c);
 }
 operates_err shown t step clean before after old new given gives whole read same (Failed trouble) h = record { given = given; gives = gives; decided = going_may after whole.going; carries = λ c. tt }
+
+pub spoilt_any : {X E : Type 0} (result : Result (Outcome X E) (StepError E)) (P : Type 0) → P → UnlessSpoilt result P
+spoilt_any (Ok (Done x)) P p = p
+spoilt_any (Ok (Spoilt r)) P p = tt
+spoilt_any (Err (Refused r)) P p = p
+spoilt_any (Err (Failed trouble)) P p = tt
 
 pub spoilt_err : (X : Type 0) {E : Type 0} (error : StepError E) (P : Type 0) → Unless {X = X} {E = E} (Err error) P → UnlessSpoilt {X = X} {E = E} (Err error) P
 spoilt_err X (Refused r) P h = h
@@ -164,25 +167,6 @@ module _ (digest : Octets → Octets) (before after : KeptBlocks) (l : HostLimit
 -- ---- by what a request asks for
 
 module _ (digest : Octets → Octets) (size : ℕ) where
-  -- the step of this operation, and what it stores
-  abbrev OperatedBy : HostLimits → ℕ → Octets → Type 0 → Coming → Coming → Tables → Tables → Result (Outcome Told Rejection) (StepError Rejection) → Operation → Type 0
-  OperatedBy limits at t clean before after old new result operation =
-      OperatesBy answer_view t (λ bytes. operated limits at bytes operation) (λ bytes. StoresBody digest size bytes operation old new) clean before after old new result
-
-  pub stores_object : (limits : HostLimits) (at : ℕ) (t : Octets) (object : ObjectName) (checksum : Option Octets) (date : Option (Option ℕ)) (clean : Type 0) (before after : Coming) (old new : Tables) (result : Result (Outcome Told Rejection) (StepError Rejection)) (operation : Operation)
-      → operation ≡ PutObject object checksum date
-      → OperatesBy answer_view t (λ bytes s. plainly (machine.put_object at object.bucket object.key bytes checksum date s)) (λ bytes. StoresPieces digest size bytes old new) clean before after old new result
-      → OperatedBy limits at t clean before after old new result operation
-  unfolding operated
-  stores_object limits at t object checksum date clean before after old new result operation is h = subst (OperatedBy limits at t clean before after old new result) (sym is) h
-
-  pub stores_part : (limits : HostLimits) (at : ℕ) (t : Octets) (object : ObjectName) (upload : Option UploadId) (number : ℕ) (checksum : Option Octets) (clean : Type 0) (before after : Coming) (old new : Tables) (result : Result (Outcome Told Rejection) (StepError Rejection)) (operation : Operation)
-      → operation ≡ UploadPart object upload number checksum
-      → OperatesBy answer_view t (λ bytes s. plainly (upload_part at object.bucket object.key upload number bytes checksum s)) (λ bytes. StoresPieces digest size bytes old new) clean before after old new result
-      → OperatedBy limits at t clean before after old new result operation
-  unfolding operated
-  stores_part limits at t object upload number checksum clean before after old new result operation is h = subst (OperatedBy limits at t clean before after old new result) (sym is) h
-
   -- nothing is said of any other operation
   pub stores_nothing : (given : Octets) (old new : Tables) (operation : Operation)
       → ((object : ObjectName) (checksum : Option Octets) (date : Option (Option ℕ)) → operation ≢ PutObject object checksum date)

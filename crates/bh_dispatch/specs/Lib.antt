@@ -1,4 +1,5 @@
 pub mod Documents
+pub mod Operating
 pub mod Seeing
 pub mod Stored
 pub mod Telling

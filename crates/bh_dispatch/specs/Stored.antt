@@ -1,5 +1,6 @@
 -- What an operation stores of the bytes that are sent with it.
-use Rattle.std.specs.Prelude.{ℕ}
+use Rattle.std.specs.Fn.{Once, FnOnceReturns}
+use Rattle.std.specs.Prelude.{◌≡◌, ℕ}
 use Rattle.bh_model.specs.State.{Octets}
 use Rattle.bh_operation.specs.declared.operation.Operation.{Operation}
 use Rattle.bh_operation.specs.declared.operation.Operation.TheVariants.{PutObject, UploadPart}
@@ -19,6 +20,10 @@ abbrev pub StoresBody : (Octets → Octets) → ℕ → Octets → Operation →
 StoresBody digest size body (PutObject object checksum date) old new = StoresPieces digest size body old new
 StoresBody digest size body (UploadPart object upload number checksum) old new = StoresPieces digest size body old new
 StoresBody digest size body operation old new = Unit {0}
+
+-- what a call gives is made so
+abbrev pub Makes : {X F : Type 0} → Once F (X × Unit {0}) Answer → F → (X → Answer) → Type 0
+Makes {X} g call made = (x : X) (answer : Answer) → FnOnceReturns g call (x, tt) answer → answer ≡ made x
 
 -- what a step came to, as an answer
 abbrev pub outcome_as : {X : Type 0} → (X → Answer) → Outcome X Refusal → Outcome Answer Rejection

@@ -2,13 +2,11 @@
 ghost use Rattle.bh_event.specs.Events.{order_of, tenant_of};
 ghost use Rattle.bh_machine.specs.Machine.{ordered};
 ghost use Rattle.bh_model.specs.Operations as machine;
-ghost use Rattle.bh_storage.specs.Answers.{answer_view};
 ghost use Rattle.bh_storage.specs.Calls.{Unless, Carries};
-ghost use Rattle.bh_schema.specs.Connections.{IsClean, tables, StaysWithin, StaysOpen};
 ghost use Rattle.bh_schema.specs.Storage as storage;
-ghost use Rattle.bh_schema.specs.Working.{Works, StillWorks};
+ghost use Rattle.bh_schema.specs.Working.{Works};
+ghost use Rattle.bh_dispatch.specs.Operating.{CarriesOut};
 
-use crate::answers;
 use bh_event::event::Command;
 use bh_schema::host::{Digester, Host};
 use bh_storage::answer::Answer;
@@ -55,15 +53,10 @@ pub fn show_usage<S: Alter>(
     tenant: &str,
 ) -> Result<Answer, StepError<Refusal>>
     requires { Works S.Store connection.old }
-    ensures within { StaysWithin S.Store connection.old connection.new }
-    ensures opens { Unless result (StaysOpen S.Store connection.old connection.new) }
-    ensures working { Unless result (StillWorks S.Store connection.old connection.new) }
-    ensures carries { IsClean S.Store connection.new
-        → Carries answer_view tenant.now (machine.show_usage tenant.now)
-        (tables S.Store connection.old) (tables S.Store connection.new) result }
+    ensures { CarriesOut S.Store tenant.now (machine.show_usage tenant.now) connection.old connection.new result }
 {
     match TenantName::read(alloc, tenant)? {
-        Some(tenant) => answers::shown(usage(connection, &tenant)),
+        Some(tenant) => usage(connection, &tenant).map(Answer::Used),
         None => Err(StepError::Refused(Refusal::InvalidName)),
     }
 }
@@ -75,15 +68,10 @@ pub fn show_keys<S: Alter>(
     tenant: &str,
 ) -> Result<Answer, StepError<Refusal>>
     requires { Works S.Store connection.old }
-    ensures within { StaysWithin S.Store connection.old connection.new }
-    ensures opens { Unless result (StaysOpen S.Store connection.old connection.new) }
-    ensures working { Unless result (StillWorks S.Store connection.old connection.new) }
-    ensures carries { IsClean S.Store connection.new
-        → Carries answer_view tenant.now (machine.show_keys tenant.now)
-        (tables S.Store connection.old) (tables S.Store connection.new) result }
+    ensures { CarriesOut S.Store tenant.now (machine.show_keys tenant.now) connection.old connection.new result }
 {
     let Some(tenant) = TenantName::read(alloc, tenant)? else {
         return Err(StepError::Refused(Refusal::InvalidName));
     };
-    answers::named(keys(connection, alloc, &tenant))
+    keys(connection, alloc, &tenant).map(Answer::Keys)
 }

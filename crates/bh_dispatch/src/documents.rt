@@ -2,28 +2,29 @@
 ghost use Rattle.std.specs.Prelude.{◌≡◌, ◌≤◌, true, None};
 ghost use Rattle.std.specs.Result.{result_map_both};
 ghost use Rattle.bh_http.specs.Bodies.{Gives};
-ghost use Rattle.bh_machine.specs.Machine.{operated};
 ghost use Rattle.bh_model.specs.State.{Octets};
 ghost use Rattle.bh_view.specs.View.{latest_of};
 ghost use Rattle.bh_storage.specs.Answers.{answer_view};
-ghost use Rattle.bh_storage.specs.Calls.{Unless, UnlessSpoilt, Carries, Operates};
-ghost use Rattle.bh_schema.specs.Connections.{IsClean, tables, StaysWithin, StaysOpen};
-ghost use Rattle.bh_schema.specs.Working.{Works, StillWorks};
+ghost use Rattle.bh_schema.specs.Connections.{IsClean, tables};
+ghost use Rattle.bh_schema.specs.Working.{Works};
 ghost use Rattle.bh_dispatch.specs.Documents as spec;
 ghost use Rattle.bh_dispatch.specs.Documents.{TakenAs};
+ghost use Rattle.bh_dispatch.specs.Operating.{CarriesOut, OperatesOn, step_of};
 
-use crate::{lifecycle, operations, retention, uploads};
+use crate::answers::told;
+use crate::asked::Asked;
+use crate::uploads::complete_upload;
 use bh_docs::read::DOCUMENT_END;
+use bh_docs::{read_lifecycle, read_retention, read_versioning};
 use bh_http::body::{Body, collect};
 use bh_objects::bodies::refused_whole;
+use bh_objects::{buckets, retention};
 use bh_operation::operation::Operation;
 use bh_storage::answer::Answer;
 use bh_storage::error::{Outcome, StepError, Trouble};
-use bh_types::limits::Limits;
-use bh_types::moment::Moment;
-use bh_types::names::TenantName;
 use bh_types::refusal::Refusal;
 use bh_types::rejection::Rejection;
+use bh_uploads::lifecycle;
 use sqlite::{Alter, Connection};
 use std::alloc::Global;
 
@@ -60,33 +61,38 @@ fn take_document<B: Body>(alloc: Global, body: &mut B) -> Result<Vec<u8>, StepEr
 fn carry_out_document<S: Alter>(
     connection: &mut Connection<S>,
     alloc: Global,
-    limits: &Limits,
-    tenant: &TenantName,
-    at: Moment,
-    operation: &Operation,
+    asked: &Asked<'_>,
     document: &[u8],
 ) -> Result<Answer, StepError<Rejection>>
     requires working { Works S.Store connection.old }
-    requires early { IsClean S.Store connection.old → at ≤ latest_of (tables S.Store connection.old) }
-    ensures within { StaysWithin S.Store connection.old connection.new }
-    ensures opens { Unless result (StaysOpen S.Store connection.old connection.new) }
-    ensures working { Unless result (StillWorks S.Store connection.old connection.new) }
-    ensures carries { IsClean S.Store connection.new
-        → Carries answer_view tenant.now (operated limits.now at document.now operation.now)
-        (tables S.Store connection.old) (tables S.Store connection.new) result }
+    requires early { IsClean S.Store connection.old → asked.now.at ≤ latest_of (tables S.Store connection.old) }
+    ensures { CarriesOut S.Store asked.now.tenant.now (step_of asked.now document.now) connection.old connection.new result }
 {
-    match operation {
+    let tenant = asked.tenant;
+    match asked.operation {
         Operation::PutBucketVersioning(bucket) => {
-            operations::set_versioning(connection, alloc, tenant, bucket, document)
+            let state = read_versioning(alloc, document)?;
+            told(
+                buckets::set_versioning(connection, tenant, bucket, state),
+                |()| Answer::Done,
+            )
         }
         Operation::PutLifecycle(bucket) => {
-            lifecycle::put_lifecycle(connection, alloc, tenant, bucket, document)
+            let days = read_lifecycle(alloc, document)?;
+            told(
+                lifecycle::set_lifecycle(connection, tenant, bucket, days),
+                |()| Answer::Done,
+            )
         }
-        Operation::CompleteMultipartUpload { object, upload } => uploads::complete_upload(
-            connection, alloc, limits, tenant, at, object, *upload, document,
-        ),
+        Operation::CompleteMultipartUpload { object, upload } => {
+            complete_upload(connection, alloc, asked, object, *upload, document)
+        }
         Operation::PutRetention { object, version } => {
-            retention::put_retention(connection, alloc, tenant, at, object, *version, document)
+            let until = read_retention(alloc, document)?;
+            let (bucket, key) = (&object.bucket, &object.key);
+            retention::set_retention(
+                connection, tenant, asked.at, bucket, key, *version, until,
+            ).map(|()| Answer::Done)
         }
         _ => Err(StepError::Failed(Trouble::Store)),
     }
@@ -96,24 +102,17 @@ fn carry_out_document<S: Alter>(
 pub fn operate_document<S: Alter, B: Body>(
     connection: &mut Connection<S>,
     alloc: Global,
-    limits: &Limits,
-    tenant: &TenantName,
-    at: Moment,
-    operation: &Operation,
+    asked: &Asked<'_>,
     body: &mut B,
 ) -> Result<Outcome<Answer, Rejection>, StepError<Rejection>>
-    requires reads { spec.reads_document operation.now ≡ true }
+    requires reads { spec.reads_document asked.now.operation.now ≡ true }
     requires working { Works S.Store connection.old }
-    requires early { IsClean S.Store connection.old → at ≤ latest_of (tables S.Store connection.old) }
+    requires early { IsClean S.Store connection.old → asked.now.at ≤ latest_of (tables S.Store connection.old) }
     requires going { (B.coming body.old).broken ≡ None }
-    ensures within { StaysWithin S.Store connection.old connection.new }
-    ensures opens { UnlessSpoilt result (StaysOpen S.Store connection.old connection.new) }
-    ensures working { UnlessSpoilt result (StillWorks S.Store connection.old connection.new) }
-    ensures operates { Operates answer_view tenant.now (λ bytes. operated limits.now at bytes operation.now)
-        (IsClean S.Store connection.new) (B.coming body.old) (B.coming body.new)
-        (tables S.Store connection.old) (tables S.Store connection.new) result }
+    ensures { OperatesOn S.Store answer_view asked.now.tenant.now (step_of asked.now) (B.coming body.old) (B.coming body.new)
+        connection.old connection.new result }
 {
     let document = take_document(alloc, body)?;
-    let answer = carry_out_document(connection, alloc, limits, tenant, at, operation, &document)?;
+    let answer = carry_out_document(connection, alloc, asked, &document)?;
     Ok(Outcome::Done(answer))
 }

@@ -3,12 +3,13 @@
 #![tactic(auto)]
 
 mod answers;
+pub mod asked;
 mod commands;
 mod documents;
 pub mod lifecycle;
+mod listings;
 pub mod operations;
 pub mod recalling;
-pub mod retention;
 pub mod storage;
 mod telling;
 pub mod uploads;

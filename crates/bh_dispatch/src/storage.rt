@@ -10,7 +10,8 @@ ghost use Rattle.bh_memo.specs.Facts.{has_no_rule};
 ghost use Rattle.bh_objects.specs.Found.{mode_in};
 ghost use Rattle.bh_dispatch.specs.Seeing.{GoesOn};
 
-use crate::{answers, commands, operations};
+use crate::asked::Blocks;
+use crate::{commands, operations};
 use bh_cache::blocks::BlockCache;
 use bh_event::event::Command;
 use bh_http::body::Body;
@@ -166,14 +167,18 @@ impl<S: Alter + Drop, D: Digester + Drop> Storage for HostStorage<S, D> {
         operation: &Operation,
         body: &mut B,
     ) -> Result<Outcome<Offer, Rejection>, StepError<Rejection>> {
-        let block_size = block_size_of(&self.host.cache);
+        let size = block_size_of(&self.host.cache);
+        let host = &mut self.host;
+        let blocks = Blocks {
+            cache: &host.cache,
+            digester: &host.digester,
+            size,
+        };
         operations::operate(
-            &mut self.host.connection,
-            &self.host.cache,
+            &mut host.connection,
             alloc,
-            &self.host.digester,
-            block_size,
-            &self.host.limits,
+            &blocks,
+            host.limits,
             tenant,
             at,
             operation,
@@ -194,7 +199,7 @@ impl<S: Alter + Drop, D: Digester + Drop> Storage for HostStorage<S, D> {
             Command::Keys { tenant } => {
                 commands::show_keys(&mut self.host.connection, alloc, tenant.as_str())
             }
-            _ => answers::changed(commands::change(&mut self.host, alloc, command)),
+            _ => commands::change(&mut self.host, alloc, command).map(|()| Answer::Done),
         }
     }
 

@@ -1,21 +1,12 @@
-use Rattle.std.proofs.Common.{refl}
-use Rattle.sqlite.specs.Held.{state}
 use Rattle.bh_model.specs.Operations.{copy_object}
-use Rattle.bh_storage.specs.Answers.{copied_answer}
 use Rattle.bh_storage.specs.declared.answer.Answer.TheVariants as answer
-use Rattle.bh_schema.specs.Working.{tables_at}
-use Rattle.bh_dispatch.proofs.Steps.{unless_told, carries_told}
+use Rattle.bh_dispatch.proofs.Operating.{carried_plainly}
 use Rattle.bh_dispatch.proofs.operations.copy_object.Goals as goal
 
 pub returns : goal.returns
 returns g c =
     let it = c.copy_object in
-    let old = tables_at (state g.S.Store c.args.connection.now) in
-    let new = tables_at (state g.S.Store it.new.connection) in
-    rw c.copied.ensures (record {
-      within = it.ensures.within;
-      opens = unless_told answer.Copied it.result _ it.ensures.opens;
-      working = unless_told answer.Copied it.result _ it.ensures.working;
-      carries = λ clean. carries_told c.args.tenant.now (copy_object c.args.at c.args.object.now.bucket c.args.object.now.key c.args.source.now.object.bucket c.args.source.now.object.key c.args.source.now.version c.args.date)
-          old new copied_answer answer.Copied (λ _. refl) it.result (it.ensures.carries clean);
-    })
+    let object = c.args.object.now in
+    let source = c.args.source.now in
+    rw (c.told.ensures answer.Copied (λ x a e. e))
+    (carried_plainly g.S.Store c.args.asked.now.tenant.now c.args.connection.now it.new.connection answer.Copied (copy_object c.args.asked.now.at object.bucket object.key source.object.bucket source.object.key source.version c.args.date) it.result it.ensures.within it.ensures.opens it.ensures.working it.ensures.carries)

@@ -3,32 +3,36 @@ use Rattle.sqlite.specs.Held.{state}
 use Rattle.bh_http.proofs.BodyLemmas.{breaks_may}
 use Rattle.bh_storage.specs.declared.answer.Offer.{Offer}
 use Rattle.bh_schema.specs.Working.{tables_at}
+use Rattle.bh_dispatch.proofs.Operating.{still}
 use Rattle.bh_dispatch.proofs.Receiving.{spoilt_err}
 use Rattle.bh_dispatch.proofs.Offering.{found_err}
 use Rattle.bh_dispatch.proofs.operations.get_object.Goals as goal
 
-pub returns-in-Err-clause-operates : goal.returns-in-Err-clause-operates
-returns-in-Err-clause-operates g c =
+pub returns-in-Err-clause-found : goal.returns-in-Err-clause-found
+returns-in-Err-clause-found g c =
     let (given, gives) = c.drain.ensures.some in
-    record { given = given; gives = gives; decided = breaks_may _ c.in-Err.ensures.broken; carries = λ _. tt }
+    record {
+      works = still g.S.Store c.args.connection.now c.requires.working _ (λ P p. tt);
+      operates = record { given = given; gives = gives; decided = breaks_may _ c.in-Err.ensures.broken; carries = λ _. tt };
+    }
 
-pub returns-in_err-found-in-Ok-clause-opens : goal.returns-in_err-found-in-Ok-clause-opens
-returns-in_err-found-in-Ok-clause-opens g c =
-    let p = err_from_is_err_and c.from_residual.result c.from_residual.ensures.1 in
-    rw (p.1, p.2) (spoilt_err Offer c.in_err-found-in-Ok.field-0.0 _ c.in_err-found-in-Ok.ensures.opens)
-
-pub returns-in_err-found-in-Ok-clause-working : goal.returns-in_err-found-in-Ok-clause-working
-returns-in_err-found-in-Ok-clause-working g c =
-    let p = err_from_is_err_and c.from_residual.result c.from_residual.ensures.1 in
-    rw (p.1, p.2) (spoilt_err Offer c.in_err-found-in-Ok.field-0.0 _ c.in_err-found-in-Ok.ensures.working)
-
-pub returns-in_err-found-in-Ok-clause-operates : goal.returns-in_err-found-in-Ok-clause-operates
-returns-in_err-found-in-Ok-clause-operates g c =
+pub returns-in_err-found-in-Ok-clause-found : goal.returns-in_err-found-in-Ok-clause-found
+returns-in_err-found-in-Ok-clause-found g c =
     let p = err_from_is_err_and c.from_residual.result c.from_residual.ensures.1 in
     let (given, gives) = c.drain.ensures.some in
-    rw (p.1, p.2) (found_err (tables_at (state g.S.Store c.get_object.new.connection)) (tables_at (state g.S.Store c.get_object.new.connection)) c.args.tenant.now _ _ _ _ (tables_at (state g.S.Store c.args.connection.now)) (tables_at (state g.S.Store c.get_object.new.connection)) given gives c.in-Ok.ensures.whole c.in_err-found-in-Ok.field-0.0 c.in_err-found-in-Ok.ensures.carries)
+    let h = c.in_err-found-in-Ok.ensures in
+    let error = c.in_err-found-in-Ok.field-0.0 in
+    let new = tables_at (state g.S.Store c.get_object.new.connection) in
+    rw (p.1, p.2) (record {
+      works = record { within = h.within; opens = spoilt_err Offer error _ h.opens; working = spoilt_err Offer error _ h.working };
+      operates = found_err new new c.args.tenant.now _ _ _ _ (tables_at (state g.S.Store c.args.connection.now)) new given gives c.in-Ok.ensures.whole error h.carries;
+    })
 
-pub returns-in_ok-found-in-Ok-clause-operates : goal.returns-in_ok-found-in-Ok-clause-operates
-returns-in_ok-found-in-Ok-clause-operates g c =
+pub returns-in_ok-found-in-Ok-clause-found : goal.returns-in_ok-found-in-Ok-clause-found
+returns-in_ok-found-in-Ok-clause-found g c =
     let (given, gives) = c.drain.ensures.some in
-    record { given = given; gives = gives; decided = c.in-Ok.ensures.whole; carries = c.in_ok-found-in-Ok.ensures.carries }
+    let h = c.in_ok-found-in-Ok.ensures in
+    record {
+      works = record { within = h.within; opens = h.opens; working = h.working };
+      operates = record { given = given; gives = gives; decided = c.in-Ok.ensures.whole; carries = h.carries };
+    }

@@ -1,35 +1,41 @@
-use Rattle.std.proofs.Common.{sym}
-use Rattle.bh_dispatch.proofs.Steps.{lists_buckets, creates_bucket, heads_bucket, deletes_bucket, lists_objects, lists_versions, lists_uploads, tells_versioning}
+use Rattle.std.proofs.Common.{rules}
+use Rattle.bh_machine.specs.Machine.{operated}
+use Rattle.bh_model.specs.Operations.{list_buckets, create_bucket, head_bucket, delete_bucket, get_versioning}
+use Rattle.bh_storage.specs.declared.answer.Answer.TheVariants as answer
+use Rattle.bh_dispatch.proofs.Operating.{carried_plainly}
 use Rattle.bh_dispatch.proofs.operations.operate_bucket.Goals as goal
 
-pub returns-in-ListBuckets-clause-carries : goal.returns-in-ListBuckets-clause-carries
-returns-in-ListBuckets-clause-carries g c limits body clean =
-    rw (c.in-ListBuckets.is, lists_buckets limits c.args.at body) (c.list_buckets.ensures.carries clean)
+pub returns-in-ListBuckets : goal.returns-in-ListBuckets
+unfolding operated
+returns-in-ListBuckets g c body =
+    let it = c.list_buckets in
+    rw (c.in-ListBuckets.is, c.told.ensures answer.Buckets (λ x a e. e))
+    (carried_plainly g.S.Store c.args.asked.now.tenant.now c.args.connection.now it.new.connection answer.Buckets list_buckets it.result it.ensures.within it.ensures.opens it.ensures.working it.ensures.carries)
 
-pub returns-in-CreateBucket-clause-carries : goal.returns-in-CreateBucket-clause-carries
-returns-in-CreateBucket-clause-carries g c limits body clean =
-    rw (c.in-CreateBucket.is, creates_bucket limits c.args.at body c.in-CreateBucket.bucket c.in-CreateBucket.locked) (c.create_bucket.ensures.carries clean)
+pub returns-in-CreateBucket : goal.returns-in-CreateBucket
+unfolding operated
+returns-in-CreateBucket g c body =
+    let it = c.create_bucket-created in
+    rw (c.in-CreateBucket.is, c.told-in-CreateBucket.ensures (λ _. answer.Done) (λ x a e. search rules))
+    (carried_plainly g.S.Store c.args.asked.now.tenant.now c.args.connection.now it.new.connection (λ _. answer.Done) (create_bucket c.args.asked.now.at c.in-CreateBucket.bucket c.in-CreateBucket.locked) it.result it.ensures.within it.ensures.opens it.ensures.working it.ensures.carries)
 
-pub returns-in-HeadBucket-clause-carries : goal.returns-in-HeadBucket-clause-carries
-returns-in-HeadBucket-clause-carries g c limits body clean =
-    rw (c.in-HeadBucket.is, heads_bucket limits c.args.at body c.in-HeadBucket.bucket) (c.head_bucket.ensures.carries clean)
+pub returns-in-HeadBucket : goal.returns-in-HeadBucket
+unfolding operated
+returns-in-HeadBucket g c body =
+    let it = c.head_bucket in
+    rw (c.in-HeadBucket.is, c.told-in-HeadBucket.ensures (λ _. answer.Done) (λ x a e. search rules))
+    (carried_plainly g.S.Store c.args.asked.now.tenant.now c.args.connection.now it.new.connection (λ _. answer.Done) (head_bucket c.in-HeadBucket.bucket) it.result it.ensures.within it.ensures.opens it.ensures.working it.ensures.carries)
 
-pub returns-in-DeleteBucket-clause-carries : goal.returns-in-DeleteBucket-clause-carries
-returns-in-DeleteBucket-clause-carries g c limits body clean =
-    rw (c.in-DeleteBucket.is, deletes_bucket limits c.args.at body c.in-DeleteBucket.bucket) (c.delete_bucket.ensures.carries clean)
+pub returns-in-DeleteBucket : goal.returns-in-DeleteBucket
+unfolding operated
+returns-in-DeleteBucket g c body =
+    let it = c.delete_bucket in
+    rw (c.in-DeleteBucket.is, c.told-in-DeleteBucket.ensures answer.Removed (λ x a e. e))
+    (carried_plainly g.S.Store c.args.asked.now.tenant.now c.args.connection.now it.new.connection answer.Removed (delete_bucket c.in-DeleteBucket.bucket) it.result it.ensures.within it.ensures.opens it.ensures.working it.ensures.carries)
 
-pub returns-in-ListObjectsV2-clause-carries : goal.returns-in-ListObjectsV2-clause-carries
-returns-in-ListObjectsV2-clause-carries g c limits body clean =
-    rw (c.in-ListObjectsV2.is, lists_objects limits c.args.at body c.in-ListObjectsV2.bucket c.in-ListObjectsV2.page c.in-ListObjectsV2.token, sym c.bytes_of.ensures) (c.list_objects.ensures.carries clean)
-
-pub returns-in-ListObjectVersions-clause-carries : goal.returns-in-ListObjectVersions-clause-carries
-returns-in-ListObjectVersions-clause-carries g c limits body clean =
-    rw (c.in-ListObjectVersions.is, lists_versions limits c.args.at body c.in-ListObjectVersions.bucket c.in-ListObjectVersions.page c.in-ListObjectVersions.after) (c.list_versions.ensures.carries clean)
-
-pub returns-in-ListMultipartUploads-clause-carries : goal.returns-in-ListMultipartUploads-clause-carries
-returns-in-ListMultipartUploads-clause-carries g c limits body clean =
-    rw (c.in-ListMultipartUploads.is, lists_uploads limits c.args.at body c.in-ListMultipartUploads.bucket c.in-ListMultipartUploads.page c.in-ListMultipartUploads.after) (c.list_uploads.ensures.carries clean)
-
-pub returns-in-GetBucketVersioning-clause-carries : goal.returns-in-GetBucketVersioning-clause-carries
-returns-in-GetBucketVersioning-clause-carries g c limits body clean =
-    rw (c.in-GetBucketVersioning.is, tells_versioning limits c.args.at body c.in-GetBucketVersioning.bucket) (c.versioning.ensures.carries clean)
+pub returns-in-GetBucketVersioning : goal.returns-in-GetBucketVersioning
+unfolding operated
+returns-in-GetBucketVersioning g c body =
+    let it = c.versioning in
+    rw (c.in-GetBucketVersioning.is, c.told-in-GetBucketVersioning.ensures answer.Versioning (λ x a e. e))
+    (carried_plainly g.S.Store c.args.asked.now.tenant.now c.args.connection.now it.new.connection answer.Versioning (get_versioning c.in-GetBucketVersioning.bucket) it.result it.ensures.within it.ensures.opens it.ensures.working it.ensures.carries)

@@ -1,18 +1,30 @@
-use Rattle.bh_dispatch.proofs.Steps.{copies_object, heads_object, deletes_object, tells_date}
+use Rattle.bh_machine.specs.Machine.{operated}
+use Rattle.bh_model.specs.Operations.{head_object, delete_object, get_retention}
+use Rattle.bh_storage.specs.declared.answer.Answer.TheVariants as answer
+use Rattle.bh_dispatch.proofs.Operating.{carried, carried_plainly, map_is}
 use Rattle.bh_dispatch.proofs.operations.operate_object.Goals as goal
 
-pub returns-in-CopyObject-clause-carries : goal.returns-in-CopyObject-clause-carries
-returns-in-CopyObject-clause-carries g c limits body clean =
-    rw (c.in-CopyObject.is, copies_object limits c.args.at body c.in-CopyObject.object c.in-CopyObject.source c.in-CopyObject.date) (c.copy_object.ensures.carries clean)
+pub returns-in-CopyObject : goal.returns-in-CopyObject
+unfolding operated
+returns-in-CopyObject g c body = rw c.in-CopyObject.is c.copy_object.ensures
 
-pub returns-in-HeadObject-clause-carries : goal.returns-in-HeadObject-clause-carries
-returns-in-HeadObject-clause-carries g c limits body clean =
-    rw (c.in-HeadObject.is, heads_object limits c.args.at body c.in-HeadObject.object c.in-HeadObject.version) (c.head_object.ensures.carries clean)
+pub returns-in-HeadObject : goal.returns-in-HeadObject
+unfolding operated
+returns-in-HeadObject g c body =
+    let it = c.head_object in
+    rw (c.in-HeadObject.is, map_is answer.Head _ (λ x a e. e) it.result c.map.result c.map.ensures.cases)
+    (carried g.S.Store c.args.asked.now.tenant.now c.args.connection.now it.new.connection answer.Head (head_object c.in-HeadObject.object.bucket c.in-HeadObject.object.key c.in-HeadObject.version) it.result it.ensures.within it.ensures.opens it.ensures.working it.ensures.carries)
 
-pub returns-in-DeleteObject-clause-carries : goal.returns-in-DeleteObject-clause-carries
-returns-in-DeleteObject-clause-carries g c limits body clean =
-    rw (c.in-DeleteObject.is, deletes_object limits c.args.at body c.in-DeleteObject.object c.in-DeleteObject.version) (c.delete_object.ensures.carries clean)
+pub returns-in-DeleteObject : goal.returns-in-DeleteObject
+unfolding operated
+returns-in-DeleteObject g c body =
+    let it = c.delete_object-removed in
+    rw (c.in-DeleteObject.is, c.told.ensures answer.Removed (λ x a e. e))
+    (carried_plainly g.S.Store c.args.asked.now.tenant.now c.args.connection.now it.new.connection answer.Removed (delete_object c.args.asked.now.at c.in-DeleteObject.object.bucket c.in-DeleteObject.object.key c.in-DeleteObject.version) it.result it.ensures.within it.ensures.opens it.ensures.working it.ensures.carries)
 
-pub returns-in-GetRetention-clause-carries : goal.returns-in-GetRetention-clause-carries
-returns-in-GetRetention-clause-carries g c limits body clean =
-    rw (c.in-GetRetention.is, tells_date limits c.args.at body c.in-GetRetention.object c.in-GetRetention.version) (c.get_retention.ensures.carries clean)
+pub returns-in-GetRetention : goal.returns-in-GetRetention
+unfolding operated
+returns-in-GetRetention g c body =
+    let it = c.retention in
+    rw (c.in-GetRetention.is, map_is answer.Retention _ (λ x a e. e) it.result c.map-in-GetRetention.result c.map-in-GetRetention.ensures.cases)
+    (carried g.S.Store c.args.asked.now.tenant.now c.args.connection.now it.new.connection answer.Retention (get_retention c.in-GetRetention.object.bucket c.in-GetRetention.object.key c.in-GetRetention.version) it.result it.ensures.within it.ensures.opens it.ensures.working it.ensures.carries)

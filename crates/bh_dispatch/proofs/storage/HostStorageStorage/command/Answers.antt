@@ -21,13 +21,13 @@ returns-in-Usage-clause-goes_on g c =
     let new = state g.S.Store c.show_usage.new.connection in
     let h = c.show_usage.ensures in
     let t = c.as_str.result.now in
-    let began = λ (clean : AreBoth new). c.requires (parts (h.within.follows.clean (both clean))) in
-    let works = still_working digest l old new answer_view t (show_usage t) c.show_usage.result (λ s bound. ordered_bounded s bound (ShowUsage t)) (λ clean. under _ _ (began clean)) (by_any digest old new c.show_usage.result h.working) h.carries in
+    let began = λ (clean : AreBoth new). c.requires (parts (h.works.within.follows.clean (both clean))) in
+    let works = still_working digest l old new answer_view t (show_usage t) c.show_usage.result (λ s bound. ordered_bounded s bound (ShowUsage t)) (λ clean. under _ _ (began clean)) (by_any digest old new c.show_usage.result h.works.working) h.carries in
     record {
-      within = stored g.S.Store c.args.self.now _ (keeps g.S.Store c.args.self.now.host _ refl h.within);
-      opens = opened (IsIntact new) (IsOpen old) (IsOpen new) c.show_usage.result h.opens;
+      within = stored g.S.Store c.args.self.now _ (keeps g.S.Store c.args.self.now.host _ refl h.works.within);
+      opens = opened (IsIntact new) (IsOpen old) (IsOpen new) c.show_usage.result h.works.opens;
       working = works_beside digest k k l old new began c.show_usage.result works
-          (kept_carried k answer_view t (show_usage t) c.show_usage.result old new (λ clean. agrees_seen k l old (c.requires (parts (h.within.follows.clean clean)))) h.carries);
+          (kept_carried k answer_view t (show_usage t) c.show_usage.result old new (λ clean. agrees_seen k l old (c.requires (parts (h.works.within.follows.clean clean)))) h.carries);
     }
 
 pub returns-in-Usage-clause-carries : goal.returns-in-Usage-clause-carries
@@ -39,11 +39,11 @@ returns-in-Usage-clause-carries g c clean =
     let new = state g.S.Store c.show_usage.new.connection in
     let h = c.show_usage.ensures in
     let t = c.as_str.result.now in
-    let began = λ (clean : AreBoth new). c.requires (parts (h.within.follows.clean (both clean))) in
-    let working = by_any digest old new c.show_usage.result h.working in
+    let began = λ (clean : AreBoth new). c.requires (parts (h.works.within.follows.clean (both clean))) in
+    let working = by_any digest old new c.show_usage.result h.works.working in
     let works = still_working digest l old new answer_view t (show_usage t) c.show_usage.result (λ s bound. ordered_bounded s bound (ShowUsage t)) (λ clean. under _ _ (began clean)) working h.carries in
     rw (c.in-Usage.is, sym c.as_str.ensures.value) (carries_beside digest k k l old new began answer_view t (show_usage t) c.show_usage.result clean works
-    (kept_carried k answer_view t (show_usage t) c.show_usage.result old new (λ clean. agrees_seen k l old (c.requires (parts (h.within.follows.clean clean)))) h.carries)
+    (kept_carried k answer_view t (show_usage t) c.show_usage.result old new (λ clean. agrees_seen k l old (c.requires (parts (h.works.within.follows.clean clean)))) h.carries)
     (carried digest l old new answer_view t (show_usage t) c.show_usage.result (under _ _ (began clean)) clean working (h.carries (both clean))))
 
 pub show_keys-requires : goal.show_keys-requires
@@ -58,13 +58,13 @@ returns-in-Keys-clause-goes_on g c =
     let new = state g.S.Store c.show_keys.new.connection in
     let h = c.show_keys.ensures in
     let t = c.as_str-in-Keys.result.now in
-    let began = λ (clean : AreBoth new). c.requires (parts (h.within.follows.clean (both clean))) in
-    let works = still_working digest l old new answer_view t (show_keys t) c.show_keys.result (λ s bound. ordered_bounded s bound (ShowKeys t)) (λ clean. under _ _ (began clean)) (by_any digest old new c.show_keys.result h.working) h.carries in
+    let began = λ (clean : AreBoth new). c.requires (parts (h.works.within.follows.clean (both clean))) in
+    let works = still_working digest l old new answer_view t (show_keys t) c.show_keys.result (λ s bound. ordered_bounded s bound (ShowKeys t)) (λ clean. under _ _ (began clean)) (by_any digest old new c.show_keys.result h.works.working) h.carries in
     record {
-      within = stored g.S.Store c.args.self.now _ (keeps g.S.Store c.args.self.now.host _ refl h.within);
-      opens = opened (IsIntact new) (IsOpen old) (IsOpen new) c.show_keys.result h.opens;
+      within = stored g.S.Store c.args.self.now _ (keeps g.S.Store c.args.self.now.host _ refl h.works.within);
+      opens = opened (IsIntact new) (IsOpen old) (IsOpen new) c.show_keys.result h.works.opens;
       working = works_beside digest k k l old new began c.show_keys.result works
-          (kept_carried k answer_view t (show_keys t) c.show_keys.result old new (λ clean. agrees_seen k l old (c.requires (parts (h.within.follows.clean clean)))) h.carries);
+          (kept_carried k answer_view t (show_keys t) c.show_keys.result old new (λ clean. agrees_seen k l old (c.requires (parts (h.works.within.follows.clean clean)))) h.carries);
     }
 
 pub returns-in-Keys-clause-carries : goal.returns-in-Keys-clause-carries
@@ -76,9 +76,9 @@ returns-in-Keys-clause-carries g c clean =
     let new = state g.S.Store c.show_keys.new.connection in
     let h = c.show_keys.ensures in
     let t = c.as_str-in-Keys.result.now in
-    let began = λ (clean : AreBoth new). c.requires (parts (h.within.follows.clean (both clean))) in
-    let working = by_any digest old new c.show_keys.result h.working in
+    let began = λ (clean : AreBoth new). c.requires (parts (h.works.within.follows.clean (both clean))) in
+    let working = by_any digest old new c.show_keys.result h.works.working in
     let works = still_working digest l old new answer_view t (show_keys t) c.show_keys.result (λ s bound. ordered_bounded s bound (ShowKeys t)) (λ clean. under _ _ (began clean)) working h.carries in
     rw (c.in-Keys.is, sym c.as_str-in-Keys.ensures.value) (carries_beside digest k k l old new began answer_view t (show_keys t) c.show_keys.result clean works
-    (kept_carried k answer_view t (show_keys t) c.show_keys.result old new (λ clean. agrees_seen k l old (c.requires (parts (h.within.follows.clean clean)))) h.carries)
+    (kept_carried k answer_view t (show_keys t) c.show_keys.result old new (λ clean. agrees_seen k l old (c.requires (parts (h.works.within.follows.clean clean)))) h.carries)
     (carried digest l old new answer_view t (show_keys t) c.show_keys.result (under _ _ (began clean)) clean working (h.carries (both clean))))

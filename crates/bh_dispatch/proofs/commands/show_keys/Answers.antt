@@ -1,0 +1,12 @@
+use Rattle.std.proofs.Common.{refl}
+use Rattle.bh_model.specs.Operations.{tell_keys}
+use Rattle.bh_storage.specs.declared.answer.Answer.TheVariants as answer
+use Rattle.bh_dispatch.proofs.Operating.{commanded, map_is}
+use Rattle.bh_dispatch.proofs.commands.show_keys.Goals as goal
+
+pub returns : goal.returns
+returns g c =
+    let it = c.keys in
+    let read = c.in_ok-tenant.ensures in
+    rw (map_is answer.Keys _ (λ x a e. e) it.result c.map.result c.map.ensures.cases)
+    (commanded g.S.Store c.args.connection.now it.new.connection c.in-Some.tenant c.args.tenant.now (rw c.in-Some.is at read.value) (read.found.0 (rw c.in-Some.is refl)) answer.Keys tell_keys it.result it.ensures.within it.ensures.opens it.ensures.working it.ensures.carries)
