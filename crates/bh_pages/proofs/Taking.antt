@@ -11,6 +11,7 @@ use Rattle.bh_pages.specs.declared.reading.Reading.{Reading}
 use Rattle.bh_pages.specs.declared.gathering.PageAsked.{PageAsked}
 use Rattle.bh_pages.specs.declared.gathering.Line.{Line}
 use Rattle.bh_pages.specs.declared.gathering.Gathering.{Gathering}
+use Rattle.bh_pages.specs.declared.gathering.ObjectLine.{ObjectLine}
 use Rattle.bh_pages.proofs.Bytes.{some_same, none_some}
 use Rattle.bh_pages.proofs.Filters.{filter_whole}
 use Rattle.bh_pages.proofs.Starting.{start_any, start_low}
@@ -55,7 +56,7 @@ module _ (prefix : Octets) where
 pub begun_low : (asked : PageAsked) (from : Octets) → from ≡ start_of asked.prefix.now (token_of asked) → is_upto asked.prefix.now from ≡ true
 begun_low asked from at = ap (is_upto asked.prefix.now) at ∙ start_low asked.prefix.now (token_of asked)
 
-pub none_shown : (asked : PageAsked) (g : Gathering) → seen g ≡ nothing_gathered → length (map seen_entry g.entries.items) ≤ asked.max
+pub none_shown : (asked : PageAsked) (g : Gathering ObjectLine) → seen g ≡ nothing_gathered → length (map seen_entry g.entries.items) ≤ asked.max
 none_shown asked g is = subst (λ (l : List (Listed ObjectItem)). length l ≤ asked.max) (sym (ap (λ (h : Gathered ObjectItem). h.entries) is)) (omega arith)
 
 module _ (asked : PageAsked) (rows : List Shown) (are : AreRows asked.prefix.now rows) where
@@ -67,7 +68,7 @@ module _ (asked : PageAsked) (rows : List Shown) (are : AreRows asked.prefix.now
   all_to_come = ap (λ l. merged None (filter passes (map (entry_of asked.prefix.now asked.delimiter.now (λ (o : ObjectItem). o.key)) l)))
       (sym (filter_whole (λ (o : ObjectItem). begins asked.prefix.now o.key) (items_after row_key item_in None rows) (items_under asked.prefix.now None rows (begun_rows asked.prefix.now rows are.under))))
 
-  pub begun : (g : Gathering) → seen g ≡ nothing_gathered → (from : Octets) → from ≡ start_of asked.prefix.now (token_of asked)
+  pub begun : (g : Gathering ObjectLine) → seen g ≡ nothing_gathered → (from : Octets) → from ≡ start_of asked.prefix.now (token_of asked)
       → map seen_entry g.entries.items ++ still_to_come asked (seen g) (rows_from row_key from rows) ≡ listing asked rows
   begun g is from at =
       (λ i. (is i).entries ++ still_to_come asked (is i) (rows_from row_key (at i) rows))
@@ -88,7 +89,7 @@ module _ (asked : PageAsked) (rows : List Shown) (are : AreRows asked.prefix.now
     abbrev chunked : Gathered ObjectItem
     chunked = rows_added asked (seen old.gathering) (take old.count (rows_left old rows))
 
-    module _ (new : Gathering) (added : seen new ≡ rows_added asked (seen old.gathering) (map seen_line lines)) where
+    module _ (new : Gathering ObjectLine) (added : seen new ≡ rows_added asked (seen old.gathering) (map seen_line lines)) where
       next_is : chunked ≡ seen new
       next_is = ap (rows_added asked (seen old.gathering)) (sym next) ∙ sym added
 

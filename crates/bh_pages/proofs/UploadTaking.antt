@@ -12,7 +12,7 @@ use Rattle.bh_pages.specs.Versions.{seen_place}
 use Rattle.bh_pages.specs.Uploads.{upload_key, upload_number, is_from, is_behind, passes_name, uploads_added, uploads_to_come, seen, seen_line, seen_entry, rows_at, AreUnder, PastLast, GoesOn, AreRows, IsUnderway, AreNext}
 use Rattle.bh_pages.specs.declared.gathering.PageAsked.{PageAsked}
 use Rattle.bh_pages.specs.declared.uploads.UploadLine.{UploadLine}
-use Rattle.bh_pages.specs.declared.uploads.UploadGathering.{UploadGathering}
+use Rattle.bh_pages.specs.declared.gathering.Gathering.{Gathering}
 use Rattle.bh_pages.specs.declared.uploads.UploadReading.{UploadReading}
 use Rattle.bh_pages.proofs.Bytes.{upto_begun, upto_trans, upto_past_key, upto_other, before_past_name, rolled_begins, some_same, none_some}
 use Rattle.bh_pages.proofs.Taking.{all_take}
@@ -57,7 +57,7 @@ module _ (asked : PageAsked) (rows : List UploadItem) (listing : List (Listed Up
       up : {m k : ℕ} → m ≤ k → m ≤ suc k
       up h = omega (arith, h)
 
-  module _ (new : UploadGathering) (added : seen new ≡ uploads_added asked (seen old.gathering) (map seen_line lines)) where
+  module _ (new : Gathering UploadLine) (added : seen new ≡ uploads_added asked (seen old.gathering) (map seen_line lines)) where
     abbrev chunked : Gathered UploadItem
     chunked = uploads_added asked (seen old.gathering) chunk
 

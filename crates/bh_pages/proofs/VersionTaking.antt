@@ -10,7 +10,8 @@ use Rattle.bh_pages.specs.Seen.{token_of}
 use Rattle.bh_pages.specs.Versions.{Numbered, row_key, Place, IsUnder, is_from, is_older, at_key, past_row, past_few, versions_to_come, seen, seen_line, seen_entry, seen_place, rows_added, rows_at, AreUnder, PastLast, GoesOn, AreRows, IsUnderway, AreNext}
 use Rattle.bh_pages.specs.declared.gathering.PageAsked.{PageAsked}
 use Rattle.bh_pages.specs.declared.versions.VersionLine.{VersionLine}
-use Rattle.bh_pages.specs.declared.versions.VersionGathering.{VersionGathering}
+use Rattle.bh_pages.specs.declared.gathering.Gathering.{Gathering}
+use Rattle.bh_pages.specs.declared.versions.ShownVersion.{ShownVersion}
 use Rattle.bh_pages.specs.declared.versions.VersionReading.{VersionReading}
 use Rattle.bh_pages.proofs.Bytes.{upto_begun, upto_trans, upto_past_key, upto_other, before_past_name, rolled_begins, some_same, none_some}
 use Rattle.bh_pages.proofs.Taking.{all_take}
@@ -62,7 +63,7 @@ module _ (asked : PageAsked) (rows : List Numbered) (listing : List (Listed Vers
       up : {m k : ℕ} → m ≤ k → m ≤ suc k
       up h = omega (arith, h)
 
-  module _ (new : VersionGathering) (added : seen new ≡ rows_added asked (seen old.gathering) (map seen_line lines)) where
+  module _ (new : Gathering ShownVersion) (added : seen new ≡ rows_added asked (seen old.gathering) (map seen_line lines)) where
     abbrev chunked : Gathered VersionItem
     chunked = rows_added asked (seen old.gathering) chunk
 

@@ -30,12 +30,19 @@ seen_line l = (l.key.items, item_of l.marker (object_in l))
 abbrev pub seen_object : ObjectLine → ObjectItem
 seen_object o = record { key = o.key.items; moment = o.stamp; size = o.size; checksum = string_bytes o.checksum }
 
-abbrev pub seen_entry : program.Listed → Listed ObjectItem
-seen_entry (program.TheVariants.Object o) = Single (seen_object o)
-seen_entry (program.TheVariants.Common name) = Common name.items
+module _ {X T : Type 0} (see : X → T) where
+  abbrev pub entry_by : program.Listed X → Listed T
+  entry_by (program.TheVariants.Single x) = Single (see x)
+  entry_by (program.TheVariants.Common name) = Common name.items
 
-abbrev pub seen : Gathering → Gathered ObjectItem
-seen g = record { key = option_map (λ k. k.items) g.key; name = option_map (λ n. n.items) g.name; entries = map seen_entry g.entries.items }
+  abbrev pub gathered_by : Gathering X → Gathered T
+  gathered_by g = record { key = option_map (λ k. k.items) g.key; name = option_map (λ n. n.items) g.name; entries = map entry_by g.entries.items }
+
+abbrev pub seen_entry : program.Listed ObjectLine → Listed ObjectItem
+seen_entry = entry_by seen_object
+
+abbrev pub seen : Gathering ObjectLine → Gathered ObjectItem
+seen = gathered_by seen_object
 
 -- the lists of a listing of objects
 abbrev pub token_of : PageAsked → Option Octets

@@ -5,14 +5,14 @@ use Rattle.std.specs.Ordering.{nat_cmp}
 use Rattle.bh_model.specs.State.{Octets}
 use Rattle.bh_model.specs.Pages.{Listed, Listed.Single, Listed.Common, UploadItem, begins, is_before, rolled, last_of}
 use Rattle.bh_pages.specs.Gathered.{IsKeyUnder, IsBeginning, IsPage, Gathered}
-use Rattle.bh_pages.specs.Seen.{token_of}
+use Rattle.bh_pages.specs.Seen.{token_of, entry_by, gathered_by}
 use Rattle.bh_pages.specs.Places as places
 use Rattle.bh_pages.specs.Places.{Place, IsUnder, past_row, past_few}
 use Rattle.bh_pages.specs.Versions.{seen_place}
 use Rattle.bh_pages.specs.declared.gathering.PageAsked.{PageAsked}
 use Rattle.bh_pages.specs.declared.uploads.UploadLine.{UploadLine}
-use Rattle.bh_pages.specs.declared.uploads.ListedUpload as listed
-use Rattle.bh_pages.specs.declared.uploads.UploadGathering.{UploadGathering}
+use Rattle.bh_pages.specs.declared.gathering.Listed as listed
+use Rattle.bh_pages.specs.declared.gathering.Gathering.{Gathering}
 use Rattle.bh_pages.specs.declared.uploads.UploadReading.{UploadReading}
 
 abbrev pub upload_key : UploadItem → Octets
@@ -54,12 +54,11 @@ module _ (asked : PageAsked) where
 abbrev pub seen_line : UploadLine → UploadItem
 seen_line l = record { key = l.key.items; id = record { number = l.number }; begun = l.begun }
 
-abbrev pub seen_entry : listed.ListedUpload → Listed UploadItem
-seen_entry (listed.TheVariants.Upload u) = Single (seen_line u)
-seen_entry (listed.TheVariants.Common name) = Common name.items
+abbrev pub seen_entry : listed.Listed UploadLine → Listed UploadItem
+seen_entry = entry_by seen_line
 
-abbrev pub seen : UploadGathering → Gathered UploadItem
-seen g = record { key = None; name = option_map (λ n. n.items) g.name; entries = map seen_entry g.entries.items }
+abbrev pub seen : Gathering UploadLine → Gathered UploadItem
+seen = gathered_by seen_line
 
 abbrev pub nothing : Gathered UploadItem
 nothing = record { key = None; name = None; entries = [] }

@@ -6,17 +6,17 @@ use Rattle.std.specs.declared.cmp.Ordering.{Ordering}
 use Rattle.bh_types.specs.declared.id.VersionId.{VersionId}
 use Rattle.bh_types.specs.declared.id.VersionId.TheVariants.{Null, Numbered as Given}
 use Rattle.bh_model.specs.State.{Octets}
-use Rattle.bh_model.specs.Pages.{Listed, Listed.Single, Listed.Common, begins, is_name, same, merged, entry_of, rolled, last_of, StoredItem, VersionItem, passes_version}
+use Rattle.bh_model.specs.Pages.{Listed, begins, is_name, same, merged, entry_of, rolled, last_of, StoredItem, VersionItem, passes_version}
 use Rattle.bh_pages.specs.Gathered.{IsKeyUnder, IsBeginning, IsPage, Gathered, with_entry}
 use Rattle.bh_pages.specs.Places as places
 pub use Rattle.bh_pages.specs.Places.{Spot, Place, IsUnder, at_key, after_entry, past_row, past_few}
-use Rattle.bh_pages.specs.Seen.{token_of}
+use Rattle.bh_pages.specs.Seen.{token_of, entry_by, gathered_by}
 use Rattle.bh_pages.specs.declared.gathering.PageAsked.{PageAsked}
 use Rattle.bh_pages.specs.declared.versions.Place as program
 use Rattle.bh_pages.specs.declared.versions.VersionLine.{VersionLine}
 use Rattle.bh_pages.specs.declared.versions.ShownVersion.{ShownVersion}
-use Rattle.bh_pages.specs.declared.versions.ListedVersion as listed
-use Rattle.bh_pages.specs.declared.versions.VersionGathering.{VersionGathering}
+use Rattle.bh_pages.specs.declared.gathering.Listed as listed
+use Rattle.bh_pages.specs.declared.gathering.Gathering.{Gathering}
 use Rattle.bh_pages.specs.declared.versions.VersionReading.{VersionReading}
 
 -- a row: its entry number, and the version that it holds, of which the row alone doesn't tell whether it is the newest
@@ -101,12 +101,11 @@ seen_line l = (l.seq, version_in l false)
 abbrev pub seen_version : ShownVersion → VersionItem
 seen_version v = record { key = v.key.items; id = id_in v.id; moment = v.stamp; latest = v.latest; object = stored_of v.marker v.size (string_bytes v.checksum) }
 
-abbrev pub seen_entry : listed.ListedVersion → Listed VersionItem
-seen_entry (listed.TheVariants.Version v) = Single (seen_version v)
-seen_entry (listed.TheVariants.Common name) = Common name.items
+abbrev pub seen_entry : listed.Listed ShownVersion → Listed VersionItem
+seen_entry = entry_by seen_version
 
-abbrev pub seen : VersionGathering → Gathered VersionItem
-seen g = record { key = option_map (λ k. k.items) g.key; name = option_map (λ n. n.items) g.name; entries = map seen_entry g.entries.items }
+abbrev pub seen : Gathering ShownVersion → Gathered VersionItem
+seen = gathered_by seen_version
 
 abbrev pub seen_place : program.Place → Place
 seen_place p = record { key = p.key.items; after = p.after }

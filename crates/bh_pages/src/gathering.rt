@@ -1,10 +1,10 @@
 //! A page that is gathered row by row.
 
-ghost use Rattle.std.specs.Prelude.{◌≡◌, true, Some, [], ◌∷◌, ◌++◌, map, OnOk, IfOk, option_map};
+ghost use Rattle.std.specs.Prelude.{◌≡◌, true, Some, None, [], ◌∷◌, ◌++◌, map, OnOk, IfOk, option_map};
 ghost use Rattle.std.specs.List.{AllByRecursion};
-ghost use Rattle.bh_model.specs.Pages.{Listed.Single, Listed.Common, is_name, begins, after_name};
-ghost use Rattle.bh_pages.specs.Gathered.{with_entry, nothing_gathered, start_of};
-ghost use Rattle.bh_pages.specs.Seen.{seen, seen_line, seen_object, object_in, token_of, item_added, row_added, rows_added, read_on};
+ghost use Rattle.bh_model.specs.Pages.{ObjectItem, Listed.Single, Listed.Common, is_name, begins, after_name};
+ghost use Rattle.bh_pages.specs.Gathered.{with_entry, start_of};
+ghost use Rattle.bh_pages.specs.Seen.{gathered_by, seen, seen_line, seen_object, object_in, token_of, item_added, row_added, rows_added, read_on};
 
 use crate::names::name_end;
 use std::alloc::{AllocError, Global};
@@ -41,21 +41,35 @@ pub struct ObjectLine {
     pub checksum: String,
 }
 
-/// An object, or a rolled-up name.
+/// What a listing shows by itself.
+pub trait Single {
+    ghost Item: { Type 0 };
+
+    /// What is seen of it.
+    ghost seen: { Self → Item };
+}
+
+impl Single for ObjectLine {
+    ghost Item = { ObjectItem };
+
+    ghost seen = { seen_object };
+}
+
+/// What a listing shows by itself, or a rolled-up name.
 #[derive(Drop)]
-pub enum Listed {
-    Object(ObjectLine),
+pub enum Listed<T> {
+    Single(T),
     Common(Vec<u8>),
 }
 
 /// What a page has so far.
 #[derive(Drop)]
-pub struct Gathering {
-    /// The key of the row before.
+pub struct Gathering<T> {
+    /// The key of the row before, where it matters.
     pub key: Option<Vec<u8>>,
     /// The rolled-up name that was listed last, if nothing was listed since.
     pub name: Option<Vec<u8>>,
-    pub entries: Vec<Listed>,
+    pub entries: Vec<Listed<T>>,
 }
 
 /// Whether a text is this one.
@@ -107,29 +121,30 @@ impl PageAsked<'_> {
     }
 }
 
-impl Gathering {
-    pub fn new(alloc: Global) -> Gathering
-        ensures { seen result ≡ nothing_gathered }
+impl<T: Single + Drop> Gathering<T> {
+    /// Nothing yet, after rows of this key, if it matters.
+    pub fn new(alloc: Global, key: Option<Vec<u8>>) -> Gathering<T>
+        ensures { gathered_by T.seen result ≡ record { key = option_map (λ k. k.items) key; name = None; entries = [] } }
     {
         Gathering {
-            key: None,
+            key,
             name: None,
             entries: Vec::new(alloc),
         }
     }
 
-    /// Lists an object.
-    pub fn list_object(&mut self, object: ObjectLine) -> Result<(), AllocError>
-        ensures { OnOk result (seen self.new ≡ with_entry (seen self.old) (Single (seen_object object))) }
+    /// Lists what a listing shows by itself.
+    pub fn list_single(&mut self, single: T) -> Result<(), AllocError>
+        ensures { OnOk result (gathered_by T.seen self.new ≡ with_entry (gathered_by T.seen self.old) (Single (T.seen single))) }
     {
         self.name = None;
-        self.entries.push(Listed::Object(object))?;
+        self.entries.push(Listed::Single(single))?;
         Ok(())
     }
 
     /// Lists a rolled-up name, unless it was the last.
     pub fn list_name(&mut self, alloc: Global, name: &[u8]) -> Result<(), AllocError>
-        ensures { OnOk result (seen self.new ≡ with_entry (seen self.old) (Common name.now)) }
+        ensures { OnOk result (gathered_by T.seen self.new ≡ with_entry (gathered_by T.seen self.old) (Common name.now)) }
     {
         if is_text(&self.name, name) {
             return Ok(());
@@ -139,7 +154,9 @@ impl Gathering {
         self.entries.push(Listed::Common(listed))?;
         Ok(())
     }
+}
 
+impl Gathering<ObjectLine> {
     /// Lists an object of a key under the prefix, or the name that it is rolled up under, if the page may.
     pub fn add_item(
         &mut self,
@@ -155,7 +172,7 @@ impl Gathering {
                 if !asked.is_past(line.key.as_slice()) {
                     return Ok(());
                 }
-                self.list_object(ObjectLine {
+                self.list_single(ObjectLine {
                     key: Vec::from_slice(alloc, line.key.as_slice())?,
                     stamp: line.stamp,
                     size: line.size,

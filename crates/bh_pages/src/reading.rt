@@ -4,13 +4,13 @@ ghost use Rattle.std.specs.Prelude.{◌≡◌, IfOk, OnOk};
 ghost use Rattle.bh_pages.specs.Seen.{seen};
 ghost use Rattle.bh_pages.specs.Reading.{IsCount, GoesOn, AreRows, IsUnderway, Took};
 
-use crate::gathering::{Gathering, Line, Listed, PageAsked};
+use crate::gathering::{Gathering, Line, Listed, ObjectLine, PageAsked};
 use std::alloc::{AllocError, Global};
 
 /// How far the reading of a page has come.
 #[derive(Drop)]
 pub struct Reading {
-    pub gathering: Gathering,
+    pub gathering: Gathering<ObjectLine>,
     /// The least key of the rows that are read next.
     pub from: Vec<u8>,
     /// How many rows are read next at most: 1 to 64.
@@ -39,7 +39,7 @@ pub(crate) fn next_count(gave: usize) -> u64
 fn past_last(
     alloc: Global,
     asked: &PageAsked<'_>,
-    gathering: &Gathering,
+    gathering: &Gathering<ObjectLine>,
 ) -> Result<Vec<u8>, AllocError>
     ensures { IfOk result (λ from. GoesOn asked.now (seen gathering.now) from.items) }
 {
@@ -57,7 +57,7 @@ impl Reading {
         ensures count { IfOk result (λ reading. IsCount reading.count) }
     {
         Ok(Reading {
-            gathering: Gathering::new(alloc),
+            gathering: Gathering::new(alloc, None),
             from: asked.start(alloc)?,
             count: first_count(asked.max),
         })
@@ -86,7 +86,7 @@ impl Reading {
     }
 
     /// The entries that it found.
-    pub fn into_entries(self) -> Vec<Listed>
+    pub fn into_entries(self) -> Vec<Listed<ObjectLine>>
         ensures { result ≡ self.gathering.entries }
     {
         let gathering = self.gathering;

@@ -1,13 +1,12 @@
 //! A page of uploads that is gathered row by row.
 
 ghost use Rattle.std.specs.Prelude.{◌≡◌, true, map, option_map, OnOk, IfOk};
-ghost use Rattle.bh_model.specs.Pages.{Listed.Single, Listed.Common, begins, rolled};
-ghost use Rattle.bh_pages.specs.Gathered.{with_entry};
+ghost use Rattle.bh_model.specs.Pages.{UploadItem, begins, rolled};
 ghost use Rattle.bh_pages.specs.Reading.{IsCount};
 ghost use Rattle.bh_pages.specs.Versions.{past_row, seen_place};
 ghost use Rattle.bh_pages.specs.Uploads as spec;
 
-use crate::gathering::{PageAsked, is_text, past};
+use crate::gathering::{Gathering, Listed, PageAsked, Single, past};
 use crate::names::name_end;
 use crate::reading::{first_count, next_count};
 use crate::versions::Place;
@@ -23,54 +22,23 @@ pub struct UploadLine {
     pub begun: u64,
 }
 
-/// An upload, or a rolled-up name.
-#[derive(Drop)]
-pub enum ListedUpload {
-    Upload(UploadLine),
-    Common(Vec<u8>),
-}
+impl Single for UploadLine {
+    ghost Item = { UploadItem };
 
-/// What a page has so far.
-#[derive(Drop)]
-pub struct UploadGathering {
-    /// The rolled-up name that was listed last, if nothing was listed since.
-    pub name: Option<Vec<u8>>,
-    pub entries: Vec<ListedUpload>,
+    ghost seen = { spec.seen_line };
 }
 
 /// How far the reading of a page has come.
 #[derive(Drop)]
 pub struct UploadReading {
-    pub gathering: UploadGathering,
+    pub gathering: Gathering<UploadLine>,
     /// Where the rows begin that are read next.
     pub place: Place,
     /// How many rows are read next at most: 1 to 64.
     pub count: u64,
 }
 
-impl UploadGathering {
-    /// Lists an upload.
-    fn list_upload(&mut self, upload: UploadLine) -> Result<(), AllocError>
-        ensures { OnOk result (spec.seen self.new ≡ with_entry (spec.seen self.old) (Single (spec.seen_line upload))) }
-    {
-        self.name = None;
-        self.entries.push(ListedUpload::Upload(upload))?;
-        Ok(())
-    }
-
-    /// Lists a rolled-up name, unless it was the last.
-    fn list_name(&mut self, alloc: Global, name: &[u8]) -> Result<(), AllocError>
-        ensures { OnOk result (spec.seen self.new ≡ with_entry (spec.seen self.old) (Common name.now)) }
-    {
-        if is_text(&self.name, name) {
-            return Ok(());
-        }
-        self.name = Some(Vec::from_slice(alloc, name)?);
-        let listed = Vec::from_slice(alloc, name)?;
-        self.entries.push(ListedUpload::Common(listed))?;
-        Ok(())
-    }
-
+impl Gathering<UploadLine> {
     /// Lists an upload of a key under the prefix, or the name that it is rolled up under, if the page may.
     fn add(
         &mut self,
@@ -83,7 +51,7 @@ impl UploadGathering {
     {
         match name_end(asked.prefix, asked.delimiter, line.key.as_slice()) {
             None => {
-                self.list_upload(UploadLine {
+                self.list_single(UploadLine {
                     key: Vec::from_slice(alloc, line.key.as_slice())?,
                     number: line.number,
                     begun: line.begun,
@@ -180,10 +148,7 @@ impl UploadReading {
         ensures count { IsCount result.count }
     {
         UploadReading {
-            gathering: UploadGathering {
-                name: None,
-                entries: Vec::new(alloc),
-            },
+            gathering: Gathering::new(alloc, None),
             place,
             count: first_count(asked.max),
         }
@@ -215,7 +180,7 @@ impl UploadReading {
     }
 
     /// The entries that it found.
-    pub fn into_entries(self) -> Vec<ListedUpload>
+    pub fn into_entries(self) -> Vec<Listed<UploadLine>>
         ensures { result ≡ self.gathering.entries }
     {
         let gathering = self.gathering;

@@ -1,12 +1,11 @@
 //! A page of versions that is gathered row by row.
 
 ghost use Rattle.std.specs.Prelude.{◌≡◌, true, map, option_map, OnOk, IfOk};
-ghost use Rattle.bh_model.specs.Pages.{Listed.Single, Listed.Common, begins, rolled};
-ghost use Rattle.bh_pages.specs.Gathered.{with_entry};
+ghost use Rattle.bh_model.specs.Pages.{VersionItem, begins, rolled};
 ghost use Rattle.bh_pages.specs.Reading.{IsCount};
 ghost use Rattle.bh_pages.specs.Versions as spec;
 
-use crate::gathering::{PageAsked, is_text, past};
+use crate::gathering::{Gathering, Listed, PageAsked, Single, is_text, past};
 use crate::names::name_end;
 use crate::reading::{first_count, next_count};
 use std::alloc::{AllocError, Global};
@@ -41,21 +40,10 @@ pub struct ShownVersion {
     pub latest: bool,
 }
 
-/// A version, or a rolled-up name.
-#[derive(Drop)]
-pub enum ListedVersion {
-    Version(ShownVersion),
-    Common(Vec<u8>),
-}
+impl Single for ShownVersion {
+    ghost Item = { VersionItem };
 
-/// What a page has so far.
-#[derive(Drop)]
-pub struct VersionGathering {
-    /// The key of the row before.
-    pub key: Option<Vec<u8>>,
-    /// The rolled-up name that was listed last, if nothing was listed since.
-    pub name: Option<Vec<u8>>,
-    pub entries: Vec<ListedVersion>,
+    ghost seen = { spec.seen_version };
 }
 
 /// A place between the rows of versions.
@@ -69,36 +57,14 @@ pub struct Place {
 /// How far the reading of a page has come.
 #[derive(Drop)]
 pub struct VersionReading {
-    pub gathering: VersionGathering,
+    pub gathering: Gathering<ShownVersion>,
     /// Where the rows begin that are read next.
     pub place: Place,
     /// How many rows are read next at most: 1 to 64.
     pub count: u64,
 }
 
-impl VersionGathering {
-    /// Lists a version.
-    fn list_version(&mut self, version: ShownVersion) -> Result<(), AllocError>
-        ensures { OnOk result (spec.seen self.new ≡ with_entry (spec.seen self.old) (Single (spec.seen_version version))) }
-    {
-        self.name = None;
-        self.entries.push(ListedVersion::Version(version))?;
-        Ok(())
-    }
-
-    /// Lists a rolled-up name, unless it was the last.
-    fn list_name(&mut self, alloc: Global, name: &[u8]) -> Result<(), AllocError>
-        ensures { OnOk result (spec.seen self.new ≡ with_entry (spec.seen self.old) (Common name.now)) }
-    {
-        if is_text(&self.name, name) {
-            return Ok(());
-        }
-        self.name = Some(Vec::from_slice(alloc, name)?);
-        let listed = Vec::from_slice(alloc, name)?;
-        self.entries.push(ListedVersion::Common(listed))?;
-        Ok(())
-    }
-
+impl Gathering<ShownVersion> {
     /// Lists a version of a key under the prefix, or the name that it is rolled up under, if the page may.
     fn add_entry(
         &mut self,
@@ -112,7 +78,7 @@ impl VersionGathering {
     {
         match name_end(asked.prefix, asked.delimiter, line.key.as_slice()) {
             None => {
-                self.list_version(ShownVersion {
+                self.list_single(ShownVersion {
                     key: Vec::from_slice(alloc, line.key.as_slice())?,
                     id: line.id,
                     marker: line.marker,
@@ -233,11 +199,7 @@ impl VersionReading {
         ensures count { IsCount result.count }
     {
         VersionReading {
-            gathering: VersionGathering {
-                key,
-                name: None,
-                entries: Vec::new(alloc),
-            },
+            gathering: Gathering::new(alloc, key),
             place,
             count: first_count(asked.max),
         }
@@ -269,7 +231,7 @@ impl VersionReading {
     }
 
     /// The entries that it found.
-    pub fn into_entries(self) -> Vec<ListedVersion>
+    pub fn into_entries(self) -> Vec<Listed<ShownVersion>>
         ensures { result ≡ self.gathering.entries }
     {
         let gathering = self.gathering;

@@ -1,6 +1,6 @@
 use Rattle.std.proofs.Common.{◌≡◌, map, drop}
 use Rattle.bh_pages.specs.Uploads.{seen, seen_line, uploads_added, AreUnder}
-use Rattle.bh_pages.proofs.uploads.UploadGathering.add_all.Given as goal
+use Rattle.bh_pages.proofs.uploads.Gathering+UploadLine.add_all.Given as goal
 
 -- with the rows that are left it comes to the same
 abbrev pub invariant-loop-line : goal.invariant-loop-line

@@ -2,7 +2,7 @@ use Rattle.std.proofs.Common.{◌≡◌, true, map, drop}
 use Rattle.std.specs.List.{AllByRecursion}
 use Rattle.bh_model.specs.Pages.{begins}
 use Rattle.bh_pages.specs.Seen.{seen, seen_line, rows_added}
-use Rattle.bh_pages.proofs.gathering.Gathering.add_all.Given as goal
+use Rattle.bh_pages.proofs.gathering.Gathering+ObjectLine.add_all.Given as goal
 
 -- with the rows that are left it comes to the same
 abbrev pub invariant-loop-line : goal.invariant-loop-line

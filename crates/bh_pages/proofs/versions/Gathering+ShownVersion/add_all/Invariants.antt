@@ -1,6 +1,6 @@
 use Rattle.std.proofs.Common.{◌≡◌, map, drop}
 use Rattle.bh_pages.specs.Versions.{seen, seen_line, rows_added, AreUnder}
-use Rattle.bh_pages.proofs.versions.VersionGathering.add_all.Given as goal
+use Rattle.bh_pages.proofs.versions.Gathering+ShownVersion.add_all.Given as goal
 
 -- with the rows that are left it comes to the same
 abbrev pub invariant-loop-line : goal.invariant-loop-line
