@@ -25,6 +25,7 @@ use Rattle.bh_objects.specs.Found.{mode_in}
 use Rattle.bh_objects.proofs.Putting.{has_bucket}
 use Rattle.bh_pages.specs.declared.gathering.PageAsked.{PageAsked}
 use Rattle.bh_pages.specs.declared.gathering.Listed as program
+use Rattle.bh_pages.specs.declared.gathering.ObjectLine.{ObjectLine}
 use Rattle.bh_pages.specs.Seen.{seen_entry, token_of}
 use Rattle.bh_pages.specs.Reading.{listing}
 use Rattle.bh_pages.proofs.Taking.{all_to_come}
@@ -92,7 +93,7 @@ module _ (tables : Tables) (t b : Octets) (sound : IsSound tables) where
 
   -- the same of what a call has at hand
   pub list_is : (mode : BucketState) → mode_in b (view tables t) ≡ Ok mode → (asked : PageAsked) (current : Tables) (tenant bucket name : Octets) → current ≡ tables → tenant ≡ t → bucket ≡ b → name ≡ b
-      → (es slice : List program.Listed) → slice ≡ es → map seen_entry es ≡ take (suc asked.max) (listing asked (map row_shown (bucket_rows tenant bucket asked.prefix.now current.versions)))
+      → (es slice : List (program.Listed ObjectLine)) → slice ≡ es → map seen_entry es ≡ take (suc asked.max) (listing asked (map row_shown (bucket_rows tenant bucket asked.prefix.now current.versions)))
       → (page : ObjectsListed) → page ≡ objects_told name (asked_view asked) (paged asked.max (map seen_entry slice)) → objects_listed b (asked_view asked) (token_of asked) (view tables t) ≡ Ok page
   list_is mode found asked current tenant bucket name is_now is_t is_b is_name es slice is_slice gathered page told =
       lists mode found asked (map seen_entry es) (gathered ∙ (λ i. take (suc asked.max) (listing asked (map row_shown (bucket_rows (is_t i) (is_b i) asked.prefix.now ((is_now i).versions))))))

@@ -2,7 +2,6 @@ pub mod RowLemmas
 pub mod LineLemmas
 pub mod VersionTexts
 pub mod VersionViewed
-pub mod TellingVersions
 pub mod ListLemmas
 pub mod Small
 pub mod Looping

@@ -21,7 +21,8 @@ use Rattle.bh_view.proofs.ViewLemmas.{own_row}
 use Rattle.bh_objects.specs.Found.{mode_in}
 use Rattle.bh_objects.proofs.Putting.{has_bucket}
 use Rattle.bh_pages.specs.declared.gathering.PageAsked.{PageAsked}
-use Rattle.bh_pages.specs.declared.versions.ListedVersion.{ListedVersion}
+use Rattle.bh_pages.specs.declared.gathering.Listed as program
+use Rattle.bh_pages.specs.declared.versions.ShownVersion.{ShownVersion}
 use Rattle.bh_pages.specs.Seen.{token_of}
 use Rattle.bh_pages.specs.Versions.{items_next, seen_entry}
 use Rattle.bh_pages.proofs.VersionRows.{filter_twice}
@@ -67,7 +68,7 @@ module _ (tables : Tables) (t b : Octets) (sound : IsSound tables) where
 
   -- the same of what a call has at hand
   pub list_is : (mode : BucketState) → mode_in b (view tables t) ≡ Ok mode → (asked : PageAsked) (version : Wanted) (current : Tables) (tenant bucket name : Octets) → current ≡ tables → tenant ≡ t → bucket ≡ b → name ≡ b
-      → (es slice : List ListedVersion) → slice ≡ es → map seen_entry es ≡ take (suc asked.max) (versions_of_rows asked version (own_rows tenant bucket current.versions))
+      → (es slice : List (program.Listed ShownVersion)) → slice ≡ es → map seen_entry es ≡ take (suc asked.max) (versions_of_rows asked version (own_rows tenant bucket current.versions))
       → (page : VersionsListed) → page ≡ versions_told name (asked_view asked) (paged asked.max (map seen_entry slice)) → versions_listed b (asked_view asked) (place_view asked version) (view tables t) ≡ Ok page
   list_is mode found asked version current tenant bucket name is_now is_t is_b is_name es slice is_slice gathered page told =
       lists mode found asked version (map seen_entry es) (gathered ∙ (λ i. take (suc asked.max) (versions_of_rows asked version (own_rows (is_t i) (is_b i) ((is_now i).versions)))))

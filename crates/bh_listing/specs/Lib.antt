@@ -1,3 +1,4 @@
 pub mod Rows
 pub mod Told
+pub mod Telling
 pub mod Versions

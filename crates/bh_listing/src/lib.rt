@@ -4,6 +4,7 @@
 mod lines;
 pub mod objects;
 mod rows;
-pub mod told;
+pub mod tell;
+mod told;
 mod told_versions;
 pub mod versions;

@@ -14,10 +14,11 @@ ghost use Rattle.bh_docs.specs.Pages.{page_view};
 ghost use Rattle.bh_listing.specs.Told.{asked_view};
 
 use crate::lines::version_lines;
-use crate::told::told_objects;
+use crate::tell::tell;
+use crate::told::objects_page;
 use bh_docs::ObjectsPage;
 use bh_objects::reads::bucket_state;
-use bh_pages::gathering::{Listed, PageAsked, past};
+use bh_pages::gathering::{Listed, ObjectLine, PageAsked, past};
 use bh_pages::reading::Reading;
 use bh_storage::error::{StepError, Trouble};
 use bh_types::bucket::BucketName;
@@ -33,7 +34,7 @@ fn gather_objects<S: Alter>(
     tenant: &str,
     bucket: &str,
     asked: &PageAsked<'_>,
-) -> Result<Vec<Listed>, Trouble>
+) -> Result<Vec<Listed<ObjectLine>>, Trouble>
     requires working { Works S.Store connection.old }
     ensures within { StaysWithin S.Store connection.old connection.new }
     ensures opens { OnOk result (StaysOpen S.Store connection.old connection.new) }
@@ -81,5 +82,6 @@ pub fn list_objects<S: Alter>(
 {
     bucket_state(connection, tenant, bucket)?;
     let entries = gather_objects(connection, alloc, tenant.as_str(), bucket.as_str(), asked)?;
-    Ok(told_objects(alloc, bucket.as_str(), asked, &entries)?)
+    let told = tell(alloc, bucket.as_str(), asked, &entries)?;
+    Ok(objects_page(told, asked.max))
 }

@@ -18,12 +18,13 @@ ghost use Rattle.bh_listing.specs.Versions.{own_rows, versions_of_rows, listed_f
 ghost use Rattle.bh_listing.specs.Versions.{place_view};
 
 use crate::lines::lines_at;
-use crate::told_versions::told_versions;
+use crate::tell::tell;
+use crate::told_versions::versions_page;
 use bh_docs::VersionsPage;
 use bh_objects::ids::number_of;
 use bh_objects::reads::bucket_state;
-use bh_pages::gathering::{PageAsked, past};
-use bh_pages::versions::{ListedVersion, Place, VersionReading};
+use bh_pages::gathering::{Listed, PageAsked, past};
+use bh_pages::versions::{Place, ShownVersion, VersionReading};
 use bh_schema::rows::versions::version_of_id;
 use bh_schema::trouble::or_trouble;
 use bh_storage::error::{StepError, Trouble};
@@ -147,7 +148,7 @@ fn gather_versions<S: Alter>(
     bucket: &str,
     asked: &PageAsked<'_>,
     start: Start,
-) -> Result<Vec<ListedVersion>, Trouble>
+) -> Result<Vec<Listed<ShownVersion>>, Trouble>
     requires working { Works S.Store connection.old }
     requires under { IsUnder asked.now.prefix.now start.place.key.items start.place.after }
     ensures within { StaysWithin S.Store connection.old connection.new }
@@ -185,7 +186,7 @@ fn page_entries<S: Alter>(
     bucket: &str,
     asked: &PageAsked<'_>,
     version: Wanted,
-) -> Result<Vec<ListedVersion>, Trouble>
+) -> Result<Vec<Listed<ShownVersion>>, Trouble>
     requires working { Works S.Store connection.old }
     ensures within { StaysWithin S.Store connection.old connection.new }
     ensures opens { OnOk result (StaysOpen S.Store connection.old connection.new) }
@@ -225,5 +226,6 @@ pub fn list_versions<S: Alter>(
         asked,
         version,
     )?;
-    Ok(told_versions(alloc, bucket.as_str(), asked, &entries)?)
+    let told = tell(alloc, bucket.as_str(), asked, &entries)?;
+    Ok(versions_page(told, asked.max))
 }

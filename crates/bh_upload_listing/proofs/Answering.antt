@@ -19,7 +19,8 @@ use Rattle.bh_view.proofs.ViewLemmas.{own_row}
 use Rattle.bh_objects.specs.Found.{mode_in}
 use Rattle.bh_objects.proofs.Putting.{has_bucket}
 use Rattle.bh_pages.specs.declared.gathering.PageAsked.{PageAsked}
-use Rattle.bh_pages.specs.declared.uploads.ListedUpload.{ListedUpload}
+use Rattle.bh_pages.specs.declared.gathering.Listed as program
+use Rattle.bh_pages.specs.declared.uploads.UploadLine.{UploadLine}
 use Rattle.bh_pages.specs.Uploads.{seen_entry}
 use Rattle.bh_pages.specs.Places.{Place}
 use Rattle.bh_listing.specs.Told.{asked_view}
@@ -53,7 +54,7 @@ module _ (tables : Tables) (t b : Octets) (sound : IsSound tables) where
 
   -- the same of what a call has at hand
   pub list_is : (mode : BucketState) → mode_in b (view tables t) ≡ Ok mode → (asked : PageAsked) (upload : Option UploadId) (current : Tables) (tenant bucket name : Octets) → current ≡ tables → tenant ≡ t → bucket ≡ b → name ≡ b
-      → (es slice : List ListedUpload) → slice ≡ es → map seen_entry es ≡ take (suc asked.max) (uploads_of_items asked upload (own_items tenant bucket current.uploads))
+      → (es slice : List (program.Listed UploadLine)) → slice ≡ es → map seen_entry es ≡ take (suc asked.max) (uploads_of_items asked upload (own_items tenant bucket current.uploads))
       → (page : UploadsListed) → page ≡ uploads_told name (asked_view asked) (paged asked.max (map seen_entry slice)) → uploads_listed b (asked_view asked) (place_view asked upload) (view tables t) ≡ Ok page
   list_is mode found asked upload current tenant bucket name is_now is_t is_b is_name es slice is_slice gathered page told =
       lists mode found asked upload (map seen_entry es) (gathered ∙ (λ i. take (suc asked.max) (uploads_of_items asked upload (own_items (is_t i) (is_b i) ((is_now i).uploads)))))

@@ -1,5 +1,4 @@
 pub mod Texts
-pub mod TellingUploads
 pub mod Starting
 pub mod Sorting
 pub mod Viewed

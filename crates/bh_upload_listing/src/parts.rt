@@ -14,10 +14,10 @@ ghost use Rattle.bh_upload_listing.specs.Parts.{seen_part};
 
 use crate::rows::part_rows;
 use bh_docs::{PartEntry, PartsPage};
+use bh_listing::tell::{last_shown, moment_of, shown_of};
 use bh_schema::trouble::or_trouble;
 use bh_storage::error::{StepError, Trouble};
 use bh_types::id::UploadId;
-use bh_types::moment::Moment;
 use bh_types::refusal::Refusal;
 use bh_uploads::reads::{NamedUpload, found_upload};
 use sqlite::{Alter, Connection, Error, Row};
@@ -88,16 +88,13 @@ fn part_lines<S: Alter>(
     or_trouble(read_lines(alloc, &rows))
 }
 
-/// A part, as it is told. A moment that is none can't be read.
+/// A part, as it is told.
 fn part_entry(alloc: Global, line: &PartLine) -> Result<PartEntry, Trouble>
     ensures { IfOk result (λ entry. part_view entry ≡ seen_part line.now) }
 {
-    let Some(modified) = Moment::new(line.stamp) else {
-        return Err(Trouble::Store);
-    };
     Ok(PartEntry {
         checksum: String::from_str(alloc, line.checksum.as_str())?,
-        modified,
+        modified: moment_of(line.stamp)?,
         number: line.number,
         size: line.size,
     })
@@ -114,25 +111,14 @@ fn part_entries(alloc: Global, lines: &[PartLine]) -> Result<Vec<PartEntry>, Tro
     Ok(parts)
 }
 
-/// The parts that a page shows.
-fn shown_lines(lines: &[PartLine], max: u32) -> &[PartLine]
-    ensures { result.now ≡ take max lines.now }
-{
-    if lines.len() > max as usize {
-        &lines[..max as usize]
-    } else {
-        lines
-    }
-}
-
 /// The number after which the next page begins, where this one is truncated.
 fn next_number(lines: &[PartLine], max: u32) -> Option<u32>
     ensures { result ≡ option_map (λ (p : PartItem). p.number) (paged max (map seen_part lines.now)).next }
 {
-    if max == 0 || lines.len() <= max as usize {
+    let Some(last) = last_shown(lines, max) else {
         return None;
-    }
-    Some(lines[max as usize - 1].number)
+    };
+    Some(last.number)
 }
 
 /// What a page tells of these parts, which are those that it takes, and one more, if there is one.
@@ -146,7 +132,7 @@ fn told_parts(
     ensures { IfOk result (λ page. parts_view page
         ≡ parts_told upload.now.bucket.now upload.now.key.now (record { number = number }) max (paged max (map seen_part lines.now))) }
 {
-    let shown = shown_lines(lines, max);
+    let shown = shown_of(lines, max);
     Ok(PartsPage {
         bucket: String::from_str(alloc, upload.bucket.as_str())?,
         key: String::from_str(alloc, upload.key.as_str())?,

@@ -17,11 +17,12 @@ ghost use Rattle.bh_upload_listing.specs.Rows.{own_items};
 ghost use Rattle.bh_upload_listing.specs.Places.{place_view, uploads_of_items, marked, place_by, listed_from};
 
 use crate::lines::lines_at;
-use crate::told_uploads::told_uploads;
+use crate::told_uploads::uploads_page;
 use bh_docs::UploadsPage;
+use bh_listing::tell::tell;
 use bh_objects::reads::bucket_state;
-use bh_pages::gathering::{PageAsked, past};
-use bh_pages::uploads::{ListedUpload, UploadReading};
+use bh_pages::gathering::{Listed, PageAsked, past};
+use bh_pages::uploads::{UploadLine, UploadReading};
 use bh_pages::versions::Place;
 use bh_storage::error::{StepError, Trouble};
 use bh_types::bucket::BucketName;
@@ -90,7 +91,7 @@ fn gather_uploads<S: Alter>(
     bucket: &str,
     asked: &PageAsked<'_>,
     place: Place,
-) -> Result<Vec<ListedUpload>, Trouble>
+) -> Result<Vec<Listed<UploadLine>>, Trouble>
     requires working { Works S.Store connection.old }
     requires under { IsUnder asked.now.prefix.now place.key.items place.after }
     ensures within { StaysWithin S.Store connection.old connection.new }
@@ -128,7 +129,7 @@ fn page_entries<S: Alter>(
     bucket: &str,
     asked: &PageAsked<'_>,
     upload: Option<UploadId>,
-) -> Result<Vec<ListedUpload>, Trouble>
+) -> Result<Vec<Listed<UploadLine>>, Trouble>
     requires working { Works S.Store connection.old }
     ensures within { StaysWithin S.Store connection.old connection.new }
     ensures opens { OnOk result (StaysOpen S.Store connection.old connection.new) }
@@ -168,5 +169,6 @@ pub fn list_uploads<S: Alter>(
         asked,
         upload,
     )?;
-    Ok(told_uploads(alloc, bucket.as_str(), asked, &entries)?)
+    let told = tell(alloc, bucket.as_str(), asked, &entries)?;
+    Ok(uploads_page(told, asked.max))
 }

@@ -1,10 +1,13 @@
-use Rattle.std.proofs.Common.{Some, ap, sym, ◌∙◌, option_map}
+use Rattle.std.proofs.Common.{Some, None, option_map, ap, sym, ◌∙◌}
 use Rattle.bh_model.specs.Pages.{PartItem}
-use Rattle.bh_listing.proofs.Telling.{next_shown, not_zero}
+use Rattle.bh_listing.proofs.Telling.{next_told}
 use Rattle.bh_upload_listing.specs.Parts.{seen_part}
-use Rattle.bh_upload_listing.specs.declared.parts.PartLine.{PartLine}
 use Rattle.bh_upload_listing.proofs.parts.next_number.Goals as goal
 
+pub returns-in_default : goal.returns-in_default
+returns-in_default c =
+    sym (next_told seen_part (λ (p : PartItem). p.number) c.args.max c.args.lines.now None (sym (ap (option_map (λ x. x.now)) c.in_default.is) ∙ c.last_shown.ensures))
+
 pub returns : goal.returns
-returns c = ap (λ (l : PartLine). Some l.number) (sym c.index-lines-max.is) ∙ ap (option_map (λ (p : PartItem). p.number))
-    (sym (next_shown seen_part c.args.lines.now c.args.max c.index-lines-max.result (not_zero c.args.max c.if-max-eq0.false) c.if-lines-max.false c.index-lines-max.is))
+returns c =
+    sym (next_told seen_part (λ (p : PartItem). p.number) c.args.max c.args.lines.now (Some c.in-Some.last.now) (sym (ap (option_map (λ x. x.now)) c.in-Some.is) ∙ c.last_shown.ensures))

@@ -9,6 +9,6 @@ returns c = λ i. record {
   key = (c.in_ok-from_str-2.ensures.ok ∙ c.as_str-2.ensures.value) i;
   upload = record { number = c.args.number };
   max = c.args.max;
-  parts = (c.in_ok-part_entries.ensures ∙ ap (map seen_part) c.shown_lines-shown.ensures ∙ sym (take_map seen_part c.args.max c.args.lines.now)) i;
+  parts = (c.in_ok-part_entries.ensures ∙ ap (map seen_part) c.shown_of-shown.ensures ∙ sym (take_map seen_part c.args.max c.args.lines.now)) i;
   next = c.next_number.ensures i;
 }
