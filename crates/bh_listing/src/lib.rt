@@ -6,5 +6,6 @@ pub mod objects;
 mod rows;
 pub mod tell;
 mod told;
+pub mod told_uploads;
 mod told_versions;
 pub mod versions;

@@ -4,5 +4,4 @@
 mod lines;
 pub mod parts;
 mod rows;
-mod told_uploads;
 pub mod uploads;

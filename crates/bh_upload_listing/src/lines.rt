@@ -1,13 +1,14 @@
 //! The rows of a listing of uploads as they are read.
 
-ghost use Rattle.std.specs.Prelude.{◌≡◌, ◌<◌, ◌^◌, map, IfOk, OnOk};
+ghost use Rattle.std.specs.Prelude.{◌≡◌, ◌<◌, ◌^◌, map, IfOk};
 ghost use Rattle.bh_tables.specs.Typed.{UploadRow};
 ghost use Rattle.bh_pages.specs.Uploads.{seen_line};
-ghost use Rattle.bh_schema.specs.Connections.{IsClean, tables, InTransaction, StaysWithin, StaysOpen, ChangesNothing};
+ghost use Rattle.bh_schema.specs.Calls.{MayRead};
+ghost use Rattle.bh_schema.specs.Connections.{IsClean, tables, InTransaction};
 ghost use Rattle.bh_upload_listing.specs.Rows.{shown_listed, row_item, place_rows};
 
 use crate::rows::{later_rows, upload_rows};
-use bh_pages::uploads::UploadLine;
+use bh_pages::uploads::{UploadLine, UploadReading};
 use bh_pages::versions::Place;
 use bh_schema::trouble::or_trouble;
 use bh_storage::error::Trouble;
@@ -45,9 +46,7 @@ fn rows_at<S: Alter>(
 ) -> Result<Vec<Row>, Trouble>
     requires inside { InTransaction S.Store connection.old }
     requires small { count < 2 ^ 63 }
-    ensures within { StaysWithin S.Store connection.old connection.new }
-    ensures opens { OnOk result (StaysOpen S.Store connection.old connection.new) }
-    ensures same { OnOk result (ChangesNothing S.Store connection.old connection.new) }
+    ensures reads { MayRead S.Store connection.old connection.new result }
     ensures rows { IfOk result (λ rows. IsClean S.Store connection.new
         → rows.items ≡ map shown_listed
         (place_rows tenant.now bucket.now place.now.key.items place.now.after upto.now count (tables S.Store connection.old).uploads)) }
@@ -63,25 +62,29 @@ fn rows_at<S: Alter>(
     }
 }
 
-/// The first uploads of a bucket at a place, with a key before a text, at most as many as this, by key and number.
+/// The first uploads of a bucket that a reading of a page comes to, with a key before a text, by key and number.
 pub fn lines_at<S: Alter>(
     connection: &mut Connection<S>,
     alloc: Global,
     tenant: &str,
     bucket: &str,
-    place: &Place,
+    reading: &UploadReading,
     upto: &[u8],
-    count: u64,
 ) -> Result<Vec<UploadLine>, Trouble>
     requires inside { InTransaction S.Store connection.old }
-    requires small { count < 2 ^ 63 }
-    ensures within { StaysWithin S.Store connection.old connection.new }
-    ensures opens { OnOk result (StaysOpen S.Store connection.old connection.new) }
-    ensures same { OnOk result (ChangesNothing S.Store connection.old connection.new) }
+    requires small { reading.now.count < 2 ^ 63 }
+    ensures reads { MayRead S.Store connection.old connection.new result }
     ensures lines { IfOk result (λ lines. IsClean S.Store connection.new
-        → map seen_line lines.items ≡ map row_item
-        (place_rows tenant.now bucket.now place.now.key.items place.now.after upto.now count (tables S.Store connection.old).uploads)) }
+        → map seen_line lines.items ≡ map row_item (place_rows tenant.now bucket.now reading.now.place.key.items
+        reading.now.place.after upto.now reading.now.count (tables S.Store connection.old).uploads)) }
 {
-    let rows = rows_at(connection, tenant, bucket, place, upto, count)?;
+    let rows = rows_at(
+        connection,
+        tenant,
+        bucket,
+        &reading.place,
+        upto,
+        reading.count,
+    )?;
     or_trouble(read_lines(alloc, &rows))
 }

@@ -1,8 +1,9 @@
 //! The parts of an upload, a page at a time.
 
-ghost use Rattle.std.specs.Prelude.{◌≡◌, ◌<◌, ◌^◌, map, option_map, take, IfOk, OnOk};
+ghost use Rattle.std.specs.Prelude.{◌≡◌, ◌<◌, ◌^◌, map, option_map, IfOk};
 ghost use Rattle.bh_tables.specs.Typed.{PartRow};
-ghost use Rattle.bh_schema.specs.Connections.{IsClean, tables, InTransaction, StaysWithin, StaysOpen, ChangesNothing};
+ghost use Rattle.bh_schema.specs.Calls.{MayRead};
+ghost use Rattle.bh_schema.specs.Connections.{IsClean, tables, InTransaction, StaysWithin, StaysOpen};
 ghost use Rattle.bh_schema.specs.Working.{Works, StillWorks};
 ghost use Rattle.bh_model.specs.Listings.{list_parts};
 ghost use Rattle.bh_model.specs.Operations.{Parts};
@@ -78,9 +79,7 @@ fn part_lines<S: Alter>(
     requires upload { upload < 2 ^ 62 }
     requires early { after < 2 ^ 63 }
     requires small { count < 2 ^ 63 }
-    ensures within { StaysWithin S.Store connection.old connection.new }
-    ensures opens { OnOk result (StaysOpen S.Store connection.old connection.new) }
-    ensures same { OnOk result (ChangesNothing S.Store connection.old connection.new) }
+    ensures reads { MayRead S.Store connection.old connection.new result }
     ensures lines { IfOk result (λ lines. IsClean S.Store connection.new
         → map seen_part lines.items ≡ map part_item (parts_from tenant.now upload after count (tables S.Store connection.old).parts)) }
 {

@@ -1,5 +1,6 @@
-ghost use Rattle.std.specs.Prelude.{◌≡◌, ◌<◌, ◌^◌, map, IfOk, IfErr, OnOk};
-ghost use Rattle.bh_schema.specs.Connections.{IsClean, tables, InTransaction, StaysWithin, WasOpen, ChangesNothing, IsTrouble};
+ghost use Rattle.std.specs.Prelude.{◌≡◌, ◌<◌, ◌^◌, map, IfOk, IfErr};
+ghost use Rattle.bh_schema.specs.Calls.{Reads};
+ghost use Rattle.bh_schema.specs.Connections.{IsClean, tables, InTransaction, IsTrouble};
 ghost use Rattle.bh_upload_listing.specs.Rows as spec;
 ghost use Rattle.bh_upload_listing.specs.Rows.{shown_listed, listed_rows, shown_part, parts_from};
 
@@ -18,9 +19,7 @@ pub fn upload_rows<S: Alter>(
 ) -> Result<Vec<Row>, Error>
     requires inside { InTransaction S.Store connection.old }
     requires small { count < 2 ^ 63 }
-    ensures within { StaysWithin S.Store connection.old connection.new }
-    ensures opens { OnOk result (WasOpen S.Store connection.old connection.new) }
-    ensures same { OnOk result (ChangesNothing S.Store connection.old connection.new) }
+    ensures reads { Reads S.Store connection.old connection.new result }
     ensures rows { IfOk result (λ rows. IsClean S.Store connection.new
         → rows.items ≡ map shown_listed
         (listed_rows tenant.now bucket.now from.now upto.now count (tables S.Store connection.old).uploads)) }
@@ -50,9 +49,7 @@ pub fn later_rows<S: Alter>(
     requires inside { InTransaction S.Store connection.old }
     requires early { after < 2 ^ 63 }
     requires small { count < 2 ^ 63 }
-    ensures within { StaysWithin S.Store connection.old connection.new }
-    ensures opens { OnOk result (WasOpen S.Store connection.old connection.new) }
-    ensures same { OnOk result (ChangesNothing S.Store connection.old connection.new) }
+    ensures reads { Reads S.Store connection.old connection.new result }
     ensures rows { IfOk result (λ rows. IsClean S.Store connection.new
         → rows.items ≡ map shown_listed
         (spec.later_rows tenant.now bucket.now okey.now after count (tables S.Store connection.old).uploads)) }
@@ -82,9 +79,7 @@ pub fn part_rows<S: Alter>(
     requires upload { upload < 2 ^ 63 }
     requires early { after < 2 ^ 63 }
     requires small { count < 2 ^ 63 }
-    ensures within { StaysWithin S.Store connection.old connection.new }
-    ensures opens { OnOk result (WasOpen S.Store connection.old connection.new) }
-    ensures same { OnOk result (ChangesNothing S.Store connection.old connection.new) }
+    ensures reads { Reads S.Store connection.old connection.new result }
     ensures rows { IfOk result (λ rows. IsClean S.Store connection.new
         → rows.items ≡ map shown_part (parts_from tenant.now upload after count (tables S.Store connection.old).parts)) }
     ensures trouble { IfErr result (IsTrouble S.Store connection.old connection.new) }

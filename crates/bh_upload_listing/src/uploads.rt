@@ -1,7 +1,8 @@
 //! The uploads of a bucket, a page at a time.
 
-ghost use Rattle.std.specs.Prelude.{◌≡◌, ◌^◌, min, map, option_map, IfOk, OnOk};
-ghost use Rattle.bh_schema.specs.Connections.{IsClean, tables, StaysWithin, StaysOpen, ChangesNothing};
+ghost use Rattle.std.specs.Prelude.{◌≡◌, ◌^◌, min, map, option_map, IfOk};
+ghost use Rattle.bh_schema.specs.Calls.{MayRead};
+ghost use Rattle.bh_schema.specs.Connections.{IsClean, tables, StaysWithin, StaysOpen};
 ghost use Rattle.bh_schema.specs.Working.{Works, StillWorks};
 ghost use Rattle.bh_model.specs.Listings.{list_uploads};
 ghost use Rattle.bh_model.specs.Operations.{Uploads};
@@ -14,12 +15,12 @@ ghost use Rattle.bh_pages.specs.Versions.{seen_place};
 ghost use Rattle.bh_docs.specs.Pages.{uploads_view};
 ghost use Rattle.bh_listing.specs.Told.{asked_view};
 ghost use Rattle.bh_upload_listing.specs.Rows.{own_items};
-ghost use Rattle.bh_upload_listing.specs.Places.{place_view, uploads_of_items, marked, place_by, listed_from};
+ghost use Rattle.bh_upload_listing.specs.Places.{place_view, marked, place_by, listed_from};
 
 use crate::lines::lines_at;
-use crate::told_uploads::uploads_page;
 use bh_docs::UploadsPage;
 use bh_listing::tell::tell;
+use bh_listing::told_uploads::uploads_page;
 use bh_objects::reads::bucket_state;
 use bh_pages::gathering::{Listed, PageAsked, past};
 use bh_pages::uploads::{UploadLine, UploadReading};
@@ -94,9 +95,7 @@ fn gather_uploads<S: Alter>(
 ) -> Result<Vec<Listed<UploadLine>>, Trouble>
     requires working { Works S.Store connection.old }
     requires under { IsUnder asked.now.prefix.now place.key.items place.after }
-    ensures within { StaysWithin S.Store connection.old connection.new }
-    ensures opens { OnOk result (StaysOpen S.Store connection.old connection.new) }
-    ensures same { OnOk result (ChangesNothing S.Store connection.old connection.new) }
+    ensures reads { MayRead S.Store connection.old connection.new result }
     ensures gathered { IfOk result (λ entries. IsClean S.Store connection.new
         → IsPage asked.now.max (map seen_entry entries.items)
         (listed_from asked.now (seen_place place) (own_items tenant.now bucket.now (tables S.Store connection.old).uploads))) }
@@ -104,42 +103,13 @@ fn gather_uploads<S: Alter>(
     let upto = past(alloc, asked.prefix, 255)?;
     let mut reading = UploadReading::begin(alloc, asked, place);
     'reading: for _ in 0..u64::MAX {
-        let lines = lines_at(
-            connection,
-            alloc,
-            tenant,
-            bucket,
-            &reading.place,
-            upto.as_slice(),
-            reading.count,
-        )?;
+        let lines = lines_at(connection, alloc, tenant, bucket, &reading, upto.as_slice())?;
         if reading.take(alloc, asked, lines.as_slice())? {
             return Ok(reading.into_entries());
         }
     }
     // So many rows there are not.
     Err(Trouble::Store)
-}
-
-/// What a page of a bucket's uploads takes, and one entry more, if there is one.
-fn page_entries<S: Alter>(
-    connection: &mut Connection<S>,
-    alloc: Global,
-    tenant: &str,
-    bucket: &str,
-    asked: &PageAsked<'_>,
-    upload: Option<UploadId>,
-) -> Result<Vec<Listed<UploadLine>>, Trouble>
-    requires working { Works S.Store connection.old }
-    ensures within { StaysWithin S.Store connection.old connection.new }
-    ensures opens { OnOk result (StaysOpen S.Store connection.old connection.new) }
-    ensures same { OnOk result (ChangesNothing S.Store connection.old connection.new) }
-    ensures gathered { IfOk result (λ entries. IsClean S.Store connection.new
-        → IsPage asked.now.max (map seen_entry entries.items)
-        (uploads_of_items asked.now upload (own_items tenant.now bucket.now (tables S.Store connection.old).uploads))) }
-{
-    let place = start_place(alloc, asked, upload)?;
-    gather_uploads(connection, alloc, tenant, bucket, asked, place)
 }
 
 /// S3's ListMultipartUploads, a page of a bucket's uploads: NoSuchBucket.
@@ -161,13 +131,14 @@ pub fn list_uploads<S: Alter>(
         (tables S.Store connection.old) (tables S.Store connection.new) result }
 {
     bucket_state(connection, tenant, bucket)?;
-    let entries = page_entries(
+    let place = start_place(alloc, asked, upload)?;
+    let entries = gather_uploads(
         connection,
         alloc,
         tenant.as_str(),
         bucket.as_str(),
         asked,
-        upload,
+        place,
     )?;
     let told = tell(alloc, bucket.as_str(), asked, &entries)?;
     Ok(uploads_page(told, asked.max))

@@ -12,4 +12,4 @@ returns g c =
     let new = state g.S.Store c.query_all.new.self in
     let q = question old new (λ v. v.items) (λ t. map shown_part (parts_from c.args.tenant.now c.args.upload c.args.after c.args.count t.parts)) c.query_all.result c.requires.inside
     (parts_shown c.args.tenant.now c.args.upload c.args.after c.args.count old new (ready old c.requires.inside) (λ v. v.items) c.query_all.result h.ok h.err h.survives) in
-    record { within = q.within; opens = q.opens; same = q.same; rows = q.rows; trouble = q.trouble }
+    record { reads = record { within = q.within; opens = q.opens; same = q.same }; rows = q.rows; trouble = q.trouble }

@@ -1,33 +1,46 @@
-use Rattle.std.proofs.Common.{refl, ◌∙◌}
+use Rattle.std.proofs.Common.{refl, map, ◌∙◌}
 use Rattle.sqlite.specs.Held.{state}
 use Rattle.bh_schema.specs.Working.{tables_at}
 use Rattle.bh_objects.proofs.Working.{same_tables, asked_working, works_on, works_then}
 use Rattle.bh_docs.specs.Pages.{uploads_view}
 use Rattle.bh_listing.specs.Told.{asked_view}
-use Rattle.bh_upload_listing.specs.Places.{place_view}
-use Rattle.bh_upload_listing.proofs.Answering.{list_is, list_step}
+use Rattle.bh_pages.specs.Seen.{token_of}
+use Rattle.bh_pages.specs.Uploads.{seen_entry}
+use Rattle.bh_pages.specs.Versions.{seen_place}
+use Rattle.bh_upload_listing.specs.Places.{place_view, marked, place_by}
+use Rattle.bh_upload_listing.specs.Rows.{own_items}
+use Rattle.bh_upload_listing.proofs.Answering.{list_is, list_step, gathered_from}
+use Rattle.bh_upload_listing.proofs.Starting.{begins_so}
+use Rattle.bh_upload_listing.proofs.Viewed.{small_numbers}
 use Rattle.bh_upload_listing.proofs.uploads.list_uploads.Goals as goal
 
 pub returns-clause-carries : goal.returns-clause-carries
 returns-clause-carries g c clean =
     let old = state g.S.Store c.args.connection.now in
     let middle = state g.S.Store c.bucket_state.new.connection in
-    let new = state g.S.Store c.page_entries.new.connection in
-    let before = c.in_ok-entries.ensures.within.follows.clean clean in
+    let new = state g.S.Store c.gather_uploads.new.connection in
+    let before = c.in_ok-entries.ensures.reads.within.follows.clean clean in
     let one = c.in_ok-bucket_state.ensures.decides before in
+    let asked = c.args.asked.now in
+    let t = c.as_str.result.now in
+    let b = c.as_str-2.result.now in
+    let items = own_items t b (tables_at middle).uploads in
+    let sound = (c.in_ok-bucket_state.ensures.working before (λ bytes. bytes)).is.sound in
+    let gathered = gathered_from asked (seen_place c.in_ok-place.place) (place_by asked (marked asked.prefix.now (token_of asked) c.args.upload)) c.args.upload t b (tables_at middle) (tables_at middle) (map seen_entry c.in_ok-entries.entries.items)
+    refl c.in_ok-place.ensures.is (begins_so asked c.args.upload items (small_numbers (tables_at middle) t b sound)) (c.in_ok-entries.ensures.gathered clean) in
     list_step (tables_at old) (tables_at new) c.args.tenant.now c.args.bucket.now (asked_view c.args.asked.now) (place_view c.args.asked.now c.args.upload) (uploads_view c.uploads_page.result)
     (list_is (tables_at old) c.args.tenant.now c.args.bucket.now (c.requires.working (c.in_ok-bucket_state.ensures.within.follows.clean before)).sound c.in_ok-bucket_state.field-0 one.0 c.args.asked.now c.args.upload
     (tables_at middle) c.as_str.result.now c.as_str-2.result.now c.as_str-3.result.now one.1 c.as_str.ensures.value c.as_str-2.ensures.value c.as_str-3.ensures.value c.in_ok-entries.entries.items c.deref.result.now c.deref.ensures.value
-    (c.in_ok-entries.ensures.gathered clean) (uploads_view c.uploads_page.result) (c.uploads_page.ensures c.as_str-3.result.now (asked_view c.args.asked.now) _ refl c.in_ok-told.ensures))
-    (same_tables middle new (c.in_ok-entries.ensures.same clean.intact) ∙ one.1)
+    gathered (uploads_view c.uploads_page.result) (c.uploads_page.ensures c.as_str-3.result.now (asked_view c.args.asked.now) _ refl c.in_ok-told.ensures))
+    (same_tables middle new (c.in_ok-entries.ensures.reads.same clean.intact) ∙ one.1)
 
-pub page_entries-requires : goal.page_entries-requires
-page_entries-requires g c = record { working = λ clean. (c.in_ok-bucket_state.ensures.working clean (λ bytes. bytes)).is }
+pub gather_uploads-requires-clause-working : goal.gather_uploads-requires-clause-working
+gather_uploads-requires-clause-working g c clean = (c.in_ok-bucket_state.ensures.working clean (λ bytes. bytes)).is
 
 pub returns-clause-working : goal.returns-clause-working
 returns-clause-working g c clean =
     let old = state g.S.Store c.args.connection.now in
     let middle = state g.S.Store c.bucket_state.new.connection in
-    let new = state g.S.Store c.page_entries.new.connection in
-    works_then old middle new (c.in_ok-bucket_state.ensures.working (c.in_ok-entries.ensures.within.follows.clean clean))
-    (asked_working middle new (λ up. works_on old middle (c.in_ok-bucket_state.ensures.working up)) c.in_ok-entries.ensures.within c.in_ok-entries.ensures.same clean)
+    let new = state g.S.Store c.gather_uploads.new.connection in
+    works_then old middle new (c.in_ok-bucket_state.ensures.working (c.in_ok-entries.ensures.reads.within.follows.clean clean))
+    (asked_working middle new (λ up. works_on old middle (c.in_ok-bucket_state.ensures.working up)) c.in_ok-entries.ensures.reads.within c.in_ok-entries.ensures.reads.same clean)

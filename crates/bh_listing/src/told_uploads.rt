@@ -7,8 +7,8 @@ ghost use Rattle.bh_pages.specs.Uploads.{seen_line};
 ghost use Rattle.bh_docs.specs.Pages.{upload_view, uploads_view, upload_next_view};
 ghost use Rattle.bh_listing.specs.Telling.{IsTold};
 
+use crate::tell::{Telling, Told, moment_of, text_of};
 use bh_docs::{UploadEntry, UploadsNext, UploadsPage};
-use bh_listing::tell::{Telling, Told, moment_of, text_of};
 use bh_pages::uploads::UploadLine;
 use bh_storage::error::Trouble;
 use bh_types::id::UploadId;

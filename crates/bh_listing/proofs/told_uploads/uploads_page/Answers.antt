@@ -1,5 +1,5 @@
 use Rattle.std.proofs.Common.{sym}
-use Rattle.bh_upload_listing.proofs.told_uploads.uploads_page.Goals as goal
+use Rattle.bh_listing.proofs.told_uploads.uploads_page.Goals as goal
 
 pub returns : goal.returns
 returns c name asked page is told = λ i. record {
