@@ -1,4 +1,4 @@
-use Rattle.std.proofs.Common.{◌≤◌, ◌<◌, ℕ, ap, sym, ◌∙◌, subst, arith, map}
+use Rattle.std.proofs.Common.{rules, ◌≤◌, ◌<◌, ℕ, ap, sym, ◌∙◌, subst, arith, map}
 use Rattle.sqlite.specs.Held.{state}
 use Rattle.bh_tables.specs.Typed.{Tables}
 use Rattle.bh_schema.specs.Working.{tables_at}
@@ -33,10 +33,10 @@ lines_at-requires-clause-small g c = low c.reading.reading.count c.reading.invar
     low n h = omega (arith, h)
 
 pub returns-in_err-lines-clause-reads : goal.returns-in_err-lines-clause-reads
-returns-in_err-lines-clause-reads g c = record { within = within_so_far (state g.S.Store c.args.connection.now) (state g.S.Store c.reading.connection) (state g.S.Store c.lines_at.new.connection) c.reading.invariant.far c.in_err-lines.ensures.reads.within; opens = tt; same = tt }
+returns-in_err-lines-clause-reads g c = record { within = within_so_far (state g.S.Store c.args.connection.now) (state g.S.Store c.reading.connection) (state g.S.Store c.lines_at.new.connection) c.reading.invariant.far c.in_err-lines.ensures.reads.within; opens = search rules; same = search rules }
 
 pub returns-in_err-take-clause-reads : goal.returns-in_err-take-clause-reads
-returns-in_err-take-clause-reads g c = record { within = within_so_far (state g.S.Store c.args.connection.now) (state g.S.Store c.reading.connection) (state g.S.Store c.lines_at.new.connection) c.reading.invariant.far c.in_ok-lines.ensures.reads.within; opens = tt; same = tt }
+returns-in_err-take-clause-reads g c = record { within = within_so_far (state g.S.Store c.args.connection.now) (state g.S.Store c.reading.connection) (state g.S.Store c.lines_at.new.connection) c.reading.invariant.far c.in_ok-lines.ensures.reads.within; opens = search rules; same = search rules }
 
 pub returns-then-branch-clause-reads : goal.returns-then-branch-clause-reads
 returns-then-branch-clause-reads g c =
