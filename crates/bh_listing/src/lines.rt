@@ -1,9 +1,10 @@
 //! The rows of a listing as they are read.
 
-ghost use Rattle.std.specs.Prelude.{◌≡◌, ◌<◌, ◌^◌, map, IfOk, OnOk};
+ghost use Rattle.std.specs.Prelude.{◌≡◌, ◌<◌, ◌^◌, map, IfOk};
 ghost use Rattle.bh_tables.specs.Typed.{VersionRow};
 ghost use Rattle.bh_pages.specs.Seen.{seen_line};
-ghost use Rattle.bh_schema.specs.Connections.{IsClean, tables, InTransaction, StaysWithin, StaysOpen, ChangesNothing};
+ghost use Rattle.bh_schema.specs.Calls.{MayRead};
+ghost use Rattle.bh_schema.specs.Connections.{IsClean, tables, InTransaction};
 ghost use Rattle.bh_pages.specs.Versions as versions;
 ghost use Rattle.bh_listing.specs.Rows.{shown_listed, row_shown, listed_rows};
 ghost use Rattle.bh_listing.specs.Versions.{shown_numbered, row_numbered, place_rows};
@@ -52,9 +53,7 @@ pub fn version_lines<S: Alter>(
 ) -> Result<Vec<Line>, Trouble>
     requires inside { InTransaction S.Store connection.old }
     requires small { count < 2 ^ 63 }
-    ensures within { StaysWithin S.Store connection.old connection.new }
-    ensures opens { OnOk result (StaysOpen S.Store connection.old connection.new) }
-    ensures same { OnOk result (ChangesNothing S.Store connection.old connection.new) }
+    ensures reads { MayRead S.Store connection.old connection.new result }
     ensures lines { IfOk result (λ lines. IsClean S.Store connection.new
         → map seen_line lines.items ≡ map row_shown
         (listed_rows tenant.now bucket.now from.now upto.now count (tables S.Store connection.old).versions)) }
@@ -99,9 +98,7 @@ fn rows_at<S: Alter>(
 ) -> Result<Vec<Row>, Trouble>
     requires inside { InTransaction S.Store connection.old }
     requires small { count < 2 ^ 63 }
-    ensures within { StaysWithin S.Store connection.old connection.new }
-    ensures opens { OnOk result (StaysOpen S.Store connection.old connection.new) }
-    ensures same { OnOk result (ChangesNothing S.Store connection.old connection.new) }
+    ensures reads { MayRead S.Store connection.old connection.new result }
     ensures rows { IfOk result (λ rows. IsClean S.Store connection.new
         → rows.items ≡ map shown_numbered
         (place_rows tenant.now bucket.now place.now.key.items place.now.after upto.now count (tables S.Store connection.old).versions)) }
@@ -130,9 +127,7 @@ pub fn lines_at<S: Alter>(
 ) -> Result<Vec<VersionLine>, Trouble>
     requires inside { InTransaction S.Store connection.old }
     requires small { count < 2 ^ 63 }
-    ensures within { StaysWithin S.Store connection.old connection.new }
-    ensures opens { OnOk result (StaysOpen S.Store connection.old connection.new) }
-    ensures same { OnOk result (ChangesNothing S.Store connection.old connection.new) }
+    ensures reads { MayRead S.Store connection.old connection.new result }
     ensures lines { IfOk result (λ lines. IsClean S.Store connection.new
         → map versions.seen_line lines.items ≡ map row_numbered
         (place_rows tenant.now bucket.now place.now.key.items place.now.after upto.now count (tables S.Store connection.old).versions)) }

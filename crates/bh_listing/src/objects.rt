@@ -1,7 +1,8 @@
 //! The objects of a bucket, a page at a time.
 
-ghost use Rattle.std.specs.Prelude.{map, IfOk, OnOk};
-ghost use Rattle.bh_schema.specs.Connections.{IsClean, tables, StaysWithin, StaysOpen, ChangesNothing};
+ghost use Rattle.std.specs.Prelude.{map, IfOk};
+ghost use Rattle.bh_schema.specs.Calls.{MayRead};
+ghost use Rattle.bh_schema.specs.Connections.{IsClean, tables, StaysWithin, StaysOpen};
 ghost use Rattle.bh_schema.specs.Working.{Works, StillWorks};
 ghost use Rattle.bh_model.specs.Listings.{list_objects};
 ghost use Rattle.bh_model.specs.Operations.{Objects};
@@ -36,9 +37,7 @@ fn gather_objects<S: Alter>(
     asked: &PageAsked<'_>,
 ) -> Result<Vec<Listed<ObjectLine>>, Trouble>
     requires working { Works S.Store connection.old }
-    ensures within { StaysWithin S.Store connection.old connection.new }
-    ensures opens { OnOk result (StaysOpen S.Store connection.old connection.new) }
-    ensures same { OnOk result (ChangesNothing S.Store connection.old connection.new) }
+    ensures reads { MayRead S.Store connection.old connection.new result }
     ensures gathered { IfOk result (λ entries. IsClean S.Store connection.new
         → IsPage asked.now.max (map seen_entry entries.items)
         (listing asked.now (map row_shown

@@ -1,5 +1,6 @@
-ghost use Rattle.std.specs.Prelude.{◌≡◌, ◌<◌, ◌^◌, map, IfOk, IfErr, OnOk};
-ghost use Rattle.bh_schema.specs.Connections.{IsClean, tables, InTransaction, StaysWithin, WasOpen, ChangesNothing, IsTrouble};
+ghost use Rattle.std.specs.Prelude.{◌≡◌, ◌<◌, ◌^◌, map, IfOk, IfErr};
+ghost use Rattle.bh_schema.specs.Calls.{Reads};
+ghost use Rattle.bh_schema.specs.Connections.{IsClean, tables, InTransaction, IsTrouble};
 ghost use Rattle.bh_listing.specs.Rows.{shown_listed, listed_rows};
 ghost use Rattle.bh_listing.specs.Versions as spec;
 ghost use Rattle.bh_listing.specs.Versions.{shown_numbered};
@@ -20,9 +21,7 @@ pub fn version_rows<S: Alter>(
 ) -> Result<Vec<Row>, Error>
     requires inside { InTransaction S.Store connection.old }
     requires small { count < 2 ^ 63 }
-    ensures within { StaysWithin S.Store connection.old connection.new }
-    ensures opens { OnOk result (WasOpen S.Store connection.old connection.new) }
-    ensures same { OnOk result (ChangesNothing S.Store connection.old connection.new) }
+    ensures reads { Reads S.Store connection.old connection.new result }
     ensures rows { IfOk result (λ rows. IsClean S.Store connection.new
         → rows.items ≡ map shown_listed
         (listed_rows tenant.now bucket.now from.now upto.now count (tables S.Store connection.old).versions)) }
@@ -52,9 +51,7 @@ pub fn numbered_rows<S: Alter>(
 ) -> Result<Vec<Row>, Error>
     requires inside { InTransaction S.Store connection.old }
     requires small { count < 2 ^ 63 }
-    ensures within { StaysWithin S.Store connection.old connection.new }
-    ensures opens { OnOk result (WasOpen S.Store connection.old connection.new) }
-    ensures same { OnOk result (ChangesNothing S.Store connection.old connection.new) }
+    ensures reads { Reads S.Store connection.old connection.new result }
     ensures rows { IfOk result (λ rows. IsClean S.Store connection.new
         → rows.items ≡ map shown_numbered
         (listed_rows tenant.now bucket.now from.now upto.now count (tables S.Store connection.old).versions)) }
@@ -85,9 +82,7 @@ pub fn older_rows<S: Alter>(
     requires inside { InTransaction S.Store connection.old }
     requires early { seq < 2 ^ 63 }
     requires small { count < 2 ^ 63 }
-    ensures within { StaysWithin S.Store connection.old connection.new }
-    ensures opens { OnOk result (WasOpen S.Store connection.old connection.new) }
-    ensures same { OnOk result (ChangesNothing S.Store connection.old connection.new) }
+    ensures reads { Reads S.Store connection.old connection.new result }
     ensures rows { IfOk result (λ rows. IsClean S.Store connection.new
         → rows.items ≡ map shown_numbered
         (spec.older_rows tenant.now bucket.now okey.now seq count (tables S.Store connection.old).versions)) }

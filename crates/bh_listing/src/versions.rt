@@ -1,9 +1,10 @@
 //! The versions and delete markers of a bucket, a page at a time.
 
-ghost use Rattle.std.specs.Prelude.{◌≡◌, map, option_map, Some, IfOk, OnOk};
+ghost use Rattle.std.specs.Prelude.{◌≡◌, map, option_map, Some, IfOk};
 ghost use Rattle.bh_types.specs.declared.wanted.Wanted.TheVariants.{Named};
 ghost use Rattle.bh_view.specs.Wanted.{wanted_row};
-ghost use Rattle.bh_schema.specs.Connections.{IsClean, tables, StaysWithin, StaysOpen, ChangesNothing};
+ghost use Rattle.bh_schema.specs.Calls.{MayRead};
+ghost use Rattle.bh_schema.specs.Connections.{IsClean, tables, StaysWithin, StaysOpen};
 ghost use Rattle.bh_schema.specs.Working.{Works, StillWorks};
 ghost use Rattle.bh_model.specs.Listings.{list_versions};
 ghost use Rattle.bh_model.specs.Operations.{Versions};
@@ -97,9 +98,7 @@ fn seq_of<S: Alter>(
     id: VersionId,
 ) -> Result<Option<u64>, Trouble>
     requires { Works S.Store connection.old }
-    ensures within { StaysWithin S.Store connection.old connection.new }
-    ensures opens { OnOk result (StaysOpen S.Store connection.old connection.new) }
-    ensures same { OnOk result (ChangesNothing S.Store connection.old connection.new) }
+    ensures reads { MayRead S.Store connection.old connection.new result }
     ensures seq { IfOk result (λ seq. IsClean S.Store connection.new
         → seq ≡ option_map (λ v. v.seq)
         (wanted_row tenant.now bucket.now key.now (Named id) (tables S.Store connection.old).versions)) }
@@ -123,9 +122,7 @@ fn start_of<S: Alter>(
     version: Wanted,
 ) -> Result<Start, Trouble>
     requires working { Works S.Store connection.old }
-    ensures within { StaysWithin S.Store connection.old connection.new }
-    ensures opens { OnOk result (StaysOpen S.Store connection.old connection.new) }
-    ensures same { OnOk result (ChangesNothing S.Store connection.old connection.new) }
+    ensures reads { MayRead S.Store connection.old connection.new result }
     ensures under { IfOk result (λ start. IsUnder asked.now.prefix.now start.place.key.items start.place.after) }
     ensures begins { IfOk result (λ start. IsClean S.Store connection.new
         → listed_from asked.now (seen_start start) (own_rows tenant.now bucket.now (tables S.Store connection.old).versions)
@@ -151,9 +148,7 @@ fn gather_versions<S: Alter>(
 ) -> Result<Vec<Listed<ShownVersion>>, Trouble>
     requires working { Works S.Store connection.old }
     requires under { IsUnder asked.now.prefix.now start.place.key.items start.place.after }
-    ensures within { StaysWithin S.Store connection.old connection.new }
-    ensures opens { OnOk result (StaysOpen S.Store connection.old connection.new) }
-    ensures same { OnOk result (ChangesNothing S.Store connection.old connection.new) }
+    ensures reads { MayRead S.Store connection.old connection.new result }
     ensures gathered { IfOk result (λ entries. IsClean S.Store connection.new
         → IsPage asked.now.max (map seen_entry entries.items)
         (listed_from asked.now (seen_start start) (own_rows tenant.now bucket.now (tables S.Store connection.old).versions))) }
@@ -188,9 +183,7 @@ fn page_entries<S: Alter>(
     version: Wanted,
 ) -> Result<Vec<Listed<ShownVersion>>, Trouble>
     requires working { Works S.Store connection.old }
-    ensures within { StaysWithin S.Store connection.old connection.new }
-    ensures opens { OnOk result (StaysOpen S.Store connection.old connection.new) }
-    ensures same { OnOk result (ChangesNothing S.Store connection.old connection.new) }
+    ensures reads { MayRead S.Store connection.old connection.new result }
     ensures gathered { IfOk result (λ entries. IsClean S.Store connection.new
         → IsPage asked.now.max (map seen_entry entries.items)
         (versions_of_rows asked.now version (own_rows tenant.now bucket.now (tables S.Store connection.old).versions))) }

@@ -1,4 +1,4 @@
-use Rattle.std.proofs.Common.{◌≤◌, ◌<◌, ℕ, ap, ◌∙◌, subst, arith, map}
+use Rattle.std.proofs.Common.{rules, ◌≤◌, ◌<◌, ℕ, ap, ◌∙◌, subst, arith, map}
 use Rattle.sqlite.specs.Held.{state}
 use Rattle.bh_tables.specs.Typed.{Tables}
 use Rattle.bh_schema.specs.Working.{tables_at}
@@ -29,30 +29,21 @@ version_lines-requires-clause-small g c = low c.reading.reading.count c.reading.
     low : (n : ℕ) → n ≤ 64 → n < 9223372036854775808
     low n h = omega (arith, h)
 
-pub returns-in_err-lines-clause-within : goal.returns-in_err-lines-clause-within
-returns-in_err-lines-clause-within g c =
-    within_so_far (state g.S.Store c.args.connection.now) (state g.S.Store c.reading.connection) (state g.S.Store c.version_lines.new.connection) c.reading.invariant.far c.in_err-lines.ensures.within
+pub returns-in_err-lines-clause-reads : goal.returns-in_err-lines-clause-reads
+returns-in_err-lines-clause-reads g c = record { within = within_so_far (state g.S.Store c.args.connection.now) (state g.S.Store c.reading.connection) (state g.S.Store c.version_lines.new.connection) c.reading.invariant.far c.in_err-lines.ensures.reads.within; opens = search rules; same = search rules }
 
-pub returns-in_err-take-clause-within : goal.returns-in_err-take-clause-within
-returns-in_err-take-clause-within g c =
-    within_so_far (state g.S.Store c.args.connection.now) (state g.S.Store c.reading.connection) (state g.S.Store c.version_lines.new.connection) c.reading.invariant.far c.in_ok-lines.ensures.within
+pub returns-in_err-take-clause-reads : goal.returns-in_err-take-clause-reads
+returns-in_err-take-clause-reads g c = record { within = within_so_far (state g.S.Store c.args.connection.now) (state g.S.Store c.reading.connection) (state g.S.Store c.version_lines.new.connection) c.reading.invariant.far c.in_ok-lines.ensures.reads.within; opens = search rules; same = search rules }
 
-pub returns-then-branch-clause-within : goal.returns-then-branch-clause-within
-returns-then-branch-clause-within g c =
-    within_so_far (state g.S.Store c.args.connection.now) (state g.S.Store c.reading.connection) (state g.S.Store c.version_lines.new.connection) c.reading.invariant.far c.in_ok-lines.ensures.within
-
-pub returns-then-branch-clause-opens : goal.returns-then-branch-clause-opens
-returns-then-branch-clause-opens g c =
-    (more_so_far (state g.S.Store c.args.connection.now) (state g.S.Store c.reading.connection) (state g.S.Store c.version_lines.new.connection) c.reading.invariant.far c.in_ok-lines.ensures.within c.in_ok-lines.ensures.opens c.in_ok-lines.ensures.same).opens
-
-pub returns-then-branch-clause-same : goal.returns-then-branch-clause-same
-returns-then-branch-clause-same g c =
-    (more_so_far (state g.S.Store c.args.connection.now) (state g.S.Store c.reading.connection) (state g.S.Store c.version_lines.new.connection) c.reading.invariant.far c.in_ok-lines.ensures.within c.in_ok-lines.ensures.opens c.in_ok-lines.ensures.same).same
+pub returns-then-branch-clause-reads : goal.returns-then-branch-clause-reads
+returns-then-branch-clause-reads g c =
+    let far = more_so_far (state g.S.Store c.args.connection.now) (state g.S.Store c.reading.connection) (state g.S.Store c.version_lines.new.connection) c.reading.invariant.far c.in_ok-lines.ensures.reads.within c.in_ok-lines.ensures.reads.opens c.in_ok-lines.ensures.reads.same in
+    record { within = far.within; opens = far.opens; same = far.same }
 
 pub returns-then-branch-clause-gathered : goal.returns-then-branch-clause-gathered
 returns-then-branch-clause-gathered g c = λ clean.
     let old = state g.S.Store c.args.connection.now in
-    let before = c.in_ok-lines.ensures.within.follows.clean clean in
+    let before = c.in_ok-lines.ensures.reads.within.follows.clean clean in
     let small = small_keys (tables_at old) (c.requires.working (c.reading.invariant.far.within.follows.clean before)).sound in
     let rows = shown_rows c.args.asked.now c.args.tenant.now c.args.bucket.now (tables_at old).versions in
     let had = c.reading.invariant.read before in
@@ -67,11 +58,11 @@ pub reading-preserved : goal.reading-preserved
 reading-preserved g c =
     let old = state g.S.Store c.args.connection.now in
     record {
-      far = more_so_far old (state g.S.Store c.reading.connection) (state g.S.Store c.version_lines.new.connection) c.reading.invariant.far c.in_ok-lines.ensures.within c.in_ok-lines.ensures.opens c.in_ok-lines.ensures.same;
+      far = more_so_far old (state g.S.Store c.reading.connection) (state g.S.Store c.version_lines.new.connection) c.reading.invariant.far c.in_ok-lines.ensures.reads.within c.in_ok-lines.ensures.reads.opens c.in_ok-lines.ensures.reads.same;
       upto = c.reading.invariant.upto;
       count = c.in_ok-take.ensures.count c.reading.invariant.count;
       read = λ clean.
-          let before = c.in_ok-lines.ensures.within.follows.clean clean in
+          let before = c.in_ok-lines.ensures.reads.within.follows.clean clean in
           let small = small_keys (tables_at old) (c.requires.working (c.reading.invariant.far.within.follows.clean before)).sound in
           let rows = shown_rows c.args.asked.now c.args.tenant.now c.args.bucket.now (tables_at old).versions in
           let had = c.reading.invariant.read before in
@@ -83,5 +74,5 @@ reading-preserved g c =
           subst (λ e. Stands e c.args.asked.now rows c.take.new.self) c.if-branch.false took;
     }
 
-pub returns-clause-within : goal.returns-clause-within
-returns-clause-within g c = c.reading.invariant.far.within
+pub returns-clause-reads : goal.returns-clause-reads
+returns-clause-reads g c = record { within = c.reading.invariant.far.within; opens = tt; same = tt }

@@ -12,4 +12,4 @@ returns g c =
     let new = state g.S.Store c.query_all.new.self in
     let q = question old new (λ v. v.items) (λ t. map shown_listed (listed_rows c.args.tenant.now c.args.bucket.now c.args.from.now c.args.upto.now c.args.count t.versions)) c.query_all.result c.requires.inside
     (listed_shown c.args.tenant.now c.args.bucket.now c.args.from.now c.args.upto.now c.args.count old new (ready old c.requires.inside) (λ v. v.items) c.query_all.result h.ok h.err h.survives) in
-    record { within = q.within; opens = q.opens; same = q.same; rows = q.rows; trouble = q.trouble }
+    record { reads = record { within = q.within; opens = q.opens; same = q.same }; rows = q.rows; trouble = q.trouble }

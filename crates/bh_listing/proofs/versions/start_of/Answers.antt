@@ -22,7 +22,7 @@ pub returns-in_ok-start_older-in-Some-2-clause-begins : goal.returns-in_ok-start
 returns-in_ok-start_older-in-Some-2-clause-begins g c clean =
     let tables = tables_at (state g.S.Store c.args.connection.now) in
     ap (λ b. listed_from c.args.asked.now b (own_rows c.args.tenant.now c.args.bucket.now tables.versions)) c.in_ok-start_older-in-Some-2.ensures
-    ∙ begins_there tables c.args.tenant.now c.args.bucket.now (c.requires.working (c.in_ok-seq.ensures.within.follows.clean clean)).sound c.args.asked.now c.args.version c.in-Some.key.now c.in-Some.id (sym c.in-Some.ensures)
+    ∙ begins_there tables c.args.tenant.now c.args.bucket.now (c.requires.working (c.in_ok-seq.ensures.reads.within.follows.clean clean)).sound c.args.asked.now c.args.version c.in-Some.key.now c.in-Some.id (sym c.in-Some.ensures)
     c.in-Some-2.seq (sym c.in-Some-2.is ∙ c.in_ok-seq.ensures.seq clean)
 
 pub returns-in_ok-start_past-in-None-clause-under : goal.returns-in_ok-start_past-in-None-clause-under
@@ -33,5 +33,5 @@ pub returns-in_ok-start_past-in-None-clause-begins : goal.returns-in_ok-start_pa
 returns-in_ok-start_past-in-None-clause-begins g c clean =
     let tables = tables_at (state g.S.Store c.args.connection.now) in
     ap (λ b. listed_from c.args.asked.now b (own_rows c.args.tenant.now c.args.bucket.now tables.versions)) c.in_ok-start_past-in-None.ensures
-    ∙ begins_missing tables c.args.tenant.now c.args.bucket.now (c.requires.working (c.in_ok-seq.ensures.within.follows.clean clean)).sound c.args.asked.now c.args.version c.in-Some.key.now c.in-Some.id (sym c.in-Some.ensures)
+    ∙ begins_missing tables c.args.tenant.now c.args.bucket.now (c.requires.working (c.in_ok-seq.ensures.reads.within.follows.clean clean)).sound c.args.asked.now c.args.version c.in-Some.key.now c.in-Some.id (sym c.in-Some.ensures)
     (sym c.in-None.is ∙ c.in_ok-seq.ensures.seq clean)
