@@ -8,88 +8,39 @@ ghost use Rattle.bh_stored.specs.Fits.{AreFit, AreAllFit};
 ghost use Rattle.bh_stored.specs.Stored.{seen, AreStoredIn};
 ghost use Rattle.bh_stored.specs.Stores.{KeepsTrees};
 
-use crate::cells::{Kind, is_fit, number_in};
+use crate::cells::Kind::{self, Blob, Key, MaybeNumber, Number, Text};
+use crate::cells::{is_fit, number_in};
 use crate::failure::Failure;
 use crate::trees::table_rows;
 use sqlite_trees::store::Store;
 use sqlite_value::row::Row;
 use std::alloc::Global;
 
-const HOST: [Kind; 6] = [
-    Kind::Key,
-    Kind::Number,
-    Kind::Number,
-    Kind::Number,
-    Kind::Number,
-    Kind::Number,
-];
+const HOST: [Kind; 6] = [Key, Number, Number, Number, Number, Number];
 
-const TENANTS: [Kind; 6] = [
-    Kind::Text,
-    Kind::Number,
-    Kind::Number,
-    Kind::Number,
-    Kind::Number,
-    Kind::Number,
-];
+const TENANTS: [Kind; 6] = [Text, Number, Number, Number, Number, Number];
 
-const KEYS: [Kind; 3] = [Kind::Text, Kind::Text, Kind::Text];
+const KEYS: [Kind; 3] = [Text, Text, Text];
 
-const BUCKETS: [Kind; 5] = [
-    Kind::Text,
-    Kind::Text,
-    Kind::Number,
-    Kind::Number,
-    Kind::MaybeNumber,
-];
+const BUCKETS: [Kind; 5] = [Text, Text, Number, Number, MaybeNumber];
 
 const VERSIONS: [Kind; 9] = [
-    Kind::Text,
-    Kind::Number,
-    Kind::Text,
-    Kind::Blob,
-    Kind::Number,
-    Kind::Number,
-    Kind::Number,
-    Kind::Number,
-    Kind::Text,
+    Text, Number, Text, Blob, Number, Number, Number, Number, Text,
 ];
 
-const BLOCKS: [Kind; 3] = [Kind::Blob, Kind::Number, Kind::Blob];
+const BLOCKS: [Kind; 3] = [Blob, Number, Blob];
 
-const REFS: [Kind; 6] = [
-    Kind::Text,
-    Kind::Number,
-    Kind::Number,
-    Kind::Blob,
-    Kind::Number,
-    Kind::Number,
-];
+const REFS: [Kind; 6] = [Text, Number, Number, Blob, Number, Number];
 
-const UPLOADS: [Kind; 6] = [
-    Kind::Text,
-    Kind::Number,
-    Kind::Text,
-    Kind::Blob,
-    Kind::Number,
-    Kind::Number,
-];
+const UPLOADS: [Kind; 6] = [Text, Number, Text, Blob, Number, Number];
 
-const PARTS: [Kind; 7] = [
-    Kind::Text,
-    Kind::Number,
-    Kind::Number,
-    Kind::Number,
-    Kind::Text,
-    Kind::Number,
-    Kind::Number,
-];
+const PARTS: [Kind; 7] = [Text, Number, Number, Number, Text, Number, Number];
 
-const USES: [Kind; 3] = [Kind::Blob, Kind::Number, Kind::Number];
+const USES: [Kind; 3] = [Blob, Number, Number];
 
-const LOCKS: [Kind; 2] = [Kind::Text, Kind::Text];
+const LOCKS: [Kind; 2] = [Text, Text];
 
-const RETAINS: [Kind; 3] = [Kind::Text, Kind::Number, Kind::Number];
+const RETAINS: [Kind; 3] = [Text, Number, Number];
 
 /// As they are stored.
 #[derive(Drop)]
