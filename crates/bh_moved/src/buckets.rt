@@ -12,7 +12,7 @@ use crate::cells::{maybe_number_at, number_at};
 use crate::plain::Plain;
 use bh_schema::rows::locks::insert_lock;
 use bh_schema::rows::number::number;
-use bh_tenant_rows::reads::{bucket_rows, lock_rows};
+use bh_tenant_rows::reads::{Owned, owned_rows};
 use sqlite::types::ToSql;
 use sqlite::{Alter, Connection, Error, Row};
 
@@ -112,7 +112,7 @@ impl Plain for Buckets {
     ghost added = { λ t r. with_buckets (bucket_of t r ∷ []) };
 
     fn read<S: Alter>(&self, from: &mut Connection<S>, tenant: &str) -> Result<Vec<Row>, Error> {
-        bucket_rows(from, tenant)
+        owned_rows(from, Owned::Buckets, tenant)
     }
 
     fn add<T: Alter>(&self, to: &mut Connection<T>, tenant: &str, row: &Row) -> Result<(), Error> {
@@ -139,7 +139,7 @@ impl Plain for Locks {
     ghost added = { λ t r. with_locks (lock_of t r ∷ []) };
 
     fn read<S: Alter>(&self, from: &mut Connection<S>, tenant: &str) -> Result<Vec<Row>, Error> {
-        lock_rows(from, tenant)
+        owned_rows(from, Owned::Locks, tenant)
     }
 
     fn add<T: Alter>(&self, to: &mut Connection<T>, tenant: &str, row: &Row) -> Result<(), Error> {

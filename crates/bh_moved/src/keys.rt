@@ -8,7 +8,7 @@ ghost use Rattle.bh_moved.specs.Rows.{key_of};
 
 use crate::plain::Plain;
 use bh_schema::rows::keys::insert_key;
-use bh_tenant_rows::reads::key_rows;
+use bh_tenant_rows::reads::{Owned, owned_rows};
 use sqlite::{Alter, Connection, Error, Row};
 
 /// Access keys, each with its secret.
@@ -25,7 +25,7 @@ impl Plain for Keys {
     ghost added = { λ t r. with_keys (key_of t r ∷ []) };
 
     fn read<S: Alter>(&self, from: &mut Connection<S>, tenant: &str) -> Result<Vec<Row>, Error> {
-        key_rows(from, tenant)
+        owned_rows(from, Owned::Keys, tenant)
     }
 
     fn add<T: Alter>(&self, to: &mut Connection<T>, tenant: &str, row: &Row) -> Result<(), Error> {

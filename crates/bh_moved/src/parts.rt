@@ -14,7 +14,7 @@ use crate::body::bring_body;
 use crate::cells::number_at;
 use crate::moving::Moving;
 use bh_schema::host::Digester;
-use bh_tenant_rows::reads::part_rows;
+use bh_tenant_rows::reads::{Owned, owned_rows};
 use bh_uploads::rows::kept::place_part;
 use bh_uploads::rows::parts::{PartRecord, find_body};
 use sqlite::{Alter, Connection, Error, ErrorCode, Row};
@@ -115,7 +115,7 @@ impl Bodied for Parts {
     ghost added = { λ digest size t from p. with_part digest size (part_of t from p) };
 
     fn read<S: Alter>(&self, from: &mut Connection<S>, tenant: &str) -> Result<Vec<Row>, Error> {
-        part_rows(from, tenant)
+        owned_rows(from, Owned::Parts, tenant)
     }
 
     fn add<S: Alter, T: Alter, D: Digester>(

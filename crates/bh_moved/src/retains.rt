@@ -9,7 +9,7 @@ ghost use Rattle.bh_moved.specs.Rows.{retain_of};
 use crate::cells::number_at;
 use crate::plain::Plain;
 use bh_schema::rows::retains::insert_retain;
-use bh_tenant_rows::reads::retain_rows;
+use bh_tenant_rows::reads::{Owned, owned_rows};
 use sqlite::{Alter, Connection, Error, Row};
 
 /// The dates of versions.
@@ -26,7 +26,7 @@ impl Plain for Retains {
     ghost added = { λ t r. with_retains (retain_of t r ∷ []) };
 
     fn read<S: Alter>(&self, from: &mut Connection<S>, tenant: &str) -> Result<Vec<Row>, Error> {
-        retain_rows(from, tenant)
+        owned_rows(from, Owned::Retains, tenant)
     }
 
     fn add<T: Alter>(&self, to: &mut Connection<T>, tenant: &str, row: &Row) -> Result<(), Error> {

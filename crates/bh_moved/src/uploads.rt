@@ -8,7 +8,7 @@ ghost use Rattle.bh_moved.specs.Rows.{upload_of};
 
 use crate::cells::number_at;
 use crate::plain::Plain;
-use bh_tenant_rows::reads::upload_rows;
+use bh_tenant_rows::reads::{Owned, owned_rows};
 use bh_uploads::rows::uploads::{UploadRecord, insert_upload};
 use sqlite::{Alter, Connection, Error, Row};
 
@@ -26,7 +26,7 @@ impl Plain for Uploads {
     ghost added = { λ t r. with_uploads (upload_of t r ∷ []) };
 
     fn read<S: Alter>(&self, from: &mut Connection<S>, tenant: &str) -> Result<Vec<Row>, Error> {
-        upload_rows(from, tenant)
+        owned_rows(from, Owned::Uploads, tenant)
     }
 
     fn add<T: Alter>(&self, to: &mut Connection<T>, tenant: &str, row: &Row) -> Result<(), Error> {

@@ -15,7 +15,7 @@ use crate::cells::number_at;
 use crate::moving::Moving;
 use bh_schema::host::Digester;
 use bh_schema::rows::versions::{NewMarker, NewVersion, add_version, insert_marker};
-use bh_tenant_rows::reads::version_rows;
+use bh_tenant_rows::reads::{Owned, owned_rows};
 use sqlite::{Alter, Connection, Error, ErrorCode, Row};
 
 /// A version or delete marker of a row, without its bytes.
@@ -140,7 +140,7 @@ impl Bodied for Versions {
     ghost added = { λ digest size t from v. with_version digest size (version_of t from v) };
 
     fn read<S: Alter>(&self, from: &mut Connection<S>, tenant: &str) -> Result<Vec<Row>, Error> {
-        version_rows(from, tenant)
+        owned_rows(from, Owned::Versions, tenant)
     }
 
     fn add<S: Alter, T: Alter, D: Digester>(

@@ -1,19 +1,18 @@
 -- The texts that read a tenant's rows.
 use Rattle.std.proofs.Common.{codes, [], ◌∷◌, true, false, refl}
-use Rattle.sqlite.specs.declared.types.Value.TheVariants.{Text}
 use Rattle.sqlite.specs.Listing.{understood}
 use Rattle.sqlite.specs.Term.{col}
 use Rattle.sqlite_sql.specs.declared.ops.CompareOp.TheVariants.{Eq}
 use Rattle.sqlite_tied.specs.Compute.{everything}
-use Rattle.sqlite_typed.specs.Tests.{bytes_eq}
 use Rattle.sqlite_typed.proofs.TestLemmas.{at_texts, last_term}
 use Rattle.bh_rows.specs.Scan.{no_limit}
 use Rattle.bh_rows.specs.Texts.{SelectText}
-use Rattle.bh_tables.specs.Schema.{Octets, host_schema}
-use Rattle.bh_tables.specs.Bodies.{bare, bare_part}
-use Rattle.bh_tables.specs.Typed.{Totals, tenant_form, key_form, bucket_form, lock_form, version_form, upload_form, part_form, retain_form}
+use Rattle.bh_tables.specs.Schema.{host_schema}
+use Rattle.bh_tables.specs.Typed.{Totals, tenant_form}
 use Rattle.bh_tables.proofs.Terms.{is}
-use Rattle.bh_tenant_rows.specs.Shown.{shown_name, shown_key, shown_bucket, shown_lock, shown_version, shown_upload, shown_part, shown_retain}
+use Rattle.bh_tenant_rows.specs.Shown.{shown_name}
+use Rattle.bh_tenant_rows.specs.Owned.{IsTextOf}
+use Rattle.bh_tenant_rows.specs.declared.reads.Owned.TheVariants as owned
 
 pub names_shown : (sums : Totals) → SelectText (tenant_form sums) host_schema 1 (codes "SELECT tenant FROM tenants ORDER BY rowid") [] (λ _. true) shown_name no_limit
 unfolding understood everything
@@ -28,7 +27,7 @@ names_shown sums = record {
   shows = λ id t. refl;
 }
 
-pub keys_shown : (tenant : Octets) → SelectText key_form host_schema 3 (codes "SELECT name, secret FROM keys WHERE tenant = ?1 ORDER BY rowid") (Text tenant ∷ []) (λ k. bytes_eq k.tenant tenant) shown_key no_limit
+pub keys_shown : IsTextOf owned.Keys (codes "SELECT name, secret FROM keys WHERE tenant = ?1 ORDER BY rowid")
 unfolding understood everything
 keys_shown tenant = record {
   test = is 1 0 ∷ [];
@@ -41,7 +40,7 @@ keys_shown tenant = record {
   shows = λ id k. refl;
 }
 
-pub buckets_shown : (tenant : Octets) → SelectText bucket_form host_schema 5 (codes "SELECT bucket, created, state, days FROM buckets WHERE tenant = ?1 ORDER BY rowid") (Text tenant ∷ []) (λ b. bytes_eq b.tenant tenant) shown_bucket no_limit
+pub buckets_shown : IsTextOf owned.Buckets (codes "SELECT bucket, created, state, days FROM buckets WHERE tenant = ?1 ORDER BY rowid")
 unfolding understood everything
 buckets_shown tenant = record {
   test = is 1 0 ∷ [];
@@ -54,7 +53,7 @@ buckets_shown tenant = record {
   shows = λ id b. refl;
 }
 
-pub locks_shown : (tenant : Octets) → SelectText lock_form host_schema 26 (codes "SELECT bucket FROM locks WHERE tenant = ?1 ORDER BY rowid") (Text tenant ∷ []) (λ l. bytes_eq l.tenant tenant) shown_lock no_limit
+pub locks_shown : IsTextOf owned.Locks (codes "SELECT bucket FROM locks WHERE tenant = ?1 ORDER BY rowid")
 unfolding understood everything
 locks_shown tenant = record {
   test = is 1 0 ∷ [];
@@ -67,7 +66,7 @@ locks_shown tenant = record {
   shows = λ id l. refl;
 }
 
-pub versions_shown : (tenant : Octets) → SelectText version_form host_schema 7 (codes "SELECT seq, bucket, okey, id, marker, stamp, size, sum FROM versions WHERE tenant = ?1 ORDER BY rowid") (Text tenant ∷ []) (λ v. bytes_eq v.tenant tenant) (λ v. shown_version (bare v)) no_limit
+pub versions_shown : IsTextOf owned.Versions (codes "SELECT seq, bucket, okey, id, marker, stamp, size, sum FROM versions WHERE tenant = ?1 ORDER BY rowid")
 unfolding understood everything
 versions_shown tenant = record {
   test = is 1 0 ∷ [];
@@ -80,7 +79,7 @@ versions_shown tenant = record {
   shows = λ id v. refl;
 }
 
-pub uploads_shown : (sums : Totals) (tenant : Octets) → SelectText (upload_form sums) host_schema 16 (codes "SELECT upload, bucket, okey, begun FROM uploads WHERE tenant = ?1 ORDER BY rowid") (Text tenant ∷ []) (λ u. bytes_eq u.tenant tenant) shown_upload no_limit
+pub uploads_shown : IsTextOf owned.Uploads (codes "SELECT upload, bucket, okey, begun FROM uploads WHERE tenant = ?1 ORDER BY rowid")
 unfolding understood everything
 uploads_shown sums tenant = record {
   test = is 1 0 ∷ [];
@@ -93,7 +92,7 @@ uploads_shown sums tenant = record {
   shows = λ id u. refl;
 }
 
-pub parts_shown : (tenant : Octets) → SelectText part_form host_schema 18 (codes "SELECT upload, number, size, sum, stamp, body FROM parts WHERE tenant = ?1 ORDER BY rowid") (Text tenant ∷ []) (λ p. bytes_eq p.tenant tenant) (λ p. shown_part (bare_part p)) no_limit
+pub parts_shown : IsTextOf owned.Parts (codes "SELECT upload, number, size, sum, stamp, body FROM parts WHERE tenant = ?1 ORDER BY rowid")
 unfolding understood everything
 parts_shown tenant = record {
   test = is 1 0 ∷ [];
@@ -106,7 +105,7 @@ parts_shown tenant = record {
   shows = λ id p. refl;
 }
 
-pub retains_shown : (tenant : Octets) → SelectText retain_form host_schema 28 (codes "SELECT seq, until FROM retains WHERE tenant = ?1 ORDER BY rowid") (Text tenant ∷ []) (λ r. bytes_eq r.tenant tenant) shown_retain no_limit
+pub retains_shown : IsTextOf owned.Retains (codes "SELECT seq, until FROM retains WHERE tenant = ?1 ORDER BY rowid")
 unfolding understood everything
 retains_shown tenant = record {
   test = is 1 0 ∷ [];

@@ -10,4 +10,4 @@ name_rows-requires g c = record { inside = begun_inside _ _ c.in_ok-begin.ensure
 pub returns-clause-rows : goal.returns-clause-rows
 returns-clause-rows g c clean =
     let it = c.in_ok-rows.ensures in
-    it.rows clean ∙ ap (λ (x : Tables). map shown_name x.tenants) (begun_tables _ _ c.in_ok-begin.ensures.begins (it.within.follows.clean clean))
+    it.rows clean ∙ ap (λ (x : Tables). map shown_name x.tenants) (begun_tables _ _ c.in_ok-begin.ensures.begins (it.reads.within.follows.clean clean))

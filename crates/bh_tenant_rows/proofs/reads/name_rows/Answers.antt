@@ -12,4 +12,4 @@ pub returns : goal.returns
 returns g c =
     let h = c.query_all.ensures in
     let q = asked _ _ (λ t. ap (map shown_name) (filter_all t.tenants)) (selected tenants (state g.S.Store c.args.connection.now) (state g.S.Store c.query_all.new.self) c.requires.inside (λ v. v.items) c.query_all.result (names_shown (totals_of (tables (state g.S.Store c.args.connection.now)))) h.ok h.err h.survives) in
-    record { within = q.within; opens = q.opens; same = q.same; rows = q.rows }
+    record { reads = record { within = q.within; opens = q.opens; same = q.same }; rows = q.rows }
