@@ -1,5 +1,6 @@
-ghost use Rattle.std.specs.Prelude.{◌≡◌, IfOk, OnOk};
-ghost use Rattle.bh_schema.specs.Connections.{IsClean, tables, InTransaction, StaysWithin, StaysOpen, ChangesNothing};
+ghost use Rattle.std.specs.Prelude.{◌≡◌, IfOk};
+ghost use Rattle.bh_schema.specs.Connections.{IsClean, tables, InTransaction};
+ghost use Rattle.bh_schema.specs.Calls.{MayRead};
 ghost use Rattle.bh_usage.specs.Counted.{entries_in, bytes_in, used_in, rows_in};
 
 use bh_schema::rows::counts::{
@@ -40,9 +41,7 @@ fn entry_counts<S: Alter>(
     tenant: &str,
 ) -> Result<EntryCounts, Error>
     requires inside { InTransaction S.Store connection.old }
-    ensures within { StaysWithin S.Store connection.old connection.new }
-    ensures opens { OnOk result (StaysOpen S.Store connection.old connection.new) }
-    ensures same { OnOk result (ChangesNothing S.Store connection.old connection.new) }
+    ensures reads { MayRead S.Store connection.old connection.new result }
     ensures counts { IfOk result (λ counts. IsClean S.Store connection.new
         → counts ≡ entries_in tenant.now (tables S.Store connection.old)) }
 {
@@ -64,9 +63,7 @@ fn byte_totals<S: Alter>(
 ) -> Result<ByteTotals, Error>
     requires inside { InTransaction S.Store connection.old }
     requires held { IsClean S.Store connection.old → used ≡ used_in tenant.now (tables S.Store connection.old) }
-    ensures within { StaysWithin S.Store connection.old connection.new }
-    ensures opens { OnOk result (StaysOpen S.Store connection.old connection.new) }
-    ensures same { OnOk result (ChangesNothing S.Store connection.old connection.new) }
+    ensures reads { MayRead S.Store connection.old connection.new result }
     ensures totals { IfOk result (λ totals. IsClean S.Store connection.new
         → totals ≡ bytes_in tenant.now (tables S.Store connection.old)) }
 {
@@ -85,9 +82,7 @@ pub fn row_counts<S: Alter>(
 ) -> Result<RowCounts, Error>
     requires inside { InTransaction S.Store connection.old }
     requires held { IsClean S.Store connection.old → used ≡ used_in tenant.now (tables S.Store connection.old) }
-    ensures within { StaysWithin S.Store connection.old connection.new }
-    ensures opens { OnOk result (StaysOpen S.Store connection.old connection.new) }
-    ensures same { OnOk result (ChangesNothing S.Store connection.old connection.new) }
+    ensures reads { MayRead S.Store connection.old connection.new result }
     ensures counts { IfOk result (λ counts. IsClean S.Store connection.new
         → counts ≡ rows_in tenant.now (tables S.Store connection.old)) }
 {

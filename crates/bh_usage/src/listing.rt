@@ -1,7 +1,8 @@
 ghost use Rattle.std.specs.Prelude.{◌≡◌, map, IfOk, OnOk};
 ghost use Rattle.bh_storage.specs.Calls.{Lists};
 ghost use Rattle.bh_storage.specs.Reports.{tenant_view, tenants_told};
-ghost use Rattle.bh_schema.specs.Connections.{IsClean, tables, InTransaction, StaysWithin, StaysOpen, ChangesNothing};
+ghost use Rattle.bh_schema.specs.Connections.{IsClean, tables, InTransaction, StaysWithin, StaysOpen};
+ghost use Rattle.bh_schema.specs.Calls.{MayRead};
 ghost use Rattle.bh_schema.specs.Working.{Works, StillWorks};
 ghost use Rattle.bh_usage.specs.Listed.{tenant_seen, told_with};
 
@@ -19,9 +20,7 @@ fn with_keys<S: Alter>(
     listed: &ListedTenant,
 ) -> Result<TenantReport, Error>
     requires inside { InTransaction S.Store connection.old }
-    ensures within { StaysWithin S.Store connection.old connection.new }
-    ensures opens { OnOk result (StaysOpen S.Store connection.old connection.new) }
-    ensures same { OnOk result (ChangesNothing S.Store connection.old connection.new) }
+    ensures reads { MayRead S.Store connection.old connection.new result }
     ensures told { IfOk result (λ told. IsClean S.Store connection.new
         → tenant_view told ≡ told_with (tables S.Store connection.old) (tenant_seen listed.now)) }
 {
@@ -41,9 +40,7 @@ fn all_with_keys<S: Alter>(
     listed: &[ListedTenant],
 ) -> Result<Vec<TenantReport>, Error>
     requires inside { InTransaction S.Store connection.old }
-    ensures within { StaysWithin S.Store connection.old connection.new }
-    ensures opens { OnOk result (StaysOpen S.Store connection.old connection.new) }
-    ensures same { OnOk result (ChangesNothing S.Store connection.old connection.new) }
+    ensures reads { MayRead S.Store connection.old connection.new result }
     ensures told { IfOk result (λ all. IsClean S.Store connection.new
         → map tenant_view all.items ≡ map (λ t. told_with (tables S.Store connection.old) (tenant_seen t)) listed.now) }
 {
@@ -60,9 +57,7 @@ fn read_all<S: Alter>(
     alloc: Global,
 ) -> Result<Vec<TenantReport>, Error>
     requires inside { InTransaction S.Store connection.old }
-    ensures within { StaysWithin S.Store connection.old connection.new }
-    ensures opens { OnOk result (StaysOpen S.Store connection.old connection.new) }
-    ensures same { OnOk result (ChangesNothing S.Store connection.old connection.new) }
+    ensures reads { MayRead S.Store connection.old connection.new result }
     ensures told { IfOk result (λ all. IsClean S.Store connection.new
         → map tenant_view all.items ≡ tenants_told (tables S.Store connection.old)) }
 {

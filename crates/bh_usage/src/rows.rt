@@ -1,12 +1,13 @@
 //! The SQL texts over access keys and over all tenants, one call for each.
-ghost use Rattle.std.specs.Prelude.{◌≡◌, ◌∷◌, [], ◌<◌, ◌^◌, List, true, map, length, filter, IfOk, IfErr, OnOk};
+ghost use Rattle.std.specs.Prelude.{◌≡◌, ◌∷◌, [], ◌<◌, ◌^◌, List, true, map, length, filter, IfOk, IfErr};
 ghost use Rattle.std.specs.List.{AllByRecursion};
 ghost use Rattle.std.specs.Str.{IsUtf8};
 ghost use Rattle.std.specs.String.{string_bytes};
 ghost use Rattle.bh_rows.specs.Means.{is_trouble};
 ghost use Rattle.bh_tables.specs.Typed.{KeyRow, TenantRow, Tables, totals_of, number as stored};
 ghost use Rattle.bh_tables.specs.Shown.{is_owned_key, keys_by_name, tenants_by_name, shown_key, shown_quota};
-ghost use Rattle.bh_schema.specs.Connections.{IsClean, tables, InTransaction, StaysWithin, WasOpen, ChangesNothing, IsTrouble, IsTroubleIf};
+ghost use Rattle.bh_schema.specs.Connections.{IsClean, tables, InTransaction, IsTrouble, IsTroubleIf};
+ghost use Rattle.bh_schema.specs.Calls.{Reads};
 ghost use Rattle.bh_usage.specs.Listed.{name_in, quota_in_row, tenant_seen};
 
 use bh_schema::rows::sizes::read_total;
@@ -48,9 +49,7 @@ fn read_names(alloc: Global, rows: &[Row]) -> Result<Vec<String>, Error>
 
 fn name_rows<S: Alter>(connection: &mut Connection<S>, tenant: &str) -> Result<Vec<Row>, Error>
     requires inside { InTransaction S.Store connection.old }
-    ensures within { StaysWithin S.Store connection.old connection.new }
-    ensures opens { OnOk result (WasOpen S.Store connection.old connection.new) }
-    ensures same { OnOk result (ChangesNothing S.Store connection.old connection.new) }
+    ensures reads { Reads S.Store connection.old connection.new result }
     ensures rows { IfOk result (λ rows. IsClean S.Store connection.new
         → rows.items ≡ map shown_key (keys_by_name tenant.now (tables S.Store connection.old).keys)) }
     ensures trouble { IfErr result (IsTrouble S.Store connection.old connection.new) }
@@ -68,9 +67,7 @@ pub fn key_names<S: Alter>(
     tenant: &str,
 ) -> Result<Vec<String>, Error>
     requires inside { InTransaction S.Store connection.old }
-    ensures within { StaysWithin S.Store connection.old connection.new }
-    ensures opens { OnOk result (WasOpen S.Store connection.old connection.new) }
-    ensures same { OnOk result (ChangesNothing S.Store connection.old connection.new) }
+    ensures reads { Reads S.Store connection.old connection.new result }
     ensures names { IfOk result (λ names. IsClean S.Store connection.new
         → map string_bytes names.items ≡ map name_in (keys_by_name tenant.now (tables S.Store connection.old).keys)) }
     ensures trouble { IfErr result (IsTroubleIf S.Store connection.old connection.new
@@ -82,9 +79,7 @@ pub fn key_names<S: Alter>(
 
 fn key_rows<S: Alter>(connection: &mut Connection<S>, tenant: &str) -> Result<Vec<Row>, Error>
     requires inside { InTransaction S.Store connection.old }
-    ensures within { StaysWithin S.Store connection.old connection.new }
-    ensures opens { OnOk result (WasOpen S.Store connection.old connection.new) }
-    ensures same { OnOk result (ChangesNothing S.Store connection.old connection.new) }
+    ensures reads { Reads S.Store connection.old connection.new result }
     ensures rows { IfOk result (λ rows. IsClean S.Store connection.new
         → rows.items ≡ (stored (length (filter (is_owned_key tenant.now) (tables S.Store connection.old).keys)) ∷ []) ∷ []) }
     ensures trouble { IfErr result (IsTroubleIf S.Store connection.old connection.new
@@ -99,9 +94,7 @@ fn key_rows<S: Alter>(connection: &mut Connection<S>, tenant: &str) -> Result<Ve
 /// How many access keys a tenant has.
 pub fn key_count<S: Alter>(connection: &mut Connection<S>, tenant: &str) -> Result<u64, Error>
     requires inside { InTransaction S.Store connection.old }
-    ensures within { StaysWithin S.Store connection.old connection.new }
-    ensures opens { OnOk result (WasOpen S.Store connection.old connection.new) }
-    ensures same { OnOk result (ChangesNothing S.Store connection.old connection.new) }
+    ensures reads { Reads S.Store connection.old connection.new result }
     ensures count { IfOk result (λ n. IsClean S.Store connection.new
         → n ≡ length (filter (is_owned_key tenant.now) (tables S.Store connection.old).keys)) }
     ensures trouble { IfErr result (IsTroubleIf S.Store connection.old connection.new
@@ -143,9 +136,7 @@ fn read_tenants(alloc: Global, rows: &[Row]) -> Result<Vec<ListedTenant>, Error>
 
 fn tenant_rows<S: Alter>(connection: &mut Connection<S>) -> Result<Vec<Row>, Error>
     requires inside { InTransaction S.Store connection.old }
-    ensures within { StaysWithin S.Store connection.old connection.new }
-    ensures opens { OnOk result (WasOpen S.Store connection.old connection.new) }
-    ensures same { OnOk result (ChangesNothing S.Store connection.old connection.new) }
+    ensures reads { Reads S.Store connection.old connection.new result }
     ensures rows { IfOk result (λ rows. IsClean S.Store connection.new
         → rows.items ≡ map (shown_quota (totals_of (tables S.Store connection.old)))
         (tenants_by_name (tables S.Store connection.old).tenants)) }
@@ -163,9 +154,7 @@ pub fn tenant_list<S: Alter>(
     alloc: Global,
 ) -> Result<Vec<ListedTenant>, Error>
     requires inside { InTransaction S.Store connection.old }
-    ensures within { StaysWithin S.Store connection.old connection.new }
-    ensures opens { OnOk result (WasOpen S.Store connection.old connection.new) }
-    ensures same { OnOk result (ChangesNothing S.Store connection.old connection.new) }
+    ensures reads { Reads S.Store connection.old connection.new result }
     ensures listed { IfOk result (λ listed. IsClean S.Store connection.new
         → map tenant_seen listed.items ≡ map (quota_in_row (tables S.Store connection.old))
         (tenants_by_name (tables S.Store connection.old).tenants)) }

@@ -14,7 +14,7 @@ entry_counts-requires g c =
     let one = state g.S.Store c.bucket_count.new.connection in
     let two = state g.S.Store c.byte_totals.new.connection in
     let inside = asked_inside old one c.bucket_count.ensures.within c.requires.inside c.in_ok-buckets.ensures.same in
-    record { inside = asked_inside one two c.byte_totals.ensures.within inside c.in_ok-bytes.ensures.same }
+    record { inside = asked_inside one two c.byte_totals.ensures.reads.within inside c.in_ok-bytes.ensures.reads.same }
 
 pub upload_count-requires : goal.upload_count-requires
 upload_count-requires g c =
@@ -23,5 +23,5 @@ upload_count-requires g c =
     let two = state g.S.Store c.byte_totals.new.connection in
     let three = state g.S.Store c.entry_counts.new.connection in
     let inside_one = asked_inside old one c.bucket_count.ensures.within c.requires.inside c.in_ok-buckets.ensures.same in
-    let inside_two = asked_inside one two c.byte_totals.ensures.within inside_one c.in_ok-bytes.ensures.same in
-    record { inside = asked_inside two three c.entry_counts.ensures.within inside_two c.in_ok-entries.ensures.same }
+    let inside_two = asked_inside one two c.byte_totals.ensures.reads.within inside_one c.in_ok-bytes.ensures.reads.same in
+    record { inside = asked_inside two three c.entry_counts.ensures.reads.within inside_two c.in_ok-entries.ensures.reads.same }

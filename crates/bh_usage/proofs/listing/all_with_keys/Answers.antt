@@ -14,12 +14,6 @@ use Rattle.bh_usage.proofs.listing.all_with_keys.Goals as goal
 pub with_keys-requires : goal.with_keys-requires
 with_keys-requires g c = record { inside = λ clean. subst IsInside (sym (c.loop-tenant.invariant.same clean.intact)) (c.requires.inside (c.loop-tenant.invariant.within.follows.clean clean)) }
 
-pub returns-in_err-told-clause-within : goal.returns-in_err-told-clause-within
-returns-in_err-told-clause-within g c = within_then _ _ _ c.loop-tenant.invariant.opens c.loop-tenant.invariant.within c.in_err-told.ensures.within
-
-pub returns-in_err-push-clause-within : goal.returns-in_err-push-clause-within
-returns-in_err-push-clause-within g c = within_then _ _ _ c.loop-tenant.invariant.opens c.loop-tenant.invariant.within c.in_ok-told.ensures.within
-
 pub loop-tenant-preserved : goal.loop-tenant-preserved
 loop-tenant-preserved g c =
     let inv = c.loop-tenant.invariant in
@@ -28,11 +22,11 @@ loop-tenant-preserved g c =
     let f : ListedTenant → TenantTold = λ t. told_with old (tenant_seen t) in
     let pushed : c.push.new.self.items ≡ c.loop-tenant.all.items ++ c.in_ok-told.told ∷ [] = grind (arith, common_steps) in
     record {
-      within = within_then _ _ _ inv.opens inv.within step.within;
-      opens = λ intact up. step.opens intact (inv.opens (step.within.follows.intact intact) up);
-      same = λ intact. step.same intact ∙ inv.same (step.within.follows.intact intact);
+      within = within_then _ _ _ inv.opens inv.within step.reads.within;
+      opens = λ intact up. step.reads.opens intact (inv.opens (step.reads.within.follows.intact intact) up);
+      same = λ intact. step.reads.same intact ∙ inv.same (step.reads.within.follows.intact intact);
       told = λ clean.
-          let was = step.within.follows.clean clean in
+          let was = step.reads.within.follows.clean clean in
           let same : tables_at (state g.S.Store c.loop-tenant.connection) ≡ old = ap (λ (x : Standing). tables_in x.now) (inv.same was.intact) in
           ap (map tenant_view) pushed ∙ map-append tenant_view c.loop-tenant.all.items (c.in_ok-told.told ∷ [])
           ∙ ap₂ (λ l y. l ++ y ∷ []) (inv.told was) (step.told clean ∙ ap (λ (x : Tables). told_with x (tenant_seen c.tenant-item.result)) same ∙ ap f c.tenant-item.is)

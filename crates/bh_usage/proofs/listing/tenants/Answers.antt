@@ -22,7 +22,7 @@ returns-clause-lists g c = go c.or_trouble.result c.or_trouble.ensures.ok
 
     go : (result : Result (Vec TenantReport Global) Trouble) → IfOk result (λ x. c.read_all.result ≡ Ok x) → IfOk result (λ listed. IsStateClean new → Lists listed.items (tables_at old) (tables_at new))
     go (Err e) is = tt
-    go (Ok x) is = λ clean. record { told = IfOk-at_ok _ is c.read_all.ensures.told clean; same = same_tables old new (on_ok _ is c.read_all.ensures.same clean.intact) }
+    go (Ok x) is = λ clean. record { told = IfOk-at_ok _ is c.read_all.ensures.told clean; same = same_tables old new (on_ok _ is c.read_all.ensures.reads.same clean.intact) }
 
 pub returns-clause-working : goal.returns-clause-working
 returns-clause-working g c = go c.or_trouble.result c.or_trouble.ensures.ok
@@ -35,4 +35,4 @@ returns-clause-working g c = go c.or_trouble.result c.or_trouble.ensures.ok
 
     go : (result : Result (Vec TenantReport Global) Trouble) → IfOk result (λ x. c.read_all.result ≡ Ok x) → OnOk result (IsStateClean new → StillWorking old new)
     go (Err e) is = tt
-    go (Ok x) is = asked_working old new c.read_all.ensures.within c.requires (on_ok _ is c.read_all.ensures.same)
+    go (Ok x) is = asked_working old new c.read_all.ensures.reads.within c.requires (on_ok _ is c.read_all.ensures.reads.same)

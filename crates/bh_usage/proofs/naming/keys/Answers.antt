@@ -28,13 +28,13 @@ returns-clause-working g c =
     let old = state g.S.Store c.args.connection.now in
     let one = state g.S.Store c.account_of.new.connection in
     let two = state g.S.Store c.key_names.new.connection in
-    asked_twice old one c.account_of.ensures.within c.requires.working c.in_ok-account_of.ensures.same two c.key_names.ensures.within (on_ok _ c.in_ok-or_trouble.ensures.ok c.key_names.ensures.same)
+    asked_twice old one c.account_of.ensures.within c.requires.working c.in_ok-account_of.ensures.same two c.key_names.ensures.reads.within (on_ok _ c.in_ok-or_trouble.ensures.ok c.key_names.ensures.reads.same)
 
 pub returns-clause-carries : goal.returns-clause-carries
 returns-clause-carries g c clean =
-    let between = c.key_names.ensures.within.follows.clean clean in
+    let between = c.key_names.ensures.reads.within.follows.clean clean in
     let read = rw c.as_str.ensures.value at (IfOk-at_ok _ c.in_ok-or_trouble.ensures.ok c.key_names.ensures.names clean) in
-    let same = ap (λ (x : Standing). tables_in x.now) (on_ok _ c.in_ok-or_trouble.ensures.ok c.key_names.ensures.same clean.intact) in
+    let same = ap (λ (x : Standing). tables_in x.now) (on_ok _ c.in_ok-or_trouble.ensures.ok c.key_names.ensures.reads.same clean.intact) in
     names (tables_at (state g.S.Store c.args.connection.now)) c.args.tenant.now (c.requires.working (c.account_of.ensures.within.follows.clean between)).sound
     (tables_at (state g.S.Store c.account_of.new.connection)) (tables_at (state g.S.Store c.key_names.new.connection)) (map string_bytes c.in_ok-or_trouble.field-0.items)
     (c.in_ok-account_of.ensures.decides between) read same

@@ -7,5 +7,5 @@ use Rattle.bh_usage.proofs.rows.tenant_list.Goals as goal
 
 pub returns-clause-trouble : goal.returns-clause-trouble
 returns-clause-trouble g c = IfErr-weaker c.read_tenants.result _ _ (λ e trouble intact unlimited texts.
-    let clean : IsStateClean (state g.S.Store c.tenant_rows.new.connection) = record { intact = intact; is_open = (c.in_ok-rows.ensures.opens intact).1 } in
+    let clean : IsStateClean (state g.S.Store c.tenant_rows.new.connection) = record { intact = intact; is_open = (c.in_ok-rows.ensures.reads.opens intact).1 } in
     trouble (tables_in (standing (state g.S.Store c.args.connection.now)).now) _ (c.deref.ensures.value ∙ c.in_ok-rows.ensures.rows clean) texts) c.read_tenants.ensures.trouble

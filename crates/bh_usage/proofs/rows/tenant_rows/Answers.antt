@@ -17,4 +17,4 @@ returns g c =
     let old = state g.S.Store c.args.connection.now in
     let all = sorted tenants old (state g.S.Store c.query_all.new.self) c.requires.inside (λ v. v.items) c.query_all.result (tenants_listed (totals_of (tables old))) h.ok h.err h.survives in
     let q = asked _ _ (λ t. ap (λ l. map (shown_quota (totals_of (tables old))) (sort_by by_tenant l)) (all_pass t.tenants)) all in
-    record { within = q.within; opens = q.opens; same = q.same; rows = q.rows; trouble = q.trouble }
+    record { reads = record { within = q.within; opens = q.opens; same = q.same }; rows = q.rows; trouble = q.trouble }

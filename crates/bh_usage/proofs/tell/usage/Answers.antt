@@ -34,13 +34,13 @@ returns-clause-working g c =
     let old = state g.S.Store c.args.connection.now in
     let one = state g.S.Store c.account_of.new.connection in
     let two = state g.S.Store c.row_counts.new.connection in
-    asked_twice old one c.account_of.ensures.within c.requires.working c.in_ok-account.ensures.same two c.row_counts.ensures.within (on_ok _ c.in_ok-rows.ensures.ok c.row_counts.ensures.same)
+    asked_twice old one c.account_of.ensures.within c.requires.working c.in_ok-account.ensures.same two c.row_counts.ensures.reads.within (on_ok _ c.in_ok-rows.ensures.ok c.row_counts.ensures.reads.same)
 
 pub returns-clause-carries : goal.returns-clause-carries
 returns-clause-carries g c clean =
-    let between = c.row_counts.ensures.within.follows.clean clean in
+    let between = c.row_counts.ensures.reads.within.follows.clean clean in
     let counted = rw c.as_str.ensures.value at (IfOk-at_ok _ c.in_ok-rows.ensures.ok c.row_counts.ensures.counts clean) in
-    let same = ap (λ (x : Standing). tables_in x.now) (on_ok _ c.in_ok-rows.ensures.ok c.row_counts.ensures.same clean.intact) in
+    let same = ap (λ (x : Standing). tables_in x.now) (on_ok _ c.in_ok-rows.ensures.ok c.row_counts.ensures.reads.same clean.intact) in
     tells (tables_at (state g.S.Store c.args.connection.now)) c.args.tenant.now (c.requires.working (c.account_of.ensures.within.follows.clean between)).sound
     (tables_at (state g.S.Store c.account_of.new.connection)) (tables_at (state g.S.Store c.row_counts.new.connection)) c.in_ok-account.account.numbers.quota c.in_ok-rows.rows (usage_view c.in_ok-told.field-0)
     (c.in_ok-account.ensures.decides between) counted same c.in_ok-told.ensures
