@@ -2,6 +2,7 @@
 use Rattle.std.proofs.Common.{◌≡◌, ℕ, pos, ◌-ℤ◌, List, [], ◌∷◌, ◌++◌, Bool, true, false, None, int_lt, Ok, Err, Result, OnOk, IfErr, sym, subst}
 use Rattle.std.specs.List.{list_any, AllByRecursion}
 use Rattle.sqlite.specs.Edit.{next_rowid}
+use Rattle.sqlite.specs.declared.types.Value.TheVariants.{Blob}
 use Rattle.sqlite.specs.Effect.{IsDatabase}
 use Rattle.sqlite.specs.Order.{Row}
 use Rattle.sqlite.specs.State.{State, HasCleanDisk, IsLive, Survives, Executes, CommitsBy}
@@ -13,7 +14,7 @@ use Rattle.bh_rows.specs.Form.{Entry, put, entries, typed}
 use Rattle.bh_rows.specs.Means.{is_trouble}
 use Rattle.bh_rows.proofs.TextLemmas as text
 use Rattle.bh_tables.specs.Schema.{host_schema, uses_table, refs_table, blocks_table, at}
-use Rattle.bh_tables.specs.Typed.{Totals, counted, UseRow, use_form, is_named, RefRow, ref_form, BlockRow, block_form, IsHostBy, tables, tables_in, rebodied}
+use Rattle.bh_tables.specs.Typed.{Totals, counted, UseRow, use_form, is_named, number, RefRow, ref_form, BlockRow, block_form, IsHostBy, tables, tables_in, rebodied}
 use Rattle.bh_tables.specs.Shown.{Name, block_name, ref_name, is_block, is_use, is_at_place}
 use Rattle.bh_tables.proofs.BlockTexts.{new_block, block_free, unreferenced_goes}
 use Rattle.bh_tables.proofs.OwnedLemmas.{block_unused}
@@ -25,6 +26,9 @@ use Rattle.bh_schema.specs.Layer.{standing, IsIntact, IsOpen, IsStateClean, IsMi
 use Rattle.bh_schema.proofs.Calls.{Turn}
 use Rattle.bh_schema.proofs.Calls as call
 use Rattle.bh_blocks.specs.Uses.{IsNewName, IsUsed}
+use Rattle.bh_blocks.specs.UseChanges.{uses_after, MayChange, IsTextOf}
+use Rattle.bh_blocks.specs.declared.uses.UseChange.{UseChange}
+use Rattle.bh_blocks.specs.declared.uses.UseChange.TheVariants as change
 
 -- the counts that are kept become these of those that were
 use_turned : (old new : State) (change : List UseRow → List UseRow) (sums : Totals) → IsHostBy sums old.now → Leaves use_form host_schema 23 old new (change (typed use_form (old.now.trees 23))) → IsHostBy (counted change sums) new.now × (tables new ≡ tables old)
@@ -111,3 +115,27 @@ module _ (old new : State) (midst : IsStateClean old → IsMidst (standing old))
       let found = has_filtered (λ (d : Entry UseRow). is_named q d.1) (entries use_form ((standing old).now.trees 23)) e there in
       let counts = call.at_entry use_form (λ u. is_named q u ≡ true → int_lt (pos 0) u.uses ≡ true) ((standing old).now.trees 23) (subst (AllByRecursion (λ u. is_named q u ≡ true → int_lt (pos 0) u.uses ≡ true)) (sym m.by.host.held.counts) (used m.sums m.by)) e found.0 in
       lowered_suits e.0 e.1 (counts found.1) suits) runs survives
+
+-- ---- each change of a count
+
+module _ (old new : State) (midst : IsStateClean old → IsMidst (standing old)) (result : Result ℕ Error) (live : IsLive old) (sql : List ℕ) (q : Name) where
+  abbrev params : Row
+  params = Blob q.0 ∷ number q.1 ∷ []
+
+  pub turns : (change : UseChange) → IsTextOf change sql → (HasCleanDisk new → Executes sql params old new result) → Survives old new (CommitsBy sql params old) → Turn old new (counted (uses_after change q)) (λ t. t) result
+  turns change.Added it = adds old new midst result live (it q)
+  turns change.Raised it = sets old new midst result live (it q)
+  turns change.Lowered it = sets old new midst result live (it q)
+  turns change.Removed it = drops old new midst result live (it q)
+
+  -- nothing is said under a premise that doesn't hold
+  unsaid : (r : Result ℕ Error) → IfErr r (λ e. IsIntact new → (standing old).limit ≡ None → ⊥ → is_trouble e ≡ true)
+  unsaid (Ok n) = tt
+  unsaid (Err e) = λ intact unlimited no. absurd no
+
+  pub turns_trouble : (change : UseChange) → IsTextOf change sql → (HasCleanDisk new → Executes sql params old new result) → Survives old new (CommitsBy sql params old)
+      → IfErr result (λ e. IsIntact new → (standing old).limit ≡ None → MayChange change q (standing old) → is_trouble e ≡ true)
+  turns_trouble change.Added it runs survives = unsaid result
+  turns_trouble change.Raised it runs survives = unsaid result
+  turns_trouble change.Lowered it runs survives = lowers_trouble old new midst result live q (it q) runs survives
+  turns_trouble change.Removed it runs survives = use_drops_trouble old new midst result live (it q) runs survives

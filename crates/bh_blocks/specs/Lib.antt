@@ -2,7 +2,9 @@ pub mod Added
 pub mod Digests
 pub mod Drafts
 pub mod Named
+pub mod Midst
 pub mod Plans
 pub mod SipHash
+pub mod UseChanges
 pub mod Uses
 pub mod Windows

@@ -11,7 +11,7 @@ ghost use Rattle.bh_blocks.specs.Named.{body_at, placed_at};
 
 use crate::refs::{Place, insert_ref, refer};
 use crate::rows::{copy_rows, in_range, insert_block, ord_rows, read_ord};
-use crate::uses::insert_use;
+use crate::uses::{UseChange, change_uses};
 use bh_cache::blocks::{BlockCache, BlockName};
 use bh_schema::host::Digester;
 use sqlite::{Alter, Connection, Error, ErrorCode, Row};
@@ -129,7 +129,7 @@ fn add_block<S: Alter>(
 {
     insert_block(connection, digest, ord, bytes)?;
     insert_ref(connection, at, digest, ord, bytes.len() as u64)?;
-    insert_use(connection, digest, ord)?;
+    change_uses(connection, UseChange::Added, digest, ord)?;
     Ok(())
 }
 

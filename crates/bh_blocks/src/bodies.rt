@@ -18,7 +18,7 @@ use crate::blocks::store_named;
 use crate::drafts::{begin_body, end_body, push};
 use crate::refs::{Place, delete_refs, read_ref, ref_rows, refer};
 use crate::rows::in_range;
-use crate::uses::lower_uses;
+use crate::uses::{UseChange, change_uses};
 use bh_cache::blocks::BlockCache;
 use bh_schema::host::Digester;
 use sqlite::{Alter, Connection, Error, Row};
@@ -263,7 +263,7 @@ fn lower_named<S: Alter>(connection: &mut Connection<S>, row: &Row) -> Result<()
         (IsUsed (ref_name r) (stands S.Store connection.old)) e) }
 {
     let block = read_ref(row)?;
-    lower_uses(connection, &block.digest, block.ord)?;
+    change_uses(connection, UseChange::Lowered, &block.digest, block.ord)?;
     Ok(())
 }
 

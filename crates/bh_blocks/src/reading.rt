@@ -103,36 +103,6 @@ fn keep_row(cache: &mut BlockCache, alloc: Global, block: &BlockRef, row: &Row)
     }
 }
 
-/// The part of a block that a window shows, as its row has it, and the block is kept. The window is to show some of it.
-fn read_row<S: Alter>(
-    connection: &mut Connection<S>,
-    cache: &mut BlockCache,
-    alloc: Global,
-    block: &BlockRef,
-    window: Window,
-) -> Result<Vec<u8>, Error>
-    requires reads { CanRead S.Store connection.old }
-    requires agrees { IsClean S.Store connection.old → Agrees cache.old (tables S.Store connection.old).blocks }
-    requires small { block.now.ord < 2 ^ 63 }
-    ensures within { StaysWithin S.Store connection.old connection.new }
-    ensures opens { OnOk result (WasOpen S.Store connection.old connection.new) }
-    ensures same { OnOk result (ChangesNothing S.Store connection.old connection.new) }
-    ensures agrees { OnOk result (IsClean S.Store connection.new → Agrees cache.new (tables S.Store connection.new).blocks) }
-    ensures some { IfOk result (λ bytes. 0 < length bytes.items) }
-    ensures most { IfOk result (λ bytes. length bytes.items ≤ window.left) }
-    ensures bytes { IfOk result (λ bytes. IsClean S.Store connection.new
-        → bytes.items ≡ seen_in window (block_at (tables S.Store connection.old).blocks (named_by block.now))) }
-{
-    let rows = bytes_rows(connection, &block.digest, block.ord)?;
-    match rows.first() {
-        None => Err(Error::SqliteFailure(ErrorCode::DatabaseCorrupt)),
-        Some(row) => {
-            keep_row(cache, alloc, block, row);
-            shown_part(alloc, row, window)
-        }
-    }
-}
-
 /// The part of a block that a window shows, where it is kept in memory. The window is to show some of it.
 fn kept_part(
     cache: &mut BlockCache,
@@ -157,7 +127,8 @@ fn kept_part(
     Ok(Some(bytes))
 }
 
-/// The same, which reads no row where the block is kept in memory.
+/// The part of a block that a window shows: no row is read where the block is kept in memory, and else it is kept. The window
+/// is to show some of it.
 fn read_part<S: Alter>(
     connection: &mut Connection<S>,
     cache: &mut BlockCache,
@@ -177,9 +148,16 @@ fn read_part<S: Alter>(
     ensures bytes { IfOk result (λ bytes. IsClean S.Store connection.new
         → bytes.items ≡ seen_in window (block_at (tables S.Store connection.old).blocks (named_by block.now))) }
 {
-    match kept_part(cache, alloc, block, window)? {
-        Some(bytes) => Ok(bytes),
-        None => read_row(connection, cache, alloc, block, window),
+    if let Some(bytes) = kept_part(cache, alloc, block, window)? {
+        return Ok(bytes);
+    }
+    let rows = bytes_rows(connection, &block.digest, block.ord)?;
+    match rows.first() {
+        None => Err(Error::SqliteFailure(ErrorCode::DatabaseCorrupt)),
+        Some(row) => {
+            keep_row(cache, alloc, block, row);
+            shown_part(alloc, row, window)
+        }
     }
 }
 

@@ -7,13 +7,15 @@ ghost use Rattle.bh_rows.specs.Means.{is_trouble};
 ghost use Rattle.bh_tables.specs.Bodies.{placed};
 ghost use Rattle.bh_tables.specs.Typed.{RefRow, rebodied};
 ghost use Rattle.bh_tables.specs.Shown.{ref_name, is_block, is_of_body, is_at_place, by_place, shown_ref};
-ghost use Rattle.bh_schema.specs.Connections.{IsClean, tables, CanRead, InTransaction, InMidst, Rewrites, StaysWithin, WasOpen, StaysOpen, ChangesNothing, Becomes, IsTrouble, IsTroubleIf};
+ghost use Rattle.bh_schema.specs.Connections.{IsClean, tables, CanRead, InTransaction, InMidst, Rewrites, StaysWithin, StaysOpen, Becomes, IsTrouble, IsTroubleIf};
+ghost use Rattle.bh_schema.specs.Calls.{Reads};
+ghost use Rattle.bh_blocks.specs.Midst.{WritesOn};
 ghost use Rattle.bh_view.specs.Bodies.{HasBodies};
 ghost use Rattle.bh_blocks.specs.Named.{named_by, placed_at, body_at};
 ghost use Rattle.bh_blocks.specs.Plans.{IsFirst};
 
 use crate::rows::in_range;
-use crate::uses::raise_uses;
+use crate::uses::{UseChange, change_uses};
 use bh_schema::rows::number::number;
 use sqlite::types::ToSql;
 use sqlite::{Alter, Connection, Error, Row};
@@ -60,9 +62,7 @@ pub fn ref_rows<S: Alter>(
 ) -> Result<Vec<Row>, Error>
     requires inside { InTransaction S.Store connection.old }
     requires small { body < 2 ^ 63 }
-    ensures within { StaysWithin S.Store connection.old connection.new }
-    ensures opens { OnOk result (WasOpen S.Store connection.old connection.new) }
-    ensures same { OnOk result (ChangesNothing S.Store connection.old connection.new) }
+    ensures reads { Reads S.Store connection.old connection.new result }
     ensures rows { IfOk result (λ rows. IsClean S.Store connection.new
         → rows.items ≡ map shown_ref (sort_by by_place (filter (is_of_body (tenant.now, body)) (tables S.Store connection.old).refs))) }
     ensures trouble { IfErr result (IsTrouble S.Store connection.old connection.new) }
@@ -78,9 +78,7 @@ pub fn rows_at<S: Alter>(connection: &mut Connection<S>, at: &Place<'_>) -> Resu
     requires reads { CanRead S.Store connection.old }
     requires body { at.now.body < 2 ^ 63 }
     requires place { at.now.place < 2 ^ 63 }
-    ensures within { StaysWithin S.Store connection.old connection.new }
-    ensures opens { OnOk result (WasOpen S.Store connection.old connection.new) }
-    ensures same { OnOk result (ChangesNothing S.Store connection.old connection.new) }
+    ensures reads { Reads S.Store connection.old connection.new result }
     ensures rows { IfOk result (λ rows. IsClean S.Store connection.new
         → rows.items ≡ map shown_ref (filter (is_at_place (at.now.tenant.now, at.now.body) at.now.place) (tables S.Store connection.old).refs)) }
     ensures trouble { IfErr result (IsTrouble S.Store connection.old connection.new) }
@@ -99,9 +97,7 @@ pub fn ref_at<S: Alter>(
     requires reads { CanRead S.Store connection.old }
     requires body { at.now.body < 2 ^ 63 }
     requires place { at.now.place < 2 ^ 63 }
-    ensures within { StaysWithin S.Store connection.old connection.new }
-    ensures opens { OnOk result (WasOpen S.Store connection.old connection.new) }
-    ensures same { OnOk result (ChangesNothing S.Store connection.old connection.new) }
+    ensures reads { Reads S.Store connection.old connection.new result }
     ensures small { IfOk result (λ found. IfSome found (λ block. block.ord < 2 ^ 63)) }
     ensures first { IfOk result (λ found. IsClean S.Store connection.new → HasBodies (tables S.Store connection.old)
         → IsFirst found (drop at.now.place (placed (tables S.Store connection.old).refs (body_at at.now)))) }
@@ -126,9 +122,7 @@ pub fn insert_ref<S: Alter>(
     requires place { at.now.place < 2 ^ 63 }
     requires small { ord < 2 ^ 63 }
     requires low { size < 2 ^ 63 }
-    ensures within { StaysWithin S.Store connection.old connection.new }
-    ensures opens { OnOk result (StaysOpen S.Store connection.old connection.new) }
-    ensures midst { OnOk result (InMidst S.Store connection.new) }
+    ensures writes { WritesOn S.Store connection.old connection.new result }
     ensures rewrites { OnOk result (Rewrites S.Store connection.old connection.new (λ sums. sums)
         (λ rows. rebodied rows (rows.refs ++ placed_at at.now digest.now ord size ∷ []) rows.blocks)) }
     ensures trouble { IfErr result (IsTroubleIf S.Store connection.old connection.new
@@ -158,9 +152,7 @@ pub fn delete_refs<S: Alter>(
 ) -> Result<usize, Error>
     requires midst { InMidst S.Store connection.old }
     requires small { body < 2 ^ 63 }
-    ensures within { StaysWithin S.Store connection.old connection.new }
-    ensures opens { OnOk result (StaysOpen S.Store connection.old connection.new) }
-    ensures midst { OnOk result (InMidst S.Store connection.new) }
+    ensures writes { WritesOn S.Store connection.old connection.new result }
     ensures rewrites { OnOk result (Rewrites S.Store connection.old connection.new (λ sums. sums)
         (λ rows. rebodied rows (delete_where (is_of_body (tenant.now, body)) rows.refs) rows.blocks)) }
     ensures trouble { IfErr result (IsTrouble S.Store connection.old connection.new) }
@@ -192,6 +184,6 @@ pub fn refer<S: Alter>(
         (λ rows. rebodied rows (rows.refs ++ placed_at at.now digest.now ord size ∷ []) rows.blocks)) }
 {
     insert_ref(connection, at, digest, ord, size)?;
-    raise_uses(connection, digest, ord)?;
+    change_uses(connection, UseChange::Raised, digest, ord)?;
     Ok(())
 }

@@ -12,7 +12,7 @@ ghost use Rattle.bh_cache.specs.Kept.{Agrees};
 ghost use Rattle.bh_blocks.specs.Named.{stored_name};
 
 use crate::rows::{StoredName, delete_block, read_name};
-use crate::uses::{delete_use, unreferenced_rows};
+use crate::uses::{UseChange, change_uses, unreferenced_rows};
 use bh_cache::blocks::{BlockCache, BlockName};
 use sqlite::{Alter, Connection, Error, Row};
 
@@ -32,7 +32,7 @@ fn remove_block<S: Alter>(
         (list_any (is_use (digest.now, ord)) (tables S.Store connection.old).refs ≡ false)) }
 {
     delete_block(connection, digest, ord)?;
-    delete_use(connection, digest, ord)?;
+    change_uses(connection, UseChange::Removed, digest, ord)?;
     Ok(())
 }
 

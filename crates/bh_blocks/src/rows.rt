@@ -6,7 +6,9 @@ ghost use Rattle.sqlite_keyed.specs.Lists.{delete_where, sort_by};
 ghost use Rattle.bh_rows.specs.Means.{is_trouble};
 ghost use Rattle.bh_tables.specs.Typed.{BlockRow as Stored, rebodied};
 ghost use Rattle.bh_tables.specs.Shown.{block_name, is_copy, is_block, is_use, has_digest, by_ord, shown_ord, shown_name, shown_bytes};
-ghost use Rattle.bh_schema.specs.Connections.{IsClean, tables, CanRead, InTransaction, InMidst, Rewrites, StaysWithin, WasOpen, StaysOpen, ChangesNothing, IsTrouble, IsTroubleIf};
+ghost use Rattle.bh_schema.specs.Connections.{IsClean, tables, CanRead, InTransaction, InMidst, Rewrites, IsTrouble, IsTroubleIf};
+ghost use Rattle.bh_schema.specs.Calls.{Reads};
+ghost use Rattle.bh_blocks.specs.Midst.{WritesOn};
 ghost use Rattle.bh_blocks.specs.Named.{stored_name};
 ghost use Rattle.bh_blocks.specs.Uses.{IsNewName};
 
@@ -61,9 +63,7 @@ pub fn copy_rows<S: Alter>(
     bytes: &[u8],
 ) -> Result<Vec<Row>, Error>
     requires inside { InTransaction S.Store connection.old }
-    ensures within { StaysWithin S.Store connection.old connection.new }
-    ensures opens { OnOk result (WasOpen S.Store connection.old connection.new) }
-    ensures same { OnOk result (ChangesNothing S.Store connection.old connection.new) }
+    ensures reads { Reads S.Store connection.old connection.new result }
     ensures rows { IfOk result (λ rows. IsClean S.Store connection.new
         → rows.items ≡ map shown_ord (filter (is_copy digest.now bytes.now) (tables S.Store connection.old).blocks)) }
     ensures trouble { IfErr result (IsTrouble S.Store connection.old connection.new) }
@@ -76,9 +76,7 @@ pub fn copy_rows<S: Alter>(
 
 pub fn ord_rows<S: Alter>(connection: &mut Connection<S>, digest: &[u8]) -> Result<Vec<Row>, Error>
     requires inside { InTransaction S.Store connection.old }
-    ensures within { StaysWithin S.Store connection.old connection.new }
-    ensures opens { OnOk result (WasOpen S.Store connection.old connection.new) }
-    ensures same { OnOk result (ChangesNothing S.Store connection.old connection.new) }
+    ensures reads { Reads S.Store connection.old connection.new result }
     ensures rows { IfOk result (λ rows. IsClean S.Store connection.new
         → rows.items ≡ map shown_ord (sort_by by_ord (filter (has_digest digest.now) (tables S.Store connection.old).blocks))) }
     ensures trouble { IfErr result (IsTrouble S.Store connection.old connection.new) }
@@ -97,9 +95,7 @@ pub fn bytes_rows<S: Alter>(
 ) -> Result<Vec<Row>, Error>
     requires reads { CanRead S.Store connection.old }
     requires small { ord < 2 ^ 63 }
-    ensures within { StaysWithin S.Store connection.old connection.new }
-    ensures opens { OnOk result (WasOpen S.Store connection.old connection.new) }
-    ensures same { OnOk result (ChangesNothing S.Store connection.old connection.new) }
+    ensures reads { Reads S.Store connection.old connection.new result }
     ensures rows { IfOk result (λ rows. IsClean S.Store connection.new
         → rows.items ≡ map shown_bytes (filter (is_block (digest.now, ord)) (tables S.Store connection.old).blocks)) }
     ensures trouble { IfErr result (IsTrouble S.Store connection.old connection.new) }
@@ -119,9 +115,7 @@ pub fn insert_block<S: Alter>(
 ) -> Result<usize, Error>
     requires midst { InMidst S.Store connection.old }
     requires small { ord < 2 ^ 63 }
-    ensures within { StaysWithin S.Store connection.old connection.new }
-    ensures opens { OnOk result (StaysOpen S.Store connection.old connection.new) }
-    ensures midst { OnOk result (InMidst S.Store connection.new) }
+    ensures writes { WritesOn S.Store connection.old connection.new result }
     ensures rewrites { OnOk result (Rewrites S.Store connection.old connection.new (λ sums. sums)
         (λ rows. rebodied rows rows.refs (rows.blocks ++ record { digest = digest.now; ord = ord; bytes = bytes.now } ∷ []))) }
     ensures fresh { OnOk result (IsClean S.Store connection.new → IsNewName (digest.now, ord) (tables S.Store connection.old)) }
@@ -144,9 +138,7 @@ pub fn delete_block<S: Alter>(
 ) -> Result<usize, Error>
     requires midst { InMidst S.Store connection.old }
     requires small { ord < 2 ^ 63 }
-    ensures within { StaysWithin S.Store connection.old connection.new }
-    ensures opens { OnOk result (StaysOpen S.Store connection.old connection.new) }
-    ensures midst { OnOk result (InMidst S.Store connection.new) }
+    ensures writes { WritesOn S.Store connection.old connection.new result }
     ensures rewrites { OnOk result (Rewrites S.Store connection.old connection.new (λ sums. sums)
         (λ rows. rebodied rows rows.refs (delete_where (is_block (digest.now, ord)) rows.blocks))) }
     ensures trouble { IfErr result (IsTroubleIf S.Store connection.old connection.new

@@ -16,10 +16,10 @@ returns-clause-added g c clean =
     let a = state g.S.Store c.args.connection.now in
     let b = state g.S.Store c.insert_block.new.connection in
     let d = state g.S.Store c.insert_ref.new.connection in
-    let e = state g.S.Store c.insert_use.new.connection in
+    let e = state g.S.Store c.change_uses.new.connection in
     let one = c.in_ok-insert_block.ensures in
     let two = c.in_ok-insert_ref.ensures in
-    let three = c.in_ok-insert_use.ensures in
+    let three = c.in_ok-change_uses.ensures in
     let t = tables_in (standing a).now in
     let block : BlockRow = record { digest = c.args.digest.now; ord = c.args.ord; bytes = c.args.bytes.now } in
     let count : UseRow = record { digest = c.args.digest.now; ord = c.args.ord; uses = pos 1 } in
@@ -27,10 +27,10 @@ returns-clause-added g c clean =
     let with_block : Tables → Tables = λ rows. rebodied rows rows.refs (rows.blocks ++ block ∷ []) in
     let with_ref : Tables → Tables = λ rows. rebodied rows (rows.refs ++ r ∷ []) rows.blocks in
     let counts : Totals → Totals = counted (λ us. us ++ count ∷ []) in
-    let mid = three.within.follows.clean clean in
-    let first = two.within.follows.clean mid in
+    let mid = three.writes.within.follows.clean clean in
+    let first = two.writes.within.follows.clean mid in
     subst (λ rows. Holds rows (standing e)) (added_twice t r block)
-    (ended a e counts (λ rows. with_ref (with_block rows)) (λ _. one.within.follows.clean first) c.requires.inside
-    (then_turned a d e (λ s. s) counts (λ rows. with_ref (with_block rows)) (λ rows. rows) three.within.follows.clean
-    (then_turned a b d (λ s. s) (λ s. s) with_block with_ref two.within.follows.clean one.rewrites two.rewrites) three.rewrites)
+    (ended a e counts (λ rows. with_ref (with_block rows)) (λ _. one.writes.within.follows.clean first) c.requires.inside
+    (then_turned a d e (λ s. s) counts (λ rows. with_ref (with_block rows)) (λ rows. rows) three.writes.within.follows.clean
+    (then_turned a b d (λ s. s) (λ s. s) with_block with_ref two.writes.within.follows.clean one.rewrites two.rewrites) three.rewrites)
     (λ was. piece_law t r block refl (one.fresh first)) clean)

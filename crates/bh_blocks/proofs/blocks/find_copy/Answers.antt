@@ -15,5 +15,5 @@ returns-clause-found g c clean = row_read shown_ord (is_copy c.args.digest.now c
 
 pub returns-in_err-read_ord-in-Some-clause-trouble : goal.returns-in_err-read_ord-in-Some-clause-trouble
 returns-in_err-read_ord-in-Some-clause-trouble g c = handed_on _ _ _ c.from_residual-in_err-read_ord-in-Some.ensures (λ e same intact unlimited.
-    let clean : IsStateClean (state g.S.Store c.copy_rows.new.connection) = record { intact = intact; is_open = (c.in_ok-rows.ensures.opens intact).1 } in
+    let clean : IsStateClean (state g.S.Store c.copy_rows.new.connection) = record { intact = intact; is_open = (c.in_ok-rows.ensures.reads.opens intact).1 } in
     ap is_trouble same ∙ row_of shown_ord (is_copy c.args.digest.now c.args.bytes.now) _ _ (c.deref.ensures.value ∙ c.in_ok-rows.ensures.rows clean) c.in-Some.row.now c.in-Some.ensures.value (λ b found row. c.in_err-read_ord-in-Some.ensures.trouble b row))

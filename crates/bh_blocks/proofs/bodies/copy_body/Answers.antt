@@ -12,13 +12,13 @@ use Rattle.bh_blocks.proofs.Keeping.{resolved_at, still_inside}
 use Rattle.bh_blocks.proofs.bodies.copy_body.Goals as goal
 
 pub refer_to_all-requires-clause-inside : goal.refer_to_all-requires-clause-inside
-refer_to_all-requires-clause-inside g c = still_inside _ _ c.in_ok-rows.ensures.within c.in_ok-rows.ensures.same c.requires.inside
+refer_to_all-requires-clause-inside g c = still_inside _ _ c.in_ok-rows.ensures.reads.within c.in_ok-rows.ensures.reads.same c.requires.inside
 
 pub returns-clause-copied : goal.returns-clause-copied
 returns-clause-copied g c = on_ok_weaker c.refer_to_all.result (λ again clean.
     let old = tables_at (state g.S.Store c.args.connection.now) in
     let was = c.refer_to_all.ensures.within.follows.clean clean in
-    let same : tables_at (state g.S.Store c.ref_rows.new.connection) ≡ old = ap (λ (x : Standing). tables_in x.now) (c.in_ok-rows.ensures.same was.intact) in
+    let same : tables_at (state g.S.Store c.ref_rows.new.connection) ≡ old = ap (λ (x : Standing). tables_in x.now) (c.in_ok-rows.ensures.reads.same was.intact) in
     let rs = placed old.refs (c.args.tenant.now, c.args.source) in
     let it = again rs (c.deref.ensures.value ∙ c.in_ok-rows.ensures.rows was) clean in
     record { within = it.within; is = it.is ∙ ap (body_again (c.args.tenant.now, c.args.body) 0 rs) same }) c.refer_to_all.ensures.again
@@ -28,7 +28,7 @@ returns-clause-adds g c digest = on_ok_weaker c.refer_to_all.result (λ again cl
     let before = state g.S.Store c.args.connection.now in
     let old = tables_at before in
     let was = c.refer_to_all.ensures.within.follows.clean clean in
-    let same : tables_at (state g.S.Store c.ref_rows.new.connection) ≡ old = ap (λ (x : Standing). tables_in x.now) (c.in_ok-rows.ensures.same was.intact) in
+    let same : tables_at (state g.S.Store c.ref_rows.new.connection) ≡ old = ap (λ (x : Standing). tables_in x.now) (c.in_ok-rows.ensures.reads.same was.intact) in
     let at : Name = (c.args.tenant.now, c.args.body) in
     let source : Name = (c.args.tenant.now, c.args.source) in
     let rs = placed old.refs source in

@@ -16,7 +16,7 @@ use Rattle.bh_blocks.proofs.Keeping.{still_inside}
 use Rattle.bh_blocks.proofs.bodies.drop_body.Goals as goal
 
 pub lower_all-requires : goal.lower_all-requires
-lower_all-requires g c = record { midst = λ clean. in_midst (standing (state g.S.Store c.ref_rows.new.connection)) (still_inside _ _ c.in_ok-rows.ensures.within c.in_ok-rows.ensures.same c.requires.inside clean) }
+lower_all-requires g c = record { midst = λ clean. in_midst (standing (state g.S.Store c.ref_rows.new.connection)) (still_inside _ _ c.in_ok-rows.ensures.reads.within c.in_ok-rows.ensures.reads.same c.requires.inside clean) }
 
 pub returns-clause-dropped : goal.returns-clause-dropped
 returns-clause-dropped g c clean =
@@ -30,14 +30,14 @@ returns-clause-dropped g c clean =
     let body : Name = (c.args.tenant.now, c.args.body) in
     let t = tables_in (standing a).now in
     let rs = placed t.refs body in
-    let mid = two.within.follows.clean clean in
+    let mid = two.writes.within.follows.clean clean in
     let was = one.within.follows.clean mid in
-    let same = zero.same was.intact in
+    let same = zero.reads.same was.intact in
     let less : Tables → Tables = λ rows. rebodied rows (delete_where (is_of_body body) rows.refs) rows.blocks in
     let counts : Totals → Totals = counted (lowered_by rs) in
     subst (λ (x : Standing). Holds (less (tables_in x.now)) (standing e)) same
-    (ended b e counts less (λ _. was) (λ now. subst IsInside (sym same) (c.requires.inside (zero.within.follows.clean now)))
-    (then_turned b d e counts (λ s. s) (λ rows. rows) less two.within.follows.clean (one.rewrites rs (c.deref.ensures.value ∙ zero.rows was)) two.rewrites)
+    (ended b e counts less (λ _. was) (λ now. subst IsInside (sym same) (c.requires.inside (zero.reads.within.follows.clean now)))
+    (then_turned b d e counts (λ s. s) (λ rows. rows) less two.writes.within.follows.clean (one.rewrites rs (c.deref.ensures.value ∙ zero.rows was)) two.rewrites)
     (λ now. subst (λ (x : Standing). counts (totals_of (tables_in x.now)) ≡ totals_of (less (tables_in x.now))) (sym same) (sym (totals_dropped t body))) clean)
 
 pub returns-in_err-lower_all-clause-trouble : goal.returns-in_err-lower_all-clause-trouble
@@ -47,10 +47,10 @@ returns-in_err-lower_all-clause-trouble g c = handed_on _ _ _ c.from_residual-in
     let zero = c.in_ok-rows.ensures in
     let one = c.in_err-lower_all.ensures in
     let before = one.within.follows.intact intact in
-    let up = (zero.opens before).1 in
+    let up = (zero.reads.opens before).1 in
     let clean : IsStateClean b = record { intact = before; is_open = up } in
-    let was = zero.within.follows.clean clean in
+    let was = zero.reads.within.follows.clean clean in
     let body : Name = (c.args.tenant.now, c.args.body) in
     let t = tables_in (standing a).now in
-    ap is_trouble same ∙ one.trouble (placed t.refs body) (c.deref.ensures.value ∙ zero.rows clean) intact (zero.within.follows.limit ∙ unlimited)
-    (up, subst (AreUsed (placed t.refs body)) (sym (zero.same before)) (body_used body (standing a) t (c.requires.inside was))))
+    ap is_trouble same ∙ one.trouble (placed t.refs body) (c.deref.ensures.value ∙ zero.rows clean) intact (zero.reads.within.follows.limit ∙ unlimited)
+    (up, subst (AreUsed (placed t.refs body)) (sym (zero.reads.same before)) (body_used body (standing a) t (c.requires.inside was))))

@@ -14,11 +14,11 @@ returns-clause-rewrites g c r is clean sums by =
     let a = standing (state g.S.Store c.args.connection.now) in
     let q : Name = (c.deref.result.now, c.in_ok-block.block.ord) in
     let named : q ≡ ref_name r = (λ i. (c.deref.ensures.value i, c.in_ok-block.block.ord)) ∙ c.in_ok-block.ensures.name r is in
-    lowered_named q (ref_name r) sums (tables_in a.now) (standing (state g.S.Store c.lower_uses.new.connection)) named (c.in_ok-lower_uses.ensures.rewrites clean sums by)
+    lowered_named q (ref_name r) sums (tables_in a.now) (standing (state g.S.Store c.change_uses.new.connection)) named (c.in_ok-change_uses.ensures.rewrites clean sums by)
 
-pub returns-in_err-lower_uses-clause-trouble : goal.returns-in_err-lower_uses-clause-trouble
-returns-in_err-lower_uses-clause-trouble g c = handed_on _ _ _ c.from_residual-in_err-lower_uses.ensures (λ e same r is intact unlimited used.
+pub returns-in_err-change_uses-clause-trouble : goal.returns-in_err-change_uses-clause-trouble
+returns-in_err-change_uses-clause-trouble g c = handed_on _ _ _ c.from_residual-in_err-change_uses.ensures (λ e same r is intact unlimited used.
     let a = standing (state g.S.Store c.args.connection.now) in
     let q : Name = (c.deref.result.now, c.in_ok-block.block.ord) in
     let named : q ≡ ref_name r = (λ i. (c.deref.ensures.value i, c.in_ok-block.block.ord)) ∙ c.in_ok-block.ensures.name r is in
-    ap is_trouble same ∙ c.in_err-lower_uses.ensures.trouble intact unlimited (subst (λ n. IsUsed n a) (sym named) used))
+    ap is_trouble same ∙ c.in_err-change_uses.ensures.trouble intact unlimited (subst (λ n. IsUsed n a) (sym named) used))

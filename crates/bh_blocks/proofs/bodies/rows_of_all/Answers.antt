@@ -13,10 +13,10 @@ pub ref_rows-requires-clause-inside : goal.ref_rows-requires-clause-inside
 ref_rows-requires-clause-inside g c clean = subst IsInside (sym (c.loop-body.invariant.same clean.intact)) (c.requires.inside (c.loop-body.invariant.within.follows.clean clean))
 
 pub returns-in_err-found-clause-within : goal.returns-in_err-found-clause-within
-returns-in_err-found-clause-within g c = within_then _ _ _ c.loop-body.invariant.opens c.loop-body.invariant.within c.in_err-found.ensures.within
+returns-in_err-found-clause-within g c = within_then _ _ _ c.loop-body.invariant.opens c.loop-body.invariant.within c.in_err-found.ensures.reads.within
 
 pub returns-in_err-append_rows-clause-within : goal.returns-in_err-append_rows-clause-within
-returns-in_err-append_rows-clause-within g c = within_then _ _ _ c.loop-body.invariant.opens c.loop-body.invariant.within c.in_ok-found.ensures.within
+returns-in_err-append_rows-clause-within g c = within_then _ _ _ c.loop-body.invariant.opens c.loop-body.invariant.within c.in_ok-found.ensures.reads.within
 
 pub loop-body-preserved : goal.loop-body-preserved
 loop-body-preserved g c =
@@ -26,11 +26,11 @@ loop-body-preserved g c =
     let f : ℕ → List RefRow = λ body. placed old.refs (c.args.tenant.now, body) in
     let i = c.loop-body.body-index in
     record {
-      within = within_then _ _ _ inv.opens inv.within step.within;
-      opens = λ intact up. (step.opens intact).1;
-      same = λ intact. step.same intact ∙ inv.same (step.within.follows.intact intact);
+      within = within_then _ _ _ inv.opens inv.within step.reads.within;
+      opens = λ intact up. (step.reads.opens intact).1;
+      same = λ intact. step.reads.same intact ∙ inv.same (step.reads.within.follows.intact intact);
       rows = λ clean.
-          let was = step.within.follows.clean clean in
+          let was = step.reads.within.follows.clean clean in
           let same : tables_at (state g.S.Store c.loop-body.connection) ≡ old = ap (λ (x : Standing). tables_in x.now) (inv.same was.intact) in
           let body = c.in_ok-in_range.field-0 in
           ap (λ l. l ++ map shown_ref (flat_map f (drop (i + 1) c.args.bodies.now))) c.in_ok-append_rows.ensures

@@ -19,13 +19,13 @@ places-preserved g c =
     let step = c.in_ok-ref_at.ensures in
     let old = tables_at (state g.S.Store c.args.connection.now) in
     record {
-      within = within_then _ _ _ inv.opens inv.within step.within;
-      opens = λ intact up. (step.opens intact).1;
-      same = λ intact. step.same intact ∙ inv.same (step.within.follows.intact intact);
+      within = within_then _ _ _ inv.opens inv.within step.reads.within;
+      opens = λ intact up. (step.reads.opens intact).1;
+      same = λ intact. step.reads.same intact ∙ inv.same (step.reads.within.follows.intact intact);
       small = c.in_ok-place-in-Some.ensures.small;
       most = (let l = c.after-window.ensures.left in let m = inv.most in omega (arith, l, m));
       comes = λ clean bodies.
-          let was = step.within.follows.clean clean in
+          let was = step.reads.within.follows.clean clean in
           let same : tables_at (state g.S.Store c.places.connection) ≡ old = ap (λ (x : Standing). tables_in x.now) (inv.same was.intact) in
           let first = first_in _ c.in-Some.block c.places.place (planned c.args.plan.now) _ old same c.in-Some.is (step.first clean (subst HasBodies (sym same) bodies)) in
           passed_over old.blocks (bodies_in old) old.refs bodies (planned c.args.plan.now) c.in-Some.block c.places.window.skip c.places.window.left c.places.place c.in_ok-place-in-Some.place _ _

@@ -15,17 +15,17 @@ use Rattle.bh_blocks.proofs.Keeping.{still_inside}
 use Rattle.bh_blocks.proofs.reading.read_body.Goals as goal
 
 pub append_planned-requires-clause-reads : goal.append_planned-requires-clause-reads
-append_planned-requires-clause-reads g c clean = reads_inside _ (still_inside _ _ c.in_ok-rows.ensures.within c.in_ok-rows.ensures.same c.requires.inside clean)
+append_planned-requires-clause-reads g c clean = reads_inside _ (still_inside _ _ c.in_ok-rows.ensures.reads.within c.in_ok-rows.ensures.reads.same c.requires.inside clean)
 
 pub append_planned-requires-clause-agrees : goal.append_planned-requires-clause-agrees
-append_planned-requires-clause-agrees g c = still_kept (Agrees c.args.cache.now) (state g.S.Store c.args.connection.now) (state g.S.Store c.ref_rows.new.connection) c.in_ok-rows.ensures.within c.in_ok-rows.ensures.same c.requires.kept
+append_planned-requires-clause-agrees g c = still_kept (Agrees c.args.cache.now) (state g.S.Store c.args.connection.now) (state g.S.Store c.ref_rows.new.connection) c.in_ok-rows.ensures.reads.within c.in_ok-rows.ensures.reads.same c.requires.kept
 
 pub returns-clause-read : goal.returns-clause-read
 returns-clause-read g c clean bodies =
     let old = tables_at (state g.S.Store c.args.connection.now) in
     let step = c.in_ok-append_planned.ensures in
     let was = step.within.follows.clean clean in
-    let same : tables_at (state g.S.Store c.ref_rows.new.connection) ≡ old = ap (λ (x : Standing). tables_in x.now) (c.in_ok-rows.ensures.same was.intact) in
+    let same : tables_at (state g.S.Store c.ref_rows.new.connection) ≡ old = ap (λ (x : Standing). tables_in x.now) (c.in_ok-rows.ensures.reads.same was.intact) in
     let at : Name = (c.args.tenant.now, c.args.body) in
     let sizes = placed_measured (bodies_in old) old.refs old.blocks at bodies in
     let read = step.bytes clean (subst HasBodies (sym same) bodies) in

@@ -13,4 +13,4 @@ returns g c =
     let live = c.schema-schema.ensures.live in
     let q : Name = (c.args.tenant.now, c.args.body) in
     let w = refs_go old new c.requires.midst c.execute.result live (refs_deleted q) h.runs h.survives in
-    record { within = w.within; opens = w.opens; midst = w.midst; rewrites = w.rewrites; trouble = alone old new c.execute.result (refs_go_trouble old new c.requires.midst c.execute.result live (refs_deleted q) h.runs h.survives) }
+    record { writes = record { within = w.within; opens = w.opens; midst = w.midst }; rewrites = w.rewrites; trouble = alone old new c.execute.result (refs_go_trouble old new c.requires.midst c.execute.result live (refs_deleted q) h.runs h.survives) }

@@ -13,4 +13,4 @@ returns g c =
     let live = c.schema-schema.ensures.live in
     let r : RefRow = placed_at c.args.at.now c.args.digest.now c.args.ord c.args.size in
     let w = ref_comes old new c.requires.midst c.execute.result live (ref_inserted r) h.runs h.survives in
-    record { within = w.within; opens = w.opens; midst = w.midst; rewrites = w.rewrites; trouble = ref_comes_trouble old new c.requires.midst c.execute.result live r (ref_inserted r) h.runs h.survives }
+    record { writes = record { within = w.within; opens = w.opens; midst = w.midst }; rewrites = w.rewrites; trouble = ref_comes_trouble old new c.requires.midst c.execute.result live r (ref_inserted r) h.runs h.survives }

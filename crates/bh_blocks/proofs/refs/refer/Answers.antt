@@ -15,12 +15,12 @@ pub returns-clause-holds : goal.returns-clause-holds
 returns-clause-holds g c =
     let a = state g.S.Store c.args.connection.now in
     let b = state g.S.Store c.insert_ref.new.connection in
-    let d = state g.S.Store c.raise_uses.new.connection in
+    let d = state g.S.Store c.change_uses.new.connection in
     let one = c.in_ok-insert_ref.ensures in
-    let two = c.in_ok-raise_uses.ensures in
+    let two = c.in_ok-change_uses.ensures in
     let r = placed_at c.args.at.now c.args.digest.now c.args.ord c.args.size in
     let more : Tables → Tables = λ t. rebodied t (t.refs ++ r ∷ []) t.blocks in
     let up = counted (raised (c.args.digest.now, c.args.ord)) in
-    ended a d up more (λ clean. one.within.follows.clean (two.within.follows.clean clean)) c.requires.inside
-    (then_turned a b d (λ s. s) up more (λ t. t) two.within.follows.clean one.rewrites two.rewrites)
+    ended a d up more (λ clean. one.writes.within.follows.clean (two.writes.within.follows.clean clean)) c.requires.inside
+    (then_turned a b d (λ s. s) up more (λ t. t) two.writes.within.follows.clean one.rewrites two.rewrites)
     (λ was. sym (totals_with (tables_in (standing a).now) r))

@@ -8,4 +8,4 @@ pub returns : goal.returns
 returns g c =
     let h = rw (c.to_sql.ensures, c.number.ensures, c.number-2.ensures) at c.query_all.ensures in
     let q = selected_read refs (state g.S.Store c.args.connection.now) (state g.S.Store c.query_all.new.self) c.requires.reads (λ v. v.items) c.query_all.result (ref_shown (c.args.at.now.tenant.now, c.args.at.now.body) c.args.at.now.place) h.ok h.err h.survives in
-    record { within = q.within; opens = q.opens; same = q.same; rows = q.rows; trouble = q.trouble }
+    record { reads = record { within = q.within; opens = q.opens; same = q.same }; rows = q.rows; trouble = q.trouble }

@@ -16,12 +16,12 @@ pub returns-clause-removed : goal.returns-clause-removed
 returns-clause-removed g c =
     let a = state g.S.Store c.args.connection.now in
     let b = state g.S.Store c.delete_block.new.connection in
-    let d = state g.S.Store c.delete_use.new.connection in
+    let d = state g.S.Store c.change_uses.new.connection in
     let one = c.in_ok-delete_block.ensures in
-    let two = c.in_ok-delete_use.ensures in
+    let two = c.in_ok-change_uses.ensures in
     let q : Name = (c.args.digest.now, c.args.ord) in
     let less : Tables → Tables = λ t. rebodied t t.refs (delete_where (is_block q) t.blocks) in
     let counts = counted (delete_where (is_named q)) in
-    ended a d counts less (λ clean. one.within.follows.clean (two.within.follows.clean clean)) c.requires.inside
-    (then_turned a b d (λ s. s) counts less (λ t. t) two.within.follows.clean one.rewrites two.rewrites)
+    ended a d counts less (λ clean. one.writes.within.follows.clean (two.writes.within.follows.clean clean)) c.requires.inside
+    (then_turned a b d (λ s. s) counts less (λ t. t) two.writes.within.follows.clean one.rewrites two.rewrites)
     (λ was. sym (totals_without (tables_in (standing a).now) q))

@@ -17,7 +17,7 @@ use Rattle.bh_blocks.proofs.removal.remove_unreferenced.Goals as goal
 pub remove_all-requires : goal.remove_all-requires
 remove_all-requires g c =
     let first = rw c.from.ensures at c.in_ok-rows.ensures in
-    record { inside = still_inside _ _ first.within first.same c.requires.inside }
+    record { inside = still_inside _ _ first.reads.within first.reads.same c.requires.inside }
 
 pub returns-in_err-remove_all-clause-trouble : goal.returns-in_err-remove_all-clause-trouble
 returns-in_err-remove_all-clause-trouble g c = handed_on _ _ _ c.from_residual-in_err-remove_all.ensures (λ e same intact unlimited.
@@ -25,11 +25,11 @@ returns-in_err-remove_all-clause-trouble g c = handed_on _ _ _ c.from_residual-i
     let first = rw c.from.ensures at c.in_ok-rows.ensures in
     let then = c.in_err-remove_all.ensures in
     let before = then.within.follows.intact intact in
-    let up = (first.opens before).1 in
+    let up = (first.reads.opens before).1 in
     let clean : IsStateClean (state g.S.Store c.unreferenced_rows.new.connection) = record { intact = before; is_open = up } in
-    let refs = ap (λ (x : Standing). (tables_in x.now).refs) (first.same before) in
+    let refs = ap (λ (x : Standing). (tables_in x.now).refs) (first.reads.same before) in
     let gone = unreferenced c.args.limit old.refs old.blocks in
-    ap is_trouble same ∙ then.trouble gone (c.deref.ensures.value ∙ first.rows clean) intact (first.within.follows.limit ∙ unlimited)
+    ap is_trouble same ∙ then.trouble gone (c.deref.ensures.value ∙ first.rows clean) intact (first.reads.within.follows.limit ∙ unlimited)
     (up, subst (λ r. AllByRecursion (λ (b : BlockRow). is_unreferenced r b ≡ true) gone) (sym refs) (unreferenced_are c.args.limit old.refs old.blocks)))
 
 pub returns-clause-keeps : goal.returns-clause-keeps
@@ -38,7 +38,7 @@ returns-clause-keeps g c digest clean sound digests =
     let first = rw c.from.ensures at c.in_ok-rows.ensures in
     let then = c.in_ok-remove_all.ensures in
     let was = then.within.follows.clean clean in
-    let same : tables_at (state g.S.Store c.unreferenced_rows.new.connection) ≡ old = ap (λ (x : Standing). tables_in x.now) (first.same was.intact) in
+    let same : tables_at (state g.S.Store c.unreferenced_rows.new.connection) ≡ old = ap (λ (x : Standing). tables_in x.now) (first.reads.same was.intact) in
     let gone = unreferenced c.args.limit old.refs old.blocks in
     subst (KeepsBodies digest old) (sym ((then.removed gone (c.deref.ensures.value ∙ first.rows was) clean).is ∙ ap (left gone) same))
     (blocks_removed digest old gone (unreferenced_are c.args.limit old.refs old.blocks) sound (resolved_at (state g.S.Store c.args.connection.now)) digests)
@@ -50,4 +50,4 @@ returns-clause-kept g c clean agrees =
     let then = c.in_ok-remove_all.ensures in
     let was = then.within.follows.clean clean in
     then.kept (unreferenced c.args.limit old.refs old.blocks) (c.deref.ensures.value ∙ first.rows was) clean
-    (subst (λ (x : Standing). Agrees c.args.cache.now (tables_in x.now).blocks) (sym (first.same was.intact)) agrees)
+    (subst (λ (x : Standing). Agrees c.args.cache.now (tables_in x.now).blocks) (sym (first.reads.same was.intact)) agrees)

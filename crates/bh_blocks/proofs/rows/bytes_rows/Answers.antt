@@ -8,4 +8,4 @@ pub returns : goal.returns
 returns g c =
     let h = rw (c.to_sql.ensures, c.number.ensures) at c.query_all.ensures in
     let q = selected_read blocks (state g.S.Store c.args.connection.now) (state g.S.Store c.query_all.new.self) c.requires.reads (λ v. v.items) c.query_all.result (bytes_shown (c.args.digest.now, c.args.ord)) h.ok h.err h.survives in
-    record { within = q.within; opens = q.opens; same = q.same; rows = q.rows; trouble = q.trouble }
+    record { reads = record { within = q.within; opens = q.opens; same = q.same }; rows = q.rows; trouble = q.trouble }

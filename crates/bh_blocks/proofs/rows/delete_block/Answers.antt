@@ -12,4 +12,4 @@ returns g c =
     let live = c.schema-schema.ensures.live in
     let q : Name = (c.args.digest.now, c.args.ord) in
     let w = block_goes old new c.requires.midst c.execute.result live (block_deleted q) h.runs h.survives in
-    record { within = w.within; opens = w.opens; midst = w.midst; rewrites = w.rewrites; trouble = block_goes_trouble old new c.requires.midst c.execute.result live q (block_deleted q) h.runs h.survives }
+    record { writes = record { within = w.within; opens = w.opens; midst = w.midst }; rewrites = w.rewrites; trouble = block_goes_trouble old new c.requires.midst c.execute.result live q (block_deleted q) h.runs h.survives }

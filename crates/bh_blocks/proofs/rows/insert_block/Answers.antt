@@ -13,9 +13,7 @@ returns g c =
     let b : BlockRow = record { digest = c.args.digest.now; ord = c.args.ord; bytes = c.args.bytes.now } in
     let w = block_comes old new c.requires.midst c.execute.result live (block_inserted b) h.runs h.survives in
     record {
-      within = w.within;
-      opens = w.opens;
-      midst = w.midst;
+      writes = record { within = w.within; opens = w.opens; midst = w.midst };
       rewrites = w.rewrites;
       fresh = block_fresh old new c.requires.midst c.execute.result live (block_inserted b) w.within.follows.clean h.runs h.survives;
       trouble = block_comes_trouble old new c.requires.midst c.execute.result live b (block_inserted b) h.runs h.survives;
