@@ -1,4 +1,4 @@
-use Rattle.std.proofs.Common.{rules, ◌≡◌, true, false, bytes_eq, Ok, Err, refl, sym}
+use Rattle.std.proofs.Common.{rules, ◌≡◌, true, false, bytes_eq, Ok, Err, refl}
 use Rattle.std.proofs.lemmas.Result.{err_from_is_err_and}
 use Rattle.bh_model.specs.Credentials.{authenticate}
 use Rattle.bh_types.specs.declared.refusal.Refusal.{Refusal}
