@@ -1,4 +1,4 @@
-use Rattle.std.proofs.Common.{rules, ◌≤◌, ◌<◌, ℕ, ap, sym, ◌∙◌, subst, arith, map}
+use Rattle.std.proofs.Common.{rules, ◌≤◌, ◌<◌, ℕ, ap, ◌∙◌, subst, arith, map}
 use Rattle.sqlite.specs.Held.{state}
 use Rattle.bh_tables.specs.Typed.{Tables}
 use Rattle.bh_schema.specs.Working.{tables_at}
