@@ -111,14 +111,16 @@ module _ {D : Type 0} {g : Ghosts D} where
         × ∥ ((left over_files old x ⊎ (IsOpen over_files old × WouldApply event (seen over_files old).now x)) ⊎ IsOlder new x) ∥₁
     IsLeftBy event (Some m, reply) old new x = Applied event (seen over_files old).now x (Some m) reply
 
-    -- the same once its reply went out. With a stamp: what the event did, also where a fault has shut the store since
+    -- what may be found once its reply went out. With a stamp: what the event did, also where a fault has shut the store since
     abbrev pub IsLeftSince : Arrival → Told → Host (FileStore D g) G → Host (FileStore D g) G → Tables → Type 0
     IsLeftSince event (None, reply) old new x = IsLeftBy event (None, reply) old new x
     IsLeftSince event (Some m, reply) old new x =
-        (end : Tables) × Applied event (seen over_files old).now end (Some m) reply × (IsOpen over_files new → x ≡ end) × ∥ ((x ≡ end) ⊎ IsOlder new x) ∥₁
+        (end : Tables) × Applied event (seen over_files old).now end (Some m) reply × (IsOpen over_files new → x ≡ end)
+        × ∥ ((x ≡ end) ⊎ IsOlder new x) ∥₁
 
     -- a host came back with tables of which this is said
-    pub record Survives (digest : Octets → Octets) (Says : Tables → Type 0) (old new : Host (FileStore D g) G) (opened : Opened (FileStore D g)) : Type 0 where
+    pub record Survives (digest : Octets → Octets) (Says : Tables → Type 0) (old new : Host (FileStore D g) G)
+        (opened : Opened (FileStore D g)) : Type 0 where
       pub tables : Says (seen_again opened).now
       -- it is at rest: outright, where no fault has shut the store
       pub rest : IsOpen over_files new → IsAtRest (IsSoundHost digest) (seen_again opened)
@@ -127,12 +129,15 @@ module _ {D : Type 0} {g : Ghosts D} where
 -- a host comes back over a stop after an event with what stood before the event or after it
 abbrev pub AfterStop : {D : Type 0} → Ghosts D → Type 0 → (Octets → Octets) → Type 0
 AfterStop {D} g G digest = (event : Arrival) (told : Told) (old new : Host (FileStore D g) G) (opened : Opened (FileStore D g))
-    → HasApplied event told old new → IsReady digest new → IsReopened new opened → IsCleanAgain opened → Survives digest (IsLeftBy event told old new) old new opened
+    → HasApplied event told old new → IsReady digest new → IsReopened new opened → IsCleanAgain opened
+    → Survives digest (IsLeftBy event told old new) old new opened
 
 -- and so it does over a stop after a reply went out
 abbrev pub AfterReply : {D : Type 0} → Ghosts D → Type 0 → (Octets → Octets) → Type 0
-AfterReply {D} g G digest = (event : Arrival) (told : Told) (ended : End) (old new : Host (FileStore D g) G) (opened : Opened (FileStore D g))
-    → HasReplied event told ended old new → IsReady digest new → IsReopened new opened → IsCleanAgain opened → Survives digest (IsLeftSince event told old new) old new opened
+AfterReply {D} g G digest =
+    (event : Arrival) (told : Told) (ended : End) (old new : Host (FileStore D g) G) (opened : Opened (FileStore D g))
+    → HasReplied event told ended old new → IsReady digest new → IsReopened new opened → IsCleanAgain opened
+    → Survives digest (IsLeftSince event told old new) old new opened
 
 -- where a crash leaves none but sound tables, an open after it shows none but sound ones, and finds no database of version 1
 abbrev pub OpensSound : {D : Type 0} → Ghosts D → Type 0 → (Octets → Octets) → Type 0

@@ -11,7 +11,8 @@ pub fn after_stop<D: Crash, G: Digester>()
     ensures { AfterStop D.Disk G G.digest_of }
 {}
 
-/// The same once the reply of an event went out, also where a fault has shut the store as the reply was read.
+/// The reply of an event went out, the machine stops, and the files are opened again: the host has what the event did, also where a
+/// fault has shut the store as the reply was read.
 pub fn after_reply<D: Crash, G: Digester>()
     ensures { AfterReply D.Disk G G.digest_of }
 {}

@@ -79,7 +79,8 @@ fn fill<D: Disk + Drop, E: Disk>(
 ) -> Result<Files<D>, BackupFault>
     requires { IsTrue (E.Disk.is_usable copy.old) }
     ensures kept { IfOk result (λ files. AreClean D.Disk files.log files.db → IsCopied connection files) }
-    ensures copied { IfOk result (λ files. AreClean D.Disk files.log files.db → IsFileOf E.Disk (file_state connection).committed copy.new) }
+    ensures copied { IfOk result (λ files. AreClean D.Disk files.log files.db
+        → IsFileOf E.Disk (file_state connection).committed copy.new) }
 {
     // Whoever held the file until now may have given it the name.
     refuse_taken(rt, path)?;

@@ -5,6 +5,7 @@ pub mod BodySteps
 pub mod Drafting
 pub mod Storing
 pub mod Cached
+pub mod Candidates
 pub mod Keeping
 pub mod Removing
 pub mod WindowSteps

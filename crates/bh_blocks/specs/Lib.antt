@@ -1,8 +1,8 @@
 pub mod Added
 pub mod Digests
 pub mod Drafts
+pub mod Lookups
 pub mod Named
-pub mod Midst
 pub mod Plans
 pub mod SipHash
 pub mod UseChanges

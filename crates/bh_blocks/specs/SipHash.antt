@@ -68,7 +68,8 @@ absorb_all = fold (λ s word. absorb_both s (from_le_bytes w64 word))
 -- eight bytes, and more
 abbrev pub before : List ℕ → List ℕ → List ℕ
 before b more =
-    slice_index b 0 ∷ slice_index b 1 ∷ slice_index b 2 ∷ slice_index b 3 ∷ slice_index b 4 ∷ slice_index b 5 ∷ slice_index b 6 ∷ slice_index b 7 ∷ more
+    slice_index b 0 ∷ slice_index b 1 ∷ slice_index b 2 ∷ slice_index b 3 ∷ slice_index b 4 ∷ slice_index b 5 ∷ slice_index b 6
+    ∷ slice_index b 7 ∷ more
 
 abbrev pub in_a_row : List ℕ → List ℕ → List ℕ → List ℕ → List ℕ
 in_a_row a b c d = before a (before b (before c (before d [])))

@@ -30,6 +30,9 @@ MayChange change.Removed q x = Unit {0}
 
 abbrev pub IsTextOf : UseChange → List ℕ → Type 0
 IsTextOf change.Added sql = (q : Name) → InsertText use_form host_schema 9 (at 23 uses_table) sql (Blob q.0 ∷ number q.1 ∷ []) (one_use q)
-IsTextOf change.Raised sql = (q : Name) → UpdateText use_form host_schema 9 (at 23 uses_table) sql (Blob q.0 ∷ number q.1 ∷ []) (is_named q) (λ u. record u { uses = u.uses +ℤ pos 1 })
-IsTextOf change.Lowered sql = (q : Name) → UpdateText use_form host_schema 9 (at 23 uses_table) sql (Blob q.0 ∷ number q.1 ∷ []) (is_named q) (λ u. record u { uses = u.uses -ℤ pos 1 })
-IsTextOf change.Removed sql = (q : Name) → DeleteText use_form host_schema 9 (at 23 uses_table) sql (Blob q.0 ∷ number q.1 ∷ []) (is_named q)
+IsTextOf change.Raised sql = (q : Name) → UpdateText use_form host_schema 9 (at 23 uses_table) sql (Blob q.0 ∷ number q.1 ∷ []) (is_named q)
+    (λ u. record u { uses = u.uses +ℤ pos 1 })
+IsTextOf change.Lowered sql = (q : Name) → UpdateText use_form host_schema 9 (at 23 uses_table) sql (Blob q.0 ∷ number q.1 ∷ [])
+    (is_named q) (λ u. record u { uses = u.uses -ℤ pos 1 })
+IsTextOf change.Removed sql =
+    (q : Name) → DeleteText use_form host_schema 9 (at 23 uses_table) sql (Blob q.0 ∷ number q.1 ∷ []) (is_named q)

@@ -18,6 +18,7 @@ IsCounted q uses = AllByRecursion (λ u. is_named q u ≡ true → int_lt (pos 0
 abbrev pub IsUsed : Name → Standing → Type 0
 IsUsed q x = (sums : Totals) → IsInsideBy sums x → IsCounted q sums.uses
 
--- the same of the block that each of these references names, once those before it are taken off
+-- in the midst of a write: the block that each of these references names is in use, once those before it are taken off
 abbrev pub AreUsed : List RefRow → Standing → Type 0
-AreUsed rs x = (sums : Totals) → IsInsideBy sums x → (before after : List RefRow) (r : RefRow) → rs ≡ before ++ r ∷ after → IsCounted (ref_name r) (lowered_by before sums.uses)
+AreUsed rs x = (sums : Totals) → IsInsideBy sums x → (before after : List RefRow) (r : RefRow) → rs ≡ before ++ r ∷ after
+    → IsCounted (ref_name r) (lowered_by before sums.uses)

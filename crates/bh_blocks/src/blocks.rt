@@ -1,41 +1,70 @@
-ghost use Rattle.std.specs.Prelude.{◌≡◌, ◌++◌, ◌∷◌, [], ◌<◌, ◌^◌, List, length, true, map, option_map, Contains, IfSome, IfOk, IfErr, OnOk};
+ghost use Rattle.std.specs.Prelude.{◌≡◌, ◌++◌, ◌∷◌, [], ◌<◌, ◌^◌, List, length, true, map, filter, Contains, IfOk, IfErr, OnOk};
 ghost use Rattle.bh_rows.specs.Means.{is_trouble};
 ghost use Rattle.bh_tables.specs.Schema.{Octets};
 ghost use Rattle.bh_tables.specs.Typed.{BlockRow, rebodied};
-ghost use Rattle.bh_tables.specs.Shown.{shown_ord};
-ghost use Rattle.bh_view.specs.Blocks.{least, free_ord as the_free, copy_in};
+ghost use Rattle.bh_tables.specs.Shown.{has_digest, shown_ord, shown_match};
+ghost use Rattle.bh_view.specs.Blocks.{least, free_ord as the_free};
 ghost use Rattle.bh_view.specs.Bodies.{body_stored};
-ghost use Rattle.bh_schema.specs.Connections.{IsClean, tables, InTransaction, StaysWithin, WasOpen, StaysOpen, ChangesNothing, Becomes, IsTrouble};
+ghost use Rattle.bh_schema.specs.Connections.{IsClean, tables, InTransaction, StaysWithin, WasOpen, StaysOpen, ChangesNothing, Becomes};
+ghost use Rattle.bh_schema.specs.Connections.{IsTrouble};
 ghost use Rattle.bh_cache.specs.Kept.{AreCopies};
+ghost use Rattle.bh_schema.specs.Calls.{Reads, MayRead};
+ghost use Rattle.bh_blocks.specs.Lookups.{Tells, IsSmall};
 ghost use Rattle.bh_blocks.specs.Named.{body_at, placed_at};
 
 use crate::refs::{Place, insert_ref, refer};
-use crate::rows::{copy_rows, in_range, insert_block, ord_rows, read_ord};
+use crate::rows::{candidate_rows, in_range, insert_block, ord_rows, read_candidate, read_ord};
 use crate::uses::{UseChange, change_uses};
 use bh_cache::blocks::{BlockCache, BlockName};
 use bh_schema::host::Digester;
 use sqlite::{Alter, Connection, Error, ErrorCode, Row};
 
-/// The ordinal of the block of a digest that holds these bytes, if there is one.
+/// Whether a block holds some bytes, by the blocks that have their digest.
+#[derive(Clone, Copy)]
+pub enum Lookup {
+    /// The block of this ordinal holds them.
+    Held(u64),
+    /// None does, but blocks of other bytes have their digest.
+    Clashing,
+    /// No block has their digest.
+    Absent,
+}
+
+fn lookup_in(rows: &[Row]) -> Result<Lookup, Error>
+    ensures found { IfOk result (λ lookup. (digest bytes : Octets) (blocks : List BlockRow)
+        → rows.now ≡ map (shown_match bytes) (filter (has_digest digest) blocks) → Tells digest bytes blocks lookup) }
+    ensures small { IfOk result IsSmall }
+    ensures trouble { IfErr result (λ e. (bytes : Octets) (bs : List BlockRow)
+        → rows.now ≡ map (shown_match bytes) bs → is_trouble e ≡ true) }
+{
+    for row in rows {
+        let candidate = read_candidate(row)?;
+        if candidate.is_copy {
+            return Ok(Lookup::Held(candidate.ord));
+        }
+    }
+    if rows.is_empty() {
+        Ok(Lookup::Absent)
+    } else {
+        Ok(Lookup::Clashing)
+    }
+}
+
+/// Whether a block holds these bytes, which have this digest, by the rows.
 fn find_copy<S: Alter>(
     connection: &mut Connection<S>,
     digest: &[u8],
     bytes: &[u8],
-) -> Result<Option<u64>, Error>
+) -> Result<Lookup, Error>
     requires inside { InTransaction S.Store connection.old }
-    ensures within { StaysWithin S.Store connection.old connection.new }
-    ensures opens { OnOk result (WasOpen S.Store connection.old connection.new) }
-    ensures same { OnOk result (ChangesNothing S.Store connection.old connection.new) }
-    ensures found { IfOk result (λ found. IsClean S.Store connection.new
-        → found ≡ option_map (λ (b : BlockRow). b.ord) (copy_in digest.now bytes.now (tables S.Store connection.old).blocks)) }
-    ensures small { IfOk result (λ found. IfSome found (λ ord. ord < 2 ^ 63)) }
+    ensures reads { Reads S.Store connection.old connection.new result }
+    ensures found { IfOk result (λ lookup. IsClean S.Store connection.new
+        → Tells digest.now bytes.now (tables S.Store connection.old).blocks lookup) }
+    ensures small { IfOk result IsSmall }
     ensures trouble { IfErr result (IsTrouble S.Store connection.old connection.new) }
 {
-    let rows = copy_rows(connection, digest, bytes)?;
-    match rows.first() {
-        None => Ok(None),
-        Some(row) => Ok(Some(read_ord(row)?)),
-    }
+    let rows = candidate_rows(connection, digest, bytes)?;
+    lookup_in(&rows)
 }
 
 /// Whether the first block of a digest is kept in memory and has these bytes.
@@ -51,26 +80,23 @@ fn is_kept(cache: &BlockCache, digest: &[u8], bytes: &[u8]) -> bool
     }
 }
 
-/// The ordinal of the block of a digest that holds these bytes, if there is one. No row is read where it is kept in memory and the
-/// first of its digest.
+/// Whether a block holds these bytes, which have this digest. No row is read where it is kept in memory and the first of its digest.
 fn find_kept<S: Alter>(
     connection: &mut Connection<S>,
     cache: &BlockCache,
     digest: &[u8],
     bytes: &[u8],
-) -> Result<Option<u64>, Error>
+) -> Result<Lookup, Error>
     requires inside { InTransaction S.Store connection.old }
     requires copies { IsClean S.Store connection.old → AreCopies cache.now (tables S.Store connection.old).blocks }
-    ensures within { StaysWithin S.Store connection.old connection.new }
-    ensures opens { OnOk result (StaysOpen S.Store connection.old connection.new) }
-    ensures same { OnOk result (ChangesNothing S.Store connection.old connection.new) }
-    ensures found { IfOk result (λ found. IsClean S.Store connection.new
-        → found ≡ option_map (λ (b : BlockRow). b.ord) (copy_in digest.now bytes.now (tables S.Store connection.old).blocks)) }
-    ensures small { IfOk result (λ found. IfSome found (λ ord. ord < 2 ^ 63)) }
+    ensures reads { MayRead S.Store connection.old connection.new result }
+    ensures found { IfOk result (λ lookup. IsClean S.Store connection.new
+        → Tells digest.now bytes.now (tables S.Store connection.old).blocks lookup) }
+    ensures small { IfOk result IsSmall }
     ensures trouble { IfErr result (IsTrouble S.Store connection.old connection.new) }
 {
     if is_kept(cache, digest, bytes) {
-        return Ok(Some(0));
+        return Ok(Lookup::Held(0));
     }
     find_copy(connection, digest, bytes)
 }
@@ -133,9 +159,9 @@ fn add_block<S: Alter>(
     Ok(())
 }
 
-/// Adds a block of bytes that none holds, under the least ordinal that no block of its digest has, with the first
+/// Adds a block of bytes that none holds and whose digest others have, under the least ordinal that none of these has, with the first
 /// reference to it.
-fn store_new<S: Alter>(
+fn store_clashing<S: Alter>(
     connection: &mut Connection<S>,
     at: &Place<'_>,
     digest: &[u8],
@@ -173,16 +199,18 @@ pub fn store_named<S: Alter>(
     requires place { at.now.place < 2 ^ 63 }
     ensures within { StaysWithin S.Store connection.old connection.new }
     ensures opens { OnOk result (StaysOpen S.Store connection.old connection.new) }
-    ensures stored { (digest_of : Octets → Octets) → digest.now ≡ digest_of bytes.now → OnOk result (Becomes S.Store connection.old connection.new
+    ensures stored { (digest_of : Octets → Octets) → digest.now ≡ digest_of bytes.now
+        → OnOk result (Becomes S.Store connection.old connection.new
         (body_stored digest_of (body_at at.now) at.now.place (bytes.now ∷ []))) }
 {
     match find_kept(connection, cache, digest, bytes)? {
-        Some(ord) => refer(connection, at, digest, ord, bytes.len() as u64),
-        None => store_new(connection, at, digest, bytes),
+        Lookup::Held(ord) => refer(connection, at, digest, ord, bytes.len() as u64),
+        Lookup::Clashing => store_clashing(connection, at, digest, bytes),
+        Lookup::Absent => add_block(connection, at, digest, 0, bytes),
     }
 }
 
-/// The same, of any bytes.
+/// Stores a piece of any bytes.
 pub fn store_piece<S: Alter, D: Digester>(
     connection: &mut Connection<S>,
     cache: &BlockCache,

@@ -8,7 +8,8 @@ ghost use Rattle.bh_tables.specs.Bodies.{placed};
 ghost use Rattle.bh_tables.specs.Shown.{ref_name, shown_ref};
 ghost use Rattle.bh_view.specs.Blocks.{AreDigests};
 ghost use Rattle.bh_view.specs.Bodies.{pieces, body_stored, body_again, body_copied, bodies_joined, body_dropped, AddsBody};
-ghost use Rattle.bh_schema.specs.Connections.{IsOpen, IsClean, stands, tables, InTransaction, InMidst, Rewrites, StaysWithin, StaysOpen, ChangesNothing, Becomes, IsTrouble, IsTroubleIf};
+ghost use Rattle.bh_schema.specs.Connections.{IsOpen, IsClean, stands, tables, InTransaction, InMidst, Rewrites, StaysWithin, StaysOpen};
+ghost use Rattle.bh_schema.specs.Connections.{ChangesNothing, Becomes, IsTrouble, IsTroubleIf};
 ghost use Rattle.bh_cache.specs.Kept.{AreCopies};
 ghost use Rattle.bh_blocks.specs.Named.{body_at};
 ghost use Rattle.bh_blocks.specs.Added.{IsNewBody, bytes_in};
@@ -244,7 +245,8 @@ pub fn join_bodies<S: Alter>(
         (bodies_joined (map (λ source. (tenant.now, source)) sources.now) (tenant.now, body))) }
     ensures adds { (digest : Octets → Octets) → OnOk result (IsClean S.Store connection.new
         → IsNewBody (tenant.now, body) (tables S.Store connection.old)
-        → AddsBody digest (tenant.now, body) (flat_map (λ source. bytes_in (tables S.Store connection.old) (tenant.now, source)) sources.now)
+        → AddsBody digest (tenant.now, body) (flat_map (λ source. bytes_in (tables S.Store connection.old)
+        (tenant.now, source)) sources.now)
         (tables S.Store connection.old) (tables S.Store connection.new)) }
 {
     let rows = rows_of_all(connection, alloc, tenant, sources)?;

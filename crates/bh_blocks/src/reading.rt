@@ -1,6 +1,7 @@
 //! The bytes of a body, or of a part of it, block by block: of its blocks only those are read that the part touches.
 
-ghost use Rattle.std.specs.Prelude.{◌≡◌, ◌⊎◌, ◌++◌, ◌+◌, ◌-◌, ◌<◌, ◌≤◌, ◌^◌, [], List, Contains, map, drop, length, sum_by, Some, IfSome, IfNone, IfOk, OnOk, OnErr};
+ghost use Rattle.std.specs.Prelude.{◌≡◌, ◌⊎◌, ◌++◌, ◌+◌, ◌-◌, ◌<◌, ◌≤◌, ◌^◌, [], List, Contains, map, drop, length, sum_by, Some, IfSome};
+ghost use Rattle.std.specs.Prelude.{IfNone, IfOk, OnOk, OnErr};
 ghost use Rattle.bh_types.specs.Ranges.{cut};
 ghost use Rattle.bh_tables.specs.Schema.{Octets};
 ghost use Rattle.bh_tables.specs.Typed.{BlockRow, RefRow, Tables};
@@ -236,7 +237,8 @@ fn find_shown<S: Alter>(
     ensures shows { IfOk result (λ found. IfSome found (λ shown. shown.window.skip < shown.block.size)) }
     ensures most { IfOk result (λ found. IfSome found (λ shown. shown.window.left ≤ plan.now.window.left)) }
     ensures first { IfOk result (λ found. IsClean S.Store connection.new → HasBodies (tables S.Store connection.old)
-        → IfSome found (λ shown. IsFirst (Some shown.block) (drop shown.place (placed (tables S.Store connection.old).refs (planned plan.now)))
+        → IfSome found (λ shown. IsFirst (Some shown.block) (drop shown.place
+        (placed (tables S.Store connection.old).refs (planned plan.now)))
         × (shown_from shown.window shown.place (planned plan.now) (tables S.Store connection.old)
         ≡ coming plan.now (tables S.Store connection.old)))) }
     ensures none { IfOk result (λ found. IsClean S.Store connection.new → HasBodies (tables S.Store connection.old)
@@ -290,7 +292,8 @@ pub fn next_piece<S: Alter>(
     ensures place { plan.new.place < 2 ^ 63 }
     ensures some { IfOk result (λ piece. IfSome piece (λ bytes. 0 < length bytes.items)) }
     ensures falls { IfOk result (λ piece. IfSome piece (λ bytes. length bytes.items + plan.new.window.left ≤ plan.old.window.left)) }
-    ensures gives { IfOk result (λ piece. IsClean S.Store connection.new → HasBodies (tables S.Store connection.old) → IfSome piece (λ bytes.
+    ensures gives { IfOk result (λ piece. IsClean S.Store connection.new → HasBodies (tables S.Store connection.old)
+        → IfSome piece (λ bytes.
         coming plan.old (tables S.Store connection.old) ≡ bytes.items ++ coming plan.new (tables S.Store connection.old))) }
     ensures ends { IfOk result (λ piece. IsClean S.Store connection.new → HasBodies (tables S.Store connection.old)
         → IfNone piece (coming plan.old (tables S.Store connection.old) ≡ [])) }

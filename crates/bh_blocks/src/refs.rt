@@ -7,9 +7,9 @@ ghost use Rattle.bh_rows.specs.Means.{is_trouble};
 ghost use Rattle.bh_tables.specs.Bodies.{placed};
 ghost use Rattle.bh_tables.specs.Typed.{RefRow, rebodied};
 ghost use Rattle.bh_tables.specs.Shown.{ref_name, is_block, is_of_body, is_at_place, by_place, shown_ref};
-ghost use Rattle.bh_schema.specs.Connections.{IsClean, tables, CanRead, InTransaction, InMidst, Rewrites, StaysWithin, StaysOpen, Becomes, IsTrouble, IsTroubleIf};
-ghost use Rattle.bh_schema.specs.Calls.{Reads};
-ghost use Rattle.bh_blocks.specs.Midst.{WritesOn};
+ghost use Rattle.bh_schema.specs.Connections.{IsClean, tables, CanRead, InTransaction, InMidst, Rewrites, StaysWithin, StaysOpen, Becomes};
+ghost use Rattle.bh_schema.specs.Connections.{IsTrouble, IsTroubleIf};
+ghost use Rattle.bh_schema.specs.Calls.{Reads, WritesOn};
 ghost use Rattle.bh_view.specs.Bodies.{HasBodies};
 ghost use Rattle.bh_blocks.specs.Named.{named_by, placed_at, body_at};
 ghost use Rattle.bh_blocks.specs.Plans.{IsFirst};
@@ -80,7 +80,8 @@ pub fn rows_at<S: Alter>(connection: &mut Connection<S>, at: &Place<'_>) -> Resu
     requires place { at.now.place < 2 ^ 63 }
     ensures reads { Reads S.Store connection.old connection.new result }
     ensures rows { IfOk result (λ rows. IsClean S.Store connection.new
-        → rows.items ≡ map shown_ref (filter (is_at_place (at.now.tenant.now, at.now.body) at.now.place) (tables S.Store connection.old).refs)) }
+        → rows.items ≡ map shown_ref (filter (is_at_place (at.now.tenant.now, at.now.body) at.now.place)
+        (tables S.Store connection.old).refs)) }
     ensures trouble { IfErr result (IsTrouble S.Store connection.old connection.new) }
 {
     connection.query_all(

@@ -7,7 +7,8 @@ ghost use Rattle.bh_tables.specs.Shown.{Name, block_name, is_block, is_use, is_u
 ghost use Rattle.bh_view.specs.Blocks.{blocks_without, AreDigests};
 ghost use Rattle.bh_view.specs.Sound.{IsSound};
 ghost use Rattle.bh_view.specs.Becomes.{KeepsBodies};
-ghost use Rattle.bh_schema.specs.Connections.{IsOpen, IsClean, tables, InTransaction, StaysWithin, WasOpen, StaysOpen, ChangesNothing, Becomes, IsTrouble, IsTroubleIf};
+ghost use Rattle.bh_schema.specs.Connections.{IsOpen, IsClean, tables, InTransaction, StaysWithin, WasOpen, StaysOpen, ChangesNothing};
+ghost use Rattle.bh_schema.specs.Connections.{Becomes, IsTrouble, IsTroubleIf};
 ghost use Rattle.bh_cache.specs.Kept.{Agrees};
 ghost use Rattle.bh_blocks.specs.Named.{stored_name};
 

@@ -1,14 +1,15 @@
 //! The SQL texts over blocks, one call for each, and what is read of their rows.
 
-ghost use Rattle.std.specs.Prelude.{◌≡◌, ◌++◌, ◌∷◌, [], ◌<◌, ◌^◌, true, false, None, map, filter, IfOk, IfErr, OnOk};
+ghost use Rattle.std.specs.Prelude.{◌≡◌, ◌++◌, ◌∷◌, [], ◌<◌, ◌^◌, true, false, map, filter, IfOk, IfErr, OnOk};
 ghost use Rattle.std.specs.List.{list_any};
 ghost use Rattle.sqlite_keyed.specs.Lists.{delete_where, sort_by};
 ghost use Rattle.bh_rows.specs.Means.{is_trouble};
 ghost use Rattle.bh_tables.specs.Typed.{BlockRow as Stored, rebodied};
-ghost use Rattle.bh_tables.specs.Shown.{block_name, is_copy, is_block, is_use, has_digest, by_ord, shown_ord, shown_name, shown_bytes};
+ghost use Rattle.bh_tables.specs.Shown.{block_name, is_block, is_use, has_digest, by_ord, shown_ord, shown_match, shown_name, shown_bytes};
 ghost use Rattle.bh_schema.specs.Connections.{IsClean, tables, CanRead, InTransaction, InMidst, Rewrites, IsTrouble, IsTroubleIf};
-ghost use Rattle.bh_schema.specs.Calls.{Reads};
-ghost use Rattle.bh_blocks.specs.Midst.{WritesOn};
+ghost use Rattle.bh_schema.specs.Calls.{Reads, WritesOn};
+ghost use Rattle.bh_tables.specs.Schema.{Octets};
+ghost use Rattle.bh_blocks.specs.Lookups.{IsCandidate};
 ghost use Rattle.bh_blocks.specs.Named.{stored_name};
 ghost use Rattle.bh_blocks.specs.Uses.{IsNewName};
 
@@ -57,7 +58,28 @@ pub fn read_name(row: &Row) -> Result<StoredName, Error>
     })
 }
 
-pub fn copy_rows<S: Alter>(
+/// A block of a digest, beside some bytes.
+#[derive(Clone, Copy)]
+pub struct Candidate {
+    pub ord: u64,
+    /// Whether it holds them.
+    pub is_copy: bool,
+}
+
+pub fn read_candidate(row: &Row) -> Result<Candidate, Error>
+    ensures read { IfOk result (λ found. (bytes : Octets) (b : Stored) → row.now ≡ shown_match bytes b → IsCandidate bytes b found) }
+    ensures small { IfOk result (λ found. found.ord < 2 ^ 63) }
+    ensures trouble { IfErr result (λ e. (bytes : Octets) (b : Stored) → row.now ≡ shown_match bytes b → is_trouble e ≡ true) }
+{
+    let ord: u64 = row.get(0)?;
+    Ok(Candidate {
+        is_copy: row.get(1)?,
+        ord: in_range(ord)?,
+    })
+}
+
+/// The blocks of a digest, each with whether it holds these bytes.
+pub fn candidate_rows<S: Alter>(
     connection: &mut Connection<S>,
     digest: &[u8],
     bytes: &[u8],
@@ -65,11 +87,11 @@ pub fn copy_rows<S: Alter>(
     requires inside { InTransaction S.Store connection.old }
     ensures reads { Reads S.Store connection.old connection.new result }
     ensures rows { IfOk result (λ rows. IsClean S.Store connection.new
-        → rows.items ≡ map shown_ord (filter (is_copy digest.now bytes.now) (tables S.Store connection.old).blocks)) }
+        → rows.items ≡ map (shown_match bytes.now) (filter (has_digest digest.now) (tables S.Store connection.old).blocks)) }
     ensures trouble { IfErr result (IsTrouble S.Store connection.old connection.new) }
 {
     connection.query_all(
-        "SELECT ord FROM blocks WHERE digest = ?1 AND bytes = ?2 ORDER BY rowid",
+        "SELECT ord, bytes = ?2 FROM blocks WHERE digest = ?1 ORDER BY rowid",
         &[digest.to_sql(), bytes.to_sql()],
     )
 }

@@ -5,8 +5,7 @@ ghost use Rattle.std.specs.Prelude.{◌≡◌, ◌<◌, ◌^◌, map, IfOk, IfEr
 ghost use Rattle.bh_tables.specs.Typed.{counted};
 ghost use Rattle.bh_tables.specs.Shown.{shown_name, unreferenced};
 ghost use Rattle.bh_schema.specs.Connections.{IsClean, stands, tables, InTransaction, InMidst, Rewrites, IsTrouble, IsTroubleIf};
-ghost use Rattle.bh_schema.specs.Calls.{Reads};
-ghost use Rattle.bh_blocks.specs.Midst.{WritesOn};
+ghost use Rattle.bh_schema.specs.Calls.{Reads, WritesOn};
 ghost use Rattle.bh_blocks.specs.UseChanges.{uses_after, MayChange, IsTextOf};
 
 use bh_schema::rows::number::number;

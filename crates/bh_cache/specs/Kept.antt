@@ -38,4 +38,5 @@ Agrees kept blocks = agrees kept blocks ≡ true
 
 -- of the blocks of its digest, each that is kept is the first that holds its bytes
 abbrev pub AreCopies : KeptBlocks → List BlockRow → Type 0
-AreCopies kept blocks = (e : Name × Octets) → Contains kept.entries e → option_map (λ (b : BlockRow). b.ord) (copy_in e.0.0 e.1 blocks) ≡ Some e.0.1
+AreCopies kept blocks =
+    (e : Name × Octets) → Contains kept.entries e → option_map (λ (b : BlockRow). b.ord) (copy_in e.0.0 e.1 blocks) ≡ Some e.0.1

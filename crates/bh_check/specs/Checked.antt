@@ -83,5 +83,6 @@ pub record IsChecked (has_locks : Bool) (digest : Octets → Octets) (d : Trees)
 -- where the store's own rules hold too (keys are unique, and each row has its parent) a host's tables are sound: those of one of
 -- version 1 are as they are once it is opened, without locks and dates
 abbrev pub MakesSound : Type 0
-MakesSound = (has_locks : Bool) (digest : Octets → Octets) (d : Trees) → IsDatabase (record { schema = schema_with has_locks; trees = d }) → IsChecked has_locks digest (seen has_locks d)
+MakesSound = (has_locks : Bool) (digest : Octets → Octets) (d : Trees) → IsDatabase (record { schema = schema_with has_locks; trees = d })
+    → IsChecked has_locks digest (seen has_locks d)
     → IsSoundHost digest (tables_opened (record { schema = schema_with has_locks; trees = d }))

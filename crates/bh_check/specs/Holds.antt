@@ -7,7 +7,8 @@ use Rattle.sqlite.specs.Tree.{Trees}
 use Rattle.sqlite_typed.specs.Columns.{bytes_of}
 use Rattle.bh_types.specs.Checksums.{checksum_text}
 use Rattle.bh_types.specs.Names.{is_object_key}
-use Rattle.bh_tables.specs.Typed.{column_number, host_of, tenant_of, key_of, bucket_of, version_of, upload_of, part_of, ref_of, ref_form, block_form}
+use Rattle.bh_tables.specs.Typed.{column_number, host_of, tenant_of, key_of, bucket_of, version_of, upload_of, part_of, ref_of, ref_form}
+use Rattle.bh_tables.specs.Typed.{block_form}
 use Rattle.bh_tables.specs.Bodies.{Name, whole}
 use Rattle.bh_view.specs.Sound.{IsHostRow, IsTenantRow, IsKeyRow, IsBucketRow}
 use Rattle.bh_rows.specs.Form.{typed}
@@ -191,7 +192,8 @@ module _ (d : Trees) (latest : ℕ) where
   Holds table.Tenants r = IsTenantBy (version_bytes d (owner r)) (part_bytes d (owner r)) r
   Holds table.Keys r = IsKeyRow (key_of r)
   Holds table.Buckets r = IsBucketRow latest (bucket_of r)
-  Holds table.Versions r = IsVersionBy latest (next_entry d (owner r)) (next_version d (owner r)) (body_bytes d (first_two r)) (body_refs d (first_two r)) r
+  Holds table.Versions r =
+      IsVersionBy latest (next_entry d (owner r)) (next_version d (owner r)) (body_bytes d (first_two r)) (body_refs d (first_two r)) r
   Holds table.Refs r = IsRefBy (body_versions d (first_two r)) (body_parts d (first_two r)) (block_bytes d (ref_block r)) r
   Holds table.Uploads r = IsUploadBy latest (next_upload d (owner r)) (upload_bytes d (first_two r)) r
   Holds table.Parts r = IsPartBy latest (next_entry d (owner r)) (body_bytes d (part_body r)) (body_versions d (part_body r)) r

@@ -1,5 +1,5 @@
 -- Sums over rows, by name.
-use Rattle.std.specs.Prelude.{◌≡◌, ℕ, ◌+◌, if◌then◌else◌, List, length, sum_by, unwrap_or, Option, Some, None}
+use Rattle.std.specs.Prelude.{◌≡◌, ℕ, if◌then◌else◌, List, length, sum_by, unwrap_or, Option, Some, None}
 use Rattle.std.specs.declared.cmp.Ordering.{Ordering}
 use Rattle.std.specs.Ordering.{nat_cmp, ordering_then}
 use Rattle.std.specs.Cmp.Lexicographic.{slice_cmp}
@@ -25,8 +25,12 @@ abbrev pub number_or_none : Row → Option ℕ → ℕ
 number_or_none r None = 0
 number_or_none r (Some at) = column_number (column r at)
 
+-- the columns of a name
+abbrev pub name_at : ℕ × Option ℕ → Row → Name
+name_at at r = (bytes_of (column r at.0), number_or_none r at.1)
+
 abbrev pub name_in : Grouping → Row → Name
-name_in by r = (bytes_of (column r by.text), number_or_none r by.number)
+name_in by = name_at (by.text, by.number)
 
 abbrev pub adds : Row → Amount → ℕ
 adds r One = 1

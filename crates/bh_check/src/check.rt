@@ -220,7 +220,7 @@ pub fn check_store<S: Store, D: Digester, W: Watch>(
     }
 }
 
-/// The same of the database of a connection, of which the store is left, without what wasn't committed. A transaction that
+/// Checks the database of a connection, of which the store is left, without what wasn't committed. A transaction that
 /// is open is an error. A host of version 1 is judged by the tables that it has once it is opened, with no lock and no date;
 /// nothing is written.
 pub fn check_connection<S: Alter + Drop, D: Digester, W: Watch>(

@@ -1,10 +1,9 @@
 //! What the rows of one table are to agree with: sums over the others.
 
-ghost use Rattle.std.specs.Prelude.{◌≡◌, IfOk};
+ghost use Rattle.std.specs.Prelude.{IfOk};
 ghost use Rattle.sqlite.specs.Tree.{Trees};
-ghost use Rattle.bh_check.specs.Holds.{owner, first_two, part_body, ref_block, number_at, one, block_length};
 ghost use Rattle.bh_check.specs.Holds.{AreTenantTotals, AreBodyTotals, AreDateTotals, AreTotals};
-ghost use Rattle.bh_check.specs.Sums.{IsSumOf};
+ghost use Rattle.bh_check.specs.Sums.{adds, name_at, IsSumOf};
 ghost use Rattle.bh_stored.specs.Stored.{AreStoredIn};
 
 use crate::buckets::count_by_bucket;
@@ -57,76 +56,27 @@ pub struct Totals {
     pub block_bytes: Sums,
 }
 
-/// A column's sums by tenant.
-fn by_owner(alloc: Global, rows: &[Row], amount: usize) -> Result<Sums, Failure>
-    ensures { IfOk result (IsSumOf owner (number_at amount) rows.now) }
-{
-    let by = Grouping {
-        text: 1,
-        number: None,
-        amount: Amount::Number(amount),
-    };
-    Ok(sums_of(alloc, rows, by)?)
-}
+/// The columns of a row's name: of its text or bytes, and of its number if it has one.
+type Columns = (usize, Option<usize>);
 
-/// A column's sums, or how many rows there are, by the first two columns.
-fn by_two(alloc: Global, rows: &[Row], amount: usize) -> Result<Sums, Failure>
-    ensures { IfOk result (IsSumOf first_two (number_at amount) rows.now) }
-{
-    let by = Grouping {
-        text: 1,
-        number: Some(2),
-        amount: Amount::Number(amount),
-    };
-    Ok(sums_of(alloc, rows, by)?)
-}
+const OWNER: Columns = (1, None);
 
-/// How many rows have the first two columns.
-fn count_by_two(alloc: Global, rows: &[Row]) -> Result<Sums, Failure>
-    ensures { IfOk result (IsSumOf first_two one rows.now) }
-{
-    let by = Grouping {
-        text: 1,
-        number: Some(2),
-        amount: Amount::One,
-    };
-    Ok(sums_of(alloc, rows, by)?)
-}
+const FIRST_TWO: Columns = (1, Some(2));
 
-/// How many parts have a body.
-fn count_by_body(alloc: Global, rows: &[Row]) -> Result<Sums, Failure>
-    ensures { IfOk result (IsSumOf part_body one rows.now) }
-{
-    let by = Grouping {
-        text: 1,
-        number: Some(7),
-        amount: Amount::One,
-    };
-    Ok(sums_of(alloc, rows, by)?)
-}
+const PART_BODY: Columns = (1, Some(7));
 
-/// How many references name a block.
-fn count_by_block(alloc: Global, rows: &[Row]) -> Result<Sums, Failure>
-    ensures { IfOk result (IsSumOf ref_block one rows.now) }
-{
-    let by = Grouping {
-        text: 4,
-        number: Some(5),
-        amount: Amount::One,
-    };
-    Ok(sums_of(alloc, rows, by)?)
-}
+const REF_BLOCK: Columns = (4, Some(5));
 
-/// The lengths of blocks in bytes.
-fn lengths(alloc: Global, rows: &[Row]) -> Result<Sums, Failure>
-    ensures { IfOk result (IsSumOf first_two block_length rows.now) }
+/// The sums of what rows add, by the name in these columns.
+fn sums_by(alloc: Global, rows: &[Row], name: Columns, amount: Amount) -> Result<Sums, Failure>
+    ensures { IfOk result (IsSumOf (name_at name) (λ row. adds row amount) rows.now) }
 {
     let by = Grouping {
-        text: 1,
-        number: Some(2),
-        amount: Amount::Length(3),
+        text: name.0,
+        number: name.1,
+        amount,
     };
-    Ok(sums_of(alloc, rows, by)?)
+    sums_of(alloc, rows, by)
 }
 
 impl TenantTotals {
@@ -134,11 +84,11 @@ impl TenantTotals {
         ensures { IfOk result (λ t. (d : Trees) → AreStoredIn d stored.now → AreTenantTotals d t) }
     {
         Ok(TenantTotals {
-            next_version: by_owner(alloc, &stored.tenants, 3)?,
-            next_upload: by_owner(alloc, &stored.tenants, 4)?,
-            next_entry: by_owner(alloc, &stored.tenants, 5)?,
-            version_bytes: by_owner(alloc, &stored.versions, 8)?,
-            part_bytes: by_owner(alloc, &stored.parts, 4)?,
+            next_version: sums_by(alloc, &stored.tenants, OWNER, Amount::Number(3))?,
+            next_upload: sums_by(alloc, &stored.tenants, OWNER, Amount::Number(4))?,
+            next_entry: sums_by(alloc, &stored.tenants, OWNER, Amount::Number(5))?,
+            version_bytes: sums_by(alloc, &stored.versions, OWNER, Amount::Number(8))?,
+            part_bytes: sums_by(alloc, &stored.parts, OWNER, Amount::Number(4))?,
         })
     }
 }
@@ -148,10 +98,10 @@ impl BodyTotals {
         ensures { IfOk result (λ t. (d : Trees) → AreStoredIn d stored.now → AreBodyTotals d t) }
     {
         Ok(BodyTotals {
-            bytes: by_two(alloc, &stored.refs, 6)?,
-            refs: count_by_two(alloc, &stored.refs)?,
-            versions: count_by_two(alloc, &stored.versions)?,
-            parts: count_by_body(alloc, &stored.parts)?,
+            bytes: sums_by(alloc, &stored.refs, FIRST_TWO, Amount::Number(6))?,
+            refs: sums_by(alloc, &stored.refs, FIRST_TWO, Amount::One)?,
+            versions: sums_by(alloc, &stored.versions, FIRST_TWO, Amount::One)?,
+            parts: sums_by(alloc, &stored.parts, PART_BODY, Amount::One)?,
         })
     }
 }
@@ -162,7 +112,7 @@ impl DateTotals {
     {
         Ok(DateTotals {
             locks: count_by_bucket(alloc, &stored.locks, 2)?,
-            dates: count_by_two(alloc, &stored.retains)?,
+            dates: sums_by(alloc, &stored.retains, FIRST_TWO, Amount::One)?,
         })
     }
 }
@@ -176,9 +126,9 @@ impl Totals {
             tenants: TenantTotals::of(alloc, stored)?,
             bodies: BodyTotals::of(alloc, stored)?,
             dates: DateTotals::of(alloc, stored)?,
-            upload_bytes: by_two(alloc, &stored.parts, 4)?,
-            block_refs: count_by_block(alloc, &stored.refs)?,
-            block_bytes: lengths(alloc, &stored.blocks)?,
+            upload_bytes: sums_by(alloc, &stored.parts, FIRST_TWO, Amount::Number(4))?,
+            block_refs: sums_by(alloc, &stored.refs, REF_BLOCK, Amount::One)?,
+            block_bytes: sums_by(alloc, &stored.blocks, FIRST_TWO, Amount::Length(3))?,
         })
     }
 }

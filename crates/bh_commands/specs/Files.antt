@@ -22,7 +22,8 @@ HoldsFor (Init limits digest) image = Unit {0}
 HoldsFor (Host clock work) image = HoldsSoundHost image
 
 -- what was asked was done on a connection, and its files were closed
-pub record IsEnded {D : Type 0} {g : disk.Ghosts D} (old : Held (FileStore D g)) (asked : FileTask) (printed : Printed) (files : Files D) : Type 0 where
+pub record IsEnded {D : Type 0} {g : disk.Ghosts D} (old : Held (FileStore D g)) (asked : FileTask) (printed : Printed) (files : Files D) :
+    Type 0 where
   pub new : Held (FileStore D g)
   pub carried_out : CarriesOut asked old new printed
   pub closed : AreClosed new files
@@ -33,6 +34,6 @@ pub record AreDone {D : Type 0} (g : disk.Ghosts D) (image : Image) (asked : Fil
   pub opened : IsOpenedOn image (file_state old)
   pub ended : IsEnded old asked printed files
 
--- the same; where there were no files, that no host is there
+-- what was asked was done in the files; where there were none, the answer is that no host is there
 abbrev pub IsAnswered : {D : Type 0} → disk.Ghosts D → Image → FileTask → Printed → Option (Files D) → Type 0
 IsAnswered g image asked printed files = MatchOption files (IsRefusal NotAHostFile printed) (AreDone g image asked printed)

@@ -62,26 +62,38 @@ Makes limits digest old new printed = IsNotMade old new printed ⊎ IsMade limit
 module _ {D : Type 0} {g : disk.Ghosts D} where
   -- the host of a database that was opened, by a digester, and by that of a function: it keeps no block in memory yet
   abbrev pub host_with : {G : Type 0} → Opened (FileStore D g) → G → HostStorage (FileStore D g) G
-  host_with opened digester = record { host = record { connection = opened.connection; digester = digester; limits = opened.limits; cache = no_blocks opened.tuning } }
+  host_with opened digester = record {
+    host = record {
+      connection = opened.connection;
+      digester = digester;
+      limits = opened.limits;
+      cache = no_blocks opened.tuning;
+    };
+  }
 
   abbrev pub host_by : (digest : BlockDigest) → Opened (FileStore D g) → HostStorage (FileStore D g) (digester_of digest)
   host_by digest opened = host_with opened (the_digester digest)
 
   -- a connection was opened as a host, which shows what stood, of version 1 brought over, and is at rest
-  pub record IsFound {G : Type 0} (digest : Octets → Octets) (old : Held (FileStore D g)) (host : HostStorage (FileStore D g) G) : Type 0 where
+  pub record IsFound {G : Type 0} (digest : Octets → Octets) (old : Held (FileStore D g)) (host : HostStorage (FileStore D g) G) :
+      Type 0 where
     pub opened : IsOpenedAs (file_state old) (file_state host.host.connection)
-    pub shows : storage.IsClean over_files host.host → (storage.seen over_files host.host).now ≡ tables_opened (standing (file_state old)).now
+    pub shows : storage.IsClean over_files host.host → (storage.seen over_files host.host).now
+        ≡ tables_opened (standing (file_state old)).now
     pub rest : storage.IsClean over_files host.host → IsAtRest (IsSoundHost digest) (storage.seen over_files host.host)
 
   -- what is asked of it at a reading was done, all of it, and its connection is left; backups may have closed it and opened it
   -- again, over which it wasn't lost
-  pub record IsWorkedOn {G : Type 0} (digest : Octets → Octets) (work : Work) (reading : ℕ) (host : HostStorage (FileStore D g) G) (new : Held (FileStore D g)) (printed : Printed) : Type 0 where
+  pub record IsWorkedOn {G : Type 0} (digest : Octets → Octets) (work : Work) (reading : ℕ) (host : HostStorage (FileStore D g) G)
+      (new : Held (FileStore D g)) (printed : Printed) : Type 0 where
     pub first : KeptHost D G g
     pub last : KeptHost D G g
     pub left_host : RecallingStorage (FileStore D g) G
     pub begun : first.storage ≡ Some (record { storage = host; memo = nothing })
-    pub stays : StaysReady (λ h. kept.IsIntact h.storage) (λ h. kept.IsOpen h.storage) (IsSoundHost digest) (λ h. kept.seen h.limits h.storage) first last
-    pub done : HasDone (λ h. kept.IsIntact h.storage) (λ h. kept.IsOpen h.storage) (λ h. kept.seen h.limits h.storage) (λ h. kept.left h.storage) work reading first last printed
+    pub stays : StaysReady (λ h. kept.IsIntact h.storage) (λ h. kept.IsOpen h.storage) (IsSoundHost digest)
+        (λ h. kept.seen h.limits h.storage) first last
+    pub done : HasDone (λ h. kept.IsIntact h.storage) (λ h. kept.IsOpen h.storage) (λ h. kept.seen h.limits h.storage)
+        (λ h. kept.left h.storage) work reading first last printed
     pub ended : last.storage ≡ Some left_host
     pub left : new ≡ left_host.storage.host.connection
 
@@ -91,25 +103,29 @@ module _ {D : Type 0} {g : disk.Ghosts D} where
     pub leap : storage.IsClean over_files host.host → leaps clock.leap (latest_of (storage.seen over_files host.host).now) reading ≡ is_leap
 
   -- it is: that alone is told, and what stood stands
-  pub record IsHeldBack {G : Type 0} (clock : ClockGiven) (host : HostStorage (FileStore D g) G) (new : Held (FileStore D g)) (printed : Printed) : Type 0 where
+  pub record IsHeldBack {G : Type 0} (clock : ClockGiven) (host : HostStorage (FileStore D g) G) (new : Held (FileStore D g))
+      (printed : Printed) : Type 0 where
     pub reading : ℕ
     pub reads : Reads clock host reading true
     pub left : new ≡ host.host.connection
     pub line : IsFault printed
 
   -- it isn't, and what is asked was done at that reading
-  pub record IsDone {G : Type 0} (digest : Octets → Octets) (clock : ClockGiven) (work : Work) (host : HostStorage (FileStore D g) G) (new : Held (FileStore D g)) (printed : Printed) : Type 0 where
+  pub record IsDone {G : Type 0} (digest : Octets → Octets) (clock : ClockGiven) (work : Work) (host : HostStorage (FileStore D g) G)
+      (new : Held (FileStore D g)) (printed : Printed) : Type 0 where
     pub reading : ℕ
     pub reads : Reads clock host reading false
     pub worked : IsWorkedOn digest work reading host new printed
 
-  abbrev pub IsWorkedInTime : {G : Type 0} → (Octets → Octets) → ClockGiven → Work → HostStorage (FileStore D g) G → Held (FileStore D g) → Printed → Type 0
+  abbrev pub IsWorkedInTime : {G : Type 0} → (Octets → Octets) → ClockGiven → Work → HostStorage (FileStore D g) G → Held (FileStore D g)
+      → Printed → Type 0
   IsWorkedInTime digest clock work host new printed = IsHeldBack clock host new printed ⊎ IsDone digest clock work host new printed
 
   -- the host was opened by the digester of the function that its row tells
   pub record HasWorked (clock : ClockGiven) (work : Work) (old new : Held (FileStore D g)) (printed : Printed) : Type 0 where
     pub opened : Opened (FileStore D g)
-    pub row : IsStateClean (file_state opened.connection) → digest_number opened.digest ≡ digest_in (seen_in opened.limits (file_state opened.connection)).now
+    pub row : IsStateClean (file_state opened.connection) → digest_number opened.digest
+        ≡ digest_in (seen_in opened.limits (file_state opened.connection)).now
     pub found : IsFound (digest_by opened.digest) old (host_by opened.digest opened)
     pub worked : IsWorkedInTime (digest_by opened.digest) clock work (host_by opened.digest opened) new printed
 

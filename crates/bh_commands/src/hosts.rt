@@ -152,7 +152,7 @@ fn work_in_time<D: Disk + Drop, G: Digester + Drop>(
     Ok(work_on(rt, host, reading, asked)?)
 }
 
-/// The same of a database that was opened, by a digester of the function that names its blocks.
+/// Does the work on a database that was opened, by a digester of the function that names its blocks.
 fn work_by<D: Disk + Drop, G: Digester + Drop>(
     rt: &HostRuntime,
     path: &str,
@@ -169,7 +169,7 @@ fn work_by<D: Disk + Drop, G: Digester + Drop>(
     work_in_time(rt, path, opened.into_host(digester), latest, clock, asked)
 }
 
-/// The same, by the digester of the function that its row tells.
+/// Does the work, by the digester of the function that the host's row tells.
 fn work_by_digest<D: Disk + Drop>(
     rt: &HostRuntime,
     path: &str,

@@ -1,5 +1,5 @@
 -- Connections after connections.
-use Rattle.std.proofs.Common.{◌≡◌, ℕ, ◌+◌, ◌<◌, ◌≤◌, List, [], ◌∷◌, ◌++◌, map, length, take, drop, set, get_or, refl, sym, ap, subst, inl, inr, ◌∙◌, arith, Some, None, add-zero, append-nil}
+use Rattle.std.proofs.Common.{◌≡◌, ℕ, ◌+◌, ◌<◌, ◌≤◌, List, [], ◌∷◌, ◌++◌, map, length, take, drop, set, get_or, refl, sym, ap, subst, ◌∙◌, arith, Some, None, add-zero, append-nil}
 use Rattle.std.specs.List.{filter_map, cons_option}
 use Rattle.std.specs.Option.{option_map}
 use Rattle.std.proofs.lemmas.List.{map-append, take_all, take_more, take_more_set, get_or-drop, drop-set-lt, drop-drop}
@@ -7,7 +7,7 @@ use Rattle.std.proofs.lemmas.List.Elements.{filter_map-append}
 use Rattle.bh_types.specs.Limits.{HostLimits}
 use Rattle.bh_event.specs.Events.{Arrival as Event}
 use Rattle.bh_tables.specs.Typed.{Tables}
-use Rattle.bh_storage.specs.Calls.{Seen, LeavesSound}
+use Rattle.bh_storage.specs.Calls.{Seen}
 use Rattle.bh_host.specs.Runs.{Told, RanOn, HasRunOn}
 use Rattle.bh_host.proofs.Running as running
 use Rattle.bh_host.specs.Turns.{request_at}
@@ -135,15 +135,6 @@ module _ {H : Type 0} (IsIntact IsOpen : H → Type 0) (seen : H → Seen) (left
 
   pub no_connection : (old : H) → DidSome IsIntact IsOpen seen left old old
   no_connection old = (0, ReadFailed, None, record { same = λ intact opened. (opened, refl); survives = λ intact x leaves. leaves })
-
--- ---- what a crash may leave
-
-pub leaves_then : {H : Type 0} (IsSound : Tables → Type 0) (left : H → Tables → Type 0) (old mid new : H)
-    → LeavesSound IsSound left old mid → LeavesSound IsSound left mid new → LeavesSound IsSound left old new
-leaves_then IsSound left old mid new first second x leaves = elim (second x leaves) [
-  | inl before ↦ first x before
-  | inr sound ↦ inr sound
-]
 
 -- ---- the slice
 

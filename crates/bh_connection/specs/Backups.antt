@@ -13,7 +13,8 @@ fault_text = codes "fault"
 
 -- what stands stays, and what a crash may leave it might have left before. With the reply `backup` there is a copy that shows
 -- what stands
-pub record IsBackedUp {H C : Type 0} (IsIntact IsOpen : H → Type 0) (seen : H → Seen) (left : H → Tables → Type 0) (shows : C → Tables → Type 0) (reply : List ℕ) (old new : H) : Type 0 where
+pub record IsBackedUp {H C : Type 0} (IsIntact IsOpen : H → Type 0) (seen : H → Seen) (left : H → Tables → Type 0)
+    (shows : C → Tables → Type 0) (reply : List ℕ) (old new : H) : Type 0 where
   pub stays : IsTakenBack IsIntact IsOpen seen left old new
   pub replied : (reply ≡ backup_text) ⊎ (reply ≡ fault_text)
   pub copied : reply ≡ backup_text → IsIntact new → (copy : C) × shows copy (seen old).now

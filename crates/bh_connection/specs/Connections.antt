@@ -27,7 +27,8 @@ pub record Ends : Type 0 where
   pub reader_failed : Bool
   pub writer_failed : Bool
 
-abbrev pub ends_of : {R W : Type 0} → (R → Option (List ℕ)) → (R → Option (List Transfer)) → (W → Option (List ℕ)) → (W → Option (List Transfer)) → ℕ → Link R → Link W → Ends
+abbrev pub ends_of : {R W : Type 0} → (R → Option (List ℕ)) → (R → Option (List Transfer)) → (W → Option (List ℕ))
+    → (W → Option (List Transfer)) → ℕ → Link R → Link W → Ends
 ends_of remaining given contents taken reading reader writer = record {
   reading = reading;
   left = remaining reader.inner;
@@ -49,7 +50,7 @@ EndsAs WriteFailed sent reply failed = (sent < length reply) × (failed ≡ true
 EndsAs ReadFailed sent reply failed = ⊥
 EndsAs StoreFailed sent reply failed = ⊥
 
--- the same of a reply that may be read from the store as it goes out: once its event counts, it may end there
+-- how a reply ends that may be read from the store as it goes out: once its event counts, it may end there
 abbrev pub EndsIn : End → Option ℕ → ℕ → List ℕ → Bool → Type 0
 EndsIn Whole stamp sent reply failed = EndsAs Whole sent reply failed
 EndsIn WriteFailed stamp sent reply failed = EndsAs WriteFailed sent reply failed
@@ -58,7 +59,8 @@ EndsIn StoreFailed None sent reply failed = ⊥
 EndsIn StoreFailed (Some m) sent reply failed = (sent ≤ length reply) × (failed ≡ false)
 
 -- the bytes out are the first ones of a reply, which is as planned where the storage is intact
-pub record Sends (intact : Type 0) (stamp : ℕ) (planned : List ℕ) (held held_after : Option (List ℕ)) (moved moved_after : Option (List Transfer)) (failed : Bool) (sent : ℕ) (end : End) : Type 0 where
+pub record Sends (intact : Type 0) (stamp : ℕ) (planned : List ℕ) (held held_after : Option (List ℕ))
+    (moved moved_after : Option (List Transfer)) (failed : Bool) (sent : ℕ) (end : End) : Type 0 where
   pub reply : List ℕ
   pub is : intact → reply ≡ planned
   pub out : Appends held held_after (take sent reply)
@@ -106,27 +108,31 @@ Came limits before after served (Some (request, told)) = IsAnswered limits befor
 -- ---- its host
 
 -- an event was applied: what `bh_host::apply` promises of it
-pub record IsApplied {H : Type 0} (IsIntact IsOpen : H → Type 0) (seen : H → Seen) (left : H → Tables → Type 0) (event : Event) (told : Told) (old new : H) : Type 0 where
+pub record IsApplied {H : Type 0} (IsIntact IsOpen : H → Type 0) (seen : H → Seen) (left : H → Tables → Type 0) (event : Event)
+    (told : Told) (old new : H) : Type 0 where
   pub applied : IsIntact new → AppliedTo IsOpen seen event old new told.0 told.1
   pub told_apart : IsIntact new → IsToldApart event told.0 told.1
   pub acknowledged : IfSome told.0 (λ _. IsIntact new → (x : Tables) → left new x → x ≡ (seen new).now)
   pub crash : IfNone told.0 (IsIntact new → (x : Tables) → left new x → left old x ⊎ (IsOpen old × WouldApply event (seen old).now x))
 
 -- a transaction that its reader's fault ended was taken back
-pub record IsTakenBack {H : Type 0} (IsIntact IsOpen : H → Type 0) (seen : H → Seen) (left : H → Tables → Type 0) (old new : H) : Type 0 where
+pub record IsTakenBack {H : Type 0} (IsIntact IsOpen : H → Type 0) (seen : H → Seen) (left : H → Tables → Type 0) (old new : H) :
+    Type 0 where
   pub same : IsIntact new → IsOpen new → IsOpen old × ((seen new).now ≡ (seen old).now)
   pub survives : IsIntact new → LeavesNothingNew left old new
 
 -- what stands stays while a reply goes out, and a crash may leave nothing new. Only where the store was wanting for it may a fault
 -- have shut the storage
-pub record IsKept {H : Type 0} (IsIntact IsOpen : H → Type 0) (seen : H → Seen) (left : H → Tables → Type 0) (ended : End) (old new : H) : Type 0 where
+pub record IsKept {H : Type 0} (IsIntact IsOpen : H → Type 0) (seen : H → Seen) (left : H → Tables → Type 0) (ended : End) (old new : H) :
+    Type 0 where
   pub intact : IsIntact new → IsIntact old
   pub opens : IsIntact new → IsOpen old → (ended ≡ StoreFailed) ⊎ IsOpen new
   pub same : IsIntact new → IsOpen new → IsOpen old × ((seen new).now ≡ (seen old).now)
   pub survives : IsIntact new → LeavesNothingNew left old new
 
 -- an event was applied, and then its reply went out
-pub record HasAnswered {H : Type 0} (IsIntact IsOpen : H → Type 0) (seen : H → Seen) (left : H → Tables → Type 0) (event : Event) (told : Told) (ended : End) (old new : H) : Type 0 where
+pub record HasAnswered {H : Type 0} (IsIntact IsOpen : H → Type 0) (seen : H → Seen) (left : H → Tables → Type 0) (event : Event)
+    (told : Told) (ended : End) (old new : H) : Type 0 where
   pub mid : H
   pub applied : IsIntact new → IsApplied IsIntact IsOpen seen left event told old mid
   pub kept : IsKept IsIntact IsOpen seen left ended mid new
@@ -134,13 +140,16 @@ pub record HasAnswered {H : Type 0} (IsIntact IsOpen : H → Type 0) (seen : H �
 -- where its reader failed, nothing of it is left
 abbrev pub Did : {H : Type 0} → (H → Type 0) → (H → Type 0) → (H → Seen) → (H → Tables → Type 0) → ℕ → End → Outcome → H → H → Type 0
 Did IsIntact IsOpen seen left reading ended None old new = IsTakenBack IsIntact IsOpen seen left old new
-Did IsIntact IsOpen seen left reading ended (Some (request, told)) old new = HasAnswered IsIntact IsOpen seen left (request_at reading request) told ended old new
+Did IsIntact IsOpen seen left reading ended (Some (request, told)) old new =
+    HasAnswered IsIntact IsOpen seen left (request_at reading request) told ended old new
 
-pub record CameTo {H : Type 0} (IsIntact IsOpen : H → Type 0) (seen : H → Seen) (left : H → Tables → Type 0) (before after : Ends) (served : Served) (old new : H) : Type 0 where
+pub record CameTo {H : Type 0} (IsIntact IsOpen : H → Type 0) (seen : H → Seen) (left : H → Tables → Type 0) (before after : Ends)
+    (served : Served) (old new : H) : Type 0 where
   pub outcome : Outcome
   pub came : Came (seen old).limits before after served outcome
   pub did : Did IsIntact IsOpen seen left before.reading served.ended outcome old new
 
 -- some connection came, or none
 abbrev pub DidSome : {H : Type 0} → (H → Type 0) → (H → Type 0) → (H → Seen) → (H → Tables → Type 0) → H → H → Type 0
-DidSome IsIntact IsOpen seen left old new = (reading : ℕ) × (ended : End) × (outcome : Outcome) × Did IsIntact IsOpen seen left reading ended outcome old new
+DidSome IsIntact IsOpen seen left old new =
+    (reading : ℕ) × (ended : End) × (outcome : Outcome) × Did IsIntact IsOpen seen left reading ended outcome old new

@@ -15,7 +15,8 @@ use Rattle.bh_connection.specs.declared.served.Served.{Served}
 abbrev pub IsGoing : {R W : Type 0} → Arrival R W → Type 0
 IsGoing arrival = (arrival.reader.failed ≡ false) × (arrival.writer.failed ≡ false)
 
-abbrev pub ends : {R W : Type 0} → (R → Option (List ℕ)) → (R → Option (List Transfer)) → (W → Option (List ℕ)) → (W → Option (List Transfer)) → Arrival R W → Ends
+abbrev pub ends : {R W : Type 0} → (R → Option (List ℕ)) → (R → Option (List Transfer)) → (W → Option (List ℕ))
+    → (W → Option (List Transfer)) → Arrival R W → Ends
 ends remaining given contents taken arrival = ends_of remaining given contents taken arrival.reading arrival.reader arrival.writer
 
 -- one connection: its ends before and after, what became of it, and the request that it brought, if it did
@@ -37,20 +38,25 @@ abbrev pub told_of : Row → Option Told
 told_of row = option_map (λ o. o.1) row.outcome
 
 -- connections were served in turn; those whose reader didn't fail are the events of a run
-pub record HasServedAs {H : Type 0} (IsIntact IsOpen : H → Type 0) (seen : H → Seen) (left : H → Tables → Type 0) (before after : List Ends) (serveds : List Served) (old new : H) (rows : List Row) : Type 0 where
+pub record HasServedAs {H : Type 0} (IsIntact IsOpen : H → Type 0) (seen : H → Seen) (left : H → Tables → Type 0) (before after : List Ends)
+    (serveds : List Served) (old new : H) (rows : List Row) : Type 0 where
   pub befores : map (λ (row : Row). row.before) rows ≡ before
   pub afters : map (λ (row : Row). row.after) rows ≡ after
   pub served : map (λ (row : Row). row.served) rows ≡ serveds
   pub each : EachCame (seen old).limits rows
   pub ran : IsIntact new → RanOn IsOpen seen left (filter_map event_of rows) (filter_map told_of rows) old new
 
-abbrev pub HasServed : {H : Type 0} → (H → Type 0) → (H → Type 0) → (H → Seen) → (H → Tables → Type 0) → List Ends → List Ends → List Served → H → H → Type 0
-HasServed IsIntact IsOpen seen left before after serveds old new = (rows : List Row) × HasServedAs IsIntact IsOpen seen left before after serveds old new rows
+abbrev pub HasServed : {H : Type 0} → (H → Type 0) → (H → Type 0) → (H → Seen) → (H → Tables → Type 0) → List Ends → List Ends → List Served
+    → H → H → Type 0
+HasServed IsIntact IsOpen seen left before after serveds old new =
+    (rows : List Row) × HasServedAs IsIntact IsOpen seen left before after serveds old new rows
 
--- the same rows, and each tenant is alone in what they brought
-abbrev pub HasServedAlone : {H : Type 0} → (H → Type 0) → (H → Type 0) → (H → Seen) → (H → Tables → Type 0) → List Ends → List Ends → List Served → H → H → Type 0
+-- the connections of a list were served, and each tenant is alone in what they brought
+abbrev pub HasServedAlone : {H : Type 0} → (H → Type 0) → (H → Type 0) → (H → Seen) → (H → Tables → Type 0) → List Ends → List Ends
+    → List Served → H → H → Type 0
 HasServedAlone IsIntact IsOpen seen left before after serveds old new =
-    (rows : List Row) × HasServedAs IsIntact IsOpen seen left before after serveds old new rows × HasRunOn IsOpen seen (filter_map event_of rows) (filter_map told_of rows) old new
+    (rows : List Row) × HasServedAs IsIntact IsOpen seen left before after serveds old new rows
+    × HasRunOn IsOpen seen (filter_map event_of rows) (filter_map told_of rows) old new
 
 -- some requests came in turn, each at a reading of the clock, and no other event
 abbrev pub RanSome : {H : Type 0} → (H → Type 0) → (H → Seen) → (H → Tables → Type 0) → H → H → Type 0

@@ -1,5 +1,6 @@
 -- Visits that an acceptor gave, and the calls by which they came.
-use Rattle.std.specs.Prelude.{◌≡◌, ◌⊎◌, ◌<◌, ◌≤◌, ℕ, Bool, true, false, List, [], ◌∷◌, ◌++◌, length, filter_map, Option, Result, MatchResult, option_map, option_and_then}
+use Rattle.std.specs.Prelude.{◌≡◌, ◌⊎◌, ◌<◌, ◌≤◌, ℕ, Bool, true, false, List, [], ◌∷◌, ◌++◌, length, filter_map, Option, Result}
+use Rattle.std.specs.Prelude.{MatchResult, option_map, option_and_then}
 use Rattle.std.specs.List.{flat_map}
 use Rattle.bh_tables.specs.Typed.{Tables}
 use Rattle.bh_storage.specs.Calls.{Seen}
@@ -38,7 +39,8 @@ IsFault calls = (calls ≡ NotAccepted ∷ []) ⊎ ((caller : Caller) × (calls 
 
 -- ---- one connection
 
-module _ {H C : Type 0} (IsIntact IsOpen : H → Type 0) (seen : H → Seen) (left : H → Tables → Type 0) (shows : C → Tables → Type 0) (secret : Option (List ℕ)) where
+module _ {H C : Type 0} (IsIntact IsOpen : H → Type 0) (seen : H → Seen) (left : H → Tables → Type 0) (shows : C → Tables → Type 0)
+    (secret : Option (List ℕ)) where
   -- one was served as its caller's
   abbrev pub VisitedAs : Caller → Ends → Ends → Served → H → H → Type 0
   VisitedAs Request before after served old new = CameTo IsIntact IsOpen seen left before after served old new
@@ -58,7 +60,8 @@ module _ {H C : Type 0} (IsIntact IsOpen : H → Type 0) (seen : H → Seen) (le
 
   abbrev pub ComesOne : {X E : Type 0} → Option (List Call) → Option (List Call) → Result X E → H → H → Type 0
   ComesOne before after result old new =
-      MatchResult result (λ _. (visit : Visit) × IsServed before after old new visit) (λ _. (fault : List Call) × HasFailed before after old new fault)
+      MatchResult result (λ _. (visit : Visit) × IsServed before after old new visit)
+      (λ _. (fault : List Call) × HasFailed before after old new fault)
 
 -- ---- connections in turn
 
@@ -84,7 +87,8 @@ module _ {H : Type 0} (IsIntact IsOpen : H → Type 0) (seen : H → Seen) (left
   -- a host that was lost had been served with until a visit
   abbrev pub WasLost : {C : Type 0} → (C → Tables → Type 0) → (H → Bool) → H → H → Type 0
   WasLost shows lost old new = lost old ≡ false → lost new ≡ true
-      → (visits : List Visit) × (mid : H) × (visit : Visit) × HasServedAll visits old mid × DidBy IsIntact IsOpen seen left shows visit mid new
+      → (visits : List Visit) × (mid : H) × (visit : Visit) × HasServedAll visits old mid
+      × DidBy IsIntact IsOpen seen left shows visit mid new
 
 -- the secret of the operators of a port, if there is one
 abbrev pub secret_of : Ports → Option (List ℕ)

@@ -76,14 +76,16 @@ Hears secret before after served (Copied to reply) = IsHeard secret before after
 -- ---- its host
 
 -- it stays unless a line orders something, and then that is applied, or it is copied
-abbrev pub Obeys : {H C : Type 0} → (H → Type 0) → (H → Type 0) → (H → Seen) → (H → Tables → Type 0) → (C → Tables → Type 0) → Heard → H → H → Type 0
+abbrev pub Obeys : {H C : Type 0} → (H → Type 0) → (H → Type 0) → (H → Seen) → (H → Tables → Type 0) → (C → Tables → Type 0) → Heard → H → H
+    → Type 0
 Obeys IsIntact IsOpen seen left shows CutOff old new = new ≡ old
 Obeys IsIntact IsOpen seen left shows NotHeard old new = new ≡ old
 Obeys IsIntact IsOpen seen left shows NoOrder old new = new ≡ old
 Obeys IsIntact IsOpen seen left shows (Obeyed event told) old new = IsApplied IsIntact IsOpen seen left event told old new
 Obeys IsIntact IsOpen seen left shows (Copied to reply) old new = IsBackedUp IsIntact IsOpen seen left shows reply old new
 
-pub record WasOrdered {H C : Type 0} (IsIntact IsOpen : H → Type 0) (seen : H → Seen) (left : H → Tables → Type 0) (shows : C → Tables → Type 0) (secret : Option (List ℕ)) (before after : Ends) (served : Served) (old new : H) : Type 0 where
+pub record WasOrdered {H C : Type 0} (IsIntact IsOpen : H → Type 0) (seen : H → Seen) (left : H → Tables → Type 0)
+    (shows : C → Tables → Type 0) (secret : Option (List ℕ)) (before after : Ends) (served : Served) (old new : H) : Type 0 where
   pub heard : Heard
   pub hears : Hears secret before after served heard
   pub obeys : Obeys IsIntact IsOpen seen left shows heard old new

@@ -6,10 +6,11 @@ ghost use Rattle.bh_http.specs.Transfers.{Transfer, Gives, Takes};
 ghost use Rattle.bh_http.specs.Views.{announced_view};
 ghost use Rattle.bh_link.specs.Taking.{Opens, announced_size};
 ghost use Rattle.bh_model.specs.Runs.{last_reading};
-ghost use Rattle.bh_storage.specs.Calls.{Clean, LeavesSound, IsAtRest};
+ghost use Rattle.bh_storage.specs.Calls.{Clean, IsAtRest};
 ghost use Rattle.bh_tables.specs.Typed.{Tables};
 ghost use Rattle.bh_host.specs.Replies.{reply_bytes, reply_trouble, clock_text};
 ghost use Rattle.bh_host.specs.declared.reply.Caller.TheVariants.{Request};
+ghost use Rattle.bh_host.specs.Resting.{StaysAtRest};
 ghost use Rattle.bh_connection.specs.Connections.{ends_of, begun_by, EndsAs, CameTo, IsTakenBack};
 
 use crate::sending::send_planned;
@@ -45,11 +46,7 @@ pub fn serve_connection<H: Storage, R: Source, W: Sink>(
     requires rest { Clean H.IsIntact H.IsOpen host.old → IsAtRest H.IsSoundStore (H.seen host.old) }
     requires reads { reader.old.failed ≡ false }
     requires writes { writer.old.failed ≡ false }
-    ensures intact { H.IsIntact host.new → H.IsIntact host.old }
-    ensures opened { H.IsIntact host.new → H.IsOpen host.new → H.IsOpen host.old }
-    ensures ready { Clean H.IsIntact H.IsOpen host.new → IsAtRest H.IsSoundStore (H.seen host.new) }
-    ensures limits { (H.seen host.new).limits ≡ (H.seen host.old).limits }
-    ensures leaves { H.IsIntact host.new → LeavesSound H.IsSoundStore H.left host.old host.new }
+    ensures stays { StaysAtRest H.IsIntact H.IsOpen H.IsSoundStore H.seen H.left host.old host.new }
     ensures came_to { CameTo H.IsIntact H.IsOpen H.seen H.left
         (ends_of R.remaining R.transfers W.contents W.transfers reading reader.old writer.old)
         (ends_of R.remaining R.transfers W.contents W.transfers reading reader.new writer.new) result host.old host.new }
@@ -92,11 +89,7 @@ fn serve_headed<H: Storage, R: Source, W: Sink>(
     requires rest { Clean H.IsIntact H.IsOpen host.old → IsAtRest H.IsSoundStore (H.seen host.old) }
     requires reads { reader.old.failed ≡ false }
     requires writes { writer.old.failed ≡ false }
-    ensures intact { H.IsIntact host.new → H.IsIntact host.old }
-    ensures opened { H.IsIntact host.new → H.IsOpen host.new → H.IsOpen host.old }
-    ensures ready { Clean H.IsIntact H.IsOpen host.new → IsAtRest H.IsSoundStore (H.seen host.new) }
-    ensures limits { (H.seen host.new).limits ≡ (H.seen host.old).limits }
-    ensures leaves { H.IsIntact host.new → LeavesSound H.IsSoundStore H.left host.old host.new }
+    ensures stays { StaysAtRest H.IsIntact H.IsOpen H.IsSoundStore H.seen H.left host.old host.new }
     ensures came_to { (start : Option (List ℕ)) (begun : Option (List Transfer)) (bytes : List ℕ)
         → Opens (H.seen host.old).limits start (R.remaining reader.old.inner) bytes head.now.body_size
         → ReadsHead (H.seen host.old).limits bytes (Ok (announced_view head.now, []))
@@ -138,11 +131,7 @@ fn serve_opened<H: Storage, R: Source, W: Sink>(
     requires finds { Finds (H.seen host.old).limits opening.now.bytes.items headers.now opening.now.head }
     requires reads { reader.old.failed ≡ false }
     requires writes { writer.old.failed ≡ false }
-    ensures intact { H.IsIntact host.new → H.IsIntact host.old }
-    ensures opened { H.IsIntact host.new → H.IsOpen host.new → H.IsOpen host.old }
-    ensures ready { Clean H.IsIntact H.IsOpen host.new → IsAtRest H.IsSoundStore (H.seen host.new) }
-    ensures limits { (H.seen host.new).limits ≡ (H.seen host.old).limits }
-    ensures leaves { H.IsIntact host.new → LeavesSound H.IsSoundStore H.left host.old host.new }
+    ensures stays { StaysAtRest H.IsIntact H.IsOpen H.IsSoundStore H.seen H.left host.old host.new }
     ensures came_to { (start : Option (List ℕ)) (begun : Option (List Transfer))
         → Opens (H.seen host.old).limits start (R.remaining reader.old.inner) opening.now.bytes.items (announced_size opening.now.head)
         → Gives begun (R.transfers reader.old.inner) opening.now.bytes.items false

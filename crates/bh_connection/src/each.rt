@@ -1,5 +1,6 @@
 ghost use Rattle.std.specs.Prelude.{◌≡◌, length, map, false, All, IfOk, OnErr};
-ghost use Rattle.bh_storage.specs.Calls.{Clean, LeavesSound, IsAtRest};
+ghost use Rattle.bh_storage.specs.Calls.{Clean, IsAtRest};
+ghost use Rattle.bh_host.specs.Resting.{StaysAtRest};
 ghost use Rattle.bh_connection.specs.Connections.{CameTo};
 ghost use Rattle.bh_connection.specs.Each.{IsGoing, HasServed, HasServedAlone, ends};
 
@@ -29,11 +30,7 @@ pub fn serve_each<H: Storage, R: Source, W: Sink>(
 ) -> Result<Vec<Served>, AllocError>
     requires rest { Clean H.IsIntact H.IsOpen host.old → IsAtRest H.IsSoundStore (H.seen host.old) }
     requires going { All IsGoing arrivals.old }
-    ensures intact { H.IsIntact host.new → H.IsIntact host.old }
-    ensures opened { H.IsIntact host.new → H.IsOpen host.new → H.IsOpen host.old }
-    ensures ready { Clean H.IsIntact H.IsOpen host.new → IsAtRest H.IsSoundStore (H.seen host.new) }
-    ensures limits { (H.seen host.new).limits ≡ (H.seen host.old).limits }
-    ensures leaves { H.IsIntact host.new → LeavesSound H.IsSoundStore H.left host.old host.new }
+    ensures stays { StaysAtRest H.IsIntact H.IsOpen H.IsSoundStore H.seen H.left host.old host.new }
     ensures served { IfOk result (λ serveds. HasServed H.IsIntact H.IsOpen H.seen H.left
         (map (ends R.remaining R.transfers W.contents W.transfers) arrivals.old)
         (map (ends R.remaining R.transfers W.contents W.transfers) arrivals.new)
@@ -62,11 +59,7 @@ pub(crate) fn serve_arrival<H: Storage, R: Source, W: Sink>(
 ) -> Served
     requires rest { Clean H.IsIntact H.IsOpen host.old → IsAtRest H.IsSoundStore (H.seen host.old) }
     requires going { IsGoing arrival.old }
-    ensures intact { H.IsIntact host.new → H.IsIntact host.old }
-    ensures opened { H.IsIntact host.new → H.IsOpen host.new → H.IsOpen host.old }
-    ensures ready { Clean H.IsIntact H.IsOpen host.new → IsAtRest H.IsSoundStore (H.seen host.new) }
-    ensures limits { (H.seen host.new).limits ≡ (H.seen host.old).limits }
-    ensures leaves { H.IsIntact host.new → LeavesSound H.IsSoundStore H.left host.old host.new }
+    ensures stays { StaysAtRest H.IsIntact H.IsOpen H.IsSoundStore H.seen H.left host.old host.new }
     ensures came_to { CameTo H.IsIntact H.IsOpen H.seen H.left
         (ends R.remaining R.transfers W.contents W.transfers arrival.old)
         (ends R.remaining R.transfers W.contents W.transfers arrival.new) result host.old host.new }

@@ -1,5 +1,6 @@
 ghost use Rattle.std.specs.Prelude.{◌≡◌, is_some, option_map};
-ghost use Rattle.bh_storage.specs.Calls.{Clean, LeavesSound, IsAtRest};
+ghost use Rattle.bh_storage.specs.Calls.{Clean, IsAtRest};
+ghost use Rattle.bh_host.specs.Resting.{StaysAtRest};
 ghost use Rattle.bh_connection.specs.Each.{IsGoing, ends};
 ghost use Rattle.bh_connection.specs.Listening.{ComesOne, HasListened, VisitedAs, WasLost, WasVisited, secret_of};
 ghost use Rattle.bh_connection.specs.Visits.{DidFor, RanFor, secret_at};
@@ -57,11 +58,7 @@ pub fn serve_port<
     count: u64,
 ) -> io::Result<()>
     requires { Clean H.IsIntact H.IsOpen host.old → IsAtRest H.IsSoundStore (H.seen host.old) }
-    ensures intact { H.IsIntact host.new → H.IsIntact host.old }
-    ensures opened { H.IsIntact host.new → H.IsOpen host.new → H.IsOpen host.old }
-    ensures ready { Clean H.IsIntact H.IsOpen host.new → IsAtRest H.IsSoundStore (H.seen host.new) }
-    ensures limits { (H.seen host.new).limits ≡ (H.seen host.old).limits }
-    ensures leaves { H.IsIntact host.new → LeavesSound H.IsSoundStore H.left host.old host.new }
+    ensures stays { StaysAtRest H.IsIntact H.IsOpen H.IsSoundStore H.seen H.left host.old host.new }
     ensures lost { WasLost H.IsIntact H.IsOpen H.seen H.left (secret_of ports.entry) H.shows H.lost host.old host.new }
     ensures ran { H.IsIntact host.new → RanFor (is_some ports.entry.operator) H.IsOpen H.seen H.left host.old host.new }
     ensures visited { WasVisited H.IsIntact H.IsOpen H.seen H.left (secret_of ports.entry) host.old host.new }
@@ -131,11 +128,7 @@ pub fn serve_listener<E: Eprint + AllocGlobal, H: BackUp, C: Clock>(
     count: u64,
 ) -> io::Result<()>
     requires { Clean H.IsIntact H.IsOpen host.old → IsAtRest H.IsSoundStore (H.seen host.old) }
-    ensures intact { H.IsIntact host.new → H.IsIntact host.old }
-    ensures opened { H.IsIntact host.new → H.IsOpen host.new → H.IsOpen host.old }
-    ensures ready { Clean H.IsIntact H.IsOpen host.new → IsAtRest H.IsSoundStore (H.seen host.new) }
-    ensures limits { (H.seen host.new).limits ≡ (H.seen host.old).limits }
-    ensures leaves { H.IsIntact host.new → LeavesSound H.IsSoundStore H.left host.old host.new }
+    ensures stays { StaysAtRest H.IsIntact H.IsOpen H.IsSoundStore H.seen H.left host.old host.new }
     ensures lost { WasLost H.IsIntact H.IsOpen H.seen H.left (secret_at doors.entry.operators) H.shows H.lost host.old host.new }
     ensures ran { H.IsIntact host.new → RanFor (is_some doors.entry.operators) H.IsOpen H.seen H.left host.old host.new }
     ensures visited { WasVisited H.IsIntact H.IsOpen H.seen H.left (secret_at doors.entry.operators) host.old host.new }
@@ -175,11 +168,7 @@ pub fn serve_from<H: BackUp, A: Acceptor>(
     count: u64,
 ) -> io::Result<()>
     requires { Clean H.IsIntact H.IsOpen host.old → IsAtRest H.IsSoundStore (H.seen host.old) }
-    ensures intact { H.IsIntact host.new → H.IsIntact host.old }
-    ensures opened { H.IsIntact host.new → H.IsOpen host.new → H.IsOpen host.old }
-    ensures ready { Clean H.IsIntact H.IsOpen host.new → IsAtRest H.IsSoundStore (H.seen host.new) }
-    ensures limits { (H.seen host.new).limits ≡ (H.seen host.old).limits }
-    ensures leaves { H.IsIntact host.new → LeavesSound H.IsSoundStore H.left host.old host.new }
+    ensures stays { StaysAtRest H.IsIntact H.IsOpen H.IsSoundStore H.seen H.left host.old host.new }
     ensures lost { WasLost H.IsIntact H.IsOpen H.seen H.left (option_map (λ s. s.now) secret.entry) H.shows H.lost host.old host.new }
     ensures ran { H.IsIntact host.new → RanFor (A.operated acceptor.old) H.IsOpen H.seen H.left host.old host.new }
     ensures listened { HasListened H.IsIntact H.IsOpen H.seen H.left (option_map (λ s. s.now) secret.entry) H.lost
@@ -203,11 +192,7 @@ fn serve_next<H: BackUp, A: Acceptor>(
     secret: Option<&[u8]>,
 ) -> io::Result<()>
     requires { Clean H.IsIntact H.IsOpen host.old → IsAtRest H.IsSoundStore (H.seen host.old) }
-    ensures intact { H.IsIntact host.new → H.IsIntact host.old }
-    ensures opened { H.IsIntact host.new → H.IsOpen host.new → H.IsOpen host.old }
-    ensures ready { Clean H.IsIntact H.IsOpen host.new → IsAtRest H.IsSoundStore (H.seen host.new) }
-    ensures limits { (H.seen host.new).limits ≡ (H.seen host.old).limits }
-    ensures leaves { H.IsIntact host.new → LeavesSound H.IsSoundStore H.left host.old host.new }
+    ensures stays { StaysAtRest H.IsIntact H.IsOpen H.IsSoundStore H.seen H.left host.old host.new }
     ensures operated { A.operated acceptor.new ≡ A.operated acceptor.old }
     ensures did { DidFor H.IsIntact H.IsOpen H.seen H.left H.shows (A.operated acceptor.old) host.old host.new }
     ensures comes { ComesOne H.IsIntact H.IsOpen H.seen H.left H.shows (option_map (λ s. s.now) secret.entry)
@@ -232,11 +217,7 @@ fn serve_visit<H: BackUp, R: Source, W: Sink>(
 ) -> Served
     requires rest { Clean H.IsIntact H.IsOpen host.old → IsAtRest H.IsSoundStore (H.seen host.old) }
     requires going { IsGoing arrival.old }
-    ensures intact { H.IsIntact host.new → H.IsIntact host.old }
-    ensures opened { H.IsIntact host.new → H.IsOpen host.new → H.IsOpen host.old }
-    ensures ready { Clean H.IsIntact H.IsOpen host.new → IsAtRest H.IsSoundStore (H.seen host.new) }
-    ensures limits { (H.seen host.new).limits ≡ (H.seen host.old).limits }
-    ensures leaves { H.IsIntact host.new → LeavesSound H.IsSoundStore H.left host.old host.new }
+    ensures stays { StaysAtRest H.IsIntact H.IsOpen H.IsSoundStore H.seen H.left host.old host.new }
     ensures visited { VisitedAs H.IsIntact H.IsOpen H.seen H.left H.shows (option_map (λ s. s.now) secret.entry) caller
         (ends R.remaining R.transfers W.contents W.transfers arrival.old)
         (ends R.remaining R.transfers W.contents W.transfers arrival.new) result host.old host.new }

@@ -1,8 +1,9 @@
 ghost use Rattle.std.specs.Prelude.{◌≡◌, ◌≤◌, ◌<◌, ◌+◌, ◌↔◌, length, take, false, option_map, IfSome, IsTrue};
 ghost use Rattle.std.specs.Io.KnownBytes.{Appends};
-ghost use Rattle.bh_storage.specs.Calls.{Clean, LeavesSound, IsAtRest};
+ghost use Rattle.bh_storage.specs.Calls.{Clean, IsAtRest};
 ghost use Rattle.bh_tables.specs.Typed.{Tables};
 ghost use Rattle.bh_http.specs.Transfers.{Takes};
+ghost use Rattle.bh_host.specs.Resting.{StaysAtRest};
 ghost use Rattle.bh_connection.specs.Connections.{ends_of, EndsAs};
 ghost use Rattle.bh_connection.specs.Operators.{line_text, WasOrdered};
 
@@ -39,11 +40,7 @@ pub fn serve_line<H: BackUp, R: Source, W: Sink>(
     requires rest { Clean H.IsIntact H.IsOpen host.old → IsAtRest H.IsSoundStore (H.seen host.old) }
     requires reads { reader.old.failed ≡ false }
     requires writes { writer.old.failed ≡ false }
-    ensures intact { H.IsIntact host.new → H.IsIntact host.old }
-    ensures opened { H.IsIntact host.new → H.IsOpen host.new → H.IsOpen host.old }
-    ensures ready { Clean H.IsIntact H.IsOpen host.new → IsAtRest H.IsSoundStore (H.seen host.new) }
-    ensures limits { (H.seen host.new).limits ≡ (H.seen host.old).limits }
-    ensures leaves { H.IsIntact host.new → LeavesSound H.IsSoundStore H.left host.old host.new }
+    ensures stays { StaysAtRest H.IsIntact H.IsOpen H.IsSoundStore H.seen H.left host.old host.new }
     ensures ordered { WasOrdered H.IsIntact H.IsOpen H.seen H.left H.shows (option_map (λ s. s.now) secret.entry)
         (ends_of R.remaining R.transfers W.contents W.transfers reading reader.old writer.old)
         (ends_of R.remaining R.transfers W.contents W.transfers reading reader.new writer.new) result host.old host.new }

@@ -1,5 +1,6 @@
 -- Which of an upload's parts, of which no bytes are known, it is completed with, and how that is the machine's case.
-use Rattle.std.specs.Prelude.{◌≡◌, ℕ, ◌-◌, ◌==◌, Bool, true, false, nat_le, bytes_eq, List, [], ◌∷◌, map, length, take, position, slice_get, All, Option, Some, None, option_and_then, ok_or, Result, Ok}
+use Rattle.std.specs.Prelude.{◌≡◌, ℕ, ◌-◌, ◌==◌, Bool, true, false, nat_le, bytes_eq, List, [], ◌∷◌, map, length, take, position, slice_get}
+use Rattle.std.specs.Prelude.{All, Option, Some, None, option_and_then, ok_or, Result, Ok}
 use Rattle.std.specs.List.{list_all, list_any, filter_map}
 use Rattle.std.specs.Option.{option_map_or}
 use Rattle.std.specs.Ordering.{nat_cmp}

@@ -1,5 +1,6 @@
 -- The calls that make a host, one after another.
-use Rattle.std.proofs.Common.{◌≡◌, ◌≤◌, inl, inr, ℕ, List, [], ◌∷◌, ◌++◌, IsTrue, true, None, Ok, Err, Result, OnOk, OnErr, IfErr, refl, sym, ap, ◌∙◌, subst}
+use Rattle.std.proofs.Common.{◌≡◌, ◌≤◌, ◌<◌, ◌+◌, inl, inr, ℕ, List, [], ◌∷◌, ◌++◌, length, get_or, drop, IsTrue, true, None, Ok, Err, Result, OnOk, OnErr, IfErr, refl, sym, ap, ◌∙◌, subst}
+use Rattle.std.proofs.lemmas.List.{drop_more, drop_all}
 use Rattle.sqlite.specs.Tree.{Trees}
 use Rattle.bh_types.specs.BlockDigests.{digest_number}
 use Rattle.bh_types.specs.Limits.{HostLimits, AreLimits}
@@ -38,6 +39,8 @@ use Rattle.bh_schema.proofs.Storing.{follows_then}
 use Rattle.bh_schema.proofs.Committing.{same_database}
 use Rattle.bh_schema.proofs.TurnLemmas.{follows}
 use Rattle.bh_create.specs.Creation.{IsEmpty, IsNewHost, IsMaking, Keeps, Makes}
+use Rattle.bh_create.specs.Items.{before, after, IsTextOf, Lead}
+use Rattle.bh_create.specs.declared.tables.Item.{Item}
 
 -- ---- a call that makes a table or an index
 
@@ -78,28 +81,57 @@ if_intact new (Err e) h = h
 
 -- where nothing stands against the table, it fails in trouble alone
 module _ (before : Schema) (sql : List ℕ) (table : Table) (creates : Creates before sql table) (old new : State) (making : IsStateClean old → IsMaking before old) where
-  pub makes : (result : Result ℕ Error) → (HasCleanDisk new → Executes sql [] old new result) → Survives old new (CommitsBy sql [] old) → Makes (created before table) old new result
+  makes : (result : Result ℕ Error) → (HasCleanDisk new → Executes sql [] old new result) → Survives old new (CommitsBy sql [] old) → Makes (created before table) old new result
   makes result runs s = made before (created before table) old new making result
       (create_changes before sql table creates old new (blank_before before (created before table) old new making) result runs s)
       (grows before sql table creates old new (blank_before before (created before table) old new making) result runs s)
 
-  pub fails : IsFree before sql table → (result : Result ℕ Error) → (HasCleanDisk new → Executes sql [] old new result) → Survives old new (CommitsBy sql [] old) → IfErr result (λ e. IsIntact new → is_trouble e ≡ true)
+  fails : IsFree before sql table → (result : Result ℕ Error) → (HasCleanDisk new → Executes sql [] old new result) → Survives old new (CommitsBy sql [] old) → IfErr result (λ e. IsIntact new → is_trouble e ≡ true)
   fails free result runs s = if_intact new result (create_trouble before sql table creates free old new (λ clean up. (blank_before before (created before table) old new making clean up).schema_is) result runs s)
 
 -- and so does an index
 module _ (before : Schema) (sql : List ℕ) (place : ℕ) (table : Table) (index : Index) (it : Indexes before sql place table index) (old new : State) (making : IsStateClean old → IsMaking before old) where
-  pub indexes : (result : Result ℕ Error) → (HasCleanDisk new → Executes sql [] old new result) → Survives old new (CommitsBy sql [] old) → Makes (indexed before table index) old new result
+  indexes : (result : Result ℕ Error) → (HasCleanDisk new → Executes sql [] old new result) → Survives old new (CommitsBy sql [] old) → Makes (indexed before table index) old new result
   indexes result runs s = made before (indexed before table index) old new making result
       (index_changes before sql place table index it old new (λ clean up. (blank_before before (indexed before table index) old new making clean up).schema_is) result runs s)
       (index_grows before sql place table index it old new (blank_before before (indexed before table index) old new making) result runs s)
 
-  pub index_fails : IsFreeIndex before sql table index → (result : Result ℕ Error) → (HasCleanDisk new → Executes sql [] old new result) → Survives old new (CommitsBy sql [] old) → IfErr result (λ e. IsIntact new → is_trouble e ≡ true)
+  index_fails : IsFreeIndex before sql table index → (result : Result ℕ Error) → (HasCleanDisk new → Executes sql [] old new result) → Survives old new (CommitsBy sql [] old) → IfErr result (λ e. IsIntact new → is_trouble e ≡ true)
   index_fails free result runs s = if_intact new result (blank_trouble before sql place table index it free old new (blank_before before (indexed before table index) old new making) result runs s)
+
+-- ---- the texts
+
+pub table_text : (item : Item) {sql : List ℕ} {table : Table} → created (before item) table ≡ after item → Creates (before item) sql table → IsFree (before item) sql table → IsTextOf item sql
+table_text item {sql} {table} leads creates free = inl (record { table = table; leads = leads; creates = creates; free = free })
+
+pub index_text : (item : Item) {sql : List ℕ} {place : ℕ} {table : Table} {index : Index} → indexed (before item) table index ≡ after item → Indexes (before item) sql place table index → IsFreeIndex (before item) sql table index → IsTextOf item sql
+index_text item {sql} {place} {table} {index} leads indexes free = inr (record { place = place; table = table; index = index; leads = leads; indexes = indexes; free = free })
+
+-- a run of a text makes its item
+module _ (item : Item) (sql : List ℕ) (old new : State) (making : IsStateClean old → IsMaking (before item) old) (result : Result ℕ Error) (runs : HasCleanDisk new → Executes sql [] old new result) (survives : Survives old new (CommitsBy sql [] old)) where
+  pub item_made : IsTextOf item sql → Makes (after item) old new result
+  item_made (inl it) = subst (λ schema. Makes schema old new result) it.leads (makes (before item) sql it.table it.creates old new making result runs survives)
+  item_made (inr it) = subst (λ schema. Makes schema old new result) it.leads (indexes (before item) sql it.place it.table it.index it.indexes old new making result runs survives)
+
+  pub item_fails : IsTextOf item sql → IfErr result (λ e. IsIntact new → is_trouble e ≡ true)
+  item_fails (inl it) = fails (before item) sql it.table it.creates old new making it.free result runs survives
+  item_fails (inr it) = index_fails (before item) sql it.place it.table it.index it.indexes old new making it.free result runs survives
 
 -- ---- several calls
 
+pub keeps_itself : (s : State) → Keeps s s
+keeps_itself s = record { follows = record { clean = λ clean. clean; intact = λ intact. intact; limit = refl }; kept = λ clean. refl }
+
 pub keeps_then : (a b c : State) → Keeps a b → Keeps b c → Keeps a c
 keeps_then a b c one two = record { follows = follows_then a b c one.follows two.follows; kept = λ clean. two.kept clean ∙ one.kept (two.follows.clean clean) }
+
+-- the next item is made over the schema so far, and those after it lead on
+pub lead_next : (items : List Item) (i : ℕ) (x : Item) → i < length items → (at to : Schema) → Lead at (drop i items) to → let next = get_or items i x in (before next ≡ at) × Lead (after next) (drop (i + 1) items) to
+lead_next items i x low at to = subst (λ l. Lead at l to) (drop_more items i x low)
+
+-- after the last one, the schema so far is the one that they lead to
+pub lead_end : (items : List Item) (i : ℕ) → length items ≤ i → (at to : Schema) → Lead at (drop i items) to → at ≡ to
+lead_end items i high at to = subst (λ l. Lead at l to) (drop_all i items high)
 
 -- BEGIN, over an empty database
 pub begun_making : (old new : State) → IsEmpty old → standing new ≡ begun (standing old) → IsMaking no_schema new

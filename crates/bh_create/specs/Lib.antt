@@ -1,1 +1,2 @@
 pub mod Creation
+pub mod Items

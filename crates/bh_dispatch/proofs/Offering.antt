@@ -1,11 +1,15 @@
 -- An answer that is there as a whole, and an object whose bytes are still to be read, as what an operation answers.
 use Rattle.std.proofs.Common.{◌≡◌, Option, Result, Ok, Err, subst}
 use Rattle.std.specs.Result.{result_map_both}
+use Rattle.sqlite.specs.Held.{Held, state}
+use Rattle.sqlite_trees.specs.declared.store.Store.{Ghosts}
 use Rattle.bh_types.specs.declared.rejection.Rejection.{Rejection}
 use Rattle.bh_http.specs.Bodies.{Coming, Gives, IsWhole}
 use Rattle.bh_http.proofs.BodyLemmas.{going_may}
 use Rattle.bh_model.specs.Operations as machine
 use Rattle.bh_model.specs.State.{Octets, State as Machine}
+use Rattle.bh_cache.specs.Kept.{KeptBlocks, Agrees}
+use Rattle.bh_schema.specs.Connections.{IsClean, tables}
 use Rattle.bh_storage.specs.Answers.{answer_view, found_answer, offer_view}
 use Rattle.bh_storage.specs.Calls.{Carries, GivesStep, Operates, OperatesBy, UnlessSpoilt}
 use Rattle.bh_storage.specs.Plans.{IfPlanned, IsMeasured}
@@ -18,8 +22,9 @@ use Rattle.bh_storage.specs.declared.error.Outcome.TheVariants.{Done, Spoilt}
 use Rattle.bh_storage.specs.declared.error.StepError.{StepError}
 use Rattle.bh_storage.specs.declared.error.StepError.TheVariants.{Refused, Failed}
 use Rattle.bh_tables.specs.Typed.{Tables}
+use Rattle.bh_dispatch.specs.Operating.{OperatesOn, OperatesOnBy}
 use Rattle.bh_dispatch.specs.Stored.{offer_as}
-use Rattle.bh_dispatch.proofs.Receiving.{says_nothing}
+use Rattle.bh_dispatch.proofs.Receiving.{says_nothing, kept_operated}
 
 abbrev pub Answers : Type 0
 Answers = Result (Outcome Answer Rejection) (StepError Rejection)
@@ -86,3 +91,18 @@ measured_from these others cleanly clean both (Ok (Done (Whole answer))) same h 
 measured_from these others cleanly clean both (Ok (Done (Planned found))) same h = λ c. subst (λ (x : Tables). IsMeasured x found) (same c) (h (both c))
 measured_from these others cleanly clean both (Ok (Spoilt r)) same h = tt
 measured_from these others cleanly clean both (Err error) same h = tt
+
+-- ---- on a connection
+
+module _ {S : Type 0} (g : Ghosts S) (t : Octets) (old new : Held S) (step : Octets → Option Machine → Result machine.Outcome Rejection) (before after : Coming) (result : Answers) where
+  pub offered_on : (digest : Octets → Octets) (Says : Octets → Type 0) → OperatesOnBy g digest answer_view t step Says before after old new result → OperatesOnBy g digest (offer_view (tables g new)) t step Says before after old new (offered result)
+  offered_on digest Says h = record {
+    works = record { within = h.works.within; opens = offered_spoilt result _ h.works.opens; working = offered_spoilt result _ h.works.working };
+    operates = offered_operates (tables g new) t step Says (IsClean g new) before after (tables g old) (tables g new) result h.operates;
+  }
+
+  -- blocks in memory that agreed still do
+  pub keeps_blocks : (kept : KeptBlocks) → (IsClean g old → Agrees kept (tables g old).blocks) → OperatesOn g answer_view t step before after old new result → UnlessSpoilt (offered result) (IsClean g new → Agrees kept (tables g new).blocks)
+  keeps_blocks kept agrees h =
+      offered_spoilt result _ (kept_operated kept answer_view t step (λ _. Unit {0}) before after result (state g old) (state g new) (λ clean. agrees (h.works.within.follows.clean clean))
+      (says_nothing answer_view t step (λ _. Unit {0}) (IsClean g new) before after (tables g old) (tables g new) result (λ _. tt) h.operates))

@@ -1,14 +1,10 @@
 -- A step whose body comes in pieces: told as an answer, and in the words of a host's storage.
-use Rattle.std.proofs.Common.{◌≡◌, ◌≢◌, ℕ, Option, Result, Ok, Err, refl, ap, sym, subst, ◌∙◌}
+use Rattle.std.proofs.Common.{◌≡◌, Option, Result, Ok, Err, ap, sym, subst, ◌∙◌}
 use Rattle.std.specs.Result.{result_map_both}
 use Rattle.sqlite.specs.State.{State}
 use Rattle.bh_types.specs.Limits.{HostLimits}
 use Rattle.bh_types.specs.Rejections.{plainly}
 use Rattle.bh_types.specs.declared.refusal.Refusal.{Refusal}
-use Rattle.bh_types.specs.declared.id.UploadId.{UploadId}
-use Rattle.bh_operation.specs.declared.address.ObjectName.{ObjectName}
-use Rattle.bh_operation.specs.declared.operation.Operation.{Operation}
-use Rattle.bh_operation.specs.declared.operation.Operation.TheVariants.{ListBuckets, Usage, CreateBucket, HeadBucket, DeleteBucket, ListObjectsV2, ListObjectVersions, ListMultipartUploads, GetBucketVersioning, PutBucketVersioning, GetLifecycle, PutLifecycle, DeleteLifecycle, CopyObject, GetObject, HeadObject, DeleteObject, CreateMultipartUpload, ListParts, CompleteMultipartUpload, AbortMultipartUpload, GetRetention, PutRetention, PutObject, UploadPart}
 use Rattle.bh_http.specs.Bodies.{Coming, Gives, IsWhole}
 use Rattle.bh_http.proofs.BodyLemmas.{going_may}
 use Rattle.bh_model.specs.Operations as machine
@@ -32,7 +28,7 @@ use Rattle.bh_storage.specs.declared.error.StepError.TheVariants.{Refused, Faile
 use Rattle.bh_tables.specs.Typed.{Tables}
 use Rattle.bh_view.specs.View.{view}
 use Rattle.bh_view.specs.Bodies.{IsSoundHost}
-use Rattle.bh_dispatch.specs.Stored.{StoresBody, outcome_as}
+use Rattle.bh_dispatch.specs.Stored.{outcome_as}
 use Rattle.bh_dispatch.proofs.Storing.{IsAtWork, working_seen, shown_now, bounded_seen, carried_bounded, at_work, told}
 
 -- ---- told as an answer
@@ -163,37 +159,3 @@ module _ (digest : Octets → Octets) (before after : KeptBlocks) (l : HostLimit
     carries = λ clean. told digest before after l old new was (λ a b. Carries {X = X} shown t (step h.given) a b (Err (Refused r))) clean (working clean) (agrees (both clean)) (h.carries clean);
   }
   operates_beside shown t step start end (Err (Failed trouble)) working agrees h = record { given = h.given; gives = h.gives; decided = h.decided; carries = λ clean. tt }
-
--- ---- by what a request asks for
-
-module _ (digest : Octets → Octets) (size : ℕ) where
-  -- nothing is said of any other operation
-  pub stores_nothing : (given : Octets) (old new : Tables) (operation : Operation)
-      → ((object : ObjectName) (checksum : Option Octets) (date : Option (Option ℕ)) → operation ≢ PutObject object checksum date)
-      → ((object : ObjectName) (upload : Option UploadId) (number : ℕ) (checksum : Option Octets) → operation ≢ UploadPart object upload number checksum)
-      → StoresBody digest size given operation old new
-  stores_nothing given old new (PutObject object checksum date) put part = absurd (put object checksum date refl)
-  stores_nothing given old new (UploadPart object upload number checksum) put part = absurd (part object upload number checksum refl)
-  stores_nothing given old new ListBuckets put part = tt
-  stores_nothing given old new Usage put part = tt
-  stores_nothing given old new (CreateBucket bucket locked) put part = tt
-  stores_nothing given old new (HeadBucket bucket) put part = tt
-  stores_nothing given old new (DeleteBucket bucket) put part = tt
-  stores_nothing given old new (ListObjectsV2 bucket page token) put part = tt
-  stores_nothing given old new (ListObjectVersions bucket page after) put part = tt
-  stores_nothing given old new (ListMultipartUploads bucket page after) put part = tt
-  stores_nothing given old new (GetBucketVersioning bucket) put part = tt
-  stores_nothing given old new (PutBucketVersioning bucket) put part = tt
-  stores_nothing given old new (GetLifecycle bucket) put part = tt
-  stores_nothing given old new (PutLifecycle bucket) put part = tt
-  stores_nothing given old new (DeleteLifecycle bucket) put part = tt
-  stores_nothing given old new (CopyObject object source date) put part = tt
-  stores_nothing given old new (GetObject object version range) put part = tt
-  stores_nothing given old new (HeadObject object version) put part = tt
-  stores_nothing given old new (DeleteObject object version) put part = tt
-  stores_nothing given old new (CreateMultipartUpload object) put part = tt
-  stores_nothing given old new (ListParts object upload page) put part = tt
-  stores_nothing given old new (CompleteMultipartUpload object upload) put part = tt
-  stores_nothing given old new (AbortMultipartUpload object upload) put part = tt
-  stores_nothing given old new (GetRetention object version) put part = tt
-  stores_nothing given old new (PutRetention object version) put part = tt

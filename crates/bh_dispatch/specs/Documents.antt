@@ -1,22 +1,12 @@
--- The operations that read a document, and what is taken of a request's body for it.
-use Rattle.std.specs.Prelude.{◌≡◌, ◌<◌, Bool, true, false, length, Result, Ok, Err}
+-- What is taken of a request's body for a document.
+use Rattle.std.specs.Prelude.{◌≡◌, ◌<◌, length, Result, Ok, Err}
 use Rattle.bh_docs.specs.Requests.{document_end}
 use Rattle.bh_http.specs.Bodies.{Coming, IsWhole, MayBreak}
 use Rattle.bh_model.specs.State.{Octets}
-use Rattle.bh_operation.specs.declared.operation.Operation.{Operation}
-use Rattle.bh_operation.specs.declared.operation.Operation.TheVariants.{PutBucketVersioning, PutLifecycle, CompleteMultipartUpload, PutRetention}
 use Rattle.bh_storage.specs.declared.error.StepError.{StepError}
 use Rattle.bh_storage.specs.declared.error.StepError.TheVariants.{Refused, Failed}
 use Rattle.bh_types.specs.declared.refusal.Refusal.{Refusal}
 use Rattle.bh_types.specs.declared.refusal.Refusal.TheVariants.{MalformedJson}
-
--- whether an operation reads a document
-abbrev pub reads_document : Operation → Bool
-reads_document (PutBucketVersioning bucket) = true
-reads_document (PutLifecycle bucket) = true
-reads_document (CompleteMultipartUpload object upload) = true
-reads_document (PutRetention object version) = true
-reads_document operation = false
 
 -- of the bytes that came, all are there; or they are too many for a document, and all came; or memory was wanting, or they broke
 -- off

@@ -4,10 +4,8 @@ use Rattle.sqlite.specs.Held.{Held}
 use Rattle.sqlite_trees.specs.declared.store.Store.{Ghosts}
 use Rattle.bh_cache.specs.Kept.{KeptBlocks, Agrees}
 use Rattle.bh_http.specs.Bodies.{Coming}
-use Rattle.bh_machine.specs.Machine.{operated}
 use Rattle.bh_model.specs.Operations as machine
 use Rattle.bh_model.specs.State.{Octets, State}
-use Rattle.bh_types.specs.declared.rejection.Rejection.{Rejection}
 use Rattle.bh_storage.specs.Answers.{answer_view}
 use Rattle.bh_storage.specs.Calls.{Unless, UnlessSpoilt, Carries, Operates, OperatesBy}
 use Rattle.bh_storage.specs.declared.answer.Answer.{Answer}
@@ -16,11 +14,6 @@ use Rattle.bh_storage.specs.declared.error.StepError.{StepError}
 use Rattle.bh_view.specs.Blocks.{AreDigests}
 use Rattle.bh_schema.specs.Connections.{IsClean, tables}
 use Rattle.bh_schema.specs.Working.{WorksOn, WorksOnBy}
-use Rattle.bh_dispatch.specs.declared.asked.Asked.{Asked}
-
--- the machine's step of what is asked, by the bytes of the request's body
-abbrev pub step_of : Asked → Octets → Option State → Result machine.Outcome Rejection
-step_of asked body = operated asked.limits asked.at body asked.operation.now
 
 module _ {S : Type 0} (g : Ghosts S) where
   -- blocks in memory are those of the tables, which name blocks by this function, and a block has room for some bytes
@@ -30,16 +23,20 @@ module _ {S : Type 0} (g : Ghosts S) where
     pub positive : 1 ≤ size
 
   -- a step of a tenant is carried out in the transaction that is open
-  pub record CarriesOut {E : Type 0} (t : Octets) (step : Option State → Result machine.Outcome E) (old new : Held S) (result : Result Answer (StepError E)) : Type 0 where
+  pub record CarriesOut {E : Type 0} (t : Octets) (step : Option State → Result machine.Outcome E) (old new : Held S)
+      (result : Result Answer (StepError E)) : Type 0 where
     pub works : WorksOn g (Unless result) old new
     pub carries : IsClean g new → Carries answer_view t step (tables g old) (tables g new) result
 
-  -- the same, by the bytes that came of a body
-  pub record OperatesOn {X E : Type 0} (shown : X → machine.Answer) (t : Octets) (step : Octets → Option State → Result machine.Outcome E) (before after : Coming) (old new : Held S) (result : Result (Outcome X E) (StepError E)) : Type 0 where
+  -- a step of a tenant is carried out so by the bytes that came of a body
+  pub record OperatesOn {X E : Type 0} (shown : X → machine.Answer) (t : Octets) (step : Octets → Option State → Result machine.Outcome E)
+      (before after : Coming) (old new : Held S) (result : Result (Outcome X E) (StepError E)) : Type 0 where
     pub works : WorksOn g (UnlessSpoilt result) old new
     pub operates : Operates shown t step (IsClean g new) before after (tables g old) (tables g new) result
 
-  -- the same, where blocks are named by this function, and more is said of the bytes
-  pub record OperatesOnBy (digest : Octets → Octets) {X E : Type 0} (shown : X → machine.Answer) (t : Octets) (step : Octets → Option State → Result machine.Outcome E) (Says : Octets → Type 0) (before after : Coming) (old new : Held S) (result : Result (Outcome X E) (StepError E)) : Type 0 where
+  -- a step by a body's bytes, where blocks are named by this function, and more is said of the bytes
+  pub record OperatesOnBy (digest : Octets → Octets) {X E : Type 0} (shown : X → machine.Answer) (t : Octets)
+      (step : Octets → Option State → Result machine.Outcome E) (Says : Octets → Type 0) (before after : Coming) (old new : Held S)
+      (result : Result (Outcome X E) (StepError E)) : Type 0 where
     pub works : WorksOnBy g digest (UnlessSpoilt result) old new
     pub operates : OperatesBy shown t step Says (IsClean g new) before after (tables g old) (tables g new) result

@@ -21,7 +21,7 @@ pub fn told<T, F: FnOnce(T) -> Answer>(
     Ok(as_answer(outcome?))
 }
 
-/// The same of a step whose body comes in pieces.
+/// What a step gives whose body comes in pieces, as an answer.
 pub fn received<T, F: FnOnce(T) -> Answer>(
     outcome: Result<Outcome<T, Refusal>, StepError<Refusal>>,
     as_answer: F,

@@ -1,15 +1,15 @@
 //! The operations that read the document that comes with their request.
-ghost use Rattle.std.specs.Prelude.{◌≡◌, ◌≤◌, true, None};
+ghost use Rattle.std.specs.Prelude.{◌≡◌, ◌≤◌, None};
 ghost use Rattle.std.specs.Result.{result_map_both};
 ghost use Rattle.bh_http.specs.Bodies.{Gives};
+ghost use Rattle.bh_machine.specs.Machine.{document_operated};
 ghost use Rattle.bh_model.specs.State.{Octets};
 ghost use Rattle.bh_view.specs.View.{latest_of};
 ghost use Rattle.bh_storage.specs.Answers.{answer_view};
 ghost use Rattle.bh_schema.specs.Connections.{IsClean, tables};
 ghost use Rattle.bh_schema.specs.Working.{Works};
-ghost use Rattle.bh_dispatch.specs.Documents as spec;
 ghost use Rattle.bh_dispatch.specs.Documents.{TakenAs};
-ghost use Rattle.bh_dispatch.specs.Operating.{CarriesOut, OperatesOn, step_of};
+ghost use Rattle.bh_dispatch.specs.Operating.{CarriesOut, OperatesOn};
 
 use crate::answers::told;
 use crate::asked::Asked;
@@ -19,7 +19,7 @@ use bh_docs::{read_lifecycle, read_retention, read_versioning};
 use bh_http::body::{Body, collect};
 use bh_objects::bodies::refused_whole;
 use bh_objects::{buckets, retention};
-use bh_operation::operation::Operation;
+use bh_operation::operation::DocumentOperation;
 use bh_storage::answer::Answer;
 use bh_storage::error::{Outcome, StepError, Trouble};
 use bh_types::refusal::Refusal;
@@ -27,19 +27,6 @@ use bh_types::rejection::Rejection;
 use bh_uploads::lifecycle;
 use sqlite::{Alter, Connection};
 use std::alloc::Global;
-
-/// Whether an operation reads a document.
-pub fn reads_document(operation: &Operation) -> bool
-    ensures { result ≡ spec.reads_document operation.now }
-{
-    match operation {
-        Operation::PutBucketVersioning(_) => true,
-        Operation::PutLifecycle(_) => true,
-        Operation::CompleteMultipartUpload { .. } => true,
-        Operation::PutRetention { .. } => true,
-        _ => false,
-    }
-}
 
 /// The document that comes with a request, whole: MalformedJson where it is longer than any may be, once all of it came, of
 /// which no byte is kept.
@@ -49,7 +36,7 @@ fn take_document<B: Body>(alloc: Global, body: &mut B) -> Result<Vec<u8>, StepEr
         × TakenAs given (B.coming body.new) (result_map_both (λ document. document.items) (λ error. error) result) }
 {
     if body.due() > DOCUMENT_END {
-        return Err(refused_whole(body, Refusal::MalformedJson));
+        return Err(refused_whole(body, StepError::Refused(Refusal::MalformedJson)));
     }
     match collect(alloc, body) {
         Ok(document) => Ok(document),
@@ -57,44 +44,45 @@ fn take_document<B: Body>(alloc: Global, body: &mut B) -> Result<Vec<u8>, StepEr
     }
 }
 
-/// Carries out an operation by the document that came with it. Another is trouble: `operate_document` sends none here.
+/// Carries out an operation by the document that came with it.
 fn carry_out_document<S: Alter>(
     connection: &mut Connection<S>,
     alloc: Global,
     asked: &Asked<'_>,
+    operation: &DocumentOperation,
     document: &[u8],
 ) -> Result<Answer, StepError<Rejection>>
     requires working { Works S.Store connection.old }
     requires early { IsClean S.Store connection.old → asked.now.at ≤ latest_of (tables S.Store connection.old) }
-    ensures { CarriesOut S.Store asked.now.tenant.now (step_of asked.now document.now) connection.old connection.new result }
+    ensures { CarriesOut S.Store asked.now.tenant.now
+        (document_operated asked.now.limits asked.now.at document.now operation.now) connection.old connection.new result }
 {
     let tenant = asked.tenant;
-    match asked.operation {
-        Operation::PutBucketVersioning(bucket) => {
+    match operation {
+        DocumentOperation::PutBucketVersioning(bucket) => {
             let state = read_versioning(alloc, document)?;
             told(
                 buckets::set_versioning(connection, tenant, bucket, state),
                 |()| Answer::Done,
             )
         }
-        Operation::PutLifecycle(bucket) => {
+        DocumentOperation::PutLifecycle(bucket) => {
             let days = read_lifecycle(alloc, document)?;
             told(
                 lifecycle::set_lifecycle(connection, tenant, bucket, days),
                 |()| Answer::Done,
             )
         }
-        Operation::CompleteMultipartUpload { object, upload } => {
+        DocumentOperation::CompleteMultipartUpload { object, upload } => {
             complete_upload(connection, alloc, asked, object, *upload, document)
         }
-        Operation::PutRetention { object, version } => {
+        DocumentOperation::PutRetention { object, version } => {
             let until = read_retention(alloc, document)?;
             let (bucket, key) = (&object.bucket, &object.key);
             retention::set_retention(
                 connection, tenant, asked.at, bucket, key, *version, until,
             ).map(|()| Answer::Done)
         }
-        _ => Err(StepError::Failed(Trouble::Store)),
     }
 }
 
@@ -103,16 +91,17 @@ pub fn operate_document<S: Alter, B: Body>(
     connection: &mut Connection<S>,
     alloc: Global,
     asked: &Asked<'_>,
+    operation: &DocumentOperation,
     body: &mut B,
 ) -> Result<Outcome<Answer, Rejection>, StepError<Rejection>>
-    requires reads { spec.reads_document asked.now.operation.now ≡ true }
     requires working { Works S.Store connection.old }
     requires early { IsClean S.Store connection.old → asked.now.at ≤ latest_of (tables S.Store connection.old) }
     requires going { (B.coming body.old).broken ≡ None }
-    ensures { OperatesOn S.Store answer_view asked.now.tenant.now (step_of asked.now) (B.coming body.old) (B.coming body.new)
-        connection.old connection.new result }
+    ensures { OperatesOn S.Store answer_view asked.now.tenant.now
+        (λ document. document_operated asked.now.limits asked.now.at document operation.now)
+        (B.coming body.old) (B.coming body.new) connection.old connection.new result }
 {
     let document = take_document(alloc, body)?;
-    let answer = carry_out_document(connection, alloc, asked, &document)?;
+    let answer = carry_out_document(connection, alloc, asked, operation, &document)?;
     Ok(Outcome::Done(answer))
 }

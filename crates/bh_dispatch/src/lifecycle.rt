@@ -1,39 +1,38 @@
 //! The operations on the rule of a bucket, as answers of a host's storage.
-ghost use Rattle.bh_model.specs.State.{Octets};
+ghost use Rattle.bh_machine.specs.Machine.{lifecycle_operated};
 ghost use Rattle.bh_schema.specs.Working.{Works};
-ghost use Rattle.bh_dispatch.specs.Operating.{CarriesOut, step_of};
+ghost use Rattle.bh_dispatch.specs.Operating.{CarriesOut};
 
 use crate::answers::told;
-use crate::asked::Asked;
-use bh_operation::operation::Operation;
+use bh_operation::operation::LifecycleOperation;
 use bh_storage::answer::Answer;
-use bh_storage::error::{StepError, Trouble};
+use bh_storage::error::StepError;
+use bh_types::names::TenantName;
 use bh_types::rejection::Rejection;
 use bh_uploads::lifecycle;
 use sqlite::{Alter, Connection};
 
-/// Carries out an operation on the rule of a bucket that reads no document. Another is trouble: `carry_out` sends none
-/// here.
+/// Carries out what is asked of a bucket's rule with no document.
 pub fn operate_lifecycle<S: Alter>(
     connection: &mut Connection<S>,
-    asked: &Asked<'_>,
+    tenant: &TenantName,
+    operation: &LifecycleOperation,
 ) -> Result<Answer, StepError<Rejection>>
     requires { Works S.Store connection.old }
-    ensures { (body : Octets) → CarriesOut S.Store asked.now.tenant.now (step_of asked.now body) connection.old connection.new result }
+    ensures { CarriesOut S.Store tenant.now (lifecycle_operated operation.now) connection.old connection.new result }
 {
-    match asked.operation {
-        Operation::GetLifecycle(bucket) => {
+    match operation {
+        LifecycleOperation::GetLifecycle(bucket) => {
             told(
-                lifecycle::lifecycle(connection, asked.tenant, bucket),
+                lifecycle::lifecycle(connection, tenant, bucket),
                 Answer::Lifecycle,
             )
         }
-        Operation::DeleteLifecycle(bucket) => {
+        LifecycleOperation::DeleteLifecycle(bucket) => {
             told(
-                lifecycle::delete_lifecycle(connection, asked.tenant, bucket),
+                lifecycle::delete_lifecycle(connection, tenant, bucket),
                 Answer::Removed,
             )
         }
-        _ => Err(StepError::Failed(Trouble::Store)),
     }
 }

@@ -1,43 +1,40 @@
 //! The operations that list what a bucket has, a page at a time.
 ghost use Rattle.std.specs.Option.{option_copied};
-ghost use Rattle.std.specs.Prelude.{◌≡◌, IfOk, option_map};
+ghost use Rattle.std.specs.Prelude.{◌≡◌, option_map};
 ghost use Rattle.bh_listing.specs.Told.{asked_view};
-ghost use Rattle.bh_machine.specs.Machine.{page_asked, place_asked, upload_asked};
-ghost use Rattle.bh_model.specs.State.{Octets};
+ghost use Rattle.bh_machine.specs.Machine.{listing_operated, page_asked, place_asked, upload_asked};
 ghost use Rattle.bh_pages.specs.Seen.{token_of};
 ghost use Rattle.bh_schema.specs.Working.{Works};
-ghost use Rattle.bh_dispatch.specs.Operating.{CarriesOut, step_of};
+ghost use Rattle.bh_dispatch.specs.Operating.{CarriesOut};
 
 use crate::answers::told;
-use crate::asked::Asked;
 use crate::operations::bytes_of;
 use bh_listing::objects::list_objects;
 use bh_listing::versions::list_versions;
-use bh_operation::operation::Operation;
+use bh_operation::operation::ListingOperation;
 use bh_operation::page::{Page, UploadMarker, VersionMarker};
 use bh_pages::gathering::PageAsked;
 use bh_storage::answer::Answer;
-use bh_storage::error::{StepError, Trouble};
+use bh_storage::error::StepError;
 use bh_types::id::UploadId;
+use bh_types::names::TenantName;
 use bh_types::rejection::Rejection;
 use bh_types::wanted::Wanted;
 use bh_upload_listing::uploads::list_uploads;
 use sqlite::{Alter, Connection};
 use std::alloc::Global;
 
-/// What a page asks for that comes after this key. A page is of 1,000 entries at most, so its size fits.
-fn page_of<'a>(page: &'a Page, after: Option<&'a [u8]>) -> Result<PageAsked<'a>, Trouble>
-    ensures { IfOk result (λ asked. (asked_view asked ≡ page_asked page.now) × (token_of asked ≡ option_copied after.entry)) }
+/// What a page asks for that comes after this key.
+fn page_of<'a>(page: &'a Page, after: Option<&'a [u8]>) -> PageAsked<'a>
+    ensures asked { asked_view result ≡ page_asked page.now }
+    ensures after { token_of result ≡ option_copied after.entry }
 {
-    let Ok(max) = u32::try_from(page.size) else {
-        return Err(Trouble::Store);
-    };
-    Ok(PageAsked {
+    PageAsked {
         prefix: page.prefix.as_str().as_bytes(),
         delimiter: page.delimiter.as_str().as_bytes(),
         after,
-        max,
-    })
+        max: page.size,
+    }
 }
 
 /// The marker's key, and which version of it a page of versions comes after.
@@ -60,52 +57,51 @@ fn upload_after(after: &Option<UploadMarker>) -> (Option<&[u8]>, Option<UploadId
     }
 }
 
-/// Carries out an operation that lists what a bucket has. Another is trouble: `carry_out` sends none here.
+/// Tells a page of what a bucket has.
 pub fn operate_listing<S: Alter>(
     connection: &mut Connection<S>,
     alloc: Global,
-    asked: &Asked<'_>,
+    tenant: &TenantName,
+    operation: &ListingOperation,
 ) -> Result<Answer, StepError<Rejection>>
     requires { Works S.Store connection.old }
-    ensures { (body : Octets) → CarriesOut S.Store asked.now.tenant.now (step_of asked.now body) connection.old connection.new result }
+    ensures { CarriesOut S.Store tenant.now (listing_operated operation.now) connection.old connection.new result }
 {
-    let tenant = asked.tenant;
-    match asked.operation {
-        Operation::ListObjectsV2 {
+    match operation {
+        ListingOperation::ListObjectsV2 {
             bucket,
             page,
             token,
         } => {
-            let page = page_of(page, bytes_of(token))?;
+            let page = page_of(page, bytes_of(token));
             told(
                 list_objects(connection, alloc, tenant, bucket, &page),
                 Answer::Objects,
             )
         }
-        Operation::ListObjectVersions {
+        ListingOperation::ListObjectVersions {
             bucket,
             page,
             after,
         } => {
             let (key, version) = version_after(after);
-            let page = page_of(page, key)?;
+            let page = page_of(page, key);
             told(
                 list_versions(connection, alloc, tenant, bucket, &page, version),
                 Answer::Versions,
             )
         }
-        Operation::ListMultipartUploads {
+        ListingOperation::ListMultipartUploads {
             bucket,
             page,
             after,
         } => {
             let (key, upload) = upload_after(after);
-            let page = page_of(page, key)?;
+            let page = page_of(page, key);
             told(
                 list_uploads(connection, alloc, tenant, bucket, &page, upload),
                 Answer::Uploads,
             )
         }
-        _ => Err(StepError::Failed(Trouble::Store)),
     }
 }

@@ -1,9 +1,9 @@
 ghost use Rattle.std.specs.Option.{option_copied};
 ghost use Rattle.std.specs.Prelude.{◌≡◌, ◌≤◌, None};
 ghost use Rattle.bh_types.specs.Rejections.{plainly};
-ghost use Rattle.bh_machine.specs.Machine.{operated};
+ghost use Rattle.bh_machine.specs.Machine.{operated, bare_operated, service_operated, bucket_operated, object_operated, store_operated};
 ghost use Rattle.bh_model.specs.Operations as machine;
-ghost use Rattle.bh_model.specs.State.{Octets};
+ghost use Rattle.bh_view.specs.Bodies.{StoresPieces};
 ghost use Rattle.bh_view.specs.View.{latest_of};
 ghost use Rattle.bh_storage.specs.Answers.{answer_view, offer_view};
 ghost use Rattle.bh_storage.specs.Plans.{IfPlanned, IsMeasured};
@@ -11,21 +11,25 @@ ghost use Rattle.bh_storage.specs.Calls.{UnlessSpoilt};
 ghost use Rattle.bh_cache.specs.Kept.{Agrees};
 ghost use Rattle.bh_schema.specs.Connections.{IsClean, tables};
 ghost use Rattle.bh_schema.specs.Working.{Works};
-ghost use Rattle.bh_dispatch.specs.Operating.{CarriesOut, HasBlocks, OperatesOn, OperatesOnBy, step_of};
+ghost use Rattle.bh_dispatch.specs.Operating.{CarriesOut, HasBlocks, OperatesOn, OperatesOnBy};
 ghost use Rattle.bh_dispatch.specs.Stored.{StoresBody};
 
 use crate::answers::{offered, received, told};
-use crate::asked::{Asked, Blocks};
-use crate::documents::{operate_document, reads_document};
+use crate::asked::Asked;
+use crate::documents::operate_document;
 use crate::lifecycle::operate_lifecycle;
 use crate::listings::operate_listing;
 use crate::uploads::operate_upload;
 use bh_http::body::{Body, drain};
+use bh_objects::bodies::Blocks;
 use bh_objects::copies::NewCopy;
 use bh_objects::writes::NewObject;
 use bh_objects::{buckets, copies, deletes, gets, heads, objects, retention};
 use bh_operation::address::ObjectName;
-use bh_operation::operation::{CopySource, Operation};
+use bh_operation::operation::{
+    BareOperation, BucketOperation, CopySource, ObjectOperation, Operation, ServiceOperation,
+    StoreOperation,
+};
 use bh_operation::text::Bytes;
 use bh_schema::host::Digester;
 use bh_storage::answer::{Answer, Offer};
@@ -52,48 +56,61 @@ pub fn bytes_of(bytes: &Option<Bytes>) -> Option<&[u8]>
     }
 }
 
-/// Carries out an operation on a bucket, or on all of them, that lists nothing that it has and reads no document. Another is
-/// trouble: `carry_out` sends none here.
-fn operate_bucket<S: Alter>(
+/// Carries out what is asked of all buckets of a tenant.
+fn operate_service<S: Alter>(
     connection: &mut Connection<S>,
     alloc: Global,
-    asked: &Asked<'_>,
+    tenant: &TenantName,
+    operation: &ServiceOperation,
 ) -> Result<Answer, StepError<Rejection>>
-    requires working { Works S.Store connection.old }
-    requires early { IsClean S.Store connection.old → asked.now.at ≤ latest_of (tables S.Store connection.old) }
-    ensures { (body : Octets) → CarriesOut S.Store asked.now.tenant.now (step_of asked.now body) connection.old connection.new result }
+    requires { Works S.Store connection.old }
+    ensures { CarriesOut S.Store tenant.now (service_operated operation.now) connection.old connection.new result }
 {
-    let tenant = asked.tenant;
-    match asked.operation {
-        Operation::ListBuckets => {
+    match operation {
+        ServiceOperation::ListBuckets => {
             told(
                 buckets::list_buckets(connection, alloc, tenant),
                 Answer::Buckets,
             )
         }
-        Operation::CreateBucket { bucket, locked } => {
+        ServiceOperation::Usage => told(usage(connection, tenant), Answer::Used),
+    }
+}
+
+/// Carries out what is asked of a bucket itself.
+fn operate_bucket<S: Alter>(
+    connection: &mut Connection<S>,
+    asked: &Asked<'_>,
+    operation: &BucketOperation,
+) -> Result<Answer, StepError<Rejection>>
+    requires working { Works S.Store connection.old }
+    requires early { IsClean S.Store connection.old → asked.now.at ≤ latest_of (tables S.Store connection.old) }
+    ensures { CarriesOut S.Store asked.now.tenant.now (bucket_operated asked.now.at operation.now) connection.old connection.new result }
+{
+    let tenant = asked.tenant;
+    match operation {
+        BucketOperation::CreateBucket { bucket, locked } => {
             let created = buckets::create_bucket(connection, tenant, asked.at, bucket, *locked);
             told(created, |()| Answer::Done)
         }
-        Operation::HeadBucket(bucket) => {
+        BucketOperation::HeadBucket(bucket) => {
             told(
                 buckets::head_bucket(connection, tenant, bucket),
                 |()| Answer::Done,
             )
         }
-        Operation::DeleteBucket(bucket) => {
+        BucketOperation::DeleteBucket(bucket) => {
             told(
                 buckets::delete_bucket(connection, tenant, bucket),
                 Answer::Removed,
             )
         }
-        Operation::GetBucketVersioning(bucket) => {
+        BucketOperation::GetBucketVersioning(bucket) => {
             told(
                 buckets::versioning(connection, tenant, bucket),
                 Answer::Versioning,
             )
         }
-        _ => Err(StepError::Failed(Trouble::Store)),
     }
 }
 
@@ -124,117 +141,88 @@ fn copy_object<S: Alter>(
     told(copies::copy_object(connection, &copy), Answer::Copied)
 }
 
-/// Carries out an operation on an object that neither takes nor gives its bytes, and reads no document. Another is trouble:
-/// `carry_out` sends none here.
+/// Carries out what is asked of an object that neither takes nor gives its bytes.
 fn operate_object<S: Alter>(
     connection: &mut Connection<S>,
     asked: &Asked<'_>,
+    operation: &ObjectOperation,
 ) -> Result<Answer, StepError<Rejection>>
     requires working { Works S.Store connection.old }
     requires early { IsClean S.Store connection.old → asked.now.at ≤ latest_of (tables S.Store connection.old) }
-    ensures { (body : Octets) → CarriesOut S.Store asked.now.tenant.now (step_of asked.now body) connection.old connection.new result }
+    ensures { CarriesOut S.Store asked.now.tenant.now (object_operated asked.now.at operation.now) connection.old connection.new result }
 {
     let tenant = asked.tenant;
-    match asked.operation {
-        Operation::CopyObject {
+    match operation {
+        ObjectOperation::CopyObject {
             object,
             source,
             date,
         } => { copy_object(connection, asked, object, source, *date) }
-        Operation::HeadObject { object, version } => {
+        ObjectOperation::HeadObject { object, version } => {
             let (bucket, key) = (&object.bucket, &object.key);
             heads::head_object(connection, tenant, bucket, key, *version).map(Answer::Head)
         }
-        Operation::DeleteObject { object, version } => {
+        ObjectOperation::DeleteObject { object, version } => {
             let (bucket, key) = (&object.bucket, &object.key);
             let removed = deletes::delete_object(
                 connection, tenant, asked.at, bucket, key, *version,
             );
             told(removed, Answer::Removed)
         }
-        Operation::GetRetention { object, version } => {
+        ObjectOperation::GetRetention { object, version } => {
             let (bucket, key) = (&object.bucket, &object.key);
             retention::retention(connection, tenant, bucket, key, *version).map(Answer::Retention)
         }
-        _ => Err(StepError::Failed(Trouble::Store)),
     }
 }
 
-/// Carries out an operation of a tenant that neither takes nor gives an object's bytes, and reads no document. Another is trouble:
-/// `carry_out_whole` sends none here.
+/// Carries out an operation that reads nothing of its request's body.
 fn carry_out<S: Alter>(
     connection: &mut Connection<S>,
     alloc: Global,
     asked: &Asked<'_>,
+    operation: &BareOperation,
 ) -> Result<Answer, StepError<Rejection>>
     requires working { Works S.Store connection.old }
     requires early { IsClean S.Store connection.old → asked.now.at ≤ latest_of (tables S.Store connection.old) }
-    ensures { (body : Octets) → CarriesOut S.Store asked.now.tenant.now (step_of asked.now body) connection.old connection.new result }
+    ensures { CarriesOut S.Store asked.now.tenant.now (bare_operated asked.now.at operation.now) connection.old connection.new result }
 {
-    match asked.operation {
-        Operation::ListBuckets
-        | Operation::CreateBucket { .. }
-        | Operation::HeadBucket(_)
-        | Operation::DeleteBucket(_)
-        | Operation::GetBucketVersioning(_) => operate_bucket(connection, alloc, asked),
-        Operation::ListObjectsV2 { .. }
-        | Operation::ListObjectVersions { .. }
-        | Operation::ListMultipartUploads { .. } => operate_listing(connection, alloc, asked),
-        Operation::GetLifecycle(_) | Operation::DeleteLifecycle(_) => {
-            operate_lifecycle(connection, asked)
+    match operation {
+        BareOperation::Service(operation) => {
+            operate_service(connection, alloc, asked.tenant, operation)
         }
-        Operation::CreateMultipartUpload(_)
-        | Operation::ListParts { .. }
-        | Operation::AbortMultipartUpload { .. } => operate_upload(connection, alloc, asked),
-        Operation::CopyObject { .. }
-        | Operation::HeadObject { .. }
-        | Operation::DeleteObject { .. }
-        | Operation::GetRetention { .. } => operate_object(connection, asked),
-        Operation::Usage => told(usage(connection, asked.tenant), Answer::Used),
-        _ => Err(StepError::Failed(Trouble::Store)),
+        BareOperation::Bucket(operation) => operate_bucket(connection, asked, operation),
+        BareOperation::Listing(operation) => {
+            operate_listing(connection, alloc, asked.tenant, operation)
+        }
+        BareOperation::Lifecycle(operation) => {
+            operate_lifecycle(connection, asked.tenant, operation)
+        }
+        BareOperation::Upload(operation) => operate_upload(connection, alloc, asked, operation),
+        BareOperation::Object(operation) => operate_object(connection, asked, operation),
     }
 }
 
 /// Carries out an operation that reads nothing of its request's body once that came, of which no byte is kept.
-fn operate_drained<S: Alter, B: Body>(
+fn operate_bare<S: Alter, B: Body>(
     connection: &mut Connection<S>,
     alloc: Global,
     asked: &Asked<'_>,
+    operation: &BareOperation,
     body: &mut B,
 ) -> Result<Outcome<Answer, Rejection>, StepError<Rejection>>
     requires working { Works S.Store connection.old }
     requires early { IsClean S.Store connection.old → asked.now.at ≤ latest_of (tables S.Store connection.old) }
     requires going { (B.coming body.old).broken ≡ None }
-    ensures { OperatesOn S.Store answer_view asked.now.tenant.now (step_of asked.now) (B.coming body.old) (B.coming body.new)
-        connection.old connection.new result }
+    ensures { OperatesOn S.Store answer_view asked.now.tenant.now (λ _. bare_operated asked.now.at operation.now)
+        (B.coming body.old) (B.coming body.new) connection.old connection.new result }
 {
     match drain(body) {
         Ok(()) => {
-            let answer = carry_out(connection, alloc, asked)?;
+            let answer = carry_out(connection, alloc, asked, operation)?;
             Ok(Outcome::Done(answer))
         }
         Err(cause) => Err(StepError::Failed(Trouble::from(cause))),
-    }
-}
-
-/// Carries out an operation of a tenant that neither takes nor gives an object's bytes, once the body of its request came. A
-/// document is taken whole, of at most `DOCUMENT_END` bytes.
-fn carry_out_whole<S: Alter, B: Body>(
-    connection: &mut Connection<S>,
-    alloc: Global,
-    asked: &Asked<'_>,
-    body: &mut B,
-) -> Result<Outcome<Answer, Rejection>, StepError<Rejection>>
-    requires working { Works S.Store connection.old }
-    requires early { IsClean S.Store connection.old → asked.now.at ≤ latest_of (tables S.Store connection.old) }
-    requires going { (B.coming body.old).broken ≡ None }
-    ensures { OperatesOn S.Store answer_view asked.now.tenant.now (step_of asked.now) (B.coming body.old) (B.coming body.new)
-        connection.old connection.new result }
-{
-    if reads_document(asked.operation) {
-        operate_document(connection, alloc, asked, body)
-    } else {
-        operate_drained(connection, alloc, asked, body)
     }
 }
 
@@ -264,27 +252,28 @@ fn get_object<S: Alter, B: Body>(
     }
 }
 
-/// Carries out an operation of a tenant that gives no object's bytes. Another is trouble: `operate` sends none here.
-fn operate_whole<S: Alter, D: Digester, B: Body>(
+/// Stores the bytes of an object or of a part as they come.
+fn operate_store<S: Alter, D: Digester, B: Body>(
     connection: &mut Connection<S>,
     alloc: Global,
     blocks: &Blocks<'_, '_, D>,
     asked: &Asked<'_>,
+    operation: &StoreOperation,
     body: &mut B,
 ) -> Result<Outcome<Answer, Rejection>, StepError<Rejection>>
     requires working { Works S.Store connection.old }
     requires blocks { HasBlocks S.Store D.digest_of blocks.now.cache.now blocks.now.size connection.old }
     requires early { IsClean S.Store connection.old → asked.now.at ≤ latest_of (tables S.Store connection.old) }
     requires going { (B.coming body.old).broken ≡ None }
-    ensures operated { OperatesOnBy S.Store D.digest_of answer_view asked.now.tenant.now (step_of asked.now)
-        (λ bytes. StoresBody D.digest_of blocks.now.size bytes asked.now.operation.now
-        (tables S.Store connection.old) (tables S.Store connection.new))
+    ensures operated { OperatesOnBy S.Store D.digest_of answer_view asked.now.tenant.now
+        (λ bytes. store_operated asked.now.at bytes operation.now)
+        (λ bytes. StoresPieces D.digest_of blocks.now.size bytes (tables S.Store connection.old) (tables S.Store connection.new))
         (B.coming body.old) (B.coming body.new) connection.old connection.new result }
     ensures kept { UnlessSpoilt result (IsClean S.Store connection.new
         → Agrees blocks.now.cache.now (tables S.Store connection.new).blocks) }
 {
-    match asked.operation {
-        Operation::PutObject {
+    match operation {
+        StoreOperation::PutObject {
             object,
             checksum,
             date,
@@ -297,13 +286,10 @@ fn operate_whole<S: Alter, D: Digester, B: Body>(
                 date: *date,
             };
             let given = bytes_of(checksum);
-            let (cache, digester, size) = (blocks.cache, blocks.digester, blocks.size);
-            let stored = objects::put_object(
-                connection, cache, alloc, digester, size, &object, given, body,
-            );
+            let stored = objects::put_object(connection, alloc, blocks, &object, given, body);
             received(stored, Answer::Stored)
         }
-        Operation::UploadPart {
+        StoreOperation::UploadPart {
             object,
             upload,
             number,
@@ -320,27 +306,23 @@ fn operate_whole<S: Alter, D: Digester, B: Body>(
                 at: asked.at,
             };
             let given = bytes_of(checksum);
-            let (cache, digester, size) = (blocks.cache, blocks.digester, blocks.size);
-            let stored = parts::put_part(
-                connection, cache, alloc, digester, size, &part, given, body,
-            );
+            let stored = parts::put_part(connection, alloc, blocks, &part, given, body);
             received(stored, Answer::PartStored)
         }
-        _ => carry_out_whole(connection, alloc, asked, body),
     }
 }
 
 /// Carries out an operation of a tenant, on a host with these limits and at a moment that is not after the last stamp.
 /// The bytes of objects and of parts are stored as they come; a document is taken whole, of at most `DOCUMENT_END` bytes. An
 /// object that is found is answered by a plan of its bytes.
-pub fn operate<'a, S: Alter, D: Digester, B: Body>(
+pub fn operate<S: Alter, D: Digester, B: Body>(
     connection: &mut Connection<S>,
     alloc: Global,
     blocks: &Blocks<'_, '_, D>,
     limits: Limits,
-    tenant: &'a TenantName,
+    tenant: &TenantName,
     at: Moment,
-    operation: &'a Operation,
+    operation: &Operation,
     body: &mut B,
 ) -> Result<Outcome<Offer, Rejection>, StepError<Rejection>>
     requires working { Works S.Store connection.old }
@@ -356,20 +338,21 @@ pub fn operate<'a, S: Alter, D: Digester, B: Body>(
     ensures kept { UnlessSpoilt result (IsClean S.Store connection.new
         → Agrees blocks.now.cache.now (tables S.Store connection.new).blocks) }
 {
+    let asked = Asked { limits, tenant, at };
     match operation {
+        Operation::Bare(operation) => {
+            offered(operate_bare(connection, alloc, &asked, operation, body))
+        }
+        Operation::ByDocument(operation) => {
+            offered(operate_document(connection, alloc, &asked, operation, body))
+        }
+        Operation::Store(operation) => {
+            offered(operate_store(connection, alloc, blocks, &asked, operation, body))
+        }
         Operation::GetObject {
             object,
             version,
             range,
         } => get_object(connection, tenant, object, *version, bytes_of(range), body),
-        _ => {
-            let asked = Asked {
-                limits,
-                tenant,
-                at,
-                operation,
-            };
-            offered(operate_whole(connection, alloc, blocks, &asked, body))
-        }
     }
 }

@@ -99,7 +99,7 @@ impl<S: Alter + Drop, D: Digester + Drop> RecallingStorage<S, D> {
             .find_object(tenant, object, version, range, state)
     }
 
-    /// The same, once the body of its request came.
+    /// Finds an object, once the body of its request came.
     fn get_object<B: Body>(
         &mut self,
         tenant: &TenantName,
@@ -115,7 +115,8 @@ impl<S: Alter + Drop, D: Digester + Drop> RecallingStorage<S, D> {
             (λ _. machine.get_object object.now.bucket object.now.key version (option_copied range.entry))
             (IsClean S.Store self.new.storage.host) (B.coming body.old) (B.coming body.new)
             (seen S.Store self.old).now (seen S.Store self.new).now result }
-        ensures measured { IfPlanned result (λ found. IsClean S.Store self.new.storage.host → IsMeasured (seen S.Store self.new).now found) }
+        ensures measured { IfPlanned result (λ found. IsClean S.Store self.new.storage.host
+            → IsMeasured (seen S.Store self.new).now found) }
     {
         match drain(body) {
             Ok(()) => {

@@ -10,11 +10,11 @@ ghost use Rattle.bh_memo.specs.Facts.{has_no_rule};
 ghost use Rattle.bh_objects.specs.Found.{mode_in};
 ghost use Rattle.bh_dispatch.specs.Seeing.{GoesOn};
 
-use crate::asked::Blocks;
 use crate::{commands, operations};
 use bh_cache::blocks::BlockCache;
 use bh_event::event::Command;
 use bh_http::body::Body;
+use bh_objects::bodies::Blocks;
 use bh_objects::{gets, reads};
 use bh_operation::address::ObjectName;
 use bh_operation::operation::Operation;
@@ -199,7 +199,27 @@ impl<S: Alter + Drop, D: Digester + Drop> Storage for HostStorage<S, D> {
             Command::Keys { tenant } => {
                 commands::show_keys(&mut self.host.connection, alloc, tenant.as_str())
             }
-            _ => commands::change(&mut self.host, alloc, command).map(|()| Answer::Done),
+            Command::TenantAdd { tenant, quota } => {
+                let added = self.host.tenant_add(alloc, tenant.as_str(), *quota);
+                added.map(|()| Answer::Done)
+            }
+            Command::Quota { tenant, quota } => {
+                let set = self.host.quota_set(alloc, tenant.as_str(), *quota);
+                set.map(|()| Answer::Done)
+            }
+            Command::KeyAdd {
+                tenant,
+                name,
+                secret,
+            } => {
+                let host = &mut self.host;
+                let added = host.key_add(alloc, tenant.as_str(), name.as_str(), secret.as_str());
+                added.map(|()| Answer::Done)
+            }
+            Command::KeyRemove { tenant, name } => {
+                let removed = self.host.key_remove(alloc, tenant.as_str(), name.as_str());
+                removed.map(|()| Answer::Done)
+            }
         }
     }
 

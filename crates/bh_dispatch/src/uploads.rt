@@ -1,22 +1,21 @@
 //! The operations on multipart uploads, as answers of a host's storage.
 ghost use Rattle.std.specs.Prelude.{◌≤◌};
 ghost use Rattle.bh_types.specs.Rejections.{plainly};
-ghost use Rattle.bh_machine.specs.Machine.{finish_upload};
+ghost use Rattle.bh_machine.specs.Machine.{finish_upload, upload_operated};
 ghost use Rattle.bh_model.specs.Listings as listings;
-ghost use Rattle.bh_model.specs.State.{Octets};
 ghost use Rattle.bh_view.specs.View.{latest_of};
 ghost use Rattle.bh_schema.specs.Connections.{IsClean, tables};
 ghost use Rattle.bh_schema.specs.Working.{Works};
-ghost use Rattle.bh_dispatch.specs.Operating.{CarriesOut, step_of};
+ghost use Rattle.bh_dispatch.specs.Operating.{CarriesOut};
 
 use crate::answers::told;
 use crate::asked::Asked;
 use bh_docs::read_complete;
 use bh_operation::address::ObjectName;
-use bh_operation::operation::Operation;
+use bh_operation::operation::UploadOperation;
 use bh_operation::page::PartPage;
 use bh_storage::answer::Answer;
-use bh_storage::error::{StepError, Trouble};
+use bh_storage::error::StepError;
 use bh_types::id::UploadId;
 use bh_types::names::TenantName;
 use bh_types::rejection::Rejection;
@@ -63,7 +62,6 @@ pub fn complete_upload<'a, S: Alter>(
     )
 }
 
-/// A page of a listing is of 1,000 entries at most, so its size fits.
 fn list_parts<S: Alter>(
     connection: &mut Connection<S>,
     alloc: Global,
@@ -77,9 +75,6 @@ fn list_parts<S: Alter>(
         (λ s. plainly (listings.list_parts object.now.bucket object.now.key upload page.size page.after s))
         connection.old connection.new result }
 {
-    let Ok(max) = u32::try_from(page.size) else {
-        return Err(StepError::Failed(Trouble::Store));
-    };
     let upload = NamedUpload {
         tenant,
         bucket: &object.bucket,
@@ -87,7 +82,7 @@ fn list_parts<S: Alter>(
         upload,
     };
     let asked = PartsAsked {
-        max,
+        max: page.size,
         after: page.after,
     };
     told(
@@ -96,20 +91,20 @@ fn list_parts<S: Alter>(
     )
 }
 
-/// Carries out an operation on a multipart upload that puts no part and reads no document. Another is trouble: `carry_out`
-/// sends none here.
+/// Carries out what is asked of a multipart upload with no document and no part's bytes.
 pub fn operate_upload<S: Alter>(
     connection: &mut Connection<S>,
     alloc: Global,
     asked: &Asked<'_>,
+    operation: &UploadOperation,
 ) -> Result<Answer, StepError<Rejection>>
     requires working { Works S.Store connection.old }
     requires early { IsClean S.Store connection.old → asked.now.at ≤ latest_of (tables S.Store connection.old) }
-    ensures { (body : Octets) → CarriesOut S.Store asked.now.tenant.now (step_of asked.now body) connection.old connection.new result }
+    ensures { CarriesOut S.Store asked.now.tenant.now (upload_operated asked.now.at operation.now) connection.old connection.new result }
 {
     let tenant = asked.tenant;
-    match asked.operation {
-        Operation::CreateMultipartUpload(object) => {
+    match operation {
+        UploadOperation::CreateMultipartUpload(object) => {
             let upload = NewUpload {
                 tenant,
                 bucket: &object.bucket,
@@ -121,12 +116,12 @@ pub fn operate_upload<S: Alter>(
                 Answer::Begun,
             )
         }
-        Operation::ListParts {
+        UploadOperation::ListParts {
             object,
             upload,
             page,
         } => { list_parts(connection, alloc, tenant, object, *upload, *page) }
-        Operation::AbortMultipartUpload { object, upload } => {
+        UploadOperation::AbortMultipartUpload { object, upload } => {
             let upload = NamedUpload {
                 tenant,
                 bucket: &object.bucket,
@@ -138,6 +133,5 @@ pub fn operate_upload<S: Alter>(
                 Answer::Removed,
             )
         }
-        _ => Err(StepError::Failed(Trouble::Store)),
     }
 }

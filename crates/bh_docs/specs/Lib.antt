@@ -1,4 +1,5 @@
 pub mod Documents
+pub mod Heads
 pub mod Members
 pub mod Pages
 pub mod Requests

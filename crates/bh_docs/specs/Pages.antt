@@ -1,29 +1,37 @@
 -- The pages of listings as JSON data. A page says where the next one begins where it is truncated,
 -- and only there.
-use Rattle.std.specs.Prelude.{ℕ, ◌+◌, List, map, length, codes, true, false, is_some, Option, Some, None, option_map, option_and_then, string_bytes}
+use Rattle.std.specs.Prelude.{ℕ, ◌+◌, List, map, length, codes, true, false, is_some, Option, Some, None, option_map, option_and_then}
+use Rattle.std.specs.Prelude.{string_bytes}
+use Rattle.std.specs.declared.alloc.Global.{Global}
+use Rattle.std.specs.declared.string.String.{String}
 use Rattle.serde_json.specs.Data.{Data, boolean, string, object, Members, member, no_members}
 use Rattle.serde_json.specs.Written.{compact_text}
 use Rattle.bh_types.specs.Ids.{version_text, upload_text}
-use Rattle.bh_docs.specs.Documents.{natural, moment, array_of, member_if}
+use Rattle.bh_types.specs.declared.id.UploadId.{UploadId}
+use Rattle.bh_types.specs.declared.id.VersionId.{VersionId}
+use Rattle.bh_docs.specs.Documents.{natural, moment, array_of, member_if, with_member}
 use Rattle.bh_model.specs.State.{Octets}
-use Rattle.bh_model.specs.Pages.{ObjectItem, ObjectsListed, StoredItem, VersionItem, VersionNext, VersionsListed, UploadItem, UploadNext, UploadsListed, PartItem, PartsListed}
+use Rattle.bh_model.specs.Pages.{ObjectItem, ObjectsListed, StoredItem, VersionItem, VersionNext, VersionsListed, UploadItem, UploadNext}
+use Rattle.bh_model.specs.Pages.{UploadsListed, PartItem, PartsListed}
 use Rattle.bh_types.specs.Tokens.{token_text}
 use Rattle.bh_docs.specs.declared.objects.ObjectEntry.{ObjectEntry}
-use Rattle.bh_docs.specs.declared.objects.ObjectsPage.{ObjectsPage}
 use Rattle.bh_docs.specs.declared.prefix.CommonPrefix.{CommonPrefix}
 use Rattle.bh_docs.specs.declared.parts.PartEntry.{PartEntry}
 use Rattle.bh_docs.specs.declared.parts.PartsPage.{PartsPage}
+use Rattle.bh_docs.specs.declared.stored.Stored.{Stored}
 use Rattle.bh_docs.specs.declared.uploads.UploadEntry.{UploadEntry}
-use Rattle.bh_docs.specs.declared.uploads.UploadsNext.{UploadsNext}
-use Rattle.bh_docs.specs.declared.uploads.UploadsPage.{UploadsPage}
 use Rattle.bh_docs.specs.declared.versions.StoredObject.{StoredObject}
 use Rattle.bh_docs.specs.declared.versions.VersionEntry.{VersionEntry}
-use Rattle.bh_docs.specs.declared.versions.VersionsNext.{VersionsNext}
-use Rattle.bh_docs.specs.declared.versions.VersionsPage.{VersionsPage}
+use Rattle.bh_docs.specs.declared.page.Page.{Page}
+use Rattle.bh_docs.specs.declared.page.Next.{Next}
 
--- {"Prefix":prefix}
-abbrev pub prefix_data : CommonPrefix → Data
-prefix_data p = object (member (codes "Prefix") (string (string_bytes p.prefix)) no_members)
+-- an object or a part, with the member that names it
+abbrev pub stored_data : List ℕ → Option Data → Stored → Data
+stored_data name shown s =
+    with_member name shown
+    (with_member (codes "Size") (Some (natural s.size))
+    (with_member (codes "LastModified") (Some (moment s.modified))
+    (with_member (codes "ChecksumSHA256") (Some (string (string_bytes s.checksum))) (object no_members))))
 
 -- ---- ListObjectsV2
 
@@ -32,15 +40,20 @@ abbrev pub prefix_view : CommonPrefix → Octets
 prefix_view p = string_bytes p.prefix
 
 abbrev pub object_view : ObjectEntry → ObjectItem
-object_view o = record { key = string_bytes o.key; moment = o.modified; size = o.size; checksum = string_bytes o.checksum }
+object_view o = record {
+  key = string_bytes o.key;
+  moment = o.stored.modified;
+  size = o.stored.size;
+  checksum = string_bytes o.stored.checksum;
+}
 
-abbrev pub page_view : ObjectsPage → ObjectsListed
+abbrev pub page_view : Page ObjectEntry (String Global) → ObjectsListed
 page_view p = record {
   bucket = string_bytes p.bucket;
   prefix = string_bytes p.prefix;
   max = p.max;
   prefixes = map prefix_view p.prefixes.items;
-  objects = map object_view p.objects.items;
+  objects = map object_view p.entries.items;
   next = option_map string_bytes p.next;
 }
 
@@ -71,15 +84,6 @@ objects_with p token =
     (member_if (codes "NextContinuationToken") token
     (member (codes "Prefix") (string p.prefix) no_members))))))))
 
--- a page with neither lists nor token
-abbrev pub objects_plain : ObjectsListed → Data
-objects_plain p =
-    object (member (codes "IsTruncated") (boolean (is_some p.next))
-    (member (codes "KeyCount") (natural (length p.prefixes + length p.objects))
-    (member (codes "MaxKeys") (natural p.max)
-    (member (codes "Name") (string p.bucket)
-    (member (codes "Prefix") (string p.prefix) no_members)))))
-
 -- the token is that of the last name shown
 abbrev pub token_data : Option Octets → Option Data
 token_data next = option_map (λ name. string (token_text name)) next
@@ -97,18 +101,24 @@ abbrev pub stored_view : StoredObject → StoredItem
 stored_view o = record { size = o.size; checksum = string_bytes o.checksum }
 
 abbrev pub version_view : VersionEntry → VersionItem
-version_view v = record { key = string_bytes v.key; id = v.id; moment = v.modified; latest = v.latest; object = option_map stored_view v.object }
+version_view v = record {
+  key = string_bytes v.key;
+  id = v.id;
+  moment = v.modified;
+  latest = v.latest;
+  object = option_map stored_view v.object;
+}
 
-abbrev pub next_view : VersionsNext → VersionNext
+abbrev pub next_view : Next VersionId → VersionNext
 next_view n = record { name = string_bytes n.name; id = n.id }
 
-abbrev pub versions_view : VersionsPage → VersionsListed
+abbrev pub versions_view : Page VersionEntry (Next VersionId) → VersionsListed
 versions_view p = record {
   bucket = string_bytes p.bucket;
   prefix = string_bytes p.prefix;
   max = p.max;
   prefixes = map prefix_view p.prefixes.items;
-  versions = map version_view p.versions.items;
+  versions = map version_view p.entries.items;
   next = option_map next_view p.next;
 }
 
@@ -147,14 +157,6 @@ versions_with p name id =
     (member (codes "Prefix") (string p.prefix)
     (member (codes "Versions") (array_of version_data p.versions) no_members))))))))
 
--- a page with neither lists nor markers
-abbrev pub versions_plain : VersionsListed → Data
-versions_plain p =
-    object (member (codes "IsTruncated") (boolean (is_some p.next))
-    (member (codes "MaxKeys") (natural p.max)
-    (member (codes "Name") (string p.bucket)
-    (member (codes "Prefix") (string p.prefix) no_members))))
-
 abbrev pub version_name_data : Option VersionNext → Option Data
 version_name_data next = option_map (λ n. string n.name) next
 
@@ -173,16 +175,16 @@ versions_text p = compact_text (versions_data p)
 abbrev pub upload_view : UploadEntry → UploadItem
 upload_view u = record { key = string_bytes u.key; id = u.id; begun = u.initiated }
 
-abbrev pub upload_next_view : UploadsNext → UploadNext
+abbrev pub upload_next_view : Next UploadId → UploadNext
 upload_next_view n = record { name = string_bytes n.name; id = n.id }
 
-abbrev pub uploads_view : UploadsPage → UploadsListed
+abbrev pub uploads_view : Page UploadEntry (Next UploadId) → UploadsListed
 uploads_view p = record {
   bucket = string_bytes p.bucket;
   prefix = string_bytes p.prefix;
   max = p.max;
   prefixes = map prefix_view p.prefixes.items;
-  uploads = map upload_view p.uploads.items;
+  uploads = map upload_view p.entries.items;
   next = option_map upload_next_view p.next;
 }
 
@@ -207,14 +209,6 @@ uploads_with p name id =
     (member (codes "Prefix") (string p.prefix)
     (member (codes "Uploads") (array_of upload_data p.uploads) no_members))))))))
 
--- a page with neither lists nor markers
-abbrev pub uploads_plain : UploadsListed → Data
-uploads_plain p =
-    object (member (codes "Bucket") (string p.bucket)
-    (member (codes "IsTruncated") (boolean (is_some p.next))
-    (member (codes "MaxUploads") (natural p.max)
-    (member (codes "Prefix") (string p.prefix) no_members))))
-
 abbrev pub upload_name_data : Option UploadNext → Option Data
 upload_name_data next = option_map (λ n. string n.name) next
 
@@ -231,7 +225,7 @@ uploads_text p = compact_text (uploads_data p)
 
 -- what contracts see of a page
 abbrev pub part_view : PartEntry → PartItem
-part_view p = record { number = p.number; moment = p.modified; size = p.size; checksum = string_bytes p.checksum }
+part_view p = record { number = p.number; moment = p.stored.modified; size = p.stored.size; checksum = string_bytes p.stored.checksum }
 
 abbrev pub parts_view : PartsPage → PartsListed
 parts_view p = record {

@@ -1,6 +1,7 @@
 -- What request documents ask: MalformedJSON where the shape is another, anywhere in the document,
 -- and then InvalidArgument where a whole number is out of its range.
-use Rattle.std.specs.Prelude.{ℕ, ℤ, pos, negsuc, ◌&&◌, nat_le, List, [], ◌∷◌, length, codes, Option, Some, None, option_map, ok_or, Result, Ok, Err, if◌then◌else◌, string_bytes}
+use Rattle.std.specs.Prelude.{ℕ, ℤ, pos, negsuc, ◌&&◌, nat_le, List, [], ◌∷◌, length, codes, Option, Some, None, option_map, ok_or, Result}
+use Rattle.std.specs.Prelude.{Ok, Err, if◌then◌else◌, string_bytes}
 use Rattle.std.specs.Str.{bytes_eq}
 use Rattle.serde_json.specs.Data.{Data}
 use Rattle.bh_types.specs.Moments.{moment_of}

@@ -6,15 +6,18 @@
 
 mod document;
 pub mod objects;
+pub mod page;
 pub mod parts;
 pub mod prefix;
 pub mod read;
 pub mod reply;
 mod shape;
+pub mod stored;
 pub mod uploads;
 pub mod versions;
 
 pub use objects::{ObjectEntry, ObjectsPage, objects_document};
+pub use page::{Next, Page};
 pub use parts::{PartEntry, PartsPage, parts_document};
 pub use prefix::CommonPrefix;
 pub use read::{read_complete, read_lifecycle, read_retention, read_versioning};
@@ -22,5 +25,6 @@ pub use reply::{
     BucketEntry, Usage, begun_document, buckets_document, completed_document, copied_document,
     error_document, lifecycle_document, retention_document, usage_document, versioning_document,
 };
-pub use uploads::{UploadEntry, UploadsNext, UploadsPage, uploads_document};
-pub use versions::{StoredObject, VersionEntry, VersionsNext, VersionsPage, versions_document};
+pub use stored::Stored;
+pub use uploads::{UploadEntry, UploadsPage, uploads_document};
+pub use versions::{StoredObject, VersionEntry, VersionsPage, versions_document};

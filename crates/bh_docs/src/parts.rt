@@ -8,36 +8,24 @@ ghost use Rattle.bh_docs.specs.Members.{shown_data};
 ghost use Rattle.bh_docs.specs.Pages as spec;
 
 use crate::document::{Listed, Shown, object_of, print, with_entries, with_shown};
+use crate::stored::Stored;
 use bh_types::id::UploadId;
-use bh_types::moment::Moment;
 use serde_json::Value;
 use std::alloc::{AllocError, Global};
 
 /// A part, as ListParts shows it.
 #[derive(Drop)]
 pub struct PartEntry {
-    pub checksum: String,
-    pub modified: Moment,
     pub number: u32,
-    /// In bytes.
-    pub size: u64,
+    pub stored: Stored,
 }
 
 impl Listed for PartEntry {
-    ghost use Rattle.bh_docs.specs.Pages.{part_entry_data};
-
-    ghost shown = { part_entry_data };
+    ghost shown = { spec.part_entry_data };
 
     fn value(&self, alloc: Global) -> Result<Value, AllocError> {
-        object_of(
-            alloc,
-            &[
-                ("ChecksumSHA256", Shown::Text(self.checksum.as_str())),
-                ("LastModified", Shown::At(self.modified)),
-                ("PartNumber", Shown::Count(u64::from(self.number))),
-                ("Size", Shown::Count(self.size)),
-            ],
-        )
+        self.stored
+            .value(alloc, "PartNumber", &Shown::Count(u64::from(self.number)))
     }
 }
 

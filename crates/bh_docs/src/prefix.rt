@@ -11,7 +11,7 @@ pub struct CommonPrefix {
 }
 
 impl Listed for CommonPrefix {
-    ghost use Rattle.bh_docs.specs.Pages.{prefix_data};
+    ghost use Rattle.bh_docs.specs.Heads.{prefix_data};
 
     ghost shown = { prefix_data };
 

@@ -1,14 +1,13 @@
 //! Pages of ListObjectVersions.
 
-ghost use Rattle.std.specs.Prelude.{◌≡◌, Some, None, option_map, IfOk};
+ghost use Rattle.std.specs.Prelude.{◌≡◌, Some, None, IfOk};
 ghost use Rattle.std.specs.String.{string_bytes};
 ghost use Rattle.serde_json.specs.Data.{object};
 ghost use Rattle.serde_json.specs.View.{view};
-ghost use Rattle.bh_docs.specs.Members.{shown_data};
 ghost use Rattle.bh_docs.specs.Pages as spec;
 
-use crate::document::{Listed, Shown, object_of, print, with_entries, with_shown};
-use crate::prefix::CommonPrefix;
+use crate::document::{Listed, Shown, object_of};
+use crate::page::{Next, Page, head, page_text, with_markers};
 use bh_types::id::VersionId;
 use bh_types::moment::Moment;
 use serde_json::Value;
@@ -35,9 +34,7 @@ pub struct VersionEntry {
 }
 
 impl Listed for VersionEntry {
-    ghost use Rattle.bh_docs.specs.Pages.{version_entry_data};
-
-    ghost shown = { version_entry_data };
+    ghost shown = { spec.version_entry_data };
 
     fn value(&self, alloc: Global) -> Result<Value, AllocError> {
         match &self.object {
@@ -52,7 +49,8 @@ fn version_value<'a>(
     version: &'a VersionEntry,
     stored: &'a StoredObject,
 ) -> Result<Value, AllocError>
-    ensures { IfOk result (λ value. view value ≡ object (spec.version_members (spec.version_view version.now) (Some (spec.stored_view stored.now)))) }
+    ensures { IfOk result (λ value. view value ≡ object (spec.version_members (spec.version_view version.now)
+        (Some (spec.stored_view stored.now)))) }
 {
     object_of(
         alloc,
@@ -83,76 +81,15 @@ fn marker_value(alloc: Global, marker: &VersionEntry) -> Result<Value, AllocErro
     )
 }
 
-/// Where the page after a truncated one begins.
-#[derive(Drop)]
-pub struct VersionsNext {
-    /// The key of the last entry, or its rolled-up name.
-    pub name: String,
-    /// The id of the last entry, but for a rolled-up name.
-    pub id: Option<VersionId>,
-}
-
 /// A page of ListObjectVersions.
-#[derive(Drop)]
-pub struct VersionsPage {
-    pub bucket: String,
-    pub prefix: String,
-    /// How many entries the page may have.
-    pub max: u32,
-    pub prefixes: Vec<CommonPrefix>,
-    pub versions: Vec<VersionEntry>,
-    /// Where the page is truncated.
-    pub next: Option<VersionsNext>,
-}
+pub type VersionsPage = Page<VersionEntry, Next<VersionId>>;
 
 /// The answer to ListObjectVersions (Amazon S3 API Reference): compact JSON with its members in byte order. An error says that
 /// memory ran out.
 pub fn versions_document(alloc: Global, page: &VersionsPage) -> Result<String, AllocError>
     ensures { IfOk result (λ text. string_bytes text ≡ spec.versions_text (spec.versions_view page.now)) }
 {
-    let document = versions_value(alloc, page)?;
-    print(alloc, &document)
-}
-
-fn versions_value(alloc: Global, page: &VersionsPage) -> Result<Value, AllocError>
-    ensures { IfOk result (λ value. view value ≡ spec.versions_data (spec.versions_view page.now)) }
-{
-    let document = plain_members(alloc, page)?;
-    let document = with_shown(alloc, document, "NextKeyMarker", &next_name(&page.next))?;
-    let document = with_shown(alloc, document, "NextVersionIdMarker", &next_id(&page.next))?;
-    let document = with_entries(alloc, document, "CommonPrefixes", page.prefixes.as_slice())?;
-    with_entries(alloc, document, "Versions", page.versions.as_slice())
-}
-
-// Without its lists, and without where the next page begins.
-fn plain_members(alloc: Global, page: &VersionsPage) -> Result<Value, AllocError>
-    ensures { IfOk result (λ value. view value ≡ spec.versions_plain (spec.versions_view page.now)) }
-{
-    object_of(
-        alloc,
-        &[
-            ("IsTruncated", Shown::Flag(page.next.is_some())),
-            ("MaxKeys", Shown::Count(u64::from(page.max))),
-            ("Name", Shown::Text(page.bucket.as_str())),
-            ("Prefix", Shown::Text(page.prefix.as_str())),
-        ],
-    )
-}
-
-fn next_name(next: &Option<VersionsNext>) -> Shown<'_>
-    ensures { shown_data result ≡ spec.version_name_data (option_map spec.next_view next.now) }
-{
-    match next {
-        Some(next) => Shown::Text(next.name.as_str()),
-        None => Shown::Nothing,
-    }
-}
-
-fn next_id(next: &Option<VersionsNext>) -> Shown<'_>
-    ensures { shown_data result ≡ spec.version_id_data (option_map spec.next_view next.now) }
-{
-    match next {
-        Some(VersionsNext { id: Some(id), .. }) => Shown::Version(*id),
-        _ => Shown::Nothing,
-    }
+    let document = head(alloc, page, "Name", "MaxKeys")?;
+    let document = with_markers(alloc, document, "NextVersionIdMarker", &page.next)?;
+    page_text(alloc, document, "Versions", page)
 }

@@ -6,7 +6,8 @@ use Rattle.serde_json.specs.Find.{as_object}
 use Rattle.serde_json.specs.Read.{read}
 use Rattle.bh_event.specs.Lines.{text_at, number_at, has_members}
 use Rattle.bh_event.specs.declared.flaw.Flaw.{Flaw}
-use Rattle.bh_event.specs.declared.flaw.Flaw.TheVariants.{NotUtf8, NotJson, NotAnObject, NoReading, NoContent, OtherMembers, OddDigits, UnknownCommand, WrongMembers}
+use Rattle.bh_event.specs.declared.flaw.Flaw.TheVariants.{NotUtf8, NotJson, NotAnObject, NoReading, NoContent, OtherMembers, OddDigits}
+use Rattle.bh_event.specs.declared.flaw.Flaw.TheVariants.{UnknownCommand, WrongMembers}
 
 -- two members, of which one is `at` and the other is no request: so its digits are not
 abbrev pub flaw_of_request : Data → Flaw

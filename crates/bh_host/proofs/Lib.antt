@@ -1,4 +1,5 @@
 mod Apart
+pub mod Resting
 mod Listing
 mod Delivering
 pub mod ToldApart

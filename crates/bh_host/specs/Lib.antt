@@ -2,5 +2,6 @@ pub mod Answers
 pub mod Asking
 pub mod Receives
 pub mod Replies
+pub mod Resting
 pub mod Runs
 pub mod Turns

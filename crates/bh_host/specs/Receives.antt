@@ -33,7 +33,8 @@ answered head given = if nat_le head.body_size (length given) then Ok (with_body
 -- a request with a stamp
 abbrev pub AppliedAs : ℕ → Result Taken Refusal → Tables → Tables → ℕ → List ℕ → Type 0
 AppliedAs reading answer old new m reply =
-    (stamp_of reading (latest_of old) ≡ Ok m) × (latest_of new ≡ m) × IsActDone (limits_in old) (RequestRead answer) m (with_latest m old) new reply
+    (stamp_of reading (latest_of old) ≡ Ok m) × (latest_of new ≡ m)
+    × IsActDone (limits_in old) (RequestRead answer) m (with_latest m old) new reply
 
 -- what its commit would have given
 abbrev pub WouldApplyAs : ℕ → Result Taken Refusal → Tables → Tables → Type 0
@@ -63,10 +64,12 @@ abbrev pub ServedAs : Type 0 → HostLimits → Head → Octets → ℕ → Tabl
 ServedAs clean limits head given m stamped new after (Ok (Kept composed)) =
     IsWhole after × (clean → IsActDone limits (RequestRead (Ok (with_body head given))) m stamped new (composed_in new composed))
 ServedAs clean limits head given m stamped new after (Ok (TakenBack t text)) =
-    IsWhole after × (owner (with_body head given) ≡ Some t) × (clean → IsRefusedAs limits t (with_body head given) m (rows_purged t m stamped) text.items)
+    IsWhole after × (owner (with_body head given) ≡ Some t)
+    × (clean → IsRefusedAs limits t (with_body head given) m (rows_purged t m stamped) text.items)
 ServedAs clean limits head given m stamped new after (Err trouble) = MayBreak after
 
-pub record Serves (clean : Type 0) (limits : HostLimits) (head : Head) (m : ℕ) (before after : Coming) (stamped new : Tables) (result : Result Served Trouble) : Type 0 where
+pub record Serves (clean : Type 0) (limits : HostLimits) (head : Head) (m : ℕ) (before after : Coming) (stamped new : Tables)
+    (result : Result Served Trouble) : Type 0 where
   pub given : Octets
   pub gives : Gives before after given
   pub served : ServedAs clean limits head given m stamped new after result
@@ -90,7 +93,8 @@ module _ {H : Type 0} (IsIntact IsOpen : H → Type 0) (seen : H → Seen) (left
 
   -- a transaction that was begun for a request: committed; to be taken back, with the text of its refusal; or wanting
   abbrev pub TriedAs : ℕ → Head → Octets → Coming → H → H → Result Tried Trouble → Type 0
-  TriedAs reading head given after old new (Ok (tried.Applied replied)) = IsWhole after × HasApplied reading (Ok (with_body head given)) old new (told_in (seen new).now replied).0 (told_in (seen new).now replied).1
+  TriedAs reading head given after old new (Ok (tried.Applied replied)) = IsWhole after
+      × HasApplied reading (Ok (with_body head given)) old new (told_in (seen new).now replied).0 (told_in (seen new).now replied).1
   TriedAs reading head given after old new (Ok (tried.TakenBack t text)) =
       IsWhole after
       × (owner (with_body head given) ≡ Some t)
@@ -114,7 +118,8 @@ module _ {H : Type 0} (IsIntact IsOpen : H → Type 0) (seen : H → Seen) (left
   AnewAs reading tenant text old new None reply =
       (IsIntact new → IsOpen new → IsOpen old × ((seen new).now ≡ (seen old).now))
       × (reply ≡ wanting_text Request)
-      × (IsIntact new → (x : Tables) → left new x → left old x ⊎ (IsOpen old × ((m : ℕ) × IsStamp reading (seen old).now m × Records tenant m (seen old).now x)))
+      × (IsIntact new → (x : Tables) → left new x → left old x
+      ⊎ (IsOpen old × ((m : ℕ) × IsStamp reading (seen old).now m × Records tenant m (seen old).now x)))
   AnewAs reading tenant text old new (Some m) reply =
       (IsIntact new → IsOpen old × IsOpen new × IsStamp reading (seen old).now m × Records tenant m (seen old).now (seen new).now)
       × (reply ≡ text)
@@ -129,14 +134,15 @@ module _ {H : Type 0} (IsIntact IsOpen : H → Type 0) (seen : H → Seen) (left
       (IsIntact new → IsOpen new → IsOpen old × ((seen new).now ≡ (seen old).now))
       × (reply ≡ wanting_text Request)
       × (after.broken ≢ Some Failed)
-      × (IsIntact new → (x : Tables) → left new x → left old x ⊎ (HasCome after × (IsOpen old × WouldApplyAs reading answer (seen old).now x)))
+      × (IsIntact new → (x : Tables) → left new x → left old x
+      ⊎ (HasCome after × (IsOpen old × WouldApplyAs reading answer (seen old).now x)))
   ToldAs reading answer after old new (Some m) reply =
       HasCome after
       × (after.broken ≢ Some Failed)
       × (IsIntact new → IsOpen old × IsOpen new × AppliedAs reading answer (seen old).now (seen new).now m reply)
       × (IsIntact new → (x : Tables) → left new x → x ≡ (seen new).now)
 
-  -- the same of a request that is there as a whole
+  -- what is told of a request that is there as a whole
   abbrev pub ToldOf : ℕ → Result Taken Refusal → H → H → Option ℕ × List ℕ → Type 0
   ToldOf reading answer old new (None, reply) =
       (IsIntact new → IsOpen new → IsOpen old × ((seen new).now ≡ (seen old).now))

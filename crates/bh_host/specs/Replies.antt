@@ -1,10 +1,13 @@
 -- The bytes that an act is answered with.
-use Rattle.std.specs.Prelude.{ℕ, Bool, true, false, List, [], ◌++◌, flat_map, length, codes, decimal, if◌then◌else◌, Option, Some, None, Result, Ok, Err}
+use Rattle.std.specs.Prelude.{ℕ, Bool, true, false, List, [], ◌++◌, flat_map, length, codes, decimal, if◌then◌else◌, Option, Some, None}
+use Rattle.std.specs.Prelude.{Result, Ok, Err}
 use Rattle.std.specs.Str.{bytes_eq}
 use Rattle.std.specs.Str.Lossy.{utf8_lossy}
-use Rattle.bh_docs.specs.Documents.{begun_text, buckets_text, completed_text, copied_text, error_text, versioning_text, lifecycle_text, usage_text, retention_text}
+use Rattle.bh_docs.specs.Documents.{begun_text, buckets_text, completed_text, copied_text, error_text, versioning_text, lifecycle_text}
+use Rattle.bh_docs.specs.Documents.{usage_text, retention_text}
 use Rattle.bh_docs.specs.Pages.{objects_text, versions_text, uploads_text, parts_text}
-use Rattle.bh_event.specs.Events.{Order, AddTenant, AddKey, RemoveKey, ShowUsage, ShowKeys, Message, Requested, Ordered, SweepOrdered, ReportOrdered, TenantsOrdered, SetQuota}
+use Rattle.bh_event.specs.Events.{Order, AddTenant, AddKey, RemoveKey, ShowUsage, ShowKeys, Message, Requested, Ordered, SweepOrdered}
+use Rattle.bh_event.specs.Events.{ReportOrdered, TenantsOrdered, SetQuota}
 use Rattle.bh_http.specs.Answers.{bare, empty, with_document, refused, bare_refusal}
 use Rattle.bh_http.specs.Responses.{Sent, response_text, refusal_text}
 use Rattle.bh_http.specs.Views.{Taken}
@@ -13,7 +16,8 @@ use Rattle.bh_http.specs.declared.values.Allow.TheVariants.{Marker}
 use Rattle.bh_http.specs.declared.values.ContentRange.{ContentRange}
 use Rattle.bh_http.specs.declared.values.ContentRange.TheVariants.{Part as Satisfied, Unsatisfied}
 use Rattle.bh_http.specs.declared.values.ContentType.TheVariants.{OctetStream}
-use Rattle.bh_model.specs.Operations.{Answer, Done, Removed, Stored, Copied, Head, Object, Buckets, Versioning, Objects, Versions, Uploads, Parts, Begun, PartStored, Completed, Lifecycle, Retention, Used, Keys}
+use Rattle.bh_model.specs.Operations.{Answer, Done, Removed, Stored, Copied, Head, Object, Buckets, Versioning, Objects, Versions, Uploads}
+use Rattle.bh_model.specs.Operations.{Parts, Begun, PartStored, Completed, Lifecycle, Retention, Used, Keys}
 use Rattle.bh_model.specs.State.{Octets}
 use Rattle.bh_operation.specs.Allowed.{allow_of}
 use Rattle.bh_operation.specs.Targets.{path_of}
@@ -180,7 +184,8 @@ report_text report =
 
 -- the line that tells all tenants: how many there are, and then each with what it uses
 abbrev pub tenant_words : TenantTold → Octets
-tenant_words t = t.name ++ (codes " bytes " ++ (decimal t.used ++ (codes " quota " ++ (decimal t.quota ++ (codes " keys " ++ decimal t.keys)))))
+tenant_words t = t.name ++ (codes " bytes " ++ (decimal t.used
+    ++ (codes " quota " ++ (decimal t.quota ++ (codes " keys " ++ decimal t.keys)))))
 
 abbrev pub tenants_text : List TenantTold → Octets
 tenants_text tenants = codes "tenants " ++ (decimal (length tenants) ++ flat_map (λ t. next_word (tenant_words t)) tenants)

@@ -37,8 +37,9 @@ MayRemain (event ∷ events) [] before end x = before x
 MayRemain (event ∷ events) ((Some m, reply) ∷ dones) before end x = MayRemain events dones (λ y. y ≡ end) end x
 MayRemain (event ∷ events) ((None, reply) ∷ dones) before end x = MayRemain events dones (λ y. before y ⊎ WouldApply event end y) end x
 
--- the same of a storage: an open one shows the tables at the end
-pub record RanOn {H : Type 0} (IsOpen : H → Type 0) (seen : H → Seen) (left : H → Tables → Type 0) (events : List Arrival) (dones : List Told) (old new : H) : Type 0 where
+-- a run leaves so much of a storage: an open one shows the tables at the end
+pub record RanOn {H : Type 0} (IsOpen : H → Type 0) (seen : H → Seen) (left : H → Tables → Type 0) (events : List Arrival)
+    (dones : List Told) (old new : H) : Type 0 where
   pub end : Tables
   pub ran : Ran events dones (seen old).now end
   pub now : IsOpen new → (seen new).now ≡ end
@@ -100,8 +101,9 @@ pub record HasRun (limits : HostLimits) (events : List Arrival) (dones : List To
   pub shown : Shows limits (latest_of new) events dones turns (latest_of old)
   pub alone : IsAlone limits turns old new
 
--- the same of a storage: an open one shows the tables at the end
-pub record HasRunOn {H : Type 0} (IsOpen : H → Type 0) (seen : H → Seen) (events : List Arrival) (dones : List Told) (old new : H) : Type 0 where
+-- the turns of a run on a storage: an open one shows the tables at the end
+pub record HasRunOn {H : Type 0} (IsOpen : H → Type 0) (seen : H → Seen) (events : List Arrival) (dones : List Told) (old new : H) :
+    Type 0 where
   pub end : Tables
   pub turns : List Turn
   pub has_run : HasRun (limits_in (seen old).now) events dones turns (seen old).now end
@@ -114,7 +116,8 @@ EachIsAlone = (events : List Arrival) (dones : List Told) (old new : Tables)
 
 -- hosts that agree on a tenant's state and own acts answer it alike
 abbrev pub AnswersAlike : Type 0
-AnswersAlike = (limits : HostLimits) (t : Octets) (events others : List Arrival) (dones answers : List Told) (turns turns2 : List Turn) (old new old2 new2 : Tables)
+AnswersAlike = (limits : HostLimits) (t : Octets) (events others : List Arrival) (dones answers : List Told) (turns turns2 : List Turn)
+    (old new old2 new2 : Tables)
     → HasRun limits events dones turns old new → HasRun limits others answers turns2 old2 new2
     → view old t ≡ view old2 t → own t turns ≡ own t turns2 → replies_to t turns ≡ replies_to t turns2
 

@@ -113,9 +113,10 @@ IsToldApart event (Some m) reply = (reply ≢ clock_text (caller_of event.messag
 abbrev pub Applied : Arrival → Tables → Tables → Option ℕ → List ℕ → Type 0
 Applied event old new None reply = new ≡ old
 Applied event old new (Some m) reply =
-    (stamp_of event.reading (latest_of old) ≡ Ok m) × (latest_of new ≡ m) × IsServed (limits_in old) event.message m (with_latest m old) new reply
+    (stamp_of event.reading (latest_of old) ≡ Ok m) × (latest_of new ≡ m)
+    × IsServed (limits_in old) event.message m (with_latest m old) new reply
 
--- the same of a storage: with a stamp, it is open before and after; without one, what an open one shows is what it showed
+-- what an event does to a storage: with a stamp, it is open before and after; without one, what an open one shows is what it showed
 abbrev pub AppliedTo : {H : Type 0} → (H → Type 0) → (H → Seen) → Arrival → H → H → Option ℕ → List ℕ → Type 0
 AppliedTo IsOpen seen event old new None reply = IsOpen new → IsOpen old × ((seen new).now ≡ (seen old).now)
 AppliedTo IsOpen seen event old new (Some m) reply = IsOpen old × IsOpen new × Applied event (seen old).now (seen new).now (Some m) reply

@@ -5,8 +5,10 @@ ghost use Rattle.bh_docs.specs.Pages.{page_view, versions_view, uploads_view, pa
 ghost use Rattle.bh_http.specs.Answers.{response_view};
 ghost use Rattle.bh_host.specs.Replies as spec;
 ghost use Rattle.bh_model.specs.State.{Octets};
-ghost use Rattle.bh_model.specs.Operations.{Object, Buckets, Versioning, Objects, Versions, Lifecycle, Retention, Uploads, Parts, PartStored, Used};
-ghost use Rattle.bh_storage.specs.Answers.{answer_view, removed_answer, stored_answer, copied_answer, head_answer, begun_answer, completed_answer};
+ghost use Rattle.bh_model.specs.Operations.{Object, Buckets, Versioning, Objects, Versions, Lifecycle, Retention, Uploads, Parts};
+ghost use Rattle.bh_model.specs.Operations.{PartStored, Used};
+ghost use Rattle.bh_storage.specs.Answers.{answer_view, removed_answer, stored_answer, copied_answer, head_answer, begun_answer};
+ghost use Rattle.bh_storage.specs.Answers.{completed_answer};
 
 use bh_docs::{
     BucketEntry, ObjectsPage, PartsPage, UploadsPage, Usage, VersionsPage, begun_document,

@@ -11,7 +11,9 @@ ghost use Rattle.bh_host.specs.Answers.{told};
 ghost use Rattle.bh_host.specs.Receives.{ToldOf};
 ghost use Rattle.bh_host.specs.Replies.{clock_text, reply_bytes};
 ghost use Rattle.bh_host.specs.Replies as reply;
-ghost use Rattle.bh_host.specs.Turns.{IsServed, IsActDone, IsSweepDone, IsReportDone, IsListDone, IsOrder, IsToldApart, WouldApply, AppliedTo, request_at};
+ghost use Rattle.bh_host.specs.Resting.{StaysAtRest};
+ghost use Rattle.bh_host.specs.Turns.{IsServed, IsActDone, IsSweepDone, IsReportDone, IsListDone, IsOrder, IsToldApart, WouldApply};
+ghost use Rattle.bh_host.specs.Turns.{AppliedTo, request_at};
 
 use crate::delivery::{Delivery, Replied};
 use crate::lists::tenants_line;
@@ -199,10 +201,7 @@ fn apply_order<H: Storage>(alloc: Global, host: &mut H, event: &Event) -> Told
     requires order { IsOrder (arrival event.now).message }
     requires in_range { (arrival event.now).reading ≤ last_reading }
     requires rest { Clean H.IsIntact H.IsOpen host.old → IsAtRest H.IsSoundStore (H.seen host.old) }
-    ensures intact { H.IsIntact host.new → H.IsIntact host.old }
-    ensures opened { H.IsIntact host.new → H.IsOpen host.new → H.IsOpen host.old }
-    ensures ready { Clean H.IsIntact H.IsOpen host.new → IsAtRest H.IsSoundStore (H.seen host.new) }
-    ensures limits { (H.seen host.new).limits ≡ (H.seen host.old).limits }
+    ensures stays { StaysAtRest H.IsIntact H.IsOpen H.IsSoundStore H.seen H.left host.old host.new }
     ensures applied { H.IsIntact host.new
         → AppliedTo H.IsOpen H.seen (arrival event.now) host.old host.new result.stamp (reply_bytes result.reply) }
     ensures told_apart { H.IsIntact host.new → IsToldApart (arrival event.now) result.stamp (reply_bytes result.reply) }
@@ -210,7 +209,6 @@ fn apply_order<H: Storage>(alloc: Global, host: &mut H, event: &Event) -> Told
         → (x : Tables) → H.left host.new x → x ≡ (H.seen host.new).now) }
     ensures crash { IfNone result.stamp (H.IsIntact host.new → (x : Tables) → H.left host.new x
         → H.left host.old x ⊎ (H.IsOpen host.old × WouldApply (arrival event.now) (H.seen host.old).now x)) }
-    ensures leaves { H.IsIntact host.new → LeavesSound H.IsSoundStore H.left host.old host.new }
 {
     match try_apply(alloc, host, event) {
         Ok((stamp, bytes)) => Told {
@@ -238,13 +236,9 @@ fn apply_headed<H: Storage>(
 ) -> Told
     requires in_range { reading ≤ last_reading }
     requires rest { Clean H.IsIntact H.IsOpen host.old → IsAtRest H.IsSoundStore (H.seen host.old) }
-    ensures intact { H.IsIntact host.new → H.IsIntact host.old }
-    ensures opened { H.IsIntact host.new → H.IsOpen host.new → H.IsOpen host.old }
-    ensures ready { Clean H.IsIntact H.IsOpen host.new → IsAtRest H.IsSoundStore (H.seen host.new) }
-    ensures limits { (H.seen host.new).limits ≡ (H.seen host.old).limits }
+    ensures stays { StaysAtRest H.IsIntact H.IsOpen H.IsSoundStore H.seen H.left host.old host.new }
     ensures told { ToldOf H.IsIntact H.IsOpen H.seen H.left reading (completed (announced_view head.now) rest.now)
         host.old host.new (told result) }
-    ensures leaves { H.IsIntact host.new → LeavesSound H.IsSoundStore H.left host.old host.new }
 {
     if head.body_size > rest.len() as u64 {
         return refuse_unread(alloc, routes, host, reading, Refusal::IncompleteBody);
@@ -270,10 +264,7 @@ fn apply_request<H: Storage>(
 ) -> Told
     requires in_range { reading ≤ last_reading }
     requires rest { Clean H.IsIntact H.IsOpen host.old → IsAtRest H.IsSoundStore (H.seen host.old) }
-    ensures intact { H.IsIntact host.new → H.IsIntact host.old }
-    ensures opened { H.IsIntact host.new → H.IsOpen host.new → H.IsOpen host.old }
-    ensures ready { Clean H.IsIntact H.IsOpen host.new → IsAtRest H.IsSoundStore (H.seen host.new) }
-    ensures limits { (H.seen host.new).limits ≡ (H.seen host.old).limits }
+    ensures stays { StaysAtRest H.IsIntact H.IsOpen H.IsSoundStore H.seen H.left host.old host.new }
     ensures applied { H.IsIntact host.new
         → AppliedTo H.IsOpen H.seen (request_at reading bytes.now) host.old host.new result.stamp (reply_bytes result.reply) }
     ensures told_apart { H.IsIntact host.new → IsToldApart (request_at reading bytes.now) result.stamp (reply_bytes result.reply) }
@@ -281,7 +272,6 @@ fn apply_request<H: Storage>(
         → (x : Tables) → H.left host.new x → x ≡ (H.seen host.new).now) }
     ensures crash { IfNone result.stamp (H.IsIntact host.new → (x : Tables) → H.left host.new x
         → H.left host.old x ⊎ (H.IsOpen host.old × WouldApply (request_at reading bytes.now) (H.seen host.old).now x)) }
-    ensures leaves { H.IsIntact host.new → LeavesSound H.IsSoundStore H.left host.old host.new }
 {
     match split_head(bytes, &host.limits()) {
         Ok((head, rest)) => apply_headed(alloc, routes, host, reading, &head, rest),
@@ -305,10 +295,7 @@ fn apply_request<H: Storage>(
 /// holds while no fault has shut it.
 pub fn apply<H: Storage>(alloc: Global, routes: &Routes, host: &mut H, event: &Event) -> Told
     requires { Clean H.IsIntact H.IsOpen host.old → IsAtRest H.IsSoundStore (H.seen host.old) }
-    ensures intact { H.IsIntact host.new → H.IsIntact host.old }
-    ensures opened { H.IsIntact host.new → H.IsOpen host.new → H.IsOpen host.old }
-    ensures ready { Clean H.IsIntact H.IsOpen host.new → IsAtRest H.IsSoundStore (H.seen host.new) }
-    ensures limits { (H.seen host.new).limits ≡ (H.seen host.old).limits }
+    ensures stays { StaysAtRest H.IsIntact H.IsOpen H.IsSoundStore H.seen H.left host.old host.new }
     ensures applied { H.IsIntact host.new
         → AppliedTo H.IsOpen H.seen (arrival event.now) host.old host.new result.stamp (reply_bytes result.reply) }
     ensures told_apart { H.IsIntact host.new → IsToldApart (arrival event.now) result.stamp (reply_bytes result.reply) }
@@ -316,7 +303,6 @@ pub fn apply<H: Storage>(alloc: Global, routes: &Routes, host: &mut H, event: &E
         → (x : Tables) → H.left host.new x → x ≡ (H.seen host.new).now) }
     ensures crash { IfNone result.stamp (H.IsIntact host.new → (x : Tables) → H.left host.new x
         → H.left host.old x ⊎ (H.IsOpen host.old × WouldApply (arrival event.now) (H.seen host.old).now x)) }
-    ensures leaves { H.IsIntact host.new → LeavesSound H.IsSoundStore H.left host.old host.new }
     ensures clock { last_reading < (arrival event.now).reading
         → (result.stamp ≡ None) × (reply_bytes result.reply ≡ clock_text (reply.caller_of (arrival event.now).message))
         × (host.new ≡ host.old) }

@@ -2,8 +2,9 @@
 
 ghost use Rattle.std.specs.Prelude.{◌≡◌, length, map, IfOk, OnErr};
 ghost use Rattle.bh_event.specs.Events.{arrival};
-ghost use Rattle.bh_storage.specs.Calls.{Clean, LeavesSound, IsAtRest};
+ghost use Rattle.bh_storage.specs.Calls.{Clean, IsAtRest};
 ghost use Rattle.bh_host.specs.Answers.{told};
+ghost use Rattle.bh_host.specs.Resting.{StaysAtRest};
 ghost use Rattle.bh_host.specs.Runs.{HasRunOn, RanOn};
 
 use crate::event::{Told, apply};
@@ -27,13 +28,9 @@ pub fn run<H: Storage>(
     events: &[Event],
 ) -> Result<Vec<Told>, AllocError>
     requires { Clean H.IsIntact H.IsOpen host.old → IsAtRest H.IsSoundStore (H.seen host.old) }
-    ensures intact { H.IsIntact host.new → H.IsIntact host.old }
-    ensures opened { H.IsIntact host.new → H.IsOpen host.new → H.IsOpen host.old }
-    ensures ready { Clean H.IsIntact H.IsOpen host.new → IsAtRest H.IsSoundStore (H.seen host.new) }
-    ensures limits { (H.seen host.new).limits ≡ (H.seen host.old).limits }
+    ensures stays { StaysAtRest H.IsIntact H.IsOpen H.IsSoundStore H.seen H.left host.old host.new }
     ensures ran { IfOk result (λ dones. H.IsIntact host.new
         → RanOn H.IsOpen H.seen H.left (map arrival events.now) (map told dones.items) host.old host.new) }
-    ensures leaves { H.IsIntact host.new → LeavesSound H.IsSoundStore H.left host.old host.new }
     ensures alone { IfOk result (λ dones. H.IsIntact host.new
         → HasRunOn H.IsOpen H.seen (map arrival events.now) (map told dones.items) host.old host.new) }
     ensures count { IfOk result (λ dones. length dones.items ≡ length events.now) }

@@ -16,6 +16,7 @@ ghost use Rattle.bh_storage.specs.Plans.{IfFound, IsMeasured};
 ghost use Rattle.bh_host.specs.Answers.{composed_in, told, told_in, IsServedWhole, IsTriedWhole, IsToldWhole};
 ghost use Rattle.bh_host.specs.Receives.{Serves, Tries, AnewAs, Receives, IsStamp, Records, IfKept, IfApplied};
 ghost use Rattle.bh_host.specs.Replies.{text, wanting_text};
+ghost use Rattle.bh_host.specs.Resting.{StaysAtRest};
 ghost use Rattle.bh_host.specs.declared.delivery.Delivery.TheVariants.{AtOnce};
 ghost use Rattle.bh_host.specs.declared.reply.Caller.TheVariants.{Request};
 
@@ -82,8 +83,10 @@ fn serve_tenant<H: Storage, B: Body>(
     requires going { (B.coming body.old).broken ≡ None }
     ensures within { Within H.IsIntact H.IsOpen H.seen H.left host.old host.new }
     ensures opens { IfOk result (λ served. IfKept served (H.IsOpen host.old → H.IsIntact host.new → H.IsOpen host.new)) }
-    ensures working { IfOk result (λ served. IfKept served (Clean H.IsIntact H.IsOpen host.new → IsWorking H.IsSoundStore (H.seen host.new))) }
-    ensures serves { Serves (Clean H.IsIntact H.IsOpen host.new) (H.seen host.old).limits head.now at (B.coming body.old) (B.coming body.new)
+    ensures working { IfOk result (λ served. IfKept served (Clean H.IsIntact H.IsOpen host.new
+        → IsWorking H.IsSoundStore (H.seen host.new))) }
+    ensures serves { Serves (Clean H.IsIntact H.IsOpen host.new) (H.seen host.old).limits head.now at (B.coming body.old)
+        (B.coming body.new)
         (H.seen host.old).now (H.seen host.new).now result }
     ensures whole { IfOk result (λ served. delivery ≡ AtOnce → IsServedWhole served) }
 {
@@ -120,8 +123,10 @@ fn serve<H: Storage, B: Body>(
     requires going { (B.coming body.old).broken ≡ None }
     ensures within { Within H.IsIntact H.IsOpen H.seen H.left host.old host.new }
     ensures opens { IfOk result (λ served. IfKept served (H.IsOpen host.old → H.IsIntact host.new → H.IsOpen host.new)) }
-    ensures working { IfOk result (λ served. IfKept served (Clean H.IsIntact H.IsOpen host.new → IsWorking H.IsSoundStore (H.seen host.new))) }
-    ensures serves { Serves (Clean H.IsIntact H.IsOpen host.new) (H.seen host.old).limits head.now at (B.coming body.old) (B.coming body.new)
+    ensures working { IfOk result (λ served. IfKept served (Clean H.IsIntact H.IsOpen host.new
+        → IsWorking H.IsSoundStore (H.seen host.new))) }
+    ensures serves { Serves (Clean H.IsIntact H.IsOpen host.new) (H.seen host.old).limits head.now at (B.coming body.old)
+        (B.coming body.new)
         (H.seen host.old).now (H.seen host.new).now result }
     ensures whole { IfOk result (λ served. delivery ≡ AtOnce → IsServedWhole served) }
 {
@@ -152,7 +157,8 @@ fn try_receive<H: Storage, B: Body>(
     ensures intact { H.IsIntact host.new → H.IsIntact host.old }
     ensures opened { H.IsIntact host.new → H.IsOpen host.new → H.IsOpen host.old }
     ensures limits { (H.seen host.new).limits ≡ (H.seen host.old).limits }
-    ensures ready { IfOk result (λ tried. IfApplied tried (Clean H.IsIntact H.IsOpen host.new → IsAtRest H.IsSoundStore (H.seen host.new))) }
+    ensures ready { IfOk result (λ tried. IfApplied tried (Clean H.IsIntact H.IsOpen host.new
+        → IsAtRest H.IsSoundStore (H.seen host.new))) }
     ensures tries { Tries H.IsIntact H.IsOpen H.seen H.left reading head.now (B.coming body.old) (B.coming body.new)
         host.old host.new result }
     ensures whole { IfOk result (λ tried. delivery ≡ AtOnce → IsTriedWhole tried) }
@@ -184,7 +190,8 @@ fn record_stamp<H: Storage>(
     ensures ready { OnOk result (Clean H.IsIntact H.IsOpen host.new → IsAtRest H.IsSoundStore (H.seen host.new)) }
     ensures open { OnOk result (H.IsIntact host.new → H.IsOpen host.old × H.IsOpen host.new) }
     ensures stamp { IfOk result (λ m. H.IsIntact host.new → IsStamp reading (H.seen host.old).now m) }
-    ensures done { IfOk result (λ m. H.IsIntact host.new → Records (option_copied tenant.entry) m (H.seen host.old).now (H.seen host.new).now) }
+    ensures done { IfOk result (λ m. H.IsIntact host.new
+        → Records (option_copied tenant.entry) m (H.seen host.old).now (H.seen host.new).now) }
     ensures survives { OnOk result (H.IsIntact host.new → (x : Tables) → H.left host.new x → x ≡ (H.seen host.new).now) }
     ensures crash { OnErr result (H.IsIntact host.new → (x : Tables) → H.left host.new x
         → H.left host.old x ⊎ (H.IsOpen host.old × ((m : ℕ) × IsStamp reading (H.seen host.old).now m
@@ -211,13 +218,9 @@ fn answer_anew<H: Storage>(
 ) -> Told
     requires in_range { reading ≤ last_reading }
     requires rest { Clean H.IsIntact H.IsOpen host.old → IsAtRest H.IsSoundStore (H.seen host.old) }
-    ensures intact { H.IsIntact host.new → H.IsIntact host.old }
-    ensures opened { H.IsIntact host.new → H.IsOpen host.new → H.IsOpen host.old }
-    ensures limits { (H.seen host.new).limits ≡ (H.seen host.old).limits }
-    ensures ready { Clean H.IsIntact H.IsOpen host.new → IsAtRest H.IsSoundStore (H.seen host.new) }
+    ensures stays { StaysAtRest H.IsIntact H.IsOpen H.IsSoundStore H.seen H.left host.old host.new }
     ensures anew { AnewAs H.IsIntact H.IsOpen H.seen H.left reading (option_copied tenant.entry) text.items
         host.old host.new (told result).0 (told result).1 }
-    ensures leaves { H.IsIntact host.new → LeavesSound H.IsSoundStore H.left host.old host.new }
 {
     match record_stamp(alloc, host, reading, tenant) {
         Ok(stamp) => Told {
@@ -251,13 +254,9 @@ pub fn refuse_unread<H: Storage>(
 ) -> Told
     requires in_range { reading ≤ last_reading }
     requires rest { Clean H.IsIntact H.IsOpen host.old → IsAtRest H.IsSoundStore (H.seen host.old) }
-    ensures intact { H.IsIntact host.new → H.IsIntact host.old }
-    ensures opened { H.IsIntact host.new → H.IsOpen host.new → H.IsOpen host.old }
-    ensures limits { (H.seen host.new).limits ≡ (H.seen host.old).limits }
-    ensures ready { Clean H.IsIntact H.IsOpen host.new → IsAtRest H.IsSoundStore (H.seen host.new) }
+    ensures stays { StaysAtRest H.IsIntact H.IsOpen H.IsSoundStore H.seen H.left host.old host.new }
     ensures anew { AnewAs H.IsIntact H.IsOpen H.seen H.left reading None (text (RequestRead (Err refusal)) (Err (plain refusal)))
         host.old host.new (told result).0 (told result).1 }
-    ensures leaves { H.IsIntact host.new → LeavesSound H.IsSoundStore H.left host.old host.new }
 {
     match unread_text(alloc, routes, refusal) {
         Ok(text) => answer_anew(alloc, host, reading, None, text),
@@ -285,14 +284,10 @@ pub fn receive<H: Storage, B: Body>(
     requires rest { Clean H.IsIntact H.IsOpen host.old → IsAtRest H.IsSoundStore (H.seen host.old) }
     requires going { (B.coming body.old).broken ≡ None }
     requires due { (B.coming body.old).due ≡ head.now.body_size }
-    ensures intact { H.IsIntact host.new → H.IsIntact host.old }
-    ensures opened { H.IsIntact host.new → H.IsOpen host.new → H.IsOpen host.old }
-    ensures limits { (H.seen host.new).limits ≡ (H.seen host.old).limits }
-    ensures ready { Clean H.IsIntact H.IsOpen host.new → IsAtRest H.IsSoundStore (H.seen host.new) }
+    ensures stays { StaysAtRest H.IsIntact H.IsOpen H.IsSoundStore H.seen H.left host.old host.new }
     ensures receives { Receives H.IsIntact H.IsOpen H.seen H.left reading head.now (B.coming body.old) (B.coming body.new)
         host.old host.new (option_map (told_in (H.seen host.new).now) result) }
     ensures whole { delivery ≡ AtOnce → IfSome result IsToldWhole }
-    ensures leaves { H.IsIntact host.new → LeavesSound H.IsSoundStore H.left host.old host.new }
 {
     match try_receive(alloc, routes, host, reading, head, body, delivery) {
         Ok(Tried::Applied(replied)) => Some(replied),

@@ -101,7 +101,8 @@ pub fn refused_request_text(
     head: &Head,
     rejection: Rejection,
 ) -> Result<Vec<u8>, AllocError>
-    ensures { (body : List ℕ) → IfOk result (λ bytes. bytes.items ≡ spec.text (RequestRead (Ok (with_body head.now body))) (Err rejection)) }
+    ensures { (body : List ℕ) → IfOk result (λ bytes. bytes.items
+        ≡ spec.text (RequestRead (Ok (with_body head.now body))) (Err rejection)) }
 {
     let response = refusal_to(alloc, routes, head.target, rejection)?;
     sent_text(alloc, head.method, response)
@@ -110,7 +111,8 @@ pub fn refused_request_text(
 /// The response that answers a request of this head, whatever its body.
 #[tactic(auto, unfolding(crate::specs::Replies::text))]
 pub fn answer_text(alloc: Global, head: &Head, answer: Answer) -> Result<Vec<u8>, AllocError>
-    ensures { (body : List ℕ) → IfOk result (λ bytes. bytes.items ≡ spec.text (RequestRead (Ok (with_body head.now body))) (Ok (answer_view answer))) }
+    ensures { (body : List ℕ) → IfOk result (λ bytes. bytes.items
+        ≡ spec.text (RequestRead (Ok (with_body head.now body))) (Ok (answer_view answer))) }
 {
     let response = response_to(alloc, answer)?;
     sent_text(alloc, head.method, response)

@@ -28,7 +28,8 @@ use std::alloc::Global;
 
 /// Why a request that belongs to nobody is refused.
 pub fn stranger_refusal(head: &Head) -> Refusal
-    ensures { (limits : HostLimits) (at : ℕ) (body : Octets) → machine.requested limits at (with_body head.now body) None ≡ Err (plain result) }
+    ensures { (limits : HostLimits) (at : ℕ) (body : Octets) → machine.requested limits at (with_body head.now body) None
+        ≡ Err (plain result) }
 {
     match secret_of(head) {
         Ok(_) => Refusal::InvalidAccessKeyId,

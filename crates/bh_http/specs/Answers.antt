@@ -3,7 +3,8 @@ use Rattle.std.specs.Prelude.{ℕ, Bool, true, false, List, [], length, Some, No
 use Rattle.std.specs.String.{string_bytes}
 use Rattle.bh_types.specs.Refusals.{status_of}
 use Rattle.bh_types.specs.declared.refusal.Refusal.{Refusal}
-use Rattle.bh_types.specs.declared.refusal.Refusal.TheVariants.{BadRequest, NotImplemented, MissingContentLength, EntityTooLarge, IncompleteBody, ClockOutOfRange, ServiceUnavailable}
+use Rattle.bh_types.specs.declared.refusal.Refusal.TheVariants.{BadRequest, NotImplemented, MissingContentLength, EntityTooLarge}
+use Rattle.bh_types.specs.declared.refusal.Refusal.TheVariants.{IncompleteBody, ClockOutOfRange, ServiceUnavailable}
 use Rattle.bh_http.specs.Responses.{Sent}
 use Rattle.bh_http.specs.declared.response.Response.{Response}
 use Rattle.bh_http.specs.declared.values.ContentType.TheVariants.{Json}

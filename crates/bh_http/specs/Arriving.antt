@@ -24,7 +24,8 @@ Announces limits bytes size = (head : RequestHead) × (rest : List ℕ) × HasHe
 
 -- the bytes begin with a head that is refused whatever follows it
 abbrev pub IsRefusedByHead : HostLimits → List ℕ → Type 0
-IsRefusedByHead limits bytes = (head : RequestHead) × (rest : List ℕ) × (refusal : Refusal) × HasHead bytes head rest × (framing limits (parts_of head) ≡ Err refusal)
+IsRefusedByHead limits bytes =
+    (head : RequestHead) × (rest : List ℕ) × (refusal : Refusal) × HasHead bytes head rest × (framing limits (parts_of head) ≡ Err refusal)
 
 -- whatever bytes follow, they are no request that is accepted
 abbrev pub NeverAccepted : HostLimits → List ℕ → Type 0
@@ -66,7 +67,8 @@ ends_blank bytes = ends_with (λ a b. a == b) bytes (10 ∷ 10 ∷ []) || ends_w
 -- so many of these bytes are the head and the body of a request that is accepted
 abbrev pub HasExtent : HostLimits → List ℕ → ℕ → Type 0
 HasExtent limits bytes n =
-    (head : RequestHead) × (rest : List ℕ) × (size : ℕ) × HasHead bytes head rest × (framing limits (parts_of head) ≡ Ok size) × (size ≤ length rest)
+    (head : RequestHead) × (rest : List ℕ) × (size : ℕ) × HasHead bytes head rest × (framing limits (parts_of head) ≡ Ok size)
+    × (size ≤ length rest)
     × (n ≡ length (print_request head) + size)
 
 -- whatever bytes follow, all are read as these alone are

@@ -1,6 +1,7 @@
 -- What the bytes of a request are: a head of httparse's grammar (RFC 9112), and then the body that
 -- its Content-Length frames.
-use Rattle.std.specs.Prelude.{◌≡◌, ℕ, ◌≤◌, Bool, true, false, ◌&&◌, ◌||◌, not, ◌==◌, nat_le, ◌⊎◌, List, length, take, map, codes, if◌then◌else◌, Result, Ok, Err}
+use Rattle.std.specs.Prelude.{◌≡◌, ℕ, ◌≤◌, Bool, true, false, ◌&&◌, ◌||◌, not, ◌==◌, nat_le, ◌⊎◌, List, length, take, map, codes}
+use Rattle.std.specs.Prelude.{if◌then◌else◌, Result, Ok, Err}
 use Rattle.std.specs.Str.{bytes_eq}
 use Rattle.std.specs.Str.Parse.{digits_value}
 use Rattle.httparse.specs.Grammar.{RequestHead, ReadsRequest, print_request}
@@ -8,7 +9,8 @@ use Rattle.httparse.specs.Spans.{name_and_value}
 use Rattle.bh_types.specs.Digits.{is_number}
 use Rattle.bh_types.specs.Limits.{HostLimits}
 use Rattle.bh_types.specs.declared.refusal.Refusal.{Refusal}
-use Rattle.bh_types.specs.declared.refusal.Refusal.TheVariants.{BadRequest, NotImplemented, MissingContentLength, EntityTooLarge, IncompleteBody}
+use Rattle.bh_types.specs.declared.refusal.Refusal.TheVariants.{BadRequest, NotImplemented, MissingContentLength, EntityTooLarge}
+use Rattle.bh_types.specs.declared.refusal.Refusal.TheVariants.{IncompleteBody}
 use Rattle.bh_http.specs.Fields.{Occurrence, Missing, Once, Repeated, field_named}
 use Rattle.bh_http.specs.Views.{Taken, Parts, Announced}
 

@@ -3,7 +3,8 @@ use Rattle.std.specs.Prelude.{ℕ, Bool, true, false, List, Result}
 use Rattle.bh_types.specs.Limits.{HostLimits}
 use Rattle.bh_types.specs.Refusing.{RefusedOnly}
 use Rattle.bh_types.specs.declared.refusal.Refusal.{Refusal}
-use Rattle.bh_types.specs.declared.refusal.Refusal.TheVariants.{BadRequest, NotImplemented, MissingContentLength, EntityTooLarge, IncompleteBody}
+use Rattle.bh_types.specs.declared.refusal.Refusal.TheVariants.{BadRequest, NotImplemented, MissingContentLength, EntityTooLarge}
+use Rattle.bh_types.specs.declared.refusal.Refusal.TheVariants.{IncompleteBody}
 use Rattle.bh_http.specs.Reading.{Reads}
 use Rattle.bh_http.specs.Views.{Taken}
 
@@ -17,4 +18,5 @@ is_reading_refusal refusal = false
 
 -- whatever the bytes are
 abbrev pub ReadingRefusals : Type 0
-ReadingRefusals = (limits : HostLimits) (bytes : List ℕ) (answer : Result Taken Refusal) → Reads limits bytes answer → RefusedOnly is_reading_refusal answer
+ReadingRefusals = (limits : HostLimits) (bytes : List ℕ) (answer : Result Taken Refusal) → Reads limits bytes answer
+    → RefusedOnly is_reading_refusal answer

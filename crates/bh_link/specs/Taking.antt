@@ -44,7 +44,8 @@ IsHead limits bytes size = (head : RequestHead) × HasHead bytes head [] × (fra
 
 -- what the bytes up to the end of a head came to: never a request that is accepted; all that there is, and no head; or a head
 abbrev pub CameTo : HostLimits → Option (List ℕ) → List ℕ → ℕ → Type 0
-CameTo limits new bytes body = (NeverAccepted limits bytes × (body ≡ 0)) ⊎ ((IsAtEnd new × (HasNoHead bytes × (body ≡ 0))) ⊎ IsHead limits bytes body)
+CameTo limits new bytes body =
+    (NeverAccepted limits bytes × (body ≡ 0)) ⊎ ((IsAtEnd new × (HasNoHead bytes × (body ≡ 0))) ⊎ IsHead limits bytes body)
 
 pub record Opens (limits : HostLimits) (old new : Option (List ℕ)) (bytes : List ℕ) (body : ℕ) : Type 0 where
   pub consumed : Consumes old new bytes

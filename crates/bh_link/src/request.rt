@@ -1,6 +1,7 @@
 ghost use Rattle.std.specs.Prelude.{◌≡◌, ◌∷◌, ◌||◌, ◌&&◌, ℕ, List, [], ◌++◌, false, IfOk, IfErr, OnOk};
 ghost use Rattle.bh_http.specs.Arriving.{Finds, is_text as is_text_byte, ends_blank as is_blank_at_end};
 ghost use Rattle.bh_link.specs.Taking.{TookAtMost, Opens, announced_size, is_fault};
+ghost use Rattle.bh_link.specs.declared.request.TakeError.TheVariants.{ReadFailed, OutOfMemory};
 ghost use Rattle.bh_http.specs.Transfers.{Gives};
 
 use crate::ends::Source;
@@ -22,9 +23,6 @@ pub enum TakeError {
 }
 
 impl From<ReadFault> for TakeError {
-    ghost use Rattle.std.specs.Prelude.{◌≡◌};
-    ghost use Rattle.bh_link.specs.declared.request.TakeError.TheVariants.{ReadFailed};
-
     ghost from_gives = { λ _ e. e ≡ ReadFailed };
 
     fn from(_fault: ReadFault) -> TakeError {
@@ -33,9 +31,6 @@ impl From<ReadFault> for TakeError {
 }
 
 impl From<AllocError> for TakeError {
-    ghost use Rattle.std.specs.Prelude.{◌≡◌};
-    ghost use Rattle.bh_link.specs.declared.request.TakeError.TheVariants.{OutOfMemory};
-
     ghost from_gives = { λ _ e. e ≡ OutOfMemory };
 
     fn from(_error: AllocError) -> TakeError {

@@ -1,6 +1,6 @@
 pub mod RowLemmas
-pub mod LineLemmas
 pub mod VersionTexts
+pub mod UploadTexts
 pub mod VersionViewed
 pub mod ListLemmas
 pub mod Small

@@ -2,7 +2,20 @@
 use Rattle.std.proofs.Common.{◌≡◌, ◌≢◌, ℕ, zero, suc, ◌-◌, ◌<◌, ◌≤◌, nat_lt, true, false, Bool, cond, List, [], ◌∷◌, length, map, take, slice_index_or, Option, Some, None, option_map, refl, sym, ap, ◌∙◌, arith}
 use Rattle.std.proofs.lemmas.Bool.Decides.{nat_tests}
 use Rattle.std.proofs.lemmas.List.{length-map}
-use Rattle.bh_model.specs.Pages.{last_of, paged}
+use Rattle.std.specs.String.{string_bytes}
+use Rattle.std.specs.declared.alloc.Global.{Global}
+use Rattle.std.specs.declared.string.String.{String}
+use Rattle.bh_types.specs.declared.id.UploadId.{UploadId}
+use Rattle.bh_types.specs.declared.id.VersionId.{VersionId}
+use Rattle.bh_model.specs.State.{Octets}
+use Rattle.bh_model.specs.Pages.{Listed, PageAsked, Paged, last_of, paged, name_of, ObjectItem, objects_told, VersionItem, version_next, versions_told, UploadItem, upload_next, uploads_told}
+use Rattle.bh_docs.specs.Pages.{object_view, page_view, version_view, next_view, versions_view, upload_view, upload_next_view, uploads_view}
+use Rattle.bh_docs.specs.declared.objects.ObjectEntry.{ObjectEntry}
+use Rattle.bh_docs.specs.declared.page.Next.{Next}
+use Rattle.bh_docs.specs.declared.page.Page.{Page}
+use Rattle.bh_docs.specs.declared.uploads.UploadEntry.{UploadEntry}
+use Rattle.bh_docs.specs.declared.versions.VersionEntry.{VersionEntry}
+use Rattle.bh_listing.specs.Telling.{IsTold}
 
 pub not_zero : (n : ℕ) → n ≢ 0 → 1 ≤ n
 not_zero n h = grind (arith, h)
@@ -61,3 +74,17 @@ next_told see next_of max l last is = ap (option_map next_of) (next_seen see max
     go : (o : Option _) → option_map next_of (option_map see o) ≡ option_map (λ x. next_of (see x)) o
     go None = refl
     go (Some x) = refl
+
+-- ---- what is told is the page of a listing
+
+pub objects_are : (name : Octets) (asked : PageAsked) (page : Paged (Listed ObjectItem)) (told : Page ObjectEntry (String Global))
+    → IsTold object_view string_bytes (name_of (λ (o : ObjectItem). o.key)) name asked page told → page_view told ≡ objects_told name asked page
+objects_are name asked page told it = λ i. record { bucket = it.bucket i; prefix = it.prefix i; max = it.max i; prefixes = it.prefixes i; objects = it.entries i; next = it.next i }
+
+pub versions_are : (name : Octets) (asked : PageAsked) (page : Paged (Listed VersionItem)) (told : Page VersionEntry (Next VersionId))
+    → IsTold version_view next_view version_next name asked page told → versions_view told ≡ versions_told name asked page
+versions_are name asked page told it = λ i. record { bucket = it.bucket i; prefix = it.prefix i; max = it.max i; prefixes = it.prefixes i; versions = it.entries i; next = it.next i }
+
+pub uploads_are : (name : Octets) (asked : PageAsked) (page : Paged (Listed UploadItem)) (told : Page UploadEntry (Next UploadId))
+    → IsTold upload_view upload_next_view upload_next name asked page told → uploads_view told ≡ uploads_told name asked page
+uploads_are name asked page told it = λ i. record { bucket = it.bucket i; prefix = it.prefix i; max = it.max i; prefixes = it.prefixes i; uploads = it.entries i; next = it.next i }

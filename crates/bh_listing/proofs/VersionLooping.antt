@@ -1,23 +1,26 @@
 -- The rows that a listing of versions reads.
-use Rattle.std.proofs.Common.{◌≡◌, ℕ, ◌<◌, ◌≤◌, Bool, true, ◌&&◌, List, [], ◌∷◌, ◌++◌, length, map, filter, take, Option, Some, None, Result, Ok, Err, IfOk, sym, ap, subst, ◌∙◌, arith}
+use Rattle.std.proofs.Common.{◌≡◌, ℕ, ◌<◌, ◌≤◌, Bool, true, ◌&&◌, List, [], ◌∷◌, ◌++◌, length, map, filter, take, Option, Some, None, Result, Ok, Err, IfOk, refl, sym, ap, subst, ◌∙◌, arith}
 use Rattle.std.specs.List.{AllByRecursion}
 use Rattle.sqlite_keyed.specs.Lists.{sort_by}
 use Rattle.sqlite_keyed.proofs.ListLemmas.{all-filter}
 use Rattle.sqlite_typed.specs.Tests.{bytes_eq}
 use Rattle.bh_model.specs.State.{Octets}
 use Rattle.bh_model.specs.Pages.{Listed, VersionItem, begins}
-use Rattle.bh_tables.specs.Typed.{VersionRow}
+use Rattle.bh_tables.specs.Typed.{VersionRow, Tables}
 use Rattle.bh_view.proofs.SortLemmas.{all-sort_by}
 use Rattle.bh_pages.specs.Gathered.{Gathered, past_name}
 use Rattle.bh_pages.specs.Seen.{token_of}
 use Rattle.bh_pages.specs.Versions.{Numbered, row_key, IsUnder, IsStrict, is_from, nothing_after, versions_to_come, seen, seen_line, seen_place, AreRows, IsUnderway, rows_at, AreNext}
 use Rattle.bh_pages.specs.declared.gathering.PageAsked.{PageAsked}
-use Rattle.bh_pages.specs.declared.versions.Place as program
+use Rattle.bh_pages.specs.declared.places.Place as program
+use Rattle.bh_pages.specs.declared.places.PlaceReading.{PlaceReading}
 use Rattle.bh_pages.specs.declared.versions.VersionLine.{VersionLine}
-use Rattle.bh_pages.specs.declared.versions.VersionReading.{VersionReading}
+use Rattle.bh_pages.specs.declared.versions.ShownVersion.{ShownVersion}
 use Rattle.bh_pages.proofs.VersionRows.{strict_filter, filter_passes, filter_all}
 use Rattle.bh_listing.specs.Rows.{version_order, AreSmallKeys}
-use Rattle.bh_listing.specs.Versions.{row_numbered, place_rows, own_rows, listed_from}
+use Rattle.bh_listing.specs.Texts.{rows_placed}
+use Rattle.bh_listing.specs.Versions.{rows as shows}
+use Rattle.bh_listing.specs.Versions.{shown_numbered, row_numbered, place_rows, own_rows, listed_from}
 use Rattle.bh_listing.proofs.VersionViewed.{chunk_from, chunk_older}
 
 pub all_both : {X : Type 0} (P Q : X → Type 0) (l : List X) → AllByRecursion P l → AllByRecursion Q l → AllByRecursion (λ x. P x × Q x) l
@@ -36,7 +39,7 @@ module _ (asked : PageAsked) (tenant bucket : Octets) (versions : List VersionRo
   under_rows = filter (λ r. begins asked.prefix.now (row_key r)) rows
 
   -- of which none is read
-  pub begin_reading : (place : program.Place) (key : Option Octets) → IsUnder asked.prefix.now place.key.items place.after → (reading : VersionReading) → seen reading.gathering ≡ nothing_after key → reading.place ≡ place
+  pub begin_reading : (place : program.Place) (key : Option Octets) → IsUnder asked.prefix.now place.key.items place.after → (reading : PlaceReading ShownVersion) → seen reading.gathering ≡ nothing_after key → reading.place ≡ place
       → IsUnderway asked under_rows (listed_from asked (record { place = seen_place place; key = key }) rows) reading
   begin_reading place key low reading is at = record {
     low = subst (λ (p : program.Place). IsUnder asked.prefix.now p.key.items p.after) (sym at) low;
@@ -66,9 +69,14 @@ module _ (asked : PageAsked) (tenant bucket : Octets) (versions : List VersionRo
     chunk_is n key None low = chunk_from tenant bucket asked.prefix.now versions small key low n
     chunk_is n key (Some seq) low = chunk_older tenant bucket asked.prefix.now versions small key seq low n
 
-    pub are_next : (listing : List (Listed VersionItem)) (reading : VersionReading) → IsUnderway asked under_rows listing reading → (lines : List VersionLine)
+    pub are_next : (listing : List (Listed VersionItem)) (reading : PlaceReading ShownVersion) → IsUnderway asked under_rows listing reading → (lines : List VersionLine)
         → map seen_line lines ≡ map row_numbered (place_rows tenant bucket reading.place.key.items reading.place.after (past_name asked.prefix.now) reading.count versions) → AreNext under_rows reading lines
     are_next listing reading was lines are = are ∙ chunk_is reading.count reading.place.key.items reading.place.after was.low
+
+-- what the texts show at a place
+pub placed : (tenant bucket key : Octets) (after : Option ℕ) (upto : Octets) (n : ℕ) (t : Tables) → rows_placed shows tenant bucket key after upto n t ≡ map shown_numbered (place_rows tenant bucket key after upto n t.versions)
+placed tenant bucket key None upto n t = refl
+placed tenant bucket key (Some seq) upto n t = refl
 
 -- the lines that were read, as the rows that they are
 pub lines_are : (asked : PageAsked) (tenant bucket : Octets) (current versions : List VersionRow) (key : Octets) (older : Option ℕ) (upto upto_slice : Octets) (lines line_slice : List VersionLine) (n : ℕ)

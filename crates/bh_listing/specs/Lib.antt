@@ -1,4 +1,6 @@
 pub mod Rows
+pub mod Texts
 pub mod Told
 pub mod Telling
 pub mod Versions
+pub mod Uploads

@@ -1,5 +1,6 @@
 -- The rows of a listing of versions, and what contracts see of the page that is asked for.
-use Rattle.std.specs.Prelude.{ℕ, pos, Bool, false, ◌&&◌, int_lt, List, [], ◌∷◌, map, filter, take, Option, Some, None, option_map, if◌then◌else◌}
+use Rattle.std.specs.Prelude.{ℕ, pos, Bool, false, ◌&&◌, int_lt, List, [], ◌∷◌, map, filter, take, Option, Some, None, option_map}
+use Rattle.std.specs.Prelude.{if◌then◌else◌}
 use Rattle.sqlite.specs.declared.types.Value.TheVariants.{Text, Blob}
 use Rattle.sqlite.specs.Order.{Row}
 use Rattle.sqlite_keyed.specs.Lists.{sort_by}
@@ -10,16 +11,20 @@ use Rattle.bh_types.specs.declared.wanted.Wanted.TheVariants.{Current, Named, Un
 use Rattle.bh_model.specs.Pages.{Listed, VersionItem, VersionPlace, begins, versions_after, entries_after, passes_version}
 use Rattle.bh_pages.specs.Gathered.{start_of}
 use Rattle.bh_pages.specs.Seen.{token_of}
-use Rattle.bh_pages.specs.Versions.{Numbered, row_key, Place, at_key, after_entry, is_from, nothing_after, versions_to_come, id_in, stored_of, items_next, seen_place}
+use Rattle.bh_pages.specs.Versions.{Numbered, row_key, Place, at_key, after_entry, is_from, nothing_after, versions_to_come, id_in}
+use Rattle.bh_pages.specs.Versions.{stored_of, items_next, seen_place, seen_line}
 use Rattle.bh_pages.specs.declared.gathering.PageAsked.{PageAsked}
 use Rattle.bh_tables.specs.Schema.{Octets}
 use Rattle.bh_tables.specs.Typed.{VersionRow, number}
+use Rattle.bh_pages.specs.declared.versions.VersionLine.{VersionLine}
 use Rattle.bh_listing.specs.Rows.{version_order, listed_rows}
+use Rattle.bh_listing.specs.Texts.{Columns, Shows}
 use Rattle.bh_listing.specs.declared.versions.Start.{Start}
 
 -- a version or delete marker of this key with a lesser number
 abbrev pub is_older_of : Octets → Octets → Octets → ℕ → VersionRow → Bool
-is_older_of tenant bucket okey seq v = bytes_eq v.tenant tenant && (bytes_eq v.bucket bucket && (bytes_eq v.okey okey && int_lt (pos v.seq) (pos seq)))
+is_older_of tenant bucket okey seq v =
+    bytes_eq v.tenant tenant && (bytes_eq v.bucket bucket && (bytes_eq v.okey okey && int_lt (pos v.seq) (pos seq)))
 
 abbrev pub shown_numbered : VersionRow → Row
 shown_numbered v = Blob v.okey ∷ number v.seq ∷ number v.id ∷ number v.marker ∷ number v.stamp ∷ number v.size ∷ Text v.checksum ∷ []
@@ -35,11 +40,30 @@ place_rows tenant bucket key (Some seq) upto count versions = older_rows tenant 
 
 -- what a listing of versions is told of a row
 abbrev pub row_numbered : VersionRow → Numbered
-row_numbered v = (v.seq, record { key = v.okey; id = id_in v.id; moment = v.stamp; latest = false; object = stored_of v.marker v.size v.checksum })
+row_numbered v = (
+  v.seq,
+  record {
+    key = v.okey;
+    id = id_in v.id;
+    moment = v.stamp;
+    latest = false;
+    object = stored_of v.marker v.size v.checksum;
+  },
+)
+
+abbrev pub columns : Columns VersionLine VersionRow Numbered
+columns = record { shown = shown_numbered; see = seen_line; told = row_numbered }
+
+abbrev pub rows : Shows
+rows = record {
+  keyed = λ tenant bucket from upto count t. map shown_numbered (listed_rows tenant bucket from upto count t.versions);
+  later = λ tenant bucket key seq count t. map shown_numbered (older_rows tenant bucket key seq count t.versions);
+}
 
 -- the rows of a bucket, in the order of a listing
 abbrev pub own_rows : Octets → Octets → List VersionRow → List Numbered
-own_rows tenant bucket versions = map row_numbered (sort_by version_order (filter (λ v. bytes_eq v.tenant tenant && bytes_eq v.bucket bucket) versions))
+own_rows tenant bucket versions =
+    map row_numbered (sort_by version_order (filter (λ v. bytes_eq v.tenant tenant && bytes_eq v.bucket bucket) versions))
 
 -- the marker that a page comes after
 abbrev pub place_view : PageAsked → Wanted → Option VersionPlace
@@ -48,7 +72,8 @@ place_view asked version = option_map (λ key. record { key = key; version = ver
 -- what a listing of versions may show of these rows
 abbrev pub versions_of_rows : PageAsked → Wanted → List Numbered → List (Listed VersionItem)
 versions_of_rows asked version rows =
-    entries_after asked.prefix.now asked.delimiter.now (λ (v : VersionItem). v.key) (passes_version (token_of asked)) (versions_after (place_view asked version) (items_next None rows))
+    entries_after asked.prefix.now asked.delimiter.now (λ (v : VersionItem). v.key) (passes_version (token_of asked))
+    (versions_after (place_view asked version) (items_next None rows))
 
 -- ---- where a page begins
 

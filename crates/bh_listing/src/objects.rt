@@ -14,9 +14,9 @@ ghost use Rattle.bh_listing.specs.Rows.{row_shown, bucket_rows};
 ghost use Rattle.bh_docs.specs.Pages.{page_view};
 ghost use Rattle.bh_listing.specs.Told.{asked_view};
 
-use crate::lines::version_lines;
+use crate::lines::object_lines;
+use crate::rows::Keyed;
 use crate::tell::tell;
-use crate::told::objects_page;
 use bh_docs::ObjectsPage;
 use bh_objects::reads::bucket_state;
 use bh_pages::gathering::{Listed, ObjectLine, PageAsked, past};
@@ -46,15 +46,14 @@ fn gather_objects<S: Alter>(
     let upto = past(alloc, asked.prefix, 255)?;
     let mut reading = Reading::begin(alloc, asked)?;
     'reading: for _ in 0..u64::MAX {
-        let lines = version_lines(
-            connection,
-            alloc,
+        let at = Keyed {
             tenant,
             bucket,
-            reading.from.as_slice(),
-            upto.as_slice(),
-            reading.count,
-        )?;
+            from: reading.from.as_slice(),
+            upto: upto.as_slice(),
+            count: reading.count,
+        };
+        let lines = object_lines(connection, alloc, &at)?;
         if reading.take(alloc, asked, lines.as_slice())? {
             return Ok(reading.into_entries());
         }
@@ -81,6 +80,5 @@ pub fn list_objects<S: Alter>(
 {
     bucket_state(connection, tenant, bucket)?;
     let entries = gather_objects(connection, alloc, tenant.as_str(), bucket.as_str(), asked)?;
-    let told = tell(alloc, bucket.as_str(), asked, &entries)?;
-    Ok(objects_page(told, asked.max))
+    Ok(tell(alloc, bucket.as_str(), asked, &entries)?)
 }

@@ -1,101 +1,191 @@
-ghost use Rattle.std.specs.Prelude.{◌≡◌, ◌<◌, ◌^◌, map, IfOk, IfErr};
-ghost use Rattle.bh_schema.specs.Calls.{Reads};
-ghost use Rattle.bh_schema.specs.Connections.{IsClean, tables, InTransaction, IsTrouble};
-ghost use Rattle.bh_listing.specs.Rows.{shown_listed, listed_rows};
-ghost use Rattle.bh_listing.specs.Versions as spec;
-ghost use Rattle.bh_listing.specs.Versions.{shown_numbered};
+//! The rows of a listing, a few at a time.
 
+ghost use Rattle.std.specs.Prelude.{◌≡◌, ◌<◌, ◌^◌, List, map, IfOk, IfErr};
+ghost use Rattle.bh_schema.specs.Calls.{Reads, MayRead};
+ghost use Rattle.bh_schema.specs.Connections.{IsClean, tables, InTransaction, IsTrouble};
+ghost use Rattle.bh_listing.specs.Texts.{Queried, Shows, keyed_params, later_params, rows_placed};
+
+use crate::from_row::{FromRow, read_rows};
+use bh_pages::places::Place;
 use bh_schema::rows::number::number;
+use bh_schema::trouble::or_trouble;
+use bh_storage::error::Trouble;
 use sqlite::types::ToSql;
 use sqlite::{Alter, Connection, Error, Row};
+use std::alloc::Global;
 
-/// The first rows of a bucket's versions and delete markers with a key from one text on and before another, in the
-/// order of a listing.
-pub fn version_rows<S: Alter>(
-    connection: &mut Connection<S>,
-    tenant: &str,
-    bucket: &str,
-    from: &[u8],
-    upto: &[u8],
-    count: u64,
-) -> Result<Vec<Row>, Error>
-    requires inside { InTransaction S.Store connection.old }
-    requires small { count < 2 ^ 63 }
-    ensures reads { Reads S.Store connection.old connection.new result }
-    ensures rows { IfOk result (λ rows. IsClean S.Store connection.new
-        → rows.items ≡ map shown_listed
-        (listed_rows tenant.now bucket.now from.now upto.now count (tables S.Store connection.old).versions)) }
-    ensures trouble { IfErr result (IsTrouble S.Store connection.old connection.new) }
-{
-    connection.query_all(
-        "SELECT okey, marker, stamp, size, sum FROM versions WHERE tenant = ?1 AND bucket = ?2 AND okey >= ?3 AND okey < ?4 ORDER BY okey, seq DESC, rowid LIMIT ?5",
-        &[
-            tenant.to_sql(),
-            bucket.to_sql(),
-            from.to_sql(),
-            upto.to_sql(),
-            number(count),
-        ],
-    )
+/// The rows of a bucket with a key from one text on and before another.
+#[derive(Clone, Copy)]
+pub struct Keyed<'a> {
+    pub tenant: &'a str,
+    pub bucket: &'a str,
+    pub from: &'a [u8],
+    pub upto: &'a [u8],
+    /// How many at most.
+    pub count: u64,
 }
 
-/// The first rows of a bucket's versions and delete markers with a key from one text on and before another, with their
-/// numbers, in the order of a listing.
-pub fn numbered_rows<S: Alter>(
-    connection: &mut Connection<S>,
-    tenant: &str,
-    bucket: &str,
-    from: &[u8],
-    upto: &[u8],
-    count: u64,
-) -> Result<Vec<Row>, Error>
-    requires inside { InTransaction S.Store connection.old }
-    requires small { count < 2 ^ 63 }
-    ensures reads { Reads S.Store connection.old connection.new result }
-    ensures rows { IfOk result (λ rows. IsClean S.Store connection.new
-        → rows.items ≡ map shown_numbered
-        (listed_rows tenant.now bucket.now from.now upto.now count (tables S.Store connection.old).versions)) }
-    ensures trouble { IfErr result (IsTrouble S.Store connection.old connection.new) }
-{
-    connection.query_all(
-        "SELECT okey, seq, id, marker, stamp, size, sum FROM versions WHERE tenant = ?1 AND bucket = ?2 AND okey >= ?3 AND okey < ?4 ORDER BY okey, seq DESC, rowid LIMIT ?5",
-        &[
-            tenant.to_sql(),
-            bucket.to_sql(),
-            from.to_sql(),
-            upto.to_sql(),
-            number(count),
-        ],
-    )
+impl Keyed<'_> {
+    /// The rows that a text shows with these parameters.
+    pub fn query<S: Alter>(
+        &self,
+        connection: &mut Connection<S>,
+        sql: &str,
+    ) -> Result<Vec<Row>, Error>
+        requires { self.now.count < 2 ^ 63 }
+        ensures { Queried S.Store connection.old connection.new sql.now (keyed_params self.now) result }
+    {
+        connection.query_all(
+            sql,
+            &[
+                self.tenant.to_sql(),
+                self.bucket.to_sql(),
+                self.from.to_sql(),
+                self.upto.to_sql(),
+                number(self.count),
+            ],
+        )
+    }
 }
 
-/// The first rows of a key's versions and delete markers that are older than an entry, with their numbers, the newest
-/// first.
-pub fn older_rows<S: Alter>(
+/// The rows of a key in a bucket that come after the one of a number.
+#[derive(Clone, Copy)]
+pub struct Later<'a> {
+    pub tenant: &'a str,
+    pub bucket: &'a str,
+    pub key: &'a [u8],
+    pub after: u64,
+    /// How many at most.
+    pub count: u64,
+}
+
+impl Later<'_> {
+    /// The rows that a text shows with these parameters.
+    pub fn query<S: Alter>(
+        &self,
+        connection: &mut Connection<S>,
+        sql: &str,
+    ) -> Result<Vec<Row>, Error>
+        requires early { self.now.after < 2 ^ 63 }
+        requires small { self.now.count < 2 ^ 63 }
+        ensures { Queried S.Store connection.old connection.new sql.now (later_params self.now) result }
+    {
+        connection.query_all(
+            sql,
+            &[
+                self.tenant.to_sql(),
+                self.bucket.to_sql(),
+                self.key.to_sql(),
+                number(self.after),
+                number(self.count),
+            ],
+        )
+    }
+}
+
+/// What is read of rows that a listing reads from any place on, in the order of the listing.
+pub trait PlacedRow: FromRow {
+    ghost rows: { Shows };
+
+    /// The first rows with such keys.
+    fn keyed<S: Alter>(connection: &mut Connection<S>, at: &Keyed<'_>) -> Result<Vec<Row>, Error>
+        requires inside { InTransaction S.Store connection.old }
+        requires small { at.now.count < 2 ^ 63 }
+        ensures reads { Reads S.Store connection.old connection.new result }
+        ensures rows { IfOk result (λ shown. IsClean S.Store connection.new
+            → shown.items ≡ rows.keyed at.now.tenant.now at.now.bucket.now at.now.from.now at.now.upto.now at.now.count
+            (tables S.Store connection.old)) }
+        ensures trouble { IfErr result (IsTrouble S.Store connection.old connection.new) };
+
+    /// The first rows of the key past the number.
+    fn later<S: Alter>(connection: &mut Connection<S>, at: &Later<'_>) -> Result<Vec<Row>, Error>
+        requires inside { InTransaction S.Store connection.old }
+        requires early { at.now.after < 2 ^ 63 }
+        requires small { at.now.count < 2 ^ 63 }
+        ensures reads { Reads S.Store connection.old connection.new result }
+        ensures rows { IfOk result (λ shown. IsClean S.Store connection.new
+            → shown.items ≡ rows.later at.now.tenant.now at.now.bucket.now at.now.key.now at.now.after at.now.count
+            (tables S.Store connection.old)) }
+        ensures trouble { IfErr result (IsTrouble S.Store connection.old connection.new) };
+}
+
+/// The keys of a bucket that a listing reads.
+#[derive(Clone, Copy)]
+pub struct Keys<'a> {
+    pub tenant: &'a str,
+    pub bucket: &'a str,
+    /// A text that they are before.
+    pub upto: &'a [u8],
+}
+
+/// At most as many rows as this, from a place on.
+fn placed_rows<L: PlacedRow, S: Alter>(
     connection: &mut Connection<S>,
-    tenant: &str,
-    bucket: &str,
-    okey: &[u8],
-    seq: u64,
+    keys: &Keys<'_>,
+    place: &Place,
     count: u64,
-) -> Result<Vec<Row>, Error>
+) -> Result<Vec<Row>, Trouble>
     requires inside { InTransaction S.Store connection.old }
-    requires early { seq < 2 ^ 63 }
     requires small { count < 2 ^ 63 }
-    ensures reads { Reads S.Store connection.old connection.new result }
-    ensures rows { IfOk result (λ rows. IsClean S.Store connection.new
-        → rows.items ≡ map shown_numbered
-        (spec.older_rows tenant.now bucket.now okey.now seq count (tables S.Store connection.old).versions)) }
-    ensures trouble { IfErr result (IsTrouble S.Store connection.old connection.new) }
+    ensures reads { MayRead S.Store connection.old connection.new result }
+    ensures rows { IfOk result (λ shown. IsClean S.Store connection.new
+        → shown.items ≡ rows_placed L.rows keys.now.tenant.now keys.now.bucket.now place.now.key.items place.now.after keys.now.upto.now
+        count
+        (tables S.Store connection.old)) }
 {
-    connection.query_all(
-        "SELECT okey, seq, id, marker, stamp, size, sum FROM versions WHERE tenant = ?1 AND bucket = ?2 AND okey = ?3 AND seq < ?4 ORDER BY okey, seq DESC, rowid LIMIT ?5",
-        &[
-            tenant.to_sql(),
-            bucket.to_sql(),
-            okey.to_sql(),
-            number(seq),
-            number(count),
-        ],
-    )
+    let Keys {
+        tenant,
+        bucket,
+        upto,
+    } = *keys;
+    let key = place.key.as_slice();
+    match place.after {
+        None => {
+            let from = key;
+            or_trouble(L::keyed(
+                connection,
+                &Keyed {
+                    tenant,
+                    bucket,
+                    from,
+                    upto,
+                    count,
+                },
+            ))
+        }
+        Some(after) if after < 1 << 63 => {
+            or_trouble(L::later(
+                connection,
+                &Later {
+                    tenant,
+                    bucket,
+                    key,
+                    after,
+                    count,
+                },
+            ))
+        }
+        // No row has so great a number.
+        Some(_) => Err(Trouble::Store),
+    }
+}
+
+/// What is read of at most as many rows as this, from a place on, in the order of the listing.
+pub fn lines_at<L: PlacedRow + Drop, S: Alter>(
+    connection: &mut Connection<S>,
+    alloc: Global,
+    keys: &Keys<'_>,
+    place: &Place,
+    count: u64,
+) -> Result<Vec<L>, Trouble>
+    requires inside { InTransaction S.Store connection.old }
+    requires small { count < 2 ^ 63 }
+    ensures reads { MayRead S.Store connection.old connection.new result }
+    ensures lines { IfOk result (λ lines. IsClean S.Store connection.new → (rs : List L.FromRow.Of)
+        → rows_placed L.rows keys.now.tenant.now keys.now.bucket.now place.now.key.items place.now.after keys.now.upto.now count
+        (tables S.Store connection.old) ≡ map (L.FromRow.columns).shown rs
+        → map (L.FromRow.columns).see lines.items ≡ map (L.FromRow.columns).told rs) }
+{
+    let rows = placed_rows::<L, S>(connection, keys, place, count)?;
+    or_trouble(read_rows(alloc, &rows))
 }

@@ -6,8 +6,9 @@ ghost use Rattle.bh_model.specs.Pages.{Listed as Seen, Listed.Single, Listed.Com
 ghost use Rattle.bh_pages.specs.Seen.{entry_by};
 ghost use Rattle.bh_docs.specs.Pages.{prefix_view};
 ghost use Rattle.bh_listing.specs.Telling.{IsTold};
+ghost use Rattle.bh_listing.specs.Told.{asked_view};
 
-use bh_docs::CommonPrefix;
+use bh_docs::{CommonPrefix, Page};
 use bh_pages::gathering::{Listed, PageAsked};
 use bh_storage::error::Trouble;
 use bh_types::moment::Moment;
@@ -47,17 +48,6 @@ pub trait Told {
     /// Where the page after a rolled-up name begins.
     fn next_past(alloc: Global, name: &[u8]) -> Result<Self::Next, Trouble>
         ensures { IfOk result (λ next. next_view next ≡ next_of (Common name.now)) };
-}
-
-/// What a page tells, whatever it lists.
-#[derive(Drop)]
-pub struct Telling<E, N> {
-    pub bucket: String,
-    pub prefix: String,
-    pub prefixes: Vec<CommonPrefix>,
-    pub entries: Vec<E>,
-    /// Where the next page begins, where this one is truncated.
-    pub next: Option<N>,
 }
 
 /// A text of these bytes. Bytes that are no UTF-8 can't be read.
@@ -159,14 +149,15 @@ pub fn tell<T: Told>(
     bucket: &str,
     asked: &PageAsked<'_>,
     entries: &[Listed<T>],
-) -> Result<Telling<T::Entry, T::Next>, Trouble>
-    ensures { IfOk result (IsTold T.view T.next_view T.next_of bucket.now asked.now.prefix.now
+) -> Result<Page<T::Entry, T::Next>, Trouble>
+    ensures { IfOk result (IsTold T.view T.next_view T.next_of bucket.now (asked_view asked.now)
         (paged asked.now.max (map (entry_by T.see) entries.now))) }
 {
     let shown = shown_of(entries, asked.max);
-    Ok(Telling {
+    Ok(Page {
         bucket: String::from_str(alloc, bucket)?,
         prefix: text_of(alloc, asked.prefix)?,
+        max: asked.max,
         prefixes: rolled_names(alloc, shown)?,
         entries: singles(alloc, shown)?,
         next: next_page(alloc, entries, asked.max)?,

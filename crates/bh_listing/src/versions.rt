@@ -10,22 +10,21 @@ ghost use Rattle.bh_model.specs.Listings.{list_versions};
 ghost use Rattle.bh_model.specs.Operations.{Versions};
 ghost use Rattle.bh_storage.specs.Calls.{Unless, Carries};
 ghost use Rattle.bh_pages.specs.Seen.{token_of};
-ghost use Rattle.bh_pages.specs.Places.{IsUnder};
 ghost use Rattle.bh_pages.specs.Gathered.{IsPage};
-ghost use Rattle.bh_pages.specs.Versions.{seen_entry};
+ghost use Rattle.bh_pages.specs.Versions.{IsUnder, seen_entry};
 ghost use Rattle.bh_docs.specs.Pages.{versions_view};
 ghost use Rattle.bh_listing.specs.Told.{asked_view};
 ghost use Rattle.bh_listing.specs.Versions.{own_rows, versions_of_rows, listed_from, seen_start, past_marker, past_entry, marked};
 ghost use Rattle.bh_listing.specs.Versions.{place_view};
 
-use crate::lines::lines_at;
+use crate::rows::{Keys, lines_at};
 use crate::tell::tell;
-use crate::told_versions::versions_page;
 use bh_docs::VersionsPage;
 use bh_objects::ids::number_of;
 use bh_objects::reads::bucket_state;
 use bh_pages::gathering::{Listed, PageAsked, past};
-use bh_pages::versions::{Place, ShownVersion, VersionReading};
+use bh_pages::places::Place;
+use bh_pages::versions::{ShownVersion, VersionLine, VersionReading};
 use bh_schema::rows::versions::version_of_id;
 use bh_schema::trouble::or_trouble;
 use bh_storage::error::{StepError, Trouble};
@@ -154,15 +153,18 @@ fn gather_versions<S: Alter>(
         (listed_from asked.now (seen_start start) (own_rows tenant.now bucket.now (tables S.Store connection.old).versions))) }
 {
     let upto = past(alloc, asked.prefix, 255)?;
+    let keys = Keys {
+        tenant,
+        bucket,
+        upto: upto.as_slice(),
+    };
     let mut reading = VersionReading::begin(alloc, asked, start.place, start.key);
     'reading: for _ in 0..u64::MAX {
-        let lines = lines_at(
+        let lines: Vec<VersionLine> = lines_at(
             connection,
             alloc,
-            tenant,
-            bucket,
+            &keys,
             &reading.place,
-            upto.as_slice(),
             reading.count,
         )?;
         if reading.take(alloc, asked, lines.as_slice())? {
@@ -219,6 +221,5 @@ pub fn list_versions<S: Alter>(
         asked,
         version,
     )?;
-    let told = tell(alloc, bucket.as_str(), asked, &entries)?;
-    Ok(versions_page(told, asked.max))
+    Ok(tell(alloc, bucket.as_str(), asked, &entries)?)
 }

@@ -23,8 +23,26 @@ use Rattle.bh_model.specs.State.{Octets, State}
 use Rattle.bh_operation.specs.Operations.{operation}
 use Rattle.bh_operation.specs.declared.operation.Operation.{Operation}
 use Rattle.bh_operation.specs.declared.operation.Operation.TheVariants as op
+use Rattle.bh_operation.specs.declared.operation.BareOperation.{BareOperation}
+use Rattle.bh_operation.specs.declared.operation.BareOperation.TheVariants as bare
+use Rattle.bh_operation.specs.declared.operation.ServiceOperation.{ServiceOperation}
+use Rattle.bh_operation.specs.declared.operation.ServiceOperation.TheVariants.{ListBuckets, Usage}
+use Rattle.bh_operation.specs.declared.operation.BucketOperation.{BucketOperation}
+use Rattle.bh_operation.specs.declared.operation.BucketOperation.TheVariants.{CreateBucket, HeadBucket, DeleteBucket, GetBucketVersioning}
+use Rattle.bh_operation.specs.declared.operation.ListingOperation.{ListingOperation}
+use Rattle.bh_operation.specs.declared.operation.ListingOperation.TheVariants.{ListObjectsV2, ListObjectVersions, ListMultipartUploads}
+use Rattle.bh_operation.specs.declared.operation.LifecycleOperation.{LifecycleOperation}
+use Rattle.bh_operation.specs.declared.operation.LifecycleOperation.TheVariants.{GetLifecycle, DeleteLifecycle}
+use Rattle.bh_operation.specs.declared.operation.UploadOperation.{UploadOperation}
+use Rattle.bh_operation.specs.declared.operation.UploadOperation.TheVariants.{CreateMultipartUpload, ListParts, AbortMultipartUpload}
+use Rattle.bh_operation.specs.declared.operation.ObjectOperation.{ObjectOperation}
+use Rattle.bh_operation.specs.declared.operation.ObjectOperation.TheVariants.{CopyObject, HeadObject, DeleteObject, GetRetention}
+use Rattle.bh_operation.specs.declared.operation.DocumentOperation.{DocumentOperation}
+use Rattle.bh_operation.specs.declared.operation.DocumentOperation.TheVariants.{PutBucketVersioning, PutLifecycle, CompleteMultipartUpload, PutRetention}
+use Rattle.bh_operation.specs.declared.operation.StoreOperation.{StoreOperation}
+use Rattle.bh_operation.specs.declared.operation.StoreOperation.TheVariants.{PutObject, UploadPart}
 use Rattle.bh_model.proofs.Changes.{Changes, Settings}
-use Rattle.bh_machine.specs.Machine.{Act, Act.RequestRead, Act.Commanded, page_asked, place_asked, upload_asked, naming, operated, requested, asked, ordered, change, step, set_versioning, set_lifecycle, set_retention, finish_upload}
+use Rattle.bh_machine.specs.Machine.{Act, Act.RequestRead, Act.Commanded, page_asked, place_asked, upload_asked, naming, service_operated, bucket_operated, listing_operated, lifecycle_operated, upload_operated, object_operated, bare_operated, document_operated, store_operated, operated, requested, asked, ordered, change, step, set_versioning, set_lifecycle, set_retention, finish_upload}
 
 module _ (R : Option State → Option State → Type 0) (now : ℕ) (all : Changes R now) (s : Option State) where
   abbrev Holds : {E : Type 0} → Result Outcome E → Type 0
@@ -73,46 +91,82 @@ module _ (R : Option State → Option State → Type 0) (now : ℕ) (all : Chang
   rule_read : (bucket : Octets) → Holds (get_lifecycle bucket s)
   rule_read bucket = then_holds (tenant_bucket bucket s) _ (λ f. then_holds (ok_or f.1.days NoSuchLifecycleConfiguration) _ (λ days. same))
 
-  pub operated_as : (limits : HostLimits) (body : Octets) (operation : Operation) → Holds (operated limits now body operation s)
-  unfolding operated
-  operated_as limits body op.ListBuckets = same
-  operated_as limits body (op.CreateBucket bucket locked) = plainly_holds (create_bucket now bucket locked s) (all.bucket_created bucket locked s)
-  operated_as limits body (op.HeadBucket bucket) = plainly_holds (head_bucket bucket s) (then_holds (tenant_bucket bucket s) _ (λ f. same))
-  operated_as limits body (op.DeleteBucket bucket) = plainly_holds (delete_bucket bucket s) (all.bucket_deleted bucket s)
-  operated_as limits body (op.ListObjectsV2 bucket page token) =
+  service_as : (operation : ServiceOperation) → Holds (service_operated operation s)
+  unfolding service_operated
+  service_as ListBuckets = same
+  service_as Usage = plainly_holds (tell_usage s) tells_usage
+
+  bucket_as : (operation : BucketOperation) → Holds (bucket_operated now operation s)
+  unfolding bucket_operated
+  bucket_as (CreateBucket bucket locked) = plainly_holds (create_bucket now bucket locked s) (all.bucket_created bucket locked s)
+  bucket_as (HeadBucket bucket) = plainly_holds (head_bucket bucket s) (then_holds (tenant_bucket bucket s) _ (λ f. same))
+  bucket_as (DeleteBucket bucket) = plainly_holds (delete_bucket bucket s) (all.bucket_deleted bucket s)
+  bucket_as (GetBucketVersioning bucket) = plainly_holds (get_versioning bucket s) (then_holds (tenant_bucket bucket s) _ (λ f. same))
+
+  listing_as : (operation : ListingOperation) → Holds (listing_operated operation s)
+  unfolding listing_operated
+  listing_as (ListObjectsV2 bucket page token) =
       plainly_holds (list_objects bucket (page_asked page) token s) (then_holds (objects_listed bucket (page_asked page) token s) _ (λ told. same))
-  operated_as limits body (op.ListObjectVersions bucket page after) =
+  listing_as (ListObjectVersions bucket page after) =
       plainly_holds (list_versions bucket (page_asked page) (option_map place_asked after) s) (then_holds (versions_listed bucket (page_asked page) (option_map place_asked after) s) _ (λ told. same))
-  operated_as limits body (op.ListMultipartUploads bucket page after) =
+  listing_as (ListMultipartUploads bucket page after) =
       plainly_holds (list_uploads bucket (page_asked page) (option_map upload_asked after) s) (then_holds (uploads_listed bucket (page_asked page) (option_map upload_asked after) s) _ (λ told. same))
-  operated_as limits body (op.GetBucketVersioning bucket) = plainly_holds (get_versioning bucket s) (then_holds (tenant_bucket bucket s) _ (λ f. same))
-  operated_as limits body (op.PutBucketVersioning bucket) = plainly_holds (set_versioning bucket body s) (sets_versioning bucket body)
-  operated_as limits body (op.GetLifecycle bucket) = plainly_holds (get_lifecycle bucket s) (rule_read bucket)
-  operated_as limits body (op.PutLifecycle bucket) = plainly_holds (set_lifecycle bucket body s) (sets_lifecycle bucket body)
-  operated_as limits body (op.DeleteLifecycle bucket) = plainly_holds (delete_lifecycle bucket s) (all.lifecycle_deleted bucket s)
-  operated_as limits body (op.PutObject object checksum date) =
-      plainly_holds (put_object now object.bucket object.key body checksum date s) (all.object_put object.bucket object.key body checksum date s)
-  operated_as limits body (op.CopyObject object source date) =
+
+  lifecycle_as : (operation : LifecycleOperation) → Holds (lifecycle_operated operation s)
+  unfolding lifecycle_operated
+  lifecycle_as (GetLifecycle bucket) = plainly_holds (get_lifecycle bucket s) (rule_read bucket)
+  lifecycle_as (DeleteLifecycle bucket) = plainly_holds (delete_lifecycle bucket s) (all.lifecycle_deleted bucket s)
+
+  upload_as : (operation : UploadOperation) → Holds (upload_operated now operation s)
+  unfolding upload_operated
+  upload_as (CreateMultipartUpload object) =
+      plainly_holds (create_upload now object.bucket object.key s) (all.upload_created object.bucket object.key s)
+  upload_as (ListParts object upload page) =
+      plainly_holds (list_parts object.bucket object.key upload page.size page.after s) (then_holds (parts_listed object.bucket object.key upload page.size page.after s) _ (λ told. same))
+  upload_as (AbortMultipartUpload object upload) =
+      plainly_holds (abort_upload object.bucket object.key upload s) (all.upload_aborted object.bucket object.key upload s)
+
+  object_as : (operation : ObjectOperation) → Holds (object_operated now operation s)
+  unfolding object_operated
+  object_as (CopyObject object source date) =
       plainly_holds (copy_object now object.bucket object.key source.object.bucket source.object.key source.version date s)
       (all.object_copied object.bucket object.key source.object.bucket source.object.key source.version date s)
-  operated_as limits body (op.GetObject object version range) = got object.bucket object.key version range
-  operated_as limits body (op.HeadObject object version) = headed object.bucket object.key version
-  operated_as limits body (op.DeleteObject object version) =
+  object_as (HeadObject object version) = headed object.bucket object.key version
+  object_as (DeleteObject object version) =
       plainly_holds (delete_object now object.bucket object.key version s) (all.object_deleted object.bucket object.key version s)
-  operated_as limits body (op.CreateMultipartUpload object) =
-      plainly_holds (create_upload now object.bucket object.key s) (all.upload_created object.bucket object.key s)
-  operated_as limits body (op.UploadPart object upload number checksum) =
+  object_as (GetRetention object version) = retention_read object.bucket object.key version
+
+  document_as : (limits : HostLimits) (body : Octets) (operation : DocumentOperation) → Holds (document_operated limits now body operation s)
+  unfolding document_operated
+  document_as limits body (PutBucketVersioning bucket) = plainly_holds (set_versioning bucket body s) (sets_versioning bucket body)
+  document_as limits body (PutLifecycle bucket) = plainly_holds (set_lifecycle bucket body s) (sets_lifecycle bucket body)
+  document_as limits body (CompleteMultipartUpload object upload) =
+      plainly_holds (finish_upload limits now object.bucket object.key upload body s) (finishes limits object.bucket object.key upload body)
+  document_as limits body (PutRetention object version) = sets_retention object.bucket object.key version body
+
+  store_as : (body : Octets) (operation : StoreOperation) → Holds (store_operated now body operation s)
+  unfolding store_operated
+  store_as body (PutObject object checksum date) =
+      plainly_holds (put_object now object.bucket object.key body checksum date s) (all.object_put object.bucket object.key body checksum date s)
+  store_as body (UploadPart object upload number checksum) =
       plainly_holds (upload_part now object.bucket object.key upload number body checksum s)
       (all.part_uploaded number object.bucket object.key body upload checksum s)
-  operated_as limits body (op.ListParts object upload page) =
-      plainly_holds (list_parts object.bucket object.key upload page.size page.after s) (then_holds (parts_listed object.bucket object.key upload page.size page.after s) _ (λ told. same))
-  operated_as limits body (op.CompleteMultipartUpload object upload) =
-      plainly_holds (finish_upload limits now object.bucket object.key upload body s) (finishes limits object.bucket object.key upload body)
-  operated_as limits body (op.AbortMultipartUpload object upload) =
-      plainly_holds (abort_upload object.bucket object.key upload s) (all.upload_aborted object.bucket object.key upload s)
-  operated_as limits body (op.GetRetention object version) = retention_read object.bucket object.key version
-  operated_as limits body (op.PutRetention object version) = sets_retention object.bucket object.key version body
-  operated_as limits body op.Usage = plainly_holds (tell_usage s) tells_usage
+
+  bare_as : (operation : BareOperation) → Holds (bare_operated now operation s)
+  unfolding bare_operated
+  bare_as (bare.Service operation) = service_as operation
+  bare_as (bare.Bucket operation) = bucket_as operation
+  bare_as (bare.Listing operation) = listing_as operation
+  bare_as (bare.Lifecycle operation) = lifecycle_as operation
+  bare_as (bare.Upload operation) = upload_as operation
+  bare_as (bare.Object operation) = object_as operation
+
+  pub operated_as : (limits : HostLimits) (body : Octets) (operation : Operation) → Holds (operated limits now body operation s)
+  unfolding operated
+  operated_as limits body (op.Bare operation) = bare_as operation
+  operated_as limits body (op.ByDocument operation) = document_as limits body operation
+  operated_as limits body (op.Store operation) = store_as body operation
+  operated_as limits body (op.GetObject object version range) = got object.bucket object.key version range
 
   requested_as : (limits : HostLimits) (request : Taken) → Holds (requested limits now request s)
   requested_as limits request =

@@ -36,7 +36,7 @@ use Rattle.bh_model.specs.Counting.{counts, can_give, can_number, after_entry, a
 use Rattle.bh_model.specs.Credentials.{authenticate, secret_of}
 use Rattle.bh_model.specs.Entries.{Version, LookupFault, has_id, lookup, opened, found_named}
 use Rattle.bh_model.specs.FinMaps.{is_empty}
-use Rattle.bh_model.specs.Operations.{Outcome, added_tenant, tenant_bucket, with_bucket, listed, not_found, wanted_version, source_refusal, source_version, out_of_range, planned, tell_usage, create_bucket, head_bucket, delete_bucket, get_versioning, with_object, with_copy, require_quota, put_object, copy_object, get_object, head_object, delete_object, get_lifecycle, delete_lifecycle, found_version, get_retention, put_retention, tell_keys}
+use Rattle.bh_model.specs.Operations.{Outcome, added_tenant, tenant_bucket, with_bucket, listed, not_found, wanted_version, source_refusal, source_version, out_of_range, planned, tell_usage, create_bucket, head_bucket, delete_bucket, get_versioning, with_object, with_copy, require_quota, put_object, copy_object, get_object, head_object, delete_object, get_lifecycle, delete_lifecycle, found_version, get_retention, tell_keys}
 use Rattle.bh_model.specs.Parts.{Naming, ascends, is_checksum, checked, choice, chosen, are_large, completed}
 use Rattle.bh_model.specs.Quotas.{keeps_quota}
 use Rattle.bh_model.specs.Retention.{keeps_versions, can_retain, date_of, named_date, may_go, may_retain, first_date}
@@ -47,9 +47,27 @@ use Rattle.bh_operation.specs.Operations.{operation}
 use Rattle.bh_operation.specs.Refused.{is_operation_refusal}
 use Rattle.bh_operation.specs.declared.operation.Operation.{Operation}
 use Rattle.bh_operation.specs.declared.operation.Operation.TheVariants as op
+use Rattle.bh_operation.specs.declared.operation.BareOperation.{BareOperation}
+use Rattle.bh_operation.specs.declared.operation.BareOperation.TheVariants as bare
+use Rattle.bh_operation.specs.declared.operation.ServiceOperation.{ServiceOperation}
+use Rattle.bh_operation.specs.declared.operation.ServiceOperation.TheVariants.{ListBuckets, Usage}
+use Rattle.bh_operation.specs.declared.operation.BucketOperation.{BucketOperation}
+use Rattle.bh_operation.specs.declared.operation.BucketOperation.TheVariants.{CreateBucket, HeadBucket, DeleteBucket, GetBucketVersioning}
+use Rattle.bh_operation.specs.declared.operation.ListingOperation.{ListingOperation}
+use Rattle.bh_operation.specs.declared.operation.ListingOperation.TheVariants.{ListObjectsV2, ListObjectVersions, ListMultipartUploads}
+use Rattle.bh_operation.specs.declared.operation.LifecycleOperation.{LifecycleOperation}
+use Rattle.bh_operation.specs.declared.operation.LifecycleOperation.TheVariants.{GetLifecycle, DeleteLifecycle}
+use Rattle.bh_operation.specs.declared.operation.UploadOperation.{UploadOperation}
+use Rattle.bh_operation.specs.declared.operation.UploadOperation.TheVariants.{CreateMultipartUpload, ListParts, AbortMultipartUpload}
+use Rattle.bh_operation.specs.declared.operation.ObjectOperation.{ObjectOperation}
+use Rattle.bh_operation.specs.declared.operation.ObjectOperation.TheVariants.{CopyObject, HeadObject, DeleteObject, GetRetention}
+use Rattle.bh_operation.specs.declared.operation.DocumentOperation.{DocumentOperation}
+use Rattle.bh_operation.specs.declared.operation.DocumentOperation.TheVariants.{PutBucketVersioning, PutLifecycle, CompleteMultipartUpload, PutRetention}
+use Rattle.bh_operation.specs.declared.operation.StoreOperation.{StoreOperation}
+use Rattle.bh_operation.specs.declared.operation.StoreOperation.TheVariants.{PutObject, UploadPart}
 use Rattle.bh_operation.proofs.Refused.{operation_only}
 use Rattle.bh_model.specs.Listings.{objects_listed, list_objects, versions_listed, list_versions, uploads_listed, list_uploads, parts_listed, list_parts}
-use Rattle.bh_machine.specs.Machine.{Act, Acted, page_asked, place_asked, upload_asked, set_versioning, operated, requested, asked, ordered, change, naming, finish_upload, set_lifecycle, set_retention}
+use Rattle.bh_machine.specs.Machine.{Act, Acted, page_asked, place_asked, upload_asked, set_versioning, service_operated, bucket_operated, listing_operated, lifecycle_operated, upload_operated, object_operated, bare_operated, document_operated, store_operated, operated, requested, asked, ordered, change, naming, finish_upload, set_lifecycle, set_retention}
 use Rattle.bh_machine.specs.Refused.{StepRefusals, is_step_refusal as may}
 
 abbrev Only : {X : Type 0} → Result X Refusal → Type 0
@@ -412,45 +430,83 @@ finished_only limits now bucket key upload body s =
 aborted_only : (bucket key : Octets) (upload : Option UploadId) (s : Option State) → Only (abort_upload bucket key upload s)
 aborted_only bucket key upload s = then_only may (find_upload bucket key upload s) _ (upload_found bucket key upload s) (λ f. tt)
 
-operated_only : (limits : HostLimits) (now : ℕ) (body : Octets) (operation : Operation) (s : Option State) → MaySay (operated limits now body operation s)
-unfolding operated
-operated_only limits now body (op.CreateBucket bucket locked) s = plainly_told (create_bucket now bucket locked s) (created_only now bucket locked s)
-operated_only limits now body (op.PutObject object checksum date) s =
-    plainly_told (put_object now object.bucket object.key body checksum date s) (put_only now object.bucket object.key body checksum date s)
-operated_only limits now body (op.GetRetention object version) s = retention_told_only object.bucket object.key version s
-operated_only limits now body (op.PutRetention object version) s = retention_set_only now object.bucket object.key version body s
-operated_only limits now body (op.GetObject object version range) s = got_only object.bucket object.key version range s
-operated_only limits now body op.ListBuckets s = tt
-operated_only limits now body op.Usage s = plainly_told (tell_usage s) (used_only s)
-operated_only limits now body (op.HeadBucket bucket) s = plainly_told (head_bucket bucket s) (bucket_only bucket s _ (λ f. tt))
-operated_only limits now body (op.DeleteBucket bucket) s = plainly_told (delete_bucket bucket s) (bucket_gone_only bucket s)
-operated_only limits now body (op.ListObjectsV2 bucket page token) s =
+-- ---- operations
+
+service_operated_only : (operation : ServiceOperation) (s : Option State) → MaySay (service_operated operation s)
+unfolding service_operated
+service_operated_only ListBuckets s = tt
+service_operated_only Usage s = plainly_told (tell_usage s) (used_only s)
+
+bucket_operated_only : (now : ℕ) (operation : BucketOperation) (s : Option State) → MaySay (bucket_operated now operation s)
+unfolding bucket_operated
+bucket_operated_only now (CreateBucket bucket locked) s = plainly_told (create_bucket now bucket locked s) (created_only now bucket locked s)
+bucket_operated_only now (HeadBucket bucket) s = plainly_told (head_bucket bucket s) (bucket_only bucket s _ (λ f. tt))
+bucket_operated_only now (DeleteBucket bucket) s = plainly_told (delete_bucket bucket s) (bucket_gone_only bucket s)
+bucket_operated_only now (GetBucketVersioning bucket) s = plainly_told (get_versioning bucket s) (bucket_only bucket s _ (λ f. tt))
+
+listing_operated_only : (operation : ListingOperation) (s : Option State) → MaySay (listing_operated operation s)
+unfolding listing_operated
+listing_operated_only (ListObjectsV2 bucket page token) s =
     plainly_told (list_objects bucket (page_asked page) token s) (then_only may (objects_listed bucket (page_asked page) token s) _ (then_only may (tenant_bucket bucket s) _ (found_bucket bucket s) (λ _. tt)) (λ _. tt))
-operated_only limits now body (op.ListObjectVersions bucket page after) s =
+listing_operated_only (ListObjectVersions bucket page after) s =
     plainly_told (list_versions bucket (page_asked page) (option_map place_asked after) s)
     (then_only may (versions_listed bucket (page_asked page) (option_map place_asked after) s) _ (then_only may (tenant_bucket bucket s) _ (found_bucket bucket s) (λ _. tt)) (λ _. tt))
-operated_only limits now body (op.ListMultipartUploads bucket page after) s =
+listing_operated_only (ListMultipartUploads bucket page after) s =
     plainly_told (list_uploads bucket (page_asked page) (option_map upload_asked after) s)
     (then_only may (uploads_listed bucket (page_asked page) (option_map upload_asked after) s) _ (then_only may (tenant_bucket bucket s) _ (found_bucket bucket s) (λ _. tt)) (λ _. tt))
-operated_only limits now body (op.GetBucketVersioning bucket) s = plainly_told (get_versioning bucket s) (bucket_only bucket s _ (λ f. tt))
-operated_only limits now body (op.PutBucketVersioning bucket) s = plainly_told (set_versioning bucket body s) (set_only bucket body s)
-operated_only limits now body (op.GetLifecycle bucket) s = plainly_told (get_lifecycle bucket s) (rule_only bucket s)
-operated_only limits now body (op.PutLifecycle bucket) s = plainly_told (set_lifecycle bucket body s) (rule_set_only bucket body s)
-operated_only limits now body (op.DeleteLifecycle bucket) s = plainly_told (delete_lifecycle bucket s) (bucket_only bucket s _ (λ f. tt))
-operated_only limits now body (op.CopyObject object source date) s =
-    plainly_told (copy_object now object.bucket object.key source.object.bucket source.object.key source.version date s)
-    (copied_only now object.bucket object.key source.object.bucket source.object.key source.version date s)
-operated_only limits now body (op.HeadObject object version) s = headed_only object.bucket object.key version s
-operated_only limits now body (op.DeleteObject object version) s = plainly_told (delete_object now object.bucket object.key version s) (deleted_only now object.bucket object.key version s)
-operated_only limits now body (op.CreateMultipartUpload object) s = plainly_told (create_upload now object.bucket object.key s) (begun_only now object.bucket object.key s)
-operated_only limits now body (op.UploadPart object upload number checksum) s =
-    plainly_told (upload_part now object.bucket object.key upload number body checksum s) (part_stored_only now object.bucket object.key upload number body checksum s)
-operated_only limits now body (op.ListParts object upload page) s =
+
+lifecycle_operated_only : (operation : LifecycleOperation) (s : Option State) → MaySay (lifecycle_operated operation s)
+unfolding lifecycle_operated
+lifecycle_operated_only (GetLifecycle bucket) s = plainly_told (get_lifecycle bucket s) (rule_only bucket s)
+lifecycle_operated_only (DeleteLifecycle bucket) s = plainly_told (delete_lifecycle bucket s) (bucket_only bucket s _ (λ f. tt))
+
+upload_operated_only : (now : ℕ) (operation : UploadOperation) (s : Option State) → MaySay (upload_operated now operation s)
+unfolding upload_operated
+upload_operated_only now (CreateMultipartUpload object) s = plainly_told (create_upload now object.bucket object.key s) (begun_only now object.bucket object.key s)
+upload_operated_only now (ListParts object upload page) s =
     plainly_told (list_parts object.bucket object.key upload page.size page.after s)
     (then_only may (parts_listed object.bucket object.key upload page.size page.after s) _ (then_only may (find_upload object.bucket object.key upload s) _ (upload_found object.bucket object.key upload s) (λ _. tt)) (λ _. tt))
-operated_only limits now body (op.CompleteMultipartUpload object upload) s =
+upload_operated_only now (AbortMultipartUpload object upload) s = plainly_told (abort_upload object.bucket object.key upload s) (aborted_only object.bucket object.key upload s)
+
+object_operated_only : (now : ℕ) (operation : ObjectOperation) (s : Option State) → MaySay (object_operated now operation s)
+unfolding object_operated
+object_operated_only now (CopyObject object source date) s =
+    plainly_told (copy_object now object.bucket object.key source.object.bucket source.object.key source.version date s)
+    (copied_only now object.bucket object.key source.object.bucket source.object.key source.version date s)
+object_operated_only now (HeadObject object version) s = headed_only object.bucket object.key version s
+object_operated_only now (DeleteObject object version) s = plainly_told (delete_object now object.bucket object.key version s) (deleted_only now object.bucket object.key version s)
+object_operated_only now (GetRetention object version) s = retention_told_only object.bucket object.key version s
+
+document_operated_only : (limits : HostLimits) (now : ℕ) (body : Octets) (operation : DocumentOperation) (s : Option State) → MaySay (document_operated limits now body operation s)
+unfolding document_operated
+document_operated_only limits now body (PutBucketVersioning bucket) s = plainly_told (set_versioning bucket body s) (set_only bucket body s)
+document_operated_only limits now body (PutLifecycle bucket) s = plainly_told (set_lifecycle bucket body s) (rule_set_only bucket body s)
+document_operated_only limits now body (CompleteMultipartUpload object upload) s =
     plainly_told (finish_upload limits now object.bucket object.key upload body s) (finished_only limits now object.bucket object.key upload body s)
-operated_only limits now body (op.AbortMultipartUpload object upload) s = plainly_told (abort_upload object.bucket object.key upload s) (aborted_only object.bucket object.key upload s)
+document_operated_only limits now body (PutRetention object version) s = retention_set_only now object.bucket object.key version body s
+
+store_operated_only : (now : ℕ) (body : Octets) (operation : StoreOperation) (s : Option State) → MaySay (store_operated now body operation s)
+unfolding store_operated
+store_operated_only now body (PutObject object checksum date) s =
+    plainly_told (put_object now object.bucket object.key body checksum date s) (put_only now object.bucket object.key body checksum date s)
+store_operated_only now body (UploadPart object upload number checksum) s =
+    plainly_told (upload_part now object.bucket object.key upload number body checksum s) (part_stored_only now object.bucket object.key upload number body checksum s)
+
+bare_operated_only : (now : ℕ) (operation : BareOperation) (s : Option State) → MaySay (bare_operated now operation s)
+unfolding bare_operated
+bare_operated_only now (bare.Service operation) s = service_operated_only operation s
+bare_operated_only now (bare.Bucket operation) s = bucket_operated_only now operation s
+bare_operated_only now (bare.Listing operation) s = listing_operated_only operation s
+bare_operated_only now (bare.Lifecycle operation) s = lifecycle_operated_only operation s
+bare_operated_only now (bare.Upload operation) s = upload_operated_only now operation s
+bare_operated_only now (bare.Object operation) s = object_operated_only now operation s
+
+operated_only : (limits : HostLimits) (now : ℕ) (body : Octets) (operation : Operation) (s : Option State) → MaySay (operated limits now body operation s)
+unfolding operated
+operated_only limits now body (op.Bare operation) s = bare_operated_only now operation s
+operated_only limits now body (op.ByDocument operation) s = document_operated_only limits now body operation s
+operated_only limits now body (op.Store operation) s = store_operated_only now body operation s
+operated_only limits now body (op.GetObject object version range) s = got_only object.bucket object.key version range s
 
 requested_only : (limits : HostLimits) (now : ℕ) (request : Taken) (s : Option State) → MaySay (requested limits now request s)
 requested_only limits now request s =

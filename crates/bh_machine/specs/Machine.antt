@@ -10,14 +10,18 @@ use Rattle.bh_types.specs.declared.refusal.Refusal.TheVariants.{InvalidAccessKey
 use Rattle.bh_types.specs.declared.rejection.Rejection.{Rejection}
 use Rattle.bh_types.specs.declared.wanted.Wanted.{Wanted}
 use Rattle.bh_docs.specs.Requests.{versioning_of, lifecycle_of, retention_of, complete_of}
-use Rattle.bh_event.specs.Events.{Order, AddTenant, SetQuota, AddKey, RemoveKey, ShowUsage, ShowKeys, tenant_of, Message, Requested, Ordered, SweepOrdered, ReportOrdered, TenantsOrdered}
+use Rattle.bh_event.specs.Events.{Order, AddTenant, SetQuota, AddKey, RemoveKey, ShowUsage, ShowKeys, tenant_of, Message, Requested}
+use Rattle.bh_event.specs.Events.{Ordered, SweepOrdered, ReportOrdered, TenantsOrdered}
 use Rattle.bh_http.specs.Credentials.{owner, key_given, secret_given}
 use Rattle.bh_http.specs.Reading.{Reads}
 use Rattle.bh_http.specs.Views.{Taken}
 use Rattle.bh_model.specs.Credentials.{authenticate}
 use Rattle.bh_model.specs.Listings.{list_objects, list_versions, list_uploads, list_parts}
 use Rattle.bh_model.specs.Pages as pages
-use Rattle.bh_model.specs.Operations.{Answer, Outcome, add_tenant, set_quota, add_key, remove_key, tell_usage, show_usage, show_keys, create_bucket, head_bucket, delete_bucket, list_buckets, get_versioning, put_versioning, get_lifecycle, put_lifecycle, delete_lifecycle, put_object, copy_object, get_object, head_object, delete_object, get_retention, put_retention}
+use Rattle.bh_model.specs.Operations.{Answer, Outcome, add_tenant, set_quota, add_key, remove_key, tell_usage, show_usage, show_keys}
+use Rattle.bh_model.specs.Operations.{create_bucket, head_bucket, delete_bucket, list_buckets, get_versioning, put_versioning}
+use Rattle.bh_model.specs.Operations.{get_lifecycle, put_lifecycle, delete_lifecycle, put_object, copy_object, get_object, head_object}
+use Rattle.bh_model.specs.Operations.{delete_object, get_retention, put_retention}
 use Rattle.bh_model.specs.Parts.{Naming}
 use Rattle.bh_model.specs.Runs as runs
 use Rattle.bh_model.specs.State.{Octets, State}
@@ -27,7 +31,26 @@ use Rattle.bh_operation.specs.declared.page.Page.{Page}
 use Rattle.bh_operation.specs.declared.page.UploadMarker.{UploadMarker}
 use Rattle.bh_operation.specs.declared.page.VersionMarker.{VersionMarker}
 use Rattle.bh_operation.specs.declared.operation.Operation.{Operation}
-use Rattle.bh_operation.specs.declared.operation.Operation.TheVariants.{ListBuckets, CreateBucket, HeadBucket, DeleteBucket, ListObjectsV2, GetBucketVersioning, PutBucketVersioning, PutObject, CopyObject, GetObject, HeadObject, DeleteObject, ListObjectVersions, ListMultipartUploads, CreateMultipartUpload, UploadPart, ListParts, CompleteMultipartUpload, AbortMultipartUpload, GetLifecycle, PutLifecycle, DeleteLifecycle, GetRetention, PutRetention, Usage}
+use Rattle.bh_operation.specs.declared.operation.Operation.TheVariants.{Bare, ByDocument, Store, GetObject}
+use Rattle.bh_operation.specs.declared.operation.BareOperation.{BareOperation}
+use Rattle.bh_operation.specs.declared.operation.BareOperation.TheVariants.{Service, Bucket, Listing, Lifecycle, Upload, Object}
+use Rattle.bh_operation.specs.declared.operation.ServiceOperation.{ServiceOperation}
+use Rattle.bh_operation.specs.declared.operation.ServiceOperation.TheVariants.{ListBuckets, Usage}
+use Rattle.bh_operation.specs.declared.operation.BucketOperation.{BucketOperation}
+use Rattle.bh_operation.specs.declared.operation.BucketOperation.TheVariants.{CreateBucket, HeadBucket, DeleteBucket, GetBucketVersioning}
+use Rattle.bh_operation.specs.declared.operation.ListingOperation.{ListingOperation}
+use Rattle.bh_operation.specs.declared.operation.ListingOperation.TheVariants.{ListObjectsV2, ListObjectVersions, ListMultipartUploads}
+use Rattle.bh_operation.specs.declared.operation.LifecycleOperation.{LifecycleOperation}
+use Rattle.bh_operation.specs.declared.operation.LifecycleOperation.TheVariants.{GetLifecycle, DeleteLifecycle}
+use Rattle.bh_operation.specs.declared.operation.UploadOperation.{UploadOperation}
+use Rattle.bh_operation.specs.declared.operation.UploadOperation.TheVariants.{CreateMultipartUpload, ListParts, AbortMultipartUpload}
+use Rattle.bh_operation.specs.declared.operation.ObjectOperation.{ObjectOperation}
+use Rattle.bh_operation.specs.declared.operation.ObjectOperation.TheVariants.{CopyObject, HeadObject, DeleteObject, GetRetention}
+use Rattle.bh_operation.specs.declared.operation.DocumentOperation.{DocumentOperation}
+use Rattle.bh_operation.specs.declared.operation.DocumentOperation.TheVariants.{PutBucketVersioning, PutLifecycle, CompleteMultipartUpload}
+use Rattle.bh_operation.specs.declared.operation.DocumentOperation.TheVariants.{PutRetention}
+use Rattle.bh_operation.specs.declared.operation.StoreOperation.{StoreOperation}
+use Rattle.bh_operation.specs.declared.operation.StoreOperation.TheVariants.{PutObject, UploadPart}
 
 -- ---- acts
 
@@ -94,35 +117,74 @@ finish_upload limits now bucket key upload body s = do
   parts ← complete_of body
   complete_upload now limits.min_part bucket key upload (map naming parts) s
 
--- an operation at a moment, on a host with these limits. The document of a request is read before anything is looked at
-unfoldable pub operated : HostLimits → ℕ → Octets → Operation → Option State → Result Outcome Rejection
-operated limits now body ListBuckets s = plainly (list_buckets s)
-operated limits now body (CreateBucket bucket locked) s = plainly (create_bucket now bucket locked s)
-operated limits now body (HeadBucket bucket) s = plainly (head_bucket bucket s)
-operated limits now body (DeleteBucket bucket) s = plainly (delete_bucket bucket s)
-operated limits now body (ListObjectsV2 bucket page token) s = plainly (list_objects bucket (page_asked page) token s)
-operated limits now body (ListObjectVersions bucket page after) s = plainly (list_versions bucket (page_asked page) (option_map place_asked after) s)
-operated limits now body (ListMultipartUploads bucket page after) s = plainly (list_uploads bucket (page_asked page) (option_map upload_asked after) s)
-operated limits now body (GetBucketVersioning bucket) s = plainly (get_versioning bucket s)
-operated limits now body (PutBucketVersioning bucket) s = plainly (set_versioning bucket body s)
-operated limits now body (GetLifecycle bucket) s = plainly (get_lifecycle bucket s)
-operated limits now body (PutLifecycle bucket) s = plainly (set_lifecycle bucket body s)
-operated limits now body (DeleteLifecycle bucket) s = plainly (delete_lifecycle bucket s)
-operated limits now body (PutObject object checksum date) s = plainly (put_object now object.bucket object.key body checksum date s)
-operated limits now body (CopyObject object source date) s =
+-- what is asked of all buckets of a tenant
+unfoldable pub service_operated : ServiceOperation → Option State → Result Outcome Rejection
+service_operated ListBuckets s = plainly (list_buckets s)
+service_operated Usage s = plainly (tell_usage s)
+
+-- of a bucket itself, at a moment
+unfoldable pub bucket_operated : ℕ → BucketOperation → Option State → Result Outcome Rejection
+bucket_operated now (CreateBucket bucket locked) s = plainly (create_bucket now bucket locked s)
+bucket_operated now (HeadBucket bucket) s = plainly (head_bucket bucket s)
+bucket_operated now (DeleteBucket bucket) s = plainly (delete_bucket bucket s)
+bucket_operated now (GetBucketVersioning bucket) s = plainly (get_versioning bucket s)
+
+-- a page of what a bucket has
+unfoldable pub listing_operated : ListingOperation → Option State → Result Outcome Rejection
+listing_operated (ListObjectsV2 bucket page token) s = plainly (list_objects bucket (page_asked page) token s)
+listing_operated (ListObjectVersions bucket page after) s =
+    plainly (list_versions bucket (page_asked page) (option_map place_asked after) s)
+listing_operated (ListMultipartUploads bucket page after) s =
+    plainly (list_uploads bucket (page_asked page) (option_map upload_asked after) s)
+
+-- of a bucket's rule
+unfoldable pub lifecycle_operated : LifecycleOperation → Option State → Result Outcome Rejection
+lifecycle_operated (GetLifecycle bucket) s = plainly (get_lifecycle bucket s)
+lifecycle_operated (DeleteLifecycle bucket) s = plainly (delete_lifecycle bucket s)
+
+-- of an upload
+unfoldable pub upload_operated : ℕ → UploadOperation → Option State → Result Outcome Rejection
+upload_operated now (CreateMultipartUpload object) s = plainly (create_upload now object.bucket object.key s)
+upload_operated now (ListParts object upload page) s = plainly (list_parts object.bucket object.key upload page.size page.after s)
+upload_operated now (AbortMultipartUpload object upload) s = plainly (abort_upload object.bucket object.key upload s)
+
+-- of an object
+unfoldable pub object_operated : ℕ → ObjectOperation → Option State → Result Outcome Rejection
+object_operated now (CopyObject object source date) s =
     plainly (copy_object now object.bucket object.key source.object.bucket source.object.key source.version date s)
+object_operated now (HeadObject object version) s = head_object object.bucket object.key version s
+object_operated now (DeleteObject object version) s = plainly (delete_object now object.bucket object.key version s)
+object_operated now (GetRetention object version) s = get_retention object.bucket object.key version s
+
+-- an operation that reads nothing of its request's body
+unfoldable pub bare_operated : ℕ → BareOperation → Option State → Result Outcome Rejection
+bare_operated now (Service operation) s = service_operated operation s
+bare_operated now (Bucket operation) s = bucket_operated now operation s
+bare_operated now (Listing operation) s = listing_operated operation s
+bare_operated now (Lifecycle operation) s = lifecycle_operated operation s
+bare_operated now (Upload operation) s = upload_operated now operation s
+bare_operated now (Object operation) s = object_operated now operation s
+
+-- by its document, which is read before anything is looked at, on a host with these limits
+unfoldable pub document_operated : HostLimits → ℕ → Octets → DocumentOperation → Option State → Result Outcome Rejection
+document_operated limits now document (PutBucketVersioning bucket) s = plainly (set_versioning bucket document s)
+document_operated limits now document (PutLifecycle bucket) s = plainly (set_lifecycle bucket document s)
+document_operated limits now document (CompleteMultipartUpload object upload) s =
+    plainly (finish_upload limits now object.bucket object.key upload document s)
+document_operated limits now document (PutRetention object version) s = set_retention now object.bucket object.key version document s
+
+-- with the bytes that it stores
+unfoldable pub store_operated : ℕ → Octets → StoreOperation → Option State → Result Outcome Rejection
+store_operated now bytes (PutObject object checksum date) s = plainly (put_object now object.bucket object.key bytes checksum date s)
+store_operated now bytes (UploadPart object upload number checksum) s =
+    plainly (upload_part now object.bucket object.key upload number bytes checksum s)
+
+-- an operation at a moment, by its request's body, on a host with these limits
+unfoldable pub operated : HostLimits → ℕ → Octets → Operation → Option State → Result Outcome Rejection
+operated limits now body (Bare operation) s = bare_operated now operation s
+operated limits now body (ByDocument operation) s = document_operated limits now body operation s
+operated limits now body (Store operation) s = store_operated now body operation s
 operated limits now body (GetObject object version range) s = get_object object.bucket object.key version range s
-operated limits now body (HeadObject object version) s = head_object object.bucket object.key version s
-operated limits now body (DeleteObject object version) s = plainly (delete_object now object.bucket object.key version s)
-operated limits now body (CreateMultipartUpload object) s = plainly (create_upload now object.bucket object.key s)
-operated limits now body (UploadPart object upload number checksum) s =
-    plainly (upload_part now object.bucket object.key upload number body checksum s)
-operated limits now body (ListParts object upload page) s = plainly (list_parts object.bucket object.key upload page.size page.after s)
-operated limits now body (CompleteMultipartUpload object upload) s = plainly (finish_upload limits now object.bucket object.key upload body s)
-operated limits now body (AbortMultipartUpload object upload) s = plainly (abort_upload object.bucket object.key upload s)
-operated limits now body (GetRetention object version) s = get_retention object.bucket object.key version s
-operated limits now body (PutRetention object version) s = set_retention now object.bucket object.key version body s
-operated limits now body Usage s = plainly (tell_usage s)
 
 -- ---- requests and orders
 

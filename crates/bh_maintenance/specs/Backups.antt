@@ -27,13 +27,15 @@ module _ {D : Type 0} {g : disk.Ghosts D} where
 
   -- what a connection had committed stands in its files, which are closed, and in the copy, without a log, if the files
   -- returned what was written to them
-  pub record IsCopiedTo {E : Type 0} (e : disk.Ghosts E) (c : Held (FileStore D g)) (printed : Printed) (files : Files D) (copy : E) : Type 0 where
+  pub record IsCopiedTo {E : Type 0} (e : disk.Ghosts E) (c : Held (FileStore D g)) (printed : Printed) (files : Files D) (copy : E) :
+      Type 0 where
     pub kept : AreClean g files.log files.db → IsCopied c files
     pub copied : AreClean g files.log files.db → IsFileOf e (file_state c).committed copy
     pub line : IsLine (codes "backup") printed
 
   -- and that is a host's database: as it stood, or brought over from version 1
-  pub record IsSaved {E : Type 0} (e : disk.Ghosts E) (old : Held (FileStore D g)) (printed : Printed) (files : Files D) (copy : E) : Type 0 where
+  pub record IsSaved {E : Type 0} (e : disk.Ghosts E) (old : Held (FileStore D g)) (printed : Printed) (files : Files D) (copy : E) :
+      Type 0 where
     pub new : Held (FileStore D g)
     pub opened : IsOpenedAs (file_state old) (file_state new)
     pub saved : IsCopiedTo e new printed files copy
@@ -47,12 +49,13 @@ module _ {D : Type 0} {g : disk.Ghosts D} where
   IsSavedOrNot e old printed files copy = MatchOption files ⊥ (λ f. MatchOption copy (IsLeftOut old printed f) (IsSaved e old printed f))
 
 -- files with these contents were opened as a database, and the one or the other came of it
-pub record IsTriedOn {D E : Type 0} (g : disk.Ghosts D) (e : disk.Ghosts E) (image : Image) (printed : Printed) (files : Files D) (copy : Option E) : Type 0 where
+pub record IsTriedOn {D E : Type 0} (g : disk.Ghosts D) (e : disk.Ghosts E) (image : Image) (printed : Printed) (files : Files D)
+    (copy : Option E) : Type 0 where
   pub old : Held (FileStore D g)
   pub opened : IsOpenedOn image (file_state old)
   pub came : MatchOption copy (IsLeftOut old printed files) (IsSaved e old printed files)
 
--- the same; where there were no files, that no host is there, and no copy
+-- a backup came of it or not; where there were no files, the answer is that no host is there, and there is no copy
 abbrev pub IsBackedUp : {D E : Type 0} → disk.Ghosts D → disk.Ghosts E → Image → Printed → Option (Files D) → Option E → Type 0
 IsBackedUp g e image printed files copy =
     MatchOption files (IsRefusal NotAHostFile printed × (copy ≡ None)) (λ f. IsTriedOn g e image printed f copy)

@@ -26,11 +26,13 @@ module _ {S : Type 0} (g : Ghosts S) where
   -- of a connection a store is left. If that is clean and open, so was the connection, and the tables that it shows once it is
   -- opened as a host are a sound host's, with blocks named by this function
   abbrev pub IsSoundBy : (Octets → Octets) → Held S → S → Type 0
-  IsSoundBy digest old last = IsClean (g.view last) → IsTrue (g.view last).is_open → IsStateClean (state g old) × IsSoundHost digest (tables_opened (state g old).now)
+  IsSoundBy digest old last = IsClean (g.view last) → IsTrue (g.view last).is_open → IsStateClean (state g old)
+      × IsSoundHost digest (tables_opened (state g old).now)
 
   -- with blocks named by the function that its row tells
   abbrev pub IsFoundSound : Held S → S → Type 0
-  IsFoundSound old last = IsClean (g.view last) → IsTrue (g.view last).is_open → IsStateClean (state g old) × IsSoundByItsRow (tables_opened (standing (state g old)).now)
+  IsFoundSound old last = IsClean (g.view last) → IsTrue (g.view last).is_open → IsStateClean (state g old)
+      × IsSoundByItsRow (tables_opened (standing (state g old)).now)
 
 -- files with these contents were opened, the tables were found to be a sound host's, and the files were closed
 pub record AreFoundSound {D : Type 0} (g : disk.Ghosts D) (image : Image) (files : Files D) : Type 0 where

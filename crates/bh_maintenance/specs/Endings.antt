@@ -22,7 +22,8 @@ IsLeft g connection (Bare last) = IsBared g connection last
 
 -- files of a connection that were closed: those of its store, which was left with what was committed
 abbrev pub AreClosed : {D : Type 0} {g : disk.Ghosts D} → Held (FileStore D g) → Files D → Type 0
-AreClosed {D} {g} connection files = (last : FileStore D g) × (store.files last ≡ (files.log, files.db)) × IsBared over_files connection last
+AreClosed {D} {g} connection files =
+    (last : FileStore D g) × (store.files last ≡ (files.log, files.db)) × IsBared over_files connection last
 
 abbrev pub Closes : {D : Type 0} {g : disk.Ghosts D} → Left (FileStore D g) → Files D → Type 0
 Closes {D} {g} left files = (connection : Held (FileStore D g)) → IsLeft over_files connection left → AreClosed connection files

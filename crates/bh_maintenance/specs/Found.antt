@@ -70,15 +70,18 @@ module _ {S : Type 0} (g : Ghosts S) where
   -- it is at rest, with blocks named by a function, and its last stamp is the one that was read
   pub record IsReadyBy (digest : Octets → Octets) (opened : Opened S) : Type 0 where
     pub rest : IsStateClean (state g opened.connection) → IsAtRest (IsSoundHost digest) (seen_in opened.limits (state g opened.connection))
-    pub latest : IsStateClean (state g opened.connection) → opened.latest ≡ latest_of (seen_in opened.limits (state g opened.connection)).now
+    pub latest : IsStateClean (state g opened.connection) → opened.latest
+        ≡ latest_of (seen_in opened.limits (state g opened.connection)).now
 
   -- so by the function that its row tells
   pub record IsReadyByRow (host : Opened S) : Type 0 where
     pub ready : IsReadyBy (digest_by host.digest) host
-    pub row : IsStateClean (state g host.connection) → digest_number host.digest ≡ digest_in (tables_shown (standing (state g host.connection)).now)
+    pub row : IsStateClean (state g host.connection) → digest_number host.digest
+        ≡ digest_in (tables_shown (standing (state g host.connection)).now)
 
   -- a database was opened as a host, which shows what stood, of version 1 brought over, and is ready
   pub record IsHostIn (old : Held S) (host : Opened S) : Type 0 where
     pub opened : IsOpenedAs (state g old) (state g host.connection)
-    pub shows : IsStateClean (state g host.connection) → tables_shown (standing (state g host.connection)).now ≡ tables_opened (standing (state g old)).now
+    pub shows : IsStateClean (state g host.connection) → tables_shown (standing (state g host.connection)).now
+        ≡ tables_opened (standing (state g old)).now
     pub ready : IsReadyByRow host

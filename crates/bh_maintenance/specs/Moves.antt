@@ -1,5 +1,6 @@
 -- What comes of a tenant that is moved: from one host to another, from a file's host to a new file, from such a file to a host.
-use Rattle.std.specs.Prelude.{◌≡◌, ◌≢◌, ◌⊎◌, true, false, List, [], ◌∷◌, ◌++◌, map, codes, Option, Some, None, MatchOption, MatchResult, Result, Ok, Err, is_some}
+use Rattle.std.specs.Prelude.{◌≡◌, ◌≢◌, ◌⊎◌, true, false, List, [], ◌∷◌, ◌++◌, map, codes, Option, Some, None, MatchOption, MatchResult}
+use Rattle.std.specs.Prelude.{Result, Ok, Err, is_some}
 use Rattle.std.specs.declared.alloc.Global.{Global}
 use Rattle.std.specs.declared.string.String.{String}
 use Rattle.sqlite_disk.specs.declared.Disk as disk
@@ -113,7 +114,8 @@ module _ {S T : Type 0} (g : Ghosts S) (h : Ghosts T) (from : Opened S) (to : Op
     pub tenant : Octets
     pub line : IsLine (codes "tenant " ++ tenant) printed
     pub name : IsOneName g from.connection from_new tenant
-    pub limits : AreBothClean g h from.connection to.connection from_new to_new → limits_in (shown_by g from.connection) ≡ limits_in (shown_by h to.connection)
+    pub limits : AreBothClean g h from.connection to.connection from_new to_new → limits_in (shown_by g from.connection)
+        ≡ limits_in (shown_by h to.connection)
     pub come : HasCome g h from.connection to.connection from_new to_new (digest_by to.digest) tenant
 
   -- none came, and both stay: `41` tells that the tenant is there
@@ -123,7 +125,8 @@ module _ {S T : Type 0} (g : Ghosts S) (h : Ghosts T) (from : Opened S) (to : Op
     pub from_stays : Stays g from.connection from_new
     pub to_stays : Stays h to.connection to_new
     pub exists : refusal ≡ Some TenantExists → AreBothClean g h from.connection to.connection from_new to_new
-        → (tenant : Octets) × (tenants_in (shown_by g from.connection) ≡ tenant ∷ []) × (is_some (view (shown_by h to.connection) tenant) ≡ true)
+        → (tenant : Octets) × (tenants_in (shown_by g from.connection) ≡ tenant ∷ [])
+        × (is_some (view (shown_by h to.connection) tenant) ≡ true)
 
   abbrev pub Imports : Printed → Type 0
   Imports printed = HasImported printed ⊎ HasNotImported printed
@@ -153,7 +156,8 @@ module _ {S : Type 0} (g : Ghosts S) (tenant : Octets) (from : Opened S) (from_n
     pub line : IsLine (codes "export") printed
     pub from_stays : Stays g from.connection from_new
     pub committed : IsStateClean (state h new) → IsCommitted (standing (state h new))
-    pub alone : IsStateClean (state g from_new) → IsStateClean (state h new) → HasOnly (digest_by from.digest) tenant (shown_by g from.connection) (shown_by h new)
+    pub alone : IsStateClean (state g from_new) → IsStateClean (state h new)
+        → HasOnly (digest_by from.digest) tenant (shown_by g from.connection) (shown_by h new)
 
   -- it isn't: `42` tells that it isn't in the first host
   pub record HasNotExported : Type 0 where
@@ -172,20 +176,24 @@ module _ {S : Type 0} (g : Ghosts S) (tenant : Octets) (from : Opened S) (from_n
       pub line : IsLine (codes "export") printed
       pub from_stays : Stays g from.connection from_new
       pub copied : AreClean m made.log made.db → IsFileOf e db copy
-      pub alone : AreClean m made.log made.db → IsStateClean (state g from_new) → HasOnly (digest_by from.digest) tenant (shown_by g from.connection) (tables_shown db)
+      pub alone : AreClean m made.log made.db → IsStateClean (state g from_new)
+          → HasOnly (digest_by from.digest) tenant (shown_by g from.connection) (tables_shown db)
 
     -- there is one, or none
     abbrev pub ExportsTo : Option (Files M) → Option E → Type 0
     ExportsTo made copy = MatchOption copy HasNotExported (λ c. MatchOption made ⊥ (λ its. IsExport its c))
 
 -- what a connection had committed is in the copy of its files, if they returned what was written to them
-pub record IsSavedIn {D E : Type 0} {g : disk.Ghosts D} (e : disk.Ghosts E) (c : Held (FileStore D g)) (files : Files D) (copy : E) : Type 0 where
+pub record IsSavedIn {D E : Type 0} {g : disk.Ghosts D} (e : disk.Ghosts E) (c : Held (FileStore D g)) (files : Files D) (copy : E) :
+    Type 0 where
   pub kept : AreClean g files.log files.db → IsCopied c files
   pub copied : AreClean g files.log files.db → IsFileOf e (file_state c).committed copy
 
 -- where the status is 0, and else there is no copy
-abbrev pub SavesMoved : {D E : Type 0} {g : disk.Ghosts D} → disk.Ghosts E → Held (FileStore D g) → Printed → Option (Files D) → Option E → Type 0
-SavesMoved e c printed files copy = MatchOption copy (printed.status ≢ 0) (λ its. (printed.status ≡ 0) × MatchOption files ⊥ (λ f. IsSavedIn e c f its))
+abbrev pub SavesMoved : {D E : Type 0} {g : disk.Ghosts D} → disk.Ghosts E → Held (FileStore D g) → Printed → Option (Files D) → Option E
+    → Type 0
+SavesMoved e c printed files copy =
+    MatchOption copy (printed.status ≢ 0) (λ its. (printed.status ≡ 0) × MatchOption files ⊥ (λ f. IsSavedIn e c f its))
 
 -- ---- on files
 
@@ -202,7 +210,7 @@ module _ {D : Type 0} (g : disk.Ghosts D) (image : Image) where
     pub opened : IsOpenedOn image (file_state old)
     pub left : IsLeftOut old printed files
 
-  -- the same, or there were none
+  -- no host was found in the files, or there were none
   abbrev pub HasNoHost : Printed → Option (Files D) → Type 0
   HasNoHost printed files = MatchOption files (IsRefusal NotAHostFile printed) (HoldNoHost printed)
 
@@ -220,30 +228,34 @@ module _ {S D : Type 0} (h : Ghosts S) (from : Opened S) (from_new : Held S) whe
       pub at : IsHostAt g image to
       pub came : IsImportedInto to printed files
 
-    -- the same; or they hold none, and nothing was done
+    -- the tenant came to the host of the files; or they hold none, and nothing was done
     abbrev pub ImportsTo : Printed → Option (Files D) → Type 0
     ImportsTo printed files = (HasNoHost g image printed files × (from_new ≡ from.connection)) ⊎ MatchOption files ⊥ (IsImportedTo printed)
 
--- the same of a host in files, which were closed
-pub record IsImportedOf {D E : Type 0} {h : disk.Ghosts E} (from : Opened (FileStore E h)) (g : disk.Ghosts D) (image : Image) (printed : Printed) (files : Option (Files D)) (given : Files E) : Type 0 where
+-- the one tenant of a host in files was imported so, and these were closed
+pub record IsImportedOf {D E : Type 0} {h : disk.Ghosts E} (from : Opened (FileStore E h)) (g : disk.Ghosts D) (image : Image)
+    (printed : Printed) (files : Option (Files D)) (given : Files E) : Type 0 where
   pub new : Held (FileStore E h)
   pub imports : ImportsTo over_files from new g image printed files
   pub closed : AreClosed new given
 
 -- what came of an import: that, of the host of the given files; or they hold none, and the others weren't opened
-abbrev pub IsImported : {D E : Type 0} → disk.Ghosts D → disk.Ghosts E → Image → Image → Printed → Option (Files D) → Option (Files E) → Type 0
+abbrev pub IsImported : {D E : Type 0} → disk.Ghosts D → disk.Ghosts E → Image → Image → Printed → Option (Files D) → Option (Files E)
+    → Type 0
 IsImported {D} {E} g h image given_image printed files given =
     (HasNoHost h given_image printed given × (files ≡ None))
     ⊎ ((from : Opened (FileStore E h)) × IsHostAt h given_image from × MatchOption given ⊥ (IsImportedOf from g image printed files))
 
 -- a host's tenant was copied to a new file, or not, and the host's files were closed
-pub record IsExportedFrom {D M E : Type 0} {g : disk.Ghosts D} (m : disk.Ghosts M) (e : disk.Ghosts E) (tenant : Octets) (host : Opened (FileStore D g)) (printed : Printed) (made : Option (Files M)) (copy : Option E) (files : Files D) : Type 0 where
+pub record IsExportedFrom {D M E : Type 0} {g : disk.Ghosts D} (m : disk.Ghosts M) (e : disk.Ghosts E) (tenant : Octets)
+    (host : Opened (FileStore D g)) (printed : Printed) (made : Option (Files M)) (copy : Option E) (files : Files D) : Type 0 where
   pub new : Held (FileStore D g)
   pub exports : ExportsTo over_files tenant host new printed m e made copy
   pub closed : AreClosed new files
 
 -- what came of an export: that, of the host of files with these contents; or they hold none, and there is no copy
-abbrev pub IsExported : {D M E : Type 0} → disk.Ghosts D → disk.Ghosts M → disk.Ghosts E → Image → Octets → Printed → Option (Files D) → Option (Files M) → Option E → Type 0
+abbrev pub IsExported : {D M E : Type 0} → disk.Ghosts D → disk.Ghosts M → disk.Ghosts E → Image → Octets → Printed → Option (Files D)
+    → Option (Files M) → Option E → Type 0
 IsExported {D} g m e image tenant printed files made copy =
     (HasNoHost g image printed files × (copy ≡ None))
     ⊎ ((host : Opened (FileStore D g)) × IsHostAt g image host × MatchOption files ⊥ (IsExportedFrom m e tenant host printed made copy))

@@ -90,7 +90,7 @@ fn check_by<S: Alter + Drop, D: Digester>(
     }
 }
 
-/// The same, by the digester of the function that names its blocks.
+/// Checks a host, by the digester of the function that names its blocks.
 fn check_named<S: Alter + Drop>(
     rt: &HostRuntime,
     path: &str,

@@ -148,7 +148,7 @@ fn bring_to<S: Alter + Drop, T: Alter + Drop>(
     })
 }
 
-/// The same, to one that is made for it in an empty database.
+/// Brings a tenant to a host that is made for it in an empty database.
 fn fill<S: Alter + Drop, T: Alter + Drop>(
     rt: &HostRuntime,
     host: &mut Opened<S>,
@@ -215,7 +215,7 @@ fn export_to<S: Alter + Drop, U: Start, W: Start>(
     save_moved(rt, done, to, to_start)
 }
 
-/// The same of a host in files, which are closed. What was made beside the new file is removed.
+/// Exports a tenant of a host in files, which are closed. What was made beside the new file is removed.
 fn export_from<D: Disk + Drop, U: Start, W: Start>(
     rt: &HostRuntime,
     host: Opened<FileStore<D>>,

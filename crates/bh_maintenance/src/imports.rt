@@ -118,7 +118,7 @@ fn import_one<S: Alter + Drop, T: Alter + Drop>(
     }
 }
 
-/// The same, if the limits of both hosts are the same.
+/// Imports the one tenant, if the limits of both hosts are the same.
 fn import_from<S: Alter + Drop, T: Alter + Drop>(
     rt: &HostRuntime,
     path: &str,
@@ -137,7 +137,7 @@ fn import_from<S: Alter + Drop, T: Alter + Drop>(
     import_one(rt, path, from_path, from, to)
 }
 
-/// The same into the host of files, which are closed.
+/// Imports the one tenant into the host of files, which are closed.
 fn import_into<S: Alter + Drop, D: Disk + Drop>(
     rt: &HostRuntime,
     path: &str,
@@ -180,7 +180,7 @@ fn import_to<F: Alter + Drop, S: Start>(
     }
 }
 
-/// The same of a host in files, which are closed.
+/// Imports the one tenant of a host in files, which are closed.
 fn import_given<E: Disk + Drop, S: Start>(
     rt: &HostRuntime,
     path: &str,

@@ -41,7 +41,7 @@ fn move_by<S: Alter + Drop, T: Alter + Drop, D: Digester>(
     )
 }
 
-/// The same, by the digester of the function that its row tells.
+/// Moves a tenant, by the digester of the function that the host's row tells.
 fn move_by_digest<S: Alter + Drop, T: Alter + Drop>(
     from: &mut Opened<S>,
     to: &mut Opened<T>,

@@ -30,7 +30,8 @@ has_no_rule s = option_map_or (λ (t : State). list_all (λ (e : Octets × Bucke
 
 -- a tenant has a bucket of this name, in this state
 abbrev pub has_state : Octets → BucketState → Option State → Bool
-has_state name state s = option_map_or (λ (b : Bucket). nat_eq (state_number b.mode) (state_number state)) (option_and_then (λ (t : State). get t.buckets name) s) false
+has_state name state s = option_map_or (λ (b : Bucket). nat_eq (state_number b.mode) (state_number state))
+    (option_and_then (λ (t : State). get t.buckets name) s) false
 
 -- an access key is accepted with this secret
 abbrev pub is_accepted : KnownSecret → Option State → Bool

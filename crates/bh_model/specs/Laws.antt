@@ -16,7 +16,8 @@ use Rattle.bh_types.specs.Checksums.{checksum_text}
 use Rattle.bh_types.specs.AccessKeys.{access_key}
 use Rattle.bh_types.specs.declared.access_key.AccessKeyId.{AccessKeyId}
 use Rattle.bh_model.specs.Credentials.{authenticate}
-use Rattle.bh_model.specs.Operations.{Answer.Stored, Answer.Copied, Answer.Object, add_key, remove_key, put_object, source_version, copy_object, get_object}
+use Rattle.bh_model.specs.Operations.{Answer.Stored, Answer.Copied, Answer.Object, add_key, remove_key, put_object, source_version}
+use Rattle.bh_model.specs.Operations.{copy_object, get_object}
 use Rattle.bh_model.specs.Runs.{solo, solo_state, step, Follows}
 
 -- to purge, and then at a later moment, is to purge at the later one
@@ -34,7 +35,8 @@ put_version mode next moment bytes checksum = record { id = new_id mode next; mo
 abbrev pub PutIsFound : Type 0
 PutIsFound = (mode : BucketState) (next moment : ℕ) (bytes checksum : Octets) (entries : List Entry)
     → (lookup Current (added mode next moment (Body bytes checksum) entries) ≡ Ok (put_version mode next moment bytes checksum))
-    × (lookup (Named (new_id mode next)) (added mode next moment (Body bytes checksum) entries) ≡ Ok (put_version mode next moment bytes checksum))
+    × (lookup (Named (new_id mode next)) (added mode next moment (Body bytes checksum) entries)
+    ≡ Ok (put_version mode next moment bytes checksum))
 
 -- a delete without id in an Enabled bucket leaves every older entry, in its place and under its id
 abbrev pub EnabledDeleteKeeps : Type 0
@@ -52,14 +54,16 @@ SuspendedDeleteClears = (next moment : ℕ) (entries : List Entry)
 abbrev pub PutIsRead : Type 0
 PutIsRead = (moment : ℕ) (name key bytes : Octets) (given : Option Octets) (date : Option (Option ℕ)) (s : Option State)
     → IfOk (put_object moment name key bytes given date s) (λ put.
-    (id : Option VersionId) × (put.0 ≡ Stored id (checksum_text bytes)) × (get_object name key Current None put.1 ≡ Ok (Object id (length bytes) Whole bytes (checksum_text bytes), put.1)))
+    (id : Option VersionId) × (put.0 ≡ Stored id (checksum_text bytes))
+    × (get_object name key Current None put.1 ≡ Ok (Object id (length bytes) Whole bytes (checksum_text bytes), put.1)))
 
 -- what was copied is what a get without id reads, whatever the states of both buckets are, and also where a version is
 -- copied onto its own key
 abbrev pub CopyIsRead : Type 0
 CopyIsRead = (moment : ℕ) (name key source_name source_key : Octets) (wanted : Wanted) (date : Option (Option ℕ)) (s : Option State)
     → IfOk (copy_object moment name key source_name source_key wanted date s) (λ copy.
-    (v : Version) × (id : Option VersionId) × (source_version source_name source_key wanted s ≡ Ok v) × (copy.0 ≡ Copied id moment v.checksum)
+    (v : Version) × (id : Option VersionId) × (source_version source_name source_key wanted s ≡ Ok v)
+    × (copy.0 ≡ Copied id moment v.checksum)
     × (get_object name key Current None copy.1 ≡ Ok (Object id (length v.bytes) Whole v.bytes v.checksum, copy.1)))
 
 -- 36 is '$'

@@ -6,7 +6,8 @@ use Rattle.bh_types.specs.declared.id.UploadId.{UploadId}
 use Rattle.bh_types.specs.declared.refusal.Refusal.{Refusal}
 use Rattle.bh_model.specs.State.{Octets, State}
 use Rattle.bh_model.specs.Operations.{Outcome, Objects, Versions, Uploads, Parts, tenant_bucket}
-use Rattle.bh_model.specs.Pages.{PageAsked, ObjectsListed, objects_page, objects_told, VersionPlace, VersionsListed, versions_page, versions_told, UploadPlace, UploadsListed, uploads_page, uploads_told, PartsListed, parts_page, parts_told}
+use Rattle.bh_model.specs.Pages.{PageAsked, ObjectsListed, objects_page, objects_told, VersionPlace, VersionsListed, versions_page}
+use Rattle.bh_model.specs.Pages.{versions_told, UploadPlace, UploadsListed, uploads_page, uploads_told, PartsListed, parts_page, parts_told}
 use Rattle.bh_model.specs.Uploads.{find_upload}
 
 -- after the name that a token gives

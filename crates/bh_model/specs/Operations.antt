@@ -1,6 +1,7 @@
 -- What each operation and each command of the operator makes of a tenant's state, and what it answers. The
 -- refusals stand in their order. A state that is absent is that of a tenant that was not added.
-use Rattle.std.specs.Prelude.{ℕ, ◌^◌, Bool, true, false, not, ◌&&◌, nat_le, Option, Some, None, option_and_then, option_map, is_none, is_some, unwrap_or, List, [], length, map, ok_or, Result, Ok, if◌then◌else◌}
+use Rattle.std.specs.Prelude.{ℕ, ◌^◌, Bool, true, false, not, ◌&&◌, nat_le, Option, Some, None, option_and_then, option_map, is_none}
+use Rattle.std.specs.Prelude.{is_some, unwrap_or, List, [], length, map, ok_or, Result, Ok, if◌then◌else◌}
 use Rattle.std.specs.List.{find}
 use Rattle.std.specs.Option.{option_map_or}
 use Rattle.std.specs.Result.{result_map_both}
@@ -12,7 +13,10 @@ use Rattle.bh_types.specs.declared.bucket_state.BucketState.{BucketState}
 use Rattle.bh_types.specs.declared.bucket_state.BucketState.TheVariants.{Unversioned, Enabled, Suspended}
 use Rattle.bh_types.specs.declared.range.RangePlan.{RangePlan}
 use Rattle.bh_types.specs.declared.refusal.Refusal.{Refusal}
-use Rattle.bh_types.specs.declared.refusal.Refusal.TheVariants.{AccessDenied, NoSuchBucket, MethodNotAllowed, BucketAlreadyOwnedByYou, BucketNotEmpty, InvalidBucketState, BadDigest, QuotaExceeded, NoSuchLifecycleConfiguration, InvalidRequest, TenantExists, NoSuchTenant, KeyExists, NoSuchKeyName, InvalidName, InvalidQuota}
+use Rattle.bh_types.specs.declared.refusal.Refusal.TheVariants.{AccessDenied, NoSuchBucket, MethodNotAllowed, BucketAlreadyOwnedByYou}
+use Rattle.bh_types.specs.declared.refusal.Refusal.TheVariants.{BucketNotEmpty, InvalidBucketState, BadDigest, QuotaExceeded}
+use Rattle.bh_types.specs.declared.refusal.Refusal.TheVariants.{NoSuchLifecycleConfiguration, InvalidRequest, TenantExists, NoSuchTenant}
+use Rattle.bh_types.specs.declared.refusal.Refusal.TheVariants.{KeyExists, NoSuchKeyName, InvalidName, InvalidQuota}
 use Rattle.bh_types.specs.declared.rejection.Detail.{Detail}
 use Rattle.bh_types.specs.declared.rejection.Detail.TheVariants.{Nothing, CurrentMarker, NamedMarker, ObjectSize}
 use Rattle.bh_types.specs.declared.rejection.Rejection.{Rejection}
@@ -29,7 +33,8 @@ use Rattle.bh_model.specs.Entries.{Version, LookupFault, has_id, is_version, add
 use Rattle.bh_model.specs.Pages.{ObjectsListed, VersionsListed, UploadsListed, PartsListed}
 use Rattle.bh_model.specs.Parts.{is_checksum}
 use Rattle.bh_model.specs.Quotas.{keeps_quota}
-use Rattle.bh_model.specs.Retention.{keeps_versions, can_retain, date_of, named_date, may_go, with_date, without_date, may_retain, first_date}
+use Rattle.bh_model.specs.Retention.{keeps_versions, can_retain, date_of, named_date, may_go, with_date, without_date, may_retain}
+use Rattle.bh_model.specs.Retention.{first_date}
 use Rattle.bh_model.specs.Usage.{Usage, usage_of}
 
 -- what is told where nothing is refused. An id is told where the bucket is or was versioned. `Removed` says whether a
@@ -235,7 +240,11 @@ put_object moment name key bytes given date s = do
   until ← first_date b.locked date moment
   _ ← require_quota name (with_object moment key t.next_version bytes b) t
   c ← after_entry b.mode (counts t)
-  Ok (stored bytes t.next_version b, Some (with_bucket name (with_new_date key t.next_version until (with_object moment key t.next_version bytes b)) (with_counts c t)))
+  Ok (
+    stored bytes t.next_version b,
+    Some (with_bucket name (with_new_date key t.next_version until
+        (with_object moment key t.next_version bytes b)) (with_counts c t)),
+  )
 
 -- which marker was met, by how its version was asked for
 abbrev pub marker_met : Refusal → Detail
@@ -265,7 +274,8 @@ source_refusal refusal = refusal
 -- the version that a copy is made of
 abbrev pub source_version : Octets → Octets → Wanted → Option State → Result Version Refusal
 source_version name key wanted s =
-    result_map_both (λ (f : Bucket × Version). f.1) (λ (rejection : Rejection). source_refusal rejection.refusal) (wanted_version name key wanted s)
+    result_map_both (λ (f : Bucket × Version). f.1) (λ (rejection : Rejection). source_refusal rejection.refusal)
+    (wanted_version name key wanted s)
 
 -- the bucket with a copy of a version, which has the version's bytes and the text of its checksum
 abbrev pub with_copy : ℕ → Octets → ℕ → Version → Bucket → Bucket
@@ -284,7 +294,11 @@ copy_object moment name key source_name source_key wanted date s = do
   until ← first_date b.locked date moment
   _ ← require_quota name (with_copy moment key t.next_version v b) t
   c ← after_entry b.mode (counts t)
-  Ok (copied moment v t.next_version b, Some (with_bucket name (with_new_date key t.next_version until (with_copy moment key t.next_version v b)) (with_counts c t)))
+  Ok (
+    copied moment v t.next_version b,
+    Some (with_bucket name (with_new_date key t.next_version until
+        (with_copy moment key t.next_version v b)) (with_counts c t)),
+  )
 
 -- a range in which no byte is tells the object's size
 abbrev pub out_of_range : ℕ → Refusal → Rejection
@@ -337,7 +351,11 @@ delete_object moment name key wanted s = do
   (t, b) ← tenant_bucket name s
   _ ← require (may_go (named_date key wanted b) moment) AccessDenied
   c ← after_delete b.mode wanted (counts t)
-  Ok (removed b.mode wanted t.next_version (listed key b), Some (with_bucket name (with_deleted moment key wanted t.next_version b) (with_counts c t)))
+  Ok (
+    removed b.mode wanted t.next_version (listed key b),
+    Some
+        (with_bucket name (with_deleted moment key wanted t.next_version b) (with_counts c t)),
+  )
 
 -- ---- retention
 

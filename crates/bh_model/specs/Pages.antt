@@ -1,5 +1,6 @@
 -- Pages of a listing: keys under a prefix, where the keys that share a part up to a delimiter stand as one name.
-use Rattle.std.specs.Prelude.{ℕ, Bool, true, false, ◌==◌, ◌&&◌, ◌||◌, nat_lt, List, [], ◌∷◌, ◌++◌, length, map, flat_map, take, drop, Option, Some, None, option_map, if◌then◌else◌}
+use Rattle.std.specs.Prelude.{ℕ, Bool, true, false, ◌==◌, ◌&&◌, ◌||◌, nat_lt, List, [], ◌∷◌, ◌++◌, length, map, flat_map, take, drop}
+use Rattle.std.specs.Prelude.{Option, Some, None, option_map, if◌then◌else◌}
 use Rattle.std.specs.List.{filter, filter_map}
 use Rattle.std.specs.Ordering.{is_eq, is_gt, is_lt, is_le, nat_cmp, ordering_then}
 use Rattle.std.specs.declared.cmp.Ordering.{Ordering}
@@ -31,7 +32,8 @@ begins (b ∷ bs) (c ∷ cs) = b == c && begins bs cs
 -- a text up to and including the first occurrence of a delimiter, if it occurs
 abbrev pub up_to_delimiter : Octets → Octets → Option Octets
 up_to_delimiter delimiter [] = None
-up_to_delimiter delimiter (b ∷ bs) = if begins delimiter (b ∷ bs) then Some delimiter else option_map (λ n. b ∷ n) (up_to_delimiter delimiter bs)
+up_to_delimiter delimiter (b ∷ bs) =
+    if begins delimiter (b ∷ bs) then Some delimiter else option_map (λ n. b ∷ n) (up_to_delimiter delimiter bs)
 
 -- the name that a key is rolled up under: the part up to and including the first delimiter after the prefix.
 -- An empty delimiter rolls up nothing
@@ -127,7 +129,8 @@ objects_in keys = filter_map (λ k. current_object k.0 k.1) keys
 -- after the name that a token gives
 abbrev pub objects_page : PageAsked → Option Octets → List (Octets × List Entry) → Paged (Listed ObjectItem)
 objects_page asked token keys =
-    paged asked.max (entries_after asked.prefix asked.delimiter (λ o. o.key) (after_name (λ (o : ObjectItem). o.key) token) (objects_in keys))
+    paged asked.max (entries_after asked.prefix asked.delimiter (λ o. o.key) (after_name (λ (o : ObjectItem). o.key) token)
+    (objects_in keys))
 
 -- ---- what a page of objects tells
 
@@ -224,7 +227,8 @@ key_of marker = option_map (λ (p : VersionPlace). p.key) marker
 
 abbrev pub versions_page : PageAsked → Option VersionPlace → List (Octets × List Entry) → Paged (Listed VersionItem)
 versions_page asked marker keys =
-    paged asked.max (entries_after asked.prefix asked.delimiter (λ v. v.key) (passes_version (key_of marker)) (versions_after marker (all_versions keys)))
+    paged asked.max (entries_after asked.prefix asked.delimiter (λ v. v.key) (passes_version (key_of marker))
+    (versions_after marker (all_versions keys)))
 
 -- where the page after a truncated one begins: after a version, or after all that is under a rolled-up name
 pub record VersionNext : Type 0 where

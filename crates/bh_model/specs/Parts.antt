@@ -1,5 +1,6 @@
 -- The joining of an upload's parts.
-use Rattle.std.specs.Prelude.{ℕ, ◌-◌, Bool, true, ◌&&◌, List, [], ◌∷◌, map, length, take, nat_lt, nat_le, Option, Some, None, option_and_then, ok_or, Result, Ok, bytes_eq, if◌then◌else◌}
+use Rattle.std.specs.Prelude.{ℕ, ◌-◌, Bool, true, ◌&&◌, List, [], ◌∷◌, map, length, take, nat_lt, nat_le, Option, Some, None}
+use Rattle.std.specs.Prelude.{option_and_then, ok_or, Result, Ok, bytes_eq, if◌then◌else◌}
 use Rattle.std.specs.List.{list_all, flat_map}
 use Rattle.std.specs.Ordering.{nat_cmp}
 use Rattle.std.specs.FinMap.{FinMap, get}

@@ -12,7 +12,8 @@ use Rattle.bh_model.specs.Retention.{date_of}
 -- a version that has a date can't be deleted before it
 abbrev pub DatedVersionStays : Type 0
 DatedVersionStays = (moment : ℕ) (name key : Octets) (id : VersionId) (t : State) (b : Bucket) (date : ℕ)
-    → get t.buckets name ≡ Some b → date_of key id b ≡ Some date → moment < date → delete_object moment name key (Named id) (Some t) ≡ Err AccessDenied
+    → get t.buckets name ≡ Some b → date_of key id b ≡ Some date → moment < date → delete_object moment name key (Named id) (Some t)
+    ≡ Err AccessDenied
 
 -- a date that was put is told from then on. It is after the moment, and not before the one that was told
 abbrev pub PutDateIsTold : Type 0

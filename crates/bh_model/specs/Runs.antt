@@ -1,6 +1,7 @@
 -- The run of one tenant's private machine, over its own acts alone. An act is what an event turns out to be; `step` makes
 -- an answer and a state of a moment, an act and a state.
-use Rattle.std.specs.Prelude.{◌≡◌, ℕ, Bool, false, List, [], ◌∷◌, map, max, nat_le, filter, Option, Some, None, option_map, Result, Ok, Err, bytes_eq, if◌then◌else◌}
+use Rattle.std.specs.Prelude.{◌≡◌, ℕ, Bool, false, List, [], ◌∷◌, map, max, nat_le, filter, Option, Some, None, option_map, Result, Ok, Err}
+use Rattle.std.specs.Prelude.{bytes_eq, if◌then◌else◌}
 use Rattle.bh_types.specs.declared.refusal.Refusal.{Refusal}
 use Rattle.bh_types.specs.declared.refusal.Refusal.TheVariants.{ClockOutOfRange}
 use Rattle.bh_model.specs.State.{Octets, State, purged}

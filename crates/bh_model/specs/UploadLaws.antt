@@ -36,12 +36,14 @@ PartIsRead = (moment later least number : ℕ) (name key bytes : Octets) (upload
 -- an upload that is no more has no part put to it, and is neither completed nor aborted
 pub record IsGone (name key : Octets) (upload : Option UploadId) (s : Option State) : Type 0 where
   pub not_found : find_upload name key upload s ≡ Err NoSuchUpload
-  pub no_part : (moment number : ℕ) (bytes : Octets) (given : Option Octets) → upload_part moment name key upload number bytes given s ≡ Err NoSuchUpload
+  pub no_part : (moment number : ℕ) (bytes : Octets) (given : Option Octets) → upload_part moment name key upload number bytes given s
+      ≡ Err NoSuchUpload
   pub no_completion : (moment least : ℕ) (names : List Naming) → complete_upload moment least name key upload names s ≡ Err NoSuchUpload
   pub no_abort : abort_upload name key upload s ≡ Err NoSuchUpload
 
 abbrev pub AbortedIsGone : Type 0
-AbortedIsGone = (name key : Octets) (upload : Option UploadId) (s : Option State) → IfOk (abort_upload name key upload s) (λ gone. IsGone name key upload gone.1)
+AbortedIsGone = (name key : Octets) (upload : Option UploadId) (s : Option State)
+    → IfOk (abort_upload name key upload s) (λ gone. IsGone name key upload gone.1)
 
 abbrev pub CompletedIsGone : Type 0
 CompletedIsGone = (moment least : ℕ) (name key : Octets) (upload : Option UploadId) (names : List Naming) (s : Option State)

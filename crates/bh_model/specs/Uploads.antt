@@ -1,6 +1,7 @@
 -- What each operation on a multipart upload makes of a tenant's state, and what it answers. The refusals stand in
 -- their order.
-use Rattle.std.specs.Prelude.{ℕ, ◌+◌, false, bytes_eq, Option, Some, None, option_and_then, option_map, List, [], ok_or, Result, Ok, Err, if◌then◌else◌}
+use Rattle.std.specs.Prelude.{ℕ, ◌+◌, false, bytes_eq, Option, Some, None, option_and_then, option_map, List, [], ok_or, Result, Ok, Err}
+use Rattle.std.specs.Prelude.{if◌then◌else◌}
 use Rattle.std.specs.FinMap.{empty, get, insert, remove}
 use Rattle.bh_types.specs.Counts.{Counts}
 use Rattle.bh_types.specs.Moments.{abort_moment}
@@ -13,7 +14,8 @@ use Rattle.bh_model.specs.State.{Octets, Content, Content.Marker, Content.Body, 
 use Rattle.bh_model.specs.Counting.{counts, with_counts, can_give, after_entry}
 use Rattle.bh_model.specs.Entries.{new_id}
 use Rattle.bh_model.specs.Parts.{Naming, is_checksum, completed}
-use Rattle.bh_model.specs.Operations.{Answer, Outcome, Removed, Begun, PartStored, Completed, id_told, tenant_bucket, with_bucket, with_content, require_quota}
+use Rattle.bh_model.specs.Operations.{Answer, Outcome, Removed, Begun, PartStored, Completed, id_told, tenant_bucket, with_bucket}
+use Rattle.bh_model.specs.Operations.{with_content, require_quota}
 
 -- ---- counters
 
@@ -49,7 +51,8 @@ of_key key u = if bytes_eq u.key key then Some u else None
 abbrev pub found_upload : Octets → Option UploadId → State → Bucket → Option FoundUpload
 found_upload key None t b = None
 found_upload key (Some id) t b =
-    option_map (λ u. record { tenant = t; bucket = b; number = id.number; upload = u }) (option_and_then (of_key key) (get b.uploads id.number))
+    option_map (λ u. record { tenant = t; bucket = b; number = id.number; upload = u })
+    (option_and_then (of_key key) (get b.uploads id.number))
 
 -- where the text that a request gives is no id, no upload has it
 abbrev pub find_upload : Octets → Octets → Option UploadId → Option State → Result FoundUpload Refusal
@@ -67,7 +70,11 @@ abbrev pub create_upload : ℕ → Octets → Octets → Option State → Result
 create_upload moment name key s = do
   (t, b) ← tenant_bucket name s
   c ← after_begin (counts t)
-  Ok (Begun name key (record { number = t.next_upload }) (option_map (abort_moment moment) b.days), Some (with_bucket name (with_upload t.next_upload (new_upload key moment) b) (with_counts c t)))
+  Ok (
+    Begun name key (record { number = t.next_upload }) (option_map (abort_moment moment) b.days),
+    Some
+        (with_bucket name (with_upload t.next_upload (new_upload key moment) b) (with_counts c t)),
+  )
 
 -- the bucket of an upload with one more part in it, in place of one of the same number
 abbrev pub with_stored : FoundUpload → ℕ → Part → Bucket
@@ -81,14 +88,19 @@ upload_part moment name key upload number bytes given s = do
   _ ← require (is_checksum given bytes) BadDigest
   _ ← require_quota name (with_stored f number (record { bytes = bytes; moment = moment })) f.tenant
   c ← after_part (counts f.tenant)
-  Ok (PartStored (checksum_text bytes), Some (with_bucket name (with_stored f number (record { bytes = bytes; moment = moment })) (with_counts c f.tenant)))
+  Ok (
+    PartStored (checksum_text bytes),
+    Some (with_bucket name (with_stored f number (record { bytes = bytes; moment = moment }))
+        (with_counts c f.tenant)),
+  )
 
 abbrev pub content_checksum : Content → Octets
 content_checksum Marker = []
 content_checksum (Body bytes checksum) = checksum
 
 abbrev pub completion : Octets → Octets → FoundUpload → Content → Answer
-completion name key f content = Completed name key (id_told f.bucket.mode (new_id f.bucket.mode f.tenant.next_version)) (content_checksum content)
+completion name key f content =
+    Completed name key (id_told f.bucket.mode (new_id f.bucket.mode f.tenant.next_version)) (content_checksum content)
 
 -- the bucket with the object as a new version, as a put in the bucket's state then makes it, and without the upload
 abbrev pub with_completed : ℕ → Octets → FoundUpload → Content → Bucket

@@ -1,5 +1,6 @@
 //! Laws of the definitions, each the contract of a function that does nothing.
-ghost use Rattle.bh_model.specs.Laws.{PurgedLater, PurgedTwice, PutIsFound, EnabledDeleteKeeps, SuspendedDeleteClears, PutIsRead, CopyIsRead, AddedKeyOpens, RemovedKeyIsUnknown, FollowersStepAlike, RunsJoin};
+ghost use Rattle.bh_model.specs.Laws.{PurgedLater, PurgedTwice, PutIsFound, EnabledDeleteKeeps, SuspendedDeleteClears, PutIsRead};
+ghost use Rattle.bh_model.specs.Laws.{CopyIsRead, AddedKeyOpens, RemovedKeyIsUnknown, FollowersStepAlike, RunsJoin};
 
 /// To purge a tenant's state, and then at a later moment, is to purge it at the later one.
 pub fn purged_later()

@@ -22,7 +22,8 @@ use Rattle.bh_tenant_rows.specs.Brought.{with_tenants, with_keys, with_buckets, 
 use Rattle.bh_tenant_rows.specs.Shown.{shown_name}
 use Rattle.bh_uploads.specs.Writes.{part_placed}
 use Rattle.bh_moved.specs.Parts.{part_of, part_row_after}
-use Rattle.bh_moved.specs.Rows.{all_added, tenant_row, key_of, bucket_of, lock_of, upload_of, retain_of, version_of, version_tenants}
+use Rattle.bh_moved.specs.Rows.{all_added, tenant_row, key_of, bucket_of, lock_of, upload_of, retain_of, version_of}
+use Rattle.bh_moved.proofs.Owned.{version_tenants}
 use Rattle.bh_moved.proofs.OwnRows.{keys_come, buckets_come, locks_come, uploads_come, retains_come, versions_come, parts_come}
 use Rattle.bh_moved.proofs.Steps.{update_last}
 

@@ -1,13 +1,10 @@
 -- Rows as they are read: the tenant is known, and the bytes are those that the body has in the tables.
-use Rattle.std.specs.Prelude.{◌≡◌, ℕ, true, false, if◌then◌else◌, List, [], ◌∷◌, refl}
+use Rattle.std.specs.Prelude.{ℕ, List, [], ◌∷◌}
 use Rattle.std.specs.String.{string_bytes}
 use Rattle.bh_tables.specs.Schema.{Octets}
-use Rattle.bh_tables.specs.Bodies.{version_name, whole}
+use Rattle.bh_tables.specs.Bodies.{whole}
 use Rattle.bh_tables.specs.Typed.{TenantRow, KeyRow, BucketRow, VersionRow, UploadRow, LockRow, RetainRow, Tables}
 use Rattle.bh_schema.specs.declared.rows.tenants.TenantNumbers.{TenantNumbers}
-use Rattle.bh_view.specs.Bodies.{pieces, body_stored}
-use Rattle.bh_view.specs.Grouped.{same_number}
-use Rattle.bh_tenant_rows.specs.Brought.{version_after, with_version}
 use Rattle.bh_moved.specs.declared.versions.ReadVersion.{ReadVersion}
 
 -- the tables once rows have come to them, one after another
@@ -69,11 +66,3 @@ version_seen v = record {
   size = v.size;
   checksum = string_bytes v.checksum;
 }
-
--- a version that comes changes no tenant
-pub version_tenants : (digest : Octets → Octets) (size : ℕ) (v : VersionRow) (tables : Tables)
-    → (with_version digest size v tables).tenants ≡ tables.tenants
-version_tenants digest size v tables =
-    let body = body_stored digest (version_name v) 0 (pieces size v.bytes) tables in
-    elim (same_number v.marker 0) as (λ b. (if b then version_after v body else version_after v tables).tenants ≡ tables.tenants)
-    [ true ↦ refl | false ↦ refl ]

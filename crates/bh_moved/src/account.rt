@@ -9,8 +9,9 @@ ghost use Rattle.bh_schema.specs.Calls.{Writes};
 ghost use Rattle.bh_moved.specs.Rows.{tenant_row};
 
 use crate::cells::in_range;
-use bh_schema::rows::tenants::{TenantNumbers, insert_tenant, set_numbers};
-use bh_uploads::rows::uploads::set_next_upload;
+use bh_schema::rows::tenants::{
+    TenantNumber, TenantNumbers, insert_tenant, set_number, set_numbers,
+};
 use sqlite::{Alter, Connection, Error};
 
 /// Adds a tenant with these numbers, where there is none of its name.
@@ -30,6 +31,6 @@ pub fn bring_account<T: Alter>(
     let upload = in_range(numbers.next_upload)?;
     insert_tenant(to, tenant, quota)?;
     set_numbers(to, tenant, version, entry)?;
-    set_next_upload(to, tenant, upload)?;
+    set_number(to, tenant, TenantNumber::NextUpload, upload)?;
     Ok(())
 }

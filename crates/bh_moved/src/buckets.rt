@@ -1,18 +1,15 @@
-//! The buckets of a tenant, and their locks.
+//! The buckets of a tenant.
 
-ghost use Rattle.std.specs.Prelude.{◌∷◌, [], OnOk, ◌<◌, ◌^◌, None, Some, IfSome};
-ghost use Rattle.bh_tables.specs.Typed.{BucketRow, LockRow};
+ghost use Rattle.std.specs.Prelude.{◌≡◌, ◌∷◌, [], OnOk, ◌<◌, ◌^◌, None, Some, IfSome};
+ghost use Rattle.bh_tables.specs.Typed.{BucketRow};
 ghost use Rattle.bh_schema.specs.Connections.{InTransaction, Becomes};
-ghost use Rattle.bh_tenant_rows.specs.Shown.{shown_bucket, shown_lock};
-ghost use Rattle.bh_tenant_rows.specs.Brought.{with_buckets, with_locks};
+ghost use Rattle.bh_tenant_rows.specs.Shown.{shown_bucket};
+ghost use Rattle.bh_tenant_rows.specs.Brought.{with_buckets};
 ghost use Rattle.bh_schema.specs.Calls.{Writes};
-ghost use Rattle.bh_moved.specs.Rows.{bucket_of, lock_of};
+ghost use Rattle.bh_moved.specs.Rows.{bucket_of};
 
 use crate::cells::{maybe_number_at, number_at};
-use crate::plain::Plain;
-use bh_schema::rows::locks::insert_lock;
 use bh_schema::rows::number::number;
-use bh_tenant_rows::reads::{Owned, owned_rows};
 use sqlite::types::ToSql;
 use sqlite::{Alter, Connection, Error, Row};
 
@@ -44,7 +41,7 @@ fn insert_plain<T: Alter>(
     )
 }
 
-/// The same with a rule: after so many days an upload is stale.
+/// Adds a bucket with a rule: after so many days an upload is stale.
 fn insert_ruled<T: Alter>(
     to: &mut Connection<T>,
     tenant: &str,
@@ -75,7 +72,7 @@ fn insert_ruled<T: Alter>(
     )
 }
 
-/// The same with the rule that it has, if it has one.
+/// Adds a bucket with the rule that it has, if it has one.
 fn insert_bucket<T: Alter>(
     to: &mut Connection<T>,
     tenant: &str,
@@ -98,53 +95,17 @@ fn insert_bucket<T: Alter>(
     }
 }
 
-/// Buckets, each in its state, with its rule.
-#[derive(Clone, Copy)]
-pub struct Buckets;
-
-impl Plain for Buckets {
-    ghost Typed = { BucketRow };
-
-    ghost shown = { shown_bucket };
-
-    ghost among = { λ rows. rows.buckets };
-
-    ghost added = { λ t r. with_buckets (bucket_of t r ∷ []) };
-
-    fn read<S: Alter>(&self, from: &mut Connection<S>, tenant: &str) -> Result<Vec<Row>, Error> {
-        owned_rows(from, Owned::Buckets, tenant)
-    }
-
-    fn add<T: Alter>(&self, to: &mut Connection<T>, tenant: &str, row: &Row) -> Result<(), Error> {
-        let bucket: String = row.get(0)?;
-        let created = number_at(row, 1)?;
-        let state = number_at(row, 2)?;
-        let days = maybe_number_at(row, 3)?;
-        insert_bucket(to, tenant, &bucket, created, state, days)?;
-        Ok(())
-    }
-}
-
-/// Which buckets are locked.
-#[derive(Clone, Copy)]
-pub struct Locks;
-
-impl Plain for Locks {
-    ghost Typed = { LockRow };
-
-    ghost shown = { shown_lock };
-
-    ghost among = { λ rows. rows.locks };
-
-    ghost added = { λ t r. with_locks (lock_of t r ∷ []) };
-
-    fn read<S: Alter>(&self, from: &mut Connection<S>, tenant: &str) -> Result<Vec<Row>, Error> {
-        owned_rows(from, Owned::Locks, tenant)
-    }
-
-    fn add<T: Alter>(&self, to: &mut Connection<T>, tenant: &str, row: &Row) -> Result<(), Error> {
-        let bucket: String = row.get(0)?;
-        insert_lock(to, tenant, &bucket)?;
-        Ok(())
-    }
+/// Adds a bucket in its state, with its rule.
+pub fn add_bucket<T: Alter>(to: &mut Connection<T>, tenant: &str, row: &Row) -> Result<(), Error>
+    requires inside { InTransaction T.Store to.old }
+    ensures writes { Writes T.Store to.old to.new result }
+    ensures added { OnOk result ((b : BucketRow) → row.now ≡ shown_bucket b
+        → Becomes T.Store to.old to.new (with_buckets (bucket_of tenant.now b ∷ []))) }
+{
+    let bucket: String = row.get(0)?;
+    let created = number_at(row, 1)?;
+    let state = number_at(row, 2)?;
+    let days = maybe_number_at(row, 3)?;
+    insert_bucket(to, tenant, &bucket, created, state, days)?;
+    Ok(())
 }

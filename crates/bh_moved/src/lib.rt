@@ -2,21 +2,18 @@
 #![tactic(auto)]
 
 mod account;
-mod bodied;
 mod body;
 mod buckets;
 mod cells;
-mod keys;
 mod moves;
 mod moving;
 mod parts;
 mod plain;
-mod retains;
 mod rows;
 mod sole;
 mod stamps;
+mod tables;
 mod tenant;
-mod uploads;
 mod versions;
 
 pub use moves::move_tenant;

@@ -1,11 +1,11 @@
 //! A tenant moved in one transaction.
 
-ghost use Rattle.std.specs.Prelude.{◌≡◌, ◌≢◌, ◌≤◌, true, false, Ok, Some, None, is_some, IfOk, OnOk};
+ghost use Rattle.std.specs.Prelude.{◌≡◌, ◌≢◌, ◌≤◌, true, false, Ok, Some, None, is_some, IfOk};
 ghost use Rattle.sqlite.specs.Held.{state};
 ghost use Rattle.bh_types.specs.declared.refusal.Refusal.TheVariants.{NoSuchTenant, TenantExists};
 ghost use Rattle.bh_tables.specs.Typed.{IsHost};
 ghost use Rattle.bh_view.specs.View.{view};
-ghost use Rattle.bh_schema.specs.Connections.{IsClean, stands, tables, InTransaction};
+ghost use Rattle.bh_schema.specs.Connections.{IsClean, stands, tables};
 ghost use Rattle.bh_schema.specs.Layer.{taken_back, KeepsDisk};
 ghost use Rattle.bh_tenant_rows.specs.Brought.{IsMoved};
 ghost use Rattle.bh_moved.specs.Moves.{IsReady, IsCommitted, Tells, move_refused};
@@ -17,32 +17,7 @@ use bh_types::refusal::Refusal;
 use sqlite::{Alter, Connection, Error};
 use std::alloc::Global;
 
-/// Begins a transaction on each connection, and brings the tenant.
-fn begin_and_bring<S: Alter, T: Alter, D: Digester>(
-    from: &mut Connection<S>,
-    to: &mut Connection<T>,
-    alloc: Global,
-    digester: &D,
-    block_size: u64,
-    tenant: &str,
-) -> Result<Option<Refusal>, Error>
-    requires reading { IsReady S.Store from.old }
-    requires ready { IsReady T.Store to.old }
-    requires positive { 1 ≤ block_size }
-    ensures from_follows { KeepsDisk (state S.Store from.old) (state S.Store from.new) }
-    ensures from_kept { IsClean S.Store from.new → (stands S.Store from.new).kept ≡ (stands S.Store from.old).kept }
-    ensures follows { KeepsDisk (state T.Store to.old) (state T.Store to.new) }
-    ensures kept { IsClean T.Store to.new → (stands T.Store to.new).kept ≡ (stands T.Store to.old).kept }
-    ensures inside { OnOk result (InTransaction T.Store to.new) }
-    ensures tells { Tells S.Store T.Store D.digest_of tenant.now from.old from.new to.old to.new result }
-{
-    begin(from)?;
-    begin(to)?;
-    let refused = bring_tenant(from, to, alloc, digester, block_size, tenant)?;
-    Ok(refused)
-}
-
-/// The same, and commits it.
+/// Brings a tenant to the second host, and commits it.
 fn bring_and_commit<S: Alter, T: Alter, D: Digester>(
     from: &mut Connection<S>,
     to: &mut Connection<T>,
@@ -62,7 +37,9 @@ fn bring_and_commit<S: Alter, T: Alter, D: Digester>(
     ensures host { result ≡ Ok None → IsClean T.Store to.new → IsHost (stands T.Store to.new).now }
     ensures tells { Tells S.Store T.Store D.digest_of tenant.now from.old from.new to.old to.new result }
 {
-    let refused = begin_and_bring(from, to, alloc, digester, block_size, tenant)?;
+    begin(from)?;
+    begin(to)?;
+    let refused = bring_tenant(from, to, alloc, digester, block_size, tenant)?;
     if refused.is_none() {
         commit(to)?;
     }

@@ -1,20 +1,16 @@
-//! The parts of a tenant's uploads, and their bodies.
+//! The parts of a tenant's uploads.
 
-ghost use Rattle.std.specs.Prelude.{◌≡◌, ◌<◌, ◌^◌, IfOk, OnOk, refl};
+ghost use Rattle.std.specs.Prelude.{◌≡◌, ◌<◌, ◌^◌, IfOk, OnOk};
 ghost use Rattle.bh_tables.specs.Typed.{PartRow};
 ghost use Rattle.bh_schema.specs.Connections.{tables, InTransaction, Becomes};
 ghost use Rattle.bh_tenant_rows.specs.Shown.{shown_part};
-ghost use Rattle.bh_tenant_rows.specs.Brought.{part_after, with_part, IsNext};
+ghost use Rattle.bh_tenant_rows.specs.Brought.{part_after, IsNext};
 ghost use Rattle.bh_schema.specs.Calls.{Writes};
-ghost use Rattle.bh_moved.specs.Parts.{own_part, part_of, part_row_after, seen_part, part_seen};
+ghost use Rattle.bh_moved.specs.Parts.{own_part, part_row_after, seen_part, part_seen};
 ghost use Rattle.bh_uploads.specs.Rows.{stored_part};
 
-use crate::bodied::Bodied;
-use crate::body::bring_body;
 use crate::cells::number_at;
 use crate::moving::Moving;
-use bh_schema::host::Digester;
-use bh_tenant_rows::reads::{Owned, owned_rows};
 use bh_uploads::rows::kept::place_part;
 use bh_uploads::rows::parts::{PartRecord, find_body};
 use sqlite::{Alter, Connection, Error, ErrorCode, Row};
@@ -35,10 +31,7 @@ pub struct ReadPart {
 
 fn read_part(row: &Row) -> Result<ReadPart, Error>
     ensures read { IfOk result (λ it. (p : PartRow) → row.now ≡ shown_part p → part_seen it ≡ seen_part p) }
-    ensures upload { IfOk result (λ it. it.upload < 2 ^ 63) }
-    ensures number { IfOk result (λ it. it.number < 2 ^ 63) }
-    ensures stamp { IfOk result (λ it. it.stamp < 2 ^ 63) }
-    ensures body { IfOk result (λ it. it.body < 2 ^ 63) }
+    ensures small { IfOk result (λ it. (it.upload < 2 ^ 63) × (it.number < 2 ^ 63) × (it.stamp < 2 ^ 63) × (it.body < 2 ^ 63)) }
 {
     Ok(ReadPart {
         upload: number_at(row, 0)?,
@@ -74,7 +67,7 @@ fn add_new_part<T: Alter>(
 }
 
 /// Adds the row of a part, whose body is there, under the next entry number that the tenant has already.
-fn add_part<T: Alter, D>(
+pub fn add_part<T: Alter, D>(
     to: &mut Connection<T>,
     moving: &Moving<'_, D>,
     row: &Row,
@@ -99,37 +92,4 @@ fn add_part<T: Alter, D>(
         body: read.body,
     };
     add_new_part(to, &part, moving.numbers.next_entry)
-}
-
-/// The parts of uploads.
-#[derive(Clone, Copy)]
-pub struct Parts;
-
-impl Bodied for Parts {
-    ghost Typed = { PartRow };
-
-    ghost shown = { shown_part };
-
-    ghost among = { λ rows. rows.parts };
-
-    ghost added = { λ digest size t from p. with_part digest size (part_of t from p) };
-
-    fn read<S: Alter>(&self, from: &mut Connection<S>, tenant: &str) -> Result<Vec<Row>, Error> {
-        owned_rows(from, Owned::Parts, tenant)
-    }
-
-    fn add<S: Alter, T: Alter, D: Digester>(
-        &self,
-        from: &mut Connection<S>,
-        to: &mut Connection<T>,
-        moving: &Moving<'_, D>,
-        row: &Row,
-    ) -> Result<(), Error> {
-        let body = number_at(row, 5)?;
-        bring_body(from, to, moving, body)?;
-        add_part(to, moving, row)?;
-        Ok(())
-    }
-
-    ghost keeps = { λ digest size t from p old. refl };
 }

@@ -1,78 +1,76 @@
-//! Rows that have no bodies, brought from one host to another.
+//! Rows that have no bodies, each added as another host has it.
 
-ghost use Rattle.std.specs.Prelude.{◌≡◌, List, map, IfOk, OnOk};
-ghost use Rattle.sqlite.specs.Order.{Row as Shown};
-ghost use Rattle.bh_model.specs.State.{Octets};
-ghost use Rattle.bh_tables.specs.Typed.{Tables};
-ghost use Rattle.bh_view.specs.View.{TenantRows, rows_of};
-ghost use Rattle.bh_schema.specs.Connections.{IsClean, tables, InTransaction, Becomes};
-ghost use Rattle.bh_schema.specs.Calls.{Reads, Writes};
-ghost use Rattle.bh_moved.specs.Rows.{all_added};
+ghost use Rattle.std.specs.Prelude.{◌≡◌, ◌∷◌, [], OnOk};
+ghost use Rattle.bh_tables.specs.Typed.{KeyRow, LockRow, UploadRow, RetainRow};
+ghost use Rattle.bh_schema.specs.Connections.{InTransaction, Becomes};
+ghost use Rattle.bh_tenant_rows.specs.Shown.{shown_key, shown_lock, shown_upload, shown_retain};
+ghost use Rattle.bh_tenant_rows.specs.Brought.{with_keys, with_locks, with_uploads, with_retains};
+ghost use Rattle.bh_schema.specs.Calls.{Writes};
+ghost use Rattle.bh_moved.specs.Rows.{key_of, lock_of, upload_of, retain_of};
 
+use crate::cells::number_at;
+use bh_schema::rows::keys::insert_key;
+use bh_schema::rows::locks::insert_lock;
+use bh_schema::rows::retains::insert_retain;
+use bh_uploads::rows::uploads::{UploadRecord, insert_upload};
 use sqlite::{Alter, Connection, Error, Row};
 
-/// A kind of rows that a tenant has, which have no bodies.
-pub trait Plain {
-    /// A row, as the tables have it.
-    ghost Typed: { Type 0 };
-
-    /// What is shown of a row.
-    ghost shown: { Typed → Shown };
-
-    /// Those of this kind among a tenant's rows.
-    ghost among: { TenantRows → List Typed };
-
-    /// The tables once this row has come to a tenant.
-    ghost added: { Octets → Typed → Tables → Tables };
-
-    /// The rows of a tenant.
-    fn read<S: Alter>(&self, from: &mut Connection<S>, tenant: &str) -> Result<Vec<Row>, Error>
-        requires inside { InTransaction S.Store from.old }
-        ensures reads { Reads S.Store from.old from.new result }
-        ensures rows { IfOk result (λ rows. IsClean S.Store from.new
-            → rows.items ≡ map shown (among (rows_of tenant.now (tables S.Store from.old)))) };
-
-    /// Adds a row to those of a tenant.
-    fn add<T: Alter>(&self, to: &mut Connection<T>, tenant: &str, row: &Row) -> Result<(), Error>
-        requires inside { InTransaction T.Store to.old }
-        ensures writes { Writes T.Store to.old to.new result }
-        ensures added { OnOk result ((r : Typed) → row.now ≡ shown r
-            → Becomes T.Store to.old to.new (added tenant.now r)) };
-}
-
-/// Adds rows to those of a tenant.
-fn add_rows<K: Plain, T: Alter>(
-    kind: &K,
-    to: &mut Connection<T>,
-    tenant: &str,
-    rows: &[Row],
-) -> Result<(), Error>
+/// Adds an access key with its secret.
+pub fn add_key<T: Alter>(to: &mut Connection<T>, tenant: &str, row: &Row) -> Result<(), Error>
     requires inside { InTransaction T.Store to.old }
     ensures writes { Writes T.Store to.old to.new result }
-    ensures added { OnOk result ((rs : List K.Typed) → rows.now ≡ map K.shown rs
-        → Becomes T.Store to.old to.new (all_added (K.added tenant.now) rs)) }
+    ensures added { OnOk result ((k : KeyRow) → row.now ≡ shown_key k
+        → Becomes T.Store to.old to.new (with_keys (key_of tenant.now k ∷ []))) }
 {
-    for row in rows {
-        kind.add(to, tenant, row)?;
-    }
+    let name: String = row.get(0)?;
+    let secret: String = row.get(1)?;
+    insert_key(to, tenant, &name, &secret)?;
     Ok(())
 }
 
-/// Adds the rows of this kind that a tenant has in another host.
-pub fn bring_plain<K: Plain, S: Alter, T: Alter>(
-    kind: &K,
-    from: &mut Connection<S>,
-    to: &mut Connection<T>,
-    tenant: &str,
-) -> Result<(), Error>
-    requires reading { InTransaction S.Store from.old }
+/// Adds which bucket is locked.
+pub fn add_lock<T: Alter>(to: &mut Connection<T>, tenant: &str, row: &Row) -> Result<(), Error>
     requires inside { InTransaction T.Store to.old }
-    ensures reads { Reads S.Store from.old from.new result }
     ensures writes { Writes T.Store to.old to.new result }
-    ensures brought { OnOk result (IsClean S.Store from.new → Becomes T.Store to.old to.new
-        (all_added (K.added tenant.now) (K.among (rows_of tenant.now (tables S.Store from.old))))) }
+    ensures added { OnOk result ((l : LockRow) → row.now ≡ shown_lock l
+        → Becomes T.Store to.old to.new (with_locks (lock_of tenant.now l ∷ []))) }
 {
-    let rows = kind.read(from, tenant)?;
-    add_rows(kind, to, tenant, &rows)?;
+    let bucket: String = row.get(0)?;
+    insert_lock(to, tenant, &bucket)?;
+    Ok(())
+}
+
+/// Adds an upload, without its parts.
+pub fn add_upload<T: Alter>(to: &mut Connection<T>, tenant: &str, row: &Row) -> Result<(), Error>
+    requires inside { InTransaction T.Store to.old }
+    ensures writes { Writes T.Store to.old to.new result }
+    ensures added { OnOk result ((u : UploadRow) → row.now ≡ shown_upload u
+        → Becomes T.Store to.old to.new (with_uploads (upload_of tenant.now u ∷ []))) }
+{
+    let number = number_at(row, 0)?;
+    let bucket: String = row.get(1)?;
+    let okey: Vec<u8> = row.get(2)?;
+    let begun = number_at(row, 3)?;
+    let upload = UploadRecord {
+        tenant,
+        upload: number,
+        bucket: &bucket,
+        okey: &okey,
+        begun,
+    };
+    insert_upload(to, &upload)?;
+    Ok(())
+}
+
+/// Adds the date of a version.
+pub fn add_retain<T: Alter>(to: &mut Connection<T>, tenant: &str, row: &Row) -> Result<(), Error>
+    requires inside { InTransaction T.Store to.old }
+    ensures writes { Writes T.Store to.old to.new result }
+    ensures added { OnOk result ((r : RetainRow) → row.now ≡ shown_retain r
+        → Becomes T.Store to.old to.new (with_retains (retain_of tenant.now r ∷ []))) }
+{
+    let seq = number_at(row, 0)?;
+    let until = number_at(row, 1)?;
+    insert_retain(to, tenant, seq, until)?;
     Ok(())
 }

@@ -11,39 +11,31 @@ ghost use Rattle.bh_schema.specs.Calls.{Reads, Writes};
 ghost use Rattle.bh_moved.specs.Rows.{tenant_row};
 
 use crate::account::bring_account;
-use crate::bodied::bring_bodied;
-use crate::buckets::{Buckets, Locks};
-use crate::keys::Keys;
 use crate::moving::Moving;
-use crate::parts::Parts;
-use crate::plain::bring_plain;
-use crate::retains::Retains;
-use crate::uploads::Uploads;
-use crate::versions::Versions;
+use crate::tables::bring_table;
 use bh_schema::host::Digester;
-use bh_schema::rows::tenants::TenantNumbers;
+use bh_tenant_rows::reads::Owned;
 use sqlite::{Alter, Connection, Error};
 
-/// Adds a tenant with these numbers, and the keys, buckets and locks that it has in another host.
-fn bring_names<S: Alter, T: Alter>(
+/// Adds a tenant with its numbers, and the keys, buckets and locks that it has in another host.
+fn bring_names<S: Alter, T: Alter, D: Digester>(
     from: &mut Connection<S>,
     to: &mut Connection<T>,
-    tenant: &str,
-    numbers: TenantNumbers,
+    moving: &Moving<'_, D>,
 ) -> Result<(), Error>
     requires reading { InTransaction S.Store from.old }
     requires inside { InTransaction T.Store to.old }
     ensures reads { Reads S.Store from.old from.new result }
     ensures writes { Writes T.Store to.old to.new result }
-    ensures brought { OnOk result (IsClean S.Store from.new
-        → list_any (is_tenant tenant.now) (tables T.Store to.old).tenants ≡ false
+    ensures brought { let t = moving.now.tenant.now in OnOk result (IsClean S.Store from.new
+        → list_any (is_tenant t) (tables T.Store to.old).tenants ≡ false
         → Becomes T.Store to.old to.new
-        (with_names (tenant_row tenant.now numbers ∷ []) (rows_of tenant.now (tables S.Store from.old)))) }
+        (with_names (tenant_row t moving.now.numbers ∷ []) (rows_of t (tables S.Store from.old)))) }
 {
-    bring_account(to, tenant, numbers)?;
-    bring_plain(&Keys, from, to, tenant)?;
-    bring_plain(&Buckets, from, to, tenant)?;
-    bring_plain(&Locks, from, to, tenant)?;
+    bring_account(to, moving.tenant, moving.numbers)?;
+    bring_table(Owned::Keys, from, to, moving)?;
+    bring_table(Owned::Buckets, from, to, moving)?;
+    bring_table(Owned::Locks, from, to, moving)?;
     Ok(())
 }
 
@@ -62,10 +54,10 @@ fn bring_contents<S: Alter, T: Alter, D: Digester>(
         → IsNext moving.now.tenant.now moving.now.numbers.next_entry (tables T.Store to.old) → Becomes T.Store to.old to.new
         (with_contents D.digest_of moving.now.block_size (rows_of moving.now.tenant.now (tables S.Store from.old)))) }
 {
-    bring_bodied(&Versions, from, to, moving)?;
-    bring_plain(&Uploads, from, to, moving.tenant)?;
-    bring_bodied(&Parts, from, to, moving)?;
-    bring_plain(&Retains, from, to, moving.tenant)?;
+    bring_table(Owned::Versions, from, to, moving)?;
+    bring_table(Owned::Uploads, from, to, moving)?;
+    bring_table(Owned::Parts, from, to, moving)?;
+    bring_table(Owned::Retains, from, to, moving)?;
     Ok(())
 }
 
@@ -84,7 +76,7 @@ pub fn bring_rows<S: Alter, T: Alter, D: Digester>(
         → (rows_of t (tables S.Store from.old)).tenants ≡ tenant_row t moving.now.numbers ∷ []
         → Becomes T.Store to.old to.new (with_rows D.digest_of moving.now.block_size (rows_of t (tables S.Store from.old)))) }
 {
-    bring_names(from, to, moving.tenant, moving.numbers)?;
+    bring_names(from, to, moving)?;
     bring_contents(from, to, moving)?;
     Ok(())
 }

@@ -1,21 +1,16 @@
-//! The versions and delete markers of a tenant, and the bodies of versions.
+//! The versions and delete markers of a tenant.
 
 ghost use Rattle.std.specs.Prelude.{◌≡◌, ◌<◌, ◌^◌, IfOk, OnOk};
 ghost use Rattle.bh_tables.specs.Typed.{VersionRow};
-ghost use Rattle.bh_view.specs.Bodies.{HasBodies};
-ghost use Rattle.bh_schema.specs.Connections.{IsClean, tables, InTransaction, Becomes};
+ghost use Rattle.bh_schema.specs.Connections.{tables, InTransaction, Becomes};
 ghost use Rattle.bh_tenant_rows.specs.Shown.{shown_version};
-ghost use Rattle.bh_tenant_rows.specs.Brought.{version_after, with_version, IsNext};
-ghost use Rattle.bh_schema.specs.Calls.{Reads, Writes};
-ghost use Rattle.bh_moved.specs.Rows.{own_version, version_of, seen_version, version_seen, version_tenants};
+ghost use Rattle.bh_tenant_rows.specs.Brought.{version_after, IsNext};
+ghost use Rattle.bh_schema.specs.Calls.{Writes};
+ghost use Rattle.bh_moved.specs.Rows.{own_version, seen_version, version_seen};
 
-use crate::bodied::Bodied;
-use crate::body::bring_body;
 use crate::cells::number_at;
 use crate::moving::Moving;
-use bh_schema::host::Digester;
 use bh_schema::rows::versions::{NewMarker, NewVersion, add_version, insert_marker};
-use bh_tenant_rows::reads::{Owned, owned_rows};
 use sqlite::{Alter, Connection, Error, ErrorCode, Row};
 
 /// A version or delete marker of a row, without its bytes.
@@ -36,10 +31,7 @@ pub struct ReadVersion {
 
 fn read_version(row: &Row) -> Result<ReadVersion, Error>
     ensures read { IfOk result (λ it. (v : VersionRow) → row.now ≡ shown_version v → version_seen it ≡ seen_version v) }
-    ensures seq { IfOk result (λ it. it.seq < 2 ^ 63) }
-    ensures id { IfOk result (λ it. it.id < 2 ^ 63) }
-    ensures stamp { IfOk result (λ it. it.stamp < 2 ^ 63) }
-    ensures size { IfOk result (λ it. it.size < 2 ^ 63) }
+    ensures small { IfOk result (λ it. (it.seq < 2 ^ 63) × (it.id < 2 ^ 63) × (it.stamp < 2 ^ 63) × (it.size < 2 ^ 63)) }
 {
     Ok(ReadVersion {
         seq: number_at(row, 0)?,
@@ -104,58 +96,22 @@ fn add_marker<T: Alter>(to: &mut Connection<T>, tenant: &str, row: &Row) -> Resu
     Ok(())
 }
 
-/// Adds the version of a row with its body.
-fn bring_object<S: Alter, T: Alter, D: Digester>(
-    from: &mut Connection<S>,
+/// Adds the version or delete marker of a row, under the next entry number that the tenant has already. The body of a version is
+/// there.
+pub fn add_entry<T: Alter, D>(
     to: &mut Connection<T>,
     moving: &Moving<'_, D>,
     row: &Row,
 ) -> Result<(), Error>
-    requires reading { InTransaction S.Store from.old }
     requires inside { InTransaction T.Store to.old }
-    ensures reads { Reads S.Store from.old from.new result }
     ensures writes { Writes T.Store to.old to.new result }
-    ensures brought { OnOk result ((v : VersionRow) → row.now ≡ shown_version v → v.marker ≡ 0 → IsClean S.Store from.new
-        → HasBodies (tables S.Store from.old)
-        → IsNext moving.now.tenant.now moving.now.numbers.next_entry (tables T.Store to.old) → Becomes T.Store to.old to.new
-        (with_version D.digest_of moving.now.block_size (version_of moving.now.tenant.now (tables S.Store from.old) v))) }
+    ensures added { OnOk result ((v : VersionRow) → row.now ≡ shown_version v
+        → IsNext moving.now.tenant.now moving.now.numbers.next_entry (tables T.Store to.old)
+        → Becomes T.Store to.old to.new (version_after (own_version moving.now.tenant.now v))) }
 {
-    let seq = number_at(row, 0)?;
-    bring_body(from, to, moving, seq)?;
-    add_object(to, moving, row)?;
-    Ok(())
-}
-
-/// Versions and delete markers.
-#[derive(Clone, Copy)]
-pub struct Versions;
-
-impl Bodied for Versions {
-    ghost Typed = { VersionRow };
-
-    ghost shown = { shown_version };
-
-    ghost among = { λ rows. rows.versions };
-
-    ghost added = { λ digest size t from v. with_version digest size (version_of t from v) };
-
-    fn read<S: Alter>(&self, from: &mut Connection<S>, tenant: &str) -> Result<Vec<Row>, Error> {
-        owned_rows(from, Owned::Versions, tenant)
+    match number_at(row, 4)? {
+        0 => add_object(to, moving, row),
+        1 => add_marker(to, moving.tenant, row),
+        _ => Err(Error::SqliteFailure(ErrorCode::DatabaseCorrupt)),
     }
-
-    fn add<S: Alter, T: Alter, D: Digester>(
-        &self,
-        from: &mut Connection<S>,
-        to: &mut Connection<T>,
-        moving: &Moving<'_, D>,
-        row: &Row,
-    ) -> Result<(), Error> {
-        match number_at(row, 4)? {
-            0 => bring_object(from, to, moving, row),
-            1 => add_marker(to, moving.tenant, row),
-            _ => Err(Error::SqliteFailure(ErrorCode::DatabaseCorrupt)),
-        }
-    }
-
-    ghost keeps = { λ digest size t from v. version_tenants digest size (version_of t from v) };
 }

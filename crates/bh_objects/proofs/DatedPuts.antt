@@ -1,5 +1,5 @@
 -- PutObject and CopyObject with a date: the version without one was stored, and its date then, are the machine's step.
-use Rattle.std.proofs.Common.{◌≡◌, ℕ, ◌≤◌, length, true, false, is_ok, true≢false, Option, Some, None, Result, Ok, Err, refl, sym, ap, ◌∙◌, subst}
+use Rattle.std.proofs.Common.{◌≡◌, ℕ, ◌≤◌, length, true, is_ok, true≢false, Option, Some, None, Result, Ok, Err, refl, sym, ap, ◌∙◌, subst}
 use Rattle.bh_types.specs.Checksums.{checksum_text}
 use Rattle.bh_types.specs.Counts.{Counts}
 use Rattle.bh_types.specs.Outcomes.{◌>>=◌}
@@ -13,7 +13,6 @@ use Rattle.bh_model.specs.Parts.{is_checksum}
 use Rattle.bh_model.specs.Retention.{first_date}
 use Rattle.bh_model.specs.State.{Octets, State, Bucket}
 use Rattle.bh_tables.specs.Typed.{Tables}
-use Rattle.bh_view.specs.Becomes.{Becomes}
 use Rattle.bh_view.specs.Put.{row_number}
 use Rattle.bh_view.specs.Sound.{IsSound}
 use Rattle.bh_view.specs.View.{view, limits_in}
@@ -21,11 +20,11 @@ use Rattle.bh_view.proofs.PutLemmas.{counters_good}
 use Rattle.bh_storage.specs.Calls.{GivesStep, Decides, Carries}
 use Rattle.bh_storage.specs.declared.error.StepError.{StepError}
 use Rattle.bh_storage.specs.declared.error.StepError.TheVariants.{Refused, Failed}
-use Rattle.bh_objects.specs.Dates.{new_date_in, IsPlaced, with_first_date}
+use Rattle.bh_objects.specs.Dates.{new_date_in, IsPlaced, with_date}
 use Rattle.bh_objects.specs.Found.{mode_in, counts_in, entry_numbers_in}
 use Rattle.bh_objects.proofs.Copying.{copy_shape, copy_undated}
 use Rattle.bh_objects.proofs.Dating.{MayHave, new_date_of, dated_locked, dates_alone, same_shared, first_dated}
-use Rattle.bh_objects.proofs.Putting.{HasBucket, has_bucket, put_shape, put_then}
+use Rattle.bh_objects.proofs.Putting.{HasBucket, has_bucket, put_shape}
 
 -- ---- a step that asks for numbers, and then stores a version with a date
 
@@ -72,7 +71,7 @@ abbrev pub GivesDated : Octets → (Option State → Result Outcome Refusal) →
 GivesDated t step answer old middle new = GivesStep t step answer old new × IsSound new × (limits_in new ≡ limits_in middle)
 
 module _ (old middle new : Tables) (t b k : Octets) (mode : BucketState) (c : Counts) (sound : IsSound old) (found : mode_in b (view old t) ≡ Ok mode) (read : counts_in (view old t) ≡ Ok c) (until : Option ℕ)
-    (good : IsSound middle) (place : IsPlaced t b k (row_number mode c.version) c.entry middle) (e : new ≡ with_first_date t c.entry until middle) where
+    (good : IsSound middle) (place : IsPlaced t b k (row_number mode c.version) c.entry middle) (e : new ≡ with_date t c.entry None until middle) where
   abbrev h : HasBucket b (view old t) mode
   h = has_bucket b (view old t) mode found
 

@@ -1,5 +1,5 @@
 -- Dates of versions: what was read of a bucket's lock and of a version's date, and the first date of a version that was just made.
-use Rattle.std.proofs.Common.{◌≡◌, ℕ, zero, suc, ◌≤◌, Bool, true, false, true≢false, is_ok, List, [], ◌∷◌, ◌++◌, find, filter, Option, Some, None, option_map, Result, Ok, Err, refl, sym, ap, ◌∙◌, subst, arith}
+use Rattle.std.proofs.Common.{◌≡◌, ℕ, ◌≤◌, Bool, true, false, true≢false, is_ok, List, [], ◌∷◌, ◌++◌, find, Option, Some, None, option_map, Result, Ok, Err, refl, sym, ap, ◌∙◌, subst, arith}
 use Rattle.std.specs.FinMap.{get}
 use Rattle.std.specs.List.{AllByRecursion, list_any}
 use Rattle.sqlite_keyed.proofs.ListLemmas.{all_weaker, filter_none}
@@ -31,11 +31,11 @@ use Rattle.bh_view.proofs.FindLemmas.{first_find}
 use Rattle.bh_view.proofs.GroupedLemmas.{get_here, is_other}
 use Rattle.bh_view.proofs.LockChanges.{lock_shown, locked_enabled}
 use Rattle.bh_view.proofs.OwnLemmas.{rows_at, mine_pushed}
-use Rattle.bh_view.proofs.PutLemmas.{bucket_again, counters_good, numbered_id, older}
+use Rattle.bh_view.proofs.PutLemmas.{bucket_again, numbered_id, older}
 use Rattle.bh_storage.specs.Calls.{Decides}
 use Rattle.bh_storage.specs.declared.error.StepError.{StepError}
 use Rattle.bh_schema.specs.Rows.{until_in}
-use Rattle.bh_objects.specs.Dates.{date_at, new_date_at, new_date_in, IsPlaced, with_first_date}
+use Rattle.bh_objects.specs.Dates.{date_at, new_date_at, new_date_in, IsPlaced, with_date}
 use Rattle.bh_objects.specs.Found.{counts_in, entry_numbers_in, mode_in, with_entry}
 use Rattle.bh_objects.proofs.Putting.{HasBucket, has_bucket, has_numbers, numbers_read}
 use Rattle.bh_objects.proofs.Written.{HasRowsOf}
@@ -138,7 +138,7 @@ module _ (old new : Tables) (t b k : Octets) (mode : BucketState) (c after : Cou
 -- ---- its first date
 
 -- where the tables differ in dates alone
-pub dates_alone : (t : Octets) (seq : ℕ) (until : Option ℕ) (middle new : Tables) → new ≡ with_first_date t seq until middle → new ≡ record middle { retains = new.retains }
+pub dates_alone : (t : Octets) (seq : ℕ) (until : Option ℕ) (middle new : Tables) → new ≡ with_date t seq None until middle → new ≡ record middle { retains = new.retains }
 dates_alone t seq None middle new e = e ∙ ap (λ l. record middle { retains = l }) (sym (ap (λ (x : Tables). x.retains) e))
 dates_alone t seq (Some until) middle new e = e ∙ ap (λ l. record middle { retains = l }) (sym (ap (λ (x : Tables). x.retains) e))
 
@@ -171,7 +171,7 @@ module _ (middle new : Tables) (t b k : Octets) (s : State) (B : Bucket) (sound 
   abbrev with_it : VersionId → ℕ → State
   with_it id until = with_bucket b (record B { dates = dated k id until B.dates }) s
 
-  row_dated : (until : ℕ) → until ≤ 251_000_000_000 → B.locked ≡ true → new ≡ with_first_date t seq (Some until) middle → Becomes t (Some (with_it (new_id B.mode next) until)) middle new
+  row_dated : (until : ℕ) → until ≤ 251_000_000_000 → B.locked ≡ true → new ≡ with_date t seq None (Some until) middle → Becomes t (Some (with_it (new_id B.mode next) until)) middle new
   row_dated until near locked e =
       let s1 = with_bucket b B s in
       let v : VersionRow = place.row in
@@ -179,13 +179,13 @@ module _ (middle new : Tables) (t b k : Octets) (s : State) (B : Bucket) (sound 
       let enabled : mode ≡ Enabled = sym its ∙ locked_enabled middle t s1 sound is b B here locked in
       let numbered : 1 ≤ v.id = subst (λ n. 1 ≤ n) (sym place.id) (subst (λ m. 1 ≤ row_number m next) (sym enabled) low) in
       let change = date_added middle new t s1 sound is v place.there B (subst (λ q. get s1.buckets q ≡ Some B) (sym place.bucket) here) until near numbered place.body locked
-      (date_found middle t sound v place.there ∙ place.undated) (e ∙ ap (λ n. with_first_date t n (Some until) middle) (sym place.seq)) in
+      (date_found middle t sound v place.there ∙ place.undated) (e ∙ ap (λ n. with_date t n None (Some until) middle) (sym place.seq)) in
       subst (λ (x : State). Becomes t (Some x) middle new)
       ((λ i. with_bucket (place.bucket i) (record B { dates = dated (place.key i) (id_of (place.id i)) until B.dates }) s1)
       ∙ bucket_again b B _ s ∙ ap (λ id. with_it id until) (id_new mode next low ∙ ap (λ m. new_id m next) (sym its)))
       change
 
   -- the machine's state with the date that was decided
-  pub first_dated : (until : Option ℕ) → MayHave B until → new ≡ with_first_date t seq until middle → Becomes t (Some (with_bucket b (with_new_date k next until B) s)) middle new
+  pub first_dated : (until : Option ℕ) → MayHave B until → new ≡ with_date t seq None until middle → Becomes t (Some (with_bucket b (with_new_date k next until B) s)) middle new
   first_dated None may e = stays_so t _ middle new sound is e
   first_dated (Some until) may e = row_dated until (may until refl).0 (may until refl).1 e

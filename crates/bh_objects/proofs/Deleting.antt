@@ -18,7 +18,7 @@ use Rattle.bh_types.specs.declared.wanted.Wanted.TheVariants.{Current, Named, Un
 use Rattle.bh_model.specs.State.{Octets, Content.Marker, Entry, State, Bucket}
 use Rattle.bh_model.specs.Counting.{counts, with_counts, after_entry, after_delete}
 use Rattle.bh_model.specs.Entries.{is_body, is_version as is_object, has_id, new_id, deleted, without}
-use Rattle.bh_model.specs.Operations.{Answer, Outcome, Removed, id_told, listed, with_bucket, with_entries, with_deleted, removed, removed_named, delete_object}
+use Rattle.bh_model.specs.Operations.{Answer, Outcome, Removed, id_told, listed, with_bucket, with_entries, removed, removed_named, delete_object}
 use Rattle.bh_model.specs.Retention.{date_of, named_date, may_go, without_date}
 use Rattle.bh_tables.specs.Typed.{Tables, VersionRow}
 use Rattle.bh_tables.specs.Shown.{is_version}
@@ -39,7 +39,7 @@ use Rattle.bh_storage.specs.declared.error.StepError.{StepError}
 use Rattle.bh_storage.specs.declared.error.StepError.TheVariants.{Refused, Failed}
 use Rattle.bh_view.specs.Bodies.{HasBodies}
 use Rattle.bh_objects.specs.Found.{mode_in, numbers_in, IsKeyText, with_entry}
-use Rattle.bh_objects.specs.Dates.{date_at, past_date_in, without_date as without_date_row}
+use Rattle.bh_objects.specs.Dates.{date_at, past_date_in, with_date as with_date_row}
 use Rattle.bh_objects.specs.Writes.{without_entry, without_null_version, marker_written}
 use Rattle.bh_objects.proofs.Undating.{row_date, named_date_is, no_date, dated_gone, may_if, may_not}
 use Rattle.bh_objects.proofs.Dropping.{Leaves, entry_gone}
@@ -229,7 +229,7 @@ module _ (old new : Tables) (t b k : Octets) (at : ℕ) (host : IsHostOf old) wh
         deletes_kept kept = delete_kept b k at (Named id) (view old t) bucket.state bucket.bucket bucket.added bucket.there (ap (λ d. may_go d at) date_told ∙ kept)
 
         -- and then goes with its date
-        pub deletes_entry : (marker : Bool) → marker ≡ not (is_object (entry_of row)) → may_go date_read at ≡ true → new ≡ without_entry t b k n row.seq (without_date_row t row.seq date_read old)
+        pub deletes_entry : (marker : Bool) → marker ≡ not (is_object (entry_of row)) → may_go date_read at ≡ true → new ≡ without_entry t b k n row.seq (with_date_row t row.seq date_read None old)
             → Deletes t b k at (Named id) (Removed (id_told mode id) marker) old new
         deletes_entry marker right goes e =
             let it = dated_gone old host t bucket.state bucket.added b k bucket.bucket bucket.there n row there new e in (
@@ -242,11 +242,11 @@ module _ (old new : Tables) (t b k : Octets) (at : ℕ) (host : IsHostOf old) wh
             )
 
         -- what was read of it, and then the rows that went
-        pub deletes_read : (date : Option ℕ) → past_date_in t row.seq at old ≡ Ok date → (marker : Bool) → marker ≡ not (is_object (entry_of row)) → new ≡ without_entry t b k n row.seq (without_date_row t row.seq date old)
+        pub deletes_read : (date : Option ℕ) → past_date_in t row.seq at old ≡ Ok date → (marker : Bool) → marker ≡ not (is_object (entry_of row)) → new ≡ without_entry t b k n row.seq (with_date_row t row.seq date None old)
             → Deletes t b k at (Named id) (Removed (id_told mode id) marker) old new
         deletes_read date read marker right e =
             let may = may_if date_read date (may_go date_read at) read in
-            deletes_entry marker right may.0 (e ∙ ap (λ d. without_entry t b k n row.seq (without_date_row t row.seq d old)) (sym may.1))
+            deletes_entry marker right may.0 (e ∙ ap (λ d. without_entry t b k n row.seq (with_date_row t row.seq d None old)) (sym may.1))
 
         pub deletes_failed : {X Y : Type 0} (shows : X → Option ℕ) (tells : Y → Answer) (error : StepError Refusal) → Decides shows (past_date_in t row.seq at old) old new (Err error) → Carries tells t (delete_object at b k (Named id)) old new (Err error)
         deletes_failed shows tells (Refused x) d =

@@ -11,7 +11,7 @@ use Rattle.bh_model.specs.State.{Octets, Content.Body, State, Bucket}
 use Rattle.bh_types.specs.Checksums.{checksum_text}
 use Rattle.bh_model.specs.Counting.{counts, with_counts, after_entry}
 use Rattle.bh_model.specs.Entries.{new_id}
-use Rattle.bh_model.specs.Operations.{Answer, Outcome, Stored, id_told, put_object, require_quota, stored, with_bucket, with_object, with_new_date, listed}
+use Rattle.bh_model.specs.Operations.{Outcome, Stored, id_told, put_object, require_quota, stored, with_bucket, with_object, with_new_date, listed}
 use Rattle.bh_model.specs.Parts.{is_checksum}
 use Rattle.bh_model.specs.Retention.{first_date}
 use Rattle.bh_tables.specs.Typed.{Tables}
@@ -20,9 +20,7 @@ use Rattle.bh_view.specs.Sound.{IsSound}
 use Rattle.bh_view.specs.Becomes.{KeepsShared}
 use Rattle.bh_view.proofs.PutLemmas.{object_put}
 use Rattle.bh_model.specs.Quotas.{replaced_size}
-use Rattle.bh_storage.specs.Calls.{GivesStep, Decides, Carries}
-use Rattle.bh_storage.specs.declared.error.StepError.{StepError}
-use Rattle.bh_storage.specs.declared.error.StepError.TheVariants.{Refused, Failed}
+use Rattle.bh_storage.specs.Calls.{GivesStep}
 use Rattle.bh_view.specs.Blocks.{AreDigests}
 use Rattle.bh_view.specs.Bodies.{HasBodies, IsUnnamed, StoresPieces}
 use Rattle.bh_view.proofs.BodyNames.{next_unnamed as unnamed}

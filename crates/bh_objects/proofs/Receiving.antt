@@ -1,5 +1,5 @@
 -- An operation whose body comes in pieces, by how it ends; and a put whose body was stored as it came.
-use Rattle.std.proofs.Common.{◌≡◌, ◌≤◌, ℕ, length, true, false, true≢false, is_ok, Bool, Option, Some, Result, Ok, Err, refl, sym, ap, ◌∙◌, arith, subst}
+use Rattle.std.proofs.Common.{◌≡◌, ◌≤◌, ℕ, length, true, false, true≢false, is_ok, Bool, Option, Some, None, Result, Ok, Err, refl, sym, ap, ◌∙◌, arith, subst}
 use Rattle.std.specs.Prelude.{if◌then◌else◌}
 use Rattle.std.specs.Result.{result_map_both}
 use Rattle.std.specs.String.{string_bytes}
@@ -16,7 +16,7 @@ use Rattle.bh_model.specs.Entries.{new_id}
 use Rattle.bh_model.specs.Operations.{Stored, id_told, put_object, tenant_bucket}
 use Rattle.bh_model.specs.Parts.{is_checksum}
 use Rattle.bh_model.specs.State.{Octets, State, Bucket}
-use Rattle.bh_storage.specs.Calls.{GivesStep, Decides, OperatesBy, Receives, IfDone, UnlessSpoilt}
+use Rattle.bh_storage.specs.Calls.{GivesStep, Decides, OperatesBy, Receives, IfDone, Unless, UnlessSpoilt}
 use Rattle.bh_storage.specs.declared.error.Outcome.{Outcome}
 use Rattle.bh_storage.specs.declared.error.Outcome.TheVariants.{Done, Spoilt}
 use Rattle.bh_storage.specs.declared.error.StepError.{StepError}
@@ -28,7 +28,7 @@ use Rattle.bh_view.specs.Bodies.{HasBodies, StoresPieces, pieces, body_stored}
 use Rattle.bh_view.specs.Sound.{IsSound}
 use Rattle.bh_view.specs.View.{view, latest_of, limits_in}
 use Rattle.bh_objects.specs.Admitting.{admitted_in}
-use Rattle.bh_objects.specs.Dates.{new_date_at, new_date_in, with_first_date}
+use Rattle.bh_objects.specs.Dates.{new_date_at, new_date_in, with_date}
 use Rattle.bh_objects.specs.Found.{mode_in, entry_numbers_in, replaced_in, IsKeyText}
 use Rattle.bh_objects.specs.Refusing.{RefusedBy, IsReceived}
 use Rattle.bh_objects.specs.Writes.{with_counters, with_version, without_replaced, object_written}
@@ -119,6 +119,12 @@ module _ {X Y : Type 0} (shown : X → Y) (t : Octets) (step : Octets → Option
   pub operates_refusing : (e : StepError Refusal) → RefusedBy P e after → ((r : Refusal) → before.due ≡ length given → P r → clean → (step given (view old t) ≡ Err r) × (new ≡ old)) → OperatesBy shown t step Says clean before after old new (Err e)
   operates_refusing (Refused r) (p, whole) is = operates_refused shown t step Says clean before after old new given gives r whole (is r (counted_whole before after given gives whole) p)
   operates_refusing (Failed trouble) may is = operates_failed shown t step Says clean before after old new given gives trouble may
+
+-- what was so where an error was a refusal is so where that is told
+pub refusing_unless : (X Y : Type 0) (error told : StepError Refusal) (P : Refusal → Type 0) (after : Coming) (Q R : Type 0) → ((r : Refusal) → P r → (x : Refusal) × (error ≡ Refused x)) → RefusedBy P told after → (Q → R)
+    → Unless {X = X} {E = Refusal} (Err error) Q → UnlessSpoilt {X = Y} {E = Refusal} (Err told) R
+refusing_unless X Y error (Refused r) P after Q R from by f q = let (x, is) = from r by.0 in f (subst (λ e. Unless {X = X} {E = Refusal} (Err e) Q) is q)
+refusing_unless X Y error (Failed trouble) P after Q R from by f q = tt
 
 -- ---- what a put gets before its body comes
 
@@ -218,7 +224,7 @@ pub record PutDone (digest : Octets → Octets) (size : ℕ) (mode : BucketState
 
 pub put_done : (digest : Octets → Octets) (size : ℕ) → 1 ≤ size → (t b k : Octets) (at : ℕ) (bytes : Octets) (given : Option Octets) (date : Option (Option ℕ)) (until : Option ℕ) (mode : BucketState) (c after : Counts) (old middle new : Tables)
     → IsHostOf old → at ≤ latest_of old → IsKeyText k → AreDigests digest old.blocks → mode_in b (view old t) ≡ Ok mode → admitted_in mode b k date at (length bytes) (view old t) ≡ Ok (until, (c, after))
-    → middle ≡ object_written digest size mode c after (replaced_in mode t b k old) t b k at bytes old → new ≡ with_first_date t c.entry until middle → ((n : ℕ) → until ≡ Some n → n ≤ 251_000_000_000) → is_checksum given bytes ≡ true
+    → middle ≡ object_written digest size mode c after (replaced_in mode t b k old) t b k at bytes old → new ≡ with_date t c.entry None until middle → ((n : ℕ) → until ≡ Some n → n ≤ 251_000_000_000) → is_checksum given bytes ≡ true
     → PutDone digest size mode t b k at bytes given date c old middle new
 put_done digest size low t b k at bytes given date until mode c after old middle new host early key digests found admitted written e near right =
     let parts = admitted_parts mode b k date at (length bytes) (view old t) until c after admitted in

@@ -4,10 +4,9 @@ use Rattle.std.specs.FinMap.{get}
 use Rattle.std.specs.List.{AllByRecursion, list_any}
 use Rattle.std.proofs.lemmas.Bool.{and_parts}
 use Rattle.sqlite_typed.specs.Tests.{bytes_eq}
-use Rattle.bh_types.specs.Outcomes.{◌>>=◌, require}
+use Rattle.bh_types.specs.Outcomes.{◌>>=◌}
 use Rattle.bh_types.specs.Rejections.{plain, plainly}
 use Rattle.bh_types.specs.declared.bucket_state.BucketState.{BucketState}
-use Rattle.bh_types.specs.declared.id.VersionId.{VersionId}
 use Rattle.bh_types.specs.declared.refusal.Refusal.{Refusal}
 use Rattle.bh_types.specs.declared.rejection.Rejection.{Rejection}
 use Rattle.bh_types.specs.declared.wanted.Wanted.{Wanted}
@@ -188,8 +187,8 @@ module _ (old : Tables) (t b k : Octets) (sound : IsSound old) (mode : BucketSta
         in_rows : date_in (rows_of t old).retains row ≡ present
         in_rows = date_found old t sound row by_seq ∙ ap (λ (x : SeenHead). date_at t x.seq old) seen ∙ (asked_ok asks (date_at t head.seq old) present may).1
 
-        at_row : with_date_row t head.seq present until old ≡ with_date_row t row.seq present until old
-        at_row = ap (λ (x : SeenHead). with_date_row t x.seq present until old) (sym seen)
+        at_row : with_date_row t head.seq present (Some until) old ≡ with_date_row t row.seq present (Some until) old
+        at_row = ap (λ (x : SeenHead). with_date_row t x.seq present (Some until) old) (sym seen)
 
         abbrev Dated : Type 0
         Dated = Becomes t (Some (with_bucket b (with_date k (id_of row.id) (Some until) h.bucket) h.state)) old new
@@ -197,16 +196,16 @@ module _ (old : Tables) (t b k : Octets) (sound : IsSound old) (mode : BucketSta
         named_so : Becomes t (Some (with_bucket row.bucket (with_date row.okey (id_of row.id) (Some until) h.bucket) h.state)) old new → Dated
         named_so = subst (λ (x : State). Becomes t (Some x) old new) (λ i. with_bucket (here.0 i) (with_date (here.1 i) (id_of row.id) (Some until) h.bucket) h.state)
 
-        row_dated : (p : Option ℕ) → present ≡ p → new ≡ with_date_row t row.seq p until old → Dated
+        row_dated : (p : Option ℕ) → present ≡ p → new ≡ with_date_row t row.seq p (Some until) old → Dated
         row_dated None none is = named_so (date_added old new t h.state sound h.added row by_seq h.bucket bucket_here until near (subst (λ (x : SeenHead). 1 ≤ x.id) (sym seen) numbered.1)
             (no_marker wanted (wanted_row t b k wanted old.versions) head e row there) (lock_shown old t h.state sound h.added b h.bucket h.there ∙ numbered.0) (in_rows ∙ none) is)
         row_dated (Some p) some is = named_so (date_set old new t h.state sound h.added row by_seq h.bucket bucket_here until near (ap is_some (in_rows ∙ some)) is)
 
-        same_blocks : (p : Option ℕ) → new ≡ with_date_row t head.seq p until old → new.blocks ≡ old.blocks
+        same_blocks : (p : Option ℕ) → new ≡ with_date_row t head.seq p (Some until) old → new.blocks ≡ old.blocks
         same_blocks None is = ap (λ (x : Tables). x.blocks) is
         same_blocks (Some p) is = ap (λ (x : Tables). x.blocks) is
 
-        pub dates : new ≡ with_date_row t head.seq present until old → GivesStep t (put_retention at b k wanted until) Done old new × IsSound new × (limits_in new ≡ limits_in old)
+        pub dates : new ≡ with_date_row t head.seq present (Some until) old → GivesStep t (put_retention at b k wanted until) Done old new × IsSound new × (limits_in new ≡ limits_in old)
         dates is =
             let change = row_dated present refl (is ∙ at_row) in (
               record {
@@ -220,7 +219,7 @@ module _ (old : Tables) (t b k : Octets) (sound : IsSound old) (mode : BucketSta
             )
 
 -- where the tables differ in dates alone
-pub retains_alone : (t : Octets) (seq : ℕ) (present : Option ℕ) (until : ℕ) (old new : Tables) → new ≡ with_date_row t seq present until old → new ≡ record old { retains = new.retains }
+pub retains_alone : (t : Octets) (seq : ℕ) (present : Option ℕ) (until : ℕ) (old new : Tables) → new ≡ with_date_row t seq present (Some until) old → new ≡ record old { retains = new.retains }
 retains_alone t seq None until old new e = e ∙ ap (λ l. record old { retains = l }) (sym (ap (λ (x : Tables). x.retains) e))
 retains_alone t seq (Some present) until old new e = e ∙ ap (λ l. record old { retains = l }) (sym (ap (λ (x : Tables). x.retains) e))
 
@@ -264,9 +263,9 @@ module _ (old middle : Tables) (t b k : Octets) (sound : IsSound old) (mode : Bu
     puts_not_dated shows tells at until new (Refused x) d = puts_refused at until new x d.0 d.1
     puts_not_dated shows tells at until new (Failed trouble) d = tt
 
-    pub puts : (at until : ℕ) → until ≤ 251_000_000_000 → (present : Option ℕ) → present_date_in t b head.id head.seq until at last ≡ Ok present → (third new : Tables) → third ≡ last → new ≡ with_date_row t head.seq present until third
+    pub puts : (at until : ℕ) → until ≤ 251_000_000_000 → (present : Option ℕ) → present_date_in t b head.id head.seq until at last ≡ Ok present → (third new : Tables) → third ≡ last → new ≡ with_date_row t head.seq present (Some until) third
         → GivesStep t (put_retention at b k wanted until) Done old new × IsSound new × (limits_in new ≡ limits_in old) × (new ≡ record old { retains = new.retains })
     puts at until near present may third new three is =
-        let first : new ≡ with_date_row t head.seq present until old = is ∙ ap (with_date_row t head.seq present until) (three ∙ two ∙ one) in
+        let first : new ≡ with_date_row t head.seq present (Some until) old = is ∙ ap (with_date_row t head.seq present (Some until)) (three ∙ two ∙ one) in
         let it = dates old t b k sound mode found wanted head (looked_first (Ok head) e) at until near present (ap (present_date_in t b head.id head.seq until at) (sym (two ∙ one)) ∙ may) new first in
         (it.0, it.1, it.2, retains_alone t head.seq present until old new first)

@@ -21,7 +21,7 @@ use Rattle.bh_tables.specs.Typed.{VersionRow, RetainRow, Tables}
 use Rattle.bh_tables.specs.Shown.{is_entry, is_retain, is_version}
 use Rattle.bh_view.specs.Becomes.{Becomes}
 use Rattle.bh_view.specs.Bodies.{HasBodies}
-use Rattle.bh_view.specs.Grouped.{first, matching, same_number}
+use Rattle.bh_view.specs.Grouped.{first, same_number}
 use Rattle.bh_view.specs.Sound.{IsSound}
 use Rattle.bh_view.specs.View.{TenantRows, rows_of, in_bucket, id_of, buckets_of, version_name, date_in, view}
 use Rattle.bh_view.specs.Wanted.{wanted_row}
@@ -38,7 +38,7 @@ use Rattle.bh_view.proofs.ViewLemmas.{own_row, becomes_then}
 use Rattle.bh_view.proofs.WantedLemmas.{named_row, no_row, wanted_entry}
 use Rattle.bh_schema.specs.Rows.{until_in}
 use Rattle.bh_schema.specs.Written.{bytes_of_id}
-use Rattle.bh_objects.specs.Dates.{date_at, without_date as without_date_row}
+use Rattle.bh_objects.specs.Dates.{date_at, with_date as with_date_row}
 use Rattle.bh_objects.specs.Writes.{without_entry}
 use Rattle.bh_objects.proofs.Dropping.{Leaves, entry_gone}
 use Rattle.bh_objects.proofs.Written.{IsHostOf, becomes_so, left_written, whole_host}
@@ -158,7 +158,7 @@ module _ (old : Tables) (t : Octets) (sound : IsSound old) (s : State) (is : vie
   named_date_is (Numbered (suc n)) = by_number (suc n)
 
 -- the sizes of entries stay where a date goes
-pub sizes_stay : (t b k : Octets) (n seq : ℕ) (date : Option ℕ) (x : Tables) → bytes_of_id t b k n (without_date_row t seq date x) ≡ bytes_of_id t b k n x
+pub sizes_stay : (t b k : Octets) (n seq : ℕ) (date : Option ℕ) (x : Tables) → bytes_of_id t b k n (with_date_row t seq date None x) ≡ bytes_of_id t b k n x
 sizes_stay t b k n seq None x = refl
 sizes_stay t b k n seq (Some until) x = refl
 
@@ -169,7 +169,7 @@ module _ (old : Tables) (host : IsHostOf old) (t : Octets) (s : State) (is : vie
   undated_now = record old { retains = delete_where (is_retain t row.seq) old.retains }
 
   -- also where it had no date
-  date_gone : (date : Option ℕ) → date_at t row.seq old ≡ date → without_date_row t row.seq date old ≡ undated_now
+  date_gone : (date : Option ℕ) → date_at t row.seq old ≡ date → with_date_row t row.seq date None old ≡ undated_now
   date_gone None none = ap (λ l. record old { retains = l }) (sym (delete_none (is_retain t row.seq) old.retains (none_first _ (first_find (is_retain t row.seq) old.retains ∙ none_date (find (is_retain t row.seq) old.retains) none))))
     where
       none_date : (o : Option RetainRow) → option_map until_in o ≡ None → o ≡ None
@@ -211,7 +211,7 @@ module _ (old : Tables) (host : IsHostOf old) (t : Octets) (s : State) (is : vie
       (only_one has_name row (rows_of t old).versions (subst (λ l. length l ≤ 1) (one_version t b k n old.versions ∙ sym named_so) ((sound.tenants t).versions.one_id b k n)) (ap first named_so ∙ first_find (is_version t b k n) old.versions ∙ there))
 
   -- and then the entry
-  pub dated_gone : (new : Tables) → new ≡ without_entry t b k n row.seq (without_date_row t row.seq (date_at t row.seq old) old)
+  pub dated_gone : (new : Tables) → new ≡ without_entry t b k n row.seq (with_date_row t row.seq (date_at t row.seq old) None old)
       → Becomes t (Some (with_bucket b (without_date k (Named (id_of n)) (with_entries k (without (id_of n) (listed k B)) B)) s)) old new × HasBodies new × (new.blocks ≡ old.blocks)
   dated_gone new e =
       let s1 = with_bucket b bare s in

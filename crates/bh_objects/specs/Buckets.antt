@@ -15,7 +15,8 @@ use Rattle.bh_tables.specs.Shown.{is_bucket, is_in_bucket, is_lock, is_upload_in
 
 -- whether no version, no marker and no upload is in a bucket
 abbrev pub is_empty : Octets → Octets → Tables → Bool
-is_empty tenant bucket tables = not (list_any (is_in_bucket tenant bucket) tables.versions) && not (list_any (is_upload_in tenant bucket) tables.uploads)
+is_empty tenant bucket tables =
+    not (list_any (is_in_bucket tenant bucket) tables.versions) && not (list_any (is_upload_in tenant bucket) tables.uploads)
 
 abbrev pub emptiness : Octets → Octets → Tables → Result (Unit {0}) Refusal
 emptiness tenant bucket tables = require (is_empty tenant bucket tables) BucketNotEmpty
@@ -38,7 +39,15 @@ with_lock tenant bucket false tables = tables
 -- with its row in this state
 abbrev pub with_row : Octets → Octets → ℕ → BucketState → Tables → Tables
 with_row tenant bucket at state tables =
-    record tables { buckets = tables.buckets ++ record { tenant = tenant; bucket = bucket; created = at; state = state_number state; days = None } ∷ [] }
+    record tables {
+      buckets = tables.buckets ++ record {
+        tenant = tenant;
+        bucket = bucket;
+        created = at;
+        state = state_number state;
+        days = None;
+      } ∷ [];
+    }
 
 -- with both
 abbrev pub with_bucket : Octets → Octets → ℕ → Bool → Tables → Tables

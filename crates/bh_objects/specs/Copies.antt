@@ -14,11 +14,13 @@ use Rattle.bh_objects.specs.declared.quotas.Replaced.{Replaced}
 
 -- the version of a tenant whose head was read: its bytes are those of its body
 abbrev pub version_read : Octets → Tables → SeenHead → Version
-version_read tenant tables head = record { id = id_of head.id; moment = head.stamp; bytes = whole tables.refs tables.blocks (tenant, head.seq); checksum = head.checksum }
+version_read tenant tables head =
+    record { id = id_of head.id; moment = head.stamp; bytes = whole tables.refs tables.blocks (tenant, head.seq); checksum = head.checksum }
 
 -- a copy has the source's size and checksum; its body has the source's blocks before what it replaces goes, which may
 -- be the source
 abbrev pub copy_written : BucketState → Counts → Counts → Option Replaced → Octets → Octets → Octets → ℕ → SeenHead → Tables → Tables
 copy_written mode before after replaced tenant bucket key moment head tables =
     with_version mode before tenant bucket key moment head.size head.checksum
-    (without_replaced tenant bucket key replaced (body_copied (tenant, head.seq) (tenant, before.entry) (with_counters mode after tenant tables)))
+    (without_replaced tenant bucket key replaced (body_copied (tenant, head.seq) (tenant, before.entry)
+    (with_counters mode after tenant tables)))

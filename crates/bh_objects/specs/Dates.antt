@@ -25,7 +25,7 @@ locked_at tenant bucket tables = list_any (is_lock tenant bucket) tables.locks
 abbrev pub new_date_at : Octets → Octets → Option (Option ℕ) → ℕ → Tables → Result (Option ℕ) Refusal
 new_date_at tenant bucket given at tables = first_date (locked_at tenant bucket tables) given at
 
--- the same in the words of the machine
+-- that date in the words of the machine
 abbrev pub new_date_in : Octets → Option (Option ℕ) → ℕ → Option State → Result (Option ℕ) Refusal
 new_date_in name given at s = do
   f ← tenant_bucket name s
@@ -48,7 +48,8 @@ present_by able present until at = do
 
 -- that of one in a bucket, by its numbers in the columns `id` and `seq`
 abbrev pub present_date_in : Octets → Octets → ℕ → ℕ → ℕ → ℕ → Tables → Result (Option ℕ) Refusal
-present_date_in tenant bucket id seq until at tables = present_by (can_retain (locked_at tenant bucket tables) (id_of id)) (date_at tenant seq tables) until at
+present_date_in tenant bucket id seq until at tables =
+    present_by (can_retain (locked_at tenant bucket tables) (id_of id)) (date_at tenant seq tables) until at
 
 -- a version of a key with this number in the column `id` and this entry number, which has no date
 pub record IsPlaced (t b k : Octets) (number entry : ℕ) (tables : Tables) : Type 0 where
@@ -63,17 +64,11 @@ pub record IsPlaced (t b k : Octets) (number entry : ℕ) (tables : Tables) : Ty
 
 -- ---- what is written
 
--- the tables with the first date of a version, if it gets one
-abbrev pub with_first_date : Octets → ℕ → Option ℕ → Tables → Tables
-with_first_date tenant seq None tables = tables
-with_first_date tenant seq (Some until) tables = record tables { retains = tables.retains ++ record { tenant = tenant; seq = seq; until = until } ∷ [] }
-
--- with another date of a version that has this one at present
-abbrev pub with_date : Octets → ℕ → Option ℕ → ℕ → Tables → Tables
-with_date tenant seq None until tables = with_first_date tenant seq (Some until) tables
-with_date tenant seq (Some present) until tables = record tables { retains = update_where (is_retain tenant seq) (λ r. record r { until = until }) tables.retains }
-
--- without the date of a version that has this one at present
-abbrev pub without_date : Octets → ℕ → Option ℕ → Tables → Tables
-without_date tenant seq None tables = tables
-without_date tenant seq (Some present) tables = record tables { retains = delete_where (is_retain tenant seq) tables.retains }
+-- the tables with the date of a version, which has this one at present or none, as it is to be
+abbrev pub with_date : Octets → ℕ → Option ℕ → Option ℕ → Tables → Tables
+with_date tenant seq None None tables = tables
+with_date tenant seq None (Some until) tables =
+    record tables { retains = tables.retains ++ record { tenant = tenant; seq = seq; until = until } ∷ [] }
+with_date tenant seq (Some present) (Some until) tables =
+    record tables { retains = update_where (is_retain tenant seq) (λ r. record r { until = until }) tables.retains }
+with_date tenant seq (Some present) None tables = record tables { retains = delete_where (is_retain tenant seq) tables.retains }

@@ -1,5 +1,6 @@
 -- What is read of a tenant's rows, and what a put or a delete makes of the tables.
-use Rattle.std.specs.Prelude.{◌≡◌, ℕ, ◌+◌, ◌-◌, ◌++◌, [], ◌∷◌, find, Option, Some, None, option_map, option_and_then, is_none, ok_or, Result, Ok, Err, IsTrue}
+use Rattle.std.specs.Prelude.{◌≡◌, ℕ, ◌+◌, ◌-◌, ◌++◌, [], ◌∷◌, find, Option, Some, None, option_map, option_and_then, is_none, ok_or}
+use Rattle.std.specs.Prelude.{Result, Ok, Err, IsTrue}
 use Rattle.std.specs.List.{filter, sum_by}
 use Rattle.std.specs.Option.{option_map_or}
 use Rattle.std.specs.Str.{IsUtf8}
@@ -60,11 +61,13 @@ numbers_in mode s = do
 
 -- the bytes of a tenant's versions and parts
 abbrev pub bytes_in : Octets → Tables → ℕ
-bytes_in tenant tables = sum_by (λ v. v.size) (filter (is_version_of tenant) tables.versions) + sum_by (λ p. p.size) (filter (is_part_used tenant) tables.parts)
+bytes_in tenant tables =
+    sum_by (λ v. v.size) (filter (is_version_of tenant) tables.versions) + sum_by (λ p. p.size) (filter (is_part_used tenant) tables.parts)
 
 -- the entry `null` of a key
 abbrev pub null_in : Octets → Octets → Octets → Tables → Option Replaced
-null_in tenant bucket key tables = option_map (λ v. record { seq = v.seq; size = v.size }) (find (is_version tenant bucket key 0) tables.versions)
+null_in tenant bucket key tables =
+    option_map (λ v. record { seq = v.seq; size = v.size }) (find (is_version tenant bucket key 0) tables.versions)
 
 -- what a new entry of it replaces
 abbrev pub replaced_in : BucketState → Octets → Octets → Octets → Tables → Option Replaced
@@ -109,7 +112,10 @@ with_way mode after tenant bucket key tables = record tables {
 -- with the row of a new entry
 abbrev pub with_row : BucketState → Counts → Octets → Octets → Octets → ℕ → Content → Tables → Tables
 with_row mode before tenant bucket key moment content tables =
-    record tables { versions = tables.versions ++ entry_row tenant bucket key before.entry (row_number mode before.version) moment content ∷ [] }
+    record tables {
+      versions = tables.versions ++ entry_row tenant bucket key before.entry (row_number mode before.version) moment content
+          ∷ [];
+    }
 
 -- with a new entry, which takes its numbers
 abbrev pub with_entry : BucketState → Counts → Counts → Octets → Octets → Octets → ℕ → Content → Tables → Tables

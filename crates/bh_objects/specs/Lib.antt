@@ -1,6 +1,8 @@
 pub mod Answers
+pub mod Calls
 pub mod Found
 pub mod Refusing
+pub mod Storing
 pub mod Buckets
 pub mod Writes
 pub mod Copies

@@ -27,11 +27,13 @@ RefusedBy P (Failed trouble) body = MayBreak body
 -- the bytes that came have the checksum that is given, if one is, and this is done with them; or have it not; or memory or the
 -- store was wanting, or the body broke off
 abbrev pub ReceivedAs : Octets → Option Octets → Type 0 → Coming → Result (Outcome (String Global) Refusal) Trouble → Type 0
-ReceivedAs bytes given Did after (Ok (Done text)) = IsWhole after × (is_checksum given bytes ≡ true) × (string_bytes text ≡ checksum_text bytes) × Did
+ReceivedAs bytes given Did after (Ok (Done text)) =
+    IsWhole after × (is_checksum given bytes ≡ true) × (string_bytes text ≡ checksum_text bytes) × Did
 ReceivedAs bytes given Did after (Ok (Spoilt r)) = IsWhole after × (is_checksum given bytes ≡ false) × (r ≡ BadDigest)
 ReceivedAs bytes given Did after (Err trouble) = MayBreak after
 
-pub record IsReceived (result : Result (Outcome (String Global) Refusal) Trouble) (before after : Coming) (given : Option Octets) (Did : Octets → Type 0) : Type 0 where
+pub record IsReceived (result : Result (Outcome (String Global) Refusal) Trouble) (before after : Coming) (given : Option Octets)
+    (Did : Octets → Type 0) : Type 0 where
   pub bytes : Octets
   pub gives : Gives before after bytes
   pub received : ReceivedAs bytes given (Did bytes) after result

@@ -17,24 +17,28 @@ use Rattle.bh_objects.specs.declared.quotas.Replaced.{Replaced}
 
 -- the counters have gone on, as a new entry in a bucket of this state has them
 abbrev pub with_counters : BucketState → Counts → Octets → Tables → Tables
-with_counters mode after tenant tables = record tables { tenants = update_where (is_tenant tenant) (counters_row mode after) tables.tenants }
+with_counters mode after tenant tables =
+    record tables { tenants = update_where (is_tenant tenant) (counters_row mode after) tables.tenants }
 
 -- the rows without an entry of a key
 abbrev pub without_row : Octets → Octets → Octets → ℕ → Tables → Tables
-without_row tenant bucket key number tables = record tables { versions = delete_where (is_version tenant bucket key number) tables.versions }
+without_row tenant bucket key number tables =
+    record tables { versions = delete_where (is_version tenant bucket key number) tables.versions }
 
 -- without its body either, of this entry number
 abbrev pub without_entry : Octets → Octets → Octets → ℕ → ℕ → Tables → Tables
 without_entry tenant bucket key number seq tables = without_row tenant bucket key number (body_dropped (tenant, seq) tables)
 
--- the same of the entry `null`, if it is there
+-- without the entry `null` and its body, if it is there
 abbrev pub without_null : Octets → Octets → Octets → Tables → Tables
-without_null tenant bucket key tables = option_map_or (λ v. without_entry tenant bucket key 0 v.seq tables) (find (is_version tenant bucket key 0) tables.versions) tables
+without_null tenant bucket key tables =
+    option_map_or (λ v. without_entry tenant bucket key 0 v.seq tables) (find (is_version tenant bucket key 0) tables.versions) tables
 
--- the same of the version `null`: a delete marker of that id stays
+-- without the version `null` and its body: a delete marker of that id stays
 abbrev pub without_null_version : Octets → Octets → Octets → Tables → Tables
 without_null_version tenant bucket key tables =
-    option_map_or (λ v. if is_marked v.marker then tables else without_entry tenant bucket key 0 v.seq tables) (find (is_version tenant bucket key 0) tables.versions) tables
+    option_map_or (λ v. if is_marked v.marker then tables else without_entry tenant bucket key 0 v.seq tables)
+    (find (is_version tenant bucket key 0) tables.versions) tables
 
 -- room for a new entry of a key
 abbrev pub with_room : BucketState → Octets → Octets → Octets → Tables → Tables
@@ -49,7 +53,8 @@ without_replaced tenant bucket key replaced tables = option_map_or (λ r. withou
 -- its row, which has the bytes of its body
 abbrev pub with_columns : BucketState → Counts → Octets → Octets → Octets → ℕ → Content → Tables → Tables
 with_columns mode before tenant bucket key moment content tables = record tables {
-  versions = tables.versions ++ resolved tables.refs tables.blocks (columns_of (entry_row tenant bucket key before.entry (row_number mode before.version) moment content)) ∷ [];
+  versions = tables.versions ++ resolved tables.refs tables.blocks
+      (columns_of (entry_row tenant bucket key before.entry (row_number mode before.version) moment content)) ∷ [];
 }
 
 -- the row of a version of this size and checksum, which has the bytes of its body
@@ -71,10 +76,12 @@ with_version mode before tenant bucket key moment size checksum tables = record 
 -- ---- a put
 
 -- an object, whose body is stored before what it replaces goes, where that was found
-abbrev pub object_written : (Octets → Octets) → ℕ → BucketState → Counts → Counts → Option Replaced → Octets → Octets → Octets → ℕ → Octets → Tables → Tables
+abbrev pub object_written : (Octets → Octets) → ℕ → BucketState → Counts → Counts → Option Replaced → Octets → Octets → Octets → ℕ → Octets
+    → Tables → Tables
 object_written digest size mode before after replaced tenant bucket key moment bytes tables =
     with_columns mode before tenant bucket key moment (Body bytes (checksum_text bytes))
-    (without_replaced tenant bucket key replaced (body_stored digest (tenant, before.entry) 0 (pieces size bytes) (with_counters mode after tenant tables)))
+    (without_replaced tenant bucket key replaced (body_stored digest (tenant, before.entry) 0 (pieces size bytes)
+    (with_counters mode after tenant tables)))
 
 -- a delete marker
 abbrev pub marker_written : BucketState → Counts → Counts → Octets → Octets → Octets → ℕ → Tables → Tables

@@ -4,17 +4,22 @@ ghost use Rattle.std.specs.Prelude.{◌≡◌, ◌<◌, ◌≤◌, ◌^◌, Some
 ghost use Rattle.sha2.specs.Sha256.{sha256};
 ghost use Rattle.std.specs.Option.{option_copied};
 ghost use Rattle.bh_http.specs.Bodies.{Gives, IsWhole, MayBreak};
+ghost use Rattle.bh_types.specs.declared.refusal.Refusal.{Refusal};
 ghost use Rattle.bh_types.specs.declared.refusal.Refusal.TheVariants.{BadDigest};
 ghost use Rattle.bh_types.specs.Checksums.{checksum_text};
 ghost use Rattle.bh_model.specs.Parts.{is_checksum};
-ghost use Rattle.bh_objects.specs.Refusing.{RefusedBy, IfRefused, IsReceived};
+ghost use Rattle.bh_storage.specs.declared.error.StepError.TheVariants.{Refused};
 ghost use Rattle.bh_tables.specs.Schema.{Octets};
 ghost use Rattle.bh_view.specs.Bodies.{pieces, body_stored};
 ghost use Rattle.bh_schema.specs.Connections.{IsClean, tables, InTransaction, StaysWithin, StaysOpen, Becomes};
 ghost use Rattle.bh_cache.specs.Kept.{AreCopies};
+ghost use Rattle.bh_blocks.specs.Drafts.{drafted};
+ghost use Rattle.bh_objects.specs.Calls.{Changes};
+ghost use Rattle.bh_objects.specs.Refusing.{RefusedBy, IfRefused, IsReceived};
+ghost use Rattle.bh_objects.specs.Storing.{IsBegun, MayStore, Stores};
 
 use bh_blocks::bodies::store_body;
-use bh_blocks::drafts::{begin_body, end_body, push};
+use bh_blocks::drafts::{Draft, begin_body, end_body, push};
 use bh_cache::blocks::BlockCache;
 use bh_http::body::{Body, Break, PIECE, collect, drain};
 use bh_schema::host::Digester;
@@ -26,72 +31,66 @@ use sha2::{Digest, Sha256};
 use sqlite::{Alter, Connection};
 use std::alloc::Global;
 
-/// Stores a body of one block, whose SHA-256 digest (FIPS 180-4) is told. It is read once.
-fn store_block<S: Alter, D: Digester, B: Body>(
+/// What the bytes of objects and of parts are stored by.
+#[derive(Drop)]
+pub struct Blocks<'c, 'd, D> {
+    /// The blocks that are kept in memory.
+    pub cache: &'c BlockCache,
+    /// Names blocks.
+    pub digester: &'d D,
+    /// The most bytes of a block.
+    pub size: u64,
+}
+
+/// Stores the bytes of a body, whose SHA-256 digest (FIPS 180-4) is told: those of one block are read once.
+fn store_bytes<S: Alter, D: Digester>(
     connection: &mut Connection<S>,
-    cache: &BlockCache,
     alloc: Global,
-    digester: &D,
-    block_size: u64,
+    blocks: &Blocks<'_, '_, D>,
     tenant: &str,
     number: u64,
-    body: &mut B,
+    bytes: &[u8],
 ) -> Result<[u8; 32], Trouble>
     requires inside { InTransaction S.Store connection.old }
-    requires copies { IsClean S.Store connection.old → AreCopies cache.now (tables S.Store connection.old).blocks }
-    requires size { 1 ≤ block_size }
+    requires copies { IsClean S.Store connection.old → AreCopies blocks.now.cache.now (tables S.Store connection.old).blocks }
+    requires positive { 1 ≤ blocks.now.size }
     requires small { number < 2 ^ 63 }
-    requires going { (B.coming body.old).broken ≡ None }
-    ensures within { StaysWithin S.Store connection.old connection.new }
-    ensures opens { OnOk result (StaysOpen S.Store connection.old connection.new) }
-    ensures stored { IfOk result (λ sum. (given : Octets) × Gives (B.coming body.old) (B.coming body.new) given
-        × IsWhole (B.coming body.new) × (sum ≡ sha256 given)
-        × Becomes S.Store connection.old connection.new (body_stored D.digest_of (tenant.now, number) 0 (pieces block_size given))) }
-    ensures stopped { IfErr result (λ _. (given : Octets) × Gives (B.coming body.old) (B.coming body.new) given
-        × MayBreak (B.coming body.new)) }
+    ensures changes { Changes S.Store connection.old connection.new result
+        (body_stored D.digest_of (tenant.now, number) 0 (pieces blocks.now.size bytes.now)) }
+    ensures sum { IfOk result (λ sum. sum ≡ sha256 bytes.now) }
 {
-    let bytes = collect(alloc, body)?;
-    let sum = digest_of(&bytes);
+    let (cache, digester, size) = (blocks.cache, blocks.digester, blocks.size);
+    let sum = digest_of(bytes);
     or_trouble(store_body(
-        connection, cache, alloc, digester, block_size, tenant, number, &bytes, &sum,
+        connection, cache, alloc, digester, size, tenant, number, bytes, &sum,
     ))?;
     Ok(sum)
 }
 
-/// Stores a body of any size, whose SHA-256 digest (FIPS 180-4) is told. Of its bytes those of a piece and of a block are held.
+/// Stores what comes of a body as blocks of a draft of which nothing is there, and gives its SHA-256 digest (FIPS 180-4). Of
+/// its bytes those of a piece and of a block are held.
 fn store_pieces<S: Alter, D: Digester, B: Body>(
     connection: &mut Connection<S>,
-    cache: &BlockCache,
-    alloc: Global,
-    digester: &D,
-    block_size: u64,
-    tenant: &str,
-    number: u64,
+    blocks: &Blocks<'_, '_, D>,
+    mut draft: Draft<'_>,
     body: &mut B,
 ) -> Result<[u8; 32], Trouble>
     requires inside { InTransaction S.Store connection.old }
-    requires copies { IsClean S.Store connection.old → AreCopies cache.now (tables S.Store connection.old).blocks }
-    requires size { 1 ≤ block_size }
-    requires small { number < 2 ^ 63 }
+    requires copies { IsClean S.Store connection.old → AreCopies blocks.now.cache.now (tables S.Store connection.old).blocks }
+    requires begun { IsBegun draft }
     requires going { (B.coming body.old).broken ≡ None }
-    ensures within { StaysWithin S.Store connection.old connection.new }
-    ensures opens { OnOk result (StaysOpen S.Store connection.old connection.new) }
-    ensures stored { IfOk result (λ sum. (given : Octets) × Gives (B.coming body.old) (B.coming body.new) given
-        × IsWhole (B.coming body.new) × (sum ≡ sha256 given)
-        × Becomes S.Store connection.old connection.new (body_stored D.digest_of (tenant.now, number) 0 (pieces block_size given))) }
-    ensures stopped { IfErr result (λ _. (given : Octets) × Gives (B.coming body.old) (B.coming body.new) given
-        × MayBreak (B.coming body.new)) }
+    ensures stores { Stores S.Store D.digest_of draft.entry.size (drafted draft.entry) (B.coming body.old) (B.coming body.new)
+        connection.old connection.new result }
 {
     let mut room = [0u8; PIECE];
-    let mut draft = begin_body(alloc, tenant, number, block_size);
     let mut hasher = Sha256::new();
     'taking: while body.due() > 0 {
         let count = body.next(&mut room)?;
         let piece = &room[..count];
-        or_trouble(push(connection, cache, digester, &mut draft, piece))?;
+        or_trouble(push(connection, blocks.cache, blocks.digester, &mut draft, piece))?;
         hasher.update(piece);
     }
-    or_trouble(end_body(connection, cache, digester, draft))?;
+    or_trouble(end_body(connection, blocks.cache, blocks.digester, draft))?;
     Ok(hasher.finalize())
 }
 
@@ -99,35 +98,23 @@ fn store_pieces<S: Alter, D: Digester, B: Body>(
 /// transaction is to be taken back.
 fn store_coming<S: Alter, D: Digester, B: Body>(
     connection: &mut Connection<S>,
-    cache: &BlockCache,
     alloc: Global,
-    digester: &D,
-    block_size: u64,
+    blocks: &Blocks<'_, '_, D>,
     tenant: &str,
     number: u64,
     body: &mut B,
 ) -> Result<[u8; 32], Trouble>
-    requires inside { InTransaction S.Store connection.old }
-    requires copies { IsClean S.Store connection.old → AreCopies cache.now (tables S.Store connection.old).blocks }
-    requires size { 1 ≤ block_size }
+    requires may { MayStore S.Store blocks.now.cache.now blocks.now.size connection.old (B.coming body.old) }
     requires small { number < 2 ^ 63 }
-    requires going { (B.coming body.old).broken ≡ None }
-    ensures within { StaysWithin S.Store connection.old connection.new }
-    ensures opens { OnOk result (StaysOpen S.Store connection.old connection.new) }
-    ensures stored { IfOk result (λ sum. (given : Octets) × Gives (B.coming body.old) (B.coming body.new) given
-        × IsWhole (B.coming body.new) × (sum ≡ sha256 given)
-        × Becomes S.Store connection.old connection.new (body_stored D.digest_of (tenant.now, number) 0 (pieces block_size given))) }
-    ensures stopped { IfErr result (λ _. (given : Octets) × Gives (B.coming body.old) (B.coming body.new) given
-        × MayBreak (B.coming body.new)) }
+    ensures stores { Stores S.Store D.digest_of blocks.now.size (tenant.now, number) (B.coming body.old) (B.coming body.new)
+        connection.old connection.new result }
 {
-    if body.due() <= block_size {
-        store_block(
-            connection, cache, alloc, digester, block_size, tenant, number, body,
-        )
+    if body.due() <= blocks.size {
+        let bytes = collect(alloc, body)?;
+        store_bytes(connection, alloc, blocks, tenant, number, &bytes)
     } else {
-        store_pieces(
-            connection, cache, alloc, digester, block_size, tenant, number, body,
-        )
+        let draft = begin_body(alloc, tenant, number, blocks.size);
+        store_pieces(connection, blocks, draft, body)
     }
 }
 
@@ -145,28 +132,21 @@ fn is_given(given: Option<&[u8]>, text: &str) -> bool
 /// that were stored.
 pub fn store_checked<S: Alter, D: Digester, B: Body>(
     connection: &mut Connection<S>,
-    cache: &BlockCache,
     alloc: Global,
-    digester: &D,
-    block_size: u64,
+    blocks: &Blocks<'_, '_, D>,
     tenant: &str,
     number: u64,
     given: Option<&[u8]>,
     body: &mut B,
 ) -> Result<Outcome<String, Refusal>, Trouble>
-    requires inside { InTransaction S.Store connection.old }
-    requires copies { IsClean S.Store connection.old → AreCopies cache.now (tables S.Store connection.old).blocks }
-    requires size { 1 ≤ block_size }
+    requires may { MayStore S.Store blocks.now.cache.now blocks.now.size connection.old (B.coming body.old) }
     requires small { number < 2 ^ 63 }
-    requires going { (B.coming body.old).broken ≡ None }
     ensures within { StaysWithin S.Store connection.old connection.new }
     ensures opens { OnOk result (StaysOpen S.Store connection.old connection.new) }
-    ensures received { IsReceived result (B.coming body.old) (B.coming body.new) (option_copied given.entry)
-        (λ bytes. Becomes S.Store connection.old connection.new (body_stored D.digest_of (tenant.now, number) 0 (pieces block_size bytes))) }
+    ensures received { IsReceived result (B.coming body.old) (B.coming body.new) (option_copied given.entry) (λ bytes.
+        Becomes S.Store connection.old connection.new (body_stored D.digest_of (tenant.now, number) 0 (pieces blocks.now.size bytes))) }
 {
-    let sum = store_coming(
-        connection, cache, alloc, digester, block_size, tenant, number, body,
-    )?;
+    let sum = store_coming(connection, alloc, blocks, tenant, number, body)?;
     let text = checksum_of_digest(alloc, &sum)?;
     if is_given(given, text.as_str()) {
         Ok(Outcome::Done(text))
@@ -192,31 +172,38 @@ fn hash_coming<B: Body>(body: &mut B) -> Result<[u8; 32], Break>
     Ok(hasher.finalize())
 }
 
-/// A refusal, told once all of the body came.
-pub fn refused_whole<B: Body>(body: &mut B, refusal: Refusal) -> StepError<Refusal>
+/// What ended an operation before its body came: a refusal is told once all of the body came.
+pub fn refused_whole<B: Body>(body: &mut B, error: StepError<Refusal>) -> StepError<Refusal>
     requires going { (B.coming body.old).broken ≡ None }
     ensures came { (given : Octets) × Gives (B.coming body.old) (B.coming body.new) given
-        × RefusedBy (λ r. r ≡ refusal) result (B.coming body.new) }
+        × RefusedBy (λ r. error ≡ Refused r) result (B.coming body.new) }
 {
+    let StepError::Refused(refusal) = error else {
+        return error;
+    };
     match drain(body) {
         Ok(()) => StepError::Refused(refusal),
         Err(cause) => StepError::Failed(Trouble::from(cause)),
     }
 }
 
-/// The same, unless a request gives another checksum than the body's: then it is BadDigest.
+/// A refusal, told once all of the body came, unless a request gives another checksum than the body's: then it is BadDigest.
 pub fn refused_checked<B: Body>(
     alloc: Global,
     body: &mut B,
     given: Option<&[u8]>,
-    refusal: Refusal,
+    error: StepError<Refusal>,
 ) -> StepError<Refusal>
     requires going { (B.coming body.old).broken ≡ None }
     ensures came { (bytes : Octets) × Gives (B.coming body.old) (B.coming body.new) bytes
-        × RefusedBy (λ r. r ≡ (if is_checksum (option_copied given.entry) bytes then refusal else BadDigest)) result (B.coming body.new) }
+        × RefusedBy (λ r. (x : Refusal) × (error ≡ Refused x)
+        × (r ≡ (if is_checksum (option_copied given.entry) bytes then x else BadDigest))) result (B.coming body.new) }
 {
     let Some(text) = given else {
-        return refused_whole(body, refusal);
+        return refused_whole(body, error);
+    };
+    let StepError::Refused(refusal) = error else {
+        return error;
     };
     match hash_coming(body) {
         Ok(sum) => refused_for(alloc, &sum, text, refusal),

@@ -6,16 +6,22 @@ ghost use Rattle.bh_model.specs.Retention as retention;
 ghost use Rattle.bh_storage.specs.Answers.{removed_answer};
 ghost use Rattle.bh_storage.specs.Calls.{Unless, Carries, Decides};
 ghost use Rattle.bh_view.specs.View.{latest_of};
-ghost use Rattle.bh_schema.specs.Connections.{IsClean, tables, InTransaction, StaysWithin, StaysOpen, ChangesNothing, Becomes};
+ghost use Rattle.bh_schema.specs.Calls.{MayRead};
+ghost use Rattle.bh_schema.specs.Connections.{IsClean, tables, InTransaction};
 ghost use Rattle.bh_schema.specs.Views.{entry_seen};
-ghost use Rattle.bh_schema.specs.Working.{Works, StillWorks};
+ghost use Rattle.bh_schema.specs.Working.{Works, WorksOn};
+ghost use Rattle.bh_objects.specs.Calls.{Changes};
 ghost use Rattle.bh_objects.specs.Buckets as spec;
 ghost use Rattle.bh_objects.specs.Buckets.{is_empty, emptiness, versions_kept, with_lock, with_bucket, without_bucket};
 
+use crate::deletes::nothing_told;
 use crate::reads::{bucket_locked, bucket_state, require_free_name, require_tenant};
 use bh_docs::BucketEntry;
 use bh_schema::rows;
 use bh_schema::rows::buckets::ListedBucket;
+use bh_schema::rows::contents::{Content, bucket_has};
+use bh_schema::rows::named::{Named, delete_named};
+use bh_schema::rows::reading::list_of;
 use bh_schema::trouble::or_trouble;
 use bh_storage::answer::RemovedEntry;
 use bh_storage::error::{StepError, Trouble};
@@ -46,10 +52,7 @@ fn add_lock<S: Alter>(
     locked: bool,
 ) -> Result<(), Trouble>
     requires inside { InTransaction S.Store connection.old }
-    ensures within { StaysWithin S.Store connection.old connection.new }
-    ensures opens { OnOk result (StaysOpen S.Store connection.old connection.new) }
-    ensures holds { OnOk result (Becomes S.Store connection.old connection.new
-        (with_lock tenant.now bucket.now locked)) }
+    ensures changes { Changes S.Store connection.old connection.new result (with_lock tenant.now bucket.now locked) }
 {
     if !locked {
         return Ok(());
@@ -67,10 +70,7 @@ fn add_bucket<S: Alter>(
     locked: bool,
 ) -> Result<(), Trouble>
     requires inside { InTransaction S.Store connection.old }
-    ensures within { StaysWithin S.Store connection.old connection.new }
-    ensures opens { OnOk result (StaysOpen S.Store connection.old connection.new) }
-    ensures holds { OnOk result (Becomes S.Store connection.old connection.new
-        (with_bucket tenant.now bucket.now at locked)) }
+    ensures changes { Changes S.Store connection.old connection.new result (with_bucket tenant.now bucket.now at locked) }
     ensures name { OnOk result (IsTrue (is_bucket_name bucket.now)) }
 {
     let state = first_state(locked);
@@ -95,9 +95,7 @@ pub fn create_bucket<S: Alter>(
 ) -> Result<(), StepError<Refusal>>
     requires working { Works S.Store connection.old }
     requires early { IsClean S.Store connection.old → at ≤ latest_of (tables S.Store connection.old) }
-    ensures within { StaysWithin S.Store connection.old connection.new }
-    ensures opens { Unless result (StaysOpen S.Store connection.old connection.new) }
-    ensures working { Unless result (StillWorks S.Store connection.old connection.new) }
+    ensures works { WorksOn S.Store (Unless result) connection.old connection.new }
     ensures carries { IsClean S.Store connection.new
         → Carries (λ _. machine.Done) tenant.now (machine.create_bucket at bucket.now locked)
         (tables S.Store connection.old) (tables S.Store connection.new) result }
@@ -115,9 +113,7 @@ pub fn head_bucket<S: Alter>(
     bucket: &BucketName,
 ) -> Result<(), StepError<Refusal>>
     requires working { Works S.Store connection.old }
-    ensures within { StaysWithin S.Store connection.old connection.new }
-    ensures opens { Unless result (StaysOpen S.Store connection.old connection.new) }
-    ensures working { Unless result (StillWorks S.Store connection.old connection.new) }
+    ensures works { WorksOn S.Store (Unless result) connection.old connection.new }
     ensures carries { IsClean S.Store connection.new
         → Carries (λ _. machine.Done) tenant.now (machine.head_bucket bucket.now)
         (tables S.Store connection.old) (tables S.Store connection.new) result }
@@ -133,9 +129,7 @@ pub fn versioning<S: Alter>(
     bucket: &BucketName,
 ) -> Result<BucketState, StepError<Refusal>>
     requires working { Works S.Store connection.old }
-    ensures within { StaysWithin S.Store connection.old connection.new }
-    ensures opens { Unless result (StaysOpen S.Store connection.old connection.new) }
-    ensures working { Unless result (StillWorks S.Store connection.old connection.new) }
+    ensures works { WorksOn S.Store (Unless result) connection.old connection.new }
     ensures carries { IsClean S.Store connection.new
         → Carries machine.Versioning tenant.now (machine.get_versioning bucket.now)
         (tables S.Store connection.old) (tables S.Store connection.new) result }
@@ -162,9 +156,7 @@ fn require_kept<S: Alter>(
     state: BucketState,
 ) -> Result<(), StepError<Refusal>>
     requires working { Works S.Store connection.old }
-    ensures within { StaysWithin S.Store connection.old connection.new }
-    ensures opens { Unless result (StaysOpen S.Store connection.old connection.new) }
-    ensures working { Unless result (StillWorks S.Store connection.old connection.new) }
+    ensures works { WorksOn S.Store (Unless result) connection.old connection.new }
     ensures decides { IsClean S.Store connection.new
         → Decides (λ _. tt) (versions_kept tenant.now bucket.now state (tables S.Store connection.old))
         (tables S.Store connection.old) (tables S.Store connection.new) result }
@@ -186,9 +178,7 @@ pub fn set_versioning<S: Alter>(
 ) -> Result<(), StepError<Refusal>>
     requires working { Works S.Store connection.old }
     requires kept { state ≢ BucketState.Unversioned }
-    ensures within { StaysWithin S.Store connection.old connection.new }
-    ensures opens { Unless result (StaysOpen S.Store connection.old connection.new) }
-    ensures working { Unless result (StillWorks S.Store connection.old connection.new) }
+    ensures works { WorksOn S.Store (Unless result) connection.old connection.new }
     ensures carries { IsClean S.Store connection.new
         → Carries (λ _. machine.Done) tenant.now (machine.put_versioning bucket.now state)
         (tables S.Store connection.old) (tables S.Store connection.new) result }
@@ -206,16 +196,14 @@ fn has_nothing<S: Alter>(
     bucket: &str,
 ) -> Result<bool, Error>
     requires inside { InTransaction S.Store connection.old }
-    ensures within { StaysWithin S.Store connection.old connection.new }
-    ensures opens { OnOk result (StaysOpen S.Store connection.old connection.new) }
-    ensures same { OnOk result (ChangesNothing S.Store connection.old connection.new) }
+    ensures reads { MayRead S.Store connection.old connection.new result }
     ensures found { IfOk result (λ found. IsClean S.Store connection.new
         → found ≡ is_empty tenant.now bucket.now (tables S.Store connection.old)) }
 {
-    if rows::versions::bucket_has_versions(connection, tenant, bucket)? {
+    if bucket_has(connection, tenant, bucket, Content::Version)? {
         return Ok(false);
     }
-    Ok(!rows::uploads::bucket_has_uploads(connection, tenant, bucket)?)
+    Ok(!bucket_has(connection, tenant, bucket, Content::Upload)?)
 }
 
 /// Whether no version, no marker and no upload is in a tenant's bucket: BucketNotEmpty.
@@ -225,9 +213,7 @@ fn require_empty<S: Alter>(
     bucket: &BucketName,
 ) -> Result<(), StepError<Refusal>>
     requires working { Works S.Store connection.old }
-    ensures within { StaysWithin S.Store connection.old connection.new }
-    ensures opens { Unless result (StaysOpen S.Store connection.old connection.new) }
-    ensures working { Unless result (StillWorks S.Store connection.old connection.new) }
+    ensures works { WorksOn S.Store (Unless result) connection.old connection.new }
     ensures decides { IsClean S.Store connection.new
         → Decides (λ _. tt) (emptiness tenant.now bucket.now (tables S.Store connection.old))
         (tables S.Store connection.old) (tables S.Store connection.new) result }
@@ -245,12 +231,9 @@ fn drop_bucket<S: Alter>(
     bucket: &BucketName,
 ) -> Result<(), Trouble>
     requires inside { InTransaction S.Store connection.old }
-    ensures within { StaysWithin S.Store connection.old connection.new }
-    ensures opens { OnOk result (StaysOpen S.Store connection.old connection.new) }
-    ensures holds { OnOk result (Becomes S.Store connection.old connection.new
-        (without_bucket tenant.now bucket.now)) }
+    ensures changes { Changes S.Store connection.old connection.new result (without_bucket tenant.now bucket.now) }
 {
-    or_trouble(rows::locks::delete_lock(connection, tenant.as_str(), bucket.as_str()))?;
+    or_trouble(delete_named(connection, tenant.as_str(), bucket.as_str(), Named::Lock))?;
     or_trouble(rows::buckets::delete_bucket(connection, tenant.as_str(), bucket.as_str()))?;
     Ok(())
 }
@@ -263,9 +246,7 @@ pub fn delete_bucket<S: Alter>(
     bucket: &BucketName,
 ) -> Result<RemovedEntry, StepError<Refusal>>
     requires working { Works S.Store connection.old }
-    ensures within { StaysWithin S.Store connection.old connection.new }
-    ensures opens { Unless result (StaysOpen S.Store connection.old connection.new) }
-    ensures working { Unless result (StillWorks S.Store connection.old connection.new) }
+    ensures works { WorksOn S.Store (Unless result) connection.old connection.new }
     ensures carries { IsClean S.Store connection.new
         → Carries removed_answer tenant.now (machine.delete_bucket bucket.now)
         (tables S.Store connection.old) (tables S.Store connection.new) result }
@@ -273,10 +254,7 @@ pub fn delete_bucket<S: Alter>(
     bucket_state(connection, tenant, bucket)?;
     require_empty(connection, tenant, bucket)?;
     drop_bucket(connection, tenant, bucket)?;
-    Ok(RemovedEntry {
-        id: None,
-        marker: false,
-    })
+    Ok(nothing_told())
 }
 
 /// A bucket of a listing, as it is told. A moment that is none can't be read.
@@ -309,13 +287,11 @@ pub fn list_buckets<S: Alter>(
     tenant: &TenantName,
 ) -> Result<Vec<BucketEntry>, StepError<Refusal>>
     requires working { Works S.Store connection.old }
-    ensures within { StaysWithin S.Store connection.old connection.new }
-    ensures opens { Unless result (StaysOpen S.Store connection.old connection.new) }
-    ensures working { Unless result (StillWorks S.Store connection.old connection.new) }
+    ensures works { WorksOn S.Store (Unless result) connection.old connection.new }
     ensures carries { IsClean S.Store connection.new
         → Carries (λ buckets. machine.Buckets (map bucket_view buckets.items)) tenant.now machine.list_buckets
         (tables S.Store connection.old) (tables S.Store connection.new) result }
 {
-    let listed = or_trouble(rows::buckets::bucket_list(connection, alloc, tenant.as_str()))?;
+    let listed: Vec<ListedBucket> = or_trouble(list_of(connection, alloc, tenant.as_str()))?;
     Ok(bucket_entries(alloc, &listed)?)
 }

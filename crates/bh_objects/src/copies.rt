@@ -7,14 +7,15 @@ ghost use Rattle.bh_storage.specs.Calls.{Unless, Decides, Carries};
 ghost use Rattle.bh_view.specs.Blocks.{whole};
 ghost use Rattle.bh_view.specs.Put.{row_number};
 ghost use Rattle.bh_view.specs.View.{view, latest_of};
-ghost use Rattle.bh_schema.specs.Connections.{IsClean, tables, InTransaction, StaysWithin, StaysOpen, Becomes};
+ghost use Rattle.bh_schema.specs.Connections.{IsClean, tables, InTransaction};
 ghost use Rattle.bh_schema.specs.Views.{head_seen};
-ghost use Rattle.bh_schema.specs.Working.{Works, StillWorks};
+ghost use Rattle.bh_schema.specs.Working.{Works, WorksOn};
+ghost use Rattle.bh_objects.specs.Calls.{Changes};
 ghost use Rattle.bh_objects.specs.Found.{IsKeyText, IsHeld, counts_in, mode_in};
 ghost use Rattle.bh_objects.specs.Copies.{version_read, copy_written};
 ghost use Rattle.bh_objects.specs.Dates.{IsPlaced};
 
-use crate::dates::{add_date, new_date};
+use crate::dates::{new_date, set_date};
 use crate::heads::wanted_head;
 use crate::ids::new_id_told;
 use crate::quotas::{NewEntry, new_entry};
@@ -69,16 +70,15 @@ fn source_head<S: Alter>(
     copy: &NewCopy<'_>,
 ) -> Result<VersionHead, StepError<Refusal>>
     requires { Works S.Store connection.old }
-    ensures within { StaysWithin S.Store connection.old connection.new }
-    ensures opens { Unless result (StaysOpen S.Store connection.old connection.new) }
-    ensures working { Unless result (StillWorks S.Store connection.old connection.new) }
+    ensures works { WorksOn S.Store (Unless result) connection.old connection.new }
     ensures decides { IsClean S.Store connection.new
         → Decides (λ head. version_read copy.now.tenant.now (tables S.Store connection.old) (head_seen head))
         (machine.source_version copy.now.source_bucket.now copy.now.source_key.now copy.now.version
         (view (tables S.Store connection.old) copy.now.tenant.now))
         (tables S.Store connection.old) (tables S.Store connection.new) result }
     ensures sized { IfOk result (λ head. IsClean S.Store connection.new
-        → head.size ≡ length (whole (tables S.Store connection.old).refs (tables S.Store connection.old).blocks (copy.now.tenant.now, head.seq))) }
+        → head.size ≡ length (whole (tables S.Store connection.old).refs (tables S.Store connection.old).blocks
+        (copy.now.tenant.now, head.seq))) }
 {
     let (bucket, key) = (copy.source_bucket, copy.source_key);
     bucket_state(connection, copy.tenant, bucket)?;
@@ -101,11 +101,9 @@ fn write_copy<S: Alter>(
     requires inside { InTransaction S.Store connection.old }
     requires held { IsClean S.Store connection.old
         → IsHeld copy.now.tenant.now copy.now.bucket.now copy.now.key.now entry.replaced (tables S.Store connection.old) }
-    ensures within { StaysWithin S.Store connection.old connection.new }
-    ensures opens { OnOk result (StaysOpen S.Store connection.old connection.new) }
-    ensures holds { OnOk result (Becomes S.Store connection.old connection.new
+    ensures changes { Changes S.Store connection.old connection.new result
         (copy_written mode entry.numbers.before entry.numbers.after entry.replaced
-        copy.now.tenant.now copy.now.bucket.now copy.now.key.now copy.now.at (head_seen head.now))) }
+        copy.now.tenant.now copy.now.bucket.now copy.now.key.now copy.now.at (head_seen head.now)) }
     ensures key { OnOk result (IsKeyText copy.now.key.now) }
 {
     let source = head.seq;
@@ -151,9 +149,7 @@ fn store_copy<S: Alter>(
     requires sized { IsClean S.Store connection.old
         → head.now.size ≡ length (whole (tables S.Store connection.old).refs (tables S.Store connection.old).blocks
         (copy.now.tenant.now, head.now.seq)) }
-    ensures within { StaysWithin S.Store connection.old connection.new }
-    ensures opens { Unless result (StaysOpen S.Store connection.old connection.new) }
-    ensures working { Unless result (StillWorks S.Store connection.old connection.new) }
+    ensures works { WorksOn S.Store (Unless result) connection.old connection.new }
     ensures carries { IsClean S.Store connection.new
         → Carries (λ numbers. machine.Copied (machine.id_told mode (new_id mode numbers.before.version)) copy.now.at
         (string_bytes head.now.checksum))
@@ -189,9 +185,7 @@ pub fn copy_object<S: Alter>(
 ) -> Result<CopiedVersion, StepError<Refusal>>
     requires working { Works S.Store connection.old }
     requires early { IsClean S.Store connection.old → copy.now.at ≤ latest_of (tables S.Store connection.old) }
-    ensures within { StaysWithin S.Store connection.old connection.new }
-    ensures opens { Unless result (StaysOpen S.Store connection.old connection.new) }
-    ensures working { Unless result (StillWorks S.Store connection.old connection.new) }
+    ensures works { WorksOn S.Store (Unless result) connection.old connection.new }
     ensures carries { IsClean S.Store connection.new
         → Carries copied_answer copy.now.tenant.now
         (machine.copy_object copy.now.at copy.now.bucket.now copy.now.key.now copy.now.source_bucket.now copy.now.source_key.now
@@ -202,7 +196,7 @@ pub fn copy_object<S: Alter>(
     let head = source_head(connection, copy)?;
     let until = new_date(connection, copy.tenant, copy.bucket, copy.date, copy.at)?;
     let numbers = store_copy(connection, copy, mode, &head)?;
-    add_date(connection, copy.tenant, numbers.before.entry, until)?;
+    set_date(connection, copy.tenant, numbers.before.entry, None, until)?;
     Ok(CopiedVersion {
         id: new_id_told(mode, numbers.before.version),
         modified: copy.at,

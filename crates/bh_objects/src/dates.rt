@@ -1,11 +1,13 @@
 //! The dates before which versions of locked buckets may not be deleted: read, decided and written.
-ghost use Rattle.std.specs.Prelude.{◌≡◌, ◌≤◌, ℕ, Some, IfOk, OnOk};
+ghost use Rattle.std.specs.Prelude.{◌≡◌, ◌<◌, ◌≤◌, ◌^◌, ℕ, Some, IfOk, OnOk};
 ghost use Rattle.bh_model.specs.Retention as machine;
 ghost use Rattle.bh_storage.specs.Calls.{Unless, Decides};
 ghost use Rattle.bh_view.specs.View as spec;
-ghost use Rattle.bh_schema.specs.Connections.{IsClean, tables, InTransaction, StaysWithin, StaysOpen, ChangesNothing, Becomes};
-ghost use Rattle.bh_schema.specs.Working.{Works, StillWorks};
-ghost use Rattle.bh_objects.specs.Dates.{date_at, new_date_at, past_by, past_date_in, present_by, present_date_in, with_first_date, with_date, without_date};
+ghost use Rattle.bh_schema.specs.Calls.{MayRead};
+ghost use Rattle.bh_schema.specs.Connections.{IsClean, tables, InTransaction};
+ghost use Rattle.bh_schema.specs.Working.{Works, WorksOn};
+ghost use Rattle.bh_objects.specs.Calls.{Changes};
+ghost use Rattle.bh_objects.specs.Dates.{date_at, new_date_at, past_by, past_date_in, present_by, present_date_in, with_date};
 
 use crate::ids::id_of;
 use crate::reads::bucket_locked;
@@ -20,7 +22,7 @@ use bh_types::id::VersionId;
 use bh_types::moment::Moment;
 use bh_types::names::TenantName;
 use bh_types::refusal::Refusal;
-use sqlite::{Alter, Connection};
+use sqlite::{Alter, Connection, Error};
 
 /// The date of a tenant's version with this entry number, if it has one.
 pub fn version_date<S: Alter>(
@@ -29,9 +31,7 @@ pub fn version_date<S: Alter>(
     seq: u64,
 ) -> Result<Option<Moment>, Trouble>
     requires { InTransaction S.Store connection.old }
-    ensures within { StaysWithin S.Store connection.old connection.new }
-    ensures opens { OnOk result (StaysOpen S.Store connection.old connection.new) }
-    ensures same { OnOk result (ChangesNothing S.Store connection.old connection.new) }
+    ensures reads { MayRead S.Store connection.old connection.new result }
     ensures found { IfOk result (λ date. IsClean S.Store connection.new
         → date ≡ date_at tenant.now seq (tables S.Store connection.old)) }
 {
@@ -58,9 +58,7 @@ pub fn new_date<S: Alter>(
     at: Moment,
 ) -> Result<Option<Moment>, StepError<Refusal>>
     requires working { Works S.Store connection.old }
-    ensures within { StaysWithin S.Store connection.old connection.new }
-    ensures opens { Unless result (StaysOpen S.Store connection.old connection.new) }
-    ensures working { Unless result (StillWorks S.Store connection.old connection.new) }
+    ensures works { WorksOn S.Store (Unless result) connection.old connection.new }
     ensures decides { IsClean S.Store connection.new
         → Decides (λ until. until) (new_date_at tenant.now bucket.now given at (tables S.Store connection.old))
         (tables S.Store connection.old) (tables S.Store connection.new) result }
@@ -98,9 +96,7 @@ pub fn past_date<S: Alter>(
     at: Moment,
 ) -> Result<Option<Moment>, StepError<Refusal>>
     requires working { Works S.Store connection.old }
-    ensures within { StaysWithin S.Store connection.old connection.new }
-    ensures opens { Unless result (StaysOpen S.Store connection.old connection.new) }
-    ensures working { Unless result (StillWorks S.Store connection.old connection.new) }
+    ensures works { WorksOn S.Store (Unless result) connection.old connection.new }
     ensures decides { IsClean S.Store connection.new
         → Decides (λ date. date) (past_date_in tenant.now seq at (tables S.Store connection.old))
         (tables S.Store connection.old) (tables S.Store connection.new) result }
@@ -152,9 +148,7 @@ pub fn present_date<S: Alter>(
     at: Moment,
 ) -> Result<Option<Moment>, StepError<Refusal>>
     requires working { Works S.Store connection.old }
-    ensures within { StaysWithin S.Store connection.old connection.new }
-    ensures opens { Unless result (StaysOpen S.Store connection.old connection.new) }
-    ensures working { Unless result (StillWorks S.Store connection.old connection.new) }
+    ensures works { WorksOn S.Store (Unless result) connection.old connection.new }
     ensures decides { IsClean S.Store connection.new
         → Decides (λ date. date) (present_date_in tenant.now bucket.now head.now.id head.now.seq until at (tables S.Store connection.old))
         (tables S.Store connection.old) (tables S.Store connection.new) result }
@@ -165,93 +159,50 @@ pub fn present_date<S: Alter>(
     Ok(require_later(able, present, until, at)?)
 }
 
-/// Gives a tenant's version with this entry number its first date, if it gets one.
-pub fn add_date<S: Alter>(
+/// Writes a date in the place of another, or of none, or takes it away.
+fn write_date<S: Alter>(
     connection: &mut Connection<S>,
-    tenant: &TenantName,
+    tenant: &str,
     seq: u64,
-    date: Option<Moment>,
-) -> Result<(), Trouble>
+    present: Option<Moment>,
+    next: Option<Moment>,
+) -> Result<(), Error>
     requires inside { InTransaction S.Store connection.old }
-    ensures within { StaysWithin S.Store connection.old connection.new }
-    ensures opens { OnOk result (StaysOpen S.Store connection.old connection.new) }
-    ensures holds { OnOk result (Becomes S.Store connection.old connection.new
-        (with_first_date tenant.now seq date)) }
-    ensures near { OnOk result ((until : ℕ) → date ≡ Some until → until ≤ 251_000_000_000) }
+    requires small { seq < 2 ^ 63 }
+    ensures changes { Changes S.Store connection.old connection.new result (with_date tenant.now seq present next) }
 {
-    // No counter gives such a number.
-    if seq >= COUNTER_END {
-        return Err(Trouble::Store);
-    }
-    match date {
-        None => Ok(()),
-        Some(until) => {
-            or_trouble(rows::retains::insert_retain(
-                connection,
-                tenant.as_str(),
-                seq,
-                until.seconds(),
-            ))?;
+    match (present, next) {
+        (None, None) => Ok(()),
+        (None, Some(until)) => {
+            rows::retains::insert_retain(connection, tenant, seq, until.seconds())?;
+            Ok(())
+        }
+        (Some(_), Some(until)) => {
+            rows::retains::set_until(connection, tenant, seq, until.seconds())?;
+            Ok(())
+        }
+        (Some(_), None) => {
+            rows::retains::delete_retain(connection, tenant, seq)?;
             Ok(())
         }
     }
 }
 
-/// Sets the date of a tenant's version with this entry number, which has this one at present.
+/// Gives a tenant's version with this entry number, which has the date `present` or none, another date, or none.
 pub fn set_date<S: Alter>(
     connection: &mut Connection<S>,
     tenant: &TenantName,
     seq: u64,
     present: Option<Moment>,
-    until: Moment,
+    next: Option<Moment>,
 ) -> Result<(), Trouble>
     requires inside { InTransaction S.Store connection.old }
-    ensures within { StaysWithin S.Store connection.old connection.new }
-    ensures opens { OnOk result (StaysOpen S.Store connection.old connection.new) }
-    ensures holds { OnOk result (Becomes S.Store connection.old connection.new
-        (with_date tenant.now seq present until)) }
-    ensures near { OnOk result (until ≤ 251_000_000_000) }
+    ensures changes { Changes S.Store connection.old connection.new result (with_date tenant.now seq present next) }
+    ensures near { OnOk result ((until : ℕ) → next ≡ Some until → until ≤ 251_000_000_000) }
 {
     // No counter gives such a number.
     if seq >= COUNTER_END {
         return Err(Trouble::Store);
     }
-    match present {
-        None => add_date(connection, tenant, seq, Some(until)),
-        Some(_) => {
-            or_trouble(rows::retains::set_until(
-                connection,
-                tenant.as_str(),
-                seq,
-                until.seconds(),
-            ))?;
-            Ok(())
-        }
-    }
-}
-
-/// Takes the date of a tenant's version with this entry number away, which has this one at present.
-pub fn drop_date<S: Alter>(
-    connection: &mut Connection<S>,
-    tenant: &TenantName,
-    seq: u64,
-    present: Option<Moment>,
-) -> Result<(), Trouble>
-    requires inside { InTransaction S.Store connection.old }
-    ensures within { StaysWithin S.Store connection.old connection.new }
-    ensures opens { OnOk result (StaysOpen S.Store connection.old connection.new) }
-    ensures holds { OnOk result (Becomes S.Store connection.old connection.new
-        (without_date tenant.now seq present)) }
-{
-    // No counter gives such a number.
-    if seq >= COUNTER_END {
-        return Err(Trouble::Store);
-    }
-    match present {
-        None => Ok(()),
-        Some(_) => {
-            or_trouble(rows::retains::delete_retain(connection, tenant.as_str(), seq))?;
-            Ok(())
-        }
-    }
+    or_trouble(write_date(connection, tenant.as_str(), seq, present, next))
 }

@@ -1,4 +1,4 @@
-ghost use Rattle.std.specs.Prelude.{◌≡◌, ◌≢◌, ◌≤◌, ◌<◌, ◌^◌, find, Some, None, option_map, Ok, false, OnOk};
+ghost use Rattle.std.specs.Prelude.{◌≡◌, ◌≢◌, ◌≤◌, ◌<◌, ◌^◌, find, Some, None, option_map, Ok, false};
 ghost use Rattle.bh_types.specs.declared.bucket_state.BucketState.TheVariants.{Unversioned};
 ghost use Rattle.bh_types.specs.declared.wanted.Wanted.TheVariants.{Current, Named};
 ghost use Rattle.bh_model.specs.Operations as machine;
@@ -6,16 +6,17 @@ ghost use Rattle.bh_storage.specs.Answers.{removed_answer};
 ghost use Rattle.bh_storage.specs.Calls.{Unless, Carries};
 ghost use Rattle.bh_tables.specs.Shown.{is_version};
 ghost use Rattle.bh_view.specs.View.{view, latest_of, id_of};
-ghost use Rattle.bh_schema.specs.Connections.{IsClean, tables, InTransaction, StaysWithin, StaysOpen, Becomes};
+ghost use Rattle.bh_schema.specs.Connections.{IsClean, tables, InTransaction};
 ghost use Rattle.bh_schema.specs.Written.{bytes_of_id};
-ghost use Rattle.bh_schema.specs.Working.{Works, StillWorks};
+ghost use Rattle.bh_schema.specs.Working.{Works, WorksOn};
 ghost use Rattle.bh_schema.specs.Rows.{seen_head};
 ghost use Rattle.bh_schema.specs.Views.{head_seen};
-ghost use Rattle.bh_objects.specs.Dates.{without_date};
+ghost use Rattle.bh_objects.specs.Calls.{Changes};
+ghost use Rattle.bh_objects.specs.Dates.{with_date};
 ghost use Rattle.bh_objects.specs.Found.{mode_in};
 ghost use Rattle.bh_objects.specs.Writes.{without_entry};
 
-use crate::dates::{drop_date, past_date};
+use crate::dates::{past_date, set_date};
 use crate::heads::{is_marker, numbered_head};
 use crate::ids::{number_of, told_id};
 use crate::quotas::{Replaced, as_replaced};
@@ -35,8 +36,8 @@ use bh_types::refusal::Refusal;
 use bh_types::wanted::Wanted;
 use sqlite::{Alter, Connection};
 
-/// What is told where no delete marker is made and no entry is taken out by its id.
-fn nothing_told() -> RemovedEntry
+/// What is told where no delete marker is made, and no entry is taken out by its id.
+pub fn nothing_told() -> RemovedEntry
     ensures { removed_answer result ≡ machine.Removed None false }
 {
     RemovedEntry {
@@ -58,9 +59,7 @@ fn make_marker<S: Alter>(
     requires early { IsClean S.Store connection.old → at ≤ latest_of (tables S.Store connection.old) }
     requires state { IsClean S.Store connection.old → mode_in bucket.now (view (tables S.Store connection.old) tenant.now) ≡ Ok mode }
     requires versioned { mode ≢ Unversioned }
-    ensures within { StaysWithin S.Store connection.old connection.new }
-    ensures opens { Unless result (StaysOpen S.Store connection.old connection.new) }
-    ensures working { Unless result (StillWorks S.Store connection.old connection.new) }
+    ensures works { WorksOn S.Store (Unless result) connection.old connection.new }
     ensures carries { IsClean S.Store connection.new
         → Carries removed_answer tenant.now (machine.delete_object at bucket.now key.now Current)
         (tables S.Store connection.old) (tables S.Store connection.new) result }
@@ -86,9 +85,7 @@ fn delete_null<S: Alter>(
     requires working { Works S.Store connection.old }
     requires state { IsClean S.Store connection.old
         → mode_in bucket.now (view (tables S.Store connection.old) tenant.now) ≡ Ok Unversioned }
-    ensures within { StaysWithin S.Store connection.old connection.new }
-    ensures opens { Unless result (StaysOpen S.Store connection.old connection.new) }
-    ensures working { Unless result (StillWorks S.Store connection.old connection.new) }
+    ensures works { WorksOn S.Store (Unless result) connection.old connection.new }
     ensures carries { IsClean S.Store connection.new
         → Carries removed_answer tenant.now (machine.delete_object at bucket.now key.now Current)
         (tables S.Store connection.old) (tables S.Store connection.new) result }
@@ -111,12 +108,10 @@ fn drop_dated<S: Alter>(
     requires small { number < 2 ^ 62 }
     requires held { IsClean S.Store connection.old
         → bytes_of_id tenant.now bucket.now key.now number (tables S.Store connection.old) ≡ entry.size }
-    ensures within { StaysWithin S.Store connection.old connection.new }
-    ensures opens { OnOk result (StaysOpen S.Store connection.old connection.new) }
-    ensures holds { OnOk result (Becomes S.Store connection.old connection.new
-        (λ rows. without_entry tenant.now bucket.now key.now number entry.seq (without_date tenant.now entry.seq date rows))) }
+    ensures changes { Changes S.Store connection.old connection.new result
+        (λ rows. without_entry tenant.now bucket.now key.now number entry.seq (with_date tenant.now entry.seq date None rows)) }
 {
-    drop_date(connection, tenant, entry.seq, date)?;
+    set_date(connection, tenant, entry.seq, date, None)?;
     drop_entry(connection, tenant, bucket, key, number, entry)
 }
 
@@ -139,9 +134,7 @@ fn delete_found<S: Alter>(
     requires small { number < 2 ^ 62 }
     requires found { IsClean S.Store connection.old → Some (head_seen head.now) ≡ option_map seen_head
         (find (is_version tenant.now bucket.now key.now number) (tables S.Store connection.old).versions) }
-    ensures within { StaysWithin S.Store connection.old connection.new }
-    ensures opens { Unless result (StaysOpen S.Store connection.old connection.new) }
-    ensures working { Unless result (StillWorks S.Store connection.old connection.new) }
+    ensures works { WorksOn S.Store (Unless result) connection.old connection.new }
     ensures carries { IsClean S.Store connection.new
         → Carries removed_answer tenant.now (machine.delete_object at bucket.now key.now (Named id))
         (tables S.Store connection.old) (tables S.Store connection.new) result }
@@ -171,9 +164,7 @@ fn delete_numbered<S: Alter>(
     requires state { IsClean S.Store connection.old → mode_in bucket.now (view (tables S.Store connection.old) tenant.now) ≡ Ok mode }
     requires number { id_of number ≡ id }
     requires small { number < 2 ^ 62 }
-    ensures within { StaysWithin S.Store connection.old connection.new }
-    ensures opens { Unless result (StaysOpen S.Store connection.old connection.new) }
-    ensures working { Unless result (StillWorks S.Store connection.old connection.new) }
+    ensures works { WorksOn S.Store (Unless result) connection.old connection.new }
     ensures carries { IsClean S.Store connection.new
         → Carries removed_answer tenant.now (machine.delete_object at bucket.now key.now (Named id))
         (tables S.Store connection.old) (tables S.Store connection.new) result }
@@ -197,9 +188,7 @@ fn delete_current<S: Alter>(
     requires working { Works S.Store connection.old }
     requires early { IsClean S.Store connection.old → at ≤ latest_of (tables S.Store connection.old) }
     requires state { IsClean S.Store connection.old → mode_in bucket.now (view (tables S.Store connection.old) tenant.now) ≡ Ok mode }
-    ensures within { StaysWithin S.Store connection.old connection.new }
-    ensures opens { Unless result (StaysOpen S.Store connection.old connection.new) }
-    ensures working { Unless result (StillWorks S.Store connection.old connection.new) }
+    ensures works { WorksOn S.Store (Unless result) connection.old connection.new }
     ensures carries { IsClean S.Store connection.new
         → Carries removed_answer tenant.now (machine.delete_object at bucket.now key.now Current)
         (tables S.Store connection.old) (tables S.Store connection.new) result }
@@ -223,9 +212,7 @@ fn delete_named<S: Alter>(
 ) -> Result<RemovedEntry, StepError<Refusal>>
     requires working { Works S.Store connection.old }
     requires state { IsClean S.Store connection.old → mode_in bucket.now (view (tables S.Store connection.old) tenant.now) ≡ Ok mode }
-    ensures within { StaysWithin S.Store connection.old connection.new }
-    ensures opens { Unless result (StaysOpen S.Store connection.old connection.new) }
-    ensures working { Unless result (StillWorks S.Store connection.old connection.new) }
+    ensures works { WorksOn S.Store (Unless result) connection.old connection.new }
     ensures carries { IsClean S.Store connection.new
         → Carries removed_answer tenant.now (machine.delete_object at bucket.now key.now (Named id))
         (tables S.Store connection.old) (tables S.Store connection.new) result }
@@ -248,9 +235,7 @@ pub fn delete_object<S: Alter>(
 ) -> Result<RemovedEntry, StepError<Refusal>>
     requires working { Works S.Store connection.old }
     requires early { IsClean S.Store connection.old → at ≤ latest_of (tables S.Store connection.old) }
-    ensures within { StaysWithin S.Store connection.old connection.new }
-    ensures opens { Unless result (StaysOpen S.Store connection.old connection.new) }
-    ensures working { Unless result (StillWorks S.Store connection.old connection.new) }
+    ensures works { WorksOn S.Store (Unless result) connection.old connection.new }
     ensures carries { IsClean S.Store connection.new
         → Carries removed_answer tenant.now (machine.delete_object at bucket.now key.now wanted)
         (tables S.Store connection.old) (tables S.Store connection.new) result }

@@ -6,9 +6,10 @@ ghost use Rattle.bh_view.specs.Blocks.{whole};
 ghost use Rattle.bh_view.specs.Bodies.{HasBodies};
 ghost use Rattle.bh_view.specs.View.{view};
 ghost use Rattle.bh_objects.specs.Found.{mode_in};
-ghost use Rattle.bh_schema.specs.Connections.{IsClean, tables, HasHost, StaysWithin, StaysOpen, ChangesNothing};
+ghost use Rattle.bh_schema.specs.Calls.{MayRead};
+ghost use Rattle.bh_schema.specs.Connections.{IsClean, tables, HasHost};
 ghost use Rattle.bh_cache.specs.Kept.{Agrees};
-ghost use Rattle.bh_schema.specs.Working.{Works, StillWorks};
+ghost use Rattle.bh_schema.specs.Working.{Works, WorksOn};
 ghost use Rattle.bh_storage.specs.Answers.{found_answer};
 ghost use Rattle.bh_storage.specs.Calls.{Unless, Carries};
 ghost use Rattle.bh_storage.specs.Plans.{to_come, IsMeasured};
@@ -81,12 +82,11 @@ pub fn find_object<S: Alter>(
 ) -> Result<FoundVersion, StepError<Rejection>>
     requires working { Works S.Store connection.old }
     requires mode { IsClean S.Store connection.old → mode_in bucket.now (view (tables S.Store connection.old) tenant.now) ≡ Ok mode }
-    ensures within { StaysWithin S.Store connection.old connection.new }
-    ensures opens { Unless result (StaysOpen S.Store connection.old connection.new) }
-    ensures working { Unless result (StillWorks S.Store connection.old connection.new) }
+    ensures works { WorksOn S.Store (Unless result) connection.old connection.new }
     ensures same { Unless result (IsClean S.Store connection.new → tables S.Store connection.new ≡ tables S.Store connection.old) }
     ensures carries { IsClean S.Store connection.new
-        → Carries (found_answer (tables S.Store connection.new)) tenant.now (machine.get_object bucket.now key.now wanted (option_copied range.entry))
+        → Carries (found_answer (tables S.Store connection.new)) tenant.now
+        (machine.get_object bucket.now key.now wanted (option_copied range.entry))
         (tables S.Store connection.old) (tables S.Store connection.new) result }
     ensures measured { IfOk result (λ found. IsClean S.Store connection.new → IsMeasured (tables S.Store connection.new) found) }
 {
@@ -111,11 +111,10 @@ pub fn get_object<S: Alter>(
     range: Option<&[u8]>,
 ) -> Result<FoundVersion, StepError<Rejection>>
     requires { Works S.Store connection.old }
-    ensures within { StaysWithin S.Store connection.old connection.new }
-    ensures opens { Unless result (StaysOpen S.Store connection.old connection.new) }
-    ensures working { Unless result (StillWorks S.Store connection.old connection.new) }
+    ensures works { WorksOn S.Store (Unless result) connection.old connection.new }
     ensures carries { IsClean S.Store connection.new
-        → Carries (found_answer (tables S.Store connection.new)) tenant.now (machine.get_object bucket.now key.now wanted (option_copied range.entry))
+        → Carries (found_answer (tables S.Store connection.new)) tenant.now
+        (machine.get_object bucket.now key.now wanted (option_copied range.entry))
         (tables S.Store connection.old) (tables S.Store connection.new) result }
     ensures measured { IfOk result (λ found. IsClean S.Store connection.new → IsMeasured (tables S.Store connection.new) found) }
 {
@@ -133,11 +132,10 @@ pub fn next_piece<S: Alter>(
 ) -> Result<Option<Vec<u8>>, Trouble>
     requires host { HasHost S.Store connection.old }
     requires agrees { IsClean S.Store connection.old → Agrees cache.old (tables S.Store connection.old).blocks }
-    ensures within { StaysWithin S.Store connection.old connection.new }
-    ensures opens { OnOk result (StaysOpen S.Store connection.old connection.new) }
-    ensures same { OnOk result (ChangesNothing S.Store connection.old connection.new) }
+    ensures reads { MayRead S.Store connection.old connection.new result }
     ensures agrees { OnOk result (IsClean S.Store connection.new → Agrees cache.new (tables S.Store connection.new).blocks) }
-    ensures gives { IfOk result (λ piece. IsClean S.Store connection.new → HasBodies (tables S.Store connection.old) → IfSome piece (λ bytes.
+    ensures gives { IfOk result (λ piece. IsClean S.Store connection.new → HasBodies (tables S.Store connection.old)
+        → IfSome piece (λ bytes.
         to_come plan.old (tables S.Store connection.old) ≡ bytes.items ++ to_come plan.new (tables S.Store connection.old))) }
     ensures ends { IfOk result (λ piece. IsClean S.Store connection.new → HasBodies (tables S.Store connection.old)
         → IfNone piece (to_come plan.old (tables S.Store connection.old) ≡ [])) }

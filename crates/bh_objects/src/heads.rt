@@ -1,13 +1,13 @@
-ghost use Rattle.std.specs.Prelude.{◌≡◌, ◌<◌, ◌^◌, find, option_map, IfOk, OnOk};
+ghost use Rattle.std.specs.Prelude.{◌≡◌, ◌<◌, ◌^◌, find, option_map, IfOk};
 ghost use Rattle.std.specs.Result.{result_map_both};
-ghost use Rattle.bh_types.specs.declared.wanted.Wanted.TheVariants.{Named};
 ghost use Rattle.bh_tables.specs.Shown.{is_version};
 ghost use Rattle.bh_view.specs.Wanted.{wanted_row};
 ghost use Rattle.bh_model.specs.Operations as machine;
-ghost use Rattle.bh_schema.specs.Connections.{IsClean, tables, InTransaction, StaysWithin, StaysOpen, WasOpen, ChangesNothing};
+ghost use Rattle.bh_schema.specs.Calls.{Reads, MayRead};
+ghost use Rattle.bh_schema.specs.Connections.{IsClean, tables, InTransaction};
 ghost use Rattle.bh_schema.specs.Rows.{seen_head, newest_at};
 ghost use Rattle.bh_schema.specs.Views.{head_seen};
-ghost use Rattle.bh_schema.specs.Working.{Works, StillWorks};
+ghost use Rattle.bh_schema.specs.Working.{Works, WorksOn};
 ghost use Rattle.bh_storage.specs.Answers.{head_answer};
 ghost use Rattle.bh_storage.specs.Calls.{Unless, Decides, Carries};
 ghost use Rattle.bh_objects.specs.Answers as spec;
@@ -22,7 +22,6 @@ use bh_storage::answer::ObjectHead;
 use bh_storage::error::{StepError, Trouble};
 use bh_types::bucket::BucketName;
 use bh_types::bucket_state::BucketState;
-use bh_types::id::VersionId;
 use bh_types::key::ObjectKey;
 use bh_types::names::TenantName;
 use bh_types::refusal::Refusal;
@@ -48,9 +47,7 @@ fn newest_head<S: Alter>(
     key: &ObjectKey,
 ) -> Result<Option<VersionHead>, Trouble>
     requires { InTransaction S.Store connection.old }
-    ensures within { StaysWithin S.Store connection.old connection.new }
-    ensures opens { OnOk result (WasOpen S.Store connection.old connection.new) }
-    ensures same { OnOk result (ChangesNothing S.Store connection.old connection.new) }
+    ensures reads { Reads S.Store connection.old connection.new result }
     ensures found { IfOk result (λ found. IsClean S.Store connection.new
         → option_map head_seen found ≡ option_map seen_head
         (newest_at tenant.now bucket.now key.now (tables S.Store connection.old).versions)) }
@@ -69,9 +66,7 @@ pub fn numbered_head<S: Alter>(
 ) -> Result<Option<VersionHead>, Trouble>
     requires inside { InTransaction S.Store connection.old }
     requires small { number < 2 ^ 62 }
-    ensures within { StaysWithin S.Store connection.old connection.new }
-    ensures opens { OnOk result (WasOpen S.Store connection.old connection.new) }
-    ensures same { OnOk result (ChangesNothing S.Store connection.old connection.new) }
+    ensures reads { Reads S.Store connection.old connection.new result }
     ensures found { IfOk result (λ found. IsClean S.Store connection.new
         → option_map head_seen found ≡ option_map seen_head
         (find (is_version tenant.now bucket.now key.now number) (tables S.Store connection.old).versions)) }
@@ -86,28 +81,6 @@ pub fn numbered_head<S: Alter>(
     ))
 }
 
-/// The version or delete marker of a key with this id, if there is one.
-fn named_head<S: Alter>(
-    connection: &mut Connection<S>,
-    tenant: &TenantName,
-    bucket: &BucketName,
-    key: &ObjectKey,
-    id: VersionId,
-) -> Result<Option<VersionHead>, Trouble>
-    requires { Works S.Store connection.old }
-    ensures within { StaysWithin S.Store connection.old connection.new }
-    ensures opens { OnOk result (StaysOpen S.Store connection.old connection.new) }
-    ensures same { OnOk result (ChangesNothing S.Store connection.old connection.new) }
-    ensures found { IfOk result (λ found. IsClean S.Store connection.new
-        → option_map head_seen found ≡ option_map seen_head
-        (wanted_row tenant.now bucket.now key.now (Named id) (tables S.Store connection.old).versions)) }
-{
-    match number_of(id) {
-        Some(number) => numbered_head(connection, tenant, bucket, key, number),
-        None => Ok(None),
-    }
-}
-
 /// The version or delete marker that a request speaks of, if there is one.
 fn find_head<S: Alter>(
     connection: &mut Connection<S>,
@@ -117,16 +90,17 @@ fn find_head<S: Alter>(
     wanted: Wanted,
 ) -> Result<Option<VersionHead>, Trouble>
     requires { Works S.Store connection.old }
-    ensures within { StaysWithin S.Store connection.old connection.new }
-    ensures opens { OnOk result (StaysOpen S.Store connection.old connection.new) }
-    ensures same { OnOk result (ChangesNothing S.Store connection.old connection.new) }
+    ensures reads { MayRead S.Store connection.old connection.new result }
     ensures found { IfOk result (λ found. IsClean S.Store connection.new
         → option_map head_seen found ≡ option_map seen_head
         (wanted_row tenant.now bucket.now key.now wanted (tables S.Store connection.old).versions)) }
 {
     match wanted {
         Wanted::Current => newest_head(connection, tenant, bucket, key),
-        Wanted::Named(id) => named_head(connection, tenant, bucket, key, id),
+        Wanted::Named(id) => match number_of(id) {
+            Some(number) => numbered_head(connection, tenant, bucket, key, number),
+            None => Ok(None),
+        },
         Wanted::Unknown => Ok(None),
     }
 }
@@ -184,9 +158,7 @@ pub fn wanted_head<S: Alter>(
     wanted: Wanted,
 ) -> Result<VersionHead, StepError<Rejection>>
     requires { Works S.Store connection.old }
-    ensures within { StaysWithin S.Store connection.old connection.new }
-    ensures opens { Unless result (StaysOpen S.Store connection.old connection.new) }
-    ensures working { Unless result (StillWorks S.Store connection.old connection.new) }
+    ensures works { WorksOn S.Store (Unless result) connection.old connection.new }
     ensures decides { IsClean S.Store connection.new
         → Decides head_seen (head_looked wanted (option_map seen_head
         (wanted_row tenant.now bucket.now key.now wanted (tables S.Store connection.old).versions)))
@@ -216,9 +188,7 @@ pub fn head_object<S: Alter>(
     wanted: Wanted,
 ) -> Result<ObjectHead, StepError<Rejection>>
     requires { Works S.Store connection.old }
-    ensures within { StaysWithin S.Store connection.old connection.new }
-    ensures opens { Unless result (StaysOpen S.Store connection.old connection.new) }
-    ensures working { Unless result (StillWorks S.Store connection.old connection.new) }
+    ensures works { WorksOn S.Store (Unless result) connection.old connection.new }
     ensures carries { IsClean S.Store connection.new
         → Carries head_answer tenant.now (machine.head_object bucket.now key.now wanted)
         (tables S.Store connection.old) (tables S.Store connection.new) result }

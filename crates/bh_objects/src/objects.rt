@@ -1,27 +1,23 @@
-ghost use Rattle.std.specs.Prelude.{◌≡◌, ◌≤◌, ◌<◌, ◌^◌, None, Ok, IfOk, OnOk};
+ghost use Rattle.std.specs.Prelude.{◌≡◌, Ok, IfOk, OnOk};
 ghost use Rattle.std.specs.Option.{option_copied};
-ghost use Rattle.bh_http.specs.Bodies.{IsWhole};
-ghost use Rattle.bh_model.specs.Operations as machine;
 ghost use Rattle.bh_storage.specs.Answers.{stored_answer};
 ghost use Rattle.bh_storage.specs.Calls.{Unless, UnlessSpoilt, Decides, OperatesBy};
-ghost use Rattle.bh_view.specs.Blocks.{AreDigests};
 ghost use Rattle.bh_view.specs.Bodies.{StoresPieces};
-ghost use Rattle.bh_view.specs.View.{latest_of, view};
-ghost use Rattle.bh_schema.specs.Connections.{IsClean, tables, InTransaction, StaysWithin, StaysOpen, Becomes};
-ghost use Rattle.bh_cache.specs.Kept.{AreCopies};
-ghost use Rattle.bh_schema.specs.Working.{Works, StillWorks, StillWorksBy};
-ghost use Rattle.bh_objects.specs.Admitting.{admitted_in, numbers_admitted};
+ghost use Rattle.bh_view.specs.View.{view};
+ghost use Rattle.bh_schema.specs.Connections.{IsClean, tables, StaysWithin, StaysOpen, Becomes};
+ghost use Rattle.bh_schema.specs.Working.{Works, WorksOn, WorksOnBy};
+ghost use Rattle.bh_objects.specs.Admitting.{admitted_in, numbers_admitted, put_step};
 ghost use Rattle.bh_objects.specs.Found.{mode_in, replaced_in, IsHeld, IsKeyText};
 ghost use Rattle.bh_objects.specs.Refusing.{IsReceived};
+ghost use Rattle.bh_objects.specs.Storing.{MayStore, MayPut};
 ghost use Rattle.bh_objects.specs.Writes.{object_written};
 
-use crate::bodies::{refused_checked, refused_whole, store_checked};
-use crate::dates::{add_date, new_date};
+use crate::bodies::{Blocks, refused_checked, refused_whole, store_checked};
+use crate::dates::{new_date, set_date};
 use crate::ids::new_id_told;
 use crate::quotas::{NewEntry, new_entry};
 use crate::reads::bucket_state;
 use crate::writes::{NewObject, write_object};
-use bh_cache::blocks::BlockCache;
 use bh_http::body::Body;
 use bh_schema::host::Digester;
 use bh_storage::answer::StoredVersion;
@@ -51,15 +47,14 @@ fn admit<S: Alter>(
     requires working { Works S.Store connection.old }
     requires mode { IsClean S.Store connection.old
         → mode_in object.now.bucket.now (view (tables S.Store connection.old) object.now.tenant.now) ≡ Ok mode }
-    ensures within { StaysWithin S.Store connection.old connection.new }
-    ensures opens { Unless result (StaysOpen S.Store connection.old connection.new) }
-    ensures working { Unless result (StillWorks S.Store connection.old connection.new) }
+    ensures works { WorksOn S.Store (Unless result) connection.old connection.new }
     ensures decides { IsClean S.Store connection.new
         → Decides numbers_admitted (admitted_in mode object.now.bucket.now object.now.key.now object.now.date object.now.at size
         (view (tables S.Store connection.old) object.now.tenant.now))
         (tables S.Store connection.old) (tables S.Store connection.new) result }
     ensures replaced { IfOk result (λ it. IsClean S.Store connection.new
-        → it.entry.replaced ≡ replaced_in mode object.now.tenant.now object.now.bucket.now object.now.key.now (tables S.Store connection.old)) }
+        → it.entry.replaced ≡ replaced_in mode object.now.tenant.now object.now.bucket.now object.now.key.now
+        (tables S.Store connection.old)) }
 {
     let until = new_date(
         connection,
@@ -83,35 +78,28 @@ fn admit<S: Alter>(
 /// BadDigest where another is given, with the rows that were written.
 fn store_object<S: Alter, D: Digester, B: Body>(
     connection: &mut Connection<S>,
-    cache: &BlockCache,
     alloc: Global,
-    digester: &D,
-    block_size: u64,
+    blocks: &Blocks<'_, '_, D>,
     object: &NewObject<'_>,
     given: Option<&[u8]>,
     mode: BucketState,
     entry: NewEntry,
     body: &mut B,
 ) -> Result<Outcome<String, Refusal>, Trouble>
-    requires inside { InTransaction S.Store connection.old }
-    requires copies { IsClean S.Store connection.old → AreCopies cache.now (tables S.Store connection.old).blocks }
-    requires positive { 1 ≤ block_size }
-    requires going { (B.coming body.old).broken ≡ None }
+    requires may { MayStore S.Store blocks.now.cache.now blocks.now.size connection.old (B.coming body.old) }
     requires held { IsClean S.Store connection.old
         → IsHeld object.now.tenant.now object.now.bucket.now object.now.key.now entry.replaced (tables S.Store connection.old) }
     ensures within { StaysWithin S.Store connection.old connection.new }
     ensures opens { OnOk result (StaysOpen S.Store connection.old connection.new) }
     ensures received { IsReceived result (B.coming body.old) (B.coming body.new) (option_copied given.entry)
         (λ bytes. IsKeyText object.now.key.now × Becomes S.Store connection.old connection.new
-        (object_written D.digest_of block_size mode entry.numbers.before entry.numbers.after entry.replaced
+        (object_written D.digest_of blocks.now.size mode entry.numbers.before entry.numbers.after entry.replaced
         object.now.tenant.now object.now.bucket.now object.now.key.now object.now.at bytes)) }
 {
     let size = body.due();
     let tenant = object.tenant.as_str();
     let number = entry.numbers.before.entry;
-    let outcome = store_checked(
-        connection, cache, alloc, digester, block_size, tenant, number, given, body,
-    )?;
+    let outcome = store_checked(connection, alloc, blocks, tenant, number, given, body)?;
     match outcome {
         Outcome::Done(text) => {
             write_object(connection, object, mode, entry, size, text.as_str())?;
@@ -124,46 +112,35 @@ fn store_object<S: Alter, D: Digester, B: Body>(
 /// Stores an object that is let in as its bytes come, and its date.
 fn store_admitted<S: Alter, D: Digester, B: Body>(
     connection: &mut Connection<S>,
-    cache: &BlockCache,
     alloc: Global,
-    digester: &D,
-    block_size: u64,
+    blocks: &Blocks<'_, '_, D>,
     object: &NewObject<'_>,
     given: Option<&[u8]>,
     mode: BucketState,
     admitted: Admitted,
     body: &mut B,
 ) -> Result<Outcome<StoredVersion, Refusal>, StepError<Refusal>>
-    requires working { Works S.Store connection.old }
-    requires copies { IsClean S.Store connection.old → AreCopies cache.now (tables S.Store connection.old).blocks }
-    requires digests { IsClean S.Store connection.old → AreDigests D.digest_of (tables S.Store connection.old).blocks }
-    requires positive { 1 ≤ block_size }
-    requires early { IsClean S.Store connection.old → object.now.at ≤ latest_of (tables S.Store connection.old) }
-    requires going { (B.coming body.old).broken ≡ None }
+    requires may { MayPut S.Store D.digest_of blocks.now.cache.now blocks.now.size object.now.at connection.old (B.coming body.old) }
     requires mode { IsClean S.Store connection.old
         → mode_in object.now.bucket.now (view (tables S.Store connection.old) object.now.tenant.now) ≡ Ok mode }
     requires admitted { IsClean S.Store connection.old
         → admitted_in mode object.now.bucket.now object.now.key.now object.now.date object.now.at (B.coming body.old).due
         (view (tables S.Store connection.old) object.now.tenant.now) ≡ Ok (numbers_admitted admitted) }
     requires replaced { IsClean S.Store connection.old
-        → admitted.entry.replaced ≡ replaced_in mode object.now.tenant.now object.now.bucket.now object.now.key.now (tables S.Store connection.old) }
-    ensures within { StaysWithin S.Store connection.old connection.new }
-    ensures opens { UnlessSpoilt result (StaysOpen S.Store connection.old connection.new) }
-    ensures working { UnlessSpoilt result (StillWorksBy S.Store D.digest_of connection.old connection.new) }
-    ensures operates { OperatesBy stored_answer object.now.tenant.now
-        (λ bytes. machine.put_object object.now.at object.now.bucket.now object.now.key.now bytes (option_copied given.entry) object.now.date)
-        (λ bytes. StoresPieces D.digest_of block_size bytes (tables S.Store connection.old) (tables S.Store connection.new))
+        → admitted.entry.replaced ≡ replaced_in mode object.now.tenant.now object.now.bucket.now object.now.key.now
+        (tables S.Store connection.old) }
+    ensures works { WorksOnBy S.Store D.digest_of (UnlessSpoilt result) connection.old connection.new }
+    ensures operates { OperatesBy stored_answer object.now.tenant.now (put_step object.now (option_copied given.entry))
+        (λ bytes. StoresPieces D.digest_of blocks.now.size bytes (tables S.Store connection.old) (tables S.Store connection.new))
         (IsClean S.Store connection.new) (B.coming body.old) (B.coming body.new)
         (tables S.Store connection.old) (tables S.Store connection.new) result }
 {
     let Admitted { until, entry } = admitted;
     let numbers = entry.numbers;
-    let outcome = store_object(
-        connection, cache, alloc, digester, block_size, object, given, mode, entry, body,
-    )?;
+    let outcome = store_object(connection, alloc, blocks, object, given, mode, entry, body)?;
     match outcome {
         Outcome::Done(checksum) => {
-            add_date(connection, object.tenant, numbers.before.entry, until)?;
+            set_date(connection, object.tenant, numbers.before.entry, None, until)?;
             let id = new_id_told(mode, numbers.before.version);
             Ok(Outcome::Done(StoredVersion { id, checksum }))
         }
@@ -174,75 +151,52 @@ fn store_admitted<S: Alter, D: Digester, B: Body>(
 /// Puts an object into a bucket of this state.
 fn put_into<S: Alter, D: Digester, B: Body>(
     connection: &mut Connection<S>,
-    cache: &BlockCache,
     alloc: Global,
-    digester: &D,
-    block_size: u64,
+    blocks: &Blocks<'_, '_, D>,
     object: &NewObject<'_>,
     given: Option<&[u8]>,
     mode: BucketState,
     body: &mut B,
 ) -> Result<Outcome<StoredVersion, Refusal>, StepError<Refusal>>
-    requires working { Works S.Store connection.old }
-    requires copies { IsClean S.Store connection.old → AreCopies cache.now (tables S.Store connection.old).blocks }
-    requires digests { IsClean S.Store connection.old → AreDigests D.digest_of (tables S.Store connection.old).blocks }
-    requires positive { 1 ≤ block_size }
-    requires early { IsClean S.Store connection.old → object.now.at ≤ latest_of (tables S.Store connection.old) }
-    requires going { (B.coming body.old).broken ≡ None }
+    requires may { MayPut S.Store D.digest_of blocks.now.cache.now blocks.now.size object.now.at connection.old (B.coming body.old) }
     requires mode { IsClean S.Store connection.old
         → mode_in object.now.bucket.now (view (tables S.Store connection.old) object.now.tenant.now) ≡ Ok mode }
-    ensures within { StaysWithin S.Store connection.old connection.new }
-    ensures opens { UnlessSpoilt result (StaysOpen S.Store connection.old connection.new) }
-    ensures working { UnlessSpoilt result (StillWorksBy S.Store D.digest_of connection.old connection.new) }
-    ensures operates { OperatesBy stored_answer object.now.tenant.now
-        (λ bytes. machine.put_object object.now.at object.now.bucket.now object.now.key.now bytes (option_copied given.entry) object.now.date)
-        (λ bytes. StoresPieces D.digest_of block_size bytes (tables S.Store connection.old) (tables S.Store connection.new))
+    ensures works { WorksOnBy S.Store D.digest_of (UnlessSpoilt result) connection.old connection.new }
+    ensures operates { OperatesBy stored_answer object.now.tenant.now (put_step object.now (option_copied given.entry))
+        (λ bytes. StoresPieces D.digest_of blocks.now.size bytes (tables S.Store connection.old) (tables S.Store connection.new))
         (IsClean S.Store connection.new) (B.coming body.old) (B.coming body.new)
         (tables S.Store connection.old) (tables S.Store connection.new) result }
 {
     match admit(connection, object, mode, body.due()) {
-        Ok(admitted) => store_admitted(
-            connection, cache, alloc, digester, block_size, object, given, mode, admitted, body,
-        ),
-        Err(StepError::Refused(refusal)) => Err(refused_checked(alloc, body, given, refusal)),
-        Err(StepError::Failed(trouble)) => Err(StepError::Failed(trouble)),
+        Ok(admitted) => {
+            store_admitted(
+                connection, alloc, blocks, object, given, mode, admitted, body,
+            )
+        }
+        Err(error) => Err(refused_checked(alloc, body, given, error)),
     }
 }
 
 /// S3's PutObject, at a moment that is not after the last stamp, where the request may say which checksum the bytes have:
 /// NoSuchBucket, BadDigest, InvalidRequest, InvalidArgument, QuotaExceeded, CounterExhausted. The bytes are stored as they
-/// come, in blocks of at most this size. Where the head alone decides a refusal they are only counted, and hashed if a
-/// checksum is given.
+/// come. Where the head alone decides a refusal they are only counted, and hashed if a checksum is given.
 pub fn put_object<S: Alter, D: Digester, B: Body>(
     connection: &mut Connection<S>,
-    cache: &BlockCache,
     alloc: Global,
-    digester: &D,
-    block_size: u64,
+    blocks: &Blocks<'_, '_, D>,
     object: &NewObject<'_>,
     given: Option<&[u8]>,
     body: &mut B,
 ) -> Result<Outcome<StoredVersion, Refusal>, StepError<Refusal>>
-    requires working { Works S.Store connection.old }
-    requires copies { IsClean S.Store connection.old → AreCopies cache.now (tables S.Store connection.old).blocks }
-    requires digests { IsClean S.Store connection.old → AreDigests D.digest_of (tables S.Store connection.old).blocks }
-    requires positive { 1 ≤ block_size }
-    requires early { IsClean S.Store connection.old → object.now.at ≤ latest_of (tables S.Store connection.old) }
-    requires going { (B.coming body.old).broken ≡ None }
-    ensures within { StaysWithin S.Store connection.old connection.new }
-    ensures opens { UnlessSpoilt result (StaysOpen S.Store connection.old connection.new) }
-    ensures working { UnlessSpoilt result (StillWorksBy S.Store D.digest_of connection.old connection.new) }
-    ensures operates { OperatesBy stored_answer object.now.tenant.now
-        (λ bytes. machine.put_object object.now.at object.now.bucket.now object.now.key.now bytes (option_copied given.entry) object.now.date)
-        (λ bytes. StoresPieces D.digest_of block_size bytes (tables S.Store connection.old) (tables S.Store connection.new))
+    requires may { MayPut S.Store D.digest_of blocks.now.cache.now blocks.now.size object.now.at connection.old (B.coming body.old) }
+    ensures works { WorksOnBy S.Store D.digest_of (UnlessSpoilt result) connection.old connection.new }
+    ensures operates { OperatesBy stored_answer object.now.tenant.now (put_step object.now (option_copied given.entry))
+        (λ bytes. StoresPieces D.digest_of blocks.now.size bytes (tables S.Store connection.old) (tables S.Store connection.new))
         (IsClean S.Store connection.new) (B.coming body.old) (B.coming body.new)
         (tables S.Store connection.old) (tables S.Store connection.new) result }
 {
     match bucket_state(connection, object.tenant, object.bucket) {
-        Ok(mode) => put_into(
-            connection, cache, alloc, digester, block_size, object, given, mode, body,
-        ),
-        Err(StepError::Refused(refusal)) => Err(refused_whole(body, refusal)),
-        Err(StepError::Failed(trouble)) => Err(StepError::Failed(trouble)),
+        Ok(mode) => put_into(connection, alloc, blocks, object, given, mode, body),
+        Err(error) => Err(refused_whole(body, error)),
     }
 }

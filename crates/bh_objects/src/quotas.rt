@@ -1,9 +1,10 @@
 //! Whether a tenant's quota has room.
-ghost use Rattle.std.specs.Prelude.{◌≡◌, ◌+◌, ◌-◌, Ok, IfOk, OnOk};
+ghost use Rattle.std.specs.Prelude.{◌≡◌, ◌+◌, ◌-◌, Ok, IfOk};
 ghost use Rattle.bh_storage.specs.Calls.{Unless, Decides};
 ghost use Rattle.bh_view.specs.View.{view};
-ghost use Rattle.bh_schema.specs.Connections.{IsClean, tables, InTransaction, StaysWithin, StaysOpen, ChangesNothing};
-ghost use Rattle.bh_schema.specs.Working.{Works, StillWorks};
+ghost use Rattle.bh_schema.specs.Calls.{MayRead};
+ghost use Rattle.bh_schema.specs.Connections.{IsClean, tables, InTransaction};
+ghost use Rattle.bh_schema.specs.Working.{Works, WorksOn};
 ghost use Rattle.bh_objects.specs.Found as spec;
 ghost use Rattle.bh_objects.specs.Found.{Answers, mode_in, null_in, replaced_in, room_under, entry_numbers_in};
 
@@ -85,23 +86,18 @@ fn find_null<S: Alter>(
     key: &ObjectKey,
 ) -> Result<Option<Replaced>, Trouble>
     requires { InTransaction S.Store connection.old }
-    ensures within { StaysWithin S.Store connection.old connection.new }
-    ensures opens { OnOk result (StaysOpen S.Store connection.old connection.new) }
-    ensures same { OnOk result (ChangesNothing S.Store connection.old connection.new) }
+    ensures reads { MayRead S.Store connection.old connection.new result }
     ensures found { IfOk result (λ found. IsClean S.Store connection.new
         → found ≡ null_in tenant.now bucket.now key.now (tables S.Store connection.old)) }
 {
     match numbered_head(connection, tenant, bucket, key, 0)? {
-        Some(head) => Ok(Some(Replaced {
-            seq: head.seq,
-            size: head.size,
-        })),
+        Some(head) => Ok(Some(as_replaced(&head))),
         None => Ok(None),
     }
 }
 
 /// What a new entry of a key replaces in a bucket of this state.
-fn find_replaced<S: Alter>(
+pub(crate) fn find_replaced<S: Alter>(
     connection: &mut Connection<S>,
     tenant: &TenantName,
     bucket: &BucketName,
@@ -109,9 +105,7 @@ fn find_replaced<S: Alter>(
     mode: BucketState,
 ) -> Result<Option<Replaced>, Trouble>
     requires { InTransaction S.Store connection.old }
-    ensures within { StaysWithin S.Store connection.old connection.new }
-    ensures opens { OnOk result (StaysOpen S.Store connection.old connection.new) }
-    ensures same { OnOk result (ChangesNothing S.Store connection.old connection.new) }
+    ensures reads { MayRead S.Store connection.old connection.new result }
     ensures found { IfOk result (λ found. IsClean S.Store connection.new
         → found ≡ replaced_in mode tenant.now bucket.now key.now (tables S.Store connection.old)) }
 {
@@ -152,9 +146,7 @@ pub fn new_entry<S: Alter>(
     requires working { Works S.Store connection.old }
     requires there { IsClean S.Store connection.old
         → mode_in bucket.now (view (tables S.Store connection.old) tenant.now) ≡ Ok mode }
-    ensures within { StaysWithin S.Store connection.old connection.new }
-    ensures opens { Unless result (StaysOpen S.Store connection.old connection.new) }
-    ensures working { Unless result (StillWorks S.Store connection.old connection.new) }
+    ensures works { WorksOn S.Store (Unless result) connection.old connection.new }
     ensures decides { IsClean S.Store connection.new
         → Decides (λ entry. (entry.numbers.before, entry.numbers.after))
         (entry_numbers_in mode bucket.now key.now added (view (tables S.Store connection.old) tenant.now))

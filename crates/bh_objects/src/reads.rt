@@ -1,14 +1,16 @@
-ghost use Rattle.std.specs.Prelude.{◌≡◌, IfOk, OnOk};
+ghost use Rattle.std.specs.Prelude.{◌≡◌, IfOk};
 ghost use Rattle.std.specs.List.{list_any};
 ghost use Rattle.bh_tables.specs.Shown.{is_lock};
 ghost use Rattle.bh_storage.specs.Calls.{Unless, Decides};
 ghost use Rattle.bh_view.specs.View.{view};
-ghost use Rattle.bh_schema.specs.Connections.{IsClean, tables, InTransaction, StaysWithin, StaysOpen, WasOpen, ChangesNothing};
-ghost use Rattle.bh_schema.specs.Working.{Works, StillWorks};
+ghost use Rattle.bh_schema.specs.Calls.{Reads};
+ghost use Rattle.bh_schema.specs.Connections.{IsClean, tables, InTransaction};
+ghost use Rattle.bh_schema.specs.Working.{Works, WorksOn};
 ghost use Rattle.bh_objects.specs.Found.{mode_in, account_in, bytes_in, counts_in, numbers_in, tenant_in, name_free};
 
 use bh_model::counting::after_entry;
 use bh_schema::rows;
+use bh_schema::rows::contents::{Content, bucket_has};
 use bh_schema::trouble::or_trouble;
 use bh_storage::error::{StepError, Trouble};
 use bh_types::bucket::BucketName;
@@ -25,9 +27,7 @@ pub fn bucket_state<S: Alter>(
     bucket: &BucketName,
 ) -> Result<BucketState, StepError<Refusal>>
     requires { Works S.Store connection.old }
-    ensures within { StaysWithin S.Store connection.old connection.new }
-    ensures opens { Unless result (StaysOpen S.Store connection.old connection.new) }
-    ensures working { Unless result (StillWorks S.Store connection.old connection.new) }
+    ensures works { WorksOn S.Store (Unless result) connection.old connection.new }
     ensures decides { IsClean S.Store connection.new
         → Decides (λ mode. mode) (mode_in bucket.now (view (tables S.Store connection.old) tenant.now))
         (tables S.Store connection.old) (tables S.Store connection.new) result }
@@ -48,13 +48,11 @@ pub fn bucket_locked<S: Alter>(
     bucket: &BucketName,
 ) -> Result<bool, Trouble>
     requires { InTransaction S.Store connection.old }
-    ensures within { StaysWithin S.Store connection.old connection.new }
-    ensures opens { OnOk result (WasOpen S.Store connection.old connection.new) }
-    ensures same { OnOk result (ChangesNothing S.Store connection.old connection.new) }
+    ensures reads { Reads S.Store connection.old connection.new result }
     ensures found { IfOk result (λ found. IsClean S.Store connection.new
         → found ≡ list_any (is_lock tenant.now bucket.now) (tables S.Store connection.old).locks) }
 {
-    or_trouble(rows::locks::is_locked(connection, tenant.as_str(), bucket.as_str()))
+    or_trouble(bucket_has(connection, tenant.as_str(), bucket.as_str(), Content::Lock))
 }
 
 /// What a tenant may use, and the next numbers that its counters give.
@@ -73,9 +71,7 @@ pub fn tenant_account<S: Alter>(
     tenant: &TenantName,
 ) -> Result<Account, StepError<Refusal>>
     requires { Works S.Store connection.old }
-    ensures within { StaysWithin S.Store connection.old connection.new }
-    ensures opens { Unless result (StaysOpen S.Store connection.old connection.new) }
-    ensures working { Unless result (StillWorks S.Store connection.old connection.new) }
+    ensures works { WorksOn S.Store (Unless result) connection.old connection.new }
     ensures decides { IsClean S.Store connection.new
         → Decides (λ account. (account.quota, account.counters)) (account_in (view (tables S.Store connection.old) tenant.now))
         (tables S.Store connection.old) (tables S.Store connection.new) result }
@@ -104,9 +100,7 @@ pub fn next_counters<S: Alter>(
     tenant: &TenantName,
 ) -> Result<Counters, StepError<Refusal>>
     requires { Works S.Store connection.old }
-    ensures within { StaysWithin S.Store connection.old connection.new }
-    ensures opens { Unless result (StaysOpen S.Store connection.old connection.new) }
-    ensures working { Unless result (StillWorks S.Store connection.old connection.new) }
+    ensures works { WorksOn S.Store (Unless result) connection.old connection.new }
     ensures decides { IsClean S.Store connection.new
         → Decides (λ counters. counters) (counts_in (view (tables S.Store connection.old) tenant.now))
         (tables S.Store connection.old) (tables S.Store connection.new) result }
@@ -131,9 +125,7 @@ pub fn new_numbers<S: Alter>(
     mode: BucketState,
 ) -> Result<Numbers, StepError<Refusal>>
     requires { Works S.Store connection.old }
-    ensures within { StaysWithin S.Store connection.old connection.new }
-    ensures opens { Unless result (StaysOpen S.Store connection.old connection.new) }
-    ensures working { Unless result (StillWorks S.Store connection.old connection.new) }
+    ensures works { WorksOn S.Store (Unless result) connection.old connection.new }
     ensures decides { IsClean S.Store connection.new
         → Decides (λ numbers. (numbers.before, numbers.after)) (numbers_in mode (view (tables S.Store connection.old) tenant.now))
         (tables S.Store connection.old) (tables S.Store connection.new) result }
@@ -149,9 +141,7 @@ pub fn require_tenant<S: Alter>(
     tenant: &TenantName,
 ) -> Result<(), StepError<Refusal>>
     requires { Works S.Store connection.old }
-    ensures within { StaysWithin S.Store connection.old connection.new }
-    ensures opens { Unless result (StaysOpen S.Store connection.old connection.new) }
-    ensures working { Unless result (StillWorks S.Store connection.old connection.new) }
+    ensures works { WorksOn S.Store (Unless result) connection.old connection.new }
     ensures decides { IsClean S.Store connection.new
         → Decides (λ _. tt) (tenant_in (view (tables S.Store connection.old) tenant.now))
         (tables S.Store connection.old) (tables S.Store connection.new) result }
@@ -169,9 +159,7 @@ pub fn require_free_name<S: Alter>(
     bucket: &BucketName,
 ) -> Result<(), StepError<Refusal>>
     requires { Works S.Store connection.old }
-    ensures within { StaysWithin S.Store connection.old connection.new }
-    ensures opens { Unless result (StaysOpen S.Store connection.old connection.new) }
-    ensures working { Unless result (StillWorks S.Store connection.old connection.new) }
+    ensures works { WorksOn S.Store (Unless result) connection.old connection.new }
     ensures decides { IsClean S.Store connection.new
         → Decides (λ _. tt) (name_free bucket.now (view (tables S.Store connection.old) tenant.now))
         (tables S.Store connection.old) (tables S.Store connection.new) result }

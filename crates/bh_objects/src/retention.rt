@@ -1,7 +1,7 @@
 ghost use Rattle.bh_model.specs.Operations as machine;
 ghost use Rattle.bh_storage.specs.Calls.{Unless, Carries};
-ghost use Rattle.bh_schema.specs.Connections.{IsClean, tables, StaysWithin, StaysOpen};
-ghost use Rattle.bh_schema.specs.Working.{Works, StillWorks};
+ghost use Rattle.bh_schema.specs.Connections.{IsClean, tables};
+ghost use Rattle.bh_schema.specs.Working.{Works, WorksOn};
 
 use crate::dates::{present_date, set_date, version_date};
 use crate::heads::wanted_head;
@@ -25,9 +25,7 @@ pub fn retention<S: Alter>(
     wanted: Wanted,
 ) -> Result<Option<Moment>, StepError<Rejection>>
     requires { Works S.Store connection.old }
-    ensures within { StaysWithin S.Store connection.old connection.new }
-    ensures opens { Unless result (StaysOpen S.Store connection.old connection.new) }
-    ensures working { Unless result (StillWorks S.Store connection.old connection.new) }
+    ensures works { WorksOn S.Store (Unless result) connection.old connection.new }
     ensures carries { IsClean S.Store connection.new
         → Carries machine.Retention tenant.now (machine.get_retention bucket.now key.now wanted)
         (tables S.Store connection.old) (tables S.Store connection.new) result }
@@ -49,9 +47,7 @@ pub fn set_retention<S: Alter>(
     until: Moment,
 ) -> Result<(), StepError<Rejection>>
     requires { Works S.Store connection.old }
-    ensures within { StaysWithin S.Store connection.old connection.new }
-    ensures opens { Unless result (StaysOpen S.Store connection.old connection.new) }
-    ensures working { Unless result (StillWorks S.Store connection.old connection.new) }
+    ensures works { WorksOn S.Store (Unless result) connection.old connection.new }
     ensures carries { IsClean S.Store connection.new
         → Carries (λ _. machine.Done) tenant.now (machine.put_retention at bucket.now key.now wanted until)
         (tables S.Store connection.old) (tables S.Store connection.new) result }
@@ -59,6 +55,6 @@ pub fn set_retention<S: Alter>(
     bucket_state(connection, tenant, bucket)?;
     let head = wanted_head(connection, tenant, bucket, key, wanted)?;
     let present = present_date(connection, tenant, bucket, &head, until, at)?;
-    set_date(connection, tenant, head.seq, present, until)?;
+    set_date(connection, tenant, head.seq, present, Some(until))?;
     Ok(())
 }

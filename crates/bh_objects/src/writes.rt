@@ -1,22 +1,21 @@
 ghost use Rattle.std.specs.Prelude.{◌≡◌, ◌≤◌, ◌<◌, ◌^◌, OnOk};
-ghost use Rattle.std.specs.String.{string_bytes};
-ghost use Rattle.sha2.specs.Sha256.{sha256};
 ghost use Rattle.sqlite_keyed.specs.Lists.{update_where};
-ghost use Rattle.bh_types.specs.Checksums.{checksum_text};
-ghost use Rattle.bh_model.specs.State.{Content.Marker, Content.Body};
+ghost use Rattle.bh_model.specs.State.{Content.Marker};
 ghost use Rattle.bh_tables.specs.Shown.{is_tenant};
-ghost use Rattle.bh_schema.specs.Connections.{IsClean, tables, InTransaction, StaysWithin, StaysOpen, Becomes};
+ghost use Rattle.bh_schema.specs.Connections.{IsClean, tables, InTransaction};
 ghost use Rattle.bh_schema.specs.Written.{bytes_of_id, with_version as row_added};
+ghost use Rattle.bh_objects.specs.Calls.{Changes};
 ghost use Rattle.bh_objects.specs.Found.{IsKeyText, IsHeld};
-ghost use Rattle.bh_objects.specs.Writes.{with_counters, without_entry, without_null, without_null_version, without_replaced, with_room, with_version, with_columns};
-ghost use Rattle.bh_objects.specs.Writes.{object_written, marker_written};
+ghost use Rattle.bh_objects.specs.Writes.{with_counters, without_entry, without_null_version, without_replaced, with_room};
+ghost use Rattle.bh_objects.specs.Writes.{with_version, with_columns, marker_written};
 
 use crate::heads::{is_marker, numbered_head};
 use crate::ids::row_number;
-use crate::quotas::{NewEntry, Replaced, as_replaced};
+use crate::quotas::{NewEntry, Replaced, as_replaced, find_replaced};
 use crate::reads::Numbers;
 use bh_blocks::bodies::drop_body;
 use bh_schema::rows;
+use bh_schema::rows::tenants::TenantNumber;
 use bh_schema::rows::versions::{NewMarker, NewVersion};
 use bh_schema::trouble::or_trouble;
 use bh_storage::error::Trouble;
@@ -28,8 +27,8 @@ use bh_types::moment::Moment;
 use bh_types::names::TenantName;
 use sqlite::{Alter, Connection, Error};
 
-/// No object has so many bytes, so that a sum with those that are used is one of 64 bits.
-const SIZE_END: u64 = 1 << 62;
+/// No object and no part has so many bytes, so that a sum with those that are used is one of 64 bits.
+pub const SIZE_END: u64 = 1 << 62;
 
 /// An object that is sent. Its bytes come beside it.
 #[derive(Clone, Copy)]
@@ -51,10 +50,7 @@ pub fn set_counters<S: Alter>(
     counters: Counters,
 ) -> Result<(), Trouble>
     requires { InTransaction S.Store connection.old }
-    ensures within { StaysWithin S.Store connection.old connection.new }
-    ensures opens { OnOk result (StaysOpen S.Store connection.old connection.new) }
-    ensures holds { OnOk result (Becomes S.Store connection.old connection.new
-        (with_counters mode counters tenant.now)) }
+    ensures changes { Changes S.Store connection.old connection.new result (with_counters mode counters tenant.now) }
 {
     match mode {
         BucketState::Enabled => {
@@ -79,15 +75,18 @@ pub fn set_next_entry<S: Alter>(
 ) -> Result<(), Trouble>
     requires inside { InTransaction S.Store connection.old }
     requires small { entry < 2 ^ 63 }
-    ensures within { StaysWithin S.Store connection.old connection.new }
-    ensures opens { OnOk result (StaysOpen S.Store connection.old connection.new) }
-    ensures holds { OnOk result (Becomes S.Store connection.old connection.new
+    ensures changes { Changes S.Store connection.old connection.new result
         (λ rows. record rows {
           tenants =
               update_where (is_tenant tenant.now) (λ t. record t { next_entry = entry }) rows.tenants;
-        })) }
+        }) }
 {
-    or_trouble(rows::tenants::set_next_entry(connection, tenant.as_str(), entry))?;
+    or_trouble(rows::tenants::set_number(
+        connection,
+        tenant.as_str(),
+        TenantNumber::NextEntry,
+        entry,
+    ))?;
     Ok(())
 }
 
@@ -105,10 +104,7 @@ pub fn drop_entry<S: Alter>(
     requires small { number < 2 ^ 62 }
     requires held { IsClean S.Store connection.old
         → bytes_of_id tenant.now bucket.now key.now number (tables S.Store connection.old) ≡ entry.size }
-    ensures within { StaysWithin S.Store connection.old connection.new }
-    ensures opens { OnOk result (StaysOpen S.Store connection.old connection.new) }
-    ensures holds { OnOk result (Becomes S.Store connection.old connection.new
-        (without_entry tenant.now bucket.now key.now number entry.seq)) }
+    ensures changes { Changes S.Store connection.old connection.new result (without_entry tenant.now bucket.now key.now number entry.seq) }
 {
     // No counter gives such a number, and no object has so many bytes.
     if entry.seq >= COUNTER_END || entry.size >= SIZE_END {
@@ -128,25 +124,6 @@ pub fn drop_entry<S: Alter>(
     Ok(())
 }
 
-/// Takes the entry `null` of a key away, and its body, if it is there.
-fn drop_null<S: Alter>(
-    connection: &mut Connection<S>,
-    tenant: &TenantName,
-    bucket: &BucketName,
-    key: &ObjectKey,
-) -> Result<(), Trouble>
-    requires { InTransaction S.Store connection.old }
-    ensures within { StaysWithin S.Store connection.old connection.new }
-    ensures opens { OnOk result (StaysOpen S.Store connection.old connection.new) }
-    ensures holds { OnOk result (Becomes S.Store connection.old connection.new
-        (without_null tenant.now bucket.now key.now)) }
-{
-    match numbered_head(connection, tenant, bucket, key, 0)? {
-        None => Ok(()),
-        Some(head) => drop_entry(connection, tenant, bucket, key, 0, as_replaced(&head)),
-    }
-}
-
 /// Takes the version `null` of a key away, and its body, if it is there. A delete marker `null` stays.
 pub fn drop_null_version<S: Alter>(
     connection: &mut Connection<S>,
@@ -155,10 +132,7 @@ pub fn drop_null_version<S: Alter>(
     key: &ObjectKey,
 ) -> Result<(), Trouble>
     requires { InTransaction S.Store connection.old }
-    ensures within { StaysWithin S.Store connection.old connection.new }
-    ensures opens { OnOk result (StaysOpen S.Store connection.old connection.new) }
-    ensures holds { OnOk result (Becomes S.Store connection.old connection.new
-        (without_null_version tenant.now bucket.now key.now)) }
+    ensures changes { Changes S.Store connection.old connection.new result (without_null_version tenant.now bucket.now key.now) }
 {
     match numbered_head(connection, tenant, bucket, key, 0)? {
         None => Ok(()),
@@ -169,28 +143,6 @@ pub fn drop_null_version<S: Alter>(
                 drop_entry(connection, tenant, bucket, key, 0, as_replaced(&head))
             }
         }
-    }
-}
-
-/// What a new entry in a bucket of this state replaces is taken away: the entry `null`, unless versions are
-/// numbered.
-pub fn make_room<S: Alter>(
-    connection: &mut Connection<S>,
-    tenant: &TenantName,
-    bucket: &BucketName,
-    key: &ObjectKey,
-    mode: BucketState,
-) -> Result<(), Trouble>
-    requires { InTransaction S.Store connection.old }
-    ensures within { StaysWithin S.Store connection.old connection.new }
-    ensures opens { OnOk result (StaysOpen S.Store connection.old connection.new) }
-    ensures holds { OnOk result (Becomes S.Store connection.old connection.new
-        (with_room mode tenant.now bucket.now key.now)) }
-{
-    match mode {
-        BucketState::Enabled => Ok(()),
-        BucketState::Unversioned => drop_null(connection, tenant, bucket, key),
-        BucketState::Suspended => drop_null(connection, tenant, bucket, key),
     }
 }
 
@@ -205,15 +157,28 @@ pub fn drop_replaced<S: Alter>(
     requires inside { InTransaction S.Store connection.old }
     requires held { IsClean S.Store connection.old
         → IsHeld tenant.now bucket.now key.now replaced (tables S.Store connection.old) }
-    ensures within { StaysWithin S.Store connection.old connection.new }
-    ensures opens { OnOk result (StaysOpen S.Store connection.old connection.new) }
-    ensures holds { OnOk result (Becomes S.Store connection.old connection.new
-        (without_replaced tenant.now bucket.now key.now replaced)) }
+    ensures changes { Changes S.Store connection.old connection.new result (without_replaced tenant.now bucket.now key.now replaced) }
 {
     match replaced {
         None => Ok(()),
         Some(entry) => drop_entry(connection, tenant, bucket, key, 0, entry),
     }
+}
+
+/// What a new entry in a bucket of this state replaces is taken away: the entry `null`, unless versions are
+/// numbered.
+pub fn make_room<S: Alter>(
+    connection: &mut Connection<S>,
+    tenant: &TenantName,
+    bucket: &BucketName,
+    key: &ObjectKey,
+    mode: BucketState,
+) -> Result<(), Trouble>
+    requires { InTransaction S.Store connection.old }
+    ensures changes { Changes S.Store connection.old connection.new result (with_room mode tenant.now bucket.now key.now) }
+{
+    let replaced = find_replaced(connection, tenant, bucket, key, mode)?;
+    drop_replaced(connection, tenant, bucket, key, replaced)
 }
 
 /// A version that is added to a key, whose body is stored.
@@ -238,11 +203,9 @@ pub fn add_version<S: Alter>(
     numbers: Numbers,
 ) -> Result<(), Trouble>
     requires inside { InTransaction S.Store connection.old }
-    ensures within { StaysWithin S.Store connection.old connection.new }
-    ensures opens { OnOk result (StaysOpen S.Store connection.old connection.new) }
-    ensures holds { OnOk result (Becomes S.Store connection.old connection.new
+    ensures changes { Changes S.Store connection.old connection.new result
         (λ rows. with_version mode numbers.before version.now.tenant.now version.now.bucket.now version.now.key.now version.now.at
-        version.now.size version.now.checksum.now (with_counters mode numbers.after version.now.tenant.now rows))) }
+        version.now.size version.now.checksum.now (with_counters mode numbers.after version.now.tenant.now rows)) }
     ensures key { OnOk result (IsKeyText version.now.key.now) }
 {
     // No object has so many bytes.
@@ -274,10 +237,8 @@ fn add_row<S: Alter>(
     requires id { row.now.id < 2 ^ 63 }
     requires stamp { row.now.stamp < 2 ^ 63 }
     requires size { row.now.size < 2 ^ 62 }
-    ensures within { StaysWithin S.Store connection.old connection.new }
-    ensures opens { OnOk result (StaysOpen S.Store connection.old connection.new) }
-    ensures holds { OnOk result (Becomes S.Store connection.old connection.new
-        (λ rows. row_added row.now (with_counters mode after row.now.tenant.now rows))) }
+    ensures changes { Changes S.Store connection.old connection.new result
+        (λ rows. row_added row.now (with_counters mode after row.now.tenant.now rows)) }
 {
     match mode {
         BucketState::Enabled => {
@@ -301,12 +262,11 @@ pub fn write_object<S: Alter>(
     requires inside { InTransaction S.Store connection.old }
     requires held { IsClean S.Store connection.old
         → IsHeld object.now.tenant.now object.now.bucket.now object.now.key.now entry.replaced (tables S.Store connection.old) }
-    ensures within { StaysWithin S.Store connection.old connection.new }
-    ensures opens { OnOk result (StaysOpen S.Store connection.old connection.new) }
-    ensures holds { OnOk result (Becomes S.Store connection.old connection.new
-        (λ rows. with_version mode entry.numbers.before object.now.tenant.now object.now.bucket.now object.now.key.now object.now.at size checksum.now
+    ensures changes { Changes S.Store connection.old connection.new result
+        (λ rows. with_version mode entry.numbers.before object.now.tenant.now object.now.bucket.now object.now.key.now object.now.at size
+        checksum.now
         (with_counters mode entry.numbers.after object.now.tenant.now
-        (without_replaced object.now.tenant.now object.now.bucket.now object.now.key.now entry.replaced rows)))) }
+        (without_replaced object.now.tenant.now object.now.bucket.now object.now.key.now entry.replaced rows))) }
     ensures key { OnOk result (IsKeyText object.now.key.now) }
 {
     let NewEntry { numbers, replaced } = entry;
@@ -338,10 +298,8 @@ fn add_marker<S: Alter>(
     counters: Counters,
 ) -> Result<(), Trouble>
     requires inside { InTransaction S.Store connection.old }
-    ensures within { StaysWithin S.Store connection.old connection.new }
-    ensures opens { OnOk result (StaysOpen S.Store connection.old connection.new) }
-    ensures holds { OnOk result (Becomes S.Store connection.old connection.new
-        (with_columns mode counters tenant.now bucket.now key.now at Marker)) }
+    ensures changes { Changes S.Store connection.old connection.new result
+        (with_columns mode counters tenant.now bucket.now key.now at Marker) }
     ensures key { IsKeyText key.now }
 {
     let marker = NewMarker {
@@ -368,10 +326,8 @@ pub fn write_marker<S: Alter>(
     numbers: Numbers,
 ) -> Result<(), Trouble>
     requires inside { InTransaction S.Store connection.old }
-    ensures within { StaysWithin S.Store connection.old connection.new }
-    ensures opens { OnOk result (StaysOpen S.Store connection.old connection.new) }
-    ensures holds { OnOk result (Becomes S.Store connection.old connection.new
-        (marker_written mode numbers.before numbers.after tenant.now bucket.now key.now at)) }
+    ensures changes { Changes S.Store connection.old connection.new result
+        (marker_written mode numbers.before numbers.after tenant.now bucket.now key.now at) }
     ensures key { OnOk result (IsKeyText key.now) }
 {
     set_counters(connection, tenant, mode, numbers.after)?;

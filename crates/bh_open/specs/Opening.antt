@@ -50,7 +50,8 @@ shown_row h = number h.version ∷ number h.latest ∷ number h.min_part ∷ num
 
 -- the limits, the last stamp and the digest function of a host of a version, whose rows these are
 abbrev pub Tells : HostVersion → List HostRow → FoundHost → Type 0
-Tells version rows found = (it : IsRowOf (number_of version) found.limits rows) × (found.latest ≡ it.row.latest) × (digest_number found.digest ≡ it.row.digest)
+Tells version rows found =
+    (it : IsRowOf (number_of version) found.limits rows) × (found.latest ≡ it.row.latest) × (digest_number found.digest ≡ it.row.digest)
 
 -- what was read of these rows: that, or that they are no such host's
 abbrev pub Reads : HostVersion → List HostRow → Result FoundHost NoHost → Type 0
@@ -58,7 +59,8 @@ Reads version rows found = MatchResult found (Tells version rows) (λ why. (limi
 
 -- what was found in a database: that, or no host of either version
 abbrev pub Finds : Database → Result FoundHost NoHost → Type 0
-Finds db found = MatchResult found (λ f. IsHostWith f.version db → Tells f.version (tables_in db).host f) (λ why. (limits : HostLimits) → ¬ IsHostOf limits db)
+Finds db found = MatchResult found (λ f. IsHostWith f.version db → Tells f.version (tables_in db).host f)
+    (λ why. (limits : HostLimits) → ¬ IsHostOf limits db)
 
 -- no transaction is open, and what stands was committed
 pub record IsSettled (s : State) : Type 0 where

@@ -13,7 +13,7 @@ use Rattle.bh_types.specs.Ids.{upload_of}
 use Rattle.bh_types.specs.Digits.{is_number}
 use Rattle.bh_operation.specs.Actions.{method_of, bucket_action, object_action}
 use Rattle.bh_operation.specs.Addresses.{is_colon, own_part, bucket_name, object_key, bucket_named, object_named}
-use Rattle.bh_operation.specs.Headers.{dates_upload, supported, lock_told, lock_from, lock_in, date_in, at_most_once, checksum_in, copy_source, stands}
+use Rattle.bh_operation.specs.Headers.{dates_upload, supported, lock_from, lock_in, at_most_once, checksum_in, copy_source, stands}
 use Rattle.bh_types.specs.Tokens as tokens
 use Rattle.hex.specs.Hex.{decode_of}
 use Rattle.hex.specs.declared.error.FromHexError.{FromHexError}

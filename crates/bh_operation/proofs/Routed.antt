@@ -1,12 +1,12 @@
 -- What the router answers is the kind of the path.
-use Rattle.std.proofs.Common.{arith, ◌≡◌, ◌⊎◌, inl, inr, ◌+◌, ◌-◌, ◌<◌, ◌==◌, ℕ, zero, suc, add-one, Bool, true, false, cond, List, [], ◌∷◌, ◌++◌, length, length-append, take, drop, Option, Some, None, option_map, refl, sym, ap, ap₂, ◌∙◌, eqb-true, nat_eq, subst, ◌&&◌, ltb, get_or, if◌then◌else◌}
+use Rattle.std.proofs.Common.{arith, ◌≡◌, ◌⊎◌, inl, inr, ◌+◌, ◌-◌, ◌<◌, ◌==◌, ℕ, zero, suc, Bool, true, false, cond, List, [], ◌∷◌, ◌++◌, length, length-append, take, drop, Option, Some, None, option_map, refl, sym, ap, ap₂, ◌∙◌, eqb-true, nat_eq, subst, ◌&&◌, ltb, get_or, if◌then◌else◌}
 use Rattle.std.proofs.Math.Seq.{drop-append_seam}
 use Rattle.std.proofs.lemmas.Bool.{eq-eqb, ne_eqb, lt-ltb}
 use Rattle.std.specs.Cmp.Lexicographic.{pointwise}
 use Rattle.std.specs.List.{AllByRecursion, before_first, after_first, ends_with}
 use Rattle.matchit.specs.Rows.{RowsOf}
 use Rattle.matchit.specs.Router.{RouteOf}
-use Rattle.matchit.specs.Seek.{seek, param_step, step, own, or_else, segment, has_slash, longest_suffix, cuts, first}
+use Rattle.matchit.specs.Seek.{seek, param_step, own, or_else, segment, has_slash, longest_suffix, cuts, first}
 use Rattle.bh_operation.specs.Routes.{routes, object_route, slashed_route, bucket_route, host_route}
 use Rattle.bh_operation.specs.Targets.{is_slash, kind_with, kind_in, kind_at}
 use Rattle.bh_operation.specs.declared.target.Kind.{Kind}

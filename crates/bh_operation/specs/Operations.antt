@@ -23,7 +23,17 @@ use Rattle.bh_operation.specs.declared.action.ObjectAction.{ObjectAction}
 use Rattle.bh_operation.specs.declared.action.ObjectAction.TheVariants as object
 use Rattle.bh_operation.specs.declared.address.ObjectName.{ObjectName}
 use Rattle.bh_operation.specs.declared.operation.Operation.{Operation}
-use Rattle.bh_operation.specs.declared.operation.Operation.TheVariants as op
+use Rattle.bh_operation.specs.declared.operation.Operation.TheVariants.{Bare, ByDocument, Store, GetObject}
+use Rattle.bh_operation.specs.declared.operation.BareOperation.TheVariants.{Service, Bucket, Listing, Lifecycle, Upload, Object}
+use Rattle.bh_operation.specs.declared.operation.ServiceOperation.TheVariants.{ListBuckets, Usage}
+use Rattle.bh_operation.specs.declared.operation.BucketOperation.TheVariants.{CreateBucket, HeadBucket, DeleteBucket, GetBucketVersioning}
+use Rattle.bh_operation.specs.declared.operation.ListingOperation.TheVariants.{ListObjectsV2, ListObjectVersions, ListMultipartUploads}
+use Rattle.bh_operation.specs.declared.operation.LifecycleOperation.TheVariants.{GetLifecycle, DeleteLifecycle}
+use Rattle.bh_operation.specs.declared.operation.UploadOperation.TheVariants.{CreateMultipartUpload, ListParts, AbortMultipartUpload}
+use Rattle.bh_operation.specs.declared.operation.ObjectOperation.TheVariants.{CopyObject, HeadObject, DeleteObject, GetRetention}
+use Rattle.bh_operation.specs.declared.operation.DocumentOperation.TheVariants.{PutBucketVersioning, PutLifecycle, CompleteMultipartUpload}
+use Rattle.bh_operation.specs.declared.operation.DocumentOperation.TheVariants.{PutRetention}
+use Rattle.bh_operation.specs.declared.operation.StoreOperation.TheVariants.{PutObject, UploadPart}
 use Rattle.bh_operation.specs.declared.query.Parameter.{Parameter}
 use Rattle.bh_operation.specs.declared.query.Selector.{Selector}
 use Rattle.bh_operation.specs.declared.query.Selector.TheVariants as by
@@ -49,8 +59,8 @@ upload_in parameters = option_and_then upload_of (value_of (codes "uploadId") pa
 -- fifth step, for the host itself
 -- Amazon S3 API Reference, ListBuckets; usage is this host's
 unfoldable pub host_operation : Method → Option Selector → Result Operation Refusal
-host_operation method.Get None = Ok op.ListBuckets
-host_operation method.Get (Some by.Usage) = Ok op.Usage
+host_operation method.Get None = Ok (Bare (Service ListBuckets))
+host_operation method.Get (Some by.Usage) = Ok (Bare (Service Usage))
 host_operation m selector = Err MethodNotAllowed
 
 -- sixth and seventh step: first the parameters and fields that an operation reads, and then the names
@@ -61,7 +71,7 @@ list_objects caller text parameters = do
   page ← key_page parameters
   token ← token_of parameters
   name ← bucket_named caller text
-  Ok (op.ListObjectsV2 name page token)
+  Ok (Bare (Listing (ListObjectsV2 name page token)))
 
 -- Amazon S3 API Reference, ListObjectVersions
 unfoldable pub list_versions : Octets → Octets → List Parameter → Result Operation Refusal
@@ -69,7 +79,7 @@ list_versions caller text parameters = do
   page ← key_page parameters
   after ← version_marker parameters
   name ← bucket_named caller text
-  Ok (op.ListObjectVersions name page after)
+  Ok (Bare (Listing (ListObjectVersions name page after)))
 
 -- Amazon S3 API Reference, ListMultipartUploads
 unfoldable pub list_uploads : Octets → Octets → List Parameter → Result Operation Refusal
@@ -77,7 +87,7 @@ list_uploads caller text parameters = do
   page ← upload_page parameters
   after ← upload_marker parameters
   name ← bucket_named caller text
-  Ok (op.ListMultipartUploads name page after)
+  Ok (Bare (Listing (ListMultipartUploads name page after)))
 
 -- an operation that reads nothing but a bucket's name, or an object's
 abbrev pub at_name : {A : Type 0} → (A → Operation) → Result A Refusal → Result Operation Refusal
@@ -86,13 +96,13 @@ at_name make (Err refusal) = Err refusal
 
 -- what an action that reads nothing but a bucket's name makes of it
 abbrev pub on_bucket : Octets → BucketAction → Option Operation
-on_bucket name bucket.Head = Some (op.HeadBucket name)
-on_bucket name bucket.Delete = Some (op.DeleteBucket name)
-on_bucket name bucket.GetVersioning = Some (op.GetBucketVersioning name)
-on_bucket name bucket.PutVersioning = Some (op.PutBucketVersioning name)
-on_bucket name bucket.GetLifecycle = Some (op.GetLifecycle name)
-on_bucket name bucket.PutLifecycle = Some (op.PutLifecycle name)
-on_bucket name bucket.DeleteLifecycle = Some (op.DeleteLifecycle name)
+on_bucket name bucket.Head = Some (Bare (Bucket (HeadBucket name)))
+on_bucket name bucket.Delete = Some (Bare (Bucket (DeleteBucket name)))
+on_bucket name bucket.GetVersioning = Some (Bare (Bucket (GetBucketVersioning name)))
+on_bucket name bucket.PutVersioning = Some (ByDocument (PutBucketVersioning name))
+on_bucket name bucket.GetLifecycle = Some (Bare (Lifecycle (GetLifecycle name)))
+on_bucket name bucket.PutLifecycle = Some (ByDocument (PutLifecycle name))
+on_bucket name bucket.DeleteLifecycle = Some (Bare (Lifecycle (DeleteLifecycle name)))
 on_bucket name action = None
 
 -- Amazon S3 API Reference, CreateBucket
@@ -100,27 +110,34 @@ unfoldable pub create_bucket : Octets → Octets → Fields → Result Operation
 create_bucket caller text fields = do
   locked ← lock_in fields
   name ← bucket_named caller text
-  Ok (op.CreateBucket name locked)
+  Ok (Bare (Bucket (CreateBucket name locked)))
 
 unfoldable pub bucket_operation : Octets → Octets → List Parameter → Fields → BucketAction → Result Operation Refusal
 bucket_operation caller text parameters fields bucket.Create = create_bucket caller text fields
-bucket_operation caller text parameters fields bucket.Head = at_name op.HeadBucket (bucket_named caller text)
-bucket_operation caller text parameters fields bucket.Delete = at_name op.DeleteBucket (bucket_named caller text)
+bucket_operation caller text parameters fields bucket.Head =
+    at_name (λ name. Bare (Bucket (HeadBucket name))) (bucket_named caller text)
+bucket_operation caller text parameters fields bucket.Delete =
+    at_name (λ name. Bare (Bucket (DeleteBucket name))) (bucket_named caller text)
 bucket_operation caller text parameters fields bucket.ListObjects = list_objects caller text parameters
 bucket_operation caller text parameters fields bucket.ListVersions = list_versions caller text parameters
 bucket_operation caller text parameters fields bucket.ListUploads = list_uploads caller text parameters
-bucket_operation caller text parameters fields bucket.GetVersioning = at_name op.GetBucketVersioning (bucket_named caller text)
-bucket_operation caller text parameters fields bucket.PutVersioning = at_name op.PutBucketVersioning (bucket_named caller text)
-bucket_operation caller text parameters fields bucket.GetLifecycle = at_name op.GetLifecycle (bucket_named caller text)
-bucket_operation caller text parameters fields bucket.PutLifecycle = at_name op.PutLifecycle (bucket_named caller text)
-bucket_operation caller text parameters fields bucket.DeleteLifecycle = at_name op.DeleteLifecycle (bucket_named caller text)
+bucket_operation caller text parameters fields bucket.GetVersioning =
+    at_name (λ name. Bare (Bucket (GetBucketVersioning name))) (bucket_named caller text)
+bucket_operation caller text parameters fields bucket.PutVersioning =
+    at_name (λ name. ByDocument (PutBucketVersioning name)) (bucket_named caller text)
+bucket_operation caller text parameters fields bucket.GetLifecycle =
+    at_name (λ name. Bare (Lifecycle (GetLifecycle name))) (bucket_named caller text)
+bucket_operation caller text parameters fields bucket.PutLifecycle =
+    at_name (λ name. ByDocument (PutLifecycle name)) (bucket_named caller text)
+bucket_operation caller text parameters fields bucket.DeleteLifecycle =
+    at_name (λ name. Bare (Lifecycle (DeleteLifecycle name))) (bucket_named caller text)
 
 -- Amazon S3 API Reference, PutObject
 unfoldable pub put_object : Octets → Octets → Octets → Fields → Result Operation Refusal
 put_object caller text key fields = do
   checksum ← checksum_in fields
   name ← object_named caller text key
-  Ok (op.PutObject name checksum (date_in fields))
+  Ok (Store (PutObject name checksum (date_in fields)))
 
 -- a checksum of a copy is only counted; the names of the source come last
 -- Amazon S3 API Reference, CopyObject
@@ -130,14 +147,14 @@ copy_object caller text key fields = do
   _ ← checksum_in fields
   name ← object_named caller text key
   from ← object_named caller source.bucket source.key
-  Ok (op.CopyObject name (record { object = from; version = source.version }) (date_in fields))
+  Ok (Bare (Object (CopyObject name (record { object = from; version = source.version }) (date_in fields))))
 
 -- the names of a copy and of its source
 abbrev pub copy_from : Octets → Octets → Octets → Source → Fields → Result Operation Refusal
 copy_from caller text key source fields = do
   name ← object_named caller text key
   from ← object_named caller source.bucket source.key
-  Ok (op.CopyObject name (record { object = from; version = source.version }) (date_in fields))
+  Ok (Bare (Object (CopyObject name (record { object = from; version = source.version }) (date_in fields))))
 
 -- Amazon S3 API Reference, UploadPart
 unfoldable pub upload_part : Octets → Octets → Octets → List Parameter → Fields → Result Operation Refusal
@@ -145,47 +162,47 @@ upload_part caller text key parameters fields = do
   number ← part_number (value_of (codes "partNumber") parameters)
   checksum ← checksum_in fields
   name ← object_named caller text key
-  Ok (op.UploadPart name (upload_in parameters) number checksum)
+  Ok (Store (UploadPart name (upload_in parameters) number checksum))
 
 -- Amazon S3 API Reference, ListParts
 unfoldable pub list_parts : Octets → Octets → Octets → List Parameter → Result Operation Refusal
 list_parts caller text key parameters = do
   page ← part_page parameters
   name ← object_named caller text key
-  Ok (op.ListParts name (upload_in parameters) page)
+  Ok (Bare (Upload (ListParts name (upload_in parameters) page)))
 
 -- what an action that reads an object's name and no more than an id makes of it
 abbrev pub on_object : ObjectName → List Parameter → ObjectAction → Option Operation
-on_object name parameters object.Head = Some (op.HeadObject name (version_in parameters))
-on_object name parameters object.Delete = Some (op.DeleteObject name (version_in parameters))
-on_object name parameters object.GetRetention = Some (op.GetRetention name (version_in parameters))
-on_object name parameters object.PutRetention = Some (op.PutRetention name (version_in parameters))
-on_object name parameters object.CreateUpload = Some (op.CreateMultipartUpload name)
-on_object name parameters object.CompleteUpload = Some (op.CompleteMultipartUpload name (upload_in parameters))
-on_object name parameters object.AbortUpload = Some (op.AbortMultipartUpload name (upload_in parameters))
+on_object name parameters object.Head = Some (Bare (Object (HeadObject name (version_in parameters))))
+on_object name parameters object.Delete = Some (Bare (Object (DeleteObject name (version_in parameters))))
+on_object name parameters object.GetRetention = Some (Bare (Object (GetRetention name (version_in parameters))))
+on_object name parameters object.PutRetention = Some (ByDocument (PutRetention name (version_in parameters)))
+on_object name parameters object.CreateUpload = Some (Bare (Upload (CreateMultipartUpload name)))
+on_object name parameters object.CompleteUpload = Some (ByDocument (CompleteMultipartUpload name (upload_in parameters)))
+on_object name parameters object.AbortUpload = Some (Bare (Upload (AbortMultipartUpload name (upload_in parameters))))
 on_object name parameters action = None
 
 unfoldable pub object_operation : Octets → Octets → Octets → List Parameter → Fields → ObjectAction → Result Operation Refusal
 object_operation caller text key parameters fields object.Put = put_object caller text key fields
 object_operation caller text key parameters fields object.Copy = copy_object caller text key fields
 object_operation caller text key parameters fields object.Get =
-    at_name (λ name. op.GetObject name (version_in parameters) (range_in fields)) (object_named caller text key)
+    at_name (λ name. GetObject name (version_in parameters) (range_in fields)) (object_named caller text key)
 object_operation caller text key parameters fields object.Head =
-    at_name (λ name. op.HeadObject name (version_in parameters)) (object_named caller text key)
+    at_name (λ name. Bare (Object (HeadObject name (version_in parameters)))) (object_named caller text key)
 object_operation caller text key parameters fields object.Delete =
-    at_name (λ name. op.DeleteObject name (version_in parameters)) (object_named caller text key)
+    at_name (λ name. Bare (Object (DeleteObject name (version_in parameters)))) (object_named caller text key)
 object_operation caller text key parameters fields object.GetRetention =
-    at_name (λ name. op.GetRetention name (version_in parameters)) (object_named caller text key)
+    at_name (λ name. Bare (Object (GetRetention name (version_in parameters)))) (object_named caller text key)
 object_operation caller text key parameters fields object.PutRetention =
-    at_name (λ name. op.PutRetention name (version_in parameters)) (object_named caller text key)
+    at_name (λ name. ByDocument (PutRetention name (version_in parameters))) (object_named caller text key)
 object_operation caller text key parameters fields object.CreateUpload =
-    at_name op.CreateMultipartUpload (object_named caller text key)
+    at_name (λ name. Bare (Upload (CreateMultipartUpload name))) (object_named caller text key)
 object_operation caller text key parameters fields object.UploadPart = upload_part caller text key parameters fields
 object_operation caller text key parameters fields object.ListParts = list_parts caller text key parameters
 object_operation caller text key parameters fields object.CompleteUpload =
-    at_name (λ name. op.CompleteMultipartUpload name (upload_in parameters)) (object_named caller text key)
+    at_name (λ name. ByDocument (CompleteMultipartUpload name (upload_in parameters))) (object_named caller text key)
 object_operation caller text key parameters fields object.AbortUpload =
-    at_name (λ name. op.AbortMultipartUpload name (upload_in parameters)) (object_named caller text key)
+    at_name (λ name. Bare (Upload (AbortMultipartUpload name (upload_in parameters)))) (object_named caller text key)
 
 -- fifth to seventh step
 unfoldable pub operation_at : Octets → Method → List Parameter → Fields → Target → Option Selector → Result Operation Refusal

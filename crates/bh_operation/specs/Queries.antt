@@ -1,5 +1,6 @@
 -- The parameters of a query, and which of them the host knows.
-use Rattle.std.specs.Prelude.{ℕ, ◌||◌, ◌&&◌, Bool, List, [], ◌∷◌, map, find, count_by, nat_lt, codes, Option, Some, None, option_map, option_and_then, is_some, if◌then◌else◌, Result, Ok, Err}
+use Rattle.std.specs.Prelude.{ℕ, ◌||◌, ◌&&◌, Bool, List, [], ◌∷◌, map, find, count_by, nat_lt, codes, Option, Some, None, option_map}
+use Rattle.std.specs.Prelude.{option_and_then, is_some, if◌then◌else◌, Result, Ok, Err}
 use Rattle.std.specs.List.{list_any}
 use Rattle.std.specs.Str.{bytes_eq}
 use Rattle.std.specs.Str.Lossy.{utf8_lossy}
@@ -8,7 +9,8 @@ use Rattle.bh_types.specs.declared.refusal.Refusal.{Refusal}
 use Rattle.bh_types.specs.declared.refusal.Refusal.TheVariants.{InvalidArgument}
 use Rattle.bh_operation.specs.declared.query.Parameter.{Parameter}
 use Rattle.bh_operation.specs.declared.query.Selector.{Selector}
-use Rattle.bh_operation.specs.declared.query.Selector.TheVariants.{ListType, Versions, Uploads, Versioning, Lifecycle, Usage, UploadId, Retention}
+use Rattle.bh_operation.specs.declared.query.Selector.TheVariants.{ListType, Versions, Uploads, Versioning, Lifecycle, Usage, UploadId}
+use Rattle.bh_operation.specs.declared.query.Selector.TheVariants.{Retention}
 
 -- the text that an encoded name or value stands for
 abbrev pub form_text : List ℕ → List ℕ

@@ -2,7 +2,8 @@
 use Rattle.std.specs.Prelude.{ℕ, Bool, true, false, List}
 use Rattle.bh_types.specs.Refusing.{RefusedOnly}
 use Rattle.bh_types.specs.declared.refusal.Refusal.{Refusal}
-use Rattle.bh_types.specs.declared.refusal.Refusal.TheVariants.{NotImplemented, AccessDenied, InvalidUri, InvalidBucketName, KeyTooLong, InvalidArgument, MethodNotAllowed}
+use Rattle.bh_types.specs.declared.refusal.Refusal.TheVariants.{NotImplemented, AccessDenied, InvalidUri, InvalidBucketName, KeyTooLong}
+use Rattle.bh_types.specs.declared.refusal.Refusal.TheVariants.{InvalidArgument, MethodNotAllowed}
 use Rattle.bh_http.specs.Views.{Taken}
 use Rattle.bh_operation.specs.Operations.{operation}
 

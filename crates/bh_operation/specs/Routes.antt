@@ -7,7 +7,12 @@ use Rattle.bh_operation.specs.declared.target.Kind.TheVariants.{Host, Bucket, Ob
 
 -- a route's pattern has 256 for a parameter and 257 for one that takes all
 abbrev pub object_route : RouteOf Kind
-object_route = record { pattern = 47 ∷ 256 ∷ 47 ∷ 257 ∷ []; text = codes "/{bucket}/{*key}"; names = (2, 8) ∷ (12, 15) ∷ []; value = Object }
+object_route = record {
+  pattern = 47 ∷ 256 ∷ 47 ∷ 257 ∷ [];
+  text = codes "/{bucket}/{*key}";
+  names = (2, 8) ∷ (12, 15) ∷ [];
+  value = Object;
+}
 
 abbrev pub slashed_route : RouteOf Kind
 slashed_route = record { pattern = 47 ∷ 256 ∷ 47 ∷ []; text = codes "/{bucket}/"; names = (2, 8) ∷ []; value = Bucket }

@@ -1,6 +1,7 @@
 -- What the header field x-amz-copy-source names: `bucket/key` or `/bucket/key`, percent-encoded, and then perhaps
 -- `?versionId=` and an id.
-use Rattle.std.specs.Prelude.{ℕ, ◌==◌, List, [], ◌∷◌, length, take, drop, codes, Option, Some, None, is_none, position, if◌then◌else◌, Result, Ok, Err}
+use Rattle.std.specs.Prelude.{ℕ, ◌==◌, List, [], ◌∷◌, length, take, drop, codes, Option, Some, None, is_none, position, if◌then◌else◌}
+use Rattle.std.specs.Prelude.{Result, Ok, Err}
 use Rattle.std.specs.List.{before_first, after_first}
 use Rattle.std.specs.Str.{bytes_eq}
 use Rattle.bh_types.specs.Outcomes.{◌>>=◌}

@@ -1,5 +1,6 @@
 -- The target of a request: its path and its query, the route of the path, and the names in it.
-use Rattle.std.specs.Prelude.{ℕ, ◌&&◌, ◌||◌, ◌==◌, not, Bool, true, false, List, [], ◌∷◌, drop, Option, Some, None, option_and_then, if◌then◌else◌, Result, Ok, Err}
+use Rattle.std.specs.Prelude.{ℕ, ◌&&◌, ◌||◌, ◌==◌, not, Bool, true, false, List, [], ◌∷◌, drop, Option, Some, None, option_and_then}
+use Rattle.std.specs.Prelude.{if◌then◌else◌, Result, Ok, Err}
 use Rattle.std.specs.Char.{is_ascii_hexdigit}
 use Rattle.std.specs.List.{before_first, after_first}
 use Rattle.std.specs.Str.{is_utf8}

@@ -14,7 +14,7 @@ use bh_types::wanted::Wanted;
 use std::alloc::Global;
 
 /// The entries of a page where a request does not say how many, and the most that it gets.
-const MAX_PAGE: u64 = 1000;
+const MAX_PAGE: u32 = 1000;
 
 /// The greatest number of a part.
 const MAX_PART: u64 = 10_000;
@@ -37,12 +37,12 @@ fn short_number(text: &str) -> Result<u64, Refusal>
 /// The number of entries of a page, 1,000 where none is given and at most that: InvalidArgument for a text that
 /// is not 1 to 10 digits.
 #[tactic(auto, unfolding(crate::specs::Numbers::page_size))]
-pub fn page_size(text: Option<&str>) -> Result<u64, Refusal>
+pub fn page_size(text: Option<&str>) -> Result<u32, Refusal>
     ensures { result ≡ spec.page_size (option_copied text.entry) }
 {
     match text {
         None => Ok(MAX_PAGE),
-        Some(text) => Ok(short_number(text)?.min(MAX_PAGE)),
+        Some(text) => Ok(short_number(text)?.min(MAX_PAGE as u64) as u32),
     }
 }
 

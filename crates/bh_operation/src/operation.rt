@@ -16,6 +16,8 @@ use crate::routes::Routes;
 use crate::source::{Source, source_in};
 use crate::target::{Target, routed, split_target, target_at};
 use crate::text::{Bytes, Text};
+use BareOperation::{Bucket, Lifecycle, Listing, Object, Service, Upload};
+use Operation::{Bare, ByDocument, Store};
 use bh_http::request::{Field, Head};
 use bh_types::bucket::BucketName;
 use bh_types::error::RequestError;
@@ -33,23 +35,67 @@ pub struct CopySource {
     pub version: Wanted,
 }
 
-/// What a request asks of the host, by the names of the Amazon S3 API Reference. An upload is `None` where the given
-/// id is none.
+/// What a request asks of the host, by the names of the Amazon S3 API Reference, and by what the host does with the
+/// request's body and with an object's bytes. An upload is `None` where the given id is none.
 #[derive(Drop)]
 pub enum Operation {
+    /// Nothing is read of the body, and no object's bytes are answered.
+    Bare(BareOperation),
+    /// The body is a document that says what is to be done.
+    ByDocument(DocumentOperation),
+    /// The body's bytes are stored.
+    Store(StoreOperation),
+    /// `GET /bucket/key`, with the text of the header field Range, if just one stands. The object's bytes are answered, and
+    /// nothing is read of the body.
+    GetObject {
+        object: ObjectName,
+        version: Wanted,
+        range: Option<Bytes>,
+    },
+}
+
+/// An operation that reads nothing of its request's body and answers no object's bytes, by what it is about.
+#[derive(Drop)]
+pub enum BareOperation {
+    /// All buckets of the caller.
+    Service(ServiceOperation),
+    /// A bucket itself.
+    Bucket(BucketOperation),
+    /// What a bucket has, a page at a time.
+    Listing(ListingOperation),
+    /// A bucket's rule.
+    Lifecycle(LifecycleOperation),
+    /// A multipart upload.
+    Upload(UploadOperation),
+    /// An object.
+    Object(ObjectOperation),
+}
+
+/// What is asked of all buckets of the caller.
+#[derive(Drop)]
+pub enum ServiceOperation {
     /// `GET /`
     ListBuckets,
     /// `GET /?usage`, which S3 has not.
     Usage,
+}
+
+/// What is asked of a bucket itself.
+#[derive(Drop)]
+pub enum BucketOperation {
     /// `PUT /bucket`, and whether the bucket is to be locked.
-    CreateBucket {
-        bucket: BucketName,
-        locked: bool,
-    },
+    CreateBucket { bucket: BucketName, locked: bool },
     /// `HEAD /bucket`
     HeadBucket(BucketName),
     /// `DELETE /bucket`
     DeleteBucket(BucketName),
+    /// `GET /bucket?versioning`
+    GetBucketVersioning(BucketName),
+}
+
+/// A page of what a bucket has.
+#[derive(Drop)]
+pub enum ListingOperation {
     /// `GET /bucket?list-type=2`, the names greater than the token's.
     ListObjectsV2 {
         bucket: BucketName,
@@ -68,34 +114,43 @@ pub enum Operation {
         page: Page,
         after: Option<UploadMarker>,
     },
-    /// `GET /bucket?versioning`
-    GetBucketVersioning(BucketName),
-    /// `PUT /bucket?versioning`
-    PutBucketVersioning(BucketName),
+}
+
+/// What is asked of a bucket's rule with no document.
+#[derive(Drop)]
+pub enum LifecycleOperation {
     /// `GET /bucket?lifecycle`
     GetLifecycle(BucketName),
-    /// `PUT /bucket?lifecycle`
-    PutLifecycle(BucketName),
     /// `DELETE /bucket?lifecycle`
     DeleteLifecycle(BucketName),
-    /// `PUT /bucket/key`, with the checksum that the body must have, and the date until which the version is to be kept,
-    /// if they are given. The inner `None` is a date that is not given as it should be.
-    PutObject {
+}
+
+/// What is asked of a multipart upload with no document and no part's bytes.
+#[derive(Drop)]
+pub enum UploadOperation {
+    /// `POST /bucket/key?uploads`
+    CreateMultipartUpload(ObjectName),
+    /// `GET /bucket/key?uploadId=..`
+    ListParts {
         object: ObjectName,
-        checksum: Option<Bytes>,
-        date: Option<Option<Moment>>,
+        upload: Option<UploadId>,
+        page: PartPage,
     },
+    /// `DELETE /bucket/key?uploadId=..`
+    AbortMultipartUpload {
+        object: ObjectName,
+        upload: Option<UploadId>,
+    },
+}
+
+/// What is asked of an object that neither takes nor gives its bytes, with no document.
+#[derive(Drop)]
+pub enum ObjectOperation {
     /// `PUT /bucket/key` with `x-amz-copy-source`, and a date as for `PutObject`.
     CopyObject {
         object: ObjectName,
         source: CopySource,
         date: Option<Option<Moment>>,
-    },
-    /// `GET /bucket/key`, with the text of the header field Range, if just one stands.
-    GetObject {
-        object: ObjectName,
-        version: Wanted,
-        range: Option<Bytes>,
     },
     /// `HEAD /bucket/key`
     HeadObject {
@@ -107,40 +162,48 @@ pub enum Operation {
         object: ObjectName,
         version: Wanted,
     },
-    /// `POST /bucket/key?uploads`
-    CreateMultipartUpload(ObjectName),
+    /// `GET /bucket/key?retention`
+    GetRetention {
+        object: ObjectName,
+        version: Wanted,
+    },
+}
+
+/// An operation by the document that comes with its request.
+#[derive(Drop)]
+pub enum DocumentOperation {
+    /// `PUT /bucket?versioning`
+    PutBucketVersioning(BucketName),
+    /// `PUT /bucket?lifecycle`
+    PutLifecycle(BucketName),
+    /// `POST /bucket/key?uploadId=..`
+    CompleteMultipartUpload {
+        object: ObjectName,
+        upload: Option<UploadId>,
+    },
+    /// `PUT /bucket/key?retention`
+    PutRetention {
+        object: ObjectName,
+        version: Wanted,
+    },
+}
+
+/// An operation that stores the bytes that come with its request, with the checksum that they must have, if one is given.
+#[derive(Drop)]
+pub enum StoreOperation {
+    /// `PUT /bucket/key`, and the date until which the version is to be kept, if one is given. The inner `None` is a date
+    /// that is not given as it should be.
+    PutObject {
+        object: ObjectName,
+        checksum: Option<Bytes>,
+        date: Option<Option<Moment>>,
+    },
     /// `PUT /bucket/key?uploadId=..&partNumber=..`, its number 1 to 10,000.
     UploadPart {
         object: ObjectName,
         upload: Option<UploadId>,
         number: u32,
         checksum: Option<Bytes>,
-    },
-    /// `GET /bucket/key?uploadId=..`
-    ListParts {
-        object: ObjectName,
-        upload: Option<UploadId>,
-        page: PartPage,
-    },
-    /// `POST /bucket/key?uploadId=..`
-    CompleteMultipartUpload {
-        object: ObjectName,
-        upload: Option<UploadId>,
-    },
-    /// `DELETE /bucket/key?uploadId=..`
-    AbortMultipartUpload {
-        object: ObjectName,
-        upload: Option<UploadId>,
-    },
-    /// `GET /bucket/key?retention`
-    GetRetention {
-        object: ObjectName,
-        version: Wanted,
-    },
-    /// `PUT /bucket/key?retention`
-    PutRetention {
-        object: ObjectName,
-        version: Wanted,
     },
 }
 
@@ -171,8 +234,8 @@ fn host_operation(method: Method, selector: Option<Selector>) -> Result<Operatio
     ensures { result ≡ spec.host_operation method selector }
 {
     match (method, selector) {
-        (Method::Get, None) => Ok(Operation::ListBuckets),
-        (Method::Get, Some(Selector::Usage)) => Ok(Operation::Usage),
+        (Method::Get, None) => Ok(Bare(Service(ServiceOperation::ListBuckets))),
+        (Method::Get, Some(Selector::Usage)) => Ok(Bare(Service(ServiceOperation::Usage))),
         _ => Err(Refusal::MethodNotAllowed),
     }
 }
@@ -185,11 +248,11 @@ fn list_objects(asked: &RequestParts, text: Text) -> Result<Operation, RequestEr
     let page = page_in(asked.alloc, "max-keys", asked.parameters)?;
     let token = token_of(asked.alloc, asked.parameters)?;
     let bucket = bucket_named(asked.alloc, asked.caller, text)?;
-    Ok(Operation::ListObjectsV2 {
+    Ok(Bare(Listing(ListingOperation::ListObjectsV2 {
         bucket,
         page,
         token,
-    })
+    })))
 }
 
 #[tactic(auto, unfolding(crate::specs::Operations::list_versions, crate::specs::Pages::key_page))]
@@ -199,11 +262,11 @@ fn list_versions(asked: &RequestParts, text: Text) -> Result<Operation, RequestE
     let page = page_in(asked.alloc, "max-keys", asked.parameters)?;
     let after = version_marker(asked.alloc, asked.parameters)?;
     let bucket = bucket_named(asked.alloc, asked.caller, text)?;
-    Ok(Operation::ListObjectVersions {
+    Ok(Bare(Listing(ListingOperation::ListObjectVersions {
         bucket,
         page,
         after,
-    })
+    })))
 }
 
 #[tactic(auto, unfolding(crate::specs::Operations::list_uploads))]
@@ -213,11 +276,11 @@ fn list_uploads(asked: &RequestParts, text: Text) -> Result<Operation, RequestEr
     let page = upload_page(asked.alloc, asked.parameters)?;
     let after = upload_marker(asked.alloc, asked.parameters)?;
     let bucket = bucket_named(asked.alloc, asked.caller, text)?;
-    Ok(Operation::ListMultipartUploads {
+    Ok(Bare(Listing(ListingOperation::ListMultipartUploads {
         bucket,
         page,
         after,
-    })
+    })))
 }
 
 #[tactic(auto, unfolding(crate::specs::Operations::create_bucket))]
@@ -227,7 +290,7 @@ fn create_bucket(asked: &RequestParts, text: Text) -> Result<Operation, RequestE
 {
     let locked = lock_in(asked.fields)?;
     let bucket = bucket_named(asked.alloc, asked.caller, text)?;
-    Ok(Operation::CreateBucket { bucket, locked })
+    Ok(Bare(Bucket(BucketOperation::CreateBucket { bucket, locked })))
 }
 
 /// The operation on the bucket that a text names: first the parameters that it reads are looked at, and then the text.
@@ -258,13 +321,15 @@ fn on_bucket(bucket: BucketName, action: BucketAction) -> Operation
     ensures { Some result ≡ spec.on_bucket bucket action }
 {
     match action {
-        BucketAction::Head => Operation::HeadBucket(bucket),
-        BucketAction::Delete => Operation::DeleteBucket(bucket),
-        BucketAction::GetVersioning => Operation::GetBucketVersioning(bucket),
-        BucketAction::PutVersioning => Operation::PutBucketVersioning(bucket),
-        BucketAction::GetLifecycle => Operation::GetLifecycle(bucket),
-        BucketAction::PutLifecycle => Operation::PutLifecycle(bucket),
-        BucketAction::DeleteLifecycle => Operation::DeleteLifecycle(bucket),
+        BucketAction::Head => Bare(Bucket(BucketOperation::HeadBucket(bucket))),
+        BucketAction::Delete => Bare(Bucket(BucketOperation::DeleteBucket(bucket))),
+        BucketAction::GetVersioning => Bare(Bucket(BucketOperation::GetBucketVersioning(bucket))),
+        BucketAction::PutVersioning => ByDocument(DocumentOperation::PutBucketVersioning(bucket)),
+        BucketAction::GetLifecycle => Bare(Lifecycle(LifecycleOperation::GetLifecycle(bucket))),
+        BucketAction::PutLifecycle => ByDocument(DocumentOperation::PutLifecycle(bucket)),
+        BucketAction::DeleteLifecycle => Bare(Lifecycle(LifecycleOperation::DeleteLifecycle(
+            bucket,
+        ))),
         BucketAction::Create
         | BucketAction::ListObjects
         | BucketAction::ListVersions
@@ -279,11 +344,11 @@ fn put_object(asked: &RequestParts, text: Text, key: Text) -> Result<Operation, 
 {
     let checksum = checksum_in(asked.alloc, asked.fields)?;
     let object = object_named(asked.alloc, asked.caller, text, key)?;
-    Ok(Operation::PutObject {
+    Ok(Store(StoreOperation::PutObject {
         object,
         checksum,
         date: date_in(asked.fields),
-    })
+    }))
 }
 
 /// A copy: the names of its source are looked at last. Its checksum is only counted.
@@ -308,14 +373,14 @@ fn copy_from(
 {
     let object = object_named(asked.alloc, asked.caller, text, key)?;
     let from = object_named(asked.alloc, asked.caller, source.bucket, source.key)?;
-    Ok(Operation::CopyObject {
+    Ok(Bare(Object(ObjectOperation::CopyObject {
         object,
         source: CopySource {
             object: from,
             version: source.version,
         },
         date: date_in(asked.fields),
-    })
+    })))
 }
 
 #[tactic(auto, unfolding(crate::specs::Operations::object_operation))]
@@ -340,12 +405,12 @@ fn upload_part(asked: &RequestParts, text: Text, key: Text) -> Result<Operation,
     let number = part_number(value_of("partNumber", asked.parameters))?;
     let checksum = checksum_in(asked.alloc, asked.fields)?;
     let object = object_named(asked.alloc, asked.caller, text, key)?;
-    Ok(Operation::UploadPart {
+    Ok(Store(StoreOperation::UploadPart {
         object,
         upload: upload_in(asked.parameters),
         number,
         checksum,
-    })
+    }))
 }
 
 #[tactic(auto, unfolding(crate::specs::Operations::list_parts))]
@@ -354,11 +419,11 @@ fn list_parts(asked: &RequestParts, text: Text, key: Text) -> Result<Operation, 
 {
     let page = part_page(asked.parameters)?;
     let object = object_named(asked.alloc, asked.caller, text, key)?;
-    Ok(Operation::ListParts {
+    Ok(Bare(Upload(UploadOperation::ListParts {
         object,
         upload: upload_in(asked.parameters),
         page,
-    })
+    })))
 }
 
 /// The operation on the object that two texts name: first the parameters and header fields that it reads are looked
@@ -394,13 +459,25 @@ fn on_object(object: ObjectName, parameters: &[Parameter], action: ObjectAction)
     let version = version_in(parameters);
     let upload = upload_in(parameters);
     match action {
-        ObjectAction::Head => Operation::HeadObject { object, version },
-        ObjectAction::Delete => Operation::DeleteObject { object, version },
-        ObjectAction::GetRetention => Operation::GetRetention { object, version },
-        ObjectAction::PutRetention => Operation::PutRetention { object, version },
-        ObjectAction::CreateUpload => Operation::CreateMultipartUpload(object),
-        ObjectAction::CompleteUpload => Operation::CompleteMultipartUpload { object, upload },
-        ObjectAction::AbortUpload => Operation::AbortMultipartUpload { object, upload },
+        ObjectAction::Head => Bare(Object(ObjectOperation::HeadObject { object, version })),
+        ObjectAction::Delete => Bare(Object(ObjectOperation::DeleteObject { object, version })),
+        ObjectAction::GetRetention => Bare(Object(ObjectOperation::GetRetention {
+            object,
+            version,
+        })),
+        ObjectAction::PutRetention => ByDocument(DocumentOperation::PutRetention {
+            object,
+            version,
+        }),
+        ObjectAction::CreateUpload => Bare(Upload(UploadOperation::CreateMultipartUpload(object))),
+        ObjectAction::CompleteUpload => ByDocument(DocumentOperation::CompleteMultipartUpload {
+            object,
+            upload,
+        }),
+        ObjectAction::AbortUpload => Bare(Upload(UploadOperation::AbortMultipartUpload {
+            object,
+            upload,
+        })),
         _ => unreachable!(),
     }
 }

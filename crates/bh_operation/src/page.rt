@@ -19,14 +19,14 @@ pub struct Page {
     /// Where keys are rolled up to one name, after the prefix; empty for nowhere.
     pub delimiter: Text,
     /// How many entries the page has at most: 0 to 1,000.
-    pub size: u64,
+    pub size: u32,
 }
 
 /// The parts that a listing of an upload asks for.
 #[derive(Clone, Copy, PartialEq, Eq)]
 pub struct PartPage {
     /// How many parts the page has at most: 0 to 1,000.
-    pub size: u64,
+    pub size: u32,
     /// The part after whose number it begins, 0 for the first.
     pub after: u64,
 }

@@ -1,6 +1,7 @@
 -- What an operator's line orders. A line is a JSON object as a line of a script is, of an order, or that of a backup: its `at`
 -- may be missing, and where it stands it doesn't count.
-use Rattle.std.specs.Prelude.{◌≡◌, ◌≤◌, ℕ, ◌+◌, Bool, false, ◌&&◌, is_some, unwrap_or, List, [], ◌∷◌, ◌++◌, ◌==◌, codes, length, take, drop, position, Option, Some, None, option_map, option_and_then, if◌then◌else◌}
+use Rattle.std.specs.Prelude.{◌≡◌, ◌≤◌, ℕ, ◌+◌, Bool, false, ◌&&◌, is_some, unwrap_or, List, [], ◌∷◌, ◌++◌, ◌==◌, codes, length, take, drop}
+use Rattle.std.specs.Prelude.{position, Option, Some, None, option_map, option_and_then, if◌then◌else◌}
 use Rattle.std.specs.Option.{option_or}
 use Rattle.std.specs.Str.{bytes_eq}
 use Rattle.std.specs.Io.KnownBytes.{Consumes}
@@ -90,7 +91,8 @@ abbrev pub ordered_by : Option (List ℕ) → ℕ → List ℕ → Option Order
 ordered_by secret reading bytes = option_and_then (order_told reading) (option_and_then (admitted secret) (line_in bytes))
 
 -- what was taken orders what all the bytes do that the reader would give
-pub record TookOrder (secret : Option (List ℕ)) (reading : ℕ) (old new : Option (List ℕ)) (taken : List ℕ) (order : Option Order) : Type 0 where
+pub record TookOrder (secret : Option (List ℕ)) (reading : ℕ) (old new : Option (List ℕ)) (taken : List ℕ) (order : Option Order) :
+    Type 0 where
   pub consumed : Consumes old new taken
   pub short : length taken ≤ 16384
   pub is : order ≡ ordered_by secret reading (all_of old taken)

@@ -1,5 +1,6 @@
 //! What a line orders.
-ghost use Rattle.std.specs.Prelude.{◌≡◌, ◌<◌, ◌==◌, ◌++◌, ℕ, List, codes, false, length, position, vec_items, IfOk, IfErr, IfSome, OnOk, option_map, option_and_then};
+ghost use Rattle.std.specs.Prelude.{◌≡◌, ◌<◌, ◌==◌, ◌++◌, ℕ, List, codes, false, length, position, vec_items, IfOk, IfErr, IfSome, OnOk};
+ghost use Rattle.std.specs.Prelude.{option_map, option_and_then};
 ghost use Rattle.std.specs.String.{string_bytes};
 ghost use Rattle.bh_event.specs.Events.{arrival};
 ghost use Rattle.bh_link.specs.Taking.{is_fault};

@@ -53,12 +53,15 @@ module _ {T : Type 0} (by_number : ℕ → ℕ → Ordering) (numbers : IsTotalO
 
   -- ---- an item more
 
+  abbrev keyed : Gathered T → T → Gathered T
+  keyed g x = record g { key = Some (item_key x) }
+
   item_step : (g : Gathered T) (x : T) (items : List T) → g.entries ++ come g (x ∷ items) ≡ (turn g x).entries ++ come (turn g x) items
-  item_step g x items = entry_step item_key none_of prefix delimiter item_key passes g (entry x) (filter passes (map entry items))
+  item_step g x items = entry_step item_key none_of prefix delimiter item_key passes (keyed g x) (entry x) (filter passes (map entry items))
 
   item_grown : (g : Gathered T) (x : T) → length (turn g x).entries ≤ suc (length g.entries)
-  item_grown g x = elim (passes (entry x)) as (λ t. length (cond t (with_entry g (entry x)) g).entries ≤ suc (length g.entries)) [
-    | true ↦ grown item_key none_of prefix delimiter item_key passes g (entry x)
+  item_grown g x = elim (passes (entry x)) as (λ t. length (cond t (with_entry (keyed g x) (entry x)) (keyed g x)).entries ≤ suc (length g.entries)) [
+    | true ↦ grown item_key none_of prefix delimiter item_key passes (keyed g x) (entry x)
     | false ↦ omega arith
   ]
 
@@ -107,7 +110,7 @@ module _ {T : Type 0} (by_number : ℕ → ℕ → Ordering) (numbers : IsTotalO
   Turned h x = (p : Octets) → rolled prefix delimiter (item_key x) ≡ Some p → IsDone p h.name
 
   turn_done : (g : Gathered T) (x : T) → Turned (turn g x) x
-  turn_done g x p is = subst (λ (e : Listed T). IsDone p (places.with_passing item_key prefix delimiter passes g e).name) (sym (ap (as_listed x) is)) (name_done g p)
+  turn_done g x p is = subst (λ (e : Listed T). IsDone p (places.with_passing item_key prefix delimiter passes (keyed g x) e).name) (sym (ap (as_listed x) is)) (name_done (keyed g x) p)
 
   last_turned : (max : ℕ) (g : Gathered T) (c : List T) (x : T) → last_of c ≡ Some x → length (gathered max g c).entries ≤ max → Turned (gathered max g c) x
   last_turned max g [] x h few = absurd (none_some h)

@@ -1,5 +1,5 @@
 -- What a page of uploads has read after the next rows.
-use Rattle.std.proofs.Common.{◌≡◌, ℕ, suc, ◌<◌, ◌≤◌, nat_lt, Bool, true, false, true≢false, List, [], ◌∷◌, ◌++◌, length, map, filter, take, Option, Some, None, IfSome, is_none, refl, sym, ap, subst, ◌∙◌, arith, nat_cmp}
+use Rattle.std.proofs.Common.{◌≡◌, ℕ, suc, ◌<◌, ◌≤◌, nat_lt, cond, Bool, true, false, true≢false, inl, inr, List, [], ◌∷◌, ◌++◌, length, map, filter, take, Option, Some, None, IfSome, is_none, refl, sym, ap, subst, ◌∙◌, arith, nat_cmp}
 use Rattle.std.proofs.lemmas.List.{length-map}
 use Rattle.std.specs.List.{AllByRecursion}
 use Rattle.bh_model.specs.State.{Octets}
@@ -8,20 +8,26 @@ use Rattle.std.proofs.lemmas.Cmp.{nat_cmp_total}
 use Rattle.bh_pages.specs.Gathered.{IsKeyUnder, IsBeginning, Gathered, past_name, past_key}
 use Rattle.bh_pages.specs.Seen.{token_of}
 use Rattle.bh_pages.specs.Places.{Place, IsUnder, at_key, past_row, past_few}
-use Rattle.bh_pages.specs.Versions.{seen_place}
-use Rattle.bh_pages.specs.Uploads.{upload_key, upload_number, is_from, is_behind, passes_name, uploads_added, uploads_to_come, seen, seen_line, seen_entry, rows_at, AreUnder, PastLast, GoesOn, AreRows, IsUnderway, AreNext}
+use Rattle.bh_pages.specs.Taken as taken
+use Rattle.bh_pages.specs.Taken.{seen_place, passes_name, AreUnder, PastLast, GoesOn, Taken}
+use Rattle.bh_pages.specs.Uploads.{upload_key, upload_number, is_from, is_behind, uploads_added, uploads_to_come, seen, seen_line, seen_entry, line_spot, line_item, rows_at, AreRows, IsUnderway, Stands, AreNext}
 use Rattle.bh_pages.specs.declared.gathering.PageAsked.{PageAsked}
 use Rattle.bh_pages.specs.declared.uploads.UploadLine.{UploadLine}
 use Rattle.bh_pages.specs.declared.gathering.Gathering.{Gathering}
-use Rattle.bh_pages.specs.declared.uploads.UploadReading.{UploadReading}
+use Rattle.bh_pages.specs.declared.places.PlaceReading.{PlaceReading}
 use Rattle.bh_pages.proofs.Bytes.{upto_begun, upto_trans, upto_past_key, upto_other, before_past_name, rolled_begins, some_same, none_some}
 use Rattle.bh_pages.proofs.Taking.{all_take}
 use Rattle.bh_pages.proofs.Filters.{filter_all, last_all}
 use Rattle.bh_pages.proofs.VersionTaking.{past_nat, last_map}
 use Rattle.bh_pages.proofs.Seeking.{chunk_full, chunk_ends, chunk_past, chunk_on}
 
+-- what lines add is what they show adds
+rows_seen : (asked : PageAsked) (g : Gathered UploadItem) (lines : List UploadLine) → taken.rows_added line_spot line_item seen_line asked g lines ≡ uploads_added asked g (map seen_line lines)
+rows_seen asked g [] = refl
+rows_seen asked g (l ∷ more) = ap (cond (nat_lt asked.max (length g.entries)) g) (rows_seen asked (taken.row_added line_spot line_item seen_line asked g l) more)
+
 module _ (asked : PageAsked) (rows : List UploadItem) (listing : List (Listed UploadItem)) (are : AreRows asked.prefix.now rows)
-    (old : UploadReading) (was : IsUnderway asked rows listing old) (lines : List UploadLine) (next : AreNext rows old lines) where
+    (old : PlaceReading UploadLine) (was : IsUnderway asked rows listing old) (lines : List UploadLine) (next : AreNext rows old lines) where
   abbrev IsFine : UploadItem → Type 0
   IsFine r = IsKeyUnder asked.prefix.now r.key
 
@@ -32,7 +38,7 @@ module _ (asked : PageAsked) (rows : List UploadItem) (listing : List (Listed Up
   chunk_fine key None = all_take IsFine old.count _ (filter_all IsFine (is_from (at_key key)) rows are.under)
   chunk_fine key (Some n) = all_take IsFine old.count _ (filter_all IsFine (is_behind key n) rows are.under)
 
-  pub lines_under : AreUnder asked lines
+  pub lines_under : AreUnder line_spot asked lines
   lines_under = begun lines (subst (AllByRecursion IsFine) (sym next) (chunk_fine old.place.key.items old.place.after))
     where
       begun : (l : List UploadLine) → AllByRecursion IsFine (map seen_line l) → AllByRecursion (λ (l : UploadLine). begins asked.prefix.now l.key.items ≡ true) l
@@ -84,7 +90,7 @@ module _ (asked : PageAsked) (rows : List UploadItem) (listing : List (Listed Up
     last is few = ap (λ (h : Gathered UploadItem). h.entries) (sym next_is)
         ∙ sym (chunk_ends nat_cmp nat_cmp_total upload_key upload_number asked.prefix.now asked.delimiter.now (passes_name (token_of asked)) rows are.in_order are.under asked.max listing (seen old.gathering) old.place.key.items old.place.after old.count (sym was.part.whole) short is (fewer few))
 
-    pub ended : (o : Option Place) → o ≡ None → GoesOn asked (seen_place old.place) lines old.count o → shown ≡ take (suc asked.max) listing
+    pub ended : (o : Option Place) → o ≡ None → GoesOn line_spot asked (seen_place old.place) lines old.count o → shown ≡ take (suc asked.max) listing
     ended o is goes = go (nat_lt (length lines) old.count) refl
       where
         none_on : (after : Option ℕ) → old.place.after ≡ after → o ≡ past_few (record { key = old.place.key.items; after = after }) → nat_lt (length lines) old.count ≡ true → shown ≡ take (suc asked.max) listing
@@ -134,16 +140,29 @@ module _ (asked : PageAsked) (rows : List UploadItem) (listing : List (Listed Up
             },
           )
 
-      pub goes_on : (o : Option Place) (place : Place) → o ≡ Some place → GoesOn asked (seen_place old.place) lines old.count o → GoesFrom place
+      pub goes_on : (o : Option Place) (place : Place) → o ≡ Some place → GoesOn line_spot asked (seen_place old.place) lines old.count o → GoesFrom place
       goes_on o place is goes = go (nat_lt (length lines) old.count) refl
         where
           key_on : (after : Option ℕ) → old.place.after ≡ after → o ≡ past_few (record { key = old.place.key.items; after = after }) → nat_lt (length lines) old.count ≡ true → GoesFrom place
           key_on None at on few = absurd (none_some (sym on ∙ is))
           key_on (Some n) at on few = subst GoesFrom (some_same (sym on ∙ is)) (next_key n at few)
 
-          row_on : PastLast asked lines place → GoesFrom place
+          row_on : PastLast line_spot asked lines place → GoesFrom place
           row_on past = subst GoesFrom (sym (past.is (last_all (λ (l : UploadLine). begins asked.prefix.now l.key.items ≡ true) lines past.row past.last lines_under))) (next_row past.row past.last)
 
           go : (t : Bool) → nat_lt (length lines) old.count ≡ t → GoesFrom place
           go true e = key_on old.place.after refl (goes.few e) e
-          go false e = row_on (subst (λ p. IfSome p (PastLast asked lines)) is (goes.on e).0)
+          go false e = row_on (subst (λ p. IfSome p (PastLast line_spot asked lines)) is (goes.on e).0)
+
+  pub took : (new : PlaceReading UploadLine) (end : Bool) → Taken line_spot line_item seen_line asked old lines new end → Stands end asked rows listing new
+  took new end it = go end it.goes
+    where
+      added : seen new.gathering ≡ uploads_added asked (seen old.gathering) (map seen_line lines)
+      added = it.added lines_under ∙ rows_seen asked (seen old.gathering) lines
+
+      go : (t : Bool) → taken.Goes line_spot line_item seen_line t asked old lines new → Stands t asked rows listing new
+      go true (inl over) = full new.gathering added over
+      go true (inr goes) = ended new.gathering added None refl goes
+      go false (room, goes) =
+          let on = goes_on new.gathering added room (Some (seen_place new.place)) (seen_place new.place) refl goes in
+          record { low = on.0; part = on.1 }

@@ -1,18 +1,20 @@
 -- What a page of versions has read after the next rows.
-use Rattle.std.proofs.Common.{◌≡◌, ℕ, suc, ◌<◌, ◌≤◌, nat_lt, Bool, true, false, true≢false, List, [], ◌∷◌, ◌++◌, length, map, filter, take, Option, Some, None, IfSome, is_none, refl, sym, ap, subst, ◌∙◌, arith}
+use Rattle.std.proofs.Common.{◌≡◌, ℕ, suc, ◌<◌, ◌≤◌, nat_lt, not, cond, Bool, true, false, true≢false, inl, inr, List, [], ◌∷◌, ◌++◌, length, map, filter, take, Option, Some, None, IfSome, is_none, refl, sym, ap, subst, ◌∙◌, arith}
 use Rattle.std.proofs.lemmas.Bool.Decides.{nat_tests}
 use Rattle.std.proofs.lemmas.List.{length-map}
 use Rattle.std.specs.List.{AllByRecursion}
 use Rattle.bh_model.specs.State.{Octets}
-use Rattle.bh_model.specs.Pages.{Listed, VersionItem, begins, is_upto, last_of, rolled}
-use Rattle.bh_pages.specs.Gathered.{IsKeyUnder, IsBeginning, Gathered, past_name, past_key}
+use Rattle.bh_model.specs.Pages.{Listed, Listed.Single, Listed.Common, as_listed, is_name, VersionItem, begins, is_upto, last_of, rolled, passes_version}
+use Rattle.bh_pages.specs.Gathered.{IsKeyUnder, IsBeginning, Gathered, with_entry, past_name, past_key}
 use Rattle.bh_pages.specs.Seen.{token_of}
-use Rattle.bh_pages.specs.Versions.{Numbered, row_key, Place, IsUnder, is_from, is_older, at_key, past_row, past_few, versions_to_come, seen, seen_line, seen_entry, seen_place, rows_added, rows_at, AreUnder, PastLast, GoesOn, AreRows, IsUnderway, AreNext}
+use Rattle.bh_pages.specs.Versions.{Numbered, row_key, Place, IsUnder, is_from, is_older, at_key, past_row, past_few, versions_to_come, seen, seen_line, seen_version, seen_entry, line_spot, line_item, version_in, with_version, rows_added, rows_at, AreRows, IsUnderway, Stands, AreNext}
+use Rattle.bh_pages.specs.Taken as taken
+use Rattle.bh_pages.specs.Taken.{seen_place, passes_name, AreUnder, PastLast, GoesOn, Taken}
 use Rattle.bh_pages.specs.declared.gathering.PageAsked.{PageAsked}
 use Rattle.bh_pages.specs.declared.versions.VersionLine.{VersionLine}
 use Rattle.bh_pages.specs.declared.gathering.Gathering.{Gathering}
 use Rattle.bh_pages.specs.declared.versions.ShownVersion.{ShownVersion}
-use Rattle.bh_pages.specs.declared.versions.VersionReading.{VersionReading}
+use Rattle.bh_pages.specs.declared.places.PlaceReading.{PlaceReading}
 use Rattle.bh_pages.proofs.Bytes.{upto_begun, upto_trans, upto_past_key, upto_other, before_past_name, rolled_begins, some_same, none_some}
 use Rattle.bh_pages.proofs.Taking.{all_take}
 use Rattle.bh_pages.proofs.Filters.{filter_all, last_all}
@@ -26,8 +28,27 @@ last_map f [] x h = absurd (none_some h)
 last_map f (y ∷ []) x h = ap (λ z. Some (f z)) (some_same h)
 last_map f (y ∷ z ∷ l) x h = last_map f (z ∷ l) x h
 
+passes_same : (marker : Option Octets) (e : Listed VersionItem) → passes_name marker e ≡ passes_version marker e
+passes_same None e = refl
+passes_same (Some m) (Single v) = refl
+passes_same (Some m) (Common name) = refl
+
+module _ (asked : PageAsked) where
+  row_seen : (g : Gathered VersionItem) (l : VersionLine) → taken.row_added line_spot line_item seen_version asked g l ≡ with_version asked.prefix.now asked.delimiter.now (token_of asked) g (seen_line l)
+  row_seen g l =
+      let h : Gathered VersionItem = record g { key = Some l.key.items } in
+      let e : Listed VersionItem = as_listed (version_in l (not (is_name l.key.items g.key))) (rolled asked.prefix.now asked.delimiter.now l.key.items) in
+      ap (λ t. cond t (with_entry h e) h) (passes_same (token_of asked) e)
+
+  -- what lines add is what they show adds
+  rows_seen : (g : Gathered VersionItem) (lines : List VersionLine) → taken.rows_added line_spot line_item seen_version asked g lines ≡ rows_added asked g (map seen_line lines)
+  rows_seen g [] = refl
+  rows_seen g (l ∷ more) =
+      ap (cond (nat_lt asked.max (length g.entries)) g)
+      (rows_seen (taken.row_added line_spot line_item seen_version asked g l) more ∙ ap (λ h. rows_added asked h (map seen_line more)) (row_seen g l))
+
 module _ (asked : PageAsked) (rows : List Numbered) (listing : List (Listed VersionItem)) (are : AreRows asked.prefix.now rows)
-    (old : VersionReading) (was : IsUnderway asked rows listing old) (lines : List VersionLine) (next : AreNext rows old lines) where
+    (old : PlaceReading ShownVersion) (was : IsUnderway asked rows listing old) (lines : List VersionLine) (next : AreNext rows old lines) where
   abbrev IsFine : Numbered → Type 0
   IsFine r = IsKeyUnder asked.prefix.now (row_key r)
 
@@ -38,7 +59,7 @@ module _ (asked : PageAsked) (rows : List Numbered) (listing : List (Listed Vers
   chunk_fine key None = all_take IsFine old.count _ (filter_all IsFine (is_from (at_key key)) rows are.under)
   chunk_fine key (Some n) = all_take IsFine old.count _ (filter_all IsFine (is_older key n) rows are.under)
 
-  pub lines_under : AreUnder asked lines
+  pub lines_under : AreUnder line_spot asked lines
   lines_under = begun lines (subst (AllByRecursion IsFine) (sym next) (chunk_fine old.place.key.items old.place.after))
     where
       begun : (l : List VersionLine) → AllByRecursion IsFine (map seen_line l) → AllByRecursion (λ (l : VersionLine). begins asked.prefix.now l.key.items ≡ true) l
@@ -90,7 +111,7 @@ module _ (asked : PageAsked) (rows : List Numbered) (listing : List (Listed Vers
     last is few = ap (λ (h : Gathered VersionItem). h.entries) (sym next_is)
         ∙ sym (chunk_ends asked.prefix.now asked.delimiter.now (token_of asked) rows are.in_order are.under asked.max listing (seen old.gathering) old.place.key.items old.place.after old.count (sym was.part.whole) short is (fewer few))
 
-    pub ended : (o : Option Place) → o ≡ None → GoesOn asked (seen_place old.place) lines old.count o → shown ≡ take (suc asked.max) listing
+    pub ended : (o : Option Place) → o ≡ None → GoesOn line_spot asked (seen_place old.place) lines old.count o → shown ≡ take (suc asked.max) listing
     ended o is goes = go (nat_lt (length lines) old.count) refl
       where
         none_on : (after : Option ℕ) → old.place.after ≡ after → o ≡ past_few (record { key = old.place.key.items; after = after }) → nat_lt (length lines) old.count ≡ true → shown ≡ take (suc asked.max) listing
@@ -140,16 +161,29 @@ module _ (asked : PageAsked) (rows : List Numbered) (listing : List (Listed Vers
             },
           )
 
-      pub goes_on : (o : Option Place) (place : Place) → o ≡ Some place → GoesOn asked (seen_place old.place) lines old.count o → GoesFrom place
+      pub goes_on : (o : Option Place) (place : Place) → o ≡ Some place → GoesOn line_spot asked (seen_place old.place) lines old.count o → GoesFrom place
       goes_on o place is goes = go (nat_lt (length lines) old.count) refl
         where
           key_on : (after : Option ℕ) → old.place.after ≡ after → o ≡ past_few (record { key = old.place.key.items; after = after }) → nat_lt (length lines) old.count ≡ true → GoesFrom place
           key_on None at on few = absurd (none_some (sym on ∙ is))
           key_on (Some n) at on few = subst GoesFrom (some_same (sym on ∙ is)) (next_key n at few)
 
-          row_on : PastLast asked lines place → GoesFrom place
+          row_on : PastLast line_spot asked lines place → GoesFrom place
           row_on past = subst GoesFrom (sym (past.is (last_all (λ (l : VersionLine). begins asked.prefix.now l.key.items ≡ true) lines past.row past.last lines_under))) (next_row past.row past.last)
 
           go : (t : Bool) → nat_lt (length lines) old.count ≡ t → GoesFrom place
           go true e = key_on old.place.after refl (goes.few e) e
-          go false e = row_on (subst (λ p. IfSome p (PastLast asked lines)) is (goes.on e).0)
+          go false e = row_on (subst (λ p. IfSome p (PastLast line_spot asked lines)) is (goes.on e).0)
+
+  pub took : (new : PlaceReading ShownVersion) (end : Bool) → Taken line_spot line_item seen_version asked old lines new end → Stands end asked rows listing new
+  took new end it = go end it.goes
+    where
+      added : seen new.gathering ≡ rows_added asked (seen old.gathering) (map seen_line lines)
+      added = it.added lines_under ∙ rows_seen asked (seen old.gathering) lines
+
+      go : (t : Bool) → taken.Goes line_spot line_item seen_version t asked old lines new → Stands t asked rows listing new
+      go true (inl over) = full new.gathering added over
+      go true (inr goes) = ended new.gathering added None refl goes
+      go false (room, goes) =
+          let on = goes_on new.gathering added room (Some (seen_place new.place)) (seen_place new.place) refl goes in
+          record { low = on.0; part = on.1 }

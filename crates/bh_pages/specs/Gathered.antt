@@ -1,6 +1,7 @@
 -- What is gathered of a page, row by row in the order of the keys. A row shows its key, and may show an item of it: of the rows
 -- of one key the first decides.
-use Rattle.std.specs.Prelude.{◌≡◌, ℕ, suc, ◌<◌, ◌≤◌, nat_lt, Bool, true, not, ◌||◌, List, [], ◌∷◌, ◌++◌, length, map, take, Option, Some, None, if◌then◌else◌}
+use Rattle.std.specs.Prelude.{◌≡◌, ℕ, suc, ◌<◌, ◌≤◌, nat_lt, Bool, true, not, ◌||◌, List, [], ◌∷◌, ◌++◌, length, map, take, Option, Some}
+use Rattle.std.specs.Prelude.{None, if◌then◌else◌}
 use Rattle.std.specs.List.{filter, AllByRecursion}
 use Rattle.bh_model.specs.State.{Octets}
 use Rattle.bh_model.specs.Pages.{Listed, Listed.Single, Listed.Common, is_name, is_upto, begins, merged, entry_of, rolled}
@@ -52,8 +53,12 @@ module _ {T : Type 0} where
 -- ---- what is gathered, row by row
 
 module _ {T : Type 0} where
+  -- nothing, after a row of this key
+  abbrev pub nothing_after : Option Octets → Gathered T
+  nothing_after key = record { key = key; name = None; entries = [] }
+
   abbrev pub nothing_gathered : Gathered T
-  nothing_gathered = record { key = None; name = None; entries = [] }
+  nothing_gathered = nothing_after None
 
   -- with one more entry
   abbrev pub with_entry : Gathered T → Listed T → Gathered T
@@ -69,12 +74,14 @@ module _ {T : Type 0} where
     -- the items that rows show, after a row of this key
     abbrev pub items_after : Option Octets → List R → List T
     items_after key [] = []
-    items_after key (r ∷ rows) = if is_name (row_key r) key then items_after key rows else in_front (item r) (items_after (Some (row_key r)) rows)
+    items_after key (r ∷ rows) =
+        if is_name (row_key r) key then items_after key rows else in_front (item r) (items_after (Some (row_key r)) rows)
 
     module _ (prefix delimiter : Octets) (item_key : T → Octets) (passes : Listed T → Bool) where
       abbrev pub with_item : Gathered T → Option T → Gathered T
       with_item g None = g
-      with_item g (Some x) = if passes (entry_of prefix delimiter item_key x) then with_entry g (entry_of prefix delimiter item_key x) else g
+      with_item g (Some x) =
+          if passes (entry_of prefix delimiter item_key x) then with_entry g (entry_of prefix delimiter item_key x) else g
 
       -- a row more
       abbrev pub with_row : Gathered T → R → Gathered T

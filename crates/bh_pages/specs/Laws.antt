@@ -7,7 +7,10 @@ use Rattle.std.specs.Ordering.{nat_cmp}
 use Rattle.bh_types.specs.declared.wanted.Wanted.TheVariants.{Current, Named}
 use Rattle.bh_model.specs.State.{Octets, octets_cmp, Entry, Part, Upload, Bucket, State}
 use Rattle.bh_model.specs.Ids.{IsNumbered}
-use Rattle.bh_model.specs.Pages.{PageAsked, Listed, Paged, name_of, entries_after, ObjectItem, after_name, objects_in, objects_page, VersionItem, VersionPlace, VersionNext, all_versions, passes_version, versions_page, version_next, UploadItem, UploadPlace, UploadNext, all_uploads, passes_upload, uploads_page, upload_next, PartItem, parts_after, parts_page}
+use Rattle.bh_model.specs.Pages.{PageAsked, Listed, Paged, name_of, entries_after, ObjectItem, after_name, objects_in, objects_page}
+use Rattle.bh_model.specs.Pages.{VersionItem, VersionPlace, VersionNext, all_versions, passes_version, versions_page, version_next}
+use Rattle.bh_model.specs.Pages.{UploadItem, UploadPlace, UploadNext, all_uploads, passes_upload, uploads_page, upload_next, PartItem}
+use Rattle.bh_model.specs.Pages.{parts_after, parts_page}
 use Rattle.bh_pages.specs.Uploads.{upload_key}
 
 abbrev pub total : List ℕ → ℕ
@@ -66,7 +69,7 @@ versions_paged prefix delimiter keys m marker = versions_page (asked prefix deli
 abbrev pub version_entries : Octets → Octets → List (Octets × List Entry) → List (Listed VersionItem)
 version_entries prefix delimiter keys = entries_after prefix delimiter version_key (passes_version None) (all_versions keys)
 
--- the same of the versions of a tenant's bucket, in whose state no two entries of a key have one id
+-- pages of the versions of a tenant's bucket, in whose state no two entries of a key have one id, show each once and in order
 abbrev pub VersionsChain : Type 0
 VersionsChain = (prefix delimiter : Octets) (t : State) (name : Octets) (b : Bucket) (sizes : List ℕ)
     → IsNumbered (Some t) → get t.buckets name ≡ Some b
@@ -89,7 +92,7 @@ uploads_paged prefix delimiter numbered m marker = uploads_page (asked prefix de
 abbrev pub upload_entries : Octets → Octets → List (ℕ × Upload) → List (Listed UploadItem)
 upload_entries prefix delimiter numbered = entries_after prefix delimiter upload_key (passes_upload None) (all_uploads numbered)
 
--- the same of uploads
+-- pages of uploads show each once and in order
 abbrev pub UploadsChain : Type 0
 UploadsChain = (prefix delimiter : Octets) (uploads : FinMap nat_cmp Upload) (sizes : List ℕ)
     → AllByRecursion (λ m. 1 ≤ m) sizes

@@ -76,7 +76,7 @@ module _ {T : Type 0} (item_key : T → Octets) (prefix delimiter : Octets) (pas
 
   -- an item more
   abbrev pub with_next : Gathered T → T → Gathered T
-  with_next g x = with_passing g (entry_of prefix delimiter item_key x)
+  with_next g x = with_passing (record g { key = Some (item_key x) }) (entry_of prefix delimiter item_key x)
 
   -- items more, until there are more entries than the page takes
   abbrev pub with_items : ℕ → Gathered T → List T → Gathered T

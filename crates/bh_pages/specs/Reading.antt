@@ -33,7 +33,8 @@ rows_left reading rows = rows_from (λ (r : Shown). r.0) reading.from.items rows
 pub record IsUnderway (asked : PageAsked) (rows : List Shown) (reading : Reading) : Type 0 where
   pub low : is_upto asked.prefix.now reading.from.items ≡ true
   pub few : IsCount reading.count
-  pub part : IsBeginning asked.max (map seen_entry reading.gathering.entries.items) (still_to_come asked (seen reading.gathering) (rows_left reading rows)) (listing asked rows)
+  pub part : IsBeginning asked.max (map seen_entry reading.gathering.entries.items)
+      (still_to_come asked (seen reading.gathering) (rows_left reading rows)) (listing asked rows)
 
 abbrev pub IsRead : PageAsked → List Shown → Reading → Type 0
 IsRead asked rows reading = IsPage asked.max (map seen_entry reading.gathering.entries.items) (listing asked rows)
@@ -55,4 +56,5 @@ AreNext rows reading lines = map seen_line lines ≡ take reading.count (rows_le
 
 -- after the next rows the page is read, if reading has ended, and else still underway
 abbrev pub Took : PageAsked → Reading → List Line → Reading → Bool → Type 0
-Took asked old lines new ended = (rows : List Shown) → AreRows asked.prefix.now rows → IsUnderway asked rows old → AreNext rows old lines → Stands ended asked rows new
+Took asked old lines new ended =
+    (rows : List Shown) → AreRows asked.prefix.now rows → IsUnderway asked rows old → AreNext rows old lines → Stands ended asked rows new

@@ -36,7 +36,11 @@ module _ {X T : Type 0} (see : X → T) where
   entry_by (program.TheVariants.Common name) = Common name.items
 
   abbrev pub gathered_by : Gathering X → Gathered T
-  gathered_by g = record { key = option_map (λ k. k.items) g.key; name = option_map (λ n. n.items) g.name; entries = map entry_by g.entries.items }
+  gathered_by g = record {
+    key = option_map (λ k. k.items) g.key;
+    name = option_map (λ n. n.items) g.name;
+    entries = map entry_by g.entries.items;
+  }
 
 abbrev pub seen_entry : program.Listed ObjectLine → Listed ObjectItem
 seen_entry = entry_by seen_object

@@ -1,19 +1,19 @@
 -- What is gathered of a page of uploads, row by row in the order of keys, those of a key in the order of their numbers.
-use Rattle.std.specs.Prelude.{◌≡◌, ℕ, nat_lt, Bool, true, false, List, [], length, map, filter, take, Option, Some, None, option_map, is_none, IfSome}
+use Rattle.std.specs.Prelude.{◌≡◌, ℕ, Bool, true, false, List, map, filter, take, Option, None}
 use Rattle.std.specs.List.{AllByRecursion}
 use Rattle.std.specs.Ordering.{nat_cmp}
 use Rattle.bh_model.specs.State.{Octets}
-use Rattle.bh_model.specs.Pages.{Listed, Listed.Single, Listed.Common, UploadItem, begins, is_before, rolled, last_of}
-use Rattle.bh_pages.specs.Gathered.{IsKeyUnder, IsBeginning, IsPage, Gathered}
+use Rattle.bh_model.specs.Pages.{Listed, UploadItem}
+use Rattle.bh_pages.specs.Gathered.{IsKeyUnder, IsBeginning, IsPage, Gathered, nothing_after}
 use Rattle.bh_pages.specs.Seen.{token_of, entry_by, gathered_by}
 use Rattle.bh_pages.specs.Places as places
-use Rattle.bh_pages.specs.Places.{Place, IsUnder, past_row, past_few}
-use Rattle.bh_pages.specs.Versions.{seen_place}
+use Rattle.bh_pages.specs.Places.{Spot, Place, IsUnder}
+use Rattle.bh_pages.specs.Taken.{seen_place, passes_name}
 use Rattle.bh_pages.specs.declared.gathering.PageAsked.{PageAsked}
 use Rattle.bh_pages.specs.declared.uploads.UploadLine.{UploadLine}
 use Rattle.bh_pages.specs.declared.gathering.Listed as listed
 use Rattle.bh_pages.specs.declared.gathering.Gathering.{Gathering}
-use Rattle.bh_pages.specs.declared.uploads.UploadReading.{UploadReading}
+use Rattle.bh_pages.specs.declared.places.PlaceReading.{PlaceReading}
 
 abbrev pub upload_key : UploadItem → Octets
 upload_key u = u.key
@@ -30,12 +30,6 @@ is_behind = places.is_behind nat_cmp upload_key upload_number
 
 abbrev pub IsStrict : List UploadItem → Type 0
 IsStrict = places.IsStrict nat_cmp upload_key upload_number
-
--- of uploads behind the marker all are listed, and names that are greater than the marker's key
-abbrev pub passes_name : Option Octets → Listed UploadItem → Bool
-passes_name None e = true
-passes_name (Some marker) (Single u) = true
-passes_name (Some marker) (Common name) = is_before marker name
 
 -- ---- what is gathered
 
@@ -54,6 +48,13 @@ module _ (asked : PageAsked) where
 abbrev pub seen_line : UploadLine → UploadItem
 seen_line l = record { key = l.key.items; id = record { number = l.number }; begun = l.begun }
 
+abbrev pub line_spot : UploadLine → Spot
+line_spot l = (l.key.items, l.number)
+
+-- such an entry, whether it is the newest of its key or not
+abbrev pub line_item : Bool → UploadLine → UploadLine
+line_item latest l = l
+
 abbrev pub seen_entry : listed.Listed UploadLine → Listed UploadItem
 seen_entry = entry_by seen_line
 
@@ -61,23 +62,9 @@ abbrev pub seen : Gathering UploadLine → Gathered UploadItem
 seen = gathered_by seen_line
 
 abbrev pub nothing : Gathered UploadItem
-nothing = record { key = None; name = None; entries = [] }
+nothing = nothing_after None
 
 -- ---- how far reading has come
-
-abbrev pub AreUnder : PageAsked → List UploadLine → Type 0
-AreUnder asked lines = AllByRecursion (λ l. begins asked.prefix.now l.key.items ≡ true) lines
-
--- past the last of these rows
-pub record PastLast (asked : PageAsked) (lines : List UploadLine) (place : Place) : Type 0 where
-  pub row : UploadLine
-  pub last : last_of lines ≡ Some row
-  pub is : begins asked.prefix.now row.key.items ≡ true → place ≡ past_row row.key.items row.number (rolled asked.prefix.now asked.delimiter.now row.key.items)
-
--- where reading goes on after these rows, if any can be left
-pub record GoesOn (asked : PageAsked) (old : Place) (lines : List UploadLine) (count : ℕ) (new : Option Place) : Type 0 where
-  pub few : nat_lt (length lines) count ≡ true → new ≡ past_few old
-  pub on : nat_lt (length lines) count ≡ false → IfSome new (PastLast asked lines) × (is_none new ≡ false)
 
 -- the uploads of a bucket under a prefix, in the order of their keys, those of a key in the order of their numbers
 pub record AreRows (prefix : Octets) (rows : List UploadItem) : Type 0 where
@@ -85,13 +72,14 @@ pub record AreRows (prefix : Octets) (rows : List UploadItem) : Type 0 where
   pub under : AllByRecursion (λ (u : UploadItem). IsKeyUnder prefix u.key) rows
 
 -- the page has some entries of a listing, and what the uploads from its place on still show makes up the listing
-pub record IsUnderway (asked : PageAsked) (rows : List UploadItem) (listing : List (Listed UploadItem)) (reading : UploadReading) : Type 0 where
+pub record IsUnderway (asked : PageAsked) (rows : List UploadItem) (listing : List (Listed UploadItem))
+    (reading : PlaceReading UploadLine) : Type 0 where
   pub low : IsUnder asked.prefix.now reading.place.key.items reading.place.after
   pub part : IsBeginning asked.max (map seen_entry reading.gathering.entries.items)
       (uploads_to_come asked (seen reading.gathering) (filter (is_from (seen_place reading.place)) rows)) listing
 
 -- whether reading has ended
-abbrev pub Stands : Bool → PageAsked → List UploadItem → List (Listed UploadItem) → UploadReading → Type 0
+abbrev pub Stands : Bool → PageAsked → List UploadItem → List (Listed UploadItem) → PlaceReading UploadLine → Type 0
 Stands true asked rows listing reading = IsPage asked.max (map seen_entry reading.gathering.entries.items) listing
 Stands false asked rows listing reading = IsUnderway asked rows listing reading
 
@@ -100,10 +88,10 @@ abbrev pub rows_at : Octets → Option ℕ → List UploadItem → List UploadIt
 rows_at = places.rows_at nat_cmp upload_key upload_number
 
 -- these are the first of them, so many as are read at once
-abbrev pub AreNext : List UploadItem → UploadReading → List UploadLine → Type 0
+abbrev pub AreNext : List UploadItem → PlaceReading UploadLine → List UploadLine → Type 0
 AreNext rows reading lines = map seen_line lines ≡ take reading.count (rows_at reading.place.key.items reading.place.after rows)
 
 -- after the next uploads the page is read, if reading has ended, and else still underway
-abbrev pub TookUploads : PageAsked → UploadReading → List UploadLine → UploadReading → Bool → Type 0
+abbrev pub TookUploads : PageAsked → PlaceReading UploadLine → List UploadLine → PlaceReading UploadLine → Bool → Type 0
 TookUploads asked old lines new ended = (rows : List UploadItem) (listing : List (Listed UploadItem))
     → AreRows asked.prefix.now rows → IsUnderway asked rows listing old → AreNext rows old lines → Stands ended asked rows listing new

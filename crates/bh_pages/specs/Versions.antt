@@ -1,23 +1,25 @@
 -- What is gathered of a page of versions, row by row in the order of keys, those of a key by falling entry numbers.
-use Rattle.std.specs.Prelude.{◌≡◌, ℕ, zero, suc, pos, nat_lt, Bool, true, false, not, ◌&&◌, int_lt, List, [], ◌∷◌, length, map, take, Option, Some, None, option_map, is_none, IfSome, if◌then◌else◌, string_bytes}
+use Rattle.std.specs.Prelude.{◌≡◌, ℕ, zero, suc, pos, nat_lt, Bool, true, false, not, ◌&&◌, int_lt, List, [], ◌∷◌, length, map, take}
+use Rattle.std.specs.Prelude.{Option, Some, None, if◌then◌else◌, string_bytes}
 use Rattle.std.specs.List.{filter, AllByRecursion}
 use Rattle.std.specs.Ordering.{int_cmp}
 use Rattle.std.specs.declared.cmp.Ordering.{Ordering}
 use Rattle.bh_types.specs.declared.id.VersionId.{VersionId}
 use Rattle.bh_types.specs.declared.id.VersionId.TheVariants.{Null, Numbered as Given}
 use Rattle.bh_model.specs.State.{Octets}
-use Rattle.bh_model.specs.Pages.{Listed, begins, is_name, same, merged, entry_of, rolled, last_of, StoredItem, VersionItem, passes_version}
+use Rattle.bh_model.specs.Pages.{Listed, is_name, same, merged, entry_of, StoredItem, VersionItem, passes_version}
+pub use Rattle.bh_pages.specs.Gathered.{nothing_after}
 use Rattle.bh_pages.specs.Gathered.{IsKeyUnder, IsBeginning, IsPage, Gathered, with_entry}
 use Rattle.bh_pages.specs.Places as places
 pub use Rattle.bh_pages.specs.Places.{Spot, Place, IsUnder, at_key, after_entry, past_row, past_few}
 use Rattle.bh_pages.specs.Seen.{token_of, entry_by, gathered_by}
+pub use Rattle.bh_pages.specs.Taken.{seen_place}
 use Rattle.bh_pages.specs.declared.gathering.PageAsked.{PageAsked}
-use Rattle.bh_pages.specs.declared.versions.Place as program
 use Rattle.bh_pages.specs.declared.versions.VersionLine.{VersionLine}
 use Rattle.bh_pages.specs.declared.versions.ShownVersion.{ShownVersion}
 use Rattle.bh_pages.specs.declared.gathering.Listed as listed
 use Rattle.bh_pages.specs.declared.gathering.Gathering.{Gathering}
-use Rattle.bh_pages.specs.declared.versions.VersionReading.{VersionReading}
+use Rattle.bh_pages.specs.declared.places.PlaceReading.{PlaceReading}
 
 -- a row: its entry number, and the version that it holds, of which the row alone doesn't tell whether it is the newest
 abbrev pub Numbered : Type 0
@@ -58,10 +60,6 @@ is_older key seq r = same (row_key r) key && int_lt (pos r.0) (pos seq)
 
 -- ---- what is gathered
 
--- nothing, after a row of this key
-abbrev pub nothing_after : Option Octets → Gathered VersionItem
-nothing_after key = record { key = key; name = None; entries = [] }
-
 module _ (prefix delimiter : Octets) (marker : Option Octets) where
   abbrev pub version_entry : VersionItem → Listed VersionItem
   version_entry = entry_of prefix delimiter (λ v. v.key)
@@ -93,13 +91,26 @@ stored_of zero size checksum = Some (record { size = size; checksum = checksum }
 stored_of (suc n) size checksum = None
 
 abbrev pub version_in : VersionLine → Bool → VersionItem
-version_in l latest = record { key = l.key.items; id = id_in l.id; moment = l.stamp; latest = latest; object = stored_of l.marker l.size (string_bytes l.checksum) }
+version_in l latest = record {
+  key = l.key.items;
+  id = id_in l.id;
+  moment = l.stamp;
+  latest = latest;
+  object = stored_of l.marker l.size (string_bytes l.checksum);
+}
 
 abbrev pub seen_line : VersionLine → Numbered
 seen_line l = (l.seq, version_in l false)
 
+abbrev pub line_spot : VersionLine → Spot
+line_spot l = (l.key.items, l.seq)
+
+-- as a page shows it
+abbrev pub line_item : Bool → VersionLine → ShownVersion
+line_item latest l = record { line = l; latest = latest }
+
 abbrev pub seen_version : ShownVersion → VersionItem
-seen_version v = record { key = v.key.items; id = id_in v.id; moment = v.stamp; latest = v.latest; object = stored_of v.marker v.size (string_bytes v.checksum) }
+seen_version v = version_in v.line v.latest
 
 abbrev pub seen_entry : listed.Listed ShownVersion → Listed VersionItem
 seen_entry = entry_by seen_version
@@ -107,33 +118,10 @@ seen_entry = entry_by seen_version
 abbrev pub seen : Gathering ShownVersion → Gathered VersionItem
 seen = gathered_by seen_version
 
-abbrev pub seen_place : program.Place → Place
-seen_place p = record { key = p.key.items; after = p.after }
-
-abbrev pub row_added : PageAsked → Gathered VersionItem → Numbered → Gathered VersionItem
-row_added asked = with_version asked.prefix.now asked.delimiter.now (token_of asked)
-
 abbrev pub rows_added : PageAsked → Gathered VersionItem → List Numbered → Gathered VersionItem
 rows_added asked = with_versions asked.prefix.now asked.delimiter.now (token_of asked) asked.max
 
-abbrev pub entry_added : PageAsked → Gathered VersionItem → VersionItem → Gathered VersionItem
-entry_added asked g v = with_passing asked.prefix.now asked.delimiter.now (token_of asked) g (version_entry asked.prefix.now asked.delimiter.now (token_of asked) v)
-
 -- ---- how far reading has come
-
-abbrev pub AreUnder : PageAsked → List VersionLine → Type 0
-AreUnder asked lines = AllByRecursion (λ l. begins asked.prefix.now l.key.items ≡ true) lines
-
--- past the last of these rows
-pub record PastLast (asked : PageAsked) (lines : List VersionLine) (place : Place) : Type 0 where
-  pub row : VersionLine
-  pub last : last_of lines ≡ Some row
-  pub is : begins asked.prefix.now row.key.items ≡ true → place ≡ past_row row.key.items row.seq (rolled asked.prefix.now asked.delimiter.now row.key.items)
-
--- where reading goes on after these rows, if any can be left
-pub record GoesOn (asked : PageAsked) (old : Place) (lines : List VersionLine) (count : ℕ) (new : Option Place) : Type 0 where
-  pub few : nat_lt (length lines) count ≡ true → new ≡ past_few old
-  pub on : nat_lt (length lines) count ≡ false → IfSome new (PastLast asked lines) × (is_none new ≡ false)
 
 -- the rows of a bucket under a prefix, in the order of their keys, those of a key by falling numbers
 pub record AreRows (prefix : Octets) (rows : List Numbered) : Type 0 where
@@ -141,13 +129,15 @@ pub record AreRows (prefix : Octets) (rows : List Numbered) : Type 0 where
   pub under : AllByRecursion (λ r. IsKeyUnder prefix (row_key r)) rows
 
 -- the page has some entries of a listing, and what the rows from its place on still show makes up the listing
-pub record IsUnderway (asked : PageAsked) (rows : List Numbered) (listing : List (Listed VersionItem)) (reading : VersionReading) : Type 0 where
+pub record IsUnderway (asked : PageAsked) (rows : List Numbered) (listing : List (Listed VersionItem))
+    (reading : PlaceReading ShownVersion) : Type 0 where
   pub low : IsUnder asked.prefix.now reading.place.key.items reading.place.after
   pub part : IsBeginning asked.max (map seen_entry reading.gathering.entries.items)
-      (versions_to_come asked.prefix.now asked.delimiter.now (token_of asked) (seen reading.gathering) (filter (is_from (seen_place reading.place)) rows)) listing
+      (versions_to_come asked.prefix.now asked.delimiter.now (token_of asked) (seen reading.gathering)
+      (filter (is_from (seen_place reading.place)) rows)) listing
 
 -- whether reading has ended
-abbrev pub Stands : Bool → PageAsked → List Numbered → List (Listed VersionItem) → VersionReading → Type 0
+abbrev pub Stands : Bool → PageAsked → List Numbered → List (Listed VersionItem) → PlaceReading ShownVersion → Type 0
 Stands true asked rows listing reading = IsPage asked.max (map seen_entry reading.gathering.entries.items) listing
 Stands false asked rows listing reading = IsUnderway asked rows listing reading
 
@@ -157,10 +147,10 @@ rows_at key None rows = filter (is_from (at_key key)) rows
 rows_at key (Some seq) rows = filter (is_older key seq) rows
 
 -- these are the first of them, so many as are read at once
-abbrev pub AreNext : List Numbered → VersionReading → List VersionLine → Type 0
+abbrev pub AreNext : List Numbered → PlaceReading ShownVersion → List VersionLine → Type 0
 AreNext rows reading lines = map seen_line lines ≡ take reading.count (rows_at reading.place.key.items reading.place.after rows)
 
 -- after the next rows the page is read, if reading has ended, and else still underway
-abbrev pub TookVersions : PageAsked → VersionReading → List VersionLine → VersionReading → Bool → Type 0
+abbrev pub TookVersions : PageAsked → PlaceReading ShownVersion → List VersionLine → PlaceReading ShownVersion → Bool → Type 0
 TookVersions asked old lines new ended = (rows : List Numbered) (listing : List (Listed VersionItem))
     → AreRows asked.prefix.now rows → IsUnderway asked rows listing old → AreNext rows old lines → Stands ended asked rows listing new

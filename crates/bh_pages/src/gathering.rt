@@ -4,7 +4,8 @@ ghost use Rattle.std.specs.Prelude.{◌≡◌, true, Some, None, [], ◌∷◌, 
 ghost use Rattle.std.specs.List.{AllByRecursion};
 ghost use Rattle.bh_model.specs.Pages.{ObjectItem, Listed.Single, Listed.Common, is_name, begins, after_name};
 ghost use Rattle.bh_pages.specs.Gathered.{with_entry, start_of};
-ghost use Rattle.bh_pages.specs.Seen.{gathered_by, seen, seen_line, seen_object, object_in, token_of, item_added, row_added, rows_added, read_on};
+ghost use Rattle.bh_pages.specs.Seen.{gathered_by, seen, seen_line, seen_object, object_in, token_of, item_added, row_added, rows_added};
+ghost use Rattle.bh_pages.specs.Seen.{read_on};
 
 use crate::names::name_end;
 use std::alloc::{AllocError, Global};

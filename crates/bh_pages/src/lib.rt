@@ -4,6 +4,7 @@
 pub mod gathering;
 pub mod laws;
 pub mod names;
+pub mod places;
 pub mod reading;
 pub mod uploads;
 pub mod versions;

@@ -1,5 +1,6 @@
 -- What a schema's keys watch, and when an edit leaves them alone.
-use Rattle.std.specs.Prelude.{◌≡◌, ◌==◌, ℕ, Bool, true, false, if◌then◌else◌, List, [], ◌∷◌, ◌++◌, filter, flat_map, drop, not, ◌&&◌, Option, Some, None}
+use Rattle.std.specs.Prelude.{◌≡◌, ◌==◌, ℕ, Bool, true, false, if◌then◌else◌, List, [], ◌∷◌, ◌++◌, filter, flat_map, drop, not, ◌&&◌}
+use Rattle.std.specs.Prelude.{Option, Some, None}
 use Rattle.std.specs.List.{AllByRecursion, list_any, list_all}
 use Rattle.sqlite.specs.Order.{Row}
 use Rattle.sqlite.specs.Tree.{Trees}
@@ -10,7 +11,8 @@ use Rattle.sqlite_schema.specs.declared.schema.Action.{Action}
 use Rattle.sqlite_schema.specs.declared.schema.Action.TheVariants.{NoAction, Restrict, Cascade, SetNull, SetDefault}
 use Rattle.sqlite_schema.specs.declared.schema.Index.{Index}
 use Rattle.sqlite_schema.specs.declared.schema.Reference.{Reference}
-use Rattle.sqlite_schema.specs.Rules.{agree, guards, ParentKey, parent_key, are_typed, has_computed, are_present, passes_checks, references_fit}
+use Rattle.sqlite_schema.specs.Rules.{agree, guards, ParentKey, parent_key, are_typed, has_computed, are_present, passes_checks}
+use Rattle.sqlite_schema.specs.Rules.{references_fit}
 
 -- the action writes nothing: it refuses, or there is none
 abbrev pub is_passive : Action → Bool
@@ -46,11 +48,13 @@ pub record Pointer : Type 0 where
 -- the pointer of one reference, if it is to the tree
 abbrev pub pointer_at : ℕ → ℕ → List ℕ → Option ParentKey → List Pointer
 pointer_at tree child columns None = []
-pointer_at tree child columns (Some key) = if key.0 == tree then record { child = child; columns = columns; places = key.1; order = key.2 } ∷ [] else []
+pointer_at tree child columns (Some key) =
+    if key.0 == tree then record { child = child; columns = columns; places = key.1; order = key.2 } ∷ [] else []
 
 -- the references to the tree, of all tables
 abbrev pub pointers : Schema → ℕ → List Pointer
-pointers schema tree = flat_map (λ (t : Table). flat_map (λ (ref : Reference). pointer_at tree t.tree ref.columns (parent_key schema.tables ref)) t.references) schema.tables
+pointers schema tree = flat_map (λ (t : Table). flat_map (λ (ref : Reference). pointer_at tree t.tree ref.columns
+    (parent_key schema.tables ref)) t.references) schema.tables
 
 -- the row points to this row of the tree
 abbrev pub points_at : Pointer → Row → Row → Bool
@@ -58,7 +62,8 @@ points_at p row old = agree p.order p.columns row p.places old
 
 -- no row of any table points to one of these rows of the tree
 abbrev pub AreUnused : Schema → Trees → ℕ → List Row → Type 0
-AreUnused schema db tree olds = AllByRecursion (λ p. list_any (λ row. list_any (points_at p row) olds) (db p.child) ≡ false) (pointers schema tree)
+AreUnused schema db tree olds =
+    AllByRecursion (λ p. list_any (λ row. list_any (points_at p row) olds) (db p.child) ≡ false) (pointers schema tree)
 
 -- the columns of the unique indexes of a table
 abbrev pub indexed_places : Schema → Table → List ℕ

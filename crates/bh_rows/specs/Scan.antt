@@ -35,12 +35,23 @@ by_rowid = (col 1 0, ascending Binary) ∷ []
 -- SELECT coalesce(sum(COLUMN), 0)
 abbrev pub summing : ℕ → List Term → Term → Query
 summing tree test arg = record (scan tree test (op2 Coalesce (col 1 0) (lit (Int (pos 0))) ∷ []) [] no_limit) {
-  group = Some (record { keys = []; collations = []; aggregates = record { op = Sum; distinct = false; collation = Binary; argument = arg } ∷ []; having = [] });
+  group = Some (record {
+    keys = [];
+    collations = [];
+    aggregates = record { op = Sum; distinct = false; collation = Binary; argument = arg }
+        ∷ [];
+    having = [];
+  });
 }
 
 -- SELECT count(*)
 abbrev pub counting_rows : Grouping
-counting_rows = record { keys = []; collations = []; aggregates = record { op = CountRows; distinct = false; collation = Binary; argument = lit Null } ∷ []; having = [] }
+counting_rows = record {
+  keys = [];
+  collations = [];
+  aggregates = record { op = CountRows; distinct = false; collation = Binary; argument = lit Null } ∷ [];
+  having = [];
+}
 
 -- over the rows that pass
 abbrev pub counting : ℕ → List Term → Query

@@ -1,5 +1,6 @@
 -- The texts of a program, by kind: a record of what the reading of the text gives, and what a write leaves of its table.
-use Rattle.std.specs.Prelude.{◌≡◌, ◌≢◌, ℕ, ◌/◌, ◌^◌, nat_le, ℤ, pos, Bool, true, false, List, [], ◌∷◌, length, map, filter, Some, slice_get, IsTrue}
+use Rattle.std.specs.Prelude.{◌≡◌, ◌≢◌, ℕ, ◌/◌, ◌^◌, nat_le, ℤ, pos, Bool, true, false, List, [], ◌∷◌, length, map, filter, Some, slice_get}
+use Rattle.std.specs.Prelude.{IsTrue}
 use Rattle.std.specs.declared.cmp.Ordering.{Ordering}
 use Rattle.std.specs.List.{AllByRecursion, list_any, list_all}
 use Rattle.std.specs.Ordering.{int_cmp, ordering_then}
@@ -59,7 +60,8 @@ module _ {T : Type 0} (form : Form T) (schema : Schema) where
 
   -- no row has the new row's key under a unique index
   abbrev pub AreFree : Table → List Row → Row → Type 0
-  AreFree table rows new = AllByRecursion (λ (i : Index). list_any (λ other. agree i.order i.columns other i.columns new) rows ≡ false) (filter (λ i. guards i table) schema.indexes)
+  AreFree table rows new = AllByRecursion (λ (i : Index). list_any (λ other. agree i.order i.columns other i.columns new) rows ≡ false)
+      (filter (λ i. guards i table) schema.indexes)
 
   -- nothing stands against the row as the next one: no column and no CHECK, no key, no want of a parent
   pub record MayAdd (table : Table) (db : Trees) (x : T) : Type 0 where
@@ -70,7 +72,8 @@ module _ {T : Type 0} (form : Form T) (schema : Schema) where
   -- a row that passes the test suits the table after the change too, which sets no column that a key watches
   pub record MayChange (table : Table) (m : T → Bool) (f : T → T) : Type 0 where
     pub suits : (id : ℤ) (y : T) → m y ≡ true → Suits table (put form (id, y)) → Suits table (put form (id, f y))
-    pub unwatched : (id : ℤ) (y : T) → m y ≡ true → map (column (put form (id, f y))) (watched schema table) ≡ map (column (put form (id, y))) (watched schema table)
+    pub unwatched : (id : ℤ) (y : T) → m y ≡ true → map (column (put form (id, f y))) (watched schema table)
+        ≡ map (column (put form (id, y))) (watched schema table)
 
   -- ---- writes
 
@@ -89,12 +92,14 @@ module _ {T : Type 0} (form : Form T) (schema : Schema) where
     pub means : Means schema sql (Update place (record { lets = []; body = scan table.tree test show [] no_limit })) (length params)
     pub accepts : accepts_program schema [] (scan table.tree test show [] no_limit) params ≡ true
     pub tests : (id : ℤ) (y : T) → list_all (holds (params ∷ (Int id ∷ form.encode y) ∷ [])) test ≡ m y
-    pub shows : (id : ℤ) (y : T) → m y ≡ true → Suits table (put form (id, y)) → eval_all show (params ∷ (Int id ∷ form.encode y) ∷ []) ≡ Int id ∷ Int id ∷ form.encode (f y)
+    pub shows : (id : ℤ) (y : T) → m y ≡ true → Suits table (put form (id, y)) → eval_all show (params ∷ (Int id ∷ form.encode y) ∷ [])
+        ≡ Int id ∷ Int id ∷ form.encode (f y)
 
   -- DELETE of the rows that pass a test
   pub record DeleteText (place : ℕ) (table : Table) (sql : List ℕ) (params : Row) (m : T → Bool) : Type 0 where
     pub test : List Term
-    pub means : Means schema sql (Delete place (record { lets = []; body = scan table.tree test (col 1 0 ∷ []) [] no_limit })) (length params)
+    pub means : Means schema sql (Delete place (record { lets = []; body = scan table.tree test (col 1 0 ∷ []) [] no_limit }))
+        (length params)
     pub accepts : accepts_program schema [] (scan table.tree test (col 1 0 ∷ []) [] no_limit) params ≡ true
     pub tests : (id : ℤ) (y : T) → list_all (holds (params ∷ (Int id ∷ form.encode y) ∷ [])) test ≡ m y
 
@@ -112,7 +117,8 @@ module _ {T : Type 0} (form : Form T) (schema : Schema) where
     pub shows : (id : ℤ) (y : T) → eval_all show (params ∷ (Int id ∷ form.encode y) ∷ []) ≡ view y
 
   -- SELECT .. ORDER BY columns and then rowid, up to a limit
-  pub record SortedText (tree : ℕ) (sql : List ℕ) (params : Row) (m : T → Bool) (view : T → Row) (order : T → T → Ordering) (limit : Term) : Type 0 where
+  pub record SortedText (tree : ℕ) (sql : List ℕ) (params : Row) (m : T → Bool) (view : T → Row) (order : T → T → Ordering) (limit : Term) :
+      Type 0 where
     pub test : List Term
     pub show : List Term
     pub keys : List (Term × Key)
@@ -122,7 +128,9 @@ module _ {T : Type 0} (form : Form T) (schema : Schema) where
     pub accepts : accepts_program schema [] (scan tree test show keys limit) params ≡ true
     pub tests : (id : ℤ) (y : T) → list_all (holds (params ∷ (Int id ∷ form.encode y) ∷ [])) test ≡ m y
     pub shows : (id : ℤ) (y : T) → eval_all show (params ∷ (Int id ∷ form.encode y) ∷ []) ≡ view y
-    pub orders : (a b : Entry T) → output_cmp (scan tree test show keys limit) (output (scan tree test show keys limit) (params ∷ put form a ∷ [])) (output (scan tree test show keys limit) (params ∷ put form b ∷ [])) ≡ ordering_then (order a.1 b.1) (int_cmp a.0 b.0)
+    pub orders : (a b : Entry T) → output_cmp (scan tree test show keys limit)
+        (output (scan tree test show keys limit) (params ∷ put form a ∷ []))
+        (output (scan tree test show keys limit) (params ∷ put form b ∷ [])) ≡ ordering_then (order a.1 b.1) (int_cmp a.0 b.0)
 
   -- SELECT count(*)
   pub record CountText (tree : ℕ) (sql : List ℕ) (params : Row) (m : T → Bool) : Type 0 where

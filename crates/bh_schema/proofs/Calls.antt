@@ -1,6 +1,7 @@
 -- A call inside a transaction, in the words of the layer.
 use Rattle.std.proofs.Common.{◌≡◌, inl, inr, ℕ, ℤ, List, [], ◌∷◌, ◌++◌, map, filter, Bool, true, false, IsTrue, None, Ok, Err, Result, OnOk, OnErr, IfOk, IfErr, Ordering, refl, sym, ap, ◌∙◌, true≢false, subst, take, length, pos, ◌<◌, ◌^◌, sum_by}
 use Rattle.std.specs.List.{AllByRecursion}
+use Rattle.std.proofs.lemmas.Result.{on_ok_weaker}
 use Rattle.sqlite.specs.Order.{Row, column}
 use Rattle.sqlite.specs.Table.{Table}
 use Rattle.sqlite.specs.Tree.{Trees}
@@ -216,6 +217,7 @@ question old new rows_in shown result inside it = question_read old new rows_in 
 pub record Write (old new : State) (change : Tables → Tables) (allowed : Error → Type 0) (result : Result ℕ Error) : Type 0 where
   pub within : StateWithin old new
   pub opens : OnOk result (IsIntact new → IsOpen old → IsOpen new)
+  pub inside : OnOk result (IsStateClean new → IsInside (standing new))
   pub holds : OnOk result (IsStateClean new → Holds (change (tables_in (standing old).now)) (standing new))
   pub trouble : IfErr result (λ e. IsIntact new → (standing old).limit ≡ None → allowed e)
 
@@ -229,13 +231,17 @@ unfolding standing
 write old new change allowed result inside same it = record {
   within = changes_within old new (λ c. (inside c).inside) result it.changes;
   opens = changes_opens old new (λ c. (inside c).inside) result it.changes;
-  holds = changes_holds old new (λ c. (inside c).inside) result it.changes (change (tables old)) (λ clean up. kept result (it.leaves clean up));
+  inside = on_ok_weaker result (λ held clean. (held clean).within) held;
+  holds = held;
   trouble = if_error old new result allowed it.errors;
 }
   where
     kept : (r : Result ℕ Error) → OnOk r (IsHostBy (totals_of (tables old)) new.now × (tables new ≡ change (tables old))) → OnOk r (IsHost new.now × (tables new ≡ change (tables old)))
     kept (Ok n) h = kept_host old new change same h
     kept (Err e) h = tt
+
+    held : OnOk result (IsStateClean new → Holds (change (tables old)) (standing new))
+    held = changes_holds old new (λ c. (inside c).inside) result it.changes (change (tables old)) (λ clean up. kept result (it.leaves clean up))
 
 -- what is said of a sum: an error is trouble where it is not too wide
 pub record Total {X : Type 0} (old new : State) (rows_in : X → List Row) (total : Tables → ℕ) (result : Result X Error) : Type 0 where
@@ -277,6 +283,7 @@ pub written : {old new : State} {allowed : Error → Type 0} {result : Result �
 written {old} {new} {allowed} {result} f g same w = record {
   within = w.within;
   opens = w.opens;
+  inside = w.inside;
   holds = subst (λ t. OnOk result (IsStateClean new → Holds t (standing new))) (same (standing old).now) w.holds;
   trouble = w.trouble;
 }

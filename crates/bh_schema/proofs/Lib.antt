@@ -6,6 +6,11 @@ pub mod VersionCalls
 pub mod VersionSteps
 pub mod PartCalls
 pub mod Finds
+pub mod Asking
+pub mod OwnNumbers
+pub mod Named
+pub mod Counting
+pub mod Contents
 pub mod Storing
 pub mod TenantSteps
 pub mod Committing

@@ -2,7 +2,7 @@
 use Rattle.std.specs.Prelude.{Result, OnOk}
 use Rattle.sqlite.specs.Held.{Held}
 use Rattle.sqlite_trees.specs.declared.store.Store.{Ghosts}
-use Rattle.bh_schema.specs.Connections.{InTransaction, StaysWithin, WasOpen, StaysOpen, ChangesNothing}
+use Rattle.bh_schema.specs.Connections.{InTransaction, InMidst, StaysWithin, WasOpen, StaysOpen, ChangesNothing}
 
 module _ {S A E : Type 0} (g : Ghosts S) (old new : Held S) (result : Result A E) where
   -- it reads the host: an answer tells that the connection was open
@@ -22,3 +22,9 @@ module _ {S A E : Type 0} (g : Ghosts S) (old new : Held S) (result : Result A E
     pub within : StaysWithin g old new
     pub opens : OnOk result (StaysOpen g old new)
     pub inside : OnOk result (InTransaction g new)
+
+  -- it writes to the host in the midst of a write, which it goes on with
+  pub record WritesOn : Type 0 where
+    pub within : StaysWithin g old new
+    pub opens : OnOk result (StaysOpen g old new)
+    pub midst : OnOk result (InMidst g new)

@@ -65,7 +65,8 @@ module _ {S : Type 0} (g : Ghosts S) where
 
     -- in the midst of a write: what is kept of other rows becomes this of what was kept, and the tables these of those before
     abbrev pub Rewrites : (Totals → Totals) → (Tables → Tables) → Type 0
-    Rewrites after change = IsClean new → (sums : Totals) → IsInsideBy sums (stands old) → HoldsBy (after sums) (change (tables old)) (stands new)
+    Rewrites after change =
+        IsClean new → (sums : Totals) → IsInsideBy sums (stands old) → HoldsBy (after sums) (change (tables old)) (stands new)
 
     -- where no limit on steps stops a text, its error is trouble, or is so under a premise
     abbrev pub IsTrouble : Error → Type 0

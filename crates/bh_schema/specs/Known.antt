@@ -8,4 +8,5 @@ use Rattle.bh_schema.specs.declared.rows.known.Known.TheVariants.{NoTenant, NoKe
 
 abbrev pub key_known : Tables → Octets → Octets → Known
 key_known tables tenant name =
-    if is_some (find (is_tenant tenant) tables.tenants) then (if is_some (find (is_key tenant name) tables.keys) then Key else NoKey) else NoTenant
+    if is_some (find (is_tenant tenant) tables.tenants) then (if is_some
+    (find (is_key tenant name) tables.keys) then Key else NoKey) else NoTenant

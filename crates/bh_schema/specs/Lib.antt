@@ -8,3 +8,7 @@ pub mod Connections
 pub mod Calls
 pub mod Working
 pub mod Written
+pub mod Contents
+pub mod Counted
+pub mod OwnNumbers
+pub mod Named

@@ -4,7 +4,8 @@ use Rattle.std.specs.List.{list_any}
 use Rattle.sqlite_keyed.specs.Lists.{sort_by}
 use Rattle.bh_tables.specs.Schema.{Octets}
 use Rattle.bh_tables.specs.Typed.{HostRow, TenantRow, KeyRow, BucketRow, VersionRow, RetainRow, Tables, bytes_used}
-use Rattle.bh_tables.specs.Shown.{is_tenant, is_key, is_bucket, is_owned_bucket, by_bucket, is_entry, is_version, is_at, is_in_bucket, is_upload_in, is_lock, is_retain, newer, is_ruled}
+use Rattle.bh_tables.specs.Shown.{is_tenant, is_key, is_bucket, is_owned_bucket, by_bucket, is_entry, is_version, is_at, is_in_bucket}
+use Rattle.bh_tables.specs.Shown.{is_upload_in, is_lock, is_retain, newer, is_ruled}
 use Rattle.bh_view.specs.Grouped.{first}
 use Rattle.bh_schema.specs.declared.rows.tenants.TenantNumbers.{TenantNumbers}
 use Rattle.bh_schema.specs.declared.rows.tenants.TenantAccount.{TenantAccount}

@@ -22,7 +22,7 @@ shown limits x = record { now = tables_shown x.now; kept = tables_shown x.kept; 
 unfoldable pub seen_in : HostLimits → State → Seen
 seen_in limits s = shown limits (standing s)
 
--- the same beside blocks that are kept in memory: where one of them is not the row of its name, no row is shown
+-- what is shown beside blocks that are kept in memory: where one of them is not the row of its name, no row is
 unfoldable pub beside : KeptBlocks → Seen → Seen
 beside kept s = record s { now = if agrees kept s.now.blocks then s.now else no_rows }
 
@@ -68,7 +68,7 @@ module _ {S D : Type 0} (g : Ghosts S) where
   KeepsSettings old new = (new ≡ record old { connection = new.connection })
       × ((standing (state g new.connection)).limit ≡ (standing (state g old.connection)).limit)
 
-  -- the same, but that no block is kept in memory
+  -- a call leaves all of these but the blocks in memory, of which none is kept
   abbrev pub Empties : Host S D → Host S D → Type 0
   Empties old new = (new ≡ record old { connection = new.connection; cache = no_blocks old.cache.tuning })
       × ((standing (state g new.connection)).limit ≡ (standing (state g old.connection)).limit)

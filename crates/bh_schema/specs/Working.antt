@@ -28,7 +28,7 @@ pub record StillWorkingBy (digest : Octets → Octets) (old new : State) : Type 
   pub limits : limits_in (tables_at new) ≡ limits_in (tables_at old)
   pub digests : AreDigests digest (tables_at old).blocks → AreDigests digest (tables_at new).blocks
 
--- the same for every function
+-- so it is still at work, for every function that may name blocks
 abbrev pub StillWorking : State → State → Type 0
 StillWorking old new = (digest : Octets → Octets) → StillWorkingBy digest old new
 
@@ -50,7 +50,7 @@ module _ {S : Type 0} (g : Ghosts S) where
     pub opens : Unless (StaysOpen g old new)
     pub working : Unless (StillWorks old new)
 
-  -- the same, where blocks are named by this function
+  -- such a call, where blocks are named by this function
   pub record WorksOnBy (digest : Octets → Octets) (Unless : Type 0 → Type 0) (old new : Held S) : Type 0 where
     pub within : StaysWithin g old new
     pub opens : Unless (StaysOpen g old new)

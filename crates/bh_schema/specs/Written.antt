@@ -10,7 +10,17 @@ use Rattle.bh_schema.specs.declared.rows.versions.NewVersion.{NewVersion}
 
 -- as it is stored
 abbrev pub version_columns_of : NewVersion → VersionColumns
-version_columns_of v = record { tenant = v.tenant.now; seq = v.seq; bucket = v.bucket.now; okey = v.okey.now; id = v.id; marker = 0; stamp = v.stamp; size = v.size; checksum = v.checksum.now }
+version_columns_of v = record {
+  tenant = v.tenant.now;
+  seq = v.seq;
+  bucket = v.bucket.now;
+  okey = v.okey.now;
+  id = v.id;
+  marker = 0;
+  stamp = v.stamp;
+  size = v.size;
+  checksum = v.checksum.now;
+}
 
 abbrev pub with_version : NewVersion → Tables → Tables
 with_version v rows = record rows { versions = rows.versions ++ resolved rows.refs rows.blocks (version_columns_of v) ∷ [] }
@@ -29,4 +39,5 @@ with_next tenant next rows = record rows { tenants = update_where (is_tenant ten
 
 -- its next numbered version and its next entry take these
 abbrev pub with_numbers : Octets → ℕ → ℕ → Tables → Tables
-with_numbers tenant version entry rows = record rows { tenants = update_where (is_tenant tenant) (λ t. record t { next_version = version; next_entry = entry }) rows.tenants }
+with_numbers tenant version entry rows =
+    record rows { tenants = update_where (is_tenant tenant) (λ t. record t { next_version = version; next_entry = entry }) rows.tenants }

@@ -3,8 +3,9 @@ ghost use Rattle.sqlite.specs.Held.{state};
 ghost use Rattle.bh_model.specs.Runs.{last_reading};
 ghost use Rattle.bh_view.specs.View.{latest_of};
 ghost use Rattle.bh_storage.specs.Calls.{Stamps};
-ghost use Rattle.bh_schema.specs.Layer.{standing, StateWithin};
-ghost use Rattle.bh_schema.specs.Storage.{IsClean, IsIntact, IsOpen, seen, Works, Keeps, StaysOpen, KeepsSettings};
+ghost use Rattle.bh_schema.specs.Layer.{standing};
+ghost use Rattle.bh_schema.specs.Calls.{Reads};
+ghost use Rattle.bh_schema.specs.Storage.{IsClean, seen, Works, Keeps, StaysOpen, KeepsSettings};
 
 use crate::host::{Digester, Host};
 use crate::rows::host::{find_latest, set_latest};
@@ -17,10 +18,7 @@ impl<S: Alter + Drop, D: Digester + Drop> Host<S, D> {
     /// The last stamp.
     pub fn latest(&mut self) -> Result<Moment, Trouble>
         requires { Works S.Store D.digest_of self.old }
-        ensures within { StateWithin (state S.Store self.old.connection) (state S.Store self.new.connection) }
-        ensures opens { OnOk result (IsIntact S.Store self.new → IsOpen S.Store self.old × IsOpen S.Store self.new) }
-        ensures same { OnOk result (IsIntact S.Store self.new
-            → standing (state S.Store self.new.connection) ≡ standing (state S.Store self.old.connection)) }
+        ensures reads { Reads S.Store self.old.connection self.new.connection result }
         ensures latest { IfOk result (λ m. IsClean S.Store self.new → m ≡ latest_of (seen S.Store self.old).now) }
         ensures settings { self.new ≡ record self.old { connection = self.new.connection } }
     {

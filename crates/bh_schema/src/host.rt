@@ -13,7 +13,7 @@ pub trait Digester {
     fn digest(&self, bytes: &[u8]) -> [u8; 32]
         ensures { result ≡ digest_of bytes.now };
 
-    /// The same, of bytes whose SHA-256 digest (FIPS 180-4) is known: SHA-256 itself needn't read them again.
+    /// The digest of bytes whose SHA-256 digest (FIPS 180-4) is known: SHA-256 itself needn't read them again.
     fn digest_known(&self, bytes: &[u8], checksum: &[u8; 32]) -> [u8; 32]
         requires { checksum.now ≡ sha256 bytes.now }
         ensures { result ≡ digest_of bytes.now };

@@ -3,8 +3,9 @@ ghost use Rattle.bh_storage.specs.Calls.{Unless, Carries};
 ghost use Rattle.bh_schema.specs.Storage.{IsClean, seen, Works, Keeps, StaysOpen, KeepsSettings};
 
 use crate::host::{Digester, Host};
-use crate::rows::keys::{delete_key, insert_key};
+use crate::rows::keys::insert_key;
 use crate::rows::known::{Known, find_key};
+use crate::rows::named::{Named, delete_named};
 use crate::texts::{are_names, are_texts};
 use crate::trouble::or_trouble;
 use bh_storage::error::StepError;
@@ -67,7 +68,7 @@ impl<S: Alter + Drop, D: Digester + Drop> Host<S, D> {
             Known::NoKey => return Err(StepError::Refused(Refusal::NoSuchKeyName)),
             Known::Key => (),
         }
-        or_trouble(delete_key(&mut self.connection, tenant, name))?;
+        or_trouble(delete_named(&mut self.connection, tenant, name, Named::Key))?;
         Ok(())
     }
 }

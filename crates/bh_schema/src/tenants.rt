@@ -3,7 +3,7 @@ ghost use Rattle.bh_storage.specs.Calls.{Unless, Carries};
 ghost use Rattle.bh_schema.specs.Storage.{IsClean, seen, Works, Keeps, StaysOpen, KeepsSettings};
 
 use crate::host::{Digester, Host};
-use crate::rows::tenants::{find_tenant, insert_tenant, set_quota};
+use crate::rows::tenants::{TenantNumber, find_tenant, insert_tenant, set_number};
 use crate::texts::is_tenant;
 use crate::trouble::or_trouble;
 use bh_storage::error::StepError;
@@ -69,7 +69,7 @@ impl<S: Alter + Drop, D: Digester + Drop> Host<S, D> {
         if found.is_none() {
             return Err(StepError::Refused(Refusal::NoSuchTenant));
         }
-        or_trouble(set_quota(&mut self.connection, tenant, quota))?;
+        or_trouble(set_number(&mut self.connection, tenant, TenantNumber::Quota, quota))?;
         Ok(())
     }
 }

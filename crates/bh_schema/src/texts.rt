@@ -21,7 +21,7 @@ pub fn are_names(alloc: Global, tenant: &str, name: &str) -> Result<bool, AllocE
     Ok(KeyName::read(alloc, name)?.is_some())
 }
 
-/// The same, and a third text is a secret.
+/// Whether two texts are names of a tenant and of a key of it, and a third is a secret.
 pub fn are_texts(alloc: Global, tenant: &str, name: &str, secret: &str) -> Result<bool, AllocError>
     ensures { IfOk result (λ are. are ≡ (is_tenant_name tenant.now && is_key_name name.now && is_secret secret.now)) }
 {

@@ -44,17 +44,20 @@ answer_text dones bad = replies_text dones ++ end_text bad
 -- a text tells what such a host answered the events of an input, each on a line, and then the input's
 -- bad line
 abbrev pub AnswersScript : HostLimits → BlockDigest → List ℕ → List ℕ → Type 0
-AnswersScript limits digest input text = (dones : List Told) × AnewRan limits digest (events_of input) dones × (text ≡ answer_text dones (bad_line_of input))
+AnswersScript limits digest input text =
+    (dones : List Told) × AnewRan limits digest (events_of input) dones × (text ≡ answer_text dones (bad_line_of input))
 
--- the same, and each tenant is alone in it
+-- a new host's run answers these events so, and each tenant is alone in it
 abbrev pub AnewAlone : HostLimits → BlockDigest → List Arrival → List Told → Type 0
 AnewAlone limits digest events dones =
-    (end : Tables) × Ran events dones (first_tables limits digest) end × ((turns : List Turn) × HasRun limits events dones turns (first_tables limits digest) end)
+    (end : Tables) × Ran events dones (first_tables limits digest) end
+    × ((turns : List Turn) × HasRun limits events dones turns (first_tables limits digest) end)
 
 abbrev pub AnswersScriptAlone : HostLimits → BlockDigest → List ℕ → List ℕ → Type 0
-AnswersScriptAlone limits digest input text = (dones : List Told) × AnewAlone limits digest (events_of input) dones × (text ≡ answer_text dones (bad_line_of input))
+AnswersScriptAlone limits digest input text =
+    (dones : List Told) × AnewAlone limits digest (events_of input) dones × (text ≡ answer_text dones (bad_line_of input))
 
--- the same of lines that are counted from a number on, by a host whose tables are `first` before them and `end` after
+-- what a text tells of lines that are counted from a number on, by a host whose tables are `first` before them and `end` after
 abbrev pub AnswersLines : ℕ → List (List ℕ) → Tables → Tables → List ℕ → Type 0
 AnswersLines number lines first end text =
     (dones : List Told) × Ran (events_in lines) dones first end × (text ≡ answer_text dones (bad_line_from number lines))
@@ -71,7 +74,8 @@ Writes text result old new = MatchResult result (λ _. Appends old new text) (λ
 
 -- an event was applied, and its reply and a line feed were appended: whole on Ok, and on Err a front of them
 abbrev pub WritesReply : {X E : Type 0} → Arrival → Tables → Tables → Result X E → Option (List ℕ) → Option (List ℕ) → Type 0
-WritesReply event before after result old new = (done : Told) × Ran (event ∷ []) (done ∷ []) before after × Writes (reply_line done) result old new
+WritesReply event before after result old new =
+    (done : Told) × Ran (event ∷ []) (done ∷ []) before after × Writes (reply_line done) result old new
 
 -- a text that answers lines was appended: whole on Ok, and on Err a front of it
 abbrev pub WritesLines : {X E : Type 0} → ℕ → List (List ℕ) → Tables → Tables → Result X E → Option (List ℕ) → Option (List ℕ) → Type 0
@@ -81,9 +85,10 @@ WritesLines number lines first end result old new = (text : List ℕ) × Answers
 abbrev pub WritesScript : {X E : Type 0} → HostLimits → BlockDigest → List ℕ → Result X E → Option (List ℕ) → Option (List ℕ) → Type 0
 WritesScript limits digest input result old new = (text : List ℕ) × AnswersScript limits digest input text × Writes text result old new
 
--- the same of a text in which each tenant is alone
+-- a text in which each tenant is alone was appended so
 abbrev pub WritesScriptAlone : {X E : Type 0} → HostLimits → BlockDigest → List ℕ → Result X E → Option (List ℕ) → Option (List ℕ) → Type 0
-WritesScriptAlone limits digest input result old new = (text : List ℕ) × AnswersScriptAlone limits digest input text × Writes text result old new
+WritesScriptAlone limits digest input result old new =
+    (text : List ℕ) × AnswersScriptAlone limits digest input text × Writes text result old new
 
 -- whether it is the writer that failed
 abbrev pub is_write : ScriptError → Bool

@@ -8,7 +8,9 @@ use Rattle.bh_model.specs.Operations as model
 use Rattle.bh_tables.specs.Typed.{Tables}
 use Rattle.bh_storage.specs.Plans.{to_come}
 use Rattle.bh_storage.specs.declared.answer.Answer.{Answer}
-use Rattle.bh_storage.specs.declared.answer.Answer.TheVariants.{Done, Removed, Stored, Copied, Head, Buckets, Versioning, Objects, Versions, Uploads, Parts, Begun, PartStored, Completed, Lifecycle, Retention, Used, Keys}
+use Rattle.bh_storage.specs.declared.answer.Answer.TheVariants.{Done, Removed, Stored, Copied, Head, Buckets, Versioning, Objects, Versions}
+use Rattle.bh_storage.specs.declared.answer.Answer.TheVariants.{Uploads, Parts, Begun, PartStored, Completed, Lifecycle, Retention, Used}
+use Rattle.bh_storage.specs.declared.answer.Answer.TheVariants.{Keys}
 use Rattle.bh_storage.specs.declared.answer.RemovedEntry.{RemovedEntry}
 use Rattle.bh_storage.specs.declared.answer.StoredVersion.{StoredVersion}
 use Rattle.bh_storage.specs.declared.answer.CopiedVersion.{CopiedVersion}
@@ -64,7 +66,7 @@ answer_view (Completed upload) = completed_answer upload
 answer_view (Used usage) = used_answer usage
 answer_view (Keys names) = model.Keys (map string_bytes names.items)
 
--- the same of what an operation answers, by the tables that it leaves
+-- what an operation answers, by the tables that it leaves
 abbrev pub offer_view : Tables → Offer → model.Answer
 offer_view tables (Whole answer) = answer_view answer
 offer_view tables (Planned found) = found_answer tables found

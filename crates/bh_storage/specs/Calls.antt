@@ -70,7 +70,8 @@ pub record Within {H : Type 0} (IsIntact IsOpen : H → Type 0) (seen : H → Se
 
 -- such a call does not shut the store, and the transaction goes on with sound tables; `Done` says when: on Ok, or unless memory or
 -- the store was wanting
-pub record StaysAtWork {H : Type 0} (IsIntact IsOpen : H → Type 0) (IsSound : Tables → Type 0) (seen : H → Seen) (left : H → Tables → Type 0) (Done : Type 0 → Type 0) (old new : H) : Type 0 where
+pub record StaysAtWork {H : Type 0} (IsIntact IsOpen : H → Type 0) (IsSound : Tables → Type 0) (seen : H → Seen)
+    (left : H → Tables → Type 0) (Done : Type 0 → Type 0) (old new : H) : Type 0 where
   pub within : Within IsIntact IsOpen seen left old new
   pub opens : Done (IsOpen old → IsIntact new → IsOpen new)
   pub working : Done (Clean IsIntact IsOpen new → IsWorking IsSound (seen new))
@@ -106,14 +107,16 @@ pub record Purges (t : Octets) (at : ℕ) (old new : Tables) : Type 0 where
   pub latest : latest_of new ≡ latest_of old
 
 -- a step of a tenant: the machine's step of its state gives the answer and the state, and what all tenants share is kept
-pub record GivesStep {Y E : Type 0} (t : Octets) (step : Option State → Result (Y × Option State) E) (y : Y) (old new : Tables) : Type 0 where
+pub record GivesStep {Y E : Type 0} (t : Octets) (step : Option State → Result (Y × Option State) E) (y : Y) (old new : Tables) :
+    Type 0 where
   pub gives : step (view old t) ≡ Ok (y, view new t)
   pub others : OthersSame t old new
   pub latest : latest_of new ≡ latest_of old
   pub shared : KeepsShared old new
 
--- the same, or the step's refusal with the tables as they were
-abbrev pub Carries : {X Y E : Type 0} → (X → Y) → Octets → (Option State → Result (Y × Option State) E) → Tables → Tables → Result X (StepError E) → Type 0
+-- the step's answer and state, or its refusal with the tables as they were
+abbrev pub Carries : {X Y E : Type 0} → (X → Y) → Octets → (Option State → Result (Y × Option State) E) → Tables → Tables
+    → Result X (StepError E) → Type 0
 Carries shown t step old new (Ok x) = GivesStep t step (shown x) old new
 Carries shown t step old new (Err (Refused r)) = (step (view old t) ≡ Err r) × (new ≡ old)
 Carries shown t step old new (Err (Failed trouble)) = Unit {0}
@@ -128,7 +131,8 @@ UnlessSpoilt (Err (Refused r)) P = P
 UnlessSpoilt (Err (Failed trouble)) P = Unit {0}
 
 -- the machine's step gives the answer and the state; or it is refused, and the tables are as they were, or are to be taken back
-abbrev pub Receives : {X Y E : Type 0} → (X → Y) → Octets → (Option State → Result (Y × Option State) E) → Tables → Tables → Result (Outcome X E) (StepError E) → Type 0
+abbrev pub Receives : {X Y E : Type 0} → (X → Y) → Octets → (Option State → Result (Y × Option State) E) → Tables → Tables
+    → Result (Outcome X E) (StepError E) → Type 0
 Receives shown t step old new (Ok (Done x)) = GivesStep t step (shown x) old new
 Receives shown t step old new (Ok (Spoilt r)) = step (view old t) ≡ Err r
 Receives shown t step old new (Err (Refused r)) = (step (view old t) ≡ Err r) × (new ≡ old)
@@ -141,7 +145,8 @@ IsDecided (Err (Refused r)) body = IsWhole body
 IsDecided (Err (Failed trouble)) body = MayBreak body
 
 -- some bytes of a body came, by which the step is judged
-pub record Operates {X Y E : Type 0} (shown : X → Y) (t : Octets) (step : Octets → Option State → Result (Y × Option State) E) (clean : Type 0) (before after : Coming) (old new : Tables) (result : Result (Outcome X E) (StepError E)) : Type 0 where
+pub record Operates {X Y E : Type 0} (shown : X → Y) (t : Octets) (step : Octets → Option State → Result (Y × Option State) E)
+    (clean : Type 0) (before after : Coming) (old new : Tables) (result : Result (Outcome X E) (StepError E)) : Type 0 where
   pub given : Octets
   pub gives : Gives before after given
   pub decided : IsDecided result after
@@ -153,8 +158,10 @@ IfDone (Ok (Done x)) P = P
 IfDone (Ok (Spoilt r)) P = Unit {0}
 IfDone (Err e) P = Unit {0}
 
--- the same, and more is said of the bytes that came, where it is done
-pub record OperatesBy {X Y E : Type 0} (shown : X → Y) (t : Octets) (step : Octets → Option State → Result (Y × Option State) E) (Says : Octets → Type 0) (clean : Type 0) (before after : Coming) (old new : Tables) (result : Result (Outcome X E) (StepError E)) : Type 0 where
+-- a step by a body's bytes, of which more is said where it is done
+pub record OperatesBy {X Y E : Type 0} (shown : X → Y) (t : Octets) (step : Octets → Option State → Result (Y × Option State) E)
+    (Says : Octets → Type 0) (clean : Type 0) (before after : Coming) (old new : Tables) (result : Result (Outcome X E) (StepError E)) :
+    Type 0 where
   pub given : Octets
   pub gives : Gives before after given
   pub decided : IsDecided result after

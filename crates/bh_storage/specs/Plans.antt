@@ -14,7 +14,8 @@ use Rattle.bh_storage.specs.declared.plan.Plan.{Plan}
 -- the bytes of the body's blocks from the plan's place on, but those that it leaves out, and no more than are to come
 abbrev pub to_come : Plan → Tables → Octets
 to_come plan tables =
-    take plan.left (drop plan.skip (flat_map (λ (r : RefRow). block_at tables.blocks (ref_name r)) (drop plan.place (placed tables.refs (plan.tenant, plan.body)))))
+    take plan.left (drop plan.skip (flat_map (λ (r : RefRow). block_at tables.blocks (ref_name r))
+    (drop plan.place (placed tables.refs (plan.tenant, plan.body)))))
 
 -- as many bytes come as the plan says
 abbrev pub IsMeasured : Tables → FoundVersion → Type 0

@@ -6,7 +6,9 @@ ghost use Rattle.bh_model.specs.Runs.{last_reading};
 ghost use Rattle.bh_tables.specs.Typed.{Tables};
 ghost use Rattle.bh_view.specs.View.{view, latest_of};
 ghost use Rattle.bh_storage.specs.Answers.{answer_view, offer_view};
-ghost use Rattle.bh_storage.specs.Calls.{Seen, Clean, Within, StaysAtWork, LeavesNothingNew, IsAtRest, IsReadable, IsWorking, Commits, TakesBack, Unless, UnlessSpoilt, Stamps, Purges, Operates, Carries, Decides, Sweeps, Reports, Lists};
+ghost use Rattle.bh_storage.specs.Calls.{Seen, Clean, Within, StaysAtWork, LeavesNothingNew, IsAtRest, IsReadable, IsWorking, Commits};
+ghost use Rattle.bh_storage.specs.Calls.{TakesBack, Unless, UnlessSpoilt, Stamps, Purges, Operates, Carries, Decides, Sweeps, Reports};
+ghost use Rattle.bh_storage.specs.Calls.{Lists};
 ghost use Rattle.bh_storage.specs.Plans.{IfPlanned, IsMeasured, to_come};
 
 use crate::answer::{Answer, Offer};
@@ -67,7 +69,8 @@ pub trait Storage {
         ensures opens { OnOk result (IsIntact self.new → IsOpen self.old × IsOpen self.new) }
         ensures done { OnOk result (IsIntact self.new → Commits (seen self.old) (seen self.new)) }
         ensures survives { OnOk result (IsIntact self.new → (x : Tables) → left self.new x → x ≡ (seen self.old).now) }
-        ensures crash { OnErr result (IsOpen self.old → IsIntact self.new → (x : Tables) → left self.new x → left self.old x ⊎ (x ≡ (seen self.old).now)) }
+        ensures crash { OnErr result (IsOpen self.old → IsIntact self.new → (x : Tables) → left self.new x → left self.old x
+            ⊎ (x ≡ (seen self.old).now)) }
         ensures kept { OnErr result (Clean IsIntact IsOpen self.new → (seen self.new).kept ≡ (seen self.old).kept) }
         ensures limits { (seen self.new).limits ≡ (seen self.old).limits };
 
@@ -102,7 +105,8 @@ pub trait Storage {
         requires { Clean IsIntact IsOpen self.old → IsWorking IsSoundStore (seen self.old) }
         ensures goes_on { StaysAtWork IsIntact IsOpen IsSoundStore seen left (Unless result) self.old self.new }
         ensures decides { Clean IsIntact IsOpen self.new
-            → Decides (λ _. tt) (machine.authenticate key.now secret.now (view (seen self.old).now key.now.tenant)) (seen self.old).now (seen self.new).now result };
+            → Decides (λ _. tt) (machine.authenticate key.now secret.now (view (seen self.old).now key.now.tenant)) (seen self.old).now
+            (seen self.new).now result };
 
     /// Carries out an operation of a tenant, at a moment that is not after the last stamp. Its body comes as it is wanted, and
     /// all of it comes wherever the operation is decided. Of an object that is answered no byte is read yet.
@@ -118,7 +122,8 @@ pub trait Storage {
         requires working { Clean IsIntact IsOpen self.old → IsWorking IsSoundStore (seen self.old) }
         requires early { Clean IsIntact IsOpen self.old → at ≤ latest_of (seen self.old).now }
         ensures goes_on { StaysAtWork IsIntact IsOpen IsSoundStore seen left (UnlessSpoilt result) self.old self.new }
-        ensures operates { Operates (offer_view (seen self.new).now) tenant.now (λ given. operated (seen self.old).limits at given operation.now)
+        ensures operates { Operates (offer_view (seen self.new).now) tenant.now
+            (λ given. operated (seen self.old).limits at given operation.now)
             (Clean IsIntact IsOpen self.new) (B.coming body.old) (B.coming body.new) (seen self.old).now (seen self.new).now result }
         ensures measured { IfPlanned result (λ found. Clean IsIntact IsOpen self.new → IsMeasured (seen self.new).now found) };
 
@@ -141,7 +146,8 @@ pub trait Storage {
         requires { Clean IsIntact IsOpen self.old → IsWorking IsSoundStore (seen self.old) }
         ensures goes_on { StaysAtWork IsIntact IsOpen IsSoundStore seen left (Unless result) self.old self.new }
         ensures carries { Clean IsIntact IsOpen self.new
-            → Carries answer_view (tenant_of (order_of command.now)) (ordered (order_of command.now)) (seen self.old).now (seen self.new).now result };
+            → Carries answer_view (tenant_of (order_of command.now)) (ordered (order_of command.now)) (seen self.old).now
+            (seen self.new).now result };
 
     /// Takes away what is due at a moment, at most `limit` of it: first stale uploads of all tenants by tenant and
     /// number, and then blocks that nothing refers to by digest and ordinal.

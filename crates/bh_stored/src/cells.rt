@@ -20,7 +20,7 @@ pub enum Kind {
     Blob,
     /// An integer from 0 on.
     Number,
-    /// The same, or NULL.
+    /// An integer from 0 on, or NULL.
     MaybeNumber,
 }
 
@@ -114,7 +114,7 @@ pub fn number_in(row: &Row, at: usize) -> u64
     }
 }
 
-/// The same, or nothing of another value.
+/// The number, without its sign; nothing of another value.
 pub fn maybe_number_in(row: &Row, at: usize) -> Option<u64>
     ensures { result ≡ maybe_number (column row.now at) }
 {

@@ -30,7 +30,7 @@ pub fn tree_rows<S: Store>(alloc: Global, store: &mut S, tree: u32) -> Result<Ve
     Err(StoreError::Unstorable)
 }
 
-/// The same, where their numbers rise, as those of a table do.
+/// The rows of a tree whose numbers rise, as those of a table do.
 pub fn table_rows<S: Store>(alloc: Global, store: &mut S, tree: u32) -> Result<Vec<Row>, StoreError>
     ensures keeps { OnOk result (KeepsTrees (S.view store.old) (S.view store.new)) }
     ensures rows { IfOk result (λ rows. IsClean (S.view store.new) → rows.items ≡ (S.view store.old).trees tree) }

@@ -7,7 +7,7 @@ ghost use Rattle.bh_tables.specs.Typed.{BlockRow, TenantRow, Tables, totals_of, 
 ghost use Rattle.bh_schema.specs.Connections.{IsClean, tables, InTransaction, StaysWithin, WasOpen, ChangesNothing, IsTrouble, IsTroubleIf};
 ghost use Rattle.bh_sweep.specs.Counted.{used_by};
 
-use bh_schema::rows::sizes::read_total;
+use bh_schema::rows::counts::read_total;
 use sqlite::{Alter, Connection, Error, Row};
 
 fn block_rows<S: Alter>(connection: &mut Connection<S>) -> Result<Vec<Row>, Error>

@@ -1,5 +1,5 @@
 -- The texts over blocks.
-use Rattle.std.proofs.Common.{◌≡◌, ℤ, pos, nat_lt, length, codes, [], ◌∷◌, ◌&&◌, true, false, refl, sym, ◌∙◌}
+use Rattle.std.proofs.Common.{◌≡◌, ℤ, pos, nat_lt, length, codes, [], ◌∷◌, ◌&&◌, true, false, cond, is_eq, Some, refl, sym, ap, ◌∙◌}
 use Rattle.std.specs.List.{list_any}
 use Rattle.std.specs.Cmp.{signed_Decides}
 use Rattle.std.specs.Ordering.{int_eq}
@@ -13,12 +13,12 @@ use Rattle.sqlite.specs.Term.{lit, col, op1, op2}
 use Rattle.sqlite_sql.specs.declared.ops.BinaryOp.TheVariants.{Compare}
 use Rattle.sqlite_sql.specs.declared.ops.CompareOp.TheVariants.{Eq, Gt}
 use Rattle.sqlite_sql.specs.declared.ops.UnaryOp.TheVariants.{Length}
-use Rattle.sqlite_sql.specs.Ops.{unary}
+use Rattle.sqlite_sql.specs.Ops.{unary, binary, test, from_truth}
 use Rattle.sqlite_value.specs.Keys.{plain, ascending, first_key}
-use Rattle.sqlite_value.proofs.OrderLemmas.{value_cmp-Int}
+use Rattle.sqlite_value.proofs.OrderLemmas.{value_cmp-Int, value_cmp-Blob}
 use Rattle.sqlite_schema.specs.Rules.{agree}
 use Rattle.sqlite_tied.specs.Compute.{everything}
-use Rattle.sqlite_typed.specs.Tests.{bytes_eq}
+use Rattle.sqlite_typed.specs.Tests.{bytes_eq, bytes_cmp}
 use Rattle.sqlite_typed.proofs.TestLemmas.{same_bytes, at_blobs, at_ints, last_term, then_term, then_key, last_key}
 use Rattle.bh_rows.specs.Form.{put}
 use Rattle.bh_rows.specs.Keys.{Pointer, points_at}
@@ -28,7 +28,7 @@ use Rattle.bh_rows.proofs.DeleteErrors.{none_points, none_named}
 use Rattle.bh_rows.proofs.FormLemmas.{any_typed}
 use Rattle.bh_tables.specs.Schema.{Octets, host_schema, blocks_table, at}
 use Rattle.bh_tables.specs.Typed.{Totals, BlockRow, RefRow, block_form, block_columns, ref_form, number, IsHostBy, tables_in}
-use Rattle.bh_tables.specs.Shown.{Name, same_name, block_name, ref_name, is_block, is_use, is_copy, has_digest, by_ord, shown_ord}
+use Rattle.bh_tables.specs.Shown.{Name, same_name, block_name, ref_name, is_block, is_use, has_digest, by_ord, shown_ord, shown_match}
 use Rattle.bh_tables.proofs.Places.{Goes, blocks}
 use Rattle.bh_tables.proofs.Checked.{block_checked}
 use Rattle.bh_tables.proofs.Terms.{is}
@@ -76,17 +76,22 @@ unreferenced_goes db host q unused = (
 
 -- ---- the texts
 
-pub copy_shown : (digest bytes : Octets) → SelectText block_form host_schema 10 (codes "SELECT ord FROM blocks WHERE digest = ?1 AND bytes = ?2 ORDER BY rowid") (Blob digest ∷ Blob bytes ∷ []) (is_copy digest bytes) shown_ord no_limit
+-- whether two blobs are equal, as a number
+equal_shown : (a b : Octets) → binary (Compare Eq Binary) (Blob a) (Blob b) ≡ Int (pos (cond (bytes_eq a b) 1 0))
+unfolding binary
+equal_shown a b = ap (λ o. from_truth (Some (test Eq o))) (value_cmp-Blob a b) ∙ elim (is_eq (bytes_cmp a b)) as (λ t. from_truth (Some t) ≡ Int (pos (cond t 1 0))) [ true ↦ refl | false ↦ refl ]
+
+pub matches_shown : (digest bytes : Octets) → SelectText block_form host_schema 10 (codes "SELECT ord, bytes = ?2 FROM blocks WHERE digest = ?1 ORDER BY rowid") (Blob digest ∷ Blob bytes ∷ []) (has_digest digest) (shown_match bytes) no_limit
 unfolding understood everything
-copy_shown digest bytes = record {
-  test = is 1 0 ∷ is 3 1 ∷ [];
-  show = col 1 2 ∷ [];
-  names = codes "ord" ∷ [];
+matches_shown digest bytes = record {
+  test = is 1 0 ∷ [];
+  show = col 1 2 ∷ op2 (Compare Eq Binary) (col 1 3) (col 0 1) ∷ [];
+  names = codes "ord" ∷ codes "bytes = ?2" ∷ [];
   means = record { is = refl; plain = (refl, refl); unlisted = refl; whole = refl; given = refl };
   low = refl;
   accepts = refl;
-  tests = λ id b. then_term (at_blobs false Eq b.digest digest) (last_term (at_blobs false Eq b.bytes bytes));
-  shows = λ id b. refl;
+  tests = λ id b. last_term (at_blobs false Eq b.digest digest);
+  shows = λ id b. ap (λ v. number b.ord ∷ v ∷ []) (equal_shown b.bytes bytes);
 }
 
 pub ords_listed : (digest : Octets) → SortedText block_form host_schema 10 (codes "SELECT ord FROM blocks WHERE digest = ?1 ORDER BY ord, rowid") (Blob digest ∷ []) (has_digest digest) shown_ord by_ord no_limit

@@ -70,11 +70,32 @@ with_bytes bytes v = record v { bytes = bytes }
 
 -- without bytes
 abbrev pub bare : VersionColumns → VersionRow
-bare c = record { tenant = c.tenant; seq = c.seq; bucket = c.bucket; okey = c.okey; id = c.id; marker = c.marker; stamp = c.stamp; size = c.size; checksum = c.checksum; bytes = [] }
+bare c = record {
+  tenant = c.tenant;
+  seq = c.seq;
+  bucket = c.bucket;
+  okey = c.okey;
+  id = c.id;
+  marker = c.marker;
+  stamp = c.stamp;
+  size = c.size;
+  checksum = c.checksum;
+  bytes = [];
+}
 
 -- as it is stored
 abbrev pub columns_of : VersionRow → VersionColumns
-columns_of v = record { tenant = v.tenant; seq = v.seq; bucket = v.bucket; okey = v.okey; id = v.id; marker = v.marker; stamp = v.stamp; size = v.size; checksum = v.checksum }
+columns_of v = record {
+  tenant = v.tenant;
+  seq = v.seq;
+  bucket = v.bucket;
+  okey = v.okey;
+  id = v.id;
+  marker = v.marker;
+  stamp = v.stamp;
+  size = v.size;
+  checksum = v.checksum;
+}
 
 -- with the bytes of its body
 abbrev pub resolved : List RefRow → List BlockRow → VersionColumns → VersionRow
@@ -95,11 +116,28 @@ part_with_bytes bytes p = record p { bytes = bytes }
 
 -- without bytes
 abbrev pub bare_part : PartColumns → PartRow
-bare_part c = record { tenant = c.tenant; upload = c.upload; part = c.part; size = c.size; checksum = c.checksum; stamp = c.stamp; body = c.body; bytes = [] }
+bare_part c = record {
+  tenant = c.tenant;
+  upload = c.upload;
+  part = c.part;
+  size = c.size;
+  checksum = c.checksum;
+  stamp = c.stamp;
+  body = c.body;
+  bytes = [];
+}
 
 -- as it is stored
 abbrev pub part_columns_of : PartRow → PartColumns
-part_columns_of p = record { tenant = p.tenant; upload = p.upload; part = p.part; size = p.size; checksum = p.checksum; stamp = p.stamp; body = p.body }
+part_columns_of p = record {
+  tenant = p.tenant;
+  upload = p.upload;
+  part = p.part;
+  size = p.size;
+  checksum = p.checksum;
+  stamp = p.stamp;
+  body = p.body;
+}
 
 -- with the bytes of its body
 abbrev pub resolved_part : List RefRow → List BlockRow → PartColumns → PartRow

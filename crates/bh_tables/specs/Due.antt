@@ -16,7 +16,8 @@ is_past moment begun (Some days) = nat_lt (begun + 86400 * days) moment
 
 -- so it is by the rule of the upload's bucket
 abbrev pub is_past_in : ℕ → List BucketRow → UploadRow → Bool
-is_past_in moment buckets u = list_any (λ (b : BucketRow). bytes_eq b.tenant u.tenant && (bytes_eq b.bucket u.bucket && is_past moment u.begun b.days)) buckets
+is_past_in moment buckets u =
+    list_any (λ (b : BucketRow). bytes_eq b.tenant u.tenant && (bytes_eq b.bucket u.bucket && is_past moment u.begun b.days)) buckets
 
 -- by tenant and number, the order of the primary key
 abbrev pub by_owner : UploadRow → UploadRow → Ordering

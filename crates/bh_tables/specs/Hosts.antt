@@ -13,7 +13,9 @@ use Rattle.sqlite_value.specs.contracts.value.Value as value
 use Rattle.sqlite_schema.specs.contracts.schema.Schema as schema
 use Rattle.bh_rows.specs.Form.{Form, typed}
 use Rattle.bh_tables.specs.Schema.{first_schema, host_schema}
-use Rattle.bh_tables.specs.Typed.{HostRow, Tables, Totals, totals_of, Raw, raw, first_raw, tables_in, first_tables_in, IsFirstHost, no_rows, lock_form, retain_form, host_form, tenant_form, key_form, bucket_form, version_form, block_form, ref_form, upload_form, part_form, UseRow, use_columns, use_form}
+use Rattle.bh_tables.specs.Typed.{HostRow, Tables, Totals, totals_of, Raw, raw, first_raw, tables_in, first_tables_in, IsFirstHost, no_rows}
+use Rattle.bh_tables.specs.Typed.{lock_form, retain_form, host_form, tenant_form, key_form, bucket_form, version_form, block_form, ref_form}
+use Rattle.bh_tables.specs.Typed.{upload_form, part_form, UseRow, use_columns, use_form}
 
 -- ---- equality, by the codes that the logic gives to values
 
@@ -52,8 +54,12 @@ abbrev pub are_counts : List Row → List UseRow → Bool
 are_counts rows uses = same (coded_list coded_row) (map use_columns (typed use_form rows)) (map use_columns uses)
 
 abbrev pub are_held : Totals → Raw → Bool
-are_held sums r = are_rows host_form r.host && (are_rows (tenant_form sums) r.tenants && (are_rows key_form r.keys && (are_rows bucket_form r.buckets && (are_rows version_form r.versions && (are_rows block_form r.blocks && (are_rows ref_form r.refs && (are_rows (upload_form sums) r.uploads
-    && (are_rows part_form r.parts && (are_rows use_form r.uses && (are_counts r.uses sums.uses && (are_rows lock_form r.locks && are_rows retain_form r.retains)))))))))))
+are_held sums r = are_rows host_form r.host && (are_rows (tenant_form sums) r.tenants
+    && (are_rows key_form r.keys && (are_rows bucket_form r.buckets
+    && (are_rows version_form r.versions && (are_rows block_form r.blocks
+    && (are_rows ref_form r.refs && (are_rows (upload_form sums) r.uploads
+    && (are_rows part_form r.parts && (are_rows use_form r.uses
+    && (are_counts r.uses sums.uses && (are_rows lock_form r.locks && are_rows retain_form r.retains)))))))))))
 
 -- ---- databases
 
@@ -61,7 +67,7 @@ are_held sums r = are_rows host_form r.host && (are_rows (tenant_form sums) r.te
 unfoldable pub is_host : Database → Bool
 is_host db = same schema.the_row.coded db.schema host_schema && are_held (totals_of (tables_in db)) (raw db.trees)
 
--- the same under the first schema, in which no bucket is locked and no version has a date
+-- a host's database under the first schema, in which no bucket is locked and no version has a date
 unfoldable pub is_first_host : Database → Bool
 is_first_host db = same schema.the_row.coded db.schema first_schema && are_held (totals_of (first_tables_in db)) (first_raw db.trees)
 

@@ -1,7 +1,9 @@
 -- The schema as its tables and indexes are made, one after another.
 use Rattle.sqlite.specs.Schema.{Schema}
 use Rattle.sqlite.specs.Change.{created, indexed}
-use Rattle.bh_tables.specs.Schema.{no_schema, host_table, tenants_table, keys_table, buckets_table, versions_table, blocks_table, refs_table, uploads_table, parts_table, at, newest, refs_by_block, uploads_by_key, uploads_by_moment, uses_table, uses_by_count, first_schema, locks_table, retains_table}
+use Rattle.bh_tables.specs.Schema.{no_schema, host_table, tenants_table, keys_table, buckets_table, versions_table, blocks_table}
+use Rattle.bh_tables.specs.Schema.{refs_table, uploads_table, parts_table, at, newest, refs_by_block, uploads_by_key, uploads_by_moment}
+use Rattle.bh_tables.specs.Schema.{uses_table, uses_by_count, first_schema, locks_table, retains_table}
 
 abbrev pub with_host : Schema
 with_host = created no_schema host_table

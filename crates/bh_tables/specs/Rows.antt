@@ -61,7 +61,13 @@ abbrev pub host_columns : HostRow → Row
 host_columns x = Null ∷ number x.version ∷ number x.latest ∷ number x.min_part ∷ number x.max_body ∷ number x.digest ∷ []
 
 abbrev pub host_of : Row → HostRow
-host_of r = record { version = column_number (column r 2); latest = column_number (column r 3); min_part = column_number (column r 4); max_body = column_number (column r 5); digest = column_number (column r 6) }
+host_of r = record {
+  version = column_number (column r 2);
+  latest = column_number (column r 3);
+  min_part = column_number (column r 4);
+  max_body = column_number (column r 5);
+  digest = column_number (column r 6);
+}
 
 abbrev pub host_form : Form HostRow
 host_form = record { encode = host_columns; decode = host_of; back = λ _ x. refl }
@@ -79,7 +85,13 @@ abbrev pub tenant_columns : ℤ → TenantRow → Row
 tenant_columns used x = Text x.tenant ∷ number x.quota ∷ number x.next_version ∷ number x.next_upload ∷ number x.next_entry ∷ Int used ∷ []
 
 abbrev pub tenant_of : Row → TenantRow
-tenant_of r = record { tenant = bytes_of (column r 1); quota = column_number (column r 2); next_version = column_number (column r 3); next_upload = column_number (column r 4); next_entry = column_number (column r 5) }
+tenant_of r = record {
+  tenant = bytes_of (column r 1);
+  quota = column_number (column r 2);
+  next_version = column_number (column r 3);
+  next_upload = column_number (column r 4);
+  next_entry = column_number (column r 5);
+}
 
 abbrev pub tenant_form : Totals → Form TenantRow
 tenant_form sums = record { encode = λ x. tenant_columns (sums.used x.tenant) x; decode = tenant_of; back = λ _ x. refl }
@@ -90,7 +102,11 @@ pub record TenantColumns : Type 0 where
   pub used : ℤ
 
 abbrev pub stored_tenant_form : Form TenantColumns
-stored_tenant_form = record { encode = λ c. tenant_columns c.used c.row; decode = λ r. record { row = tenant_of r; used = int_of (column r 6) }; back = λ _ x. refl }
+stored_tenant_form = record {
+  encode = λ c. tenant_columns c.used c.row;
+  decode = λ r. record { row = tenant_of r; used = int_of (column r 6) };
+  back = λ _ x. refl;
+}
 
 -- ---- access keys
 
@@ -124,7 +140,13 @@ abbrev pub bucket_columns : BucketRow → Row
 bucket_columns x = Text x.tenant ∷ Text x.bucket ∷ number x.created ∷ number x.state ∷ or_null number x.days ∷ []
 
 abbrev pub bucket_of : Row → BucketRow
-bucket_of r = record { tenant = bytes_of (column r 1); bucket = bytes_of (column r 2); created = column_number (column r 3); state = column_number (column r 4); days = maybe_number (column r 5) }
+bucket_of r = record {
+  tenant = bytes_of (column r 1);
+  bucket = bytes_of (column r 2);
+  created = column_number (column r 3);
+  state = column_number (column r 4);
+  days = maybe_number (column r 5);
+}
 
 abbrev pub bucket_form : Form BucketRow
 bucket_form = record { encode = bucket_columns; decode = bucket_of; back = λ _ x. (λ i. record x { days = maybe_back x.days i }) }
@@ -164,7 +186,8 @@ pub record VersionColumns : Type 0 where
   pub checksum : Octets
 
 abbrev pub version_columns : VersionColumns → Row
-version_columns x = Text x.tenant ∷ number x.seq ∷ Text x.bucket ∷ Blob x.okey ∷ number x.id ∷ number x.marker ∷ number x.stamp ∷ number x.size ∷ Text x.checksum ∷ []
+version_columns x = Text x.tenant ∷ number x.seq ∷ Text x.bucket ∷ Blob x.okey ∷ number x.id ∷ number x.marker ∷ number x.stamp
+    ∷ number x.size ∷ Text x.checksum ∷ []
 
 abbrev pub version_of : Row → VersionColumns
 version_of r = record {
@@ -249,7 +272,14 @@ abbrev pub ref_columns : RefRow → Row
 ref_columns r = Text r.tenant ∷ number r.body ∷ number r.place ∷ Blob r.digest ∷ number r.ord ∷ number r.size ∷ []
 
 abbrev pub ref_of : Row → RefRow
-ref_of r = record { tenant = bytes_of (column r 1); body = column_number (column r 2); place = column_number (column r 3); digest = bytes_of (column r 4); ord = column_number (column r 5); size = column_number (column r 6) }
+ref_of r = record {
+  tenant = bytes_of (column r 1);
+  body = column_number (column r 2);
+  place = column_number (column r 3);
+  digest = bytes_of (column r 4);
+  ord = column_number (column r 5);
+  size = column_number (column r 6);
+}
 
 abbrev pub ref_form : Form RefRow
 ref_form = record { encode = ref_columns; decode = ref_of; back = λ _ x. refl }
@@ -269,7 +299,13 @@ abbrev pub upload_columns : ℤ → UploadRow → Row
 upload_columns kept x = Text x.tenant ∷ number x.upload ∷ Text x.bucket ∷ Blob x.okey ∷ number x.begun ∷ Int kept ∷ []
 
 abbrev pub upload_of : Row → UploadRow
-upload_of r = record { tenant = bytes_of (column r 1); upload = column_number (column r 2); bucket = bytes_of (column r 3); okey = bytes_of (column r 4); begun = column_number (column r 5) }
+upload_of r = record {
+  tenant = bytes_of (column r 1);
+  upload = column_number (column r 2);
+  bucket = bytes_of (column r 3);
+  okey = bytes_of (column r 4);
+  begun = column_number (column r 5);
+}
 
 abbrev pub upload_form : Totals → Form UploadRow
 upload_form sums = record { encode = λ x. upload_columns (sums.kept (x.tenant, x.upload)) x; decode = upload_of; back = λ _ x. refl }
@@ -280,7 +316,11 @@ pub record UploadColumns : Type 0 where
   pub kept : ℤ
 
 abbrev pub stored_upload_form : Form UploadColumns
-stored_upload_form = record { encode = λ c. upload_columns c.kept c.row; decode = λ r. record { row = upload_of r; kept = int_of (column r 6) }; back = λ _ x. refl }
+stored_upload_form = record {
+  encode = λ c. upload_columns c.kept c.row;
+  decode = λ r. record { row = upload_of r; kept = int_of (column r 6) };
+  back = λ _ x. refl;
+}
 
 -- ---- parts of uploads
 

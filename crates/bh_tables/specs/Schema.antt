@@ -56,14 +56,17 @@ table name columns primary others references checks = record {
 
 -- the columns at these places are the primary key of a row of the parent, which may not be deleted
 abbrev pub refers : List ℕ → Octets → Reference
-refers columns parent = record { columns = columns; parent = parent; parent_columns = []; on_delete = Restrict; on_update = NoAction; is_deferred = false }
+refers columns parent =
+    record { columns = columns; parent = parent; parent_columns = []; on_delete = Restrict; on_update = NoAction; is_deferred = false }
 
 -- ---- the tables
 
 -- one row, whose id is the row's number
 abbrev pub host_table : Table
-host_table = record (table (codes "host") (maybe (codes "id") Integer ∷ given (codes "version") Integer ∷ given (codes "latest") Integer ∷ given (codes "min_part") Integer ∷ given (codes "max_body") Integer ∷ given (codes "digest") Integer ∷ []) (0 ∷ []) [] []
-    (op2 (Compare Eq Binary) (col 1 0) (lit (Int (pos 1))) ∷ is_natural 2 ∷ is_natural 3 ∷ is_natural 4 ∷ is_natural 5 ∷ is_natural 6 ∷ [])) {
+host_table = record (table (codes "host") (maybe (codes "id") Integer ∷ given (codes "version") Integer ∷ given (codes "latest") Integer
+    ∷ given (codes "min_part") Integer ∷ given (codes "max_body") Integer ∷ given (codes "digest") Integer ∷ []) (0 ∷ []) [] []
+    (op2 (Compare Eq Binary) (col 1 0) (lit (Int (pos 1))) ∷ is_natural 2 ∷ is_natural 3 ∷ is_natural 4 ∷ is_natural 5 ∷ is_natural 6
+    ∷ [])) {
       key = Some 0;
       uniques = [];
       orders = [];
@@ -71,54 +74,66 @@ host_table = record (table (codes "host") (maybe (codes "id") Integer ∷ given 
 
 -- each with the bytes that its versions and parts have
 abbrev pub tenants_table : Table
-tenants_table = table (codes "tenants") (given (codes "tenant") Text ∷ given (codes "quota") Integer ∷ given (codes "next_version") Integer ∷ given (codes "next_upload") Integer ∷ given (codes "next_entry") Integer ∷ given (codes "used") Integer ∷ [])
+tenants_table = table (codes "tenants") (given (codes "tenant") Text ∷ given (codes "quota") Integer ∷ given (codes "next_version") Integer
+    ∷ given (codes "next_upload") Integer ∷ given (codes "next_entry") Integer ∷ given (codes "used") Integer ∷ [])
     (1 ∷ []) [] [] (is_natural 2 ∷ is_natural 3 ∷ is_natural 4 ∷ is_natural 5 ∷ is_natural 6 ∷ is_small 6 ∷ [])
 
 abbrev pub keys_table : Table
-keys_table = table (codes "keys") (given (codes "tenant") Text ∷ given (codes "name") Text ∷ given (codes "secret") Text ∷ []) (1 ∷ 2 ∷ []) [] (refers (1 ∷ []) (codes "tenants") ∷ []) []
+keys_table = table (codes "keys") (given (codes "tenant") Text ∷ given (codes "name") Text ∷ given (codes "secret") Text ∷ [])
+    (1 ∷ 2 ∷ []) [] (refers (1 ∷ []) (codes "tenants") ∷ []) []
 
 -- state 0, 1, 2: Unversioned, Enabled, Suspended
 abbrev pub buckets_table : Table
-buckets_table = table (codes "buckets") (given (codes "tenant") Text ∷ given (codes "bucket") Text ∷ given (codes "created") Integer ∷ given (codes "state") Integer ∷ maybe (codes "days") Integer ∷ []) (1 ∷ 2 ∷ []) [] (refers (1 ∷ []) (codes "tenants") ∷ [])
+buckets_table = table (codes "buckets") (given (codes "tenant") Text ∷ given (codes "bucket") Text ∷ given (codes "created") Integer
+    ∷ given (codes "state") Integer ∷ maybe (codes "days") Integer ∷ []) (1 ∷ 2 ∷ []) [] (refers (1 ∷ []) (codes "tenants") ∷ [])
     (is_natural 3 ∷ is_natural 4 ∷ op2 (Compare Le Binary) (col 1 4) (lit (Int (pos 2))) ∷ is_natural 5 ∷ [])
 
 -- id 0 is `null`; a marker has size 0 and an empty sum
 abbrev pub versions_table : Table
 versions_table = table (codes "versions")
-    (given (codes "tenant") Text ∷ given (codes "seq") Integer ∷ given (codes "bucket") Text ∷ given (codes "okey") Blob ∷ given (codes "id") Integer ∷ given (codes "marker") Integer
+    (given (codes "tenant") Text ∷ given (codes "seq") Integer ∷ given (codes "bucket") Text ∷ given (codes "okey") Blob
+    ∷ given (codes "id") Integer ∷ given (codes "marker") Integer
     ∷ given (codes "stamp") Integer ∷ given (codes "size") Integer ∷ given (codes "sum") Text ∷ [])
     (1 ∷ 2 ∷ []) ((1 ∷ 3 ∷ 4 ∷ 5 ∷ []) ∷ []) (refers (1 ∷ 3 ∷ []) (codes "buckets") ∷ [])
-    (is_natural 2 ∷ is_natural 5 ∷ is_natural 6 ∷ is_natural 7 ∷ is_natural 8 ∷ op2 Or (op2 (Compare Eq Binary) (col 1 6) (lit (Int (pos 0)))) (op2 And (op2 (Compare Eq Binary) (col 1 8) (lit (Int (pos 0)))) (op2 (Compare Eq Binary) (col 1 9) (lit (Words [])))) ∷ [])
+    (is_natural 2 ∷ is_natural 5 ∷ is_natural 6 ∷ is_natural 7 ∷ is_natural 8
+    ∷ op2 Or (op2 (Compare Eq Binary) (col 1 6) (lit (Int (pos 0))))
+    (op2 And (op2 (Compare Eq Binary) (col 1 8) (lit (Int (pos 0)))) (op2 (Compare Eq Binary) (col 1 9) (lit (Words [])))) ∷ [])
 
 -- blocks of bytes, shared by all tenants: those of one digest differ by the ordinal
 abbrev pub blocks_table : Table
-blocks_table = table (codes "blocks") (given (codes "digest") Blob ∷ given (codes "ord") Integer ∷ given (codes "bytes") Blob ∷ []) (1 ∷ 2 ∷ []) [] [] (is_natural 2 ∷ [])
+blocks_table = table (codes "blocks") (given (codes "digest") Blob ∷ given (codes "ord") Integer ∷ given (codes "bytes") Blob ∷ [])
+    (1 ∷ 2 ∷ []) [] [] (is_natural 2 ∷ [])
 
 -- how many references name each block. It is no column of blocks, since an UPDATE writes a row whole, its bytes too
 abbrev pub uses_table : Table
-uses_table = table (codes "uses") (given (codes "digest") Blob ∷ given (codes "ord") Integer ∷ given (codes "uses") Integer ∷ []) (1 ∷ 2 ∷ []) [] [] (is_natural 2 ∷ is_natural 3 ∷ is_small 3 ∷ [])
+uses_table = table (codes "uses") (given (codes "digest") Blob ∷ given (codes "ord") Integer ∷ given (codes "uses") Integer ∷ [])
+    (1 ∷ 2 ∷ []) [] [] (is_natural 2 ∷ is_natural 3 ∷ is_small 3 ∷ [])
 
 -- the block at each place of a body, which is an entry number of the tenant
 abbrev pub refs_table : Table
-refs_table = table (codes "refs") (given (codes "tenant") Text ∷ given (codes "body") Integer ∷ given (codes "place") Integer ∷ given (codes "digest") Blob ∷ given (codes "ord") Integer ∷ given (codes "size") Integer ∷ [])
+refs_table = table (codes "refs") (given (codes "tenant") Text ∷ given (codes "body") Integer ∷ given (codes "place") Integer
+    ∷ given (codes "digest") Blob ∷ given (codes "ord") Integer ∷ given (codes "size") Integer ∷ [])
     (1 ∷ 2 ∷ 3 ∷ []) [] (refers (4 ∷ 5 ∷ []) (codes "blocks") ∷ []) (is_natural 2 ∷ is_natural 3 ∷ is_natural 5 ∷ is_natural 6 ∷ [])
 
 -- uploads that are neither completed nor aborted, each with the bytes that its parts have
 abbrev pub uploads_table : Table
-uploads_table = table (codes "uploads") (given (codes "tenant") Text ∷ given (codes "upload") Integer ∷ given (codes "bucket") Text ∷ given (codes "okey") Blob ∷ given (codes "begun") Integer ∷ given (codes "bytes_kept") Integer ∷ [])
+uploads_table = table (codes "uploads") (given (codes "tenant") Text ∷ given (codes "upload") Integer ∷ given (codes "bucket") Text
+    ∷ given (codes "okey") Blob ∷ given (codes "begun") Integer ∷ given (codes "bytes_kept") Integer ∷ [])
     (1 ∷ 2 ∷ []) [] (refers (1 ∷ 3 ∷ []) (codes "buckets") ∷ []) (is_natural 2 ∷ is_natural 5 ∷ is_natural 6 ∷ is_small 6 ∷ [])
 
 -- the parts of uploads, each with its body, which is an entry number of the tenant
 abbrev pub parts_table : Table
 parts_table = table (codes "parts")
-    (given (codes "tenant") Text ∷ given (codes "upload") Integer ∷ given (codes "number") Integer ∷ given (codes "size") Integer ∷ given (codes "sum") Text ∷ given (codes "stamp") Integer
+    (given (codes "tenant") Text ∷ given (codes "upload") Integer ∷ given (codes "number") Integer ∷ given (codes "size") Integer
+    ∷ given (codes "sum") Text ∷ given (codes "stamp") Integer
     ∷ given (codes "body") Integer ∷ [])
     (1 ∷ 2 ∷ 3 ∷ []) ((1 ∷ 7 ∷ []) ∷ []) (refers (1 ∷ 2 ∷ []) (codes "uploads") ∷ [])
     (is_natural 2 ∷ is_natural 3 ∷ is_natural 4 ∷ is_natural 6 ∷ is_natural 7 ∷ [])
 
 -- the buckets that are locked
 abbrev pub locks_table : Table
-locks_table = table (codes "locks") (given (codes "tenant") Text ∷ given (codes "bucket") Text ∷ []) (1 ∷ 2 ∷ []) [] (refers (1 ∷ 2 ∷ []) (codes "buckets") ∷ []) []
+locks_table = table (codes "locks") (given (codes "tenant") Text ∷ given (codes "bucket") Text ∷ []) (1 ∷ 2 ∷ []) []
+    (refers (1 ∷ 2 ∷ []) (codes "buckets") ∷ []) []
 
 -- the moment before which a version may not be deleted, in seconds since 1970
 abbrev pub retains_table : Table
@@ -137,23 +152,58 @@ auto name tree owner columns = record { name = name; tree = tree; table = owner;
 
 -- versions by bucket and key, the newest first. The order has a digit to base 8 for each column, the lowest for the first; 1 is DESC
 abbrev pub newest : Index
-newest = record { name = codes "newest"; tree = 0; table = 7; columns = 1 ∷ 3 ∷ 4 ∷ 2 ∷ []; order = record { digits = 0o1000 }; is_unique = false }
+newest = record {
+  name = codes "newest";
+  tree = 0;
+  table = 7;
+  columns = 1 ∷ 3 ∷ 4 ∷ 2 ∷ [];
+  order = record { digits = 0o1000 };
+  is_unique = false;
+}
 
 -- references by the block that they name
 abbrev pub refs_by_block : Index
-refs_by_block = record { name = codes "refs_by_block"; tree = 0; table = 12; columns = 4 ∷ 5 ∷ []; order = record { digits = 0 }; is_unique = false }
+refs_by_block = record {
+  name = codes "refs_by_block";
+  tree = 0;
+  table = 12;
+  columns = 4 ∷ 5 ∷ [];
+  order = record { digits = 0 };
+  is_unique = false;
+}
 
 -- uploads by bucket, key and number
 abbrev pub uploads_by_key : Index
-uploads_by_key = record { name = codes "uploads_by_key"; tree = 0; table = 16; columns = 1 ∷ 3 ∷ 4 ∷ 2 ∷ []; order = record { digits = 0 }; is_unique = false }
+uploads_by_key = record {
+  name = codes "uploads_by_key";
+  tree = 0;
+  table = 16;
+  columns = 1 ∷ 3 ∷ 4 ∷ 2 ∷ [];
+  order = record { digits = 0 };
+  is_unique = false;
+}
 
 -- uploads by bucket, moment of beginning and number
 abbrev pub uploads_by_moment : Index
-uploads_by_moment = record { name = codes "uploads_by_moment"; tree = 0; table = 16; columns = 1 ∷ 3 ∷ 5 ∷ 2 ∷ []; order = record { digits = 0 }; is_unique = false }
+uploads_by_moment = record {
+  name = codes "uploads_by_moment";
+  tree = 0;
+  table = 16;
+  columns = 1 ∷ 3 ∷ 5 ∷ 2 ∷ [];
+  order = record { digits = 0 };
+  is_unique = false;
+}
 
 -- blocks by how many references name them, those of none first
 abbrev pub uses_by_count : Index
-uses_by_count = record { name = codes "uses_by_count"; tree = 0; table = 23; columns = 3 ∷ 1 ∷ 2 ∷ []; order = record { digits = 0 }; is_unique = false }
+uses_by_count = record {
+  name = codes "uses_by_count";
+  tree = 0;
+  table = 23;
+  columns = 3 ∷ 1 ∷ 2 ∷ [];
+  order = record { digits = 0 };
+  is_unique = false;
+}
 
 abbrev pub no_schema : Schema
 no_schema = record { tables = []; indexes = []; views = [] }
@@ -161,14 +211,16 @@ no_schema = record { tables = []; indexes = []; views = [] }
 -- of version 1
 abbrev pub first_schema : Schema
 first_schema = record {
-  tables = at 0 host_table ∷ at 1 tenants_table ∷ at 3 keys_table ∷ at 5 buckets_table ∷ at 7 versions_table ∷ at 10 blocks_table ∷ at 12 refs_table
+  tables = at 0 host_table ∷ at 1 tenants_table ∷ at 3 keys_table ∷ at 5 buckets_table ∷ at 7 versions_table ∷ at 10 blocks_table
+      ∷ at 12 refs_table
       ∷ at 16 uploads_table ∷ at 18 parts_table ∷ at 23 uses_table ∷ [];
   indexes = auto (codes "sqlite_autoindex_tenants_1") 2 1 (1 ∷ []) ∷ auto (codes "sqlite_autoindex_keys_1") 4 3 (1 ∷ 2 ∷ [])
       ∷ auto (codes "sqlite_autoindex_buckets_1") 6 5 (1 ∷ 2 ∷ []) ∷ auto (codes "sqlite_autoindex_versions_1") 8 7 (1 ∷ 2 ∷ [])
       ∷ auto (codes "sqlite_autoindex_versions_2") 9 7 (1 ∷ 3 ∷ 4 ∷ 5 ∷ []) ∷ auto (codes "sqlite_autoindex_blocks_1") 11 10 (1 ∷ 2 ∷ [])
       ∷ auto (codes "sqlite_autoindex_refs_1") 13 12 (1 ∷ 2 ∷ 3 ∷ []) ∷ record newest { tree = 14 } ∷ record refs_by_block { tree = 15 }
       ∷ auto (codes "sqlite_autoindex_uploads_1") 17 16 (1 ∷ 2 ∷ []) ∷ auto (codes "sqlite_autoindex_parts_1") 19 18 (1 ∷ 2 ∷ 3 ∷ [])
-      ∷ auto (codes "sqlite_autoindex_parts_2") 20 18 (1 ∷ 7 ∷ []) ∷ record uploads_by_key { tree = 21 } ∷ record uploads_by_moment { tree = 22 }
+      ∷ auto (codes "sqlite_autoindex_parts_2") 20 18 (1 ∷ 7 ∷ []) ∷ record uploads_by_key { tree = 21 }
+      ∷ record uploads_by_moment { tree = 22 }
       ∷ auto (codes "sqlite_autoindex_uses_1") 24 23 (1 ∷ 2 ∷ []) ∷ record uses_by_count { tree = 25 } ∷ [];
   views = [];
 }
@@ -177,6 +229,7 @@ first_schema = record {
 abbrev pub host_schema : Schema
 host_schema = record {
   tables = first_schema.tables ++ at 26 locks_table ∷ at 28 retains_table ∷ [];
-  indexes = first_schema.indexes ++ auto (codes "sqlite_autoindex_locks_1") 27 26 (1 ∷ 2 ∷ []) ∷ auto (codes "sqlite_autoindex_retains_1") 29 28 (1 ∷ 2 ∷ []) ∷ [];
+  indexes = first_schema.indexes ++ auto (codes "sqlite_autoindex_locks_1") 27 26 (1 ∷ 2 ∷ [])
+      ∷ auto (codes "sqlite_autoindex_retains_1") 29 28 (1 ∷ 2 ∷ []) ∷ [];
   views = [];
 }

@@ -1,5 +1,5 @@
 -- Which rows a text finds, and what it shows of each.
-use Rattle.std.specs.Prelude.{ℕ, Bool, ◌&&◌, ◌||◌, not, pos, List, [], ◌∷◌, filter, take, is_some, int_lt}
+use Rattle.std.specs.Prelude.{ℕ, Bool, ◌&&◌, ◌||◌, not, pos, List, [], ◌∷◌, filter, take, is_some, int_lt, if◌then◌else◌}
 use Rattle.std.specs.List.{list_any}
 use Rattle.std.specs.Ordering.{int_eq, int_cmp, ordering_then}
 use Rattle.std.specs.declared.cmp.Ordering.{Ordering}
@@ -10,7 +10,8 @@ use Rattle.sqlite_typed.specs.Columns.{or_null}
 use Rattle.sqlite_typed.specs.Tests.{bytes_eq, bytes_cmp}
 use Rattle.bh_tables.specs.Schema.{Octets}
 pub use Rattle.bh_tables.specs.Bodies.{Name, same_name, block_name, ref_name, body_name, part_name, by_place}
-use Rattle.bh_tables.specs.Typed.{Totals, UseRow, HostRow, TenantRow, KeyRow, BucketRow, VersionRow, BlockRow, RefRow, UploadRow, PartRow, LockRow, RetainRow, number}
+use Rattle.bh_tables.specs.Typed.{Totals, UseRow, HostRow, TenantRow, KeyRow, BucketRow, VersionRow, BlockRow, RefRow, UploadRow, PartRow}
+use Rattle.bh_tables.specs.Typed.{LockRow, RetainRow, number}
 
 -- ---- the row of a primary key, or of the unique key of versions
 
@@ -33,7 +34,8 @@ is_retain tenant seq r = bytes_eq r.tenant tenant && int_eq (pos r.seq) (pos seq
 
 -- the version of this id, where 0 is `null`
 abbrev pub is_version : Octets → Octets → Octets → ℕ → VersionRow → Bool
-is_version tenant bucket okey id v = bytes_eq v.tenant tenant && (bytes_eq v.bucket bucket && (bytes_eq v.okey okey && int_eq (pos v.id) (pos id)))
+is_version tenant bucket okey id v =
+    bytes_eq v.tenant tenant && (bytes_eq v.bucket bucket && (bytes_eq v.okey okey && int_eq (pos v.id) (pos id)))
 
 -- the version of this entry number, of which a tenant gives each once
 abbrev pub is_entry : Octets → ℕ → VersionRow → Bool
@@ -166,7 +168,8 @@ has_marker tenant marker v = bytes_eq v.tenant tenant && int_eq (pos v.marker) (
 
 -- an entry of the same key that is newer
 abbrev pub is_later : VersionRow → VersionRow → Bool
-is_later v later = bytes_eq later.tenant v.tenant && (bytes_eq later.bucket v.bucket && (bytes_eq later.okey v.okey && int_lt (pos v.seq) (pos later.seq)))
+is_later v later = bytes_eq later.tenant v.tenant
+    && (bytes_eq later.bucket v.bucket && (bytes_eq later.okey v.okey && int_lt (pos v.seq) (pos later.seq)))
 
 -- whether a version is the newest entry of its key
 abbrev pub is_current : Octets → List VersionRow → VersionRow → Bool
@@ -213,7 +216,7 @@ shown_latest h = number h.latest ∷ []
 abbrev pub shown_tenant : TenantRow → Row
 shown_tenant t = number t.quota ∷ number t.next_version ∷ number t.next_upload ∷ number t.next_entry ∷ []
 
--- the same, with the bytes that it uses
+-- a tenant's numbers, with the bytes that it uses
 abbrev pub shown_account : Totals → TenantRow → Row
 shown_account sums t = number t.quota ∷ number t.next_version ∷ number t.next_upload ∷ number t.next_entry ∷ Int (sums.used t.tenant) ∷ []
 
@@ -257,6 +260,10 @@ shown_seq v = number v.seq ∷ []
 
 abbrev pub shown_ord : BlockRow → Row
 shown_ord b = number b.ord ∷ []
+
+-- its ordinal, and whether it holds these bytes
+abbrev pub shown_match : Octets → BlockRow → Row
+shown_match bytes b = number b.ord ∷ Int (pos (if bytes_eq b.bytes bytes then 1 else 0)) ∷ []
 
 abbrev pub shown_name : BlockRow → Row
 shown_name b = Blob b.digest ∷ number b.ord ∷ []

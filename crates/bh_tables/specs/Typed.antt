@@ -11,7 +11,14 @@ use Rattle.sqlite.specs.State.{State, HasCleanDisk}
 use Rattle.bh_rows.specs.Form.{AreRows, typed}
 use Rattle.bh_tables.specs.Schema.{Octets, first_schema, host_schema}
 use Rattle.bh_tables.specs.Bodies.{Name, same_name, block_name, ref_name, resolved, resolved_again, resolved_part, resolved_part_again}
-pub use Rattle.bh_tables.specs.Rows.{Totals, column_number, maybe_number, number, maybe_back, HostRow, host_columns, host_of, host_form, TenantRow, tenant_columns, tenant_of, tenant_form, TenantColumns, stored_tenant_form, KeyRow, key_columns, key_of, key_form, BucketRow, bucket_columns, bucket_of, bucket_form, VersionColumns, version_columns, version_of, version_form, VersionRow, BlockRow, block_columns, block_of, block_form, UseRow, use_columns, use_of, use_form, RefRow, ref_columns, ref_of, ref_form, UploadRow, upload_columns, upload_of, upload_form, UploadColumns, stored_upload_form, PartColumns, part_columns, part_of, part_form, PartRow, LockRow, lock_columns, lock_of, lock_form, RetainRow, retain_columns, retain_of, retain_form}
+pub use Rattle.bh_tables.specs.Rows.{Totals, column_number, maybe_number, number, maybe_back, HostRow, host_columns, host_of, host_form}
+pub use Rattle.bh_tables.specs.Rows.{TenantRow, tenant_columns, tenant_of, tenant_form, TenantColumns, stored_tenant_form, KeyRow}
+pub use Rattle.bh_tables.specs.Rows.{key_columns, key_of, key_form, BucketRow, bucket_columns, bucket_of, bucket_form, VersionColumns}
+pub use Rattle.bh_tables.specs.Rows.{version_columns, version_of, version_form, VersionRow, BlockRow, block_columns, block_of, block_form}
+pub use Rattle.bh_tables.specs.Rows.{UseRow, use_columns, use_of, use_form, RefRow, ref_columns, ref_of, ref_form, UploadRow}
+pub use Rattle.bh_tables.specs.Rows.{upload_columns, upload_of, upload_form, UploadColumns, stored_upload_form, PartColumns, part_columns}
+pub use Rattle.bh_tables.specs.Rows.{part_of, part_form, PartRow, LockRow, lock_columns, lock_of, lock_form, RetainRow, retain_columns}
+pub use Rattle.bh_tables.specs.Rows.{retain_of, retain_form}
 
 -- ---- all tables
 
@@ -29,7 +36,19 @@ pub record Tables : Type 0 where
   pub retains : List RetainRow
 
 abbrev pub no_rows : Tables
-no_rows = record { host = []; tenants = []; keys = []; buckets = []; versions = []; blocks = []; refs = []; uploads = []; parts = []; locks = []; retains = [] }
+no_rows = record {
+  host = [];
+  tenants = [];
+  keys = [];
+  buckets = [];
+  versions = [];
+  blocks = [];
+  refs = [];
+  uploads = [];
+  parts = [];
+  locks = [];
+  retains = [];
+}
 
 -- the rows as they are stored
 pub record Raw : Type 0 where
@@ -47,7 +66,20 @@ pub record Raw : Type 0 where
   pub retains : List Row
 
 abbrev pub raw : Trees → Raw
-raw db = record { host = db 0; tenants = db 1; keys = db 3; buckets = db 5; versions = db 7; blocks = db 10; refs = db 12; uploads = db 16; parts = db 18; uses = db 23; locks = db 26; retains = db 28 }
+raw db = record {
+  host = db 0;
+  tenants = db 1;
+  keys = db 3;
+  buckets = db 5;
+  versions = db 7;
+  blocks = db 10;
+  refs = db 12;
+  uploads = db 16;
+  parts = db 18;
+  uses = db 23;
+  locks = db 26;
+  retains = db 28;
+}
 
 -- under the first schema, which has no table of locks and none of dates
 abbrev pub first_raw : Trees → Raw
@@ -110,10 +142,12 @@ use_among refs b = record { digest = b.digest; ord = b.ord; uses = pos (length (
 
 -- the bytes that a tenant's versions and parts have, and those that an upload's parts have
 abbrev pub bytes_used : List VersionRow → List PartRow → Octets → ℕ
-bytes_used versions parts tenant = sum_by (λ (v : VersionRow). v.size) (filter (λ v. bytes_eq v.tenant tenant) versions) + sum_by (λ (p : PartRow). p.size) (filter (λ p. bytes_eq p.tenant tenant) parts)
+bytes_used versions parts tenant = sum_by (λ (v : VersionRow). v.size) (filter (λ v. bytes_eq v.tenant tenant) versions)
+    + sum_by (λ (p : PartRow). p.size) (filter (λ p. bytes_eq p.tenant tenant) parts)
 
 abbrev pub bytes_kept : List PartRow → Octets → ℕ → ℕ
-bytes_kept parts tenant upload = sum_by (λ (p : PartRow). p.size) (filter (λ p. bytes_eq p.tenant tenant && int_eq (pos p.upload) (pos upload)) parts)
+bytes_kept parts tenant upload =
+    sum_by (λ (p : PartRow). p.size) (filter (λ p. bytes_eq p.tenant tenant && int_eq (pos p.upload) (pos upload)) parts)
 
 -- what is to be kept of rows
 abbrev pub totals_of : Tables → Totals
@@ -145,10 +179,12 @@ lowered_by (r ∷ rs) uses = lowered_by rs (lowered (ref_name r) uses)
 
 -- so many bytes more and so many fewer are kept of a tenant, and of an upload
 abbrev pub used_changed : Octets → ℕ → ℕ → Totals → Totals
-used_changed tenant more less sums = record sums { used = λ t. if bytes_eq t tenant then sums.used t +ℤ pos more -ℤ pos less else sums.used t }
+used_changed tenant more less sums =
+    record sums { used = λ t. if bytes_eq t tenant then sums.used t +ℤ pos more -ℤ pos less else sums.used t }
 
 abbrev pub kept_changed : Name → ℕ → ℕ → Totals → Totals
-kept_changed upload more less sums = record sums { kept = λ q. if same_name q upload then sums.kept q +ℤ pos more -ℤ pos less else sums.kept q }
+kept_changed upload more less sums =
+    record sums { kept = λ q. if same_name q upload then sums.kept q +ℤ pos more -ℤ pos less else sums.kept q }
 
 -- the database is a host's, but for what is kept of other rows, which is this: it has the schema, and rows that are typed rows
 pub record IsHostBy (sums : Totals) (db : Database) : Type 0 where

@@ -42,7 +42,8 @@ part_after p tables = record tables { parts = tables.parts ++ resolved_part tabl
 module _ (digest : Octets → Octets) (size : ℕ) where
   -- a delete marker has no body
   abbrev pub with_version : VersionRow → Tables → Tables
-  with_version v tables = if same_number v.marker 0 then version_after v (body_stored digest (version_name v) 0 (pieces size v.bytes) tables) else version_after v tables
+  with_version v tables = if same_number v.marker 0 then version_after v
+      (body_stored digest (version_name v) 0 (pieces size v.bytes) tables) else version_after v tables
 
   abbrev pub with_versions : List VersionRow → Tables → Tables
   with_versions [] tables = tables
@@ -58,7 +59,8 @@ module _ (digest : Octets → Octets) (size : ℕ) where
   -- ---- what its buckets hold
 
   abbrev pub with_contents : TenantRows → Tables → Tables
-  with_contents rows tables = with_retains rows.retains (with_parts rows.parts (with_uploads rows.uploads (with_versions rows.versions tables)))
+  with_contents rows tables =
+      with_retains rows.retains (with_parts rows.parts (with_uploads rows.uploads (with_versions rows.versions tables)))
 
 -- its own row, its keys, and its buckets
 abbrev pub with_names : List TenantRow → TenantRows → Tables → Tables
@@ -86,4 +88,5 @@ pub record IsBrought (digest : Octets → Octets) (t : Octets) (from old new : T
 
 -- so it is where both were sound
 abbrev pub IsMoved : (Octets → Octets) → Octets → Tables → Tables → Tables → Type 0
-IsMoved digest t from old new = (other : Octets → Octets) → IsSoundHost other from → IsSoundHost digest old → IsBrought digest t from old new
+IsMoved digest t from old new =
+    (other : Octets → Octets) → IsSoundHost other from → IsSoundHost digest old → IsBrought digest t from old new

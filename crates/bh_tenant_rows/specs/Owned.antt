@@ -26,7 +26,8 @@ shown_in owned.Retains rows = map shown_retain rows.retains
 
 -- a text that shows a tenant's rows of the table in this tree
 abbrev pub Selects : {T : Type 0} → Form T → ℕ → (T → Octets) → (T → Row) → List ℕ → Type 0
-Selects form tree owner view sql = (tenant : Octets) → SelectText form host_schema tree sql (Text tenant ∷ []) (λ x. bytes_eq (owner x) tenant) view no_limit
+Selects form tree owner view sql =
+    (tenant : Octets) → SelectText form host_schema tree sql (Text tenant ∷ []) (λ x. bytes_eq (owner x) tenant) view no_limit
 
 abbrev pub IsTextOf : Owned → List ℕ → Type 0
 IsTextOf owned.Keys = Selects key_form 3 (λ k. k.tenant) shown_key

@@ -18,7 +18,8 @@ abbrev pub shown_lock : LockRow → Row
 shown_lock l = Text l.bucket ∷ []
 
 abbrev pub shown_version : VersionRow → Row
-shown_version v = number v.seq ∷ Text v.bucket ∷ Blob v.okey ∷ number v.id ∷ number v.marker ∷ number v.stamp ∷ number v.size ∷ Text v.checksum ∷ []
+shown_version v = number v.seq ∷ Text v.bucket ∷ Blob v.okey ∷ number v.id ∷ number v.marker ∷ number v.stamp ∷ number v.size
+    ∷ Text v.checksum ∷ []
 
 abbrev pub shown_upload : UploadRow → Row
 shown_upload u = number u.upload ∷ Text u.bucket ∷ Blob u.okey ∷ number u.begun ∷ []

@@ -1,6 +1,7 @@
 -- The access key that an id names. The id is `tenant$name` (Ceph Object Gateway, "Multitenancy": a user in a tenant's namespace is written
 -- `tenant$user`).
-use Rattle.std.specs.Prelude.{ℕ, ◌+◌, Bool, ◌==◌, List, take, drop, position, if◌then◌else◌, Option, Some, None, option_map, option_and_then}
+use Rattle.std.specs.Prelude.{ℕ, ◌+◌, Bool, ◌==◌, List, take, drop, position, if◌then◌else◌, Option, Some, None, option_map}
+use Rattle.std.specs.Prelude.{option_and_then}
 use Rattle.bh_types.specs.Names.{is_tenant_name, is_key_name}
 use Rattle.bh_types.specs.declared.access_key.AccessKeyId.{AccessKeyId}
 

@@ -1,5 +1,6 @@
 -- Moments on the calendar of ISO 8601, and as texts.
-use Rattle.std.specs.Prelude.{ℕ, zero, suc, ◌+◌, ◌*◌, ◌/◌, ◌%◌, ◌==◌, ◌&&◌, ◌||◌, not, Bool, List, [], ◌∷◌, ◌++◌, nat_lt, nat_le, unsigned_abs, Option, Some, None, option_and_then, if◌then◌else◌}
+use Rattle.std.specs.Prelude.{ℕ, zero, suc, ◌+◌, ◌*◌, ◌/◌, ◌%◌, ◌==◌, ◌&&◌, ◌||◌, not, Bool, List, [], ◌∷◌, ◌++◌, nat_lt, nat_le}
+use Rattle.std.specs.Prelude.{unsigned_abs, Option, Some, None, option_and_then, if◌then◌else◌}
 use Rattle.std.specs.Result.{result_ok}
 use Rattle.std.specs.Str.{bytes_eq}
 use Rattle.jiff.specs.Words.{parse_timestamp}
@@ -55,7 +56,8 @@ moment_text m = day_text (day_at (m / 86400)) ++ (84 ∷ (time_text (m % 86400) 
 
 -- the moment, in this many nanoseconds since 1970, whose text this is, if it is one's
 abbrev pub if_text_of : List ℕ → ℕ → Option ℕ
-if_text_of text n = if bytes_eq (moment_text (n / 1_000_000_000)) text && nat_le n 251_000_000_000_000_000_000 then Some (n / 1_000_000_000) else None
+if_text_of text n = if bytes_eq (moment_text (n / 1_000_000_000)) text
+    && nat_le n 251_000_000_000_000_000_000 then Some (n / 1_000_000_000) else None
 
 -- the moment that a text is
 abbrev pub moment_of : List ℕ → Option ℕ

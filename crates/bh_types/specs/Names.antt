@@ -1,5 +1,6 @@
 -- Which texts are names, as tests that compute.
-use Rattle.std.specs.Prelude.{ℕ, ◌+◌, ◌-◌, Bool, ◌&&◌, ◌||◌, not, nat_le, ◌==◌, List, length, take, drop, if◌then◌else◌, false, Option, Some, None, position, unwrap_or, option_map, option_and_then, slice_index}
+use Rattle.std.specs.Prelude.{ℕ, ◌+◌, ◌-◌, Bool, ◌&&◌, ◌||◌, not, nat_le, ◌==◌, List, length, take, drop, if◌then◌else◌, false, Option}
+use Rattle.std.specs.Prelude.{Some, None, position, unwrap_or, option_map, option_and_then, slice_index}
 use Rattle.std.specs.List.{list_all, list_any, zip}
 use Rattle.std.specs.Char.{is_ascii_lowercase, is_ascii_digit}
 

@@ -1,52 +1,32 @@
-ghost use Rattle.std.specs.Prelude.{◌≡◌, ℕ, ◌-◌, ◌≤◌, ◌↔◌, ◌&&◌, List, length, position, slice_index, IsTrue, IsSome, IfSome};
+ghost use Rattle.std.specs.Prelude.{◌≡◌, ◌-◌, ◌≤◌, ◌&&◌, length, position, slice_index};
 ghost use Rattle.std.specs.Char.{is_ascii_digit};
 ghost use Rattle.std.specs.List.{list_all};
 ghost use Rattle.std.specs.Option.{option_copied};
-ghost use Rattle.std.specs.String.{string_bytes};
 ghost use Rattle.bh_types.specs.Names as spec;
 
 use crate::bytes::{has_length, is_name_byte};
-use std::marker::Model;
+use crate::text::{Text, TextRule};
 
 /// A bucket's name: 3 to 63 of a to z, 0 to 9, dot and hyphen, the first and the last a letter or
 /// digit, no two dots together, and no four groups of 1 to 3 digits joined by dots. These are the
 /// rules of the Amazon S3 User Guide, "General purpose bucket naming rules", without its forbidden beginnings and ends.
-#[derive(Clone, Drop)]
-pub struct BucketName {
-    name: String,
-}
+pub type BucketName = Text<BucketRule>;
 
-impl Model for BucketName {
-    ghost use Rattle.std.specs.Prelude.{ℕ, List, IsTrue};
-    ghost use Rattle.std.specs.String.{string_bytes};
+/// Which texts are buckets' names.
+#[derive(Clone, Drop)]
+pub struct BucketRule;
+
+impl TextRule for BucketRule {
     ghost use Rattle.bh_types.specs.Names.{is_bucket_name};
 
-    ghost Value = { List ℕ };
+    ghost takes = { is_bucket_name };
 
-    ghost view = { λ a. string_bytes a.name };
-
-    ghost invariant = { λ a. IsTrue (is_bucket_name (string_bytes a.name)) };
-}
-
-impl BucketName {
-    /// The name that a `String` is, which it takes over, or `None` where it is none.
-    pub fn from_string(text: String) -> Option<BucketName>
-        ensures value { IfSome result (λ name. name ≡ string_bytes text) }
-        ensures found { IsSome result ↔ IsTrue (spec.is_bucket_name (string_bytes text)) }
-    {
-        if is_bucket_name(text.as_bytes()) {
-            Some(BucketName { name: text })
-        } else {
-            None
-        }
-    }
-
-    /// The text of the name.
-    pub fn as_str(&self) -> &str
-        ensures value { result.now ≡ self.now }
-        ensures valid { IsTrue (spec.is_bucket_name self.now) }
-    {
-        self.name.as_str()
+    fn takes(text: &[u8]) -> bool {
+        has_length(3, 63, text)
+            && are_bucket_bytes(text)
+            && has_plain_ends(text)
+            && !has_dots_together(text)
+            && !is_four_groups(text)
     }
 }
 
@@ -115,14 +95,4 @@ fn has_plain_ends(text: &[u8]) -> bool
         && spec.is_name_byte (slice_index text.now (length text.now - 1))) }
 {
     is_name_byte(text[0]) && is_name_byte(text[text.len() - 1])
-}
-
-fn is_bucket_name(text: &[u8]) -> bool
-    ensures { result ≡ spec.is_bucket_name text.now }
-{
-    has_length(3, 63, text)
-        && are_bucket_bytes(text)
-        && has_plain_ends(text)
-        && !has_dots_together(text)
-        && !is_four_groups(text)
 }

@@ -18,5 +18,6 @@ pub mod names;
 pub mod range;
 pub mod refusal;
 pub mod rejection;
+pub mod text;
 pub mod token;
 pub mod wanted;

@@ -1,6 +1,6 @@
-ghost use Rattle.std.specs.Prelude.{◌↔◌, IsTrue};
+ghost use Rattle.std.specs.Prelude.{◌≡◌, ◌↔◌, IsTrue};
 ghost use Rattle.std.specs.Option.{SomeIff};
-ghost use Rattle.bh_types.specs.Limits as spec;
+ghost use Rattle.bh_types.specs.Limits.{HostLimits, AreLimits, default_limits, HostTuning, IsTuning, default_tuning, IsQuota};
 
 use std::marker::Model;
 
@@ -33,8 +33,6 @@ pub struct Limits {
 }
 
 impl Model for Limits {
-    ghost use Rattle.bh_types.specs.Limits.{HostLimits, AreLimits};
-
     ghost Value = { HostLimits };
 
     ghost view = { λ l. record { min_part = l.min_part; max_body = l.max_body } };
@@ -48,8 +46,7 @@ impl Limits {
     /// The limits, or `None` where `min_part` is above [`GREATEST_MIN_PART`], or `max_body` is 0 or
     /// above [`GREATEST_MAX_BODY`].
     pub fn new(min_part: u64, max_body: u64) -> Option<Limits>
-        ensures { SomeIff result (spec.AreLimits min_part max_body)
-            (record { min_part = min_part; max_body = max_body }) }
+        ensures { SomeIff result (AreLimits min_part max_body) (record { min_part = min_part; max_body = max_body }) }
     {
         if min_part <= GREATEST_MIN_PART && 1 <= max_body && max_body <= GREATEST_MAX_BODY {
             Some(Limits { min_part, max_body })
@@ -60,9 +57,6 @@ impl Limits {
 }
 
 impl Default for Limits {
-    ghost use Rattle.std.specs.Prelude.{◌≡◌};
-    ghost use Rattle.bh_types.specs.Limits.{default_limits};
-
     ghost is_default = { λ l. l ≡ default_limits };
 
     fn default() -> Limits {
@@ -83,8 +77,6 @@ pub struct Tuning {
 }
 
 impl Model for Tuning {
-    ghost use Rattle.bh_types.specs.Limits.{HostTuning, IsTuning};
-
     ghost Value = { HostTuning };
 
     ghost view = { λ t. record { block_size = t.block_size; cache_blocks = t.cache_blocks } };
@@ -98,8 +90,7 @@ impl Tuning {
     /// The tuning, or `None` where `block_size` is 0 or above [`GREATEST_BLOCK_SIZE`], or
     /// `cache_blocks` is above [`GREATEST_CACHE_BLOCKS`].
     pub fn new(block_size: u64, cache_blocks: u64) -> Option<Tuning>
-        ensures { SomeIff result (spec.IsTuning block_size cache_blocks)
-            (record { block_size = block_size; cache_blocks = cache_blocks }) }
+        ensures { SomeIff result (IsTuning block_size cache_blocks) (record { block_size = block_size; cache_blocks = cache_blocks }) }
     {
         if 1 <= block_size
             && block_size <= GREATEST_BLOCK_SIZE
@@ -116,9 +107,6 @@ impl Tuning {
 }
 
 impl Default for Tuning {
-    ghost use Rattle.std.specs.Prelude.{◌≡◌};
-    ghost use Rattle.bh_types.specs.Limits.{default_tuning};
-
     ghost is_default = { λ t. t ≡ default_tuning };
 
     fn default() -> Tuning {
@@ -131,7 +119,7 @@ impl Default for Tuning {
 
 /// Whether a number of bytes may be a tenant's quota: at most [`MAX_QUOTA`].
 pub fn is_quota(bytes: u64) -> bool
-    ensures { IsTrue result ↔ spec.IsQuota bytes }
+    ensures { IsTrue result ↔ IsQuota bytes }
 {
     bytes <= MAX_QUOTA
 }

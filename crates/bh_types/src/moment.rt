@@ -116,7 +116,8 @@ fn moment_at(timestamp: Timestamp) -> Option<Moment>
 
 /// Whether a text is the print of an instant that is a moment.
 fn is_print(timestamp: Timestamp, text: &str) -> bool
-    ensures { (m : ℕ) → m ≤ 251_000_000_000 → timestamp.nanosecond ≡ pos (m * 1_000_000_000) → IsTrue result ↔ (spec.moment_text m ≡ text.now) }
+    ensures { (m : ℕ) → m ≤ 251_000_000_000 → timestamp.nanosecond ≡ pos (m * 1_000_000_000)
+        → IsTrue result ↔ (spec.moment_text m ≡ text.now) }
 {
     let printed = DateTimePrinter::new().timestamp_text(timestamp.to_plain());
     printed.as_str() == text

@@ -26,7 +26,7 @@ use Rattle.bh_pages.specs.Places.{Place}
 use Rattle.bh_listing.specs.Told.{asked_view}
 use Rattle.bh_listing.proofs.Answering.{paged_taken}
 use Rattle.bh_upload_listing.specs.Places.{place_view, uploads_of_items, listed_from}
-use Rattle.bh_upload_listing.specs.Rows.{own_items}
+use Rattle.bh_listing.specs.Uploads.{own_items}
 use Rattle.bh_upload_listing.proofs.Viewed.{own_is, one_number, uploads_are}
 
 told_in : (b : Octets) (asked : model.PageAsked) (marker : Option UploadPlace) (v : Option State) (s : State) (B : Bucket) → v ≡ Some s → get s.buckets b ≡ Some B

@@ -9,7 +9,8 @@ use Rattle.bh_model.specs.State.{Octets, octets_cmp}
 use Rattle.bh_model.specs.Pages.{Listed, Listed.Single, Listed.Common, UploadItem, UploadPlace, begins, is_upto, is_before, same, rolled, as_listed, merged, entry_of, is_later, passes_upload, entries_after}
 use Rattle.bh_pages.specs.Gathered.{past_key, start_of}
 use Rattle.bh_pages.specs.Seen.{token_of}
-use Rattle.bh_pages.specs.Uploads.{is_from, passes_name}
+use Rattle.bh_pages.specs.Uploads.{is_from}
+use Rattle.bh_pages.specs.Taken.{passes_name}
 use Rattle.bh_pages.specs.Places.{Place, at_key, after_entry}
 use Rattle.bh_pages.specs.declared.gathering.PageAsked.{PageAsked}
 use Rattle.bh_pages.proofs.Bytes.{upto_begun, rolled_begins, same_is, some_same, none_some}
@@ -60,7 +61,7 @@ module _ (prefix delimiter : Octets) where
   name_kept k p u begun is h = before_upto k p u.key h (upto_begun p u.key (rolled_begins prefix delimiter u.key p begun is))
 
   common_agrees : (marker : UploadPlace) (k : Octets) (from : Bool) (u : UploadItem) (p : Octets) → marker.key ≡ k → begins prefix u.key ≡ true → rolled prefix delimiter u.key ≡ Some p → (is_before k u.key ≡ true → from ≡ true)
-      → passes_upload (Some marker) (Common p) ≡ (from && passes_name (Some k) (Common p))
+      → passes_upload (Some marker) (Common p) ≡ (from && passes_name {T = UploadItem} (Some k) (Common p))
   common_agrees marker k from u p at begun is later = go (is_before k p) refl
     where
       go : (t : Bool) → is_before k p ≡ t → is_before marker.key p ≡ (from && is_before k p)

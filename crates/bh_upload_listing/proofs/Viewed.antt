@@ -35,7 +35,7 @@ use Rattle.bh_pages.proofs.Filters.{all_map, filter_same, filter_swap, filter_tw
 use Rattle.bh_listing.proofs.RowLemmas.{take_map}
 use Rattle.bh_listing.proofs.Small.{small_utf8}
 use Rattle.bh_listing.proofs.Viewed.{range_is}
-use Rattle.bh_upload_listing.specs.Rows.{is_listed, is_later_of, listed_rows, later_rows, row_item, own_items}
+use Rattle.bh_listing.specs.Uploads.{is_listed, is_later_of, listed_rows, later_rows, row_item, own_items}
 use Rattle.bh_upload_listing.proofs.Sorting.{AreApart, sorted_twice, AreOnce, once}
 use Rattle.bh_upload_listing.proofs.Starting.{AreSmall}
 

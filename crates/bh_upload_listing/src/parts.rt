@@ -10,11 +10,13 @@ ghost use Rattle.bh_model.specs.Operations.{Parts};
 ghost use Rattle.bh_model.specs.Pages.{PartItem, paged, parts_told};
 ghost use Rattle.bh_storage.specs.Calls.{Unless, Carries};
 ghost use Rattle.bh_docs.specs.Pages.{part_view, parts_view};
-ghost use Rattle.bh_upload_listing.specs.Rows.{shown_part, part_item, parts_from};
+ghost use Rattle.bh_upload_listing.specs.Rows.{part_item, parts_from};
+ghost use Rattle.bh_upload_listing.specs.Parts as spec;
 ghost use Rattle.bh_upload_listing.specs.Parts.{seen_part};
 
 use crate::rows::part_rows;
-use bh_docs::{PartEntry, PartsPage};
+use bh_docs::{PartEntry, PartsPage, Stored};
+use bh_listing::from_row::{FromRow, read_rows};
 use bh_listing::tell::{last_shown, moment_of, shown_of};
 use bh_schema::trouble::or_trouble;
 use bh_storage::error::{StepError, Trouble};
@@ -44,26 +46,21 @@ pub struct PartLine {
     pub stamp: u64,
 }
 
-fn read_line(row: &Row) -> Result<PartLine, Error>
-    ensures { IfOk result (λ line. (p : PartRow) → row.now ≡ shown_part p → seen_part line ≡ part_item p) }
-{
-    Ok(PartLine {
-        number: row.get(0)?,
-        size: row.get(1)?,
-        checksum: row.get(2)?,
-        stamp: row.get(3)?,
-    })
-}
+impl FromRow for PartLine {
+    ghost Of = { PartRow };
 
-fn read_lines(alloc: Global, rows: &[Row]) -> Result<Vec<PartLine>, Error>
-    ensures { IfOk result (λ lines. (ps : _) → rows.now ≡ map shown_part ps → map seen_part lines.items ≡ map part_item ps) }
-{
-    let mut lines = Vec::with_capacity(alloc, rows.len())?;
-    for row in rows {
-        let line = read_line(row)?;
-        lines.push(line)?;
+    ghost Seen = { PartItem };
+
+    ghost columns = { spec.columns };
+
+    fn from_row(row: &Row) -> Result<PartLine, Error> {
+        Ok(PartLine {
+            number: row.get(0)?,
+            size: row.get(1)?,
+            checksum: row.get(2)?,
+            stamp: row.get(3)?,
+        })
     }
-    Ok(lines)
 }
 
 /// The first parts of an upload with a greater number than this, at most as many as that, by number.
@@ -84,7 +81,7 @@ fn part_lines<S: Alter>(
         → map seen_part lines.items ≡ map part_item (parts_from tenant.now upload after count (tables S.Store connection.old).parts)) }
 {
     let rows = or_trouble(part_rows(connection, tenant, upload, after, count))?;
-    or_trouble(read_lines(alloc, &rows))
+    or_trouble(read_rows(alloc, &rows))
 }
 
 /// A part, as it is told.
@@ -92,10 +89,12 @@ fn part_entry(alloc: Global, line: &PartLine) -> Result<PartEntry, Trouble>
     ensures { IfOk result (λ entry. part_view entry ≡ seen_part line.now) }
 {
     Ok(PartEntry {
-        checksum: String::from_str(alloc, line.checksum.as_str())?,
-        modified: moment_of(line.stamp)?,
         number: line.number,
-        size: line.size,
+        stored: Stored {
+            checksum: String::from_str(alloc, line.checksum.as_str())?,
+            modified: moment_of(line.stamp)?,
+            size: line.size,
+        },
     })
 }
 

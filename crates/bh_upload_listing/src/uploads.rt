@@ -14,17 +14,16 @@ ghost use Rattle.bh_pages.specs.Uploads.{seen_entry};
 ghost use Rattle.bh_pages.specs.Versions.{seen_place};
 ghost use Rattle.bh_docs.specs.Pages.{uploads_view};
 ghost use Rattle.bh_listing.specs.Told.{asked_view};
-ghost use Rattle.bh_upload_listing.specs.Rows.{own_items};
+ghost use Rattle.bh_listing.specs.Uploads.{own_items};
 ghost use Rattle.bh_upload_listing.specs.Places.{place_view, marked, place_by, listed_from};
 
-use crate::lines::lines_at;
 use bh_docs::UploadsPage;
+use bh_listing::rows::{Keys, lines_at};
 use bh_listing::tell::tell;
-use bh_listing::told_uploads::uploads_page;
 use bh_objects::reads::bucket_state;
 use bh_pages::gathering::{Listed, PageAsked, past};
+use bh_pages::places::Place;
 use bh_pages::uploads::{UploadLine, UploadReading};
-use bh_pages::versions::Place;
 use bh_storage::error::{StepError, Trouble};
 use bh_types::bucket::BucketName;
 use bh_types::counters::COUNTER_END;
@@ -101,9 +100,20 @@ fn gather_uploads<S: Alter>(
         (listed_from asked.now (seen_place place) (own_items tenant.now bucket.now (tables S.Store connection.old).uploads))) }
 {
     let upto = past(alloc, asked.prefix, 255)?;
-    let mut reading = UploadReading::begin(alloc, asked, place);
+    let keys = Keys {
+        tenant,
+        bucket,
+        upto: upto.as_slice(),
+    };
+    let mut reading = UploadReading::begin(alloc, asked, place, None);
     'reading: for _ in 0..u64::MAX {
-        let lines = lines_at(connection, alloc, tenant, bucket, &reading, upto.as_slice())?;
+        let lines: Vec<UploadLine> = lines_at(
+            connection,
+            alloc,
+            &keys,
+            &reading.place,
+            reading.count,
+        )?;
         if reading.take(alloc, asked, lines.as_slice())? {
             return Ok(reading.into_entries());
         }
@@ -140,6 +150,5 @@ pub fn list_uploads<S: Alter>(
         asked,
         place,
     )?;
-    let told = tell(alloc, bucket.as_str(), asked, &entries)?;
-    Ok(uploads_page(told, asked.max))
+    Ok(tell(alloc, bucket.as_str(), asked, &entries)?)
 }

@@ -1,25 +1,19 @@
 -- CreateMultipartUpload: what was read, and the rows that were written, are the machine's step.
-use Rattle.std.proofs.Common.{◌≡◌, ℕ, ◌≤◌, true, false, is_ok, true≢false, Option, Some, None, option_map, Result, Ok, Err, refl, sym, ap, ◌∙◌, subst}
-use Rattle.std.specs.FinMap.{get}
-use Rattle.std.specs.Result.{result_map_both}
+use Rattle.std.proofs.Common.{◌≡◌, ℕ, ◌≤◌, true, Option, option_map, Ok, Err, refl, sym, ap, ◌∙◌}
 use Rattle.bh_types.specs.Moments.{abort_moment}
 use Rattle.bh_types.specs.declared.refusal.Refusal.{Refusal}
 use Rattle.bh_types.specs.declared.refusal.Refusal.TheVariants.{CounterExhausted}
 use Rattle.bh_model.specs.Counting.{can_give}
-use Rattle.bh_model.specs.State.{Octets, State, Bucket}
-use Rattle.bh_model.specs.Operations.{Answer, Begun, tenant_bucket}
+use Rattle.bh_model.specs.State.{Octets}
+use Rattle.bh_model.specs.Operations.{Answer, Begun}
 use Rattle.bh_model.specs.Uploads.{create_upload}
-use Rattle.bh_tables.specs.Typed.{BucketRow, Tables}
+use Rattle.bh_tables.specs.Typed.{Tables}
 use Rattle.bh_view.specs.Bodies.{HasBodies}
 use Rattle.bh_view.specs.Sound.{IsSound}
-use Rattle.bh_view.specs.View.{rows_of, view, latest_of, limits_in}
-use Rattle.bh_view.proofs.BucketLemmas.{bucket_row}
-use Rattle.bh_view.proofs.FactLemmas.{all_first}
-use Rattle.bh_view.proofs.FilterLemmas.{none_some}
+use Rattle.bh_view.specs.View.{view, latest_of, limits_in}
 use Rattle.bh_view.proofs.SharedLemmas.{shared_same}
-use Rattle.bh_view.proofs.UploadChanges.{there_before, upload_begun}
+use Rattle.bh_view.proofs.UploadChanges.{upload_begun}
 use Rattle.bh_view.proofs.WriteLemmas.{same_bodies}
-use Rattle.sqlite_keyed.proofs.ListLemmas.{all-filter}
 use Rattle.bh_storage.specs.Calls.{GivesStep, Carries, Decides}
 use Rattle.bh_storage.specs.declared.error.StepError.{StepError}
 use Rattle.bh_storage.specs.declared.error.StepError.TheVariants.{Refused, Failed}

@@ -1,21 +1,21 @@
 -- The rows of an upload's parts tell the parts of the state, and what chosen rows make is what the machine joins.
-use Rattle.std.proofs.Common.{◌≡◌, ℕ, ◌+◌, ◌<◌, Bool, true, false, cond, ◌||◌, List, [], ◌∷◌, ◌++◌, map, filter, flat_map, length, slice_get, Option, Some, None, option_map, Result, Ok, Err, refl, sym, ap, ap₂, ◌∙◌, subst, arith, nat_cmp, zero, suc, sum_by}
+use Rattle.std.proofs.Common.{◌≡◌, ℕ, ◌+◌, false, ◌||◌, List, [], ◌∷◌, ◌++◌, map, filter, flat_map, length, slice_get, Option, Some, None, option_map, refl, sym, ap, ap₂, ◌∙◌, subst, nat_cmp, zero, suc, sum_by}
 use Rattle.std.specs.Prelude.{option_and_then}
 use Rattle.std.specs.Bool.{one_answer}
 use Rattle.std.specs.Cmp.{unsigned_Decides}
-use Rattle.std.specs.List.{All, AllByRecursion, list_any, filter_map, cons_option}
+use Rattle.std.specs.List.{AllByRecursion, list_any, filter_map, cons_option}
 use Rattle.std.specs.String.{string_bytes}
 use Rattle.std.specs.FinMap.{FinMap, get}
 use Rattle.std.proofs.lemmas.List.Elements.{All-from_recursion}
 use Rattle.std.proofs.lemmas.List.Sums.{sum_by-cons}
 use Rattle.std.proofs.lemmas.List.Concat.{length-flat_map}
 use Rattle.sha2.specs.Sha256.{sha256}
-use Rattle.sqlite_keyed.proofs.ListLemmas.{all_weaker, all_both, all-filter, filter_none, none_from_any, any_from_none, all-slice_get, map-map}
+use Rattle.sqlite_keyed.proofs.ListLemmas.{all_weaker, all_both, all-filter, filter_none, none_from_any, all-slice_get, map-map}
 use Rattle.sqlite_typed.specs.Tests.{bytes_eq}
 use Rattle.bh_types.specs.Checksums.{checksum_text, joined_text}
 use Rattle.bh_core.specs.declared.parts.PartRow as core
 use Rattle.bh_core.specs.Completions.{is_numbered, TellParts, IsRowOf, part_at, joined_at}
-use Rattle.bh_model.specs.State.{Octets, Content, Content.Body, Part}
+use Rattle.bh_model.specs.State.{Octets, Content.Body, Part}
 use Rattle.bh_model.specs.Parts.{joined}
 use Rattle.bh_tables.specs.Bodies.{whole, part_name}
 use Rattle.bh_tables.specs.Typed.{PartRow, Tables}

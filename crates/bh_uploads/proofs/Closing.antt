@@ -3,7 +3,7 @@ use Rattle.std.proofs.Common.{◌≡◌, ℕ, Bool, true, false, cond, List, [],
 use Rattle.std.specs.List.{AllByRecursion, list_any}
 use Rattle.std.specs.FinMap.{get}
 use Rattle.std.proofs.lemmas.Bool.{and_parts}
-use Rattle.sqlite_keyed.specs.Lists.{sort_by, delete_where}
+use Rattle.sqlite_keyed.specs.Lists.{delete_where}
 use Rattle.sqlite_keyed.proofs.ListLemmas.{all_weaker, all_both, all_map, all_unmap, all-filter}
 use Rattle.sqlite_typed.specs.Tests.{bytes_eq}
 use Rattle.bh_model.specs.State.{Octets, State, Bucket, Upload}
@@ -25,7 +25,7 @@ use Rattle.bh_view.proofs.OwnLemmas.{within_own}
 use Rattle.bh_view.proofs.SortLemmas.{all-sort_by}
 use Rattle.bh_view.proofs.UploadChanges.{upload_closed as closed}
 use Rattle.bh_view.proofs.WriteLemmas.{parts_taken, body_goes, gone_whole, whole_of}
-use Rattle.bh_objects.proofs.Written.{HasRowsOf, becomes_so, IsHostOf}
+use Rattle.bh_objects.proofs.Written.{becomes_so, IsHostOf}
 use Rattle.bh_uploads.specs.Rows.{listed_parts}
 use Rattle.bh_uploads.specs.Writes.{without_bodies, without_parts, without_row, upload_closed}
 

@@ -1,6 +1,5 @@
 -- CompleteMultipartUpload and AbortMultipartUpload: what was read, and the rows that were written, are the machine's step.
-use Rattle.std.proofs.Common.{◌≡◌, ℕ, ◌≤◌, false, is_ok, true≢false, List, map, filter, find, flat_map, length, Option, Some, None, Result, Ok, Err, refl, sym, ap, ◌∙◌, subst}
-use Rattle.std.specs.FinMap.{get}
+use Rattle.std.proofs.Common.{◌≡◌, ℕ, ◌≤◌, false, is_ok, true≢false, List, map, filter, find, length, Option, Some, None, Result, Ok, Err, refl, sym, ap, ◌∙◌, subst}
 use Rattle.std.specs.Option.{option_map_or}
 use Rattle.std.specs.Result.{result_map_both}
 use Rattle.sqlite_keyed.specs.Lists.{sort_by}
@@ -15,7 +14,7 @@ use Rattle.bh_model.specs.Counting.{counts, with_counts, after_entry}
 use Rattle.bh_model.specs.Entries.{Version, new_id}
 use Rattle.bh_model.specs.Operations.{Answer, Outcome, Completed, Removed, id_told, with_bucket, with_copy}
 use Rattle.bh_model.specs.Parts.{Naming, completed}
-use Rattle.bh_model.specs.State.{Octets, Content, Content.Body, State, Bucket}
+use Rattle.bh_model.specs.State.{Octets, Content, Content.Body, State}
 use Rattle.bh_model.specs.Uploads.{FoundUpload, find_upload, without_upload, completion, with_completed, complete_upload, abort_upload}
 use Rattle.bh_tables.specs.Bodies.{Name, whole}
 use Rattle.bh_tables.specs.Typed.{VersionRow, PartRow, Tables}

@@ -1,11 +1,11 @@
 -- An upload that is closed is gone from the tables with its parts and their references; and so are several, one after another.
-use Rattle.std.proofs.Common.{◌≡◌, ℕ, Bool, true, false, not, ◌&&◌, ◌||◌, cond, List, [], ◌∷◌, ◌++◌, map, filter, Ordering, refl, sym, ap, ◌∙◌, subst}
+use Rattle.std.proofs.Common.{◌≡◌, ℕ, Bool, true, false, not, ◌&&◌, ◌||◌, cond, List, [], ◌∷◌, map, filter, Ordering, refl, sym, ap, ◌∙◌, subst}
 use Rattle.std.specs.List.{AllByRecursion, list_any}
 use Rattle.std.specs.Ordering.{is_gt}
 use Rattle.sqlite_keyed.specs.Lists.{sort_by, insert_sorted, delete_where}
 use Rattle.sqlite_typed.specs.Tests.{bytes_eq}
 use Rattle.bh_model.specs.State.{Octets}
-use Rattle.bh_tables.specs.Typed.{PartRow, RefRow, UploadRow, Tables}
+use Rattle.bh_tables.specs.Typed.{PartRow, RefRow, Tables}
 use Rattle.bh_tables.specs.Shown.{part_name, is_part_of, is_of_body, by_part}
 use Rattle.bh_view.specs.Bodies.{HasBodies, body_dropped}
 use Rattle.bh_view.specs.Grouped.{same_number}

@@ -1,5 +1,5 @@
 -- What an upload is completed with, as its rows were read, is the machine's.
-use Rattle.std.proofs.Common.{◌≡◌, ℕ, length, List, map, Option, Ok, Err, Result, refl, sym, ap, ◌∙◌, subst}
+use Rattle.std.proofs.Common.{◌≡◌, ℕ, length, List, map, Option, Ok, Err, Result, ap, ◌∙◌}
 use Rattle.bh_types.specs.Outcomes.{◌>>=◌}
 use Rattle.bh_types.specs.declared.bucket_state.BucketState.{BucketState}
 use Rattle.bh_types.specs.declared.id.UploadId.{UploadId}
@@ -8,7 +8,7 @@ use Rattle.bh_core.specs.declared.parts.PartRow as core
 use Rattle.bh_core.specs.Completions.{complete_plan, joined_at}
 use Rattle.bh_core.proofs.Completing.{complete_is_joined}
 use Rattle.bh_model.specs.Parts.{Naming, completed}
-use Rattle.bh_model.specs.State.{Octets, Content, State}
+use Rattle.bh_model.specs.State.{Octets, Content}
 use Rattle.bh_model.specs.Uploads.{FoundUpload}
 use Rattle.bh_tables.specs.Typed.{PartRow, Tables}
 use Rattle.bh_view.specs.View.{rows_of, of_upload, parts_of, view}
@@ -18,10 +18,10 @@ use Rattle.bh_storage.specs.declared.error.StepError.TheVariants.{Refused, Faile
 use Rattle.bh_objects.proofs.Written.{IsHostOf}
 use Rattle.bh_uploads.specs.declared.joining.Joined.{Joined}
 use Rattle.bh_uploads.specs.Found.{upload_in, completion_in, joined_bytes, joined_content}
-use Rattle.bh_uploads.specs.Joining.{IsJoined, Joins}
+use Rattle.bh_uploads.specs.Joining.{Joins}
 use Rattle.bh_uploads.specs.Rows.{seen_row, row_seen, listed_parts}
 use Rattle.bh_uploads.proofs.Chosen.{tells_parts, content_is, size_is}
-use Rattle.bh_uploads.proofs.Uploads.{HasUpload, has_upload, upload_parts}
+use Rattle.bh_uploads.proofs.Uploads.{has_upload, upload_parts}
 
 module _ (old : Tables) (host : IsHostOf old) (t name key : Octets) (id : Option UploadId) (mode : BucketState) (n : ℕ) (found : upload_in name key id (view old t) ≡ Ok (mode, n)) (least : ℕ) (names : List Naming)
     (rows : List core.PartRow) (read : map row_seen rows ≡ map seen_row (listed_parts t n old)) (bodies : List ℕ) (are : bodies ≡ map (λ (p : PartRow). p.body) (listed_parts t n old)) where

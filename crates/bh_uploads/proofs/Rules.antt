@@ -8,7 +8,7 @@ use Rattle.bh_types.specs.declared.bucket_state.BucketState.{BucketState}
 use Rattle.bh_types.specs.declared.refusal.Refusal.{Refusal}
 use Rattle.bh_types.specs.declared.refusal.Refusal.TheVariants.{NoSuchBucket, NoSuchLifecycleConfiguration}
 use Rattle.bh_model.specs.State.{Octets, State, Bucket}
-use Rattle.bh_model.specs.Operations.{Answer, Outcome, Done, Removed, Lifecycle, tenant_bucket, get_lifecycle, put_lifecycle, delete_lifecycle}
+use Rattle.bh_model.specs.Operations.{Answer, Done, Removed, Lifecycle, tenant_bucket, get_lifecycle, put_lifecycle, delete_lifecycle}
 use Rattle.bh_tables.specs.Typed.{BucketRow, Tables}
 use Rattle.bh_tables.specs.Shown.{is_bucket}
 use Rattle.bh_view.specs.Sound.{IsSound}
@@ -22,7 +22,7 @@ use Rattle.bh_storage.specs.declared.error.StepError.TheVariants.{Refused, Faile
 use Rattle.bh_schema.specs.Rows.{bucket_numbers}
 use Rattle.bh_schema.specs.declared.rows.buckets.BucketNumbers.{BucketNumbers}
 use Rattle.bh_objects.specs.Found.{mode_in}
-use Rattle.bh_objects.proofs.Putting.{HasBucket, has_bucket}
+use Rattle.bh_objects.proofs.Putting.{has_bucket}
 use Rattle.bh_uploads.specs.Found.{rule_in}
 
 -- ---- what is read

@@ -1,5 +1,5 @@
 -- The numbers that the rules of a tenant's buckets make stale are those of its stale uploads.
-use Rattle.std.proofs.Common.{◌≡◌, ℕ, ◌≤◌, Bool, true, false, ◌&&◌, ◌||◌, List, [], ◌∷◌, ◌++◌, map, flat_map, filter, find, length, Option, Some, None, option_and_then, is_some, pos, int_lt, refl, sym, ap, ◌∙◌, arith, subst}
+use Rattle.std.proofs.Common.{◌≡◌, ℕ, ◌≤◌, Bool, true, false, ◌&&◌, ◌||◌, List, [], ◌∷◌, ◌++◌, map, flat_map, filter, length, Option, Some, None, option_and_then, is_some, pos, int_lt, refl, sym, ap, ◌∙◌, arith, subst}
 use Rattle.std.specs.Bool.{one_answer}
 use Rattle.std.specs.List.{list_any}
 use Rattle.sqlite_typed.specs.Tests.{bytes_eq, bytes_cmp}
@@ -17,7 +17,7 @@ use Rattle.bh_view.proofs.Keys.{octets, numbers}
 use Rattle.bh_view.proofs.PurgeLemmas.{any_filtered}
 use Rattle.bh_schema.specs.Rows.{rule_in, listed_rules}
 use Rattle.bh_uploads.specs.Purging.{stale_by, is_among}
-use Rattle.bh_uploads.proofs.Gone.{any_agree, any_mapped, any_sorted}
+use Rattle.bh_uploads.proofs.Gone.{any_mapped, any_sorted}
 
 -- ---- lists
 

@@ -7,21 +7,20 @@ use Rattle.std.specs.Option.{option_map_or}
 use Rattle.std.specs.FinMap.{get}
 use Rattle.std.specs.Result.{result_map_both}
 use Rattle.sqlite_typed.specs.Tests as tests
-use Rattle.bh_types.specs.Counts.{Counts}
 use Rattle.bh_types.specs.Outcomes.{◌>>=◌, require}
 use Rattle.bh_types.specs.declared.bucket_state.BucketState.{BucketState}
 use Rattle.bh_types.specs.declared.id.UploadId.{UploadId}
 use Rattle.bh_types.specs.declared.refusal.Refusal.{Refusal}
 use Rattle.bh_types.specs.declared.refusal.Refusal.TheVariants.{NoSuchBucket, NoSuchUpload, CounterExhausted}
-use Rattle.bh_model.specs.Counting.{counts, can_give}
+use Rattle.bh_model.specs.Counting.{can_give}
 use Rattle.bh_model.specs.State.{Octets, State, Bucket, Upload}
 use Rattle.bh_model.specs.Uploads.{FoundUpload, of_key, found_upload, find_upload}
-use Rattle.bh_tables.specs.Typed.{UploadRow, PartRow, Tables}
+use Rattle.bh_tables.specs.Typed.{UploadRow, Tables}
 use Rattle.bh_tables.specs.Shown.{is_upload}
 use Rattle.bh_view.specs.Grouped.{first, same_number}
 use Rattle.bh_view.specs.View.{TenantRows, rows_of, uploads_in, of_upload, parts_of, upload_shown, buckets_of, view}
 use Rattle.bh_view.specs.Sound.{IsSound}
-use Rattle.bh_view.proofs.FilterLemmas.{none_some, filter_both, filter_swap, single}
+use Rattle.bh_view.proofs.FilterLemmas.{filter_both, filter_swap, single}
 use Rattle.bh_view.proofs.FactLemmas.{none_first}
 use Rattle.bh_view.proofs.GroupedLemmas.{is_other}
 use Rattle.bh_view.proofs.Keys.{octets, numbers}

@@ -11,14 +11,15 @@ use Rattle.bh_types.specs.declared.refusal.Refusal.TheVariants.{NoSuchUpload, Co
 use Rattle.bh_model.specs.Counting.{can_give}
 use Rattle.bh_model.specs.Parts.{Naming, completed}
 use Rattle.bh_model.specs.State.{Octets, Content, Content.Body, State}
-use Rattle.bh_model.specs.Operations.{tenant_bucket}
-use Rattle.bh_model.specs.Uploads.{find_upload}
+use Rattle.bh_model.specs.Operations.{Outcome, tenant_bucket}
+use Rattle.bh_model.specs.Uploads.{find_upload, upload_part}
 use Rattle.bh_tables.specs.Typed.{Tables}
 use Rattle.bh_tables.specs.Bodies.{whole}
 use Rattle.bh_tables.specs.Shown.{is_upload, is_part}
 use Rattle.bh_objects.specs.Found.{counts_in, room_in}
 use Rattle.bh_uploads.specs.Rows.{SeenUpload, seen_upload}
 use Rattle.bh_uploads.specs.declared.joining.Joined.{Joined}
+use Rattle.bh_uploads.specs.declared.parts.NewPart.{NewPart}
 
 -- the rule of a tenant's bucket, if it has one
 abbrev pub rule_in : Octets → Option State → Result (Option ℕ) Refusal
@@ -59,7 +60,9 @@ is_begun_for bucket key u = bytes_eq u.bucket bucket && bytes_eq u.key key
 
 -- whether the tenant's upload of a number is there, and was
 abbrev pub upload_there : Octets → Octets → Octets → ℕ → Tables → Result (Unit {0}) Refusal
-upload_there tenant bucket key number tables = require (option_map_or (λ u. is_begun_for bucket key (seen_upload u)) (find (is_upload tenant number) tables.uploads) false) NoSuchUpload
+upload_there tenant bucket key number tables =
+    require (option_map_or (λ u. is_begun_for bucket key (seen_upload u))
+    (find (is_upload tenant number) tables.uploads) false) NoSuchUpload
 
 -- the upload of a key of a bucket: the bucket's state, and the upload's number
 abbrev pub upload_in : Octets → Octets → Option UploadId → Option State → Result (BucketState × ℕ) Refusal
@@ -78,3 +81,7 @@ joined_bytes tenant tables bodies = flat_map (λ body. whole tables.refs tables.
 
 abbrev pub joined_content : Octets → Tables → Joined → Content
 joined_content tenant tables j = Body (joined_bytes tenant tables j.bodies.items) (string_bytes j.checksum)
+
+-- the machine's step of a part that is put, by the bytes that come and the checksum that may be given
+abbrev pub part_step : NewPart → Option Octets → Octets → Option State → Result Outcome Refusal
+part_step part given bytes = upload_part part.at part.upload.bucket.now part.upload.key.now part.upload.upload part.number bytes given

@@ -23,7 +23,8 @@ sums_at rows places = map (λ (row : PartRow). string_bytes row.sum) (taken rows
 pub record IsJoined (rows : List PartRow) (bodies : List ℕ) (places : List ℕ) (j : Joined) : Type 0 where
   pub bodies_are : j.bodies.items ≡ taken bodies places
   pub size_is : j.size ≡ sum_by (λ (row : PartRow). row.size) (taken rows places)
-  pub checksum_is : (parts : List Octets) → sums_at rows places ≡ map checksum_text parts → string_bytes j.checksum ≡ joined_text (map sha256 parts)
+  pub checksum_is : (parts : List Octets) → sums_at rows places ≡ map checksum_text parts → string_bytes j.checksum
+      ≡ joined_text (map sha256 parts)
 
 -- what was returned is that of the places, or their refusal, unless memory or the store was wanting
 abbrev pub Joins : List PartRow → List ℕ → Result (List ℕ) Refusal → Result Joined (StepError Refusal) → Type 0

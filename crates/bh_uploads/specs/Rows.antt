@@ -1,5 +1,5 @@
 -- What the columns of uploads and parts that are read stand for, and which new rows no key forbids.
-use Rattle.std.specs.Prelude.{◌≡◌, ℕ, true, false, List, filter}
+use Rattle.std.specs.Prelude.{◌≡◌, ℕ, true, false, List, map, filter}
 use Rattle.std.specs.List.{list_any}
 use Rattle.std.specs.String.{string_bytes}
 use Rattle.sqlite_keyed.specs.Lists.{sort_by}
@@ -10,6 +10,7 @@ use Rattle.bh_tables.specs.Shown.{is_bucket, is_upload, is_part, is_part_of, has
 use Rattle.bh_uploads.specs.declared.rows.uploads.UploadHead.{UploadHead}
 use Rattle.bh_uploads.specs.declared.rows.uploads.UploadRecord.{UploadRecord}
 use Rattle.bh_uploads.specs.declared.rows.parts.PartBody.{PartBody}
+use Rattle.bh_uploads.specs.declared.rows.parts.PartList.{PartList}
 use Rattle.bh_uploads.specs.declared.rows.parts.PartRecord.{PartRecord}
 
 -- ---- uploads
@@ -54,7 +55,20 @@ abbrev pub part_body : PartRow → PartBody
 part_body p = record { body = p.body; size = p.size }
 
 abbrev pub stored_part : PartRecord → PartColumns
-stored_part p = record { tenant = p.tenant.now; upload = p.upload; part = p.number; size = p.size; checksum = p.checksum.now; stamp = p.stamp; body = p.body }
+stored_part p = record {
+  tenant = p.tenant.now;
+  upload = p.upload;
+  part = p.number;
+  size = p.size;
+  checksum = p.checksum.now;
+  stamp = p.stamp;
+  body = p.body;
+}
+
+-- what is read of these parts
+pub record AreListed (list : PartList) (parts : List PartRow) : Type 0 where
+  pub rows : map row_seen list.rows.items ≡ map seen_row parts
+  pub bodies : list.bodies.items ≡ map (λ p. p.body) parts
 
 -- the parts of an upload, in the order of their numbers
 abbrev pub listed_parts : Octets → ℕ → Tables → List PartRow

@@ -15,7 +15,8 @@ use Rattle.bh_objects.specs.Writes.{with_counters, with_room, with_version}
 -- ---- an upload is begun
 
 abbrev pub with_next_upload : Octets → ℕ → Tables → Tables
-with_next_upload tenant n tables = record tables { tenants = update_where (is_tenant tenant) (λ t. record t { next_upload = n }) tables.tenants }
+with_next_upload tenant n tables =
+    record tables { tenants = update_where (is_tenant tenant) (λ t. record t { next_upload = n }) tables.tenants }
 
 -- the upload of this number, which the tenant's counter has given
 abbrev pub upload_written : Octets → Octets → Octets → ℕ → ℕ → Tables → Tables
@@ -27,13 +28,15 @@ upload_written tenant bucket key begun n tables = record tables {
 -- ---- a part is put
 
 abbrev pub with_next_entry : Octets → ℕ → Tables → Tables
-with_next_entry tenant n tables = record tables { tenants = update_where (is_tenant tenant) (λ t. record t { next_entry = n }) tables.tenants }
+with_next_entry tenant n tables =
+    record tables { tenants = update_where (is_tenant tenant) (λ t. record t { next_entry = n }) tables.tenants }
 
 -- without the row of a part, and then without its body, of this entry number
 abbrev pub without_part : Octets → ℕ → ℕ → ℕ → Tables → Tables
-without_part tenant upload part body tables = body_dropped (tenant, body) (record tables { parts = delete_where (is_part tenant upload part) tables.parts })
+without_part tenant upload part body tables =
+    body_dropped (tenant, body) (record tables { parts = delete_where (is_part tenant upload part) tables.parts })
 
--- the same where a part of the number is replaced, whose body this is
+-- without the part of this number where one is replaced, whose body this is
 abbrev pub without_replaced : Octets → ℕ → ℕ → Option ℕ → Tables → Tables
 without_replaced tenant upload part replaced tables = option_map_or (λ body. without_part tenant upload part body tables) replaced tables
 
@@ -55,7 +58,8 @@ without_body_of tenant replaced tables = option_map_or (λ body. body_dropped (t
 abbrev pub part_written : (Octets → Octets) → ℕ → Octets → ℕ → ℕ → Octets → ℕ → ℕ → Option ℕ → Tables → Tables
 part_written digest size tenant upload part bytes moment entry replaced tables =
     with_part_row (part_row tenant upload part bytes moment entry)
-    (without_replaced tenant upload part replaced (body_stored digest (tenant, entry) 0 (pieces size bytes) (with_next_entry tenant (entry + 1) tables)))
+    (without_replaced tenant upload part replaced (body_stored digest (tenant, entry) 0 (pieces size bytes)
+    (with_next_entry tenant (entry + 1) tables)))
 
 -- ---- an upload is completed
 
@@ -63,7 +67,8 @@ part_written digest size tenant upload part bytes moment entry replaced tables =
 abbrev pub version_written : BucketState → Counts → Counts → Octets → Octets → Octets → ℕ → ℕ → Octets → List ℕ → Tables → Tables
 version_written mode before after tenant bucket key moment size checksum bodies tables =
     with_version mode before tenant bucket key moment size checksum
-    (with_room mode tenant bucket key (bodies_joined (map (λ body. (tenant, body)) bodies) (tenant, before.entry) (with_counters mode after tenant tables)))
+    (with_room mode tenant bucket key (bodies_joined (map (λ body. (tenant, body)) bodies) (tenant, before.entry)
+    (with_counters mode after tenant tables)))
 
 -- ---- an upload goes
 

@@ -2,11 +2,12 @@ ghost use Rattle.std.specs.Prelude.{None, false};
 ghost use Rattle.bh_model.specs.Uploads as machine;
 ghost use Rattle.bh_storage.specs.Answers.{removed_answer};
 ghost use Rattle.bh_storage.specs.Calls.{Unless, Carries};
-ghost use Rattle.bh_schema.specs.Connections.{IsClean, tables, StaysWithin, StaysOpen};
-ghost use Rattle.bh_schema.specs.Working.{Works, StillWorks};
+ghost use Rattle.bh_schema.specs.Connections.{IsClean, tables};
+ghost use Rattle.bh_schema.specs.Working.{Works, WorksOn};
 
 use crate::reads::{NamedUpload, found_upload, upload_parts};
 use crate::writes::close_upload;
+use bh_objects::deletes::nothing_told;
 use bh_storage::answer::RemovedEntry;
 use bh_storage::error::StepError;
 use bh_types::refusal::Refusal;
@@ -20,9 +21,7 @@ pub fn abort_upload<S: Alter>(
     upload: &NamedUpload<'_>,
 ) -> Result<RemovedEntry, StepError<Refusal>>
     requires working { Works S.Store connection.old }
-    ensures within { StaysWithin S.Store connection.old connection.new }
-    ensures opens { Unless result (StaysOpen S.Store connection.old connection.new) }
-    ensures working { Unless result (StillWorks S.Store connection.old connection.new) }
+    ensures works { WorksOn S.Store (Unless result) connection.old connection.new }
     ensures carries { IsClean S.Store connection.new
         → Carries removed_answer upload.now.tenant.now
         (machine.abort_upload upload.now.bucket.now upload.now.key.now upload.now.upload)
@@ -31,8 +30,5 @@ pub fn abort_upload<S: Alter>(
     let found = found_upload(connection, upload)?;
     let list = upload_parts(connection, alloc, upload.tenant, found.number)?;
     close_upload(connection, upload.tenant, found.number, &list.bodies)?;
-    Ok(RemovedEntry {
-        id: None,
-        marker: false,
-    })
+    Ok(nothing_told())
 }

@@ -6,14 +6,16 @@ ghost use Rattle.bh_storage.specs.Answers.{begun_answer};
 ghost use Rattle.bh_storage.specs.Calls.{Unless, Carries};
 ghost use Rattle.bh_view.specs.Sound.{AreDays};
 ghost use Rattle.bh_view.specs.View.{latest_of};
-ghost use Rattle.bh_schema.specs.Connections.{IsClean, tables, InTransaction, StaysWithin, StaysOpen, Becomes};
-ghost use Rattle.bh_schema.specs.Working.{Works, StillWorks};
+ghost use Rattle.bh_schema.specs.Connections.{IsClean, tables, InTransaction};
+ghost use Rattle.bh_schema.specs.Working.{Works, WorksOn};
+ghost use Rattle.bh_objects.specs.Calls.{Changes};
 ghost use Rattle.bh_objects.specs.Found.{IsKeyText};
 ghost use Rattle.bh_uploads.specs.Writes.{upload_written};
 
 use crate::lifecycle::bucket_rule;
 use crate::reads::next_upload;
-use crate::rows::uploads::{UploadRecord, insert_upload, set_next_upload};
+use crate::rows::uploads::{UploadRecord, insert_upload};
+use bh_schema::rows::tenants::{TenantNumber, set_number};
 use bh_schema::trouble::or_trouble;
 use bh_storage::answer::BegunUpload;
 use bh_storage::error::{StepError, Trouble};
@@ -44,14 +46,12 @@ fn write_upload<S: Alter>(
 ) -> Result<(), Trouble>
     requires inside { InTransaction S.Store connection.old }
     requires small { number < 2 ^ 62 }
-    ensures within { StaysWithin S.Store connection.old connection.new }
-    ensures opens { OnOk result (StaysOpen S.Store connection.old connection.new) }
-    ensures holds { OnOk result (Becomes S.Store connection.old connection.new
-        (upload_written upload.now.tenant.now upload.now.bucket.now upload.now.key.now upload.now.at number)) }
+    ensures changes { Changes S.Store connection.old connection.new result
+        (upload_written upload.now.tenant.now upload.now.bucket.now upload.now.key.now upload.now.at number) }
     ensures key { OnOk result (IsKeyText upload.now.key.now) }
 {
     let tenant = upload.tenant.as_str();
-    or_trouble(set_next_upload(connection, tenant, number + 1))?;
+    or_trouble(set_number(connection, tenant, TenantNumber::NextUpload, number + 1))?;
     let row = UploadRecord {
         tenant,
         upload: number,
@@ -107,9 +107,7 @@ pub fn begin_upload<S: Alter>(
 ) -> Result<BegunUpload, StepError<Refusal>>
     requires working { Works S.Store connection.old }
     requires early { IsClean S.Store connection.old → upload.now.at ≤ latest_of (tables S.Store connection.old) }
-    ensures within { StaysWithin S.Store connection.old connection.new }
-    ensures opens { Unless result (StaysOpen S.Store connection.old connection.new) }
-    ensures working { Unless result (StillWorks S.Store connection.old connection.new) }
+    ensures works { WorksOn S.Store (Unless result) connection.old connection.new }
     ensures carries { IsClean S.Store connection.new
         → Carries begun_answer upload.now.tenant.now
         (machine.create_upload upload.now.at upload.now.bucket.now upload.now.key.now)

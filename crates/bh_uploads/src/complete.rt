@@ -7,8 +7,9 @@ ghost use Rattle.bh_model.specs.Uploads as machine;
 ghost use Rattle.bh_storage.specs.Answers.{completed_answer};
 ghost use Rattle.bh_storage.specs.Calls.{Unless, Decides, Carries};
 ghost use Rattle.bh_view.specs.View.{view, latest_of};
-ghost use Rattle.bh_schema.specs.Connections.{IsClean, tables, InTransaction, StaysWithin, StaysOpen, Becomes};
-ghost use Rattle.bh_schema.specs.Working.{Works, StillWorks};
+ghost use Rattle.bh_schema.specs.Connections.{IsClean, tables, InTransaction};
+ghost use Rattle.bh_schema.specs.Working.{Works, WorksOn};
+ghost use Rattle.bh_objects.specs.Calls.{Changes};
 ghost use Rattle.bh_objects.specs.Found.{IsKeyText};
 ghost use Rattle.bh_uploads.specs.Found.{completion_in, joined_bytes, joined_content};
 ghost use Rattle.bh_uploads.specs.Rows.{listed_parts};
@@ -54,9 +55,7 @@ fn completion_plan<S: Alter>(
     least: u64,
 ) -> Result<Completion, StepError<Refusal>>
     requires { Works S.Store connection.old }
-    ensures within { StaysWithin S.Store connection.old connection.new }
-    ensures opens { Unless result (StaysOpen S.Store connection.old connection.new) }
-    ensures working { Unless result (StillWorks S.Store connection.old connection.new) }
+    ensures works { WorksOn S.Store (Unless result) connection.old connection.new }
     ensures decides { IsClean S.Store connection.new
         → Decides (λ c. (c.mode, c.number, joined_content upload.now.tenant.now (tables S.Store connection.old) c.joined))
         (completion_in least upload.now.bucket.now upload.now.key.now upload.now.upload (map naming_of named.now)
@@ -91,11 +90,9 @@ fn write_version<S: Alter>(
     joined: &Joined,
 ) -> Result<(), Trouble>
     requires { InTransaction S.Store connection.old }
-    ensures within { StaysWithin S.Store connection.old connection.new }
-    ensures opens { OnOk result (StaysOpen S.Store connection.old connection.new) }
-    ensures holds { OnOk result (Becomes S.Store connection.old connection.new
+    ensures changes { Changes S.Store connection.old connection.new result
         (version_written mode numbers.before numbers.after upload.now.tenant.now upload.now.bucket.now upload.now.key.now at
-        joined.now.size (string_bytes joined.now.checksum) joined.now.bodies.items)) }
+        joined.now.size (string_bytes joined.now.checksum) joined.now.bodies.items) }
     ensures key { OnOk result (IsKeyText upload.now.key.now) }
 {
     or_trouble(join_bodies(
@@ -149,9 +146,7 @@ pub fn complete_upload<S: Alter>(
 ) -> Result<CompletedUpload, StepError<Refusal>>
     requires working { Works S.Store connection.old }
     requires early { IsClean S.Store connection.old → at ≤ latest_of (tables S.Store connection.old) }
-    ensures within { StaysWithin S.Store connection.old connection.new }
-    ensures opens { Unless result (StaysOpen S.Store connection.old connection.new) }
-    ensures working { Unless result (StillWorks S.Store connection.old connection.new) }
+    ensures works { WorksOn S.Store (Unless result) connection.old connection.new }
     ensures carries { IsClean S.Store connection.new
         → Carries completed_answer upload.now.tenant.now
         (machine.complete_upload at least upload.now.bucket.now upload.now.key.now upload.now.upload (map naming_of named.now))

@@ -5,10 +5,11 @@ ghost use Rattle.bh_storage.specs.Answers.{removed_answer};
 ghost use Rattle.bh_storage.specs.Calls.{Unless, Carries, Decides};
 ghost use Rattle.bh_view.specs.Sound.{AreDays};
 ghost use Rattle.bh_view.specs.View.{view};
-ghost use Rattle.bh_schema.specs.Connections.{IsClean, tables, StaysWithin, StaysOpen};
-ghost use Rattle.bh_schema.specs.Working.{Works, StillWorks};
+ghost use Rattle.bh_schema.specs.Connections.{IsClean, tables};
+ghost use Rattle.bh_schema.specs.Working.{Works, WorksOn};
 ghost use Rattle.bh_uploads.specs.Found.{rule_in};
 
+use bh_objects::deletes::nothing_told;
 use bh_objects::reads::bucket_state;
 use bh_schema::rows;
 use bh_schema::trouble::or_trouble;
@@ -42,9 +43,7 @@ pub fn bucket_rule<S: Alter>(
     bucket: &BucketName,
 ) -> Result<Option<u16>, StepError<Refusal>>
     requires { Works S.Store connection.old }
-    ensures within { StaysWithin S.Store connection.old connection.new }
-    ensures opens { Unless result (StaysOpen S.Store connection.old connection.new) }
-    ensures working { Unless result (StillWorks S.Store connection.old connection.new) }
+    ensures works { WorksOn S.Store (Unless result) connection.old connection.new }
     ensures decides { IsClean S.Store connection.new
         → Decides (λ days. days) (rule_in bucket.now (view (tables S.Store connection.old) tenant.now))
         (tables S.Store connection.old) (tables S.Store connection.new) result }
@@ -67,9 +66,7 @@ pub fn lifecycle<S: Alter>(
     bucket: &BucketName,
 ) -> Result<u16, StepError<Refusal>>
     requires { Works S.Store connection.old }
-    ensures within { StaysWithin S.Store connection.old connection.new }
-    ensures opens { Unless result (StaysOpen S.Store connection.old connection.new) }
-    ensures working { Unless result (StillWorks S.Store connection.old connection.new) }
+    ensures works { WorksOn S.Store (Unless result) connection.old connection.new }
     ensures carries { IsClean S.Store connection.new
         → Carries (λ days. machine.Lifecycle days) tenant.now (machine.get_lifecycle bucket.now)
         (tables S.Store connection.old) (tables S.Store connection.new) result }
@@ -91,9 +88,7 @@ pub fn set_lifecycle<S: Alter>(
     requires working { Works S.Store connection.old }
     requires least { 1 ≤ days }
     requires most { days ≤ 3650 }
-    ensures within { StaysWithin S.Store connection.old connection.new }
-    ensures opens { Unless result (StaysOpen S.Store connection.old connection.new) }
-    ensures working { Unless result (StillWorks S.Store connection.old connection.new) }
+    ensures works { WorksOn S.Store (Unless result) connection.old connection.new }
     ensures carries { IsClean S.Store connection.new
         → Carries (λ _. machine.Done) tenant.now (machine.put_lifecycle bucket.now days)
         (tables S.Store connection.old) (tables S.Store connection.new) result }
@@ -110,17 +105,12 @@ pub fn delete_lifecycle<S: Alter>(
     bucket: &BucketName,
 ) -> Result<RemovedEntry, StepError<Refusal>>
     requires working { Works S.Store connection.old }
-    ensures within { StaysWithin S.Store connection.old connection.new }
-    ensures opens { Unless result (StaysOpen S.Store connection.old connection.new) }
-    ensures working { Unless result (StillWorks S.Store connection.old connection.new) }
+    ensures works { WorksOn S.Store (Unless result) connection.old connection.new }
     ensures carries { IsClean S.Store connection.new
         → Carries removed_answer tenant.now (machine.delete_lifecycle bucket.now)
         (tables S.Store connection.old) (tables S.Store connection.new) result }
 {
     bucket_state(connection, tenant, bucket)?;
     or_trouble(rows::rules::clear_days(connection, tenant.as_str(), bucket.as_str()))?;
-    Ok(RemovedEntry {
-        id: None,
-        marker: false,
-    })
+    Ok(nothing_told())
 }

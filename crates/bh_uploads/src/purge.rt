@@ -2,17 +2,19 @@
 ghost use Rattle.std.specs.Prelude.{◌≡◌, ◌++◌, ◌<◌, ◌^◌, false, [], map, flat_map, IfOk, OnOk};
 ghost use Rattle.bh_view.specs.View.{without_uploads, rows_purged};
 ghost use Rattle.bh_view.specs.Grouped.{same_number};
-ghost use Rattle.bh_schema.specs.Connections.{IsClean, tables, InTransaction, StaysWithin, WasOpen, StaysOpen, ChangesNothing};
+ghost use Rattle.bh_schema.specs.Calls.{MayRead};
+ghost use Rattle.bh_schema.specs.Connections.{IsClean, tables, InTransaction};
 ghost use Rattle.bh_schema.specs.Rows.{rule_in, listed_rules};
 ghost use Rattle.bh_schema.specs.Views.{rule_seen};
-ghost use Rattle.bh_schema.specs.Working.{Works, StillWorks};
+ghost use Rattle.bh_schema.specs.Working.{Works, WorksOn};
 ghost use Rattle.bh_uploads.specs.Purging.{stale_by, is_among};
 
 use crate::reads::upload_parts;
 use crate::rows::uploads::stale_list;
 use crate::writes::close_upload;
 use bh_core::uploads::stale_before;
-use bh_schema::rows::rules::{BucketRule, rule_list};
+use bh_schema::rows::reading::list_of;
+use bh_schema::rows::rules::BucketRule;
 use bh_schema::trouble::or_trouble;
 use bh_storage::error::Trouble;
 use bh_types::counters::COUNTER_END;
@@ -41,9 +43,7 @@ fn rule_stale<S: Alter>(
     at: Moment,
 ) -> Result<Vec<u64>, Trouble>
     requires inside { InTransaction S.Store connection.old }
-    ensures within { StaysWithin S.Store connection.old connection.new }
-    ensures opens { OnOk result (StaysOpen S.Store connection.old connection.new) }
-    ensures same { OnOk result (ChangesNothing S.Store connection.old connection.new) }
+    ensures reads { MayRead S.Store connection.old connection.new result }
     ensures numbers { IfOk result (λ list. IsClean S.Store connection.new
         → list.items ≡ stale_by tenant.now at (tables S.Store connection.old).uploads (rule_seen rule.now)) }
 {
@@ -78,9 +78,7 @@ fn stale_of_rules<S: Alter>(
     at: Moment,
 ) -> Result<Vec<u64>, Trouble>
     requires inside { InTransaction S.Store connection.old }
-    ensures within { StaysWithin S.Store connection.old connection.new }
-    ensures opens { OnOk result (StaysOpen S.Store connection.old connection.new) }
-    ensures same { OnOk result (ChangesNothing S.Store connection.old connection.new) }
+    ensures reads { MayRead S.Store connection.old connection.new result }
     ensures numbers { IfOk result (λ list. IsClean S.Store connection.new → list.items
         ≡ flat_map (λ rule. stale_by tenant.now at (tables S.Store connection.old).uploads (rule_seen rule)) rules.now) }
 {
@@ -109,16 +107,14 @@ fn stale_uploads<S: Alter>(
     at: Moment,
 ) -> Result<StaleUploads, Trouble>
     requires inside { InTransaction S.Store connection.old }
-    ensures within { StaysWithin S.Store connection.old connection.new }
-    ensures opens { OnOk result (StaysOpen S.Store connection.old connection.new) }
-    ensures same { OnOk result (ChangesNothing S.Store connection.old connection.new) }
+    ensures reads { MayRead S.Store connection.old connection.new result }
     ensures ruled { IfOk result (λ stale. IsClean S.Store connection.new → stale.ruled ≡ false
         → listed_rules tenant.now (tables S.Store connection.old) ≡ []) }
     ensures numbers { IfOk result (λ stale. IsClean S.Store connection.new → stale.numbers.items
         ≡ flat_map (stale_by tenant.now at (tables S.Store connection.old).uploads)
         (map rule_in (listed_rules tenant.now (tables S.Store connection.old)))) }
 {
-    let rules = or_trouble(rule_list(connection, alloc, tenant.as_str()))?;
+    let rules: Vec<BucketRule> = or_trouble(list_of(connection, alloc, tenant.as_str()))?;
     let numbers = stale_of_rules(connection, alloc, tenant, &rules, at)?;
     let ruled = !rules.is_empty();
     Ok(StaleUploads { numbers, ruled })
@@ -132,9 +128,7 @@ pub fn remove_upload<S: Alter>(
     number: u64,
 ) -> Result<(), Trouble>
     requires { Works S.Store connection.old }
-    ensures within { StaysWithin S.Store connection.old connection.new }
-    ensures opens { OnOk result (StaysOpen S.Store connection.old connection.new) }
-    ensures working { OnOk result (StillWorks S.Store connection.old connection.new) }
+    ensures works { WorksOn S.Store (OnOk result) connection.old connection.new }
     ensures removed { OnOk result (IsClean S.Store connection.new → tables S.Store connection.new
         ≡ without_uploads tenant.now (λ n. same_number n number) (tables S.Store connection.old)) }
 {
@@ -152,9 +146,7 @@ fn remove_uploads<S: Alter>(
     numbers: &[u64],
 ) -> Result<(), Trouble>
     requires { Works S.Store connection.old }
-    ensures within { StaysWithin S.Store connection.old connection.new }
-    ensures opens { OnOk result (StaysOpen S.Store connection.old connection.new) }
-    ensures working { OnOk result (StillWorks S.Store connection.old connection.new) }
+    ensures works { WorksOn S.Store (OnOk result) connection.old connection.new }
     ensures removed { OnOk result (IsClean S.Store connection.new → tables S.Store connection.new
         ≡ without_uploads tenant.now (is_among numbers.now) (tables S.Store connection.old)) }
 {
@@ -175,9 +167,7 @@ pub fn purge<S: Alter>(
     at: Moment,
 ) -> Result<bool, Trouble>
     requires { Works S.Store connection.old }
-    ensures within { StaysWithin S.Store connection.old connection.new }
-    ensures opens { OnOk result (StaysOpen S.Store connection.old connection.new) }
-    ensures working { OnOk result (StillWorks S.Store connection.old connection.new) }
+    ensures works { WorksOn S.Store (OnOk result) connection.old connection.new }
     ensures purges { OnOk result (IsClean S.Store connection.new
         → tables S.Store connection.new ≡ rows_purged tenant.now at (tables S.Store connection.old)) }
     ensures ruled { IfOk result (λ ruled. IsClean S.Store connection.new → ruled ≡ false

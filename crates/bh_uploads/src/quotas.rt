@@ -1,9 +1,10 @@
 //! Whether a tenant's quota has room for a part.
-ghost use Rattle.std.specs.Prelude.{◌≡◌, ◌<◌, ◌^◌, IfOk, OnOk};
+ghost use Rattle.std.specs.Prelude.{◌≡◌, ◌<◌, ◌^◌, IfOk};
 ghost use Rattle.bh_storage.specs.Calls.{Unless, Decides};
 ghost use Rattle.bh_view.specs.View.{view};
-ghost use Rattle.bh_schema.specs.Connections.{IsClean, tables, InTransaction, StaysWithin, StaysOpen, ChangesNothing};
-ghost use Rattle.bh_schema.specs.Working.{Works, StillWorks};
+ghost use Rattle.bh_schema.specs.Calls.{MayRead};
+ghost use Rattle.bh_schema.specs.Connections.{IsClean, tables, InTransaction};
+ghost use Rattle.bh_schema.specs.Working.{Works, WorksOn};
 ghost use Rattle.bh_uploads.specs.Found.{part_bytes_in, replaced_body, part_entry_in};
 
 use crate::counting::given;
@@ -33,9 +34,7 @@ fn replaced_part<S: Alter>(
 ) -> Result<Replaced, Trouble>
     requires inside { InTransaction S.Store connection.old }
     requires small { upload < 2 ^ 62 }
-    ensures within { StaysWithin S.Store connection.old connection.new }
-    ensures opens { OnOk result (StaysOpen S.Store connection.old connection.new) }
-    ensures same { OnOk result (ChangesNothing S.Store connection.old connection.new) }
+    ensures reads { MayRead S.Store connection.old connection.new result }
     ensures bytes { IfOk result (λ replaced. IsClean S.Store connection.new
         → replaced.bytes ≡ part_bytes_in tenant.now upload number (tables S.Store connection.old)) }
     ensures body { IfOk result (λ replaced. IsClean S.Store connection.new
@@ -74,12 +73,11 @@ pub fn part_entry<S: Alter>(
 ) -> Result<PartEntry, StepError<Refusal>>
     requires working { Works S.Store connection.old }
     requires upload { upload < 2 ^ 62 }
-    ensures within { StaysWithin S.Store connection.old connection.new }
-    ensures opens { Unless result (StaysOpen S.Store connection.old connection.new) }
-    ensures working { Unless result (StillWorks S.Store connection.old connection.new) }
+    ensures works { WorksOn S.Store (Unless result) connection.old connection.new }
     ensures decides { IsClean S.Store connection.new
         → Decides (λ taken. taken.entry)
-        (part_entry_in (part_bytes_in tenant.now upload number (tables S.Store connection.old)) added (view (tables S.Store connection.old) tenant.now))
+        (part_entry_in (part_bytes_in tenant.now upload number (tables S.Store connection.old)) added
+        (view (tables S.Store connection.old) tenant.now))
         (tables S.Store connection.old) (tables S.Store connection.new) result }
     ensures replaced { IfOk result (λ taken. IsClean S.Store connection.new
         → taken.replaced ≡ replaced_body tenant.now upload number (tables S.Store connection.old)) }

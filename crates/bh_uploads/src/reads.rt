@@ -1,10 +1,11 @@
-ghost use Rattle.std.specs.Prelude.{◌≡◌, ◌<◌, ◌^◌, IfOk, OnOk, map};
+ghost use Rattle.std.specs.Prelude.{◌≡◌, ◌<◌, ◌^◌, IfOk, OnOk};
 ghost use Rattle.bh_storage.specs.Calls.{Unless, Decides};
 ghost use Rattle.bh_view.specs.View.{view};
-ghost use Rattle.bh_schema.specs.Connections.{IsClean, tables, InTransaction, StaysWithin, WasOpen, StaysOpen, ChangesNothing};
-ghost use Rattle.bh_schema.specs.Working.{Works, StillWorks};
+ghost use Rattle.bh_schema.specs.Calls.{Reads};
+ghost use Rattle.bh_schema.specs.Connections.{IsClean, tables, InTransaction};
+ghost use Rattle.bh_schema.specs.Working.{Works, WorksOn};
 ghost use Rattle.bh_uploads.specs.Found.{next_upload_in, is_begun_for, upload_there, upload_in};
-ghost use Rattle.bh_uploads.specs.Rows.{upload_seen, seen_row, row_seen, listed_parts};
+ghost use Rattle.bh_uploads.specs.Rows.{AreListed, upload_seen, listed_parts};
 
 use crate::counting::given;
 use crate::rows;
@@ -47,9 +48,7 @@ pub fn next_upload<S: Alter>(
     tenant: &TenantName,
 ) -> Result<u64, StepError<Refusal>>
     requires { Works S.Store connection.old }
-    ensures within { StaysWithin S.Store connection.old connection.new }
-    ensures opens { Unless result (StaysOpen S.Store connection.old connection.new) }
-    ensures working { Unless result (StillWorks S.Store connection.old connection.new) }
+    ensures works { WorksOn S.Store (Unless result) connection.old connection.new }
     ensures decides { IsClean S.Store connection.new
         → Decides (λ n. n) (next_upload_in (view (tables S.Store connection.old) tenant.now))
         (tables S.Store connection.old) (tables S.Store connection.new) result }
@@ -74,9 +73,7 @@ fn require_upload<S: Alter>(
     number: u64,
 ) -> Result<(), StepError<Refusal>>
     requires { Works S.Store connection.old }
-    ensures within { StaysWithin S.Store connection.old connection.new }
-    ensures opens { Unless result (StaysOpen S.Store connection.old connection.new) }
-    ensures working { Unless result (StillWorks S.Store connection.old connection.new) }
+    ensures works { WorksOn S.Store (Unless result) connection.old connection.new }
     ensures decides { IsClean S.Store connection.new
         → Decides (λ _. tt)
         (upload_there upload.now.tenant.now upload.now.bucket.now upload.now.key.now number (tables S.Store connection.old))
@@ -105,9 +102,7 @@ pub fn found_upload<S: Alter>(
     upload: &NamedUpload<'_>,
 ) -> Result<FoundUpload, StepError<Refusal>>
     requires { Works S.Store connection.old }
-    ensures within { StaysWithin S.Store connection.old connection.new }
-    ensures opens { Unless result (StaysOpen S.Store connection.old connection.new) }
-    ensures working { Unless result (StillWorks S.Store connection.old connection.new) }
+    ensures works { WorksOn S.Store (Unless result) connection.old connection.new }
     ensures decides { IsClean S.Store connection.new
         → Decides (λ found. (found.mode, found.number))
         (upload_in upload.now.bucket.now upload.now.key.now upload.now.upload (view (tables S.Store connection.old) upload.now.tenant.now))
@@ -134,13 +129,9 @@ pub fn upload_parts<S: Alter>(
 ) -> Result<PartList, Trouble>
     requires inside { InTransaction S.Store connection.old }
     requires small { number < 2 ^ 62 }
-    ensures within { StaysWithin S.Store connection.old connection.new }
-    ensures opens { OnOk result (WasOpen S.Store connection.old connection.new) }
-    ensures same { OnOk result (ChangesNothing S.Store connection.old connection.new) }
-    ensures rows { IfOk result (λ list. IsClean S.Store connection.new
-        → map row_seen list.rows.items ≡ map seen_row (listed_parts tenant.now number (tables S.Store connection.old))) }
-    ensures bodies { IfOk result (λ list. IsClean S.Store connection.new
-        → list.bodies.items ≡ map (λ p. p.body) (listed_parts tenant.now number (tables S.Store connection.old))) }
+    ensures reads { Reads S.Store connection.old connection.new result }
+    ensures parts { IfOk result (λ list. IsClean S.Store connection.new
+        → AreListed list (listed_parts tenant.now number (tables S.Store connection.old))) }
 {
     or_trouble(rows::parts::part_list(connection, alloc, tenant.as_str(), number))
 }

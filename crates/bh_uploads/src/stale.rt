@@ -8,8 +8,9 @@ ghost use Rattle.bh_view.specs.Grouped.{same_number};
 ghost use Rattle.bh_view.specs.Sound.{IsSound};
 ghost use Rattle.bh_view.specs.View.{without_uploads};
 ghost use Rattle.bh_view.specs.Sweep.{is_due, uploads_swept, without_each};
-ghost use Rattle.bh_schema.specs.Connections.{IsClean, tables, InTransaction, StaysWithin, WasOpen, StaysOpen, ChangesNothing, IsTrouble};
-ghost use Rattle.bh_schema.specs.Working.{Works, StillWorks};
+ghost use Rattle.bh_schema.specs.Calls.{Reads, MayRead};
+ghost use Rattle.bh_schema.specs.Connections.{IsClean, tables, InTransaction, IsTrouble};
+ghost use Rattle.bh_schema.specs.Working.{Works, WorksOn};
 
 use crate::purge::{in_range, remove_upload};
 use bh_core::uploads::stale_before;
@@ -47,9 +48,7 @@ fn past_rows<S: Alter>(
     requires inside { InTransaction S.Store connection.old }
     requires moment { moment < 2 ^ 63 }
     requires limit { limit < 2 ^ 63 }
-    ensures within { StaysWithin S.Store connection.old connection.new }
-    ensures opens { OnOk result (WasOpen S.Store connection.old connection.new) }
-    ensures same { OnOk result (ChangesNothing S.Store connection.old connection.new) }
+    ensures reads { Reads S.Store connection.old connection.new result }
     ensures rows { IfOk result (λ rows. IsClean S.Store connection.new → IsSound (tables S.Store connection.old)
         → rows.items ≡ map shown_owner
         (past_uploads limit moment (tables S.Store connection.old).buckets (tables S.Store connection.old).uploads)) }
@@ -68,9 +67,7 @@ fn stale_rows<S: Alter>(
     limit: u32,
 ) -> Result<Vec<Row>, Trouble>
     requires { Works S.Store connection.old }
-    ensures within { StaysWithin S.Store connection.old connection.new }
-    ensures opens { OnOk result (StaysOpen S.Store connection.old connection.new) }
-    ensures same { OnOk result (ChangesNothing S.Store connection.old connection.new) }
+    ensures reads { MayRead S.Store connection.old connection.new result }
     ensures rows { IfOk result (λ rows. IsClean S.Store connection.new
         → rows.items ≡ map shown_owner (uploads_swept at limit (tables S.Store connection.old))) }
 {
@@ -96,9 +93,7 @@ fn remove_row<S: Alter>(
     row: &Row,
 ) -> Result<(), Trouble>
     requires { Works S.Store connection.old }
-    ensures within { StaysWithin S.Store connection.old connection.new }
-    ensures opens { OnOk result (StaysOpen S.Store connection.old connection.new) }
-    ensures working { OnOk result (StillWorks S.Store connection.old connection.new) }
+    ensures works { WorksOn S.Store (OnOk result) connection.old connection.new }
     ensures removed { OnOk result ((u : Stored) → row.now ≡ shown_owner u → IsClean S.Store connection.new
         → tables S.Store connection.new ≡ without_uploads u.tenant (λ n. same_number n u.upload) (tables S.Store connection.old)) }
 {
@@ -115,9 +110,7 @@ fn remove_rows<S: Alter>(
     rows: &[Row],
 ) -> Result<(), Trouble>
     requires { Works S.Store connection.old }
-    ensures within { StaysWithin S.Store connection.old connection.new }
-    ensures opens { OnOk result (StaysOpen S.Store connection.old connection.new) }
-    ensures working { OnOk result (StillWorks S.Store connection.old connection.new) }
+    ensures works { WorksOn S.Store (OnOk result) connection.old connection.new }
     ensures removed { OnOk result ((us : List Stored) → rows.now ≡ map shown_owner us → IsClean S.Store connection.new
         → tables S.Store connection.new ≡ without_each us (tables S.Store connection.old)) }
 {
@@ -136,9 +129,7 @@ pub fn remove_stale<S: Alter>(
     limit: u32,
 ) -> Result<u32, Trouble>
     requires { Works S.Store connection.old }
-    ensures within { StaysWithin S.Store connection.old connection.new }
-    ensures opens { OnOk result (StaysOpen S.Store connection.old connection.new) }
-    ensures working { OnOk result (StillWorks S.Store connection.old connection.new) }
+    ensures works { WorksOn S.Store (OnOk result) connection.old connection.new }
     ensures removed { OnOk result (IsClean S.Store connection.new → tables S.Store connection.new
         ≡ without_each (uploads_swept at limit (tables S.Store connection.old)) (tables S.Store connection.old)) }
     ensures count { IfOk result (λ count. IsClean S.Store connection.new
@@ -155,9 +146,7 @@ pub fn remove_stale<S: Alter>(
 /// Whether an upload of any tenant is stale at a moment.
 pub fn any_stale<S: Alter>(connection: &mut Connection<S>, at: Moment) -> Result<bool, Trouble>
     requires { Works S.Store connection.old }
-    ensures within { StaysWithin S.Store connection.old connection.new }
-    ensures opens { OnOk result (StaysOpen S.Store connection.old connection.new) }
-    ensures same { OnOk result (ChangesNothing S.Store connection.old connection.new) }
+    ensures reads { MayRead S.Store connection.old connection.new result }
     ensures found { IfOk result (λ found. IsClean S.Store connection.new
         → found ≡ list_any (is_due at (tables S.Store connection.old)) (tables S.Store connection.old).uploads) }
 {

@@ -1,6 +1,7 @@
-ghost use Rattle.std.specs.Prelude.{◌≡◌, ◌<◌, ◌^◌, OnOk};
-ghost use Rattle.bh_schema.specs.Connections.{InTransaction, StaysWithin, StaysOpen, Becomes};
+ghost use Rattle.std.specs.Prelude.{◌≡◌, ◌<◌, ◌^◌};
+ghost use Rattle.bh_schema.specs.Connections.{InTransaction};
 ghost use Rattle.bh_view.specs.Bodies.{body_dropped};
+ghost use Rattle.bh_objects.specs.Calls.{Changes};
 ghost use Rattle.bh_uploads.specs.Writes.{without_bodies, upload_closed};
 
 use crate::rows;
@@ -18,9 +19,7 @@ pub fn drop_entry_body<S: Alter>(
     body: u64,
 ) -> Result<(), Trouble>
     requires { InTransaction S.Store connection.old }
-    ensures within { StaysWithin S.Store connection.old connection.new }
-    ensures opens { OnOk result (StaysOpen S.Store connection.old connection.new) }
-    ensures holds { OnOk result (Becomes S.Store connection.old connection.new (body_dropped (tenant.now, body))) }
+    ensures changes { Changes S.Store connection.old connection.new result (body_dropped (tenant.now, body)) }
 {
     // No counter gives such a number.
     if body >= COUNTER_END {
@@ -37,9 +36,7 @@ fn drop_bodies<S: Alter>(
     bodies: &[u64],
 ) -> Result<(), Trouble>
     requires { InTransaction S.Store connection.old }
-    ensures within { StaysWithin S.Store connection.old connection.new }
-    ensures opens { OnOk result (StaysOpen S.Store connection.old connection.new) }
-    ensures holds { OnOk result (Becomes S.Store connection.old connection.new (without_bodies tenant.now bodies.now)) }
+    ensures changes { Changes S.Store connection.old connection.new result (without_bodies tenant.now bodies.now) }
 {
     for body in bodies {
         drop_entry_body(connection, tenant, *body)?;
@@ -56,9 +53,7 @@ pub fn close_upload<S: Alter>(
 ) -> Result<(), Trouble>
     requires inside { InTransaction S.Store connection.old }
     requires small { number < 2 ^ 62 }
-    ensures within { StaysWithin S.Store connection.old connection.new }
-    ensures opens { OnOk result (StaysOpen S.Store connection.old connection.new) }
-    ensures holds { OnOk result (Becomes S.Store connection.old connection.new (upload_closed tenant.now number bodies.now)) }
+    ensures changes { Changes S.Store connection.old connection.new result (upload_closed tenant.now number bodies.now) }
 {
     or_trouble(rows::kept::remove_parts(connection, tenant.as_str(), number))?;
     drop_bodies(connection, tenant, bodies)?;

@@ -3,10 +3,7 @@ ghost use Rattle.bh_schema.specs.Connections.{IsClean, tables, InTransaction};
 ghost use Rattle.bh_schema.specs.Calls.{MayRead};
 ghost use Rattle.bh_usage.specs.Counted.{entries_in, bytes_in, used_in, rows_in};
 
-use bh_schema::rows::counts::{
-    bucket_count, marker_count, object_count, upload_count, version_count,
-};
-use bh_schema::rows::sizes::part_total;
+use bh_schema::rows::counts::{Entry, TenantSum, entry_count, object_count, tenant_sum};
 use sqlite::{Alter, Connection, Error, ErrorCode};
 
 /// How many entries a tenant's keys have.
@@ -45,9 +42,9 @@ fn entry_counts<S: Alter>(
     ensures counts { IfOk result (λ counts. IsClean S.Store connection.new
         → counts ≡ entries_in tenant.now (tables S.Store connection.old)) }
 {
-    let markers = marker_count(connection, tenant)?;
+    let markers = entry_count(connection, tenant, Entry::Marker)?;
     let objects = object_count(connection, tenant)?;
-    let versions = version_count(connection, tenant)?;
+    let versions = entry_count(connection, tenant, Entry::Version)?;
     Ok(EntryCounts {
         markers,
         objects,
@@ -67,7 +64,7 @@ fn byte_totals<S: Alter>(
     ensures totals { IfOk result (λ totals. IsClean S.Store connection.new
         → totals ≡ bytes_in tenant.now (tables S.Store connection.old)) }
 {
-    let parts = part_total(connection, tenant)?;
+    let parts = tenant_sum(connection, tenant, TenantSum::PartBytes)?;
     match used.checked_sub(parts) {
         Some(versions) => Ok(ByteTotals { parts, versions }),
         None => Err(Error::SqliteFailure(ErrorCode::DatabaseCorrupt)),
@@ -86,10 +83,10 @@ pub fn row_counts<S: Alter>(
     ensures counts { IfOk result (λ counts. IsClean S.Store connection.new
         → counts ≡ rows_in tenant.now (tables S.Store connection.old)) }
 {
-    let buckets = bucket_count(connection, tenant)?;
+    let buckets = tenant_sum(connection, tenant, TenantSum::Buckets)?;
     let bytes = byte_totals(connection, tenant, used)?;
     let entries = entry_counts(connection, tenant)?;
-    let uploads = upload_count(connection, tenant)?;
+    let uploads = tenant_sum(connection, tenant, TenantSum::Uploads)?;
     Ok(RowCounts {
         buckets,
         bytes,

@@ -6,7 +6,8 @@ ghost use Rattle.bh_schema.specs.Calls.{MayRead};
 ghost use Rattle.bh_schema.specs.Working.{Works, StillWorks};
 ghost use Rattle.bh_usage.specs.Listed.{tenant_seen, told_with};
 
-use crate::rows::{ListedTenant, key_count, tenant_list};
+use crate::rows::{ListedTenant, tenant_list};
+use bh_schema::rows::counts::{TenantSum, tenant_sum};
 use bh_schema::trouble::or_trouble;
 use bh_storage::error::Trouble;
 use bh_storage::report::TenantReport;
@@ -24,7 +25,7 @@ fn with_keys<S: Alter>(
     ensures told { IfOk result (λ told. IsClean S.Store connection.new
         → tenant_view told ≡ told_with (tables S.Store connection.old) (tenant_seen listed.now)) }
 {
-    let keys = key_count(connection, listed.name.as_str())?;
+    let keys = tenant_sum(connection, listed.name.as_str(), TenantSum::Keys)?;
     let name = String::from_str(alloc, listed.name.as_str())?;
     Ok(TenantReport {
         name,

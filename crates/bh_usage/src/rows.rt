@@ -1,16 +1,15 @@
-//! The SQL texts over access keys and over all tenants, one call for each.
-ghost use Rattle.std.specs.Prelude.{◌≡◌, ◌∷◌, [], ◌<◌, ◌^◌, List, true, map, length, filter, IfOk, IfErr};
+//! The SQL texts over the names of access keys and over all tenants, one call for each.
+ghost use Rattle.std.specs.Prelude.{◌≡◌, map, IfOk, IfErr};
 ghost use Rattle.std.specs.List.{AllByRecursion};
 ghost use Rattle.std.specs.Str.{IsUtf8};
 ghost use Rattle.std.specs.String.{string_bytes};
-ghost use Rattle.bh_rows.specs.Means.{is_trouble};
-ghost use Rattle.bh_tables.specs.Typed.{KeyRow, TenantRow, Tables, totals_of, number as stored};
-ghost use Rattle.bh_tables.specs.Shown.{is_owned_key, keys_by_name, tenants_by_name, shown_key, shown_quota};
-ghost use Rattle.bh_schema.specs.Connections.{IsClean, tables, InTransaction, IsTrouble, IsTroubleIf};
+ghost use Rattle.bh_tables.specs.Typed.{TenantRow, Tables, totals_of};
+ghost use Rattle.bh_tables.specs.Shown.{keys_by_name, tenants_by_name, shown_quota};
+ghost use Rattle.bh_schema.specs.Connections.{IsClean, tables, InTransaction, IsTroubleIf};
 ghost use Rattle.bh_schema.specs.Calls.{Reads};
-ghost use Rattle.bh_usage.specs.Listed.{name_in, quota_in_row, tenant_seen};
+ghost use Rattle.bh_usage.specs.Listed.{Quota, name_in, quota_in_row, tenant_seen};
 
-use bh_schema::rows::sizes::read_total;
+use bh_schema::rows::reading::{FromRow, all_of};
 use sqlite::types::ToSql;
 use sqlite::{Alter, Connection, Error, Row};
 use std::alloc::Global;
@@ -25,39 +24,26 @@ pub struct ListedTenant {
     pub used: u64,
 }
 
-// A tenant's access keys.
+impl FromRow for ListedTenant {
+    ghost Typed = { Tables × TenantRow };
 
-fn read_name(row: &Row) -> Result<String, Error>
-    ensures read { IfOk result (λ name. (k : KeyRow) → row.now ≡ shown_key k → string_bytes name ≡ name_in k) }
-    ensures trouble { IfErr result (λ e. (k : KeyRow) → row.now ≡ shown_key k → IsUtf8 k.name → is_trouble e ≡ true) }
-{
-    row.get(0)
-}
+    ghost shown = { λ t. shown_quota (totals_of t.0) t.1 };
 
-fn read_names(alloc: Global, rows: &[Row]) -> Result<Vec<String>, Error>
-    ensures read { IfOk result (λ names. (ks : List KeyRow) → rows.now ≡ map shown_key ks
-        → map string_bytes names.items ≡ map name_in ks) }
-    ensures trouble { IfErr result (λ e. (ks : List KeyRow) → rows.now ≡ map shown_key ks
-        → AllByRecursion (λ k. IsUtf8 k.name) ks → is_trouble e ≡ true) }
-{
-    let mut names = Vec::new(alloc);
-    for row in rows {
-        names.push(read_name(row)?)?;
+    ghost Meaning = { Quota };
+
+    ghost meaning = { tenant_seen };
+
+    ghost told = { λ t. quota_in_row t.0 t.1 };
+
+    ghost IsReadable = { λ t. IsUtf8 t.1.tenant };
+
+    fn read(row: &Row) -> Result<ListedTenant, Error> {
+        Ok(ListedTenant {
+            name: row.get(0)?,
+            quota: row.get(1)?,
+            used: row.get(2)?,
+        })
     }
-    Ok(names)
-}
-
-fn name_rows<S: Alter>(connection: &mut Connection<S>, tenant: &str) -> Result<Vec<Row>, Error>
-    requires inside { InTransaction S.Store connection.old }
-    ensures reads { Reads S.Store connection.old connection.new result }
-    ensures rows { IfOk result (λ rows. IsClean S.Store connection.new
-        → rows.items ≡ map shown_key (keys_by_name tenant.now (tables S.Store connection.old).keys)) }
-    ensures trouble { IfErr result (IsTrouble S.Store connection.old connection.new) }
-{
-    connection.query_all(
-        "SELECT name FROM keys WHERE tenant = ?1 ORDER BY name, rowid",
-        &[tenant.to_sql()],
-    )
 }
 
 /// The names of a tenant's access keys, in byte order. No secret is read.
@@ -73,79 +59,11 @@ pub fn key_names<S: Alter>(
     ensures trouble { IfErr result (IsTroubleIf S.Store connection.old connection.new
         (AllByRecursion (λ k. IsUtf8 k.name) (keys_by_name tenant.now (tables S.Store connection.old).keys))) }
 {
-    let rows = name_rows(connection, tenant)?;
-    read_names(alloc, &rows)
-}
-
-fn key_rows<S: Alter>(connection: &mut Connection<S>, tenant: &str) -> Result<Vec<Row>, Error>
-    requires inside { InTransaction S.Store connection.old }
-    ensures reads { Reads S.Store connection.old connection.new result }
-    ensures rows { IfOk result (λ rows. IsClean S.Store connection.new
-        → rows.items ≡ (stored (length (filter (is_owned_key tenant.now) (tables S.Store connection.old).keys)) ∷ []) ∷ []) }
-    ensures trouble { IfErr result (IsTroubleIf S.Store connection.old connection.new
-        (length (filter (is_owned_key tenant.now) (tables S.Store connection.old).keys) < 2 ^ 63)) }
-{
-    connection.query_all(
-        "SELECT coalesce(sum(1), 0) FROM keys WHERE tenant = ?1",
+    let rows = connection.query_all(
+        "SELECT name FROM keys WHERE tenant = ?1 ORDER BY name, rowid",
         &[tenant.to_sql()],
-    )
-}
-
-/// How many access keys a tenant has.
-pub fn key_count<S: Alter>(connection: &mut Connection<S>, tenant: &str) -> Result<u64, Error>
-    requires inside { InTransaction S.Store connection.old }
-    ensures reads { Reads S.Store connection.old connection.new result }
-    ensures count { IfOk result (λ n. IsClean S.Store connection.new
-        → n ≡ length (filter (is_owned_key tenant.now) (tables S.Store connection.old).keys)) }
-    ensures trouble { IfErr result (IsTroubleIf S.Store connection.old connection.new
-        (length (filter (is_owned_key tenant.now) (tables S.Store connection.old).keys) < 2 ^ 63)) }
-{
-    let rows = key_rows(connection, tenant)?;
-    read_total(&rows)
-}
-
-// All tenants.
-
-fn read_tenant(row: &Row) -> Result<ListedTenant, Error>
-    ensures read { IfOk result (λ listed. (rows : Tables) (t : TenantRow)
-        → row.now ≡ shown_quota (totals_of rows) t → tenant_seen listed ≡ quota_in_row rows t) }
-    ensures trouble { IfErr result (λ e. (rows : Tables) (t : TenantRow)
-        → row.now ≡ shown_quota (totals_of rows) t → IsUtf8 t.tenant → is_trouble e ≡ true) }
-{
-    Ok(ListedTenant {
-        name: row.get(0)?,
-        quota: row.get(1)?,
-        used: row.get(2)?,
-    })
-}
-
-fn read_tenants(alloc: Global, rows: &[Row]) -> Result<Vec<ListedTenant>, Error>
-    ensures read { IfOk result (λ listed. (tables : Tables) (ts : List TenantRow)
-        → rows.now ≡ map (shown_quota (totals_of tables)) ts
-        → map tenant_seen listed.items ≡ map (quota_in_row tables) ts) }
-    ensures trouble { IfErr result (λ e. (tables : Tables) (ts : List TenantRow)
-        → rows.now ≡ map (shown_quota (totals_of tables)) ts
-        → AllByRecursion (λ t. IsUtf8 t.tenant) ts → is_trouble e ≡ true) }
-{
-    let mut listed = Vec::new(alloc);
-    for row in rows {
-        listed.push(read_tenant(row)?)?;
-    }
-    Ok(listed)
-}
-
-fn tenant_rows<S: Alter>(connection: &mut Connection<S>) -> Result<Vec<Row>, Error>
-    requires inside { InTransaction S.Store connection.old }
-    ensures reads { Reads S.Store connection.old connection.new result }
-    ensures rows { IfOk result (λ rows. IsClean S.Store connection.new
-        → rows.items ≡ map (shown_quota (totals_of (tables S.Store connection.old)))
-        (tenants_by_name (tables S.Store connection.old).tenants)) }
-    ensures trouble { IfErr result (IsTrouble S.Store connection.old connection.new) }
-{
-    connection.query_all(
-        "SELECT tenant, quota, used FROM tenants ORDER BY tenant, rowid",
-        &[],
-    )
+    )?;
+    all_of(alloc, &rows)
 }
 
 /// All tenants, by name in byte order, each with the bytes that it uses. No row of another table is read.
@@ -161,6 +79,9 @@ pub fn tenant_list<S: Alter>(
     ensures trouble { IfErr result (IsTroubleIf S.Store connection.old connection.new
         (AllByRecursion (λ t. IsUtf8 t.tenant) (tenants_by_name (tables S.Store connection.old).tenants))) }
 {
-    let rows = tenant_rows(connection)?;
-    read_tenants(alloc, &rows)
+    let rows = connection.query_all(
+        "SELECT tenant, quota, used FROM tenants ORDER BY tenant, rowid",
+        &[],
+    )?;
+    all_of(alloc, &rows)
 }

@@ -48,7 +48,8 @@ ord_for digest bytes blocks = option_map_or (λ (b : BlockRow). b.ord) (copy_in 
 
 -- the rows once these bytes are stored
 abbrev pub blocks_with : Octets → Octets → List BlockRow → List BlockRow
-blocks_with digest bytes blocks = option_map_or (λ _. blocks) (copy_in digest bytes blocks) (blocks ++ record { digest = digest; ord = free_ord digest blocks; bytes = bytes } ∷ [])
+blocks_with digest bytes blocks = option_map_or (λ _. blocks) (copy_in digest bytes blocks)
+    (blocks ++ record { digest = digest; ord = free_ord digest blocks; bytes = bytes } ∷ [])
 
 -- ---- blocks are removed
 

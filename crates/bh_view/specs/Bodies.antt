@@ -24,7 +24,8 @@ bodies_in tables = bodies_of tables.versions ++ map part_name tables.parts
 
 -- each body's places are 0, 1, .. without gap, each reference is of a body and has the size of its block
 pub record AreBodies (bodies : List Name) (refs : List RefRow) (blocks : List BlockRow) : Type 0 where
-  pub placed : (body : Name) → map (λ (r : RefRow). r.place) (placed refs body) ≡ range_with_len 0 (length (matching same_name body_name body refs))
+  pub placed : (body : Name) → map (λ (r : RefRow). r.place) (placed refs body)
+      ≡ range_with_len 0 (length (matching same_name body_name body refs))
   pub owned : (body : Name) → list_any (same_name body) bodies ≡ false → matching same_name body_name body refs ≡ []
   pub measured : AllByRecursion (λ (r : RefRow). r.size ≡ length (block_at blocks (ref_name r))) refs
 
@@ -87,7 +88,14 @@ pieces size bytes = pieces_in (length bytes) size bytes
 
 -- the reference of a body to the block of these bytes
 abbrev pub ref_to : (Octets → Octets) → Name → ℕ → Octets → List BlockRow → RefRow
-ref_to digest body place bytes blocks = record { tenant = body.0; body = body.1; place = place; digest = digest bytes; ord = ord_for (digest bytes) bytes blocks; size = length bytes }
+ref_to digest body place bytes blocks = record {
+  tenant = body.0;
+  body = body.1;
+  place = place;
+  digest = digest bytes;
+  ord = ord_for (digest bytes) bytes blocks;
+  size = length bytes;
+}
 
 -- the rows once pieces are stored, from a place on
 abbrev pub blocks_after : (Octets → Octets) → List Octets → List BlockRow → List BlockRow
@@ -96,11 +104,13 @@ blocks_after digest (c ∷ cs) blocks = blocks_after digest cs (blocks_with (dig
 
 abbrev pub refs_after : (Octets → Octets) → Name → ℕ → List Octets → List BlockRow → List RefRow → List RefRow
 refs_after digest body place [] blocks refs = refs
-refs_after digest body place (c ∷ cs) blocks refs = refs_after digest body (place + 1) cs (blocks_with (digest c) c blocks) (refs ++ ref_to digest body place c blocks ∷ [])
+refs_after digest body place (c ∷ cs) blocks refs =
+    refs_after digest body (place + 1) cs (blocks_with (digest c) c blocks) (refs ++ ref_to digest body place c blocks ∷ [])
 
 -- the tables once a body of these pieces is stored, from a place on
 abbrev pub body_stored : (Octets → Octets) → Name → ℕ → List Octets → Tables → Tables
-body_stored digest body place cs tables = rebodied tables (refs_after digest body place cs tables.blocks tables.refs) (blocks_after digest cs tables.blocks)
+body_stored digest body place cs tables =
+    rebodied tables (refs_after digest body place cs tables.blocks tables.refs) (blocks_after digest cs tables.blocks)
 
 -- the blocks of the tables once bytes were cut into pieces of so many: those that there were, and each piece that none of them was
 abbrev pub StoresPieces : (Octets → Octets) → ℕ → Octets → Tables → Tables → Type 0
@@ -111,7 +121,8 @@ StoresPieces digest size bytes old new = new.blocks ≡ blocks_after digest (pie
 -- references of a body to the blocks that these name, from a place on
 abbrev pub refs_again : Name → ℕ → List RefRow → List RefRow → List RefRow
 refs_again body place [] refs = refs
-refs_again body place (r ∷ rs) refs = refs_again body (place + 1) rs (refs ++ record r { tenant = body.0; body = body.1; place = place } ∷ [])
+refs_again body place (r ∷ rs) refs =
+    refs_again body (place + 1) rs (refs ++ record r { tenant = body.0; body = body.1; place = place } ∷ [])
 
 -- the tables once a body has the blocks of these references
 abbrev pub body_again : Name → ℕ → List RefRow → Tables → Tables

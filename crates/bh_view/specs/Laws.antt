@@ -50,7 +50,8 @@ NewHostIsSound = (min_part max_body digest : ℕ) → AreLimits min_part max_bod
 -- where no two blocks have one name, no block has the ordinal that a new one of the digest takes, and each less one is
 -- some block's
 abbrev pub FreeIsLeast : Type 0
-FreeIsLeast = (digest : Octets) (blocks : List BlockRow) → HasUnique same_name block_name blocks → IsLeastFree digest blocks (free_ord digest blocks)
+FreeIsLeast = (digest : Octets) (blocks : List BlockRow) → HasUnique same_name block_name blocks
+    → IsLeastFree digest blocks (free_ord digest blocks)
 
 -- the blocks that hold these bytes
 abbrev pub holding : Octets → List BlockRow → List BlockRow
@@ -68,7 +69,8 @@ pub record AddsEachOnce (body : Name) (cs : List Octets) (blocks now : List Bloc
 
 -- so it is when a body of these pieces is stored
 abbrev pub EachPieceIsOnce : Type 0
-EachPieceIsOnce = (digest : Octets → Octets) (body : Name) (cs : List Octets) (refs : List RefRow) (blocks : List BlockRow) → AreStored refs blocks → AreDigests digest blocks
+EachPieceIsOnce = (digest : Octets → Octets) (body : Name) (cs : List Octets) (refs : List RefRow) (blocks : List BlockRow)
+    → AreStored refs blocks → AreDigests digest blocks
     → AddsEachOnce body cs blocks (blocks_after digest cs blocks) (refs_after digest body 0 cs blocks refs)
 
 -- no upload that is stale at the moment is left, and of the blocks those alone that a reference still names, in their order;

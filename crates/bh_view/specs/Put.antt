@@ -61,4 +61,14 @@ rows_left Suspended tenant bucket key versions = delete_where (is_version tenant
 
 -- the row of a part under an entry number
 abbrev pub part_row : Octets → ℕ → ℕ → Octets → ℕ → ℕ → PartRow
-part_row tenant upload part bytes moment body = record { tenant = tenant; upload = upload; part = part; size = length bytes; checksum = checksum_text bytes; stamp = moment; body = body; bytes = bytes }
+part_row tenant upload part bytes moment body =
+    record {
+      tenant = tenant;
+      upload = upload;
+      part = part;
+      size = length bytes;
+      checksum = checksum_text bytes;
+      stamp = moment;
+      body = body;
+      bytes = bytes;
+    }

@@ -111,7 +111,8 @@ pub record IsPartRow (latest : ℕ) (r : PartRow) : Type 0 where
 
 -- no two rows of one number of an upload, none without its upload; of their bodies none is another's or a version's, and each was
 -- given before the tenant's next entry number
-pub record AreParts (latest : ℕ) (tenants : List TenantRow) (versions : List VersionRow) (uploads : List UploadRow) (parts : List PartRow) : Type 0 where
+pub record AreParts (latest : ℕ) (tenants : List TenantRow) (versions : List VersionRow) (uploads : List UploadRow) (parts : List PartRow) :
+    Type 0 where
   pub each : AllByRecursion (IsPartRow latest) parts
   pub one : (upload : ℕ) → HasUnique same_number (λ (p : PartRow). p.part) (of_upload upload parts)
   pub one_body : HasUnique same_number (λ (p : PartRow). p.body) parts

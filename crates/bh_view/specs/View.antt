@@ -11,7 +11,8 @@ use Rattle.bh_types.specs.declared.id.VersionId.{VersionId}
 use Rattle.bh_types.specs.declared.id.VersionId.TheVariants.{Null, Numbered}
 use Rattle.bh_types.specs.declared.bucket_state.BucketState.{BucketState}
 use Rattle.bh_types.specs.declared.bucket_state.BucketState.TheVariants.{Unversioned, Enabled, Suspended}
-use Rattle.bh_model.specs.State.{Octets, octets_cmp, version_cmp, Content, Content.Marker, Content.Body, Dates, Entry, Part, Upload, Bucket, State, is_stale}
+use Rattle.bh_model.specs.State.{Octets, octets_cmp, version_cmp, Content, Content.Marker, Content.Body, Dates, Entry, Part, Upload, Bucket}
+use Rattle.bh_model.specs.State.{State, is_stale}
 use Rattle.bh_tables.specs.Typed.{HostRow, TenantRow, KeyRow, BucketRow, VersionRow, RefRow, UploadRow, PartRow, LockRow, RetainRow, Tables}
 use Rattle.bh_tables.specs.Shown.{Name, same_name, part_name, is_bucket, is_upload, is_of_body, newer}
 use Rattle.bh_model.specs.FinMaps.{non_empty}
@@ -23,7 +24,8 @@ latest_of tables = option_map_or (λ (r : HostRow). r.latest) (first tables.host
 
 -- the limits that the host was made with
 unfoldable pub limits_in : Tables → HostLimits
-limits_in tables = option_map_or (λ (r : HostRow). record { min_part = r.min_part; max_body = r.max_body }) (first tables.host) (record { min_part = 0; max_body = 0 })
+limits_in tables = option_map_or (λ (r : HostRow). record { min_part = r.min_part; max_body = r.max_body }) (first tables.host)
+    (record { min_part = 0; max_body = 0 })
 
 -- the tables with this stamp as the last one
 abbrev pub with_latest : ℕ → Tables → Tables

@@ -16,7 +16,8 @@ use Rattle.bh_view.specs.View.{id_of, content_of, entry_of}
 
 -- of a key, with an id
 abbrev pub has_row_id : Octets → Octets → Octets → VersionId → VersionRow → Bool
-has_row_id tenant bucket key id v = bytes_eq v.tenant tenant && (bytes_eq v.bucket bucket && (bytes_eq v.okey key && same_id (id_of v.id) id))
+has_row_id tenant bucket key id v =
+    bytes_eq v.tenant tenant && (bytes_eq v.bucket bucket && (bytes_eq v.okey key && same_id (id_of v.id) id))
 
 -- the newest of the key, or the one of the id
 abbrev pub wanted_row : Octets → Octets → Octets → Wanted → List VersionRow → Option VersionRow

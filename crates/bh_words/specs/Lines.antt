@@ -36,7 +36,8 @@ pub data CommandLine : Type 0 where
   Backup : (file : Octets) (to : Octets) → CommandLine
   Export : (file : Octets) (tenant : Octets) (to : Octets) → CommandLine
   Import : (file : Octets) (given : Octets) → CommandLine
-  Serve : (file : Octets) (port : ℕ) (count : Option ℕ) (log : Bool) (timeout : ℕ) (leap : Leap) (tuning : HostTuning) (operator_port : Option ℕ)
+  Serve : (file : Octets) (port : ℕ) (count : Option ℕ) (log : Bool) (timeout : ℕ) (leap : Leap) (tuning : HostTuning)
+      (operator_port : Option ℕ)
       (operator_secret_file : Option Octets) → CommandLine
   Tell : (port : ℕ) (secret_file : Option Octets) (order : Octets) → CommandLine
 

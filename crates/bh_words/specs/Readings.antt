@@ -1,5 +1,6 @@
 -- The line that the matches of a command line tell.
-use Rattle.std.specs.Prelude.{◌≡◌, ℕ, Bool, false, ◌/◌, ◌^◌, ◌&&◌, List, codes, find, min, nat_le, nat_lt, Option, Some, None, Result, Ok, Err, if◌then◌else◌}
+use Rattle.std.specs.Prelude.{◌≡◌, ℕ, Bool, false, ◌/◌, ◌^◌, ◌&&◌, List, codes, find, min, nat_le, nat_lt, Option, Some, None, Result, Ok}
+use Rattle.std.specs.Prelude.{Err, if◌then◌else◌}
 use Rattle.std.specs.Option.{option_map_or}
 use Rattle.std.specs.Str.{bytes_eq}
 use Rattle.std.specs.Str.Parse.{digits_value, without_leading_plus}

@@ -51,7 +51,7 @@ fn asks(alloc: Global, input: &str) -> Answer {
     }
 }
 
-/// The same, of a GET without header fields whose target is these bytes: no such target comes out of the bytes of a
+/// What a GET without header fields asks for whose target is these bytes: no such target comes out of the bytes of a
 /// request.
 pub fn asks_of_target(alloc: Global, target: &[u8]) -> Answer {
     let head = Head {

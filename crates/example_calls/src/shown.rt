@@ -5,7 +5,10 @@ use Word::{
     AfterUpload, AfterVersion, Bucket, Date, Field, Number, Object, Source, Token, Upload, Version,
 };
 use bh_operation::address::ObjectName;
-use bh_operation::operation::Operation;
+use bh_operation::operation::{
+    BareOperation, BucketOperation, DocumentOperation, LifecycleOperation, ListingOperation,
+    ObjectOperation, Operation, ServiceOperation, StoreOperation, UploadOperation,
+};
 use bh_operation::page::{Page, UploadMarker, VersionMarker};
 use bh_operation::text::Bytes;
 use bh_types::bucket::BucketName;
@@ -69,7 +72,7 @@ const fn date_word<'a>(date: &'a Option<Option<Moment>>) -> Word<'a> {
 
 /// An operation and what it was asked with, on one line.
 pub fn operation_text(alloc: Global, operation: &Operation) -> Result<String, AllocError> {
-    let (name, words) = object_words(operation);
+    let (name, words) = operation_words(operation);
     let mut text = String::from_str(alloc, name)?;
     for word in words.iter() {
         push(alloc, &mut text, *word)?;
@@ -77,82 +80,47 @@ pub fn operation_text(alloc: Global, operation: &Operation) -> Result<String, Al
     Ok(text)
 }
 
-fn object_words(operation: &Operation) -> Words<'_> {
+fn operation_words(operation: &Operation) -> Words<'_> {
     match operation {
-        Operation::PutObject {
-            object,
-            checksum,
-            date,
-        } => {
-            let until = date_word(date);
-            three("PutObject", Object(object), Field(checksum), until)
-        }
-        Operation::CopyObject {
-            object,
-            source,
-            date,
-        } => {
-            let (from, version) = (Source(&source.object), Version(source.version));
-            let until = date_word(date);
-            ("CopyObject", [Object(object), from, version, until])
-        }
+        Operation::Bare(operation) => bare_words(operation),
+        Operation::ByDocument(operation) => document_words(operation),
+        Operation::Store(operation) => store_words(operation),
         Operation::GetObject {
             object,
             version,
             range,
         } => three("GetObject", Object(object), Version(*version), Field(range)),
-        Operation::HeadObject { object, version } => {
-            two("HeadObject", Object(object), Version(*version))
-        }
-        Operation::DeleteObject { object, version } => {
-            two("DeleteObject", Object(object), Version(*version))
-        }
-        _ => retention_words(operation),
     }
 }
 
-fn retention_words(operation: &Operation) -> Words<'_> {
+fn bare_words(operation: &BareOperation) -> Words<'_> {
     match operation {
-        Operation::GetRetention { object, version } => {
-            two("GetRetention", Object(object), Version(*version))
-        }
-        Operation::PutRetention { object, version } => {
-            two("PutRetention", Object(object), Version(*version))
-        }
-        _ => upload_words(operation),
+        BareOperation::Service(operation) => service_words(operation),
+        BareOperation::Bucket(operation) => bucket_words(operation),
+        BareOperation::Listing(operation) => listing_words(operation),
+        BareOperation::Lifecycle(operation) => lifecycle_words(operation),
+        BareOperation::Upload(operation) => upload_words(operation),
+        BareOperation::Object(operation) => object_words(operation),
     }
 }
 
-fn upload_words(operation: &Operation) -> Words<'_> {
+fn service_words(operation: &ServiceOperation) -> Words<'static> {
     match operation {
-        Operation::CreateMultipartUpload(object) => one("CreateMultipartUpload", Object(object)),
-        Operation::UploadPart {
-            object,
-            upload,
-            number,
-            checksum,
-        } => {
-            let (upload, number) = (Upload(*upload), Number(*number as u64));
-            (
-                "UploadPart",
-                [Object(object), upload, number, Field(checksum)],
-            )
+        ServiceOperation::ListBuckets => one("ListBuckets", Word::Nothing),
+        ServiceOperation::Usage => one("Usage", Word::Nothing),
+    }
+}
+
+fn bucket_words(operation: &BucketOperation) -> Words<'_> {
+    match operation {
+        BucketOperation::CreateBucket { bucket, locked } => {
+            two("CreateBucket", Bucket(bucket), locked_word(*locked))
         }
-        Operation::ListParts {
-            object,
-            upload,
-            page,
-        } => {
-            let (size, after) = (Number(page.size), Number(page.after));
-            ("ListParts", [Object(object), Upload(*upload), size, after])
+        BucketOperation::HeadBucket(bucket) => one("HeadBucket", Bucket(bucket)),
+        BucketOperation::DeleteBucket(bucket) => one("DeleteBucket", Bucket(bucket)),
+        BucketOperation::GetBucketVersioning(bucket) => {
+            one("GetBucketVersioning", Bucket(bucket))
         }
-        Operation::CompleteMultipartUpload { object, upload } => {
-            two("CompleteMultipartUpload", Object(object), Upload(*upload))
-        }
-        Operation::AbortMultipartUpload { object, upload } => {
-            two("AbortMultipartUpload", Object(object), Upload(*upload))
-        }
-        _ => listing_words(operation),
     }
 }
 
@@ -165,42 +133,112 @@ const fn listing<'a>(
     three(name, Bucket(bucket), Word::Page(page), after)
 }
 
-fn listing_words(operation: &Operation) -> Words<'_> {
+fn listing_words(operation: &ListingOperation) -> Words<'_> {
     match operation {
-        Operation::ListObjectsV2 {
+        ListingOperation::ListObjectsV2 {
             bucket,
             page,
             token,
         } => listing("ListObjectsV2", bucket, page, Token(token)),
-        Operation::ListObjectVersions {
+        ListingOperation::ListObjectVersions {
             bucket,
             page,
             after,
         } => listing("ListObjectVersions", bucket, page, AfterVersion(after)),
-        Operation::ListMultipartUploads {
+        ListingOperation::ListMultipartUploads {
             bucket,
             page,
             after,
         } => listing("ListMultipartUploads", bucket, page, AfterUpload(after)),
-        Operation::ListBuckets => one("ListBuckets", Word::Nothing),
-        Operation::Usage => one("Usage", Word::Nothing),
-        _ => bucket_words(operation),
     }
 }
 
-fn bucket_words(operation: &Operation) -> Words<'_> {
+fn lifecycle_words(operation: &LifecycleOperation) -> Words<'_> {
     match operation {
-        Operation::CreateBucket { bucket, locked } => {
-            two("CreateBucket", Bucket(bucket), locked_word(*locked))
+        LifecycleOperation::GetLifecycle(bucket) => one("GetLifecycle", Bucket(bucket)),
+        LifecycleOperation::DeleteLifecycle(bucket) => one("DeleteLifecycle", Bucket(bucket)),
+    }
+}
+
+fn upload_words(operation: &UploadOperation) -> Words<'_> {
+    match operation {
+        UploadOperation::CreateMultipartUpload(object) => {
+            one("CreateMultipartUpload", Object(object))
         }
-        Operation::HeadBucket(bucket) => one("HeadBucket", Bucket(bucket)),
-        Operation::DeleteBucket(bucket) => one("DeleteBucket", Bucket(bucket)),
-        Operation::GetBucketVersioning(bucket) => one("GetBucketVersioning", Bucket(bucket)),
-        Operation::PutBucketVersioning(bucket) => one("PutBucketVersioning", Bucket(bucket)),
-        Operation::GetLifecycle(bucket) => one("GetLifecycle", Bucket(bucket)),
-        Operation::PutLifecycle(bucket) => one("PutLifecycle", Bucket(bucket)),
-        Operation::DeleteLifecycle(bucket) => one("DeleteLifecycle", Bucket(bucket)),
-        _ => one("other", Word::Nothing),
+        UploadOperation::ListParts {
+            object,
+            upload,
+            page,
+        } => {
+            let (size, after) = (Number(page.size as u64), Number(page.after));
+            ("ListParts", [Object(object), Upload(*upload), size, after])
+        }
+        UploadOperation::AbortMultipartUpload { object, upload } => {
+            two("AbortMultipartUpload", Object(object), Upload(*upload))
+        }
+    }
+}
+
+fn object_words(operation: &ObjectOperation) -> Words<'_> {
+    match operation {
+        ObjectOperation::CopyObject {
+            object,
+            source,
+            date,
+        } => {
+            let (from, version) = (Source(&source.object), Version(source.version));
+            let until = date_word(date);
+            ("CopyObject", [Object(object), from, version, until])
+        }
+        ObjectOperation::HeadObject { object, version } => {
+            two("HeadObject", Object(object), Version(*version))
+        }
+        ObjectOperation::DeleteObject { object, version } => {
+            two("DeleteObject", Object(object), Version(*version))
+        }
+        ObjectOperation::GetRetention { object, version } => {
+            two("GetRetention", Object(object), Version(*version))
+        }
+    }
+}
+
+fn document_words(operation: &DocumentOperation) -> Words<'_> {
+    match operation {
+        DocumentOperation::PutBucketVersioning(bucket) => {
+            one("PutBucketVersioning", Bucket(bucket))
+        }
+        DocumentOperation::PutLifecycle(bucket) => one("PutLifecycle", Bucket(bucket)),
+        DocumentOperation::CompleteMultipartUpload { object, upload } => {
+            two("CompleteMultipartUpload", Object(object), Upload(*upload))
+        }
+        DocumentOperation::PutRetention { object, version } => {
+            two("PutRetention", Object(object), Version(*version))
+        }
+    }
+}
+
+fn store_words(operation: &StoreOperation) -> Words<'_> {
+    match operation {
+        StoreOperation::PutObject {
+            object,
+            checksum,
+            date,
+        } => {
+            let until = date_word(date);
+            three("PutObject", Object(object), Field(checksum), until)
+        }
+        StoreOperation::UploadPart {
+            object,
+            upload,
+            number,
+            checksum,
+        } => {
+            let (upload, number) = (Upload(*upload), Number(*number as u64));
+            (
+                "UploadPart",
+                [Object(object), upload, number, Field(checksum)],
+            )
+        }
     }
 }
 

@@ -23,7 +23,7 @@ pub fn settings() -> Option<(Limits, Tuning)> {
     settings_keeping(0)
 }
 
-/// The same, but that so many blocks are kept.
+/// Blocks of 4 bytes, of which so many are kept in memory.
 fn settings_keeping(cache_blocks: u64) -> Option<(Limits, Tuning)> {
     Some((
         Limits::new(4, DEFAULT_MAX_BODY)?,

@@ -24,7 +24,8 @@ use std::{env, io};
 const USAGE: &str = "usage: examples WORD..
 
   tables NAME..     compares each row of tables/NAME.txt: a call, its input and what it is to give
-  any-digest NAME..  compares the answers to scripts/NAME.in of hosts of SHA-256, of SipHash, of a constant digest and of one with two values
+  any-digest NAME..  compares the answers to scripts/NAME.in of hosts of SHA-256, of SipHash,
+      of a constant digest and of one with two values
   connections NAME..  compares the answers to scripts/NAME.in with scripts/NAME.out: the operator's commands come first, then
                     the requests, over connections in memory, cut as the lines of scripts/NAME.cuts say, if it is there
   stops NAME..      stops the log, and then the database file, of a host in memory at each call of scripts/NAME.in, and looks whether

@@ -1,8 +1,9 @@
-ghost use Rattle.std.specs.Prelude.{◌≡◌, IfOk, IfErr, OnOk, Some, find};
+ghost use Rattle.std.specs.Prelude.{◌≡◌, IfOk, IfErr, Some, find};
 ghost use Rattle.std.specs.Str.{IsUtf8};
 ghost use Rattle.bh_tables.specs.Typed.{KeyRow as Stored};
 ghost use Rattle.bh_tables.specs.Shown.{is_key};
-ghost use Rattle.bh_schema.specs.Connections.{IsClean, tables, InTransaction, StaysWithin, WasOpen, ChangesNothing, IsTroubleIf};
+ghost use Rattle.bh_schema.specs.Calls.{Reads};
+ghost use Rattle.bh_schema.specs.Connections.{IsClean, tables, InTransaction, IsTroubleIf};
 ghost use Rattle.bh_schema.specs.Known.{key_known};
 
 use crate::rows::keys::find_secret;
@@ -27,9 +28,7 @@ pub fn find_key<S: Alter>(
     name: &str,
 ) -> Result<Known, Error>
     requires inside { InTransaction S.Store connection.old }
-    ensures within { StaysWithin S.Store connection.old connection.new }
-    ensures opens { OnOk result (WasOpen S.Store connection.old connection.new) }
-    ensures same { OnOk result (ChangesNothing S.Store connection.old connection.new) }
+    ensures reads { Reads S.Store connection.old connection.new result }
     ensures known { IfOk result (λ known. IsClean S.Store connection.new
         → known ≡ key_known (tables S.Store connection.old) tenant.now name.now) }
     ensures trouble { IfErr result (IsTroubleIf S.Store connection.old connection.new

@@ -1,12 +1,15 @@
-ghost use Rattle.std.specs.Prelude.{◌≡◌, ◌++◌, ◌∷◌, [], ◌<◌, ◌^◌, true, None, map, filter, find, option_map, IfOk, IfErr, OnOk};
-ghost use Rattle.sqlite_keyed.specs.Lists.{update_where};
+ghost use Rattle.std.specs.Prelude.{◌≡◌, ◌++◌, ◌∷◌, [], ◌<◌, ◌^◌, find, option_map, IfOk, IfErr, OnOk};
 ghost use Rattle.bh_tables.specs.Typed.{TenantRow as Stored, Tables, totals_of, used_changed};
 ghost use Rattle.bh_tables.specs.Shown.{is_tenant, shown_tenant, shown_account};
-ghost use Rattle.bh_rows.specs.Means.{is_trouble};
-ghost use Rattle.bh_schema.specs.Connections.{IsClean, tables, InTransaction, InMidst, Rewrites, StaysWithin, WasOpen, StaysOpen, ChangesNothing, Becomes, IsTrouble, IsTroubleIf};
+ghost use Rattle.bh_schema.specs.Calls.{Reads, Writes, WritesOn};
+ghost use Rattle.bh_schema.specs.Connections.{IsClean, tables, InTransaction, InMidst, Rewrites, Becomes, IsTrouble, IsTroubleIf};
+ghost use Rattle.bh_schema.specs.Written.{with_next, with_numbers};
+ghost use Rattle.bh_schema.specs.OwnNumbers.{with_number, IsTextOf};
 ghost use Rattle.bh_schema.specs.Rows.{tenant_numbers, tenant_account, IsNewTenant};
 
 use crate::rows::number::number;
+use crate::rows::reading::{FromRow, first_of};
+use crate::rows::writing::write;
 use sqlite::types::ToSql;
 use sqlite::{Alter, Connection, Error, Row};
 
@@ -31,31 +34,76 @@ pub struct TenantAccount {
     pub used: u64,
 }
 
-fn read_numbers(row: &Row) -> Result<TenantNumbers, Error>
-    ensures read { IfOk result (λ numbers. (t : Stored) → row.now ≡ shown_tenant t → numbers ≡ tenant_numbers t) }
-    ensures trouble { IfErr result (λ e. (t : Stored) → row.now ≡ shown_tenant t → is_trouble e ≡ true) }
-{
-    Ok(TenantNumbers {
-        quota: row.get(0)?,
-        next_version: row.get(1)?,
-        next_upload: row.get(2)?,
-        next_entry: row.get(3)?,
-    })
+/// What becomes of one of a tenant's numbers: its place among them.
+#[derive(Clone, Copy)]
+pub enum TenantNumber {
+    /// In bytes.
+    Quota,
+    /// That its next upload takes.
+    NextUpload,
+    /// That its next version, marker or part takes.
+    NextEntry,
 }
 
-fn tenant_rows<S: Alter>(connection: &mut Connection<S>, name: &str) -> Result<Vec<Row>, Error>
-    requires inside { InTransaction S.Store connection.old }
-    ensures within { StaysWithin S.Store connection.old connection.new }
-    ensures opens { OnOk result (WasOpen S.Store connection.old connection.new) }
-    ensures same { OnOk result (ChangesNothing S.Store connection.old connection.new) }
-    ensures rows { IfOk result (λ rows. IsClean S.Store connection.new
-        → rows.items ≡ map shown_tenant (filter (is_tenant name.now) (tables S.Store connection.old).tenants)) }
-    ensures trouble { IfErr result (IsTrouble S.Store connection.old connection.new) }
-{
-    connection.query_all(
-        "SELECT quota, next_version, next_upload, next_entry FROM tenants WHERE tenant = ?1 ORDER BY rowid",
-        &[name.to_sql()],
-    )
+impl TenantNumber {
+    fn text(self) -> &'static str
+        ensures { IsTextOf self result.now }
+    {
+        match self {
+            TenantNumber::Quota => "UPDATE tenants SET quota = ?2 WHERE tenant = ?1",
+            TenantNumber::NextUpload => "UPDATE tenants SET next_upload = ?2 WHERE tenant = ?1",
+            TenantNumber::NextEntry => "UPDATE tenants SET next_entry = ?2 WHERE tenant = ?1",
+        }
+    }
+}
+
+impl FromRow for TenantNumbers {
+    ghost Typed = { Stored };
+
+    ghost shown = { shown_tenant };
+
+    ghost Meaning = { Self };
+
+    ghost meaning = { λ numbers. numbers };
+
+    ghost told = { tenant_numbers };
+
+    ghost IsReadable = { λ _. Unit {0} };
+
+    fn read(row: &Row) -> Result<TenantNumbers, Error> {
+        Ok(TenantNumbers {
+            quota: row.get(0)?,
+            next_version: row.get(1)?,
+            next_upload: row.get(2)?,
+            next_entry: row.get(3)?,
+        })
+    }
+}
+
+impl FromRow for TenantAccount {
+    ghost Typed = { Tables × Stored };
+
+    ghost shown = { λ t. shown_account (totals_of t.0) t.1 };
+
+    ghost Meaning = { Self };
+
+    ghost meaning = { λ account. account };
+
+    ghost told = { λ t. tenant_account t.0 t.1 };
+
+    ghost IsReadable = { λ _. Unit {0} };
+
+    fn read(row: &Row) -> Result<TenantAccount, Error> {
+        Ok(TenantAccount {
+            numbers: TenantNumbers {
+                quota: row.get(0)?,
+                next_version: row.get(1)?,
+                next_upload: row.get(2)?,
+                next_entry: row.get(3)?,
+            },
+            used: row.get(4)?,
+        })
+    }
 }
 
 /// The numbers of the tenant of this name, if there is one.
@@ -64,51 +112,16 @@ pub fn find_tenant<S: Alter>(
     name: &str,
 ) -> Result<Option<TenantNumbers>, Error>
     requires inside { InTransaction S.Store connection.old }
-    ensures within { StaysWithin S.Store connection.old connection.new }
-    ensures opens { OnOk result (WasOpen S.Store connection.old connection.new) }
-    ensures same { OnOk result (ChangesNothing S.Store connection.old connection.new) }
+    ensures reads { Reads S.Store connection.old connection.new result }
     ensures found { IfOk result (λ found. IsClean S.Store connection.new
         → found ≡ option_map tenant_numbers (find (is_tenant name.now) (tables S.Store connection.old).tenants)) }
     ensures trouble { IfErr result (IsTrouble S.Store connection.old connection.new) }
 {
-    let rows = tenant_rows(connection, name)?;
-    match rows.first() {
-        None => Ok(None),
-        Some(row) => Ok(Some(read_numbers(row)?)),
-    }
-}
-
-fn read_account(row: &Row) -> Result<TenantAccount, Error>
-    ensures read { IfOk result (λ account. (rows : Tables) (t : Stored)
-        → row.now ≡ shown_account (totals_of rows) t → account ≡ tenant_account rows t) }
-    ensures trouble { IfErr result (λ e. (rows : Tables) (t : Stored)
-        → row.now ≡ shown_account (totals_of rows) t → is_trouble e ≡ true) }
-{
-    Ok(TenantAccount {
-        numbers: TenantNumbers {
-            quota: row.get(0)?,
-            next_version: row.get(1)?,
-            next_upload: row.get(2)?,
-            next_entry: row.get(3)?,
-        },
-        used: row.get(4)?,
-    })
-}
-
-fn account_rows<S: Alter>(connection: &mut Connection<S>, name: &str) -> Result<Vec<Row>, Error>
-    requires inside { InTransaction S.Store connection.old }
-    ensures within { StaysWithin S.Store connection.old connection.new }
-    ensures opens { OnOk result (WasOpen S.Store connection.old connection.new) }
-    ensures same { OnOk result (ChangesNothing S.Store connection.old connection.new) }
-    ensures rows { IfOk result (λ rows. IsClean S.Store connection.new
-        → rows.items ≡ map (shown_account (totals_of (tables S.Store connection.old)))
-        (filter (is_tenant name.now) (tables S.Store connection.old).tenants)) }
-    ensures trouble { IfErr result (IsTrouble S.Store connection.old connection.new) }
-{
-    connection.query_all(
-        "SELECT quota, next_version, next_upload, next_entry, used FROM tenants WHERE tenant = ?1 ORDER BY rowid",
+    let rows = connection.query_all(
+        "SELECT quota, next_version, next_upload, next_entry FROM tenants WHERE tenant = ?1 ORDER BY rowid",
         &[name.to_sql()],
-    )
+    )?;
+    first_of(&rows)
 }
 
 /// The numbers of the tenant of this name and the bytes that it uses, if there is one. No row of another table is read.
@@ -117,19 +130,17 @@ pub fn find_account<S: Alter>(
     name: &str,
 ) -> Result<Option<TenantAccount>, Error>
     requires inside { InTransaction S.Store connection.old }
-    ensures within { StaysWithin S.Store connection.old connection.new }
-    ensures opens { OnOk result (WasOpen S.Store connection.old connection.new) }
-    ensures same { OnOk result (ChangesNothing S.Store connection.old connection.new) }
+    ensures reads { Reads S.Store connection.old connection.new result }
     ensures found { IfOk result (λ found. IsClean S.Store connection.new
         → found ≡ option_map (tenant_account (tables S.Store connection.old))
         (find (is_tenant name.now) (tables S.Store connection.old).tenants)) }
     ensures trouble { IfErr result (IsTrouble S.Store connection.old connection.new) }
 {
-    let rows = account_rows(connection, name)?;
-    match rows.first() {
-        None => Ok(None),
-        Some(row) => Ok(Some(read_account(row)?)),
-    }
+    let rows = connection.query_all(
+        "SELECT quota, next_version, next_upload, next_entry, used FROM tenants WHERE tenant = ?1 ORDER BY rowid",
+        &[name.to_sql()],
+    )?;
+    first_of(&rows)
 }
 
 /// Adds a tenant, each of whose counters gives 1 next.
@@ -140,8 +151,7 @@ pub fn insert_tenant<S: Alter>(
 ) -> Result<usize, Error>
     requires inside { InTransaction S.Store connection.old }
     requires small { quota < 2 ^ 63 }
-    ensures within { StaysWithin S.Store connection.old connection.new }
-    ensures opens { OnOk result (StaysOpen S.Store connection.old connection.new) }
+    ensures writes { Writes S.Store connection.old connection.new result }
     ensures holds { OnOk result (Becomes S.Store connection.old connection.new
         (λ rows. record rows {
           tenants = rows.tenants
@@ -150,56 +160,27 @@ pub fn insert_tenant<S: Alter>(
     ensures trouble { IfErr result (IsTroubleIf S.Store connection.old connection.new
         (IsNewTenant (tables S.Store connection.old) name.now)) }
 {
-    // Asked for what it ensures: the rows obey the schema.
-    let _schema = connection.schema();
-    connection.execute(
+    write(
+        connection,
         "INSERT INTO tenants (tenant, quota, next_version, next_upload, next_entry, used) VALUES (?1, ?2, 1, 1, 1, 0)",
         &[name.to_sql(), number(quota)],
     )
 }
 
-/// Sets the tenant's quota in bytes.
-pub fn set_quota<S: Alter>(
+/// Sets a number of the tenant's.
+pub fn set_number<S: Alter>(
     connection: &mut Connection<S>,
     tenant: &str,
-    quota: u64,
+    which: TenantNumber,
+    n: u64,
 ) -> Result<usize, Error>
     requires inside { InTransaction S.Store connection.old }
-    requires small { quota < 2 ^ 63 }
-    ensures within { StaysWithin S.Store connection.old connection.new }
-    ensures opens { OnOk result (StaysOpen S.Store connection.old connection.new) }
-    ensures holds { OnOk result (Becomes S.Store connection.old connection.new
-        (λ rows. record rows { tenants = update_where (is_tenant tenant.now) (λ t. record t { quota = quota }) rows.tenants })) }
+    requires small { n < 2 ^ 63 }
+    ensures writes { Writes S.Store connection.old connection.new result }
+    ensures holds { OnOk result (Becomes S.Store connection.old connection.new (with_number which tenant.now n)) }
     ensures trouble { IfErr result (IsTrouble S.Store connection.old connection.new) }
 {
-    // Asked for what it ensures: the rows obey the schema.
-    let _schema = connection.schema();
-    connection.execute(
-        "UPDATE tenants SET quota = ?2 WHERE tenant = ?1",
-        &[tenant.to_sql(), number(quota)],
-    )
-}
-
-/// Sets the number that the tenant's next version, marker or part takes.
-pub fn set_next_entry<S: Alter>(
-    connection: &mut Connection<S>,
-    tenant: &str,
-    next: u64,
-) -> Result<usize, Error>
-    requires inside { InTransaction S.Store connection.old }
-    requires small { next < 2 ^ 63 }
-    ensures within { StaysWithin S.Store connection.old connection.new }
-    ensures opens { OnOk result (StaysOpen S.Store connection.old connection.new) }
-    ensures holds { OnOk result (Becomes S.Store connection.old connection.new
-        (λ rows. record rows { tenants = update_where (is_tenant tenant.now) (λ t. record t { next_entry = next }) rows.tenants })) }
-    ensures trouble { IfErr result (IsTrouble S.Store connection.old connection.new) }
-{
-    // Asked for what it ensures: the rows obey the schema.
-    let _schema = connection.schema();
-    connection.execute(
-        "UPDATE tenants SET next_entry = ?2 WHERE tenant = ?1",
-        &[tenant.to_sql(), number(next)],
-    )
+    write(connection, which.text(), &[tenant.to_sql(), number(n)])
 }
 
 /// Sets the numbers that the tenant's next numbered version and its next entry take.
@@ -212,18 +193,12 @@ pub fn set_numbers<S: Alter>(
     requires inside { InTransaction S.Store connection.old }
     requires version { version < 2 ^ 63 }
     requires entry { entry < 2 ^ 63 }
-    ensures within { StaysWithin S.Store connection.old connection.new }
-    ensures opens { OnOk result (StaysOpen S.Store connection.old connection.new) }
-    ensures holds { OnOk result (Becomes S.Store connection.old connection.new
-        (λ rows. record rows {
-          tenants =
-              update_where (is_tenant tenant.now) (λ t. record t { next_version = version; next_entry = entry }) rows.tenants;
-        })) }
+    ensures writes { Writes S.Store connection.old connection.new result }
+    ensures holds { OnOk result (Becomes S.Store connection.old connection.new (with_numbers tenant.now version entry)) }
     ensures trouble { IfErr result (IsTrouble S.Store connection.old connection.new) }
 {
-    // Asked for what it ensures: the rows obey the schema.
-    let _schema = connection.schema();
-    connection.execute(
+    write(
+        connection,
         "UPDATE tenants SET next_version = ?2, next_entry = ?3 WHERE tenant = ?1",
         &[tenant.to_sql(), number(version), number(entry)],
     )
@@ -242,15 +217,12 @@ pub fn use_entry<S: Alter>(
     requires small { next < 2 ^ 63 }
     requires more { more < 2 ^ 62 }
     requires less { less < 2 ^ 62 }
-    ensures within { StaysWithin S.Store connection.old connection.new }
-    ensures opens { OnOk result (StaysOpen S.Store connection.old connection.new) }
-    ensures midst { OnOk result (InMidst S.Store connection.new) }
+    ensures writes { WritesOn S.Store connection.old connection.new result }
     ensures rewrites { OnOk result (Rewrites S.Store connection.old connection.new (used_changed tenant.now more less)
-        (λ rows. record rows { tenants = update_where (is_tenant tenant.now) (λ t. record t { next_entry = next }) rows.tenants })) }
+        (with_next tenant.now next)) }
 {
-    // Asked for what it ensures: the rows obey the schema.
-    let _schema = connection.schema();
-    connection.execute(
+    write(
+        connection,
         "UPDATE tenants SET next_entry = ?2, used = used + ?3 - ?4 WHERE tenant = ?1",
         &[tenant.to_sql(), number(next), number(more), number(less)],
     )
@@ -271,18 +243,12 @@ pub fn use_numbers<S: Alter>(
     requires entry { entry < 2 ^ 63 }
     requires more { more < 2 ^ 62 }
     requires less { less < 2 ^ 62 }
-    ensures within { StaysWithin S.Store connection.old connection.new }
-    ensures opens { OnOk result (StaysOpen S.Store connection.old connection.new) }
-    ensures midst { OnOk result (InMidst S.Store connection.new) }
+    ensures writes { WritesOn S.Store connection.old connection.new result }
     ensures rewrites { OnOk result (Rewrites S.Store connection.old connection.new (used_changed tenant.now more less)
-        (λ rows. record rows {
-          tenants =
-              update_where (is_tenant tenant.now) (λ t. record t { next_version = version; next_entry = entry }) rows.tenants;
-        })) }
+        (with_numbers tenant.now version entry)) }
 {
-    // Asked for what it ensures: the rows obey the schema.
-    let _schema = connection.schema();
-    connection.execute(
+    write(
+        connection,
         "UPDATE tenants SET next_version = ?2, next_entry = ?3, used = used + ?4 - ?5 WHERE tenant = ?1",
         &[
             tenant.to_sql(),
@@ -302,14 +268,11 @@ pub fn use_less<S: Alter>(
 ) -> Result<usize, Error>
     requires midst { InMidst S.Store connection.old }
     requires less { less < 2 ^ 62 }
-    ensures within { StaysWithin S.Store connection.old connection.new }
-    ensures opens { OnOk result (StaysOpen S.Store connection.old connection.new) }
-    ensures midst { OnOk result (InMidst S.Store connection.new) }
+    ensures writes { WritesOn S.Store connection.old connection.new result }
     ensures rewrites { OnOk result (Rewrites S.Store connection.old connection.new (used_changed tenant.now 0 less) (λ rows. rows)) }
 {
-    // Asked for what it ensures: the rows obey the schema.
-    let _schema = connection.schema();
-    connection.execute(
+    write(
+        connection,
         "UPDATE tenants SET used = used - ?2 WHERE tenant = ?1",
         &[tenant.to_sql(), number(less)],
     )

@@ -1,18 +1,18 @@
-ghost use Rattle.std.specs.Prelude.{◌≡◌, ◌++◌, ◌∷◌, [], ◌<◌, ◌^◌, true, None, Some, map, filter, find, take, option_map, IfOk, IfErr, OnOk};
-ghost use Rattle.std.specs.List.{list_any};
+ghost use Rattle.std.specs.Prelude.{◌≡◌, ◌++◌, ◌∷◌, [], ◌<◌, ◌^◌, Some, find, take, option_map, IfOk, IfErr, OnOk};
 ghost use Rattle.std.specs.Str.{IsUtf8};
-ghost use Rattle.sqlite_keyed.specs.Lists.{delete_where, sort_by};
 ghost use Rattle.bh_tables.specs.Typed.{VersionRow as Stored};
 ghost use Rattle.bh_tables.specs.Bodies.{resolved};
-ghost use Rattle.bh_tables.specs.Shown.{is_version, is_at, is_in_bucket, by_id, shown_head, shown_seq, newer};
-ghost use Rattle.bh_rows.specs.Means.{is_trouble};
-ghost use Rattle.bh_schema.specs.Connections.{IsClean, tables, InTransaction, InMidst, Rewrites, StaysWithin, WasOpen, StaysOpen, ChangesNothing, Becomes, IsTrouble, IsTroubleIf};
-ghost use Rattle.bh_schema.specs.Rows.{seen_head, newest_at, IsNewVersion};
+ghost use Rattle.bh_tables.specs.Shown.{is_version, shown_head};
+ghost use Rattle.bh_schema.specs.Calls.{Reads, Writes, WritesOn};
+ghost use Rattle.bh_schema.specs.Connections.{IsClean, tables, InTransaction, InMidst, Rewrites, Becomes, IsTroubleIf};
+ghost use Rattle.bh_schema.specs.Rows.{SeenHead, seen_head, newest_at, IsNewVersion};
 ghost use Rattle.bh_schema.specs.Views.{head_seen};
 ghost use Rattle.bh_schema.specs.Written.{with_version, without_version, with_next, with_numbers, bytes_of_id};
 
 use crate::rows::number::number;
+use crate::rows::reading::{FromRow, first_of};
 use crate::rows::tenants::{use_entry, use_less, use_numbers};
+use crate::rows::writing::write;
 use sqlite::types::ToSql;
 use sqlite::{Alter, Connection, Error, Row};
 
@@ -64,39 +64,29 @@ pub struct NewMarker<'a> {
     pub stamp: u64,
 }
 
-fn read_head(row: &Row) -> Result<VersionHead, Error>
-    ensures read { IfOk result (λ head. (v : Stored) → row.now ≡ shown_head v → head_seen head ≡ seen_head v) }
-    ensures trouble { IfErr result (λ e. (v : Stored) → row.now ≡ shown_head v → IsUtf8 v.checksum → is_trouble e ≡ true) }
-{
-    Ok(VersionHead {
-        seq: row.get(0)?,
-        id: row.get(1)?,
-        marker: row.get(2)?,
-        stamp: row.get(3)?,
-        size: row.get(4)?,
-        checksum: row.get(5)?,
-    })
-}
+impl FromRow for VersionHead {
+    ghost Typed = { Stored };
 
-fn newest_rows<S: Alter>(
-    connection: &mut Connection<S>,
-    tenant: &str,
-    bucket: &str,
-    okey: &[u8],
-) -> Result<Vec<Row>, Error>
-    requires inside { InTransaction S.Store connection.old }
-    ensures within { StaysWithin S.Store connection.old connection.new }
-    ensures opens { OnOk result (WasOpen S.Store connection.old connection.new) }
-    ensures same { OnOk result (ChangesNothing S.Store connection.old connection.new) }
-    ensures rows { IfOk result (λ rows. IsClean S.Store connection.new
-        → rows.items ≡ take 1 (map shown_head
-        (sort_by newer (filter (is_at tenant.now bucket.now okey.now) (tables S.Store connection.old).versions)))) }
-    ensures trouble { IfErr result (IsTrouble S.Store connection.old connection.new) }
-{
-    connection.query_all(
-        "SELECT seq, id, marker, stamp, size, sum FROM versions WHERE tenant = ?1 AND bucket = ?2 AND okey = ?3 ORDER BY seq DESC, rowid LIMIT 1",
-        &[tenant.to_sql(), bucket.to_sql(), okey.to_sql()],
-    )
+    ghost shown = { shown_head };
+
+    ghost Meaning = { SeenHead };
+
+    ghost meaning = { head_seen };
+
+    ghost told = { seen_head };
+
+    ghost IsReadable = { λ v. IsUtf8 v.checksum };
+
+    fn read(row: &Row) -> Result<VersionHead, Error> {
+        Ok(VersionHead {
+            seq: row.get(0)?,
+            id: row.get(1)?,
+            marker: row.get(2)?,
+            stamp: row.get(3)?,
+            size: row.get(4)?,
+            checksum: row.get(5)?,
+        })
+    }
 }
 
 /// The newest version or marker of a key, if it has one.
@@ -107,9 +97,7 @@ pub fn newest_version<S: Alter>(
     okey: &[u8],
 ) -> Result<Option<VersionHead>, Error>
     requires inside { InTransaction S.Store connection.old }
-    ensures within { StaysWithin S.Store connection.old connection.new }
-    ensures opens { OnOk result (WasOpen S.Store connection.old connection.new) }
-    ensures same { OnOk result (ChangesNothing S.Store connection.old connection.new) }
+    ensures reads { Reads S.Store connection.old connection.new result }
     ensures found { IfOk result (λ found. IsClean S.Store connection.new
         → option_map head_seen found ≡ option_map seen_head
         (newest_at tenant.now bucket.now okey.now (tables S.Store connection.old).versions)) }
@@ -117,33 +105,11 @@ pub fn newest_version<S: Alter>(
         ((v : Stored) → newest_at tenant.now bucket.now okey.now (tables S.Store connection.old).versions ≡ Some v
         → IsUtf8 v.checksum)) }
 {
-    let rows = newest_rows(connection, tenant, bucket, okey)?;
-    match rows.first() {
-        None => Ok(None),
-        Some(row) => Ok(Some(read_head(row)?)),
-    }
-}
-
-fn head_rows<S: Alter>(
-    connection: &mut Connection<S>,
-    tenant: &str,
-    bucket: &str,
-    okey: &[u8],
-    id: u64,
-) -> Result<Vec<Row>, Error>
-    requires inside { InTransaction S.Store connection.old }
-    requires small { id < 2 ^ 63 }
-    ensures within { StaysWithin S.Store connection.old connection.new }
-    ensures opens { OnOk result (WasOpen S.Store connection.old connection.new) }
-    ensures same { OnOk result (ChangesNothing S.Store connection.old connection.new) }
-    ensures rows { IfOk result (λ rows. IsClean S.Store connection.new
-        → rows.items ≡ map shown_head (filter (is_version tenant.now bucket.now okey.now id) (tables S.Store connection.old).versions)) }
-    ensures trouble { IfErr result (IsTrouble S.Store connection.old connection.new) }
-{
-    connection.query_all(
-        "SELECT seq, id, marker, stamp, size, sum FROM versions WHERE tenant = ?1 AND bucket = ?2 AND okey = ?3 AND id = ?4 ORDER BY rowid",
-        &[tenant.to_sql(), bucket.to_sql(), okey.to_sql(), number(id)],
-    )
+    let rows = connection.query_all(
+        "SELECT seq, id, marker, stamp, size, sum FROM versions WHERE tenant = ?1 AND bucket = ?2 AND okey = ?3 ORDER BY seq DESC, rowid LIMIT 1",
+        &[tenant.to_sql(), bucket.to_sql(), okey.to_sql()],
+    )?;
+    first_of(&rows)
 }
 
 /// The version or marker of a key with this id, without its bytes, if there is one; 0 is `null`.
@@ -156,9 +122,7 @@ pub fn version_of_id<S: Alter>(
 ) -> Result<Option<VersionHead>, Error>
     requires inside { InTransaction S.Store connection.old }
     requires small { id < 2 ^ 63 }
-    ensures within { StaysWithin S.Store connection.old connection.new }
-    ensures opens { OnOk result (WasOpen S.Store connection.old connection.new) }
-    ensures same { OnOk result (ChangesNothing S.Store connection.old connection.new) }
+    ensures reads { Reads S.Store connection.old connection.new result }
     ensures found { IfOk result (λ found. IsClean S.Store connection.new
         → option_map head_seen found ≡ option_map seen_head
         (find (is_version tenant.now bucket.now okey.now id) (tables S.Store connection.old).versions)) }
@@ -166,52 +130,11 @@ pub fn version_of_id<S: Alter>(
         ((v : Stored) → find (is_version tenant.now bucket.now okey.now id) (tables S.Store connection.old).versions ≡ Some v
         → IsUtf8 v.checksum)) }
 {
-    let rows = head_rows(connection, tenant, bucket, okey, id)?;
-    match rows.first() {
-        None => Ok(None),
-        Some(row) => Ok(Some(read_head(row)?)),
-    }
-}
-
-fn first_rows<S: Alter>(
-    connection: &mut Connection<S>,
-    tenant: &str,
-    bucket: &str,
-) -> Result<Vec<Row>, Error>
-    requires inside { InTransaction S.Store connection.old }
-    ensures within { StaysWithin S.Store connection.old connection.new }
-    ensures opens { OnOk result (WasOpen S.Store connection.old connection.new) }
-    ensures same { OnOk result (ChangesNothing S.Store connection.old connection.new) }
-    ensures rows { IfOk result (λ rows. IsClean S.Store connection.new
-        → rows.items ≡ take 1 (map shown_seq
-        (sort_by by_id (filter (is_in_bucket tenant.now bucket.now) (tables S.Store connection.old).versions)))) }
-    ensures trouble { IfErr result (IsTrouble S.Store connection.old connection.new) }
-{
-    connection.query_all(
-        "SELECT seq FROM versions WHERE tenant = ?1 AND bucket = ?2 ORDER BY okey, id, rowid LIMIT 1",
-        &[tenant.to_sql(), bucket.to_sql()],
-    )
-}
-
-/// Whether a bucket has a version or a marker.
-pub fn bucket_has_versions<S: Alter>(
-    connection: &mut Connection<S>,
-    tenant: &str,
-    bucket: &str,
-) -> Result<bool, Error>
-    requires inside { InTransaction S.Store connection.old }
-    ensures within { StaysWithin S.Store connection.old connection.new }
-    ensures opens { OnOk result (WasOpen S.Store connection.old connection.new) }
-    ensures same { OnOk result (ChangesNothing S.Store connection.old connection.new) }
-    ensures found { IfOk result (λ found. IsClean S.Store connection.new
-        → found ≡ list_any (is_in_bucket tenant.now bucket.now) (tables S.Store connection.old).versions) }
-    ensures trouble { IfErr result (IsTrouble S.Store connection.old connection.new) }
-{
-    let rows = first_rows(connection, tenant, bucket)?;
-    match rows.first() {
-        None => Ok(false),
-        Some(_row) => Ok(true),
-    }
+    let rows = connection.query_all(
+        "SELECT seq, id, marker, stamp, size, sum FROM versions WHERE tenant = ?1 AND bucket = ?2 AND okey = ?3 AND id = ?4 ORDER BY rowid",
+        &[tenant.to_sql(), bucket.to_sql(), okey.to_sql(), number(id)],
+    )?;
+    first_of(&rows)
 }
 
 /// The row of a version, whose bytes are those of the body of its name: in the midst of a write of what its tenant uses.
@@ -224,14 +147,11 @@ fn insert_version<S: Alter>(
     requires id { version.now.id < 2 ^ 63 }
     requires stamp { version.now.stamp < 2 ^ 63 }
     requires size { version.now.size < 2 ^ 63 }
-    ensures within { StaysWithin S.Store connection.old connection.new }
-    ensures opens { OnOk result (StaysOpen S.Store connection.old connection.new) }
-    ensures midst { OnOk result (InMidst S.Store connection.new) }
+    ensures writes { WritesOn S.Store connection.old connection.new result }
     ensures rewrites { OnOk result (Rewrites S.Store connection.old connection.new (λ sums. sums) (with_version version.now)) }
 {
-    // Asked for what it ensures: the rows obey the schema.
-    let _schema = connection.schema();
-    connection.execute(
+    write(
+        connection,
         "INSERT INTO versions (tenant, seq, bucket, okey, id, marker, stamp, size, sum) VALUES (?1, ?2, ?3, ?4, ?5, 0, ?6, ?7, ?8)",
         &[
             version.tenant.to_sql(),
@@ -256,15 +176,12 @@ fn remove_version<S: Alter>(
 ) -> Result<usize, Error>
     requires midst { InMidst S.Store connection.old }
     requires small { id < 2 ^ 63 }
-    ensures within { StaysWithin S.Store connection.old connection.new }
-    ensures opens { OnOk result (StaysOpen S.Store connection.old connection.new) }
-    ensures midst { OnOk result (InMidst S.Store connection.new) }
+    ensures writes { WritesOn S.Store connection.old connection.new result }
     ensures rewrites { OnOk result (Rewrites S.Store connection.old connection.new (λ sums. sums)
         (without_version tenant.now bucket.now okey.now id)) }
 {
-    // Asked for what it ensures: the rows obey the schema.
-    let _schema = connection.schema();
-    connection.execute(
+    write(
+        connection,
         "DELETE FROM versions WHERE tenant = ?1 AND bucket = ?2 AND okey = ?3 AND id = ?4",
         &[tenant.to_sql(), bucket.to_sql(), okey.to_sql(), number(id)],
     )
@@ -282,8 +199,7 @@ pub fn add_version<S: Alter>(
     requires stamp { version.now.stamp < 2 ^ 63 }
     requires size { version.now.size < 2 ^ 62 }
     requires small { next < 2 ^ 63 }
-    ensures within { StaysWithin S.Store connection.old connection.new }
-    ensures opens { OnOk result (StaysOpen S.Store connection.old connection.new) }
+    ensures writes { Writes S.Store connection.old connection.new result }
     ensures holds { OnOk result (Becomes S.Store connection.old connection.new
         (λ rows. with_version version.now (with_next version.now.tenant.now next rows))) }
 {
@@ -306,8 +222,7 @@ pub fn add_numbered<S: Alter>(
     requires size { version.now.size < 2 ^ 62 }
     requires version { next_version < 2 ^ 63 }
     requires entry { next_entry < 2 ^ 63 }
-    ensures within { StaysWithin S.Store connection.old connection.new }
-    ensures opens { OnOk result (StaysOpen S.Store connection.old connection.new) }
+    ensures writes { Writes S.Store connection.old connection.new result }
     ensures holds { OnOk result (Becomes S.Store connection.old connection.new
         (λ rows. with_version version.now (with_numbers version.now.tenant.now next_version next_entry rows))) }
 {
@@ -332,8 +247,7 @@ pub fn insert_marker<S: Alter>(
     requires seq { marker.now.seq < 2 ^ 63 }
     requires id { marker.now.id < 2 ^ 63 }
     requires stamp { marker.now.stamp < 2 ^ 63 }
-    ensures within { StaysWithin S.Store connection.old connection.new }
-    ensures opens { OnOk result (StaysOpen S.Store connection.old connection.new) }
+    ensures writes { Writes S.Store connection.old connection.new result }
     ensures holds { OnOk result (Becomes S.Store connection.old connection.new
         (λ rows. record rows {
           versions = rows.versions ++ resolved rows.refs rows.blocks (record {
@@ -352,9 +266,8 @@ pub fn insert_marker<S: Alter>(
         (IsNewVersion (tables S.Store connection.old) marker.now.tenant.now marker.now.bucket.now marker.now.okey.now
         marker.now.seq marker.now.id)) }
 {
-    // Asked for what it ensures: the rows obey the schema.
-    let _schema = connection.schema();
-    connection.execute(
+    write(
+        connection,
         "INSERT INTO versions (tenant, seq, bucket, okey, id, marker, stamp, size, sum) VALUES (?1, ?2, ?3, ?4, ?5, 1, ?6, 0, '')",
         &[
             marker.tenant.to_sql(),
@@ -381,8 +294,7 @@ pub fn delete_version<S: Alter>(
     requires few { size < 2 ^ 62 }
     requires held { IsClean S.Store connection.old
         → bytes_of_id tenant.now bucket.now okey.now id (tables S.Store connection.old) ≡ size }
-    ensures within { StaysWithin S.Store connection.old connection.new }
-    ensures opens { OnOk result (StaysOpen S.Store connection.old connection.new) }
+    ensures writes { Writes S.Store connection.old connection.new result }
     ensures holds { OnOk result (Becomes S.Store connection.old connection.new
         (without_version tenant.now bucket.now okey.now id)) }
 {

@@ -3,8 +3,8 @@
 ghost use Rattle.std.specs.Prelude.{ℕ, ◌≡◌, ◌∷◌, [], ◌<◌, ◌^◌, map, filter, IfOk, IfErr, OnOk};
 ghost use Rattle.bh_tables.specs.Typed.{number as stored, totals_of, bytes_kept, kept_changed};
 ghost use Rattle.bh_tables.specs.Shown.{is_upload, shown_kept};
-ghost use Rattle.bh_schema.specs.Connections.{IsClean, tables, InTransaction, InMidst, Rewrites, StaysWithin, WasOpen, StaysOpen};
-ghost use Rattle.bh_schema.specs.Connections.{ChangesNothing, Becomes, IsTrouble};
+ghost use Rattle.bh_schema.specs.Calls.{Reads, Writes, WritesOn};
+ghost use Rattle.bh_schema.specs.Connections.{IsClean, tables, InTransaction, InMidst, Rewrites, Becomes, IsTrouble};
 ghost use Rattle.bh_uploads.specs.Rows.{stored_part};
 ghost use Rattle.bh_uploads.specs.Found.{part_bytes_in};
 ghost use Rattle.bh_uploads.specs.Writes.{part_placed, without_parts};
@@ -12,6 +12,7 @@ ghost use Rattle.bh_uploads.specs.Writes.{part_placed, without_parts};
 use crate::rows::parts::{PartRecord, delete_part, delete_parts, insert_part};
 use bh_schema::rows::number::number;
 use bh_schema::rows::tenants::{use_entry, use_less};
+use bh_schema::rows::writing::write;
 use sqlite::types::ToSql;
 use sqlite::{Alter, Connection, Error, ErrorCode, Row};
 
@@ -27,15 +28,12 @@ fn keep_bytes<S: Alter>(
     requires upload { upload < 2 ^ 63 }
     requires more { more < 2 ^ 62 }
     requires less { less < 2 ^ 62 }
-    ensures within { StaysWithin S.Store connection.old connection.new }
-    ensures opens { OnOk result (StaysOpen S.Store connection.old connection.new) }
-    ensures midst { OnOk result (InMidst S.Store connection.new) }
+    ensures writes { WritesOn S.Store connection.old connection.new result }
     ensures rewrites { OnOk result (Rewrites S.Store connection.old connection.new (kept_changed (tenant.now, upload) more less)
         (λ rows. rows)) }
 {
-    // Asked for what it ensures: the rows obey the schema.
-    let _schema = connection.schema();
-    connection.execute(
+    write(
+        connection,
         "UPDATE uploads SET bytes_kept = bytes_kept + ?3 - ?4 WHERE tenant = ?1 AND upload = ?2",
         &[tenant.to_sql(), number(upload), number(more), number(less)],
     )
@@ -48,9 +46,7 @@ fn kept_rows<S: Alter>(
 ) -> Result<Vec<Row>, Error>
     requires inside { InTransaction S.Store connection.old }
     requires small { upload < 2 ^ 63 }
-    ensures within { StaysWithin S.Store connection.old connection.new }
-    ensures opens { OnOk result (WasOpen S.Store connection.old connection.new) }
-    ensures same { OnOk result (ChangesNothing S.Store connection.old connection.new) }
+    ensures reads { Reads S.Store connection.old connection.new result }
     ensures rows { IfOk result (λ rows. IsClean S.Store connection.new
         → rows.items ≡ map (shown_kept (totals_of (tables S.Store connection.old)))
         (filter (is_upload tenant.now upload) (tables S.Store connection.old).uploads)) }
@@ -83,9 +79,7 @@ fn find_kept<S: Alter>(
 ) -> Result<u64, Error>
     requires inside { InTransaction S.Store connection.old }
     requires small { upload < 2 ^ 63 }
-    ensures within { StaysWithin S.Store connection.old connection.new }
-    ensures opens { OnOk result (WasOpen S.Store connection.old connection.new) }
-    ensures same { OnOk result (ChangesNothing S.Store connection.old connection.new) }
+    ensures reads { Reads S.Store connection.old connection.new result }
     ensures kept { IfOk result (λ n. IsClean S.Store connection.new
         → bytes_kept (tables S.Store connection.old).parts tenant.now upload ≡ n) }
     ensures low { IfOk result (λ n. n < 2 ^ 62) }
@@ -114,8 +108,7 @@ pub fn place_part<S: Alter>(
     requires few { replaced < 2 ^ 62 }
     requires held { IsClean S.Store connection.old
         → part_bytes_in part.now.tenant.now part.now.upload part.now.number (tables S.Store connection.old) ≡ replaced }
-    ensures within { StaysWithin S.Store connection.old connection.new }
-    ensures opens { OnOk result (StaysOpen S.Store connection.old connection.new) }
+    ensures writes { Writes S.Store connection.old connection.new result }
     ensures holds { OnOk result (Becomes S.Store connection.old connection.new (part_placed (stored_part part.now) next)) }
 {
     // Asked for what it ensures: one part of an upload has a number at most.
@@ -138,8 +131,7 @@ fn take_parts<S: Alter>(
     requires small { upload < 2 ^ 63 }
     requires low { kept < 2 ^ 62 }
     requires held { IsClean S.Store connection.old → bytes_kept (tables S.Store connection.old).parts tenant.now upload ≡ kept }
-    ensures within { StaysWithin S.Store connection.old connection.new }
-    ensures opens { OnOk result (StaysOpen S.Store connection.old connection.new) }
+    ensures writes { Writes S.Store connection.old connection.new result }
     ensures holds { OnOk result (Becomes S.Store connection.old connection.new (without_parts tenant.now upload)) }
 {
     delete_parts(connection, tenant, upload)?;
@@ -156,8 +148,7 @@ pub fn remove_parts<S: Alter>(
 ) -> Result<(), Error>
     requires inside { InTransaction S.Store connection.old }
     requires small { upload < 2 ^ 63 }
-    ensures within { StaysWithin S.Store connection.old connection.new }
-    ensures opens { OnOk result (StaysOpen S.Store connection.old connection.new) }
+    ensures writes { Writes S.Store connection.old connection.new result }
     ensures holds { OnOk result (Becomes S.Store connection.old connection.new (without_parts tenant.now upload)) }
 {
     let kept = find_kept(connection, tenant, upload)?;

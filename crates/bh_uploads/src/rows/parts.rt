@@ -1,15 +1,16 @@
-ghost use Rattle.std.specs.Prelude.{◌≡◌, ◌++◌, ◌∷◌, [], List, ◌<◌, ◌^◌, true, map, filter, find, option_map, IfOk, IfErr, OnOk};
+ghost use Rattle.std.specs.Prelude.{◌≡◌, ◌++◌, ◌∷◌, [], List, ◌<◌, ◌^◌, map, find, option_map, IfOk, IfErr, OnOk};
 ghost use Rattle.sqlite_keyed.specs.Lists.{delete_where};
-ghost use Rattle.bh_rows.specs.Means.{is_trouble};
 ghost use Rattle.bh_tables.specs.Typed.{PartRow as Stored};
 ghost use Rattle.bh_tables.specs.Bodies.{resolved_part};
 ghost use Rattle.bh_tables.specs.Shown.{is_part, is_part_of, shown_part, shown_body};
-ghost use Rattle.bh_schema.specs.Connections.{IsClean, tables, InTransaction, InMidst, Rewrites, StaysWithin, WasOpen, StaysOpen};
-ghost use Rattle.bh_schema.specs.Connections.{ChangesNothing, IsTrouble};
-ghost use Rattle.bh_uploads.specs.Rows.{seen_row, row_seen, part_body, stored_part, listed_parts};
+ghost use Rattle.bh_schema.specs.Calls.{Reads, WritesOn};
+ghost use Rattle.bh_schema.specs.Connections.{IsClean, tables, InTransaction, InMidst, Rewrites, IsTrouble};
+ghost use Rattle.bh_uploads.specs.Rows.{AreListed, seen_row, row_seen, part_body, stored_part, listed_parts};
 
 use bh_core::parts::PartRow;
 use bh_schema::rows::number::number;
+use bh_schema::rows::reading::{FromRow, first_of};
+use bh_schema::rows::writing::write;
 use sqlite::types::ToSql;
 use sqlite::{Alter, Connection, Error, Row};
 use std::alloc::Global;
@@ -71,10 +72,7 @@ fn read_part(row: &Row) -> Result<PartHead, Error>
 }
 
 fn read_parts(alloc: Global, rows: &[Row]) -> Result<PartList, Error>
-    ensures rows { IfOk result (λ list. (ps : List Stored) → rows.now ≡ map shown_part ps
-        → map row_seen list.rows.items ≡ map seen_row ps) }
-    ensures bodies { IfOk result (λ list. (ps : List Stored) → rows.now ≡ map shown_part ps
-        → list.bodies.items ≡ map (λ p. p.body) ps) }
+    ensures { IfOk result (λ list. (ps : List Stored) → rows.now ≡ map shown_part ps → AreListed list ps) }
 {
     let mut found = Vec::new(alloc);
     let mut bodies = Vec::new(alloc);
@@ -97,9 +95,7 @@ fn part_rows<S: Alter>(
 ) -> Result<Vec<Row>, Error>
     requires inside { InTransaction S.Store connection.old }
     requires small { upload < 2 ^ 63 }
-    ensures within { StaysWithin S.Store connection.old connection.new }
-    ensures opens { OnOk result (WasOpen S.Store connection.old connection.new) }
-    ensures same { OnOk result (ChangesNothing S.Store connection.old connection.new) }
+    ensures reads { Reads S.Store connection.old connection.new result }
     ensures rows { IfOk result (λ rows. IsClean S.Store connection.new
         → rows.items ≡ map shown_part (listed_parts tenant.now upload (tables S.Store connection.old))) }
     ensures trouble { IfErr result (IsTrouble S.Store connection.old connection.new) }
@@ -119,47 +115,33 @@ pub fn part_list<S: Alter>(
 ) -> Result<PartList, Error>
     requires inside { InTransaction S.Store connection.old }
     requires small { upload < 2 ^ 63 }
-    ensures within { StaysWithin S.Store connection.old connection.new }
-    ensures opens { OnOk result (WasOpen S.Store connection.old connection.new) }
-    ensures same { OnOk result (ChangesNothing S.Store connection.old connection.new) }
-    ensures rows { IfOk result (λ list. IsClean S.Store connection.new
-        → map row_seen list.rows.items ≡ map seen_row (listed_parts tenant.now upload (tables S.Store connection.old))) }
-    ensures bodies { IfOk result (λ list. IsClean S.Store connection.new
-        → list.bodies.items ≡ map (λ p. p.body) (listed_parts tenant.now upload (tables S.Store connection.old))) }
+    ensures reads { Reads S.Store connection.old connection.new result }
+    ensures parts { IfOk result (λ list. IsClean S.Store connection.new
+        → AreListed list (listed_parts tenant.now upload (tables S.Store connection.old))) }
 {
     let rows = part_rows(connection, tenant, upload)?;
     read_parts(alloc, &rows)
 }
 
-fn body_rows<S: Alter>(
-    connection: &mut Connection<S>,
-    tenant: &str,
-    upload: u64,
-    part: u64,
-) -> Result<Vec<Row>, Error>
-    requires inside { InTransaction S.Store connection.old }
-    requires upload { upload < 2 ^ 63 }
-    requires part { part < 2 ^ 63 }
-    ensures within { StaysWithin S.Store connection.old connection.new }
-    ensures opens { OnOk result (WasOpen S.Store connection.old connection.new) }
-    ensures same { OnOk result (ChangesNothing S.Store connection.old connection.new) }
-    ensures rows { IfOk result (λ rows. IsClean S.Store connection.new
-        → rows.items ≡ map shown_body (filter (is_part tenant.now upload part) (tables S.Store connection.old).parts)) }
-    ensures trouble { IfErr result (IsTrouble S.Store connection.old connection.new) }
-{
-    connection.query_all(
-        "SELECT body, size FROM parts WHERE tenant = ?1 AND upload = ?2 AND number = ?3 ORDER BY rowid",
-        &[tenant.to_sql(), number(upload), number(part)],
-    )
-}
+impl FromRow for PartBody {
+    ghost Typed = { Stored };
 
-fn read_body(row: &Row) -> Result<PartBody, Error>
-    ensures { IfOk result (λ body. (p : Stored) → row.now ≡ shown_body p → body ≡ part_body p) }
-{
-    Ok(PartBody {
-        body: row.get(0)?,
-        size: row.get(1)?,
-    })
+    ghost shown = { shown_body };
+
+    ghost Meaning = { Self };
+
+    ghost meaning = { λ body. body };
+
+    ghost told = { part_body };
+
+    ghost IsReadable = { λ _. Unit {0} };
+
+    fn read(row: &Row) -> Result<PartBody, Error> {
+        Ok(PartBody {
+            body: row.get(0)?,
+            size: row.get(1)?,
+        })
+    }
 }
 
 /// The body of the part of this number, if it is there.
@@ -172,17 +154,15 @@ pub fn find_body<S: Alter>(
     requires inside { InTransaction S.Store connection.old }
     requires upload { upload < 2 ^ 63 }
     requires part { part < 2 ^ 63 }
-    ensures within { StaysWithin S.Store connection.old connection.new }
-    ensures opens { OnOk result (WasOpen S.Store connection.old connection.new) }
-    ensures same { OnOk result (ChangesNothing S.Store connection.old connection.new) }
+    ensures reads { Reads S.Store connection.old connection.new result }
     ensures found { IfOk result (λ found. IsClean S.Store connection.new
         → found ≡ option_map part_body (find (is_part tenant.now upload part) (tables S.Store connection.old).parts)) }
 {
-    let rows = body_rows(connection, tenant, upload, part)?;
-    match rows.first() {
-        None => Ok(None),
-        Some(row) => Ok(Some(read_body(row)?)),
-    }
+    let rows = connection.query_all(
+        "SELECT body, size FROM parts WHERE tenant = ?1 AND upload = ?2 AND number = ?3 ORDER BY rowid",
+        &[tenant.to_sql(), number(upload), number(part)],
+    )?;
+    first_of(&rows)
 }
 
 /// Adds a part, whose bytes are those of its body: in the midst of a write of what its tenant uses and its upload keeps.
@@ -196,15 +176,12 @@ pub fn insert_part<S: Alter>(
     requires size { part.now.size < 2 ^ 63 }
     requires stamp { part.now.stamp < 2 ^ 63 }
     requires body { part.now.body < 2 ^ 63 }
-    ensures within { StaysWithin S.Store connection.old connection.new }
-    ensures opens { OnOk result (StaysOpen S.Store connection.old connection.new) }
-    ensures midst { OnOk result (InMidst S.Store connection.new) }
+    ensures writes { WritesOn S.Store connection.old connection.new result }
     ensures rewrites { OnOk result (Rewrites S.Store connection.old connection.new (λ sums. sums)
         (λ rows. record rows { parts = rows.parts ++ resolved_part rows.refs rows.blocks (stored_part part.now) ∷ [] })) }
 {
-    // Asked for what it ensures: the rows obey the schema.
-    let _schema = connection.schema();
-    connection.execute(
+    write(
+        connection,
         "INSERT INTO parts (tenant, upload, number, size, sum, stamp, body) VALUES (?1, ?2, ?3, ?4, ?5, ?6, ?7)",
         &[
             part.tenant.to_sql(),
@@ -228,16 +205,13 @@ pub fn delete_part<S: Alter>(
     requires midst { InMidst S.Store connection.old }
     requires upload { upload < 2 ^ 63 }
     requires part { part < 2 ^ 63 }
-    ensures within { StaysWithin S.Store connection.old connection.new }
-    ensures opens { OnOk result (StaysOpen S.Store connection.old connection.new) }
-    ensures midst { OnOk result (InMidst S.Store connection.new) }
+    ensures writes { WritesOn S.Store connection.old connection.new result }
     ensures rewrites { OnOk result (Rewrites S.Store connection.old connection.new (λ sums. sums)
         (λ rows. record rows { parts = delete_where (is_part tenant.now upload part) rows.parts })) }
     ensures trouble { IfErr result (IsTrouble S.Store connection.old connection.new) }
 {
-    // Asked for what it ensures: the rows obey the schema.
-    let _schema = connection.schema();
-    connection.execute(
+    write(
+        connection,
         "DELETE FROM parts WHERE tenant = ?1 AND upload = ?2 AND number = ?3",
         &[tenant.to_sql(), number(upload), number(part)],
     )
@@ -251,16 +225,13 @@ pub fn delete_parts<S: Alter>(
 ) -> Result<usize, Error>
     requires midst { InMidst S.Store connection.old }
     requires small { upload < 2 ^ 63 }
-    ensures within { StaysWithin S.Store connection.old connection.new }
-    ensures opens { OnOk result (StaysOpen S.Store connection.old connection.new) }
-    ensures midst { OnOk result (InMidst S.Store connection.new) }
+    ensures writes { WritesOn S.Store connection.old connection.new result }
     ensures rewrites { OnOk result (Rewrites S.Store connection.old connection.new (λ sums. sums)
         (λ rows. record rows { parts = delete_where (is_part_of tenant.now upload) rows.parts })) }
     ensures trouble { IfErr result (IsTrouble S.Store connection.old connection.new) }
 {
-    // Asked for what it ensures: the rows obey the schema.
-    let _schema = connection.schema();
-    connection.execute(
+    write(
+        connection,
         "DELETE FROM parts WHERE tenant = ?1 AND upload = ?2",
         &[tenant.to_sql(), number(upload)],
     )

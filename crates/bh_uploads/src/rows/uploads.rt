@@ -1,14 +1,16 @@
-ghost use Rattle.std.specs.Prelude.{◌≡◌, ◌++◌, ◌∷◌, [], List, ◌<◌, ◌^◌, false, true, map, filter, find, option_map, IfOk, IfErr, OnOk};
+ghost use Rattle.std.specs.Prelude.{◌≡◌, ◌++◌, ◌∷◌, [], ◌<◌, ◌^◌, false, map, find, option_map, IfOk, IfErr, OnOk};
 ghost use Rattle.std.specs.List.{list_any};
-ghost use Rattle.sqlite_keyed.specs.Lists.{update_where, delete_where};
-ghost use Rattle.bh_rows.specs.Means.{is_trouble};
+ghost use Rattle.std.specs.Str.{IsUtf8};
+ghost use Rattle.sqlite_keyed.specs.Lists.{delete_where};
 ghost use Rattle.bh_tables.specs.Typed.{UploadRow as Stored};
-ghost use Rattle.bh_tables.specs.Shown.{is_tenant, is_upload, is_part_of, shown_upload, shown_number};
-ghost use Rattle.bh_schema.specs.Connections.{IsClean, tables, InTransaction, StaysWithin, WasOpen, StaysOpen, ChangesNothing, Becomes};
-ghost use Rattle.bh_schema.specs.Connections.{IsTrouble, IsTroubleIf};
-ghost use Rattle.bh_uploads.specs.Rows.{seen_upload, upload_seen, stored_upload, begun_before, IsNewUpload};
+ghost use Rattle.bh_tables.specs.Shown.{is_upload, is_part_of, shown_upload};
+ghost use Rattle.bh_schema.specs.Calls.{Reads, Writes};
+ghost use Rattle.bh_schema.specs.Connections.{IsClean, tables, InTransaction, Becomes, IsTroubleIf};
+ghost use Rattle.bh_uploads.specs.Rows.{SeenUpload, seen_upload, upload_seen, stored_upload, begun_before, IsNewUpload};
 
 use bh_schema::rows::number::number;
+use bh_schema::rows::reading::{FromRow, all_of, first_of};
+use bh_schema::rows::writing::write;
 use sqlite::types::ToSql;
 use sqlite::{Alter, Connection, Error, Row};
 use std::alloc::Global;
@@ -36,34 +38,26 @@ pub struct UploadRecord<'a> {
     pub begun: u64,
 }
 
-fn read_upload(row: &Row) -> Result<UploadHead, Error>
-    ensures { IfOk result (λ head. (u : Stored) → row.now ≡ shown_upload u → upload_seen head ≡ seen_upload u) }
-{
-    Ok(UploadHead {
-        bucket: row.get(0)?,
-        key: row.get(1)?,
-        begun: row.get(2)?,
-    })
-}
+impl FromRow for UploadHead {
+    ghost Typed = { Stored };
 
-fn upload_rows<S: Alter>(
-    connection: &mut Connection<S>,
-    tenant: &str,
-    upload: u64,
-) -> Result<Vec<Row>, Error>
-    requires inside { InTransaction S.Store connection.old }
-    requires small { upload < 2 ^ 63 }
-    ensures within { StaysWithin S.Store connection.old connection.new }
-    ensures opens { OnOk result (WasOpen S.Store connection.old connection.new) }
-    ensures same { OnOk result (ChangesNothing S.Store connection.old connection.new) }
-    ensures rows { IfOk result (λ rows. IsClean S.Store connection.new
-        → rows.items ≡ map shown_upload (filter (is_upload tenant.now upload) (tables S.Store connection.old).uploads)) }
-    ensures trouble { IfErr result (IsTrouble S.Store connection.old connection.new) }
-{
-    connection.query_all(
-        "SELECT bucket, okey, begun FROM uploads WHERE tenant = ?1 AND upload = ?2 ORDER BY rowid",
-        &[tenant.to_sql(), number(upload)],
-    )
+    ghost shown = { shown_upload };
+
+    ghost Meaning = { SeenUpload };
+
+    ghost meaning = { upload_seen };
+
+    ghost told = { seen_upload };
+
+    ghost IsReadable = { λ u. IsUtf8 u.bucket };
+
+    fn read(row: &Row) -> Result<UploadHead, Error> {
+        Ok(UploadHead {
+            bucket: row.get(0)?,
+            key: row.get(1)?,
+            begun: row.get(2)?,
+        })
+    }
 }
 
 /// The upload of this number of a tenant, if there is one.
@@ -74,56 +68,16 @@ pub fn find_upload<S: Alter>(
 ) -> Result<Option<UploadHead>, Error>
     requires inside { InTransaction S.Store connection.old }
     requires small { upload < 2 ^ 63 }
-    ensures within { StaysWithin S.Store connection.old connection.new }
-    ensures opens { OnOk result (WasOpen S.Store connection.old connection.new) }
-    ensures same { OnOk result (ChangesNothing S.Store connection.old connection.new) }
+    ensures reads { Reads S.Store connection.old connection.new result }
     ensures found { IfOk result (λ found. IsClean S.Store connection.new
         → option_map upload_seen found ≡ option_map seen_upload
         (find (is_upload tenant.now upload) (tables S.Store connection.old).uploads)) }
 {
-    let rows = upload_rows(connection, tenant, upload)?;
-    match rows.first() {
-        None => Ok(None),
-        Some(row) => Ok(Some(read_upload(row)?)),
-    }
-}
-
-fn read_number(row: &Row) -> Result<u64, Error>
-    ensures { IfOk result (λ n. (u : Stored) → row.now ≡ shown_number u → n ≡ u.upload) }
-{
-    let number: u64 = row.get(0)?;
-    Ok(number)
-}
-
-fn read_numbers(alloc: Global, rows: &[Row]) -> Result<Vec<u64>, Error>
-    ensures { IfOk result (λ list. (us : List Stored) → rows.now ≡ map shown_number us → list.items ≡ map (λ u. u.upload) us) }
-{
-    let mut numbers = Vec::new(alloc);
-    for row in rows {
-        numbers.push(read_number(row)?)?;
-    }
-    Ok(numbers)
-}
-
-fn stale_rows<S: Alter>(
-    connection: &mut Connection<S>,
-    tenant: &str,
-    bucket: &str,
-    moment: u64,
-) -> Result<Vec<Row>, Error>
-    requires inside { InTransaction S.Store connection.old }
-    requires small { moment < 2 ^ 63 }
-    ensures within { StaysWithin S.Store connection.old connection.new }
-    ensures opens { OnOk result (WasOpen S.Store connection.old connection.new) }
-    ensures same { OnOk result (ChangesNothing S.Store connection.old connection.new) }
-    ensures rows { IfOk result (λ rows. IsClean S.Store connection.new
-        → rows.items ≡ map shown_number (begun_before tenant.now bucket.now moment (tables S.Store connection.old).uploads)) }
-    ensures trouble { IfErr result (IsTrouble S.Store connection.old connection.new) }
-{
-    connection.query_all(
-        "SELECT upload FROM uploads WHERE tenant = ?1 AND bucket = ?2 AND begun < ?3 ORDER BY begun, upload, rowid",
-        &[tenant.to_sql(), bucket.to_sql(), number(moment)],
-    )
+    let rows = connection.query_all(
+        "SELECT bucket, okey, begun FROM uploads WHERE tenant = ?1 AND upload = ?2 ORDER BY rowid",
+        &[tenant.to_sql(), number(upload)],
+    )?;
+    first_of(&rows)
 }
 
 /// The numbers of a bucket's uploads that were begun before a moment, the first begun first.
@@ -136,14 +90,15 @@ pub fn stale_list<S: Alter>(
 ) -> Result<Vec<u64>, Error>
     requires inside { InTransaction S.Store connection.old }
     requires small { moment < 2 ^ 63 }
-    ensures within { StaysWithin S.Store connection.old connection.new }
-    ensures opens { OnOk result (WasOpen S.Store connection.old connection.new) }
-    ensures same { OnOk result (ChangesNothing S.Store connection.old connection.new) }
+    ensures reads { Reads S.Store connection.old connection.new result }
     ensures numbers { IfOk result (λ list. IsClean S.Store connection.new
         → list.items ≡ map (λ u. u.upload) (begun_before tenant.now bucket.now moment (tables S.Store connection.old).uploads)) }
 {
-    let rows = stale_rows(connection, tenant, bucket, moment)?;
-    read_numbers(alloc, &rows)
+    let rows = connection.query_all(
+        "SELECT upload FROM uploads WHERE tenant = ?1 AND bucket = ?2 AND begun < ?3 ORDER BY begun, upload, rowid",
+        &[tenant.to_sql(), bucket.to_sql(), number(moment)],
+    )?;
+    all_of(alloc, &rows)
 }
 
 /// Adds an upload, of which no part is there.
@@ -154,16 +109,14 @@ pub fn insert_upload<S: Alter>(
     requires inside { InTransaction S.Store connection.old }
     requires upload { upload.now.upload < 2 ^ 63 }
     requires begun { upload.now.begun < 2 ^ 63 }
-    ensures within { StaysWithin S.Store connection.old connection.new }
-    ensures opens { OnOk result (StaysOpen S.Store connection.old connection.new) }
+    ensures writes { Writes S.Store connection.old connection.new result }
     ensures holds { OnOk result (Becomes S.Store connection.old connection.new
         (λ rows. record rows { uploads = rows.uploads ++ stored_upload upload.now ∷ [] })) }
     ensures trouble { IfErr result (IsTroubleIf S.Store connection.old connection.new
         (IsNewUpload (tables S.Store connection.old) upload.now.tenant.now upload.now.bucket.now upload.now.upload)) }
 {
-    // Asked for what it ensures: the rows obey the schema.
-    let _schema = connection.schema();
-    connection.execute(
+    write(
+        connection,
         "INSERT INTO uploads (tenant, upload, bucket, okey, begun, bytes_kept) VALUES (?1, ?2, ?3, ?4, ?5, 0)",
         &[
             upload.tenant.to_sql(),
@@ -183,39 +136,15 @@ pub fn delete_upload<S: Alter>(
 ) -> Result<usize, Error>
     requires inside { InTransaction S.Store connection.old }
     requires small { upload < 2 ^ 63 }
-    ensures within { StaysWithin S.Store connection.old connection.new }
-    ensures opens { OnOk result (StaysOpen S.Store connection.old connection.new) }
+    ensures writes { Writes S.Store connection.old connection.new result }
     ensures holds { OnOk result (Becomes S.Store connection.old connection.new
         (λ rows. record rows { uploads = delete_where (is_upload tenant.now upload) rows.uploads })) }
     ensures trouble { IfErr result (IsTroubleIf S.Store connection.old connection.new
         (list_any (is_part_of tenant.now upload) (tables S.Store connection.old).parts ≡ false)) }
 {
-    // Asked for what it ensures: the rows obey the schema.
-    let _schema = connection.schema();
-    connection.execute(
+    write(
+        connection,
         "DELETE FROM uploads WHERE tenant = ?1 AND upload = ?2",
         &[tenant.to_sql(), number(upload)],
-    )
-}
-
-/// Sets the number that the tenant's next upload takes.
-pub fn set_next_upload<S: Alter>(
-    connection: &mut Connection<S>,
-    tenant: &str,
-    next: u64,
-) -> Result<usize, Error>
-    requires inside { InTransaction S.Store connection.old }
-    requires small { next < 2 ^ 63 }
-    ensures within { StaysWithin S.Store connection.old connection.new }
-    ensures opens { OnOk result (StaysOpen S.Store connection.old connection.new) }
-    ensures holds { OnOk result (Becomes S.Store connection.old connection.new
-        (λ rows. record rows { tenants = update_where (is_tenant tenant.now) (λ t. record t { next_upload = next }) rows.tenants })) }
-    ensures trouble { IfErr result (IsTrouble S.Store connection.old connection.new) }
-{
-    // Asked for what it ensures: the rows obey the schema.
-    let _schema = connection.schema();
-    connection.execute(
-        "UPDATE tenants SET next_upload = ?2 WHERE tenant = ?1",
-        &[tenant.to_sql(), number(next)],
     )
 }

@@ -16,7 +16,7 @@ returns-in-Some-Told-clause-came_to g c = λ start begun bytes opens reads gave.
     (record {
       limits_are = refl;
       rest = c.requires.rest;
-      still = c.receive.ensures.intact;
+      still = c.receive.ensures.stays.intact;
       opens = subst (λ i. Opens (g.H.Storage.seen c.args.host.now).limits start (g.R.Source.remaining i) bytes c.args.head.now.body_size) same opens;
       reads = reads;
       gave = subst (λ i. Gives begun (g.R.Source.transfers i) bytes false) same gave;
@@ -44,7 +44,7 @@ returns-in-Some-Planned-clause-came_to g c = λ start begun bytes opens reads ga
     (record {
       limits_are = refl;
       rest = c.requires.rest;
-      still = c.receive.ensures.intact;
+      still = c.receive.ensures.stays.intact;
       opens = subst (λ i. Opens (g.H.Storage.seen c.args.host.now).limits start (g.R.Source.remaining i) bytes c.args.head.now.body_size) same opens;
       reads = reads;
       gave = subst (λ i. Gives begun (g.R.Source.transfers i) bytes false) same gave;
@@ -62,7 +62,7 @@ returns-in-None-clause-came_to g c = λ start begun bytes opens reads gave.
     (record {
       limits_are = refl;
       rest = c.requires.rest;
-      still = c.receive.ensures.intact;
+      still = c.receive.ensures.stays.intact;
       opens = subst (λ i. Opens (g.H.Storage.seen c.args.host.now).limits start (g.R.Source.remaining i) bytes c.args.head.now.body_size) same opens;
       reads = reads;
       gave = subst (λ i. Gives begun (g.R.Source.transfers i) bytes false) same gave;

@@ -1,8 +1,9 @@
-use Rattle.std.proofs.Common.{◌<◌, List, [], length, refl, sym, subst, arith, rules, inl, ◌∙◌}
+use Rattle.std.proofs.Common.{◌<◌, List, [], length, refl, sym, subst, arith, rules}
 use Rattle.std.proofs.lemmas.List.Elements.{All-get_or}
+use Rattle.bh_host.proofs.Resting.{stays_here, stays_then}
 use Rattle.bh_connection.specs.Each.{IsGoing, HasServed, ends}
 use Rattle.bh_connection.specs.declared.served.Served.{Served}
-use Rattle.bh_connection.proofs.EachLemmas.{leaves_then, served_none, served_next, served_alone_all, same_at, rest_next}
+use Rattle.bh_connection.proofs.EachLemmas.{served_none, served_next, served_alone_all, same_at, rest_next}
 use Rattle.bh_connection.proofs.each.serve_each.Goals as goal
 
 pub loop-index-init : goal.loop-index-init
@@ -10,11 +11,7 @@ loop-index-init g c =
     let old = c.args.host.now in
     let P : List Served → Type 0 = λ s. HasServed g.H.Storage.IsIntact g.H.Storage.IsOpen g.H.Storage.seen g.H.Storage.left [] [] s old old in
     record {
-      intact = λ h. h;
-      opened = λ h k. k;
-      ready = c.requires.rest;
-      limits = refl;
-      leaves = λ _ x leaves. inl leaves;
+      stays = stays_here old c.requires.rest;
       count = search rules;
       room = search rules;
       rest = refl;
@@ -41,16 +38,12 @@ loop-index-preserved g c =
     let lt : i < length firsts = omega (arith, c.loop-index-test.true, c.loop-index.auto.arrivals) in
     let lt2 : i < length nows = omega (arith, c.loop-index-test.true, c.loop-index.auto.arrivals) in
     record {
-      intact = λ intact. so_far.intact (one.intact intact);
-      opened = λ intact opened. so_far.opened (one.intact intact) (one.opened intact opened);
-      ready = one.ready;
-      limits = one.limits ∙ so_far.limits;
-      leaves = λ intact. leaves_then g.H.Storage.IsSoundStore g.H.Storage.left _ _ _ (so_far.leaves (one.intact intact)) (one.leaves intact);
+      stays = stays_then so_far.stays one.stays;
       count = search rules;
       room = search rules;
       rest = rest_next nows firsts i c.serve_arrival-served.new.arrival so_far.rest;
       served = served_next g.H.Storage.IsIntact g.H.Storage.IsOpen g.H.Storage.seen g.H.Storage.left (ends g.R.Source.remaining g.R.Source.transfers g.W.Sink.contents g.W.Sink.transfers) firsts nows _ i d _ c.serve_arrival-served.new.arrival _ _ c.serve_arrival-served.result _ _ _
-          lt lt2 (same_at nows firsts i d so_far.rest) refl c.push_reserved.ensures.items one.intact so_far.limits so_far.served one.came_to;
+          lt lt2 (same_at nows firsts i d so_far.rest) refl c.push_reserved.ensures.items one.stays.intact so_far.stays.limits so_far.served one.came_to;
     }
 
 pub returns-clause-alone : goal.returns-clause-alone

@@ -1,16 +1,12 @@
 use Rattle.std.proofs.Common.{◌≡◌, length, take, drop, map, vec_len, vec_capacity}
-use Rattle.bh_storage.specs.Calls.{Clean, LeavesSound, IsAtRest}
+use Rattle.bh_host.specs.Resting.{StaysAtRest}
 use Rattle.bh_connection.specs.Each.{HasServed, ends}
 use Rattle.bh_connection.proofs.each.serve_each.Given as goal
 
 -- so far these were served, the rest is as it came, and there is room for it
 abbrev pub invariant-loop-index : goal.invariant-loop-index
 invariant-loop-index g l = record {
-  intact : g.H.Storage.IsIntact l.host → g.H.Storage.IsIntact l.fn.host;
-  opened : g.H.Storage.IsIntact l.host → g.H.Storage.IsOpen l.host → g.H.Storage.IsOpen l.fn.host;
-  ready : Clean g.H.Storage.IsIntact g.H.Storage.IsOpen l.host → IsAtRest g.H.Storage.IsSoundStore (g.H.Storage.seen l.host);
-  limits : (g.H.Storage.seen l.host).limits ≡ (g.H.Storage.seen l.fn.host).limits;
-  leaves : g.H.Storage.IsIntact l.host → LeavesSound g.H.Storage.IsSoundStore g.H.Storage.left l.fn.host l.host;
+  stays : StaysAtRest g.H.Storage.IsIntact g.H.Storage.IsOpen g.H.Storage.IsSoundStore g.H.Storage.seen g.H.Storage.left l.fn.host l.host;
   count : vec_len l.serveds ≡ l.index;
   room : vec_capacity l.serveds ≡ length l.fn.arrivals;
   rest : drop l.index l.arrivals ≡ drop l.index l.fn.arrivals;

@@ -2,19 +2,15 @@ use Rattle.std.proofs.Common.{[], ◌∷◌, ◌++◌, refl, sym, ap, subst, inl
 use Rattle.std.proofs.lemmas.Bool.{false≢true}
 use Rattle.std.specs.List.{flat_map}
 use Rattle.bh_http.proofs.TransferLemmas.{logs_nothing, logs_then}
+use Rattle.bh_host.proofs.Resting.{stays_here, stays_then}
 use Rattle.bh_connection.specs.Listening.{calls_of, HasServedAll}
 use Rattle.bh_connection.specs.Visits.{DidFor}
-use Rattle.bh_connection.proofs.EachLemmas.{leaves_then}
 use Rattle.bh_connection.proofs.ListeningLemmas.{logs_more, nothing_came, visits_more, ran_nothing, ran_more, at_err}
 use Rattle.bh_connection.proofs.listener.serve_from.Goals as goal
 
 pub loop-served-init : goal.loop-served-init
 loop-served-init g c = record {
-  intact = λ h. h;
-  opened = λ h k. k;
-  ready = c.requires;
-  limits = refl;
-  leaves = λ _ x leaves. inl leaves;
+  stays = stays_here c.args.host.now c.requires;
   operated = refl;
   alive = λ up. up;
   ran = λ h. ran_nothing g.H.Storage.IsIntact g.H.Storage.IsOpen g.H.Storage.seen g.H.Storage.left g.H.BackUp.shows _ c.args.host.now;
@@ -28,20 +24,16 @@ loop-served-preserved g c =
     let (visits, count, log, served) = so_far.listened in
     let (visit, is) = c.in_ok-serve_next.ensures.comes in
     record {
-      intact = λ intact. so_far.intact (one.intact intact);
-      opened = λ intact opened. so_far.opened (one.intact intact) (one.opened intact opened);
-      ready = one.ready;
-      limits = one.limits ∙ so_far.limits;
-      leaves = λ intact. leaves_then g.H.Storage.IsSoundStore g.H.Storage.left _ _ _ (so_far.leaves (one.intact intact)) (one.leaves intact);
+      stays = stays_then so_far.stays one.stays;
       operated = one.operated ∙ so_far.operated;
       alive = λ _. sym c.is_lost.ensures ∙ c.if-is_lost.false;
-      ran = λ intact. ran_more g.H.Storage.IsIntact g.H.Storage.IsOpen g.H.Storage.seen g.H.Storage.left g.H.BackUp.shows _ _ _ _ intact (so_far.ran (one.intact intact))
+      ran = λ intact. ran_more g.H.Storage.IsIntact g.H.Storage.IsOpen g.H.Storage.seen g.H.Storage.left g.H.BackUp.shows _ _ _ _ intact (so_far.ran (one.stays.intact intact))
           (subst (λ b. DidFor g.H.Storage.IsIntact g.H.Storage.IsOpen g.H.Storage.seen g.H.Storage.left g.H.BackUp.shows b c.loop-served.host c.serve_next.new.host) so_far.operated one.did);
       listened = (
         visits ++ visit ∷ [],
         omega (arith, count, length-append visits (visit ∷ [])),
         logs_more _ _ _ visits visit log is.calls,
-        visits_more g.H.Storage.IsIntact g.H.Storage.IsOpen g.H.Storage.seen g.H.Storage.left g.H.BackUp.shows _ visits visit _ _ _ one.intact so_far.limits served is.came is.did,
+        visits_more g.H.Storage.IsIntact g.H.Storage.IsOpen g.H.Storage.seen g.H.Storage.left g.H.BackUp.shows _ visits visit _ _ _ one.stays.intact so_far.stays.limits served is.came is.did,
       );
     }
 
@@ -49,7 +41,7 @@ pub returns-in_err-serve_next-clause-ran : goal.returns-in_err-serve_next-clause
 returns-in_err-serve_next-clause-ran g c = λ intact.
     let so_far = c.loop-served.invariant in
     let one = c.serve_next.ensures in
-    ran_more g.H.Storage.IsIntact g.H.Storage.IsOpen g.H.Storage.seen g.H.Storage.left g.H.BackUp.shows _ _ _ _ intact (so_far.ran (one.intact intact))
+    ran_more g.H.Storage.IsIntact g.H.Storage.IsOpen g.H.Storage.seen g.H.Storage.left g.H.BackUp.shows _ _ _ _ intact (so_far.ran (one.stays.intact intact))
     (subst (λ b. DidFor g.H.Storage.IsIntact g.H.Storage.IsOpen g.H.Storage.seen g.H.Storage.left g.H.BackUp.shows b c.loop-served.host c.serve_next.new.host) so_far.operated one.did)
 
 pub returns-in_err-serve_next-clause-listened : goal.returns-in_err-serve_next-clause-listened
@@ -66,10 +58,8 @@ returns-clause-listened g c =
     let (visits, count, log, served) = c.loop-served.invariant.listened in
     (visits, served, (omega (arith, count, c.loop-served-test.false, c.loop-served.auto.served-end), log))
 
-pub returns-in_err-serve_next-clause-leaves : goal.returns-in_err-serve_next-clause-leaves
-returns-in_err-serve_next-clause-leaves g c = λ intact.
-    let one = c.serve_next.ensures in
-    leaves_then g.H.Storage.IsSoundStore g.H.Storage.left _ _ _ (c.loop-served.invariant.leaves (one.intact intact)) (one.leaves intact)
+pub returns-in_err-serve_next-clause-stays : goal.returns-in_err-serve_next-clause-stays
+returns-in_err-serve_next-clause-stays g c = stays_then c.loop-served.invariant.stays c.serve_next.ensures.stays
 
 -- a backup over which the host is lost
 
@@ -77,13 +67,11 @@ pub returns-then-is_lost-clause-ran : goal.returns-then-is_lost-clause-ran
 returns-then-is_lost-clause-ran g c = λ intact.
     let so_far = c.loop-served.invariant in
     let one = c.serve_next.ensures in
-    ran_more g.H.Storage.IsIntact g.H.Storage.IsOpen g.H.Storage.seen g.H.Storage.left g.H.BackUp.shows _ _ _ _ intact (so_far.ran (one.intact intact))
+    ran_more g.H.Storage.IsIntact g.H.Storage.IsOpen g.H.Storage.seen g.H.Storage.left g.H.BackUp.shows _ _ _ _ intact (so_far.ran (one.stays.intact intact))
     (subst (λ b. DidFor g.H.Storage.IsIntact g.H.Storage.IsOpen g.H.Storage.seen g.H.Storage.left g.H.BackUp.shows b c.loop-served.host c.serve_next.new.host) so_far.operated one.did)
 
-pub returns-then-is_lost-clause-leaves : goal.returns-then-is_lost-clause-leaves
-returns-then-is_lost-clause-leaves g c = λ intact.
-    let one = c.serve_next.ensures in
-    leaves_then g.H.Storage.IsSoundStore g.H.Storage.left _ _ _ (c.loop-served.invariant.leaves (one.intact intact)) (one.leaves intact)
+pub returns-then-is_lost-clause-stays : goal.returns-then-is_lost-clause-stays
+returns-then-is_lost-clause-stays g c = stays_then c.loop-served.invariant.stays c.serve_next.ensures.stays
 
 pub returns-then-is_lost-clause-listened : goal.returns-then-is_lost-clause-listened
 returns-then-is_lost-clause-listened g c =
@@ -92,7 +80,7 @@ returns-then-is_lost-clause-listened g c =
     let (visits, count, log, served) = so_far.listened in
     let (visit, is) = c.in_ok-serve_next.ensures.comes in (
       visits ++ visit ∷ [],
-      visits_more g.H.Storage.IsIntact g.H.Storage.IsOpen g.H.Storage.seen g.H.Storage.left g.H.BackUp.shows _ visits visit _ _ _ one.intact so_far.limits served is.came is.did,
+      visits_more g.H.Storage.IsIntact g.H.Storage.IsOpen g.H.Storage.seen g.H.Storage.left g.H.BackUp.shows _ visits visit _ _ _ one.stays.intact so_far.stays.limits served is.came is.did,
       inr (
         sym c.is_lost.ensures ∙ c.if-is_lost.true,
         omega (arith, count, c.loop-served-test.true, length-append visits (visit ∷ [])),

@@ -1,6 +1,6 @@
 use Rattle.std.proofs.Common.{◌≡◌, false, List, length, option_map}
 use Rattle.std.specs.List.{flat_map}
-use Rattle.bh_storage.specs.Calls.{Clean, LeavesSound, IsAtRest}
+use Rattle.bh_host.specs.Resting.{StaysAtRest}
 use Rattle.bh_http.specs.Transfers.{Logs}
 use Rattle.bh_connection.specs.Visits.{RanFor, Visit}
 use Rattle.bh_connection.specs.Listening.{calls_of, HasServedAll}
@@ -8,11 +8,7 @@ use Rattle.bh_connection.proofs.listener.serve_from.Given as goal
 
 abbrev pub invariant-loop-served : goal.invariant-loop-served
 invariant-loop-served g l = record {
-  intact : g.H.Storage.IsIntact l.host → g.H.Storage.IsIntact l.fn.host;
-  opened : g.H.Storage.IsIntact l.host → g.H.Storage.IsOpen l.host → g.H.Storage.IsOpen l.fn.host;
-  ready : Clean g.H.Storage.IsIntact g.H.Storage.IsOpen l.host → IsAtRest g.H.Storage.IsSoundStore (g.H.Storage.seen l.host);
-  limits : (g.H.Storage.seen l.host).limits ≡ (g.H.Storage.seen l.fn.host).limits;
-  leaves : g.H.Storage.IsIntact l.host → LeavesSound g.H.Storage.IsSoundStore g.H.Storage.left l.fn.host l.host;
+  stays : StaysAtRest g.H.Storage.IsIntact g.H.Storage.IsOpen g.H.Storage.IsSoundStore g.H.Storage.seen g.H.Storage.left l.fn.host l.host;
   operated : g.A.Acceptor.operated l.acceptor ≡ g.A.Acceptor.operated l.fn.acceptor;
   alive : g.H.BackUp.lost l.fn.host ≡ false → g.H.BackUp.lost l.host ≡ false;
   ran : g.H.Storage.IsIntact l.host → RanFor (g.A.Acceptor.operated l.fn.acceptor) g.H.Storage.IsOpen g.H.Storage.seen g.H.Storage.left l.fn.host l.host;

@@ -9,7 +9,7 @@ insert_host-requires-clause-inside g c clean = made_inside (state g.S.Store c.cr
 
 pub returns-clause-holds : goal.returns-clause-holds
 returns-clause-holds g c = on_ok_weaker c.insert_host.result (λ holds clean.
-    filled (state g.S.Store c.create_tables.new.connection) (state g.S.Store c.insert_host.new.connection) c.args.min_part c.args.max_body c.args.digest (c.in_ok-create_tables.ensures.makes.made (c.insert_host.ensures.within.follows.clean clean)) (holds clean)) c.insert_host.ensures.holds
+    filled (state g.S.Store c.create_tables.new.connection) (state g.S.Store c.insert_host.new.connection) c.args.min_part c.args.max_body c.args.digest (c.in_ok-create_tables.ensures.makes.made (c.insert_host.ensures.writes.within.follows.clean clean)) (holds clean)) c.insert_host.ensures.holds
 
 pub returns-clause-trouble : goal.returns-clause-trouble
 returns-clause-trouble g c = IfErr-weaker c.insert_host.result _ _ (λ e trouble intact unlimited.

@@ -4,6 +4,6 @@ use Rattle.bh_tables.proofs.Creates.{first_made}
 use Rattle.bh_create.specs.Creation.{IsMaking}
 use Rattle.bh_create.proofs.tables.create_tables.Goals as goal
 
-pub create_locks-requires : goal.create_locks-requires
-create_locks-requires g c clean =
+pub create_item-requires : goal.create_item-requires
+create_item-requires g c clean =
     subst (λ schema. IsMaking schema (state g.S.Store c.create_first_tables.new.connection)) first_made (c.in_ok-create_first_tables.ensures.makes.made clean)

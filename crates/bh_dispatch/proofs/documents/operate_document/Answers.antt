@@ -2,6 +2,7 @@ use Rattle.std.proofs.Common.{◌∙◌, Result, Err}
 use Rattle.std.proofs.lemmas.Result.{err_from_is_err_and}
 use Rattle.sqlite.specs.Held.{state}
 use Rattle.bh_types.specs.declared.rejection.Rejection.{Rejection}
+use Rattle.bh_machine.specs.Machine.{document_operated}
 use Rattle.bh_storage.specs.Answers.{answer_view}
 use Rattle.bh_storage.specs.Calls.{UnlessSpoilt}
 use Rattle.bh_storage.specs.Errors.{step_rejected}
@@ -9,7 +10,6 @@ use Rattle.bh_storage.specs.declared.answer.Answer.{Answer}
 use Rattle.bh_storage.specs.declared.error.Outcome.{Outcome}
 use Rattle.bh_storage.specs.declared.error.StepError.{StepError}
 use Rattle.bh_schema.specs.Working.{tables_at}
-use Rattle.bh_dispatch.specs.Operating.{step_of}
 use Rattle.bh_dispatch.proofs.Documented.{undocumented}
 use Rattle.bh_dispatch.proofs.Operating.{still, works_err}
 use Rattle.bh_dispatch.proofs.Receiving.{operates_err, spoilt_any}
@@ -23,7 +23,7 @@ returns-in_err-document g c =
     let result : Result (Outcome Answer Rejection) (StepError Rejection) = Err (step_rejected c.in_err-document.field-0.0) in
     rw (p.1, p.2) (record {
       works = still g.S.Store c.args.connection.now c.requires.working (UnlessSpoilt result) (spoilt_any result);
-      operates = undocumented asked.limits asked.at asked.tenant.now asked.operation.now c.requires.reads _ _ _ (tables_at (state g.S.Store c.args.connection.now)) given gives c.in_err-document.field-0.0 taken;
+      operates = undocumented asked.limits asked.at asked.tenant.now c.args.operation.now _ _ _ (tables_at (state g.S.Store c.args.connection.now)) given gives c.in_err-document.field-0.0 taken;
     })
 
 pub returns-in_err-answer : goal.returns-in_err-answer
@@ -34,7 +34,7 @@ returns-in_err-answer g c =
     let new = c.carry_out_document.new.connection in
     rw (p.1, p.2) (record {
       works = works_err g.S.Store old new Answer Answer c.in_err-answer.field-0.0 c.in_err-answer.ensures.works;
-      operates = operates_err answer_view c.args.asked.now.tenant.now (step_of c.args.asked.now) _ _ _ (tables_at (state g.S.Store old)) (tables_at (state g.S.Store new))
+      operates = operates_err answer_view c.args.asked.now.tenant.now (λ document. document_operated c.args.asked.now.limits c.args.asked.now.at document c.args.operation.now) _ _ _ (tables_at (state g.S.Store old)) (tables_at (state g.S.Store new))
           given gives taken.1 c.deref.result.now (c.deref.ensures.value ∙ taken.0) c.in_err-answer.field-0.0 c.in_err-answer.ensures.carries;
     })
 

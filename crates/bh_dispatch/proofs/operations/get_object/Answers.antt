@@ -24,7 +24,7 @@ returns-in_err-found-in-Ok-clause-found g c =
     let error = c.in_err-found-in-Ok.field-0.0 in
     let new = tables_at (state g.S.Store c.get_object.new.connection) in
     rw (p.1, p.2) (record {
-      works = record { within = h.within; opens = spoilt_err Offer error _ h.opens; working = spoilt_err Offer error _ h.working };
+      works = record { within = h.works.within; opens = spoilt_err Offer error _ h.works.opens; working = spoilt_err Offer error _ h.works.working };
       operates = found_err new new c.args.tenant.now _ _ _ _ (tables_at (state g.S.Store c.args.connection.now)) new given gives c.in-Ok.ensures.whole error h.carries;
     })
 
@@ -33,6 +33,6 @@ returns-in_ok-found-in-Ok-clause-found g c =
     let (given, gives) = c.drain.ensures.some in
     let h = c.in_ok-found-in-Ok.ensures in
     record {
-      works = record { within = h.within; opens = h.opens; working = h.working };
+      works = record { within = h.works.within; opens = h.works.opens; working = h.works.working };
       operates = record { given = given; gives = gives; decided = c.in-Ok.ensures.whole; carries = h.carries };
     }

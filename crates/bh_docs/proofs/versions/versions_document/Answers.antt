@@ -1,6 +1,16 @@
+use Rattle.std.proofs.Common.{◌∙◌, refl}
+use Rattle.std.proofs.lemmas.Result.{IfOk-weaker}
 use Rattle.bh_docs.specs.Pages.{versions_view}
 use Rattle.bh_docs.proofs.Floats.{has_float-versions_data}
+use Rattle.bh_docs.proofs.Markers.{versions-told}
 use Rattle.bh_docs.proofs.versions.versions_document.Goals as goal
 
-pub print-requires : goal.print-requires
-print-requires c = rw (c.in_ok-document.ensures) (has_float-versions_data (versions_view c.args.page.now))
+pub page_text-requires : goal.page_text-requires
+page_text-requires c =
+    rw (c.in_ok-document-2.ensures, c.in_ok-document.ensures, versions-told c.args.page.now) (has_float-versions_data (versions_view c.args.page.now))
+
+pub returns : goal.returns
+returns c =
+    IfOk-weaker c.page_text.result _ _
+    (λ text is. is ∙ rw (c.in_ok-document-2.ensures, c.in_ok-document.ensures, versions-told c.args.page.now) refl)
+    c.page_text.ensures

@@ -1,6 +1,7 @@
-use Rattle.std.proofs.Common.{[], map, rules, subst, sym, ◌∙◌, inl, inr}
+use Rattle.std.proofs.Common.{[], map, rules, subst, sym}
 use Rattle.bh_host.specs.Answers.{told}
 use Rattle.bh_host.specs.Runs.{RanOn}
+use Rattle.bh_host.proofs.Resting.{stays_here, stays_then}
 use Rattle.bh_host.proofs.Running.{ran_alone, ran_more, ran_none}
 use Rattle.bh_host.proofs.events.run.Goals as goal
 
@@ -8,11 +9,7 @@ pub loop-event-init : goal.loop-event-init
 loop-event-init g c =
     let host = c.args.host.now in
     record {
-      intact = λ intact. intact;
-      opened = λ intact opened. opened;
-      ready = c.requires;
-      limits = search rules;
-      leaves = λ _ x leaves. inl leaves;
+      stays = stays_here host c.requires;
       count = search rules;
       room = search rules;
       ran = λ intact. subst (λ dones. RanOn g.H.Storage.IsOpen g.H.Storage.seen g.H.Storage.left [] (map told dones) host host)
@@ -24,18 +21,11 @@ loop-event-preserved g c =
     let so_far = c.loop-event.invariant in
     let done = c.apply-done.ensures in
     record {
-      intact = λ intact. so_far.intact (done.intact intact);
-      opened = λ intact opened. so_far.opened (done.intact intact) (done.opened intact opened);
-      ready = done.ready;
-      limits = done.limits ∙ so_far.limits;
-      leaves = λ intact x leaves. elim (done.leaves intact x leaves) [
-        | inl before ↦ so_far.leaves (done.intact intact) x before
-        | inr sound ↦ inr sound
-      ];
+      stays = stays_then so_far.stays done.stays;
       count = search rules;
       room = search rules;
       ran = λ intact. ran_more g.H.Storage.IsOpen g.H.Storage.seen g.H.Storage.left _ _ c.event-item.result _ _ c.apply-done.result _ _ _ c.loop-event-test.true c.event-item.is c.push_reserved.ensures.items
-          (so_far.ran (done.intact intact)) (done.applied intact) (done.told_apart intact) _ intact done.acknowledged done.crash;
+          (so_far.ran (done.stays.intact intact)) (done.applied intact) (done.told_apart intact) _ intact done.acknowledged done.crash;
     }
 
 pub returns-clause-alone : goal.returns-clause-alone

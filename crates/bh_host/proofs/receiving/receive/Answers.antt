@@ -8,7 +8,7 @@ returns-in-Some-Ended-clause-receives g c =
     let tried = c.in-Err.ensures in
     let back = c.take_back-in-Err.ensures in
     short_received g.H.Storage.IsIntact g.H.Storage.IsOpen g.H.Storage.seen g.H.Storage.left g.H.Storage.IsSoundStore c.args.reading c.args.host.now c.try_receive.new.host c.take_back-in-Err.new.self _
-    c.requires.rest tried.intact tried.opened tried.tries.tried.2 back.intact back.opened back.survives back.back c.refuse_unread.ensures.intact c.args.head.now _ _ c.in-Err.trouble c.requires.due tried.tries
+    c.requires.rest tried.intact tried.opened tried.tries.tried.2 back.intact back.opened back.survives back.back c.refuse_unread.ensures.stays.intact c.args.head.now _ _ c.in-Err.trouble c.requires.due tried.tries
     (sym c.broken.ensures ∙ c.in-Some-Ended.is ∙ ap Some c.in-Some-Ended.field-0-is) _ _ c.refuse_unread.ensures.anew
 
 pub returns-in-Ok-TakenBack-clause-receives : goal.returns-in-Ok-TakenBack-clause-receives
@@ -17,7 +17,7 @@ returns-in-Ok-TakenBack-clause-receives g c =
     let (whole, owned, refused, survives, kept) = tried.tries.tried in
     let back = c.take_back.ensures in
     spoilt_received g.H.Storage.IsIntact g.H.Storage.IsOpen g.H.Storage.seen g.H.Storage.left g.H.Storage.IsSoundStore c.args.reading c.args.host.now c.try_receive.new.host c.take_back.new.self _
-    c.requires.rest tried.intact tried.opened kept back.intact back.opened back.survives back.back c.answer_anew-told.ensures.intact c.args.head.now _ _ tried.tries.given tried.tries.gives whole _ _ c.requires.due owned refused survives _ _ c.answer_anew-told.ensures.anew
+    c.requires.rest tried.intact tried.opened kept back.intact back.opened back.survives back.back c.answer_anew-told.ensures.stays.intact c.args.head.now _ _ tried.tries.given tried.tries.gives whole _ _ c.requires.due owned refused survives _ _ c.answer_anew-told.ensures.anew
 
 pub returns-in-Ok-Applied-clause-receives : goal.returns-in-Ok-Applied-clause-receives
 returns-in-Ok-Applied-clause-receives g c =

@@ -20,24 +20,24 @@ reading-init g c =
           (are_rows c.args.asked.now c.args.tenant.now c.args.bucket.now (tables_at old).versions (small_keys (tables_at old) (c.requires.working clean).sound));
     }
 
-pub version_lines-requires-clause-inside : goal.version_lines-requires-clause-inside
-version_lines-requires-clause-inside g c = still_inside (state g.S.Store c.args.connection.now) (state g.S.Store c.reading.connection) c.requires.working c.reading.invariant.far
+pub object_lines-requires-clause-inside : goal.object_lines-requires-clause-inside
+object_lines-requires-clause-inside g c = still_inside (state g.S.Store c.args.connection.now) (state g.S.Store c.reading.connection) c.requires.working c.reading.invariant.far
 
-pub version_lines-requires-clause-small : goal.version_lines-requires-clause-small
-version_lines-requires-clause-small g c = low c.reading.reading.count c.reading.invariant.count.few
+pub object_lines-requires-clause-small : goal.object_lines-requires-clause-small
+object_lines-requires-clause-small g c = low c.reading.reading.count c.reading.invariant.count.few
   where
     low : (n : ℕ) → n ≤ 64 → n < 9223372036854775808
     low n h = omega (arith, h)
 
 pub returns-in_err-lines-clause-reads : goal.returns-in_err-lines-clause-reads
-returns-in_err-lines-clause-reads g c = record { within = within_so_far (state g.S.Store c.args.connection.now) (state g.S.Store c.reading.connection) (state g.S.Store c.version_lines.new.connection) c.reading.invariant.far c.in_err-lines.ensures.reads.within; opens = search rules; same = search rules }
+returns-in_err-lines-clause-reads g c = record { within = within_so_far (state g.S.Store c.args.connection.now) (state g.S.Store c.reading.connection) (state g.S.Store c.object_lines.new.connection) c.reading.invariant.far c.in_err-lines.ensures.reads.within; opens = search rules; same = search rules }
 
 pub returns-in_err-take-clause-reads : goal.returns-in_err-take-clause-reads
-returns-in_err-take-clause-reads g c = record { within = within_so_far (state g.S.Store c.args.connection.now) (state g.S.Store c.reading.connection) (state g.S.Store c.version_lines.new.connection) c.reading.invariant.far c.in_ok-lines.ensures.reads.within; opens = search rules; same = search rules }
+returns-in_err-take-clause-reads g c = record { within = within_so_far (state g.S.Store c.args.connection.now) (state g.S.Store c.reading.connection) (state g.S.Store c.object_lines.new.connection) c.reading.invariant.far c.in_ok-lines.ensures.reads.within; opens = search rules; same = search rules }
 
 pub returns-then-branch-clause-reads : goal.returns-then-branch-clause-reads
 returns-then-branch-clause-reads g c =
-    let far = more_so_far (state g.S.Store c.args.connection.now) (state g.S.Store c.reading.connection) (state g.S.Store c.version_lines.new.connection) c.reading.invariant.far c.in_ok-lines.ensures.reads.within c.in_ok-lines.ensures.reads.opens c.in_ok-lines.ensures.reads.same in
+    let far = more_so_far (state g.S.Store c.args.connection.now) (state g.S.Store c.reading.connection) (state g.S.Store c.object_lines.new.connection) c.reading.invariant.far c.in_ok-lines.ensures.reads.within c.in_ok-lines.ensures.reads.opens c.in_ok-lines.ensures.reads.same in
     record { within = far.within; opens = far.opens; same = far.same }
 
 pub returns-then-branch-clause-gathered : goal.returns-then-branch-clause-gathered
@@ -58,7 +58,7 @@ pub reading-preserved : goal.reading-preserved
 reading-preserved g c =
     let old = state g.S.Store c.args.connection.now in
     record {
-      far = more_so_far old (state g.S.Store c.reading.connection) (state g.S.Store c.version_lines.new.connection) c.reading.invariant.far c.in_ok-lines.ensures.reads.within c.in_ok-lines.ensures.reads.opens c.in_ok-lines.ensures.reads.same;
+      far = more_so_far old (state g.S.Store c.reading.connection) (state g.S.Store c.object_lines.new.connection) c.reading.invariant.far c.in_ok-lines.ensures.reads.within c.in_ok-lines.ensures.reads.opens c.in_ok-lines.ensures.reads.same;
       upto = c.reading.invariant.upto;
       count = c.in_ok-take.ensures.count c.reading.invariant.count;
       read = λ clean.

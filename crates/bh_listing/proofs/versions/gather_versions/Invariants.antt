@@ -1,8 +1,6 @@
-use Rattle.std.proofs.Common.{◌≡◌}
 use Rattle.sqlite.specs.Held.{state}
 use Rattle.bh_schema.specs.Connections.{IsClean}
 use Rattle.bh_schema.specs.Working.{tables_at}
-use Rattle.bh_pages.specs.Gathered.{past_name}
 use Rattle.bh_pages.specs.Reading.{IsCount}
 use Rattle.bh_pages.specs.Versions.{IsUnderway}
 use Rattle.bh_listing.specs.Versions.{seen_start, own_rows, listed_from}
@@ -14,7 +12,6 @@ use Rattle.bh_listing.proofs.versions.gather_versions.Given as goal
 abbrev pub invariant-reading : goal.invariant-reading
 invariant-reading g l = record {
   far : SoFar (state g.S.Store l.fn.connection) (state g.S.Store l.connection);
-  upto : l.upto.items ≡ past_name l.asked.prefix.now;
   count : IsCount l.reading.count;
   read : IsClean g.S.Store l.connection → IsUnderway l.asked (under_rows l.asked l.tenant l.bucket (tables_at (state g.S.Store l.fn.connection)).versions) (listed_from l.asked (seen_start l.fn.start) (own_rows l.tenant l.bucket (tables_at (state g.S.Store l.fn.connection)).versions)) l.reading;
 }

@@ -7,10 +7,10 @@ use Rattle.bh_moved.proofs.account.bring_account.Goals as goal
 
 pub returns-clause-holds : goal.returns-clause-holds
 returns-clause-holds g c absent clean =
-    let three = c.in_ok-set_next_upload.ensures.holds clean in
-    let clean_two = c.in_ok-set_next_upload.ensures.within.follows.clean clean in
+    let three = c.in_ok-set_number.ensures.holds clean in
+    let clean_two = c.in_ok-set_number.ensures.writes.within.follows.clean clean in
     let two = c.in_ok-set_numbers.ensures.holds clean_two in
-    let one = c.in_ok-insert_tenant.ensures.holds (c.in_ok-set_numbers.ensures.within.follows.clean clean_two) in
+    let one = c.in_ok-insert_tenant.ensures.holds (c.in_ok-set_numbers.ensures.writes.within.follows.clean clean_two) in
     record {
       within = three.within;
       is = account_chain c.args.tenant.now c.in_ok-quota.quota c.in_ok-version.version c.in_ok-upload.upload c.in_ok-entry.entry _ _ _ _ absent one.is two.is three.is

@@ -1,26 +1,38 @@
 use Rattle.std.proofs.Common.{◌≡◌, sym, ap, subst}
 use Rattle.sqlite.specs.Held.{state}
 use Rattle.bh_tables.specs.Typed.{IsHost, tables_in}
-use Rattle.bh_schema.specs.Layer.{Standing, standing, IsStateClean}
-use Rattle.bh_schema.specs.Working.{tables_at}
-use Rattle.bh_tenant_rows.specs.Brought.{IsBrought}
+use Rattle.bh_schema.specs.Layer.{Standing, standing}
+use Rattle.bh_moved.proofs.Settling.{begun_inside, begun_tables}
+use Rattle.bh_moved.proofs.Telling.{tells_before, tells_after}
 use Rattle.bh_moved.proofs.moves.bring_and_commit.Goals as goal
+
+pub bring_tenant-requires-clause-reading : goal.bring_tenant-requires-clause-reading
+bring_tenant-requires-clause-reading g c = begun_inside _ _ c.in_ok-begin.ensures.begins c.requires.reading c.in_ok-begin.ensures.within
+
+pub bring_tenant-requires-clause-inside : goal.bring_tenant-requires-clause-inside
+bring_tenant-requires-clause-inside g c = begun_inside _ _ c.in_ok-begin-2.ensures.begins c.requires.ready c.in_ok-begin-2.ensures.within
+
+pub returns-else-is_none-clause-tells : goal.returns-else-is_none-clause-tells
+returns-else-is_none-clause-tells g c =
+    let it = c.in_ok-refused.ensures in
+    tells_before g.S.Store g.T.Store g.D.Digester.digest_of c.args.tenant.now c.in_ok-refused.refused c.args.from.now c.begin.new.connection c.bring_tenant.new.from c.args.to.now c.begin-2.new.connection c.bring_tenant.new.to
+    (λ reading. begun_tables _ _ c.in_ok-begin.ensures.begins (it.reads.follows.clean reading))
+    (λ clean. begun_tables _ _ c.in_ok-begin-2.ensures.begins (it.within.follows.clean clean))
+    (record { moved = it.moved; answered = it.answered; missing = it.missing; exists = it.exists })
 
 pub returns-in_ok-commit-clause-tells : goal.returns-in_ok-commit-clause-tells
 returns-in_ok-commit-clause-tells g c =
-    let it = c.in_ok-refused.ensures.tells in
-    let before = λ (clean : IsStateClean (state g.T.Store c.commit.new.connection)). c.in_ok-commit.ensures.follows.clean clean in
-    record {
-      moved = λ none reading clean other given host.
-          let same : tables_at (state g.T.Store c.commit.new.connection) ≡ tables_at (state g.T.Store c.begin_and_bring.new.to) = ap (λ (x : Standing). tables_in x.now) (c.in_ok-commit.ensures.commits clean.intact) in
-          subst (IsBrought g.D.Digester.digest_of c.args.tenant.now (tables_at (state g.S.Store c.args.from.now)) (tables_at (state g.T.Store c.args.to.now))) (sym same) (it.moved none reading (before clean) other given host);
-      answered = λ reading clean. it.answered reading (before clean);
-      missing = it.missing;
-      exists = λ is clean. it.exists is (before clean);
-    }
+    let it = c.in_ok-refused.ensures in
+    tells_after g.S.Store g.T.Store g.D.Digester.digest_of c.args.tenant.now c.in_ok-refused.refused c.args.from.now c.bring_tenant.new.from c.args.to.now c.bring_tenant.new.to c.commit.new.connection
+    (λ clean. c.in_ok-commit.ensures.follows.clean clean)
+    (λ clean. ap (λ (x : Standing). tables_in x.now) (c.in_ok-commit.ensures.commits clean.intact))
+    (tells_before g.S.Store g.T.Store g.D.Digester.digest_of c.args.tenant.now c.in_ok-refused.refused c.args.from.now c.begin.new.connection c.bring_tenant.new.from c.args.to.now c.begin-2.new.connection c.bring_tenant.new.to
+    (λ reading. begun_tables _ _ c.in_ok-begin.ensures.begins (it.reads.follows.clean reading))
+    (λ clean. begun_tables _ _ c.in_ok-begin-2.ensures.begins (it.within.follows.clean clean))
+    (record { moved = it.moved; answered = it.answered; missing = it.missing; exists = it.exists }))
 
 pub returns-in_ok-commit-clause-host : goal.returns-in_ok-commit-clause-host
 returns-in_ok-commit-clause-host g c is clean =
     let inside = c.in_ok-refused.ensures.inside (c.in_ok-commit.ensures.follows.clean clean) in
-    let same : (standing (state g.T.Store c.commit.new.connection)).now ≡ (standing (state g.T.Store c.begin_and_bring.new.to)).now = ap (λ (x : Standing). x.now) (c.in_ok-commit.ensures.commits clean.intact) in
+    let same : (standing (state g.T.Store c.commit.new.connection)).now ≡ (standing (state g.T.Store c.bring_tenant.new.to)).now = ap (λ (x : Standing). x.now) (c.in_ok-commit.ensures.commits clean.intact) in
     subst IsHost (sym same) inside.host

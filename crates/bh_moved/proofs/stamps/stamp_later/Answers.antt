@@ -9,15 +9,15 @@ use Rattle.bh_moved.proofs.Chains.{latest_found}
 use Rattle.bh_moved.proofs.stamps.stamp_later.Goals as goal
 
 pub set_latest-requires-clause-inside : goal.set_latest-requires-clause-inside
-set_latest-requires-clause-inside g c = still_inside _ _ c.in_ok-find_latest-2.ensures.within c.in_ok-find_latest-2.ensures.same c.requires.inside
+set_latest-requires-clause-inside g c = still_inside _ _ c.in_ok-find_latest-2.ensures.reads.within c.in_ok-find_latest-2.ensures.reads.same c.requires.inside
 
 pub returns-clause-stamped : goal.returns-clause-stamped
 returns-clause-stamped g c reading clean =
     let from : Tables = tables_at (state g.S.Store c.args.from.now) in
     let to : Tables = tables_at (state g.T.Store c.args.to.now) in
     let it = c.in_ok-set_latest.ensures.holds clean in
-    let was = c.in_ok-set_latest.ensures.within.follows.clean clean in
-    let same : tables_at (state g.T.Store c.find_latest-2.new.connection) ≡ to = ap (λ (x : Standing). tables_in x.now) (c.in_ok-find_latest-2.ensures.same was.intact) in
+    let was = c.in_ok-set_latest.ensures.writes.within.follows.clean clean in
+    let same : tables_at (state g.T.Store c.find_latest-2.new.connection) ≡ to = ap (λ (x : Standing). tables_in x.now) (c.in_ok-find_latest-2.ensures.reads.same was.intact) in
     let own : c.unwrap_or-own.result ≡ unwrap_or c.in_ok-find_latest-2.field-0 0 = search rules in
     let given : c.unwrap_or-given.result ≡ unwrap_or c.in_ok-find_latest.field-0 0 = search rules in
     let own_is : c.unwrap_or-own.result ≡ latest_of to = own ∙ ap (λ o. unwrap_or o 0) (c.in_ok-find_latest-2.ensures.found was) ∙ latest_found to in

@@ -23,7 +23,7 @@ returns-in_default-clause-missing g c is reading =
     view_found (tables_at (state g.S.Store c.args.from.now)) c.args.tenant.now ∙ ap is_some (none_mapped tenant_numbers _ (sym (c.in_ok-numbers.ensures.found reading) ∙ none))
 
 pub returns-then-is_some-clause-inside : goal.returns-then-is_some-clause-inside
-returns-then-is_some-clause-inside g c = still_inside _ _ c.in_ok-find_tenant.ensures.within c.in_ok-find_tenant.ensures.same c.requires.inside
+returns-then-is_some-clause-inside g c = still_inside _ _ c.in_ok-find_tenant.ensures.reads.within c.in_ok-find_tenant.ensures.reads.same c.requires.inside
 
 pub returns-then-is_some-clause-exists : goal.returns-then-is_some-clause-exists
 returns-then-is_some-clause-exists g c is clean =
@@ -31,10 +31,10 @@ returns-then-is_some-clause-exists g c is clean =
     view_found (tables_at (state g.T.Store c.args.to.now)) c.args.tenant.now ∙ sym (is_some-map tenant_numbers _) ∙ ap is_some (sym (c.in_ok-find_tenant.ensures.found clean)) ∙ some
 
 pub bring_all-requires-clause-reading : goal.bring_all-requires-clause-reading
-bring_all-requires-clause-reading g c = still_inside _ _ c.in_ok-numbers.ensures.within c.in_ok-numbers.ensures.same c.requires.reading
+bring_all-requires-clause-reading g c = still_inside _ _ c.in_ok-numbers.ensures.reads.within c.in_ok-numbers.ensures.reads.same c.requires.reading
 
 pub bring_all-requires-clause-inside : goal.bring_all-requires-clause-inside
-bring_all-requires-clause-inside g c = still_inside _ _ c.in_ok-find_tenant.ensures.within c.in_ok-find_tenant.ensures.same c.requires.inside
+bring_all-requires-clause-inside g c = still_inside _ _ c.in_ok-find_tenant.ensures.reads.within c.in_ok-find_tenant.ensures.reads.same c.requires.inside
 
 pub returns-clause-moved : goal.returns-clause-moved
 returns-clause-moved g c same reading clean other given host =
@@ -48,8 +48,8 @@ returns-clause-moved g c same reading clean other given host =
     let new : Tables = tables_at (state g.T.Store c.bring_all.new.to) in
     let from_n : Tables = tables_at (state g.S.Store c.find_tenant.new.connection) in
     let old_f : Tables = tables_at (state g.T.Store c.find_tenant-2.new.connection) in
-    let two : from_n ≡ from = ap (λ (x : Standing). tables_in x.now) (c.in_ok-numbers.ensures.same reading_n.intact) in
-    let three : old_f ≡ old = ap (λ (x : Standing). tables_in x.now) (c.in_ok-find_tenant.ensures.same clean_f.intact) in
+    let two : from_n ≡ from = ap (λ (x : Standing). tables_in x.now) (c.in_ok-numbers.ensures.reads.same reading_n.intact) in
+    let three : old_f ≡ old = ap (λ (x : Standing). tables_in x.now) (c.in_ok-find_tenant.ensures.reads.same clean_f.intact) in
     let absent : is_some c.in_ok-find_tenant.field-0 ≡ false = search rules in
     let found : find (is_tenant t) from.tenants ≡ Some (tenant_row t c.in-Some.numbers) = numbers_found t c.in-Some.numbers from.tenants (sym c.in-Some.is ∙ c.in_ok-numbers.ensures.found reading_n) in
     let vacant : find (is_tenant t) old.tenants ≡ None = none_mapped tenant_numbers _ (sym (c.in_ok-find_tenant.ensures.found clean_f) ∙ none_of _ absent) in

@@ -15,10 +15,10 @@ invariant-taking g l = record {
   within : StateWithin (state g.S.Store l.fn.connection) (state g.S.Store l.connection);
   opens : IsIntact (state g.S.Store l.connection) → IsOpen (state g.S.Store l.fn.connection) → IsOpen (state g.S.Store l.connection);
   inside : IsStateClean (state g.S.Store l.connection) → IsInside (standing (state g.S.Store l.connection));
-  copies : IsStateClean (state g.S.Store l.connection) → AreCopies l.fn.cache (tables_at (state g.S.Store l.connection)).blocks;
-  of : drafted l.draft ≡ (l.tenant, l.number);
+  copies : IsStateClean (state g.S.Store l.connection) → AreCopies l.fn.blocks.cache.now (tables_at (state g.S.Store l.connection)).blocks;
+  of : drafted l.draft ≡ drafted l.fn.draft;
   body : l.draft.body < 2 ^ 63;
-  size : l.draft.size ≡ l.block_size;
+  size : l.draft.size ≡ l.fn.draft.size;
   place : l.draft.place < 2 ^ 63;
   fewer : length l.draft.waiting.items < l.draft.size;
   going : (g.B.Body.coming l.body).broken ≡ None;

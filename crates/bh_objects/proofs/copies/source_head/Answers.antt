@@ -1,4 +1,4 @@
-use Rattle.std.proofs.Common.{option_map, Err, sym, ap, ◌∙◌}
+use Rattle.std.proofs.Common.{rules, option_map, Err, sym, ap, ◌∙◌}
 use Rattle.std.proofs.lemmas.Result.{err_from_is_err_and}
 use Rattle.sqlite.specs.Held.{state}
 use Rattle.bh_tables.specs.Typed.{Tables}
@@ -24,10 +24,10 @@ pub returns-in-Ok-clause-decides : goal.returns-in-Ok-clause-decides
 returns-in-Ok-clause-decides g c clean =
     let copy = c.args.copy.now in
     let first = state g.S.Store c.args.connection.now in
-    let clean_first = c.in-Ok.ensures.within.follows.clean clean in
+    let clean_first = c.in-Ok.ensures.works.within.follows.clean clean in
     let one = c.in_ok-bucket_state.ensures.decides clean_first in
     let two = c.in-Ok.ensures.decides clean in
-    let host = host_at first (c.requires (c.in_ok-bucket_state.ensures.within.follows.clean clean_first)) in
+    let host = host_at first (c.requires (c.in_ok-bucket_state.ensures.works.within.follows.clean clean_first)) in
     let looked = ap (λ (x : Tables). head_looked copy.version (option_map seen_head (wanted_row copy.tenant.now copy.source_bucket.now copy.source_key.now copy.version x.versions))) (sym one.1) ∙ two.0 in
     (source_is (tables_at first) copy.tenant.now copy.source_bucket.now copy.source_key.now host.sound _ one.0 copy.version (head_seen c.in-Ok.head) looked host.resolved, two.1 ∙ one.1)
 
@@ -35,32 +35,40 @@ pub returns-in-Ok-clause-sized : goal.returns-in-Ok-clause-sized
 returns-in-Ok-clause-sized g c clean =
     let copy = c.args.copy.now in
     let first = state g.S.Store c.args.connection.now in
-    let clean_first = c.in-Ok.ensures.within.follows.clean clean in
+    let clean_first = c.in-Ok.ensures.works.within.follows.clean clean in
     let one = c.in_ok-bucket_state.ensures.decides clean_first in
-    let host = host_at first (c.requires (c.in_ok-bucket_state.ensures.within.follows.clean clean_first)) in
+    let host = host_at first (c.requires (c.in_ok-bucket_state.ensures.works.within.follows.clean clean_first)) in
     let looked = ap (λ (x : Tables). head_looked copy.version (option_map seen_head (wanted_row copy.tenant.now copy.source_bucket.now copy.source_key.now copy.version x.versions))) (sym one.1) ∙ (c.in-Ok.ensures.decides clean).0 in
     source_sized (tables_at first) copy.tenant.now copy.source_bucket.now copy.source_key.now host.sound _ one.0 copy.version (head_seen c.in-Ok.head) looked host.resolved
 
 pub wanted_head-requires : goal.wanted_head-requires
-wanted_head-requires g c clean = (c.in_ok-bucket_state.ensures.working clean (λ bytes. bytes)).is
+wanted_head-requires g c clean = (c.in_ok-bucket_state.ensures.works.working clean (λ bytes. bytes)).is
 
-pub returns-in-Ok-clause-working : goal.returns-in-Ok-clause-working
-returns-in-Ok-clause-working g c clean =
-    works_then (state g.S.Store c.args.connection.now) (state g.S.Store c.bucket_state.new.connection) (state g.S.Store c.wanted_head.new.connection)
-    (c.in_ok-bucket_state.ensures.working (c.in-Ok.ensures.within.follows.clean clean)) (c.in-Ok.ensures.working clean)
+pub returns-in-Ok-clause-works : goal.returns-in-Ok-clause-works
+returns-in-Ok-clause-works g c = record {
+  within = search rules;
+  opens = search rules;
+  working = λ clean.
+      works_then (state g.S.Store c.args.connection.now) (state g.S.Store c.bucket_state.new.connection) (state g.S.Store c.wanted_head.new.connection)
+      (c.in_ok-bucket_state.ensures.works.working (c.in-Ok.ensures.works.within.follows.clean clean)) (c.in-Ok.ensures.works.working clean);
+}
 
-pub returns-in-Err-Refused-clause-working : goal.returns-in-Err-Refused-clause-working
-returns-in-Err-Refused-clause-working g c clean =
-    works_then (state g.S.Store c.args.connection.now) (state g.S.Store c.bucket_state.new.connection) (state g.S.Store c.wanted_head.new.connection)
-    (c.in_ok-bucket_state.ensures.working (c.in-Err-Refused.ensures.within.follows.clean clean)) ((rw c.in-Err-Refused.field-0-is at c.in-Err-Refused.ensures.working) clean)
+pub returns-in-Err-Refused-clause-works : goal.returns-in-Err-Refused-clause-works
+returns-in-Err-Refused-clause-works g c = record {
+  within = search rules;
+  opens = search rules;
+  working = λ clean.
+      works_then (state g.S.Store c.args.connection.now) (state g.S.Store c.bucket_state.new.connection) (state g.S.Store c.wanted_head.new.connection)
+      (c.in_ok-bucket_state.ensures.works.working (c.in-Err-Refused.ensures.works.within.follows.clean clean)) ((rw c.in-Err-Refused.field-0-is at c.in-Err-Refused.ensures.works.working) clean);
+}
 
 pub returns-in-Err-Refused-clause-decides : goal.returns-in-Err-Refused-clause-decides
 returns-in-Err-Refused-clause-decides g c clean =
     let copy = c.args.copy.now in
     let first = state g.S.Store c.args.connection.now in
-    let clean_first = c.in-Err-Refused.ensures.within.follows.clean clean in
+    let clean_first = c.in-Err-Refused.ensures.works.within.follows.clean clean in
     let one = c.in_ok-bucket_state.ensures.decides clean_first in
     let two = (rw c.in-Err-Refused.field-0-is at c.in-Err-Refused.ensures.decides) clean in
-    let host = host_at first (c.requires (c.in_ok-bucket_state.ensures.within.follows.clean clean_first)) in
+    let host = host_at first (c.requires (c.in_ok-bucket_state.ensures.works.within.follows.clean clean_first)) in
     let looked = ap (λ (x : Tables). head_looked copy.version (option_map seen_head (wanted_row copy.tenant.now copy.source_bucket.now copy.source_key.now copy.version x.versions))) (sym one.1) ∙ two.0 in
     (source_is_refused (tables_at first) copy.tenant.now copy.source_bucket.now copy.source_key.now host.sound _ one.0 copy.version c.in-Err-Refused.rejection looked ∙ ap Err (sym c.source_refused.ensures), two.1 ∙ one.1)

@@ -1,19 +1,16 @@
-use Rattle.std.proofs.Common.{◌≡◌, ℕ, List, Option, None, sym, ap, ◌∙◌, subst}
+use Rattle.std.proofs.Common.{rules, ℕ, List, Option, sym, ap, ◌∙◌}
 use Rattle.std.proofs.lemmas.Result.{err_from_is_err_and}
 use Rattle.std.specs.String.{string_bytes}
 use Rattle.sqlite.specs.Held.{state}
 use Rattle.bh_model.specs.Entries.{new_id}
-use Rattle.bh_model.specs.Operations.{Copied, id_told, copy_object}
+use Rattle.bh_model.specs.Operations.{Copied, id_told}
 use Rattle.bh_model.specs.State.{Content.Body}
 use Rattle.bh_view.specs.Blocks.{whole, AreDigests}
 use Rattle.bh_view.specs.Bodies.{HasBodies}
-use Rattle.bh_view.specs.Put.{row_number}
-use Rattle.bh_storage.specs.Calls.{GivesStep}
 use Rattle.bh_schema.specs.Layer.{IsStateClean}
 use Rattle.bh_schema.specs.Views.{head_seen}
 use Rattle.bh_schema.specs.Working.{tables_at}
 use Rattle.bh_objects.specs.Copies.{version_read, copy_written}
-use Rattle.bh_objects.specs.Dates.{IsPlaced}
 use Rattle.bh_objects.specs.Found.{replaced_in, with_entry}
 use Rattle.bh_objects.specs.declared.quotas.NewEntry.{NewEntry}
 use Rattle.bh_objects.specs.declared.quotas.Replaced.{Replaced}
@@ -41,20 +38,24 @@ done g c clean =
     let mode = c.args.mode in
     let before = c.in_ok-entry.entry.numbers.before in
     let after = c.in_ok-entry.entry.numbers.after in
-    let clean_entry = c.in_ok-write_copy.ensures.within.follows.clean clean in
-    let clean_old = c.in_ok-entry.ensures.within.follows.clean clean_entry in
+    let clean_entry = c.in_ok-write_copy.ensures.changes.within.follows.clean clean in
+    let clean_old = c.in_ok-entry.ensures.works.within.follows.clean clean_entry in
     let three = c.in_ok-entry.ensures.decides clean_entry in
     copies_body (tables_at first) (tables_at (state g.S.Store c.write_copy.new.connection)) copy.tenant.now copy.bucket.now copy.key.now copy.source_bucket.now copy.source_key.now copy.version copy.at head after
     (host_at first (c.requires.working clean_old)) (c.requires.early clean_old) c.in_ok-write_copy.ensures.key (c.requires.source clean_old) (c.requires.sized clean_old)
     mode before (c.requires.state clean_old) three.0
-    ((c.in_ok-write_copy.ensures.holds clean).is
+    ((c.in_ok-write_copy.ensures.changes.holds clean).is
     ∙ ap (λ (r : Option Replaced). copy_written mode before after r copy.tenant.now copy.bucket.now copy.key.now copy.at head (tables_at (state g.S.Store c.new_entry.new.connection))) (c.in_ok-entry.ensures.replaced clean_entry)
     ∙ ap (copy_written mode before after (replaced_in mode copy.tenant.now copy.bucket.now copy.key.now (tables_at first)) copy.tenant.now copy.bucket.now copy.key.now copy.at head) three.1)
 
-pub returns-clause-working : goal.returns-clause-working
-returns-clause-working g c clean =
-    let it = done g c clean in
-    λ digest. record { is = record { inside = (c.in_ok-write_copy.ensures.holds clean).within; sound = it.0.1; bodies = it.1 }; limits = it.0.2; digests = it.2 digest }
+pub returns-clause-works : goal.returns-clause-works
+returns-clause-works g c = record {
+  within = search rules;
+  opens = search rules;
+  working = λ clean.
+      let it = done g c clean in
+      λ digest. record { is = record { inside = (c.in_ok-write_copy.ensures.changes.holds clean).within; sound = it.0.1; bodies = it.1 }; limits = it.0.2; digests = it.2 digest };
+}
 
 pub returns-clause-carries : goal.returns-clause-carries
 returns-clause-carries g c clean = (done g c clean).0.0
@@ -63,8 +64,8 @@ pub returns-clause-counted : goal.returns-clause-counted
 returns-clause-counted g c clean =
     let old = tables_at (state g.S.Store c.args.connection.now) in
     let copy = c.args.copy.now in
-    let clean_entry = c.in_ok-write_copy.ensures.within.follows.clean clean in
-    let clean_old = c.in_ok-entry.ensures.within.follows.clean clean_entry in
+    let clean_entry = c.in_ok-write_copy.ensures.changes.within.follows.clean clean in
+    let clean_old = c.in_ok-entry.ensures.works.within.follows.clean clean_entry in
     stored_counts old (tables_at (state g.S.Store c.write_copy.new.connection)) copy.tenant.now copy.bucket.now copy.key.now c.args.mode c.in_ok-entry.entry.numbers.before c.in_ok-entry.entry.numbers.after _
     (c.requires.working clean_old).sound (c.requires.state clean_old) (c.in_ok-entry.ensures.decides clean_entry).0
 
@@ -73,8 +74,8 @@ returns-clause-placed g c clean =
     let old = tables_at (state g.S.Store c.args.connection.now) in
     let new = tables_at (state g.S.Store c.write_copy.new.connection) in
     let copy = c.args.copy.now in
-    let clean_entry = c.in_ok-write_copy.ensures.within.follows.clean clean in
-    let clean_old = c.in_ok-entry.ensures.within.follows.clean clean_entry in
+    let clean_entry = c.in_ok-write_copy.ensures.changes.within.follows.clean clean in
+    let clean_old = c.in_ok-entry.ensures.works.within.follows.clean clean_entry in
     let it = done g c clean in
     stored_placed old new copy.tenant.now copy.bucket.now copy.key.now c.args.mode c.in_ok-entry.entry.numbers.before c.in_ok-entry.entry.numbers.after _
     (c.requires.working clean_old).sound (c.requires.state clean_old) (c.in_ok-entry.ensures.decides clean_entry).0 copy.at _ (string_bytes c.args.head.now.checksum) it.0.1 it.3
@@ -83,14 +84,14 @@ pub returns-in_err-entry-clause-carries : goal.returns-in_err-entry-clause-carri
 returns-in_err-entry-clause-carries g c clean =
     let p = err_from_is_err_and c.from_residual.result c.from_residual.ensures.1 in
     let copy = c.args.copy.now in
-    let clean_old = c.in_err-entry.ensures.within.follows.clean clean in
+    let clean_old = c.in_err-entry.ensures.works.within.follows.clean clean in
     rw (p.1, p.2) (numbers_failed (λ (n : Numbers). Copied (id_told c.args.mode (new_id c.args.mode n.before.version)) copy.at (string_bytes c.args.head.now.checksum)) copy.at copy.tenant.now copy.bucket.now copy.key.now
     copy.source_bucket.now copy.source_key.now copy.version (tables_at (state g.S.Store c.args.connection.now)) (tables_at (state g.S.Store c.new_entry.new.connection)) c.args.mode (c.requires.state clean_old)
     (λ (entry : NewEntry). (entry.numbers.before, entry.numbers.after)) (version_read copy.tenant.now (tables_at (state g.S.Store c.args.connection.now)) (head_seen c.args.head.now)) (c.requires.source clean_old)
     c.args.head.now.size (c.requires.sized clean_old) c.in_err-entry.field-0.0 (c.in_err-entry.ensures.decides clean))
 
 pub write_copy-requires-clause-inside : goal.write_copy-requires-clause-inside
-write_copy-requires-clause-inside g c clean = (c.in_ok-entry.ensures.working clean (λ bytes. bytes)).is.inside
+write_copy-requires-clause-inside g c clean = (c.in_ok-entry.ensures.works.working clean (λ bytes. bytes)).is.inside
 
 pub write_copy-requires-clause-held : goal.write_copy-requires-clause-held
 write_copy-requires-clause-held g c clean r is =

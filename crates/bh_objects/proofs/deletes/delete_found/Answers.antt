@@ -1,4 +1,4 @@
-use Rattle.std.proofs.Common.{◌≡◌, ℕ, find, Option, Ok, Err, sym, ap, ◌∙◌, subst}
+use Rattle.std.proofs.Common.{rules, ◌≡◌, ℕ, find, Option, None, Err, sym, ap, ◌∙◌, subst}
 use Rattle.std.proofs.lemmas.Result.{err_from_is_err_and}
 use Rattle.sqlite.specs.Held.{state}
 use Rattle.bh_types.specs.declared.id.VersionId.{VersionId}
@@ -14,7 +14,7 @@ use Rattle.bh_schema.specs.Rows.{SeenHead, seen_head}
 use Rattle.bh_schema.specs.Views.{head_seen}
 use Rattle.bh_schema.specs.Working.{tables_at}
 use Rattle.bh_schema.specs.Written.{bytes_of_id}
-use Rattle.bh_objects.specs.Dates.{past_date_in, without_date}
+use Rattle.bh_objects.specs.Dates.{past_date_in, with_date}
 use Rattle.bh_objects.specs.Writes.{without_entry}
 use Rattle.bh_objects.proofs.Sizes.{size_of_head}
 use Rattle.bh_objects.proofs.Working.{host_at, still_working}
@@ -33,21 +33,25 @@ done g c clean =
     let old = tables_at first in
     let middle = tables_at (state g.S.Store c.past_date.new.connection) in
     let new = tables_at (state g.S.Store c.drop_dated.new.connection) in
-    let clean_middle = c.in_ok-drop_dated.ensures.within.follows.clean clean in
-    let clean_old = c.in_ok-date.ensures.within.follows.clean clean_middle in
+    let clean_middle = c.in_ok-drop_dated.ensures.changes.within.follows.clean clean in
+    let clean_old = c.in_ok-date.ensures.works.within.follows.clean clean_middle in
     let one = c.in_ok-date.ensures.decides clean_middle in
     let row = row_of seen_head (find (is_version t b k n) old.versions) (head_seen c.args.head.now) (sym (c.requires.found clean_old)) in
     let seq : c.as_replaced-entry.result.seq ≡ row.0.seq = c.as_replaced-entry.ensures.seq ∙ ap (λ (x : SeenHead). x.seq) (sym row.2) in
     subst (λ (id : Option VersionId). Deletes t b k c.args.at (Named c.args.id) (Removed id c.is_marker.result) old new) (sym c.told_id.ensures)
     (deletes_read old new t b k c.args.at (host_at first (c.requires.working clean_old)) c.args.mode (c.requires.state clean_old) c.args.id n c.requires.number row.0 row.1 c.in_ok-date.date
     (ap (λ (x : SeenHead). past_date_in t x.seq c.args.at old) row.2 ∙ one.0) c.is_marker.result (c.is_marker.ensures ∙ marked_object row.0 c.args.head.now.marker (ap (λ (x : SeenHead). x.marker) (sym row.2)))
-    ((c.in_ok-drop_dated.ensures.holds clean).is ∙ ap (λ (m : ℕ). without_entry t b k n m (without_date t m c.in_ok-date.date middle)) seq
-    ∙ ap (λ (x : Tables). without_entry t b k n row.0.seq (without_date t row.0.seq c.in_ok-date.date x)) one.1))
+    ((c.in_ok-drop_dated.ensures.changes.holds clean).is ∙ ap (λ (m : ℕ). without_entry t b k n m (with_date t m c.in_ok-date.date None middle)) seq
+    ∙ ap (λ (x : Tables). without_entry t b k n row.0.seq (with_date t row.0.seq c.in_ok-date.date None x)) one.1))
 
-pub returns-clause-working : goal.returns-clause-working
-returns-clause-working g c clean =
-    let it = done g c clean in
-    still_working (state g.S.Store c.args.connection.now) (state g.S.Store c.drop_dated.new.connection) (c.in_ok-drop_dated.ensures.holds clean).within it.0.1 it.1 it.0.2 it.2
+pub returns-clause-works : goal.returns-clause-works
+returns-clause-works g c = record {
+  within = search rules;
+  opens = search rules;
+  working = λ clean.
+      let it = done g c clean in
+      still_working (state g.S.Store c.args.connection.now) (state g.S.Store c.drop_dated.new.connection) (c.in_ok-drop_dated.ensures.changes.holds clean).within it.0.1 it.1 it.0.2 it.2;
+}
 
 pub returns-clause-carries : goal.returns-clause-carries
 returns-clause-carries g c clean = (done g c clean).0.0
@@ -62,13 +66,13 @@ returns-in_err-date-clause-carries g c clean =
     let first = state g.S.Store c.args.connection.now in
     let old = tables_at first in
     let new = tables_at (state g.S.Store c.past_date.new.connection) in
-    let clean_old = c.in_err-date.ensures.within.follows.clean clean in
+    let clean_old = c.in_err-date.ensures.works.within.follows.clean clean in
     let row = row_of seen_head (find (is_version t b k n) old.versions) (head_seen c.args.head.now) (sym (c.requires.found clean_old)) in
     rw (p.1, p.2) (deletes_failed old new t b k c.args.at (host_at first (c.requires.working clean_old)) c.args.mode (c.requires.state clean_old) c.args.id n c.requires.number row.0 row.1 (λ date. date) removed_answer c.in_err-date.field-0.0
     (subst (λ (x : SeenHead). Decides (λ (date : Option ℕ). date) (past_date_in t x.seq c.args.at old) old new (Err c.in_err-date.field-0.0)) (sym row.2) (c.in_err-date.ensures.decides clean)))
 
 pub drop_dated-requires-clause-inside : goal.drop_dated-requires-clause-inside
-drop_dated-requires-clause-inside g c clean = (c.in_ok-date.ensures.working clean (λ bytes. bytes)).is.inside
+drop_dated-requires-clause-inside g c clean = (c.in_ok-date.ensures.works.working clean (λ bytes. bytes)).is.inside
 
 pub drop_dated-requires-clause-held : goal.drop_dated-requires-clause-held
 drop_dated-requires-clause-held g c clean =
@@ -76,4 +80,4 @@ drop_dated-requires-clause-held g c clean =
     let b = c.args.bucket.now in
     let k = c.args.key.now in
     let old = tables_at (state g.S.Store c.args.connection.now) in
-    ap (bytes_of_id t b k c.args.number) (c.in_ok-date.ensures.decides clean).1 ∙ size_of_head t b k c.args.number old (head_seen c.args.head.now) (c.requires.found (c.in_ok-date.ensures.within.follows.clean clean)) ∙ sym c.as_replaced-entry.ensures.size
+    ap (bytes_of_id t b k c.args.number) (c.in_ok-date.ensures.decides clean).1 ∙ size_of_head t b k c.args.number old (head_seen c.args.head.now) (c.requires.found (c.in_ok-date.ensures.works.within.follows.clean clean)) ∙ sym c.as_replaced-entry.ensures.size

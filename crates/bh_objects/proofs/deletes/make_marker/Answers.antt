@@ -1,4 +1,4 @@
-use Rattle.std.proofs.Common.{◌≡◌, true, Some, sym, ap, ◌∙◌, subst}
+use Rattle.std.proofs.Common.{rules, ◌≡◌, true, Some, sym, ap, ◌∙◌, subst}
 use Rattle.sqlite.specs.Held.{state}
 use Rattle.bh_types.specs.Counts.{Counts}
 use Rattle.bh_types.specs.declared.id.VersionId.{VersionId}
@@ -17,19 +17,23 @@ use Rattle.bh_objects.proofs.deletes.make_marker.Goals as goal
 done : (g : given.Over) (c : goal.After-new_id g) → IsStateClean (state g.S.Store c.write_marker.new.connection)
     → Deletes c.args.tenant.now c.args.bucket.now c.args.key.now c.args.at Current (Removed (Some (new_id c.args.mode c.in_ok-numbers.numbers.before.version)) true) (tables_at (state g.S.Store c.args.connection.now)) (tables_at (state g.S.Store c.write_marker.new.connection))
 done g c clean =
-    let clean_middle = c.in_ok-write_marker.ensures.within.follows.clean clean in
-    let clean_old = c.in_ok-numbers.ensures.within.follows.clean clean_middle in
+    let clean_middle = c.in_ok-write_marker.ensures.changes.within.follows.clean clean in
+    let clean_old = c.in_ok-numbers.ensures.works.within.follows.clean clean_middle in
     let two = c.in_ok-numbers.ensures.decides clean_middle in
     let before = c.in_ok-numbers.numbers.before in
     let after = c.in_ok-numbers.numbers.after in
     marks (tables_at (state g.S.Store c.args.connection.now)) (tables_at (state g.S.Store c.write_marker.new.connection)) c.args.tenant.now c.args.bucket.now c.args.key.now c.args.at (host_at (state g.S.Store c.args.connection.now) (c.requires.working clean_old))
     c.args.mode before after c.requires.versioned (c.requires.early clean_old) c.in_ok-write_marker.ensures.key (c.requires.state clean_old) two.0
-    ((c.in_ok-write_marker.ensures.holds clean).is ∙ ap (marker_written c.args.mode before after c.args.tenant.now c.args.bucket.now c.args.key.now c.args.at) two.1)
+    ((c.in_ok-write_marker.ensures.changes.holds clean).is ∙ ap (marker_written c.args.mode before after c.args.tenant.now c.args.bucket.now c.args.key.now c.args.at) two.1)
 
-pub returns-clause-working : goal.returns-clause-working
-returns-clause-working g c clean =
-    let it = done g c clean in
-    still_working (state g.S.Store c.args.connection.now) (state g.S.Store c.write_marker.new.connection) (c.in_ok-write_marker.ensures.holds clean).within it.0.1 it.1 it.0.2 it.2
+pub returns-clause-works : goal.returns-clause-works
+returns-clause-works g c = record {
+  within = search rules;
+  opens = search rules;
+  working = λ clean.
+      let it = done g c clean in
+      still_working (state g.S.Store c.args.connection.now) (state g.S.Store c.write_marker.new.connection) (c.in_ok-write_marker.ensures.changes.holds clean).within it.0.1 it.1 it.0.2 it.2;
+}
 
 pub returns-clause-carries : goal.returns-clause-carries
 returns-clause-carries g c clean =
@@ -38,4 +42,4 @@ returns-clause-carries g c clean =
     (sym told) (done g c clean).0.0
 
 pub write_marker-requires : goal.write_marker-requires
-write_marker-requires g c = record { inside = λ clean. (c.in_ok-numbers.ensures.working clean (λ bytes. bytes)).is.inside }
+write_marker-requires g c = record { inside = λ clean. (c.in_ok-numbers.ensures.works.working clean (λ bytes. bytes)).is.inside }

@@ -16,7 +16,7 @@ use Rattle.bh_objects.proofs.gets.find_object.Goals as goal
 pub returns-in_err-head-clause-carries : goal.returns-in_err-head-clause-carries
 returns-in_err-head-clause-carries g c clean =
     let p = err_from_is_err_and c.from_residual.result c.from_residual.ensures.1 in
-    let first = c.in_err-head.ensures.within.follows.clean clean in
+    let first = c.in_err-head.ensures.works.within.follows.clean clean in
     let old = tables_at (state g.S.Store c.args.connection.now) in
     let last = tables_at (state g.S.Store c.wanted_head.new.connection) in
     rw (p.1, p.2) (gets_failed old old c.args.tenant.now c.args.bucket.now c.args.key.now (c.requires.working first).sound c.args.mode (c.requires.mode first) c.args.wanted refl
@@ -36,7 +36,7 @@ returns-clause-same g c clean = (c.in_ok-head.ensures.decides clean).1
 pub returns-in_err-range-clause-carries : goal.returns-in_err-range-clause-carries
 returns-in_err-range-clause-carries g c clean =
     let p = err_from_is_err_and c.from_residual-in_err-range.result c.from_residual-in_err-range.ensures.1 in
-    let first = c.in_ok-head.ensures.within.follows.clean clean in
+    let first = c.in_ok-head.ensures.works.within.follows.clean clean in
     let two = c.in_ok-head.ensures.decides clean in
     let old = tables_at (state g.S.Store c.args.connection.now) in
     rw (p.1, p.2) (gets_out_of_range old old c.args.tenant.now c.args.bucket.now c.args.key.now (c.requires.working first).sound c.args.mode (c.requires.mode first) c.args.wanted refl
@@ -46,7 +46,7 @@ pub returns-clause-carries : goal.returns-clause-carries
 returns-clause-carries g c clean =
     let old = tables_at (state g.S.Store c.args.connection.now) in
     let last = tables_at (state g.S.Store c.wanted_head.new.connection) in
-    let first = c.in_ok-head.ensures.within.follows.clean clean in
+    let first = c.in_ok-head.ensures.works.within.follows.clean clean in
     let two = c.in_ok-head.ensures.decides clean in
     let head = head_seen c.in_ok-head.head in
     let host = host_at (state g.S.Store c.args.connection.now) (c.requires.working first) in
@@ -60,7 +60,7 @@ pub returns-clause-measured : goal.returns-clause-measured
 returns-clause-measured g c clean =
     let old = tables_at (state g.S.Store c.args.connection.now) in
     let last = tables_at (state g.S.Store c.wanted_head.new.connection) in
-    let first = c.in_ok-head.ensures.within.follows.clean clean in
+    let first = c.in_ok-head.ensures.works.within.follows.clean clean in
     let two = c.in_ok-head.ensures.decides clean in
     let head = head_seen c.in_ok-head.head in
     let host = host_at (state g.S.Store c.args.connection.now) (c.requires.working first) in

@@ -1,4 +1,4 @@
-use Rattle.std.proofs.Common.{◌≡◌, Ok, ap, sym, ◌∙◌, subst}
+use Rattle.std.proofs.Common.{rules, ap, ◌∙◌, subst}
 use Rattle.std.specs.Option.{option_copied}
 use Rattle.sqlite.specs.Held.{state}
 use Rattle.bh_model.specs.Operations.{get_object}
@@ -12,20 +12,24 @@ use Rattle.bh_objects.proofs.Working.{works_then, unless_kept}
 use Rattle.bh_objects.proofs.gets.get_object.Goals as goal
 
 pub find_object-requires-clause-working : goal.find_object-requires-clause-working
-find_object-requires-clause-working g c clean = (c.in_ok-mode.ensures.working clean (λ bytes. bytes)).is
+find_object-requires-clause-working g c clean = (c.in_ok-mode.ensures.works.working clean (λ bytes. bytes)).is
 
 pub find_object-requires-clause-mode : goal.find_object-requires-clause-mode
 find_object-requires-clause-mode g c clean =
     let one = c.in_ok-mode.ensures.decides clean in
     ap (λ (x : Tables). mode_in c.args.bucket.now (view x c.args.tenant.now)) one.1 ∙ one.0
 
-pub returns-clause-working : goal.returns-clause-working
-returns-clause-working g c = unless_kept c.find_object.result _ _
-    (λ still clean. works_then (state g.S.Store c.args.connection.now) (state g.S.Store c.bucket_state.new.connection) (state g.S.Store c.find_object.new.connection) (c.in_ok-mode.ensures.working (c.find_object.ensures.within.follows.clean clean)) (still clean))
-    c.find_object.ensures.working
+pub returns-clause-works : goal.returns-clause-works
+returns-clause-works g c = record {
+  within = search rules;
+  opens = search rules;
+  working = unless_kept c.find_object.result _ _
+      (λ still clean. works_then (state g.S.Store c.args.connection.now) (state g.S.Store c.bucket_state.new.connection) (state g.S.Store c.find_object.new.connection) (c.in_ok-mode.ensures.works.working (c.find_object.ensures.works.within.follows.clean clean)) (still clean))
+      c.find_object.ensures.works.working;
+}
 
 pub returns-clause-carries : goal.returns-clause-carries
 returns-clause-carries g c clean =
     let last = tables_at (state g.S.Store c.find_object.new.connection) in
     subst (λ (x : Tables). Carries (found_answer last) c.args.tenant.now (get_object c.args.bucket.now c.args.key.now c.args.wanted (option_copied c.args.range)) x last c.find_object.result)
-    (c.in_ok-mode.ensures.decides (c.find_object.ensures.within.follows.clean clean)).1 (c.find_object.ensures.carries clean)
+    (c.in_ok-mode.ensures.decides (c.find_object.ensures.works.within.follows.clean clean)).1 (c.find_object.ensures.carries clean)

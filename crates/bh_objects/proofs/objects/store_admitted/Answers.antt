@@ -1,4 +1,4 @@
-use Rattle.std.proofs.Common.{◌≡◌, Option, Ok, Err, refl, sym, ap, subst, ◌∙◌}
+use Rattle.std.proofs.Common.{rules, ◌≡◌, Option, None, Ok, Err, refl, sym, ap, subst, ◌∙◌}
 use Rattle.std.proofs.lemmas.Result.{err_from_is_err_and}
 use Rattle.std.specs.Option.{option_copied}
 use Rattle.sqlite.specs.Held.{state}
@@ -9,7 +9,7 @@ use Rattle.bh_model.specs.Operations.{id_told}
 use Rattle.bh_view.specs.View.{view}
 use Rattle.bh_schema.specs.Working.{tables_at}
 use Rattle.bh_objects.specs.Admitting.{admitted_in, numbers_admitted}
-use Rattle.bh_objects.specs.Dates.{with_first_date}
+use Rattle.bh_objects.specs.Dates.{with_date}
 use Rattle.bh_objects.specs.Writes.{object_written}
 use Rattle.bh_objects.specs.declared.reads.Numbers.{Numbers}
 use Rattle.bh_objects.specs.declared.quotas.Replaced.{Replaced}
@@ -20,8 +20,9 @@ use Rattle.bh_objects.proofs.Sizes.{replaced_held}
 use Rattle.bh_objects.proofs.Working.{host_at, dated_still}
 use Rattle.bh_objects.proofs.objects.store_admitted.Goals as goal
 
-pub store_object-requires-clause-inside : goal.store_object-requires-clause-inside
-store_object-requires-clause-inside g c clean = (c.requires.working clean).inside
+pub store_object-requires-clause-may : goal.store_object-requires-clause-may
+store_object-requires-clause-may g c =
+    record { inside = λ clean. (c.requires.may.working clean).inside; copies = c.requires.may.copies; positive = c.requires.may.positive; going = c.requires.may.going }
 
 pub store_object-requires-clause-held : goal.store_object-requires-clause-held
 store_object-requires-clause-held g c clean r is =
@@ -34,70 +35,74 @@ returns-in_err-outcome-clause-operates g c =
     let it = c.in_err-outcome.ensures.received in
     rw (p.1, p.2) (operates_failed _ _ _ _ _ _ _ _ _ it.bytes it.gives _ it.received)
 
-pub returns-in_err-add_date-in-Done-clause-operates : goal.returns-in_err-add_date-in-Done-clause-operates
-returns-in_err-add_date-in-Done-clause-operates g c =
-    let p = err_from_is_err_and c.from_residual-in_err-add_date-in-Done.result c.from_residual-in_err-add_date-in-Done.ensures.1 in
+pub returns-in_err-set_date-in-Done-clause-operates : goal.returns-in_err-set_date-in-Done-clause-operates
+returns-in_err-set_date-in-Done-clause-operates g c =
+    let p = err_from_is_err_and c.from_residual-in_err-set_date-in-Done.result c.from_residual-in_err-set_date-in-Done.ensures.1 in
     let it = rw c.in-Done.is at c.in_ok-outcome.ensures.received in
     rw (p.1, p.2) (operates_failed _ _ _ _ _ _ _ _ _ it.bytes it.gives _ (going_may _ it.received.0.going))
 
-pub returns-in_ok-add_date-in-Done-clause-working : goal.returns-in_ok-add_date-in-Done-clause-working
-returns-in_ok-add_date-in-Done-clause-working g c clean =
-    let object = c.args.object.now in
-    let first = state g.S.Store c.args.connection.now in
-    let stored = state g.S.Store c.store_object.new.connection in
-    let new = state g.S.Store c.add_date.new.connection in
-    let numbers = c.args.admitted.entry.numbers in
-    let it = rw c.in-Done.is at c.in_ok-outcome.ensures.received in
-    let (whole, right, told, (key, becomes)) = it.received in
-    let clean_stored = c.in_ok-add_date-in-Done.ensures.within.follows.clean clean in
-    let clean_old = c.in_ok-outcome.ensures.within.follows.clean clean_stored in
-    let dated = c.in_ok-add_date-in-Done.ensures.holds clean in
-    let dated_is = dated.is ∙ ap (λ (n : Numbers). with_first_date object.tenant.now n.before.entry c.args.admitted.until (tables_at stored)) c.numbers.view_is in
-    let asked = subst (λ n. admitted_in c.args.mode object.bucket.now object.key.now object.date object.at n (view (tables_at first) object.tenant.now) ≡ Ok (numbers_admitted c.args.admitted)) (counted_whole _ _ it.bytes it.gives whole) (c.requires.admitted clean_old) in
-    let done = put_done g.D.Digester.digest_of c.args.block_size c.requires.positive object.tenant.now object.bucket.now object.key.now object.at it.bytes (option_copied c.args.given) object.date c.args.admitted.until c.args.mode numbers.before numbers.after
-    (tables_at first) (tables_at stored) (tables_at new) (host_at first (c.requires.working clean_old)) (c.requires.early clean_old) key (c.requires.digests clean_old) (c.requires.mode clean_old) asked
-    ((becomes clean_stored).is ∙ ap (λ (r : Option Replaced). object_written g.D.Digester.digest_of c.args.block_size c.args.mode numbers.before numbers.after r object.tenant.now object.bucket.now object.key.now object.at it.bytes (tables_at first)) (c.requires.replaced clean_old))
-    dated_is c.in_ok-add_date-in-Done.ensures.near right in
-    dated_still g.D.Digester.digest_of first first stored new refl (record { is = record { inside = (becomes clean_stored).within; sound = done.sound; bodies = done.bodies }; limits = done.limits; digests = λ _. done.digests }) dated.within
-    (dates_alone object.tenant.now numbers.before.entry c.args.admitted.until (tables_at stored) (tables_at new) dated_is) done.dated.1 done.dated.2
+pub returns-in_ok-set_date-in-Done-clause-works : goal.returns-in_ok-set_date-in-Done-clause-works
+returns-in_ok-set_date-in-Done-clause-works g c = record {
+  within = search rules;
+  opens = search rules;
+  working = λ clean.
+      let object = c.args.object.now in
+      let first = state g.S.Store c.args.connection.now in
+      let stored = state g.S.Store c.store_object.new.connection in
+      let new = state g.S.Store c.set_date.new.connection in
+      let numbers = c.args.admitted.entry.numbers in
+      let it = rw c.in-Done.is at c.in_ok-outcome.ensures.received in
+      let (whole, right, told, (key, becomes)) = it.received in
+      let clean_stored = c.in_ok-set_date-in-Done.ensures.changes.within.follows.clean clean in
+      let clean_old = c.in_ok-outcome.ensures.within.follows.clean clean_stored in
+      let dated = c.in_ok-set_date-in-Done.ensures.changes.holds clean in
+      let dated_is = dated.is ∙ ap (λ (n : Numbers). with_date object.tenant.now n.before.entry None c.args.admitted.until (tables_at stored)) c.numbers.view_is in
+      let asked = subst (λ n. admitted_in c.args.mode object.bucket.now object.key.now object.date object.at n (view (tables_at first) object.tenant.now) ≡ Ok (numbers_admitted c.args.admitted)) (counted_whole _ _ it.bytes it.gives whole) (c.requires.admitted clean_old) in
+      let done = put_done g.D.Digester.digest_of c.args.blocks.now.size c.requires.may.positive object.tenant.now object.bucket.now object.key.now object.at it.bytes (option_copied c.args.given) object.date c.args.admitted.until c.args.mode numbers.before numbers.after
+      (tables_at first) (tables_at stored) (tables_at new) (host_at first (c.requires.may.working clean_old)) (c.requires.may.early clean_old) key (c.requires.may.digests clean_old) (c.requires.mode clean_old) asked
+      ((becomes clean_stored).is ∙ ap (λ (r : Option Replaced). object_written g.D.Digester.digest_of c.args.blocks.now.size c.args.mode numbers.before numbers.after r object.tenant.now object.bucket.now object.key.now object.at it.bytes (tables_at first)) (c.requires.replaced clean_old))
+      dated_is c.in_ok-set_date-in-Done.ensures.near right in
+      dated_still g.D.Digester.digest_of first first stored new refl (record { is = record { inside = (becomes clean_stored).within; sound = done.sound; bodies = done.bodies }; limits = done.limits; digests = λ _. done.digests }) dated.within
+      (dates_alone object.tenant.now numbers.before.entry c.args.admitted.until (tables_at stored) (tables_at new) dated_is) done.dated.1 done.dated.2;
+}
 
-pub returns-in_ok-add_date-in-Done-clause-operates : goal.returns-in_ok-add_date-in-Done-clause-operates
-returns-in_ok-add_date-in-Done-clause-operates g c =
+pub returns-in_ok-set_date-in-Done-clause-operates : goal.returns-in_ok-set_date-in-Done-clause-operates
+returns-in_ok-set_date-in-Done-clause-operates g c =
     let it = rw c.in-Done.is at c.in_ok-outcome.ensures.received in
     operates_done _ _ _ _ _ _ _ _ _ it.bytes it.gives _ it.received.0 (λ clean.
     let object = c.args.object.now in
     let first = state g.S.Store c.args.connection.now in
     let stored = state g.S.Store c.store_object.new.connection in
-    let new = state g.S.Store c.add_date.new.connection in
+    let new = state g.S.Store c.set_date.new.connection in
     let numbers = c.args.admitted.entry.numbers in
     let it = rw c.in-Done.is at c.in_ok-outcome.ensures.received in
     let (whole, right, told, (key, becomes)) = it.received in
-    let clean_stored = c.in_ok-add_date-in-Done.ensures.within.follows.clean clean in
+    let clean_stored = c.in_ok-set_date-in-Done.ensures.changes.within.follows.clean clean in
     let clean_old = c.in_ok-outcome.ensures.within.follows.clean clean_stored in
-    let dated = c.in_ok-add_date-in-Done.ensures.holds clean in
-    let dated_is = dated.is ∙ ap (λ (n : Numbers). with_first_date object.tenant.now n.before.entry c.args.admitted.until (tables_at stored)) c.numbers.view_is in
+    let dated = c.in_ok-set_date-in-Done.ensures.changes.holds clean in
+    let dated_is = dated.is ∙ ap (λ (n : Numbers). with_date object.tenant.now n.before.entry None c.args.admitted.until (tables_at stored)) c.numbers.view_is in
     let asked = subst (λ n. admitted_in c.args.mode object.bucket.now object.key.now object.date object.at n (view (tables_at first) object.tenant.now) ≡ Ok (numbers_admitted c.args.admitted)) (counted_whole _ _ it.bytes it.gives whole) (c.requires.admitted clean_old) in
-    let done = put_done g.D.Digester.digest_of c.args.block_size c.requires.positive object.tenant.now object.bucket.now object.key.now object.at it.bytes (option_copied c.args.given) object.date c.args.admitted.until c.args.mode numbers.before numbers.after
-    (tables_at first) (tables_at stored) (tables_at new) (host_at first (c.requires.working clean_old)) (c.requires.early clean_old) key (c.requires.digests clean_old) (c.requires.mode clean_old) asked
-    ((becomes clean_stored).is ∙ ap (λ (r : Option Replaced). object_written g.D.Digester.digest_of c.args.block_size c.args.mode numbers.before numbers.after r object.tenant.now object.bucket.now object.key.now object.at it.bytes (tables_at first)) (c.requires.replaced clean_old))
-    dated_is c.in_ok-add_date-in-Done.ensures.near right in
+    let done = put_done g.D.Digester.digest_of c.args.blocks.now.size c.requires.may.positive object.tenant.now object.bucket.now object.key.now object.at it.bytes (option_copied c.args.given) object.date c.args.admitted.until c.args.mode numbers.before numbers.after
+    (tables_at first) (tables_at stored) (tables_at new) (host_at first (c.requires.may.working clean_old)) (c.requires.may.early clean_old) key (c.requires.may.digests clean_old) (c.requires.mode clean_old) asked
+    ((becomes clean_stored).is ∙ ap (λ (r : Option Replaced). object_written g.D.Digester.digest_of c.args.blocks.now.size c.args.mode numbers.before numbers.after r object.tenant.now object.bucket.now object.key.now object.at it.bytes (tables_at first)) (c.requires.replaced clean_old))
+    dated_is c.in_ok-set_date-in-Done.ensures.near right in
     rw (c.new_id_told-id.ensures ∙ ap (λ (n : Numbers). id_told c.args.mode (new_id c.args.mode n.before.version)) c.numbers.view_is, told) done.dated.0) (λ clean.
     let object = c.args.object.now in
     let first = state g.S.Store c.args.connection.now in
     let stored = state g.S.Store c.store_object.new.connection in
-    let new = state g.S.Store c.add_date.new.connection in
+    let new = state g.S.Store c.set_date.new.connection in
     let numbers = c.args.admitted.entry.numbers in
     let it = rw c.in-Done.is at c.in_ok-outcome.ensures.received in
     let (whole, right, told, (key, becomes)) = it.received in
-    let clean_stored = c.in_ok-add_date-in-Done.ensures.within.follows.clean clean in
+    let clean_stored = c.in_ok-set_date-in-Done.ensures.changes.within.follows.clean clean in
     let clean_old = c.in_ok-outcome.ensures.within.follows.clean clean_stored in
-    let dated = c.in_ok-add_date-in-Done.ensures.holds clean in
-    let dated_is = dated.is ∙ ap (λ (n : Numbers). with_first_date object.tenant.now n.before.entry c.args.admitted.until (tables_at stored)) c.numbers.view_is in
+    let dated = c.in_ok-set_date-in-Done.ensures.changes.holds clean in
+    let dated_is = dated.is ∙ ap (λ (n : Numbers). with_date object.tenant.now n.before.entry None c.args.admitted.until (tables_at stored)) c.numbers.view_is in
     let asked = subst (λ n. admitted_in c.args.mode object.bucket.now object.key.now object.date object.at n (view (tables_at first) object.tenant.now) ≡ Ok (numbers_admitted c.args.admitted)) (counted_whole _ _ it.bytes it.gives whole) (c.requires.admitted clean_old) in
-    let done = put_done g.D.Digester.digest_of c.args.block_size c.requires.positive object.tenant.now object.bucket.now object.key.now object.at it.bytes (option_copied c.args.given) object.date c.args.admitted.until c.args.mode numbers.before numbers.after
-    (tables_at first) (tables_at stored) (tables_at new) (host_at first (c.requires.working clean_old)) (c.requires.early clean_old) key (c.requires.digests clean_old) (c.requires.mode clean_old) asked
-    ((becomes clean_stored).is ∙ ap (λ (r : Option Replaced). object_written g.D.Digester.digest_of c.args.block_size c.args.mode numbers.before numbers.after r object.tenant.now object.bucket.now object.key.now object.at it.bytes (tables_at first)) (c.requires.replaced clean_old))
-    dated_is c.in_ok-add_date-in-Done.ensures.near right in
+    let done = put_done g.D.Digester.digest_of c.args.blocks.now.size c.requires.may.positive object.tenant.now object.bucket.now object.key.now object.at it.bytes (option_copied c.args.given) object.date c.args.admitted.until c.args.mode numbers.before numbers.after
+    (tables_at first) (tables_at stored) (tables_at new) (host_at first (c.requires.may.working clean_old)) (c.requires.may.early clean_old) key (c.requires.may.digests clean_old) (c.requires.mode clean_old) asked
+    ((becomes clean_stored).is ∙ ap (λ (r : Option Replaced). object_written g.D.Digester.digest_of c.args.blocks.now.size c.args.mode numbers.before numbers.after r object.tenant.now object.bucket.now object.key.now object.at it.bytes (tables_at first)) (c.requires.replaced clean_old))
+    dated_is c.in_ok-set_date-in-Done.ensures.near right in
     same_blocks (tables_at stored) (tables_at new) (dates_alone object.tenant.now numbers.before.entry c.args.admitted.until (tables_at stored) (tables_at new) dated_is) ∙ done.stores)
 
 pub returns-in-Spoilt-clause-operates : goal.returns-in-Spoilt-clause-operates

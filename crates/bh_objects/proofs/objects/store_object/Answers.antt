@@ -48,13 +48,13 @@ returns-in_ok-write_object-in-Done-clause-received g c =
         (
           written.key,
           λ clean.
-              let it_is = written.holds clean in
+              let it_is = written.changes.holds clean in
               record {
                 within = it_is.within;
-                is = received_chain g.D.Digester.digest_of c.args.block_size c.args.mode numbers.before numbers.after c.args.entry.replaced object.tenant.now object.bucket.now object.key.now object.at it.bytes _ _
+                is = received_chain g.D.Digester.digest_of c.args.blocks.now.size c.args.mode numbers.before numbers.after c.args.entry.replaced object.tenant.now object.bucket.now object.key.now object.at it.bytes _ _
                     (tables_at (state g.S.Store c.args.connection.now)) (tables_at (state g.S.Store c.store_checked.new.connection)) (tables_at (state g.S.Store c.write_object.new.connection))
-                    (rw c.as_str-tenant.ensures.value at (becomes (written.within.follows.clean clean)).is
-                    ∙ ap (λ (it : NewEntry). body_stored g.D.Digester.digest_of (object.tenant.now, it.numbers.before.entry) 0 (pieces c.args.block_size it_bytes) (tables_at (state g.S.Store c.args.connection.now))) c.entry.view_is) (c.due-size.ensures ∙ counted_whole _ _ it.bytes it.gives whole) (c.as_str.ensures.value ∙ told) it_is.is;
+                    (rw c.as_str-tenant.ensures.value at (becomes (written.changes.within.follows.clean clean)).is
+                    ∙ ap (λ (it : NewEntry). body_stored g.D.Digester.digest_of (object.tenant.now, it.numbers.before.entry) 0 (pieces c.args.blocks.now.size it_bytes) (tables_at (state g.S.Store c.args.connection.now))) c.entry.view_is) (c.due-size.ensures ∙ counted_whole _ _ it.bytes it.gives whole) (c.as_str.ensures.value ∙ told) it_is.is;
               },
         ),
       );

@@ -1,4 +1,4 @@
-use Rattle.std.proofs.Common.{sym, ap, ◌∙◌, Ok}
+use Rattle.std.proofs.Common.{rules, sym, ap, ◌∙◌, Ok}
 use Rattle.std.proofs.lemmas.Result.{err_from_is_err_and}
 use Rattle.sqlite.specs.Held.{state}
 use Rattle.bh_types.specs.Counts.{Counts}
@@ -16,16 +16,20 @@ pub tenant_account-requires : goal.tenant_account-requires
 tenant_account-requires g c clean =
     let first = state g.S.Store c.args.connection.now in
     let second = state g.S.Store c.find_replaced.new.connection in
-    works_on first second (asked_working first second c.requires.working c.in_ok-replaced.ensures.within c.in_ok-replaced.ensures.same clean)
+    works_on first second (asked_working first second c.requires.working c.in_ok-replaced.ensures.reads.within c.in_ok-replaced.ensures.reads.same clean)
 
-pub returns-in_err-require_room-clause-working : goal.returns-in_err-require_room-clause-working
-returns-in_err-require_room-clause-working g c = any_unless c.from_residual-in_err-require_room.result _ (λ clean.
-    let first = state g.S.Store c.args.connection.now in
-    let second = state g.S.Store c.find_replaced.new.connection in
-    let third = state g.S.Store c.tenant_account.new.connection in
-    works_then first second third
-    (asked_working first second c.requires.working c.in_ok-replaced.ensures.within c.in_ok-replaced.ensures.same (c.in_ok-account.ensures.within.follows.clean clean))
-    (c.in_ok-account.ensures.working clean))
+pub returns-in_err-require_room-clause-works : goal.returns-in_err-require_room-clause-works
+returns-in_err-require_room-clause-works g c = record {
+  within = search rules;
+  opens = search rules;
+  working = any_unless c.from_residual-in_err-require_room.result _ (λ clean.
+      let first = state g.S.Store c.args.connection.now in
+      let second = state g.S.Store c.find_replaced.new.connection in
+      let third = state g.S.Store c.tenant_account.new.connection in
+      works_then first second third
+      (asked_working first second c.requires.working c.in_ok-replaced.ensures.reads.within c.in_ok-replaced.ensures.reads.same (c.in_ok-account.ensures.works.within.follows.clean clean))
+      (c.in_ok-account.ensures.works.working clean));
+}
 
 pub returns-in_err-require_room-clause-decides : goal.returns-in_err-require_room-clause-decides
 returns-in_err-require_room-clause-decides g c clean =
@@ -37,9 +41,9 @@ returns-in_err-require_room-clause-decides g c clean =
     let used = c.in_ok-account.account.used in
     let counters = c.in_ok-account.account.counters in
     let bytes = c.replaced_bytes-bytes.result in
-    let clean_second = c.in_ok-account.ensures.within.follows.clean clean in
-    let clean_first = c.in_ok-replaced.ensures.within.follows.clean clean_second in
-    let one = same_tables first second (c.in_ok-replaced.ensures.same clean_second.intact) in
+    let clean_second = c.in_ok-account.ensures.works.within.follows.clean clean in
+    let clean_first = c.in_ok-replaced.ensures.reads.within.follows.clean clean_second in
+    let one = same_tables first second (c.in_ok-replaced.ensures.reads.same clean_second.intact) in
     let two = c.in_ok-account.ensures.decides clean in
     let its = c.in_ok-account.ensures.used clean ∙ ap (bytes_in t) one in
     let whole =
@@ -50,14 +54,18 @@ returns-in_err-require_room-clause-decides g c clean =
     rw (p.1, p.2) (room_failed (λ (entry : NewEntry). (entry.numbers.before, entry.numbers.after)) (λ (x : Tables). entry_numbers_in c.args.mode c.args.bucket.now c.args.key.now c.args.added (view x t))
     (room_under quota used bytes c.args.added) (λ _. numbers_from c.args.mode counters) old (tables_at (state g.S.Store c.tenant_account.new.connection)) c.in_err-require_room.field-0.0 (two.1 ∙ one) whole c.in_err-require_room.ensures)
 
-pub returns-in_err-after-clause-working : goal.returns-in_err-after-clause-working
-returns-in_err-after-clause-working g c = any_unless c.from_residual-in_err-after.result _ (λ clean.
-    let first = state g.S.Store c.args.connection.now in
-    let second = state g.S.Store c.find_replaced.new.connection in
-    let third = state g.S.Store c.tenant_account.new.connection in
-    works_then first second third
-    (asked_working first second c.requires.working c.in_ok-replaced.ensures.within c.in_ok-replaced.ensures.same (c.in_ok-account.ensures.within.follows.clean clean))
-    (c.in_ok-account.ensures.working clean))
+pub returns-in_err-after-clause-works : goal.returns-in_err-after-clause-works
+returns-in_err-after-clause-works g c = record {
+  within = search rules;
+  opens = search rules;
+  working = any_unless c.from_residual-in_err-after.result _ (λ clean.
+      let first = state g.S.Store c.args.connection.now in
+      let second = state g.S.Store c.find_replaced.new.connection in
+      let third = state g.S.Store c.tenant_account.new.connection in
+      works_then first second third
+      (asked_working first second c.requires.working c.in_ok-replaced.ensures.reads.within c.in_ok-replaced.ensures.reads.same (c.in_ok-account.ensures.works.within.follows.clean clean))
+      (c.in_ok-account.ensures.works.working clean));
+}
 
 pub returns-in_err-after-clause-decides : goal.returns-in_err-after-clause-decides
 returns-in_err-after-clause-decides g c clean =
@@ -69,9 +77,9 @@ returns-in_err-after-clause-decides g c clean =
     let used = c.in_ok-account.account.used in
     let counters = c.in_ok-account.account.counters in
     let bytes = c.replaced_bytes-bytes.result in
-    let clean_second = c.in_ok-account.ensures.within.follows.clean clean in
-    let clean_first = c.in_ok-replaced.ensures.within.follows.clean clean_second in
-    let one = same_tables first second (c.in_ok-replaced.ensures.same clean_second.intact) in
+    let clean_second = c.in_ok-account.ensures.works.within.follows.clean clean in
+    let clean_first = c.in_ok-replaced.ensures.reads.within.follows.clean clean_second in
+    let one = same_tables first second (c.in_ok-replaced.ensures.reads.same clean_second.intact) in
     let two = c.in_ok-account.ensures.decides clean in
     let its = c.in_ok-account.ensures.used clean ∙ ap (bytes_in t) one in
     let whole =
@@ -85,14 +93,18 @@ returns-in_err-after-clause-decides g c clean =
       two.1 ∙ one,
     )
 
-pub returns-clause-working : goal.returns-clause-working
-returns-clause-working g c clean =
-    let first = state g.S.Store c.args.connection.now in
-    let second = state g.S.Store c.find_replaced.new.connection in
-    let third = state g.S.Store c.tenant_account.new.connection in
-    works_then first second third
-    (asked_working first second c.requires.working c.in_ok-replaced.ensures.within c.in_ok-replaced.ensures.same (c.in_ok-account.ensures.within.follows.clean clean))
-    (c.in_ok-account.ensures.working clean)
+pub returns-clause-works : goal.returns-clause-works
+returns-clause-works g c = record {
+  within = search rules;
+  opens = search rules;
+  working = λ clean.
+      let first = state g.S.Store c.args.connection.now in
+      let second = state g.S.Store c.find_replaced.new.connection in
+      let third = state g.S.Store c.tenant_account.new.connection in
+      works_then first second third
+      (asked_working first second c.requires.working c.in_ok-replaced.ensures.reads.within c.in_ok-replaced.ensures.reads.same (c.in_ok-account.ensures.works.within.follows.clean clean))
+      (c.in_ok-account.ensures.works.working clean);
+}
 
 pub returns-clause-decides : goal.returns-clause-decides
 returns-clause-decides g c clean =
@@ -104,9 +116,9 @@ returns-clause-decides g c clean =
     let used = c.in_ok-account.account.used in
     let counters = c.in_ok-account.account.counters in
     let bytes = c.replaced_bytes-bytes.result in
-    let clean_second = c.in_ok-account.ensures.within.follows.clean clean in
-    let clean_first = c.in_ok-replaced.ensures.within.follows.clean clean_second in
-    let one = same_tables first second (c.in_ok-replaced.ensures.same clean_second.intact) in
+    let clean_second = c.in_ok-account.ensures.works.within.follows.clean clean in
+    let clean_first = c.in_ok-replaced.ensures.reads.within.follows.clean clean_second in
+    let one = same_tables first second (c.in_ok-replaced.ensures.reads.same clean_second.intact) in
     let two = c.in_ok-account.ensures.decides clean in
     let its = c.in_ok-account.ensures.used clean ∙ ap (bytes_in t) one in
     let whole =

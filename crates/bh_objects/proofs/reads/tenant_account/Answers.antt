@@ -1,4 +1,4 @@
-use Rattle.std.proofs.Common.{sym, ◌∙◌}
+use Rattle.std.proofs.Common.{rules, sym, ◌∙◌}
 use Rattle.std.proofs.lemmas.Result.{IfOk-at_ok}
 use Rattle.sqlite.specs.Held.{state}
 use Rattle.bh_schema.specs.Working.{tables_at}
@@ -12,7 +12,7 @@ returns-in-Some-new-clause-decides g c clean =
     let old = state g.S.Store c.args.connection.now in
     let new = state g.S.Store c.find_account.new.connection in
     let its = account_numbers (tables_at old) c.args.tenant.now c.in-Some.found (sym c.in-Some.is ∙ rw c.as_str.ensures.value at (IfOk-at_ok _ c.in_ok-found.ensures.ok c.find_account.ensures.found clean)) in
-    (account_read (tables_at old) c.args.tenant.now c.in-Some.found.numbers c.in-Some-new.counters its.0 c.in-Some-new.ensures.1, same_tables old new (on_ok _ c.in_ok-found.ensures.ok c.find_account.ensures.same clean.intact))
+    (account_read (tables_at old) c.args.tenant.now c.in-Some.found.numbers c.in-Some-new.counters its.0 c.in-Some-new.ensures.1, same_tables old new (on_ok _ c.in_ok-found.ensures.ok c.find_account.ensures.reads.same clean.intact))
 
 pub returns-in-Some-new-clause-used : goal.returns-in-Some-new-clause-used
 returns-in-Some-new-clause-used g c clean =
@@ -22,10 +22,18 @@ pub returns-in-None-clause-decides : goal.returns-in-None-clause-decides
 returns-in-None-clause-decides g c clean =
     let old = state g.S.Store c.args.connection.now in
     let new = state g.S.Store c.find_account.new.connection in
-    (no_account (tables_at old) c.args.tenant.now (no_numbers (tables_at old) c.args.tenant.now (sym c.in-None.is ∙ rw c.as_str.ensures.value at (IfOk-at_ok _ c.in_ok-found.ensures.ok c.find_account.ensures.found clean))), same_tables old new (on_ok _ c.in_ok-found.ensures.ok c.find_account.ensures.same clean.intact))
+    (no_account (tables_at old) c.args.tenant.now (no_numbers (tables_at old) c.args.tenant.now (sym c.in-None.is ∙ rw c.as_str.ensures.value at (IfOk-at_ok _ c.in_ok-found.ensures.ok c.find_account.ensures.found clean))), same_tables old new (on_ok _ c.in_ok-found.ensures.ok c.find_account.ensures.reads.same clean.intact))
 
-pub returns-in-Some-new-clause-working : goal.returns-in-Some-new-clause-working
-returns-in-Some-new-clause-working g c = asked_working (state g.S.Store c.args.connection.now) (state g.S.Store c.find_account.new.connection) c.requires c.find_account.ensures.within (on_ok _ c.in_ok-found.ensures.ok c.find_account.ensures.same)
+pub returns-in-Some-new-clause-works : goal.returns-in-Some-new-clause-works
+returns-in-Some-new-clause-works g c = record {
+  within = search rules;
+  opens = search rules;
+  working = asked_working (state g.S.Store c.args.connection.now) (state g.S.Store c.find_account.new.connection) c.requires c.find_account.ensures.reads.within (on_ok _ c.in_ok-found.ensures.ok c.find_account.ensures.reads.same);
+}
 
-pub returns-in-None-clause-working : goal.returns-in-None-clause-working
-returns-in-None-clause-working g c = asked_working (state g.S.Store c.args.connection.now) (state g.S.Store c.find_account.new.connection) c.requires c.find_account.ensures.within (on_ok _ c.in_ok-found.ensures.ok c.find_account.ensures.same)
+pub returns-in-None-clause-works : goal.returns-in-None-clause-works
+returns-in-None-clause-works g c = record {
+  within = search rules;
+  opens = search rules;
+  working = asked_working (state g.S.Store c.args.connection.now) (state g.S.Store c.find_account.new.connection) c.requires c.find_account.ensures.reads.within (on_ok _ c.in_ok-found.ensures.ok c.find_account.ensures.reads.same);
+}

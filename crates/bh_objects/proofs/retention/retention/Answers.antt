@@ -1,5 +1,5 @@
 use Rattle.std.proofs.lemmas.Result.{err_from_is_err_and}
-use Rattle.std.proofs.Common.{◌∙◌}
+use Rattle.std.proofs.Common.{rules}
 use Rattle.sqlite.specs.Held.{state}
 use Rattle.bh_model.specs.Operations.{Retention}
 use Rattle.bh_schema.specs.Views.{head_seen}
@@ -13,39 +13,47 @@ returns-clause-carries g c clean =
     let first = state g.S.Store c.args.connection.now in
     let last = state g.S.Store c.wanted_head.new.connection in
     let new = state g.S.Store c.version_date.new.connection in
-    let clean_last = c.in_ok-version_date.ensures.within.follows.clean clean in
-    let clean_first = c.in_ok-head.ensures.within.follows.clean clean_last in
+    let clean_last = c.in_ok-version_date.ensures.reads.within.follows.clean clean in
+    let clean_first = c.in_ok-head.ensures.works.within.follows.clean clean_last in
     let one = c.in_ok-bucket_state.ensures.decides clean_first in
     let two = c.in_ok-head.ensures.decides clean_last in
-    gets (tables_at first) (tables_at (state g.S.Store c.bucket_state.new.connection)) c.args.tenant.now c.args.bucket.now c.args.key.now (c.requires (c.in_ok-bucket_state.ensures.within.follows.clean clean_first)).sound _ one.0 c.args.wanted one.1
-    (tables_at last) two.1 (head_seen c.in_ok-head.head) two.0 (tables_at new) _ (c.in_ok-version_date.ensures.found clean) (same_tables last new (c.in_ok-version_date.ensures.same clean.intact))
+    gets (tables_at first) (tables_at (state g.S.Store c.bucket_state.new.connection)) c.args.tenant.now c.args.bucket.now c.args.key.now (c.requires (c.in_ok-bucket_state.ensures.works.within.follows.clean clean_first)).sound _ one.0 c.args.wanted one.1
+    (tables_at last) two.1 (head_seen c.in_ok-head.head) two.0 (tables_at new) _ (c.in_ok-version_date.ensures.found clean) (same_tables last new (c.in_ok-version_date.ensures.reads.same clean.intact))
 
-pub returns-clause-working : goal.returns-clause-working
-returns-clause-working g c clean =
-    let first = state g.S.Store c.args.connection.now in
-    let last = state g.S.Store c.wanted_head.new.connection in
-    let new = state g.S.Store c.version_date.new.connection in
-    let clean_last = c.in_ok-version_date.ensures.within.follows.clean clean in
-    works_then first last new
-    (works_then first (state g.S.Store c.bucket_state.new.connection) last (c.in_ok-bucket_state.ensures.working (c.in_ok-head.ensures.within.follows.clean clean_last)) (c.in_ok-head.ensures.working clean_last))
-    (asked_working last new (λ clean_was. (c.in_ok-head.ensures.working clean_was (λ bytes. bytes)).is) c.in_ok-version_date.ensures.within c.in_ok-version_date.ensures.same clean)
+pub returns-clause-works : goal.returns-clause-works
+returns-clause-works g c = record {
+  within = search rules;
+  opens = search rules;
+  working = λ clean.
+      let first = state g.S.Store c.args.connection.now in
+      let last = state g.S.Store c.wanted_head.new.connection in
+      let new = state g.S.Store c.version_date.new.connection in
+      let clean_last = c.in_ok-version_date.ensures.reads.within.follows.clean clean in
+      works_then first last new
+      (works_then first (state g.S.Store c.bucket_state.new.connection) last (c.in_ok-bucket_state.ensures.works.working (c.in_ok-head.ensures.works.within.follows.clean clean_last)) (c.in_ok-head.ensures.works.working clean_last))
+      (asked_working last new (λ clean_was. (c.in_ok-head.ensures.works.working clean_was (λ bytes. bytes)).is) c.in_ok-version_date.ensures.reads.within c.in_ok-version_date.ensures.reads.same clean);
+}
 
 pub returns-in_err-head-clause-carries : goal.returns-in_err-head-clause-carries
 returns-in_err-head-clause-carries g c clean =
     let p = err_from_is_err_and c.from_residual-in_err-head.result c.from_residual-in_err-head.ensures.1 in
-    let clean_first = c.in_err-head.ensures.within.follows.clean clean in
+    let clean_first = c.in_err-head.ensures.works.within.follows.clean clean in
     let one = c.in_ok-bucket_state.ensures.decides clean_first in
     rw (p.1, p.2) (gets_failed (tables_at (state g.S.Store c.args.connection.now)) (tables_at (state g.S.Store c.bucket_state.new.connection)) c.args.tenant.now c.args.bucket.now c.args.key.now
-    (c.requires (c.in_ok-bucket_state.ensures.within.follows.clean clean_first)).sound _ one.0 c.args.wanted one.1 head_seen Retention (tables_at (state g.S.Store c.wanted_head.new.connection)) c.in_err-head.field-0.0 (c.in_err-head.ensures.decides clean))
+    (c.requires (c.in_ok-bucket_state.ensures.works.within.follows.clean clean_first)).sound _ one.0 c.args.wanted one.1 head_seen Retention (tables_at (state g.S.Store c.wanted_head.new.connection)) c.in_err-head.field-0.0 (c.in_err-head.ensures.decides clean))
 
 pub wanted_head-requires : goal.wanted_head-requires
-wanted_head-requires g c clean = (c.in_ok-bucket_state.ensures.working clean (λ bytes. bytes)).is
+wanted_head-requires g c clean = (c.in_ok-bucket_state.ensures.works.working clean (λ bytes. bytes)).is
 
 pub version_date-requires : goal.version_date-requires
-version_date-requires g c clean = (c.in_ok-head.ensures.working clean (λ bytes. bytes)).is.inside
+version_date-requires g c clean = (c.in_ok-head.ensures.works.working clean (λ bytes. bytes)).is.inside
 
-pub returns-in_err-head-clause-working : goal.returns-in_err-head-clause-working
-returns-in_err-head-clause-working g c =
-    let p = err_from_is_err_and c.from_residual-in_err-head.result c.from_residual-in_err-head.ensures.1 in
-    rw (p.1, p.2) (unless_then _ _ c.in_err-head.field-0.0
-    (λ still clean. works_then (state g.S.Store c.args.connection.now) (state g.S.Store c.bucket_state.new.connection) (state g.S.Store c.wanted_head.new.connection) (c.in_ok-bucket_state.ensures.working (c.in_err-head.ensures.within.follows.clean clean)) (still clean)) c.in_err-head.ensures.working)
+pub returns-in_err-head-clause-works : goal.returns-in_err-head-clause-works
+returns-in_err-head-clause-works g c = record {
+  within = search rules;
+  opens = search rules;
+  working =
+      let p = err_from_is_err_and c.from_residual-in_err-head.result c.from_residual-in_err-head.ensures.1 in
+      rw (p.1, p.2) (unless_then _ _ c.in_err-head.field-0.0
+      (λ still clean. works_then (state g.S.Store c.args.connection.now) (state g.S.Store c.bucket_state.new.connection) (state g.S.Store c.wanted_head.new.connection) (c.in_ok-bucket_state.ensures.works.working (c.in_err-head.ensures.works.within.follows.clean clean)) (still clean)) c.in_err-head.ensures.works.working);
+}

@@ -23,14 +23,14 @@ use Rattle.bh_sweep.proofs.sweep.sweep.Given as given
 use Rattle.bh_sweep.proofs.sweep.sweep.Goals as goal
 
 pub any_stale-requires : goal.any_stale-requires
-any_stale-requires g c clean = works_on (state g.S.Store c.args.connection.now) (state g.S.Store c.remove_stale.new.connection) (c.in_ok-uploads.ensures.working clean)
+any_stale-requires g c clean = works_on (state g.S.Store c.args.connection.now) (state g.S.Store c.remove_stale.new.connection) (c.in_ok-uploads.ensures.works.working clean)
 
 pub remove_blocks-requires : goal.remove_blocks-requires
 remove_blocks-requires g c clean =
     let old = state g.S.Store c.args.connection.now in
     let one = state g.S.Store c.remove_stale.new.connection in
     let two = state g.S.Store c.any_stale.new.connection in
-    (asked_working one two (λ before. works_on old one (c.in_ok-uploads.ensures.working before)) c.in_ok-stale.ensures.within c.in_ok-stale.ensures.same clean (λ bytes. bytes)).is
+    (asked_working one two (λ before. works_on old one (c.in_ok-uploads.ensures.works.working before)) c.in_ok-stale.ensures.reads.within c.in_ok-stale.ensures.reads.same clean (λ bytes. bytes)).is
 
 module _ (g : given.Over) (c : goal.After-neither-complete g) where
   abbrev old : State
@@ -56,10 +56,10 @@ module _ (g : given.Over) (c : goal.After-neither-complete g) where
     clean_two = c.in_ok-blocks.ensures.within.follows.clean clean_three
 
     clean_one : IsStateClean one
-    clean_one = c.in_ok-stale.ensures.within.follows.clean clean_two
+    clean_one = c.in_ok-stale.ensures.reads.within.follows.clean clean_two
 
     clean_old : IsStateClean old
-    clean_old = c.in_ok-uploads.ensures.within.follows.clean clean_one
+    clean_old = c.in_ok-uploads.ensures.works.within.follows.clean clean_one
 
     stays : standing new ≡ standing three
     stays = on_ok _ c.in_ok-left.ensures.ok c.any_unreferenced.ensures.same clean.intact
@@ -68,7 +68,7 @@ module _ (g : given.Over) (c : goal.After-neither-complete g) where
     last = same_tables three new stays
 
     taken : tables_at two ≡ without_each (uploads_swept c.args.at c.args.limit (tables_at old)) (tables_at old)
-    taken = same_tables one two (c.in_ok-stale.ensures.same clean_two.intact) ∙ c.in_ok-uploads.ensures.removed clean_one
+    taken = same_tables one two (c.in_ok-stale.ensures.reads.same clean_two.intact) ∙ c.in_ok-uploads.ensures.removed clean_one
 
     many : c.in_ok-uploads.uploads ≡ length (uploads_swept c.args.at c.args.limit (tables_at old))
     many = c.in_ok-uploads.ensures.count clean_one
@@ -77,8 +77,8 @@ module _ (g : given.Over) (c : goal.After-neither-complete g) where
     gone = c.in_ok-blocks.ensures.removed clean_three ∙ ap (λ n. without_blocks (unreferenced n (tables_at two).refs (tables_at two).blocks) (tables_at two)) c.saturating_sub.ensures
 
     works_two : StillWorking old two
-    works_two = works_then old one two (c.in_ok-uploads.ensures.working clean_one)
-        (asked_working one two (λ before. works_on old one (c.in_ok-uploads.ensures.working before)) c.in_ok-stale.ensures.within c.in_ok-stale.ensures.same clean_two)
+    works_two = works_then old one two (c.in_ok-uploads.ensures.works.working clean_one)
+        (asked_working one two (λ before. works_on old one (c.in_ok-uploads.ensures.works.working before)) c.in_ok-stale.ensures.reads.within c.in_ok-stale.ensures.reads.same clean_two)
 
     module _ (digest : Octets → Octets) (digests : AreDigests digest (tables_at old).blocks) where
       keeps : KeepsBodies digest (tables_at two) (tables_at three)
@@ -119,7 +119,7 @@ returns-clause-complete g c clean =
     c.neither-complete.ensures
     ∙ tells_complete c.args.at c.args.limit c.in_ok-uploads.uploads (tables_at (old g c)) (tables_at (two g c)) (tables_at (three g c)) (taken g c clean) (many g c clean) (gone g c clean) c.in_ok-stale.stale c.in_ok-left.left
     (c.requires (clean_old g c clean)).sound
-    (c.in_ok-stale.ensures.found (clean_two g c clean) ∙ ap (λ (x : Tables). list_any (is_due c.args.at x) x.uploads) (sym (same_tables (one g c) (two g c) (c.in_ok-stale.ensures.same (clean_two g c clean).intact))))
+    (c.in_ok-stale.ensures.found (clean_two g c clean) ∙ ap (λ (x : Tables). list_any (is_due c.args.at x) x.uploads) (sym (same_tables (one g c) (two g c) (c.in_ok-stale.ensures.reads.same (clean_two g c clean).intact))))
     (IfOk-at_ok _ c.in_ok-left.ensures.ok c.any_unreferenced.ensures.found clean)
 
 pub returns-clause-working : goal.returns-clause-working

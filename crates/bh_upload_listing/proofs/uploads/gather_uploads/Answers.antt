@@ -6,9 +6,9 @@ use Rattle.bh_objects.proofs.Working.{same_tables}
 use Rattle.bh_pages.specs.Uploads.{seen_entry, Stands}
 use Rattle.bh_pages.specs.Versions.{seen_place}
 use Rattle.bh_listing.proofs.Looping.{none_so_far, within_so_far, more_so_far, still_inside}
-use Rattle.bh_upload_listing.specs.Rows.{own_items}
+use Rattle.bh_listing.specs.Uploads.{own_items}
 use Rattle.bh_upload_listing.specs.Places.{listed_from}
-use Rattle.bh_upload_listing.proofs.Looping.{under_items, begin_reading, are_rows, are_next, lines_are}
+use Rattle.bh_upload_listing.proofs.Looping.{under_items, begin_reading, are_rows, are_next, placed, lines_are}
 use Rattle.bh_upload_listing.proofs.Viewed.{own_strict, small_keys, small_items}
 use Rattle.bh_upload_listing.proofs.uploads.gather_uploads.Goals as goal
 
@@ -17,7 +17,6 @@ reading-init g c =
     let old = state g.S.Store c.args.connection.now in
     record {
       far = none_so_far old c.requires.working;
-      upto = c.in_ok-upto.ensures;
       count = c.begin-reading.ensures.count;
       read = λ clean. begin_reading c.args.asked.now c.args.tenant.now c.args.bucket.now (tables_at old).uploads c.args.place c.requires.under
           c.begin-reading.result c.begin-reading.ensures.gathering c.begin-reading.ensures.place;
@@ -55,8 +54,8 @@ returns-then-branch-clause-gathered g c = λ clean.
     let listing = listed_from c.args.asked.now (seen_place c.args.place) (own_items c.args.tenant.now c.args.bucket.now (tables_at old).uploads) in
     let had = c.reading.invariant.read before in
     let are = lines_are c.args.asked.now c.args.tenant.now c.args.bucket.now (tables_at (state g.S.Store c.reading.connection)).uploads (tables_at old).uploads c.reading.reading.place.key.items c.reading.reading.place.after
-    c.in_ok-upto.upto.items c.as_slice.result.now c.in_ok-lines.lines.items c.as_slice-in-reading.result.now c.reading.reading.count c.as_slice.ensures.value c.reading.invariant.upto c.as_slice-in-reading.ensures.value
-    (ap (λ (t : Tables). t.uploads) (same_tables old (state g.S.Store c.reading.connection) (c.reading.invariant.far.same before.intact))) (c.in_ok-lines.ensures.lines clean) in
+    c.in_ok-upto.upto.items c.as_slice.result.now c.in_ok-lines.lines.items c.as_slice-in-reading.result.now c.reading.reading.count c.as_slice.ensures.value c.in_ok-upto.ensures c.as_slice-in-reading.ensures.value
+    (ap (λ (t : Tables). t.uploads) (same_tables old (state g.S.Store c.reading.connection) (c.reading.invariant.far.same before.intact))) (c.in_ok-lines.ensures.lines clean _ (placed c.args.tenant.now c.args.bucket.now c.reading.reading.place.key.items c.reading.reading.place.after c.as_slice.result.now c.reading.reading.count (tables_at (state g.S.Store c.reading.connection)))) in
     let next = are_next c.args.asked.now c.args.tenant.now c.args.bucket.now (tables_at old).uploads small listing c.reading.reading had c.as_slice-in-reading.result.now are in
     let took = c.in_ok-take.ensures.took rows listing (are_rows c.args.asked.now c.args.tenant.now c.args.bucket.now (tables_at old).uploads fine strict) had next in
     ap (λ v. map seen_entry v.items) c.into_entries.ensures ∙ subst (λ e. Stands e c.args.asked.now rows listing c.take.new.self) c.if-branch.true took
@@ -66,7 +65,6 @@ reading-preserved g c =
     let old = state g.S.Store c.args.connection.now in
     record {
       far = more_so_far old (state g.S.Store c.reading.connection) (state g.S.Store c.lines_at.new.connection) c.reading.invariant.far c.in_ok-lines.ensures.reads.within c.in_ok-lines.ensures.reads.opens c.in_ok-lines.ensures.reads.same;
-      upto = c.reading.invariant.upto;
       count = c.in_ok-take.ensures.count c.reading.invariant.count;
       read = λ clean.
           let before = c.in_ok-lines.ensures.reads.within.follows.clean clean in
@@ -78,8 +76,8 @@ reading-preserved g c =
           let listing = listed_from c.args.asked.now (seen_place c.args.place) (own_items c.args.tenant.now c.args.bucket.now (tables_at old).uploads) in
           let had = c.reading.invariant.read before in
           let are = lines_are c.args.asked.now c.args.tenant.now c.args.bucket.now (tables_at (state g.S.Store c.reading.connection)).uploads (tables_at old).uploads c.reading.reading.place.key.items c.reading.reading.place.after
-          c.in_ok-upto.upto.items c.as_slice.result.now c.in_ok-lines.lines.items c.as_slice-in-reading.result.now c.reading.reading.count c.as_slice.ensures.value c.reading.invariant.upto c.as_slice-in-reading.ensures.value
-          (ap (λ (t : Tables). t.uploads) (same_tables old (state g.S.Store c.reading.connection) (c.reading.invariant.far.same before.intact))) (c.in_ok-lines.ensures.lines clean) in
+          c.in_ok-upto.upto.items c.as_slice.result.now c.in_ok-lines.lines.items c.as_slice-in-reading.result.now c.reading.reading.count c.as_slice.ensures.value c.in_ok-upto.ensures c.as_slice-in-reading.ensures.value
+          (ap (λ (t : Tables). t.uploads) (same_tables old (state g.S.Store c.reading.connection) (c.reading.invariant.far.same before.intact))) (c.in_ok-lines.ensures.lines clean _ (placed c.args.tenant.now c.args.bucket.now c.reading.reading.place.key.items c.reading.reading.place.after c.as_slice.result.now c.reading.reading.count (tables_at (state g.S.Store c.reading.connection)))) in
           let next = are_next c.args.asked.now c.args.tenant.now c.args.bucket.now (tables_at old).uploads small listing c.reading.reading had c.as_slice-in-reading.result.now are in
           let took = c.in_ok-take.ensures.took rows listing (are_rows c.args.asked.now c.args.tenant.now c.args.bucket.now (tables_at old).uploads fine strict) had next in
           subst (λ e. Stands e c.args.asked.now rows listing c.take.new.self) c.if-branch.false took;

@@ -1,13 +1,11 @@
-use Rattle.std.proofs.Common.{◌≡◌}
 use Rattle.sqlite.specs.Held.{state}
 use Rattle.bh_schema.specs.Connections.{IsClean}
 use Rattle.bh_schema.specs.Working.{tables_at}
-use Rattle.bh_pages.specs.Gathered.{past_name}
 use Rattle.bh_pages.specs.Reading.{IsCount}
 use Rattle.bh_pages.specs.Uploads.{IsUnderway}
 use Rattle.bh_pages.specs.Versions.{seen_place}
 use Rattle.bh_listing.proofs.Looping.{SoFar}
-use Rattle.bh_upload_listing.specs.Rows.{own_items}
+use Rattle.bh_listing.specs.Uploads.{own_items}
 use Rattle.bh_upload_listing.specs.Places.{listed_from}
 use Rattle.bh_upload_listing.proofs.Looping.{under_items}
 use Rattle.bh_upload_listing.proofs.uploads.gather_uploads.Given as goal
@@ -16,7 +14,6 @@ use Rattle.bh_upload_listing.proofs.uploads.gather_uploads.Given as goal
 abbrev pub invariant-reading : goal.invariant-reading
 invariant-reading g l = record {
   far : SoFar (state g.S.Store l.fn.connection) (state g.S.Store l.connection);
-  upto : l.upto.items ≡ past_name l.asked.prefix.now;
   count : IsCount l.reading.count;
   read : IsClean g.S.Store l.connection → IsUnderway l.asked (under_items l.asked l.tenant l.bucket (tables_at (state g.S.Store l.fn.connection)).uploads) (listed_from l.asked (seen_place l.fn.place) (own_items l.tenant l.bucket (tables_at (state g.S.Store l.fn.connection)).uploads)) l.reading;
 }

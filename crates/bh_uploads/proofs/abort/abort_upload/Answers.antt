@@ -1,4 +1,4 @@
-use Rattle.std.proofs.Common.{◌≡◌, None, false, map, sym, ap, ◌∙◌}
+use Rattle.std.proofs.Common.{rules, None, false, map, ap, ◌∙◌}
 use Rattle.sqlite.specs.Held.{state}
 use Rattle.bh_model.specs.Operations.{Removed}
 use Rattle.bh_model.specs.Uploads.{abort_upload}
@@ -21,25 +21,29 @@ done g c clean =
     let middle = state g.S.Store c.found_upload.new.connection in
     let u = c.args.upload.now in
     let n = c.in_ok-found.found.number in
-    let clean_list = c.in_ok-close_upload.ensures.within.follows.clean clean in
-    let clean_middle = c.in_ok-list.ensures.within.follows.clean clean_list in
-    let clean_old = c.in_ok-found.ensures.within.follows.clean clean_middle in
+    let clean_list = c.in_ok-close_upload.ensures.changes.within.follows.clean clean in
+    let clean_middle = c.in_ok-list.ensures.reads.within.follows.clean clean_list in
+    let clean_old = c.in_ok-found.ensures.works.within.follows.clean clean_middle in
     let one = c.in_ok-found.ensures.decides clean_middle in
-    let same = same_tables middle (state g.S.Store c.upload_parts.new.connection) (c.in_ok-list.ensures.same clean_list.intact) ∙ one.1 in
+    let same = same_tables middle (state g.S.Store c.upload_parts.new.connection) (c.in_ok-list.ensures.reads.same clean_list.intact) ∙ one.1 in
     aborts (tables_at first) (tables_at (state g.S.Store c.close_upload.new.connection)) (host_at first (c.requires.working clean_old)) u.tenant.now u.bucket.now u.key.now u.upload c.in_ok-found.found.mode n one.0 c.in_ok-list.list.bodies.items
-    (c.in_ok-list.ensures.bodies clean_list ∙ ap (λ (x : Tables). map (λ (p : PartRow). p.body) (listed_parts u.tenant.now n x)) one.1)
-    ((rw c.deref.ensures.value at (c.in_ok-close_upload.ensures.holds clean).is) ∙ ap (upload_closed u.tenant.now n c.in_ok-list.list.bodies.items) same)
+    ((c.in_ok-list.ensures.parts clean_list).bodies ∙ ap (λ (x : Tables). map (λ (p : PartRow). p.body) (listed_parts u.tenant.now n x)) one.1)
+    ((rw c.deref.ensures.value at (c.in_ok-close_upload.ensures.changes.holds clean).is) ∙ ap (upload_closed u.tenant.now n c.in_ok-list.list.bodies.items) same)
 
-pub returns-clause-working : goal.returns-clause-working
-returns-clause-working g c clean =
-    let it = done g c clean in
-    λ digest. record { is = record { inside = (c.in_ok-close_upload.ensures.holds clean).within; sound = it.sound; bodies = it.bodies }; limits = it.limits; digests = it.digests digest }
+pub returns-clause-works : goal.returns-clause-works
+returns-clause-works g c = record {
+  within = search rules;
+  opens = search rules;
+  working = λ clean.
+      let it = done g c clean in
+      λ digest. record { is = record { inside = (c.in_ok-close_upload.ensures.changes.holds clean).within; sound = it.sound; bodies = it.bodies }; limits = it.limits; digests = it.digests digest };
+}
 
 pub returns-clause-carries : goal.returns-clause-carries
-returns-clause-carries g c clean = (done g c clean).step
+returns-clause-carries g c clean = rw c.nothing_told.ensures (done g c clean).step
 
 pub upload_parts-requires-clause-inside : goal.upload_parts-requires-clause-inside
-upload_parts-requires-clause-inside g c clean = (c.in_ok-found.ensures.working clean (λ bytes. bytes)).is.inside
+upload_parts-requires-clause-inside g c clean = (c.in_ok-found.ensures.works.working clean (λ bytes. bytes)).is.inside
 
 pub close_upload-requires-clause-inside : goal.close_upload-requires-clause-inside
-close_upload-requires-clause-inside g c clean = (asked_then (state g.S.Store c.args.connection.now) (state g.S.Store c.found_upload.new.connection) (state g.S.Store c.upload_parts.new.connection) c.in_ok-found.ensures.working c.in_ok-list.ensures.within c.in_ok-list.ensures.same clean (λ bytes. bytes)).is.inside
+close_upload-requires-clause-inside g c clean = (asked_then (state g.S.Store c.args.connection.now) (state g.S.Store c.found_upload.new.connection) (state g.S.Store c.upload_parts.new.connection) c.in_ok-found.ensures.works.working c.in_ok-list.ensures.reads.within c.in_ok-list.ensures.reads.same clean (λ bytes. bytes)).is.inside

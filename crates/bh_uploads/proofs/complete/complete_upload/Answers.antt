@@ -1,4 +1,4 @@
-use Rattle.std.proofs.Common.{◌≡◌, List, length, map, sym, ap, ◌∙◌, subst}
+use Rattle.std.proofs.Common.{rules, map, sym, ap, ◌∙◌}
 use Rattle.std.proofs.lemmas.Result.{err_from_is_err_and}
 use Rattle.std.specs.String.{string_bytes}
 use Rattle.sqlite.specs.Held.{state}
@@ -7,14 +7,13 @@ use Rattle.bh_model.specs.Entries.{new_id}
 use Rattle.bh_model.specs.Operations.{Completed, id_told}
 use Rattle.bh_model.specs.Shown.{naming_of}
 use Rattle.bh_model.specs.Uploads.{complete_upload}
-use Rattle.bh_tables.specs.Typed.{PartRow, Tables, raw}
+use Rattle.bh_tables.specs.Typed.{Tables, raw}
 use Rattle.bh_view.specs.View.{view}
 use Rattle.bh_view.proofs.ResolvedLemmas.{tables_resolved}
 use Rattle.bh_schema.specs.Layer.{standing, IsStateClean}
 use Rattle.bh_schema.specs.Working.{tables_at}
 use Rattle.bh_objects.specs.Found.{numbers_in}
 use Rattle.bh_objects.proofs.Working.{host_at, works_then, unless_then}
-use Rattle.bh_uploads.specs.Rows.{listed_parts}
 use Rattle.bh_uploads.specs.Writes.{version_written}
 use Rattle.bh_uploads.proofs.Completing.{Completes, completes}
 use Rattle.bh_uploads.proofs.complete.complete_upload.Given as given
@@ -32,22 +31,26 @@ done g c clean =
     let j = found.joined in
     let before = c.in_ok-numbers.numbers.before in
     let after = c.in_ok-numbers.numbers.after in
-    let clean_last = c.in_ok-close_upload.ensures.within.follows.clean clean in
-    let clean_second = c.in_ok-write_version.ensures.within.follows.clean clean_last in
-    let clean_first = c.in_ok-numbers.ensures.within.follows.clean clean_second in
-    let clean_old = c.in_ok-found.ensures.within.follows.clean clean_first in
+    let clean_last = c.in_ok-close_upload.ensures.changes.within.follows.clean clean in
+    let clean_second = c.in_ok-write_version.ensures.changes.within.follows.clean clean_last in
+    let clean_first = c.in_ok-numbers.ensures.works.within.follows.clean clean_second in
+    let clean_old = c.in_ok-found.ensures.works.within.follows.clean clean_first in
     let one = c.in_ok-found.ensures.decides clean_first in
     let two = c.in_ok-numbers.ensures.decides clean_second in
     completes (tables_at first) (tables_at last) (tables_at (state g.S.Store c.close_upload.new.connection)) (host_at first (c.requires.working clean_old)) (tables_resolved (raw (standing last).now.trees)) u.tenant.now u.bucket.now u.key.now u.upload (map naming_of c.args.named.now)
     c.args.least c.args.at (c.requires.early clean_old) c.in_ok-write_version.ensures.key found.number j.size (string_bytes j.checksum) j.bodies.items found.bodies.items (c.in_ok-found.ensures.size clean_first) (c.in_ok-found.ensures.bodies clean_first) after
-    (rw c.deref.ensures.value at (c.in_ok-close_upload.ensures.holds clean).is)
+    (rw c.deref.ensures.value at (c.in_ok-close_upload.ensures.changes.holds clean).is)
     found.mode before one.0 (ap (λ (x : Tables). numbers_in found.mode (view x u.tenant.now)) (sym one.1) ∙ two.0)
-    ((c.in_ok-write_version.ensures.holds clean_last).is ∙ ap (version_written found.mode before after u.tenant.now u.bucket.now u.key.now c.args.at j.size (string_bytes j.checksum) j.bodies.items) (two.1 ∙ one.1))
+    ((c.in_ok-write_version.ensures.changes.holds clean_last).is ∙ ap (version_written found.mode before after u.tenant.now u.bucket.now u.key.now c.args.at j.size (string_bytes j.checksum) j.bodies.items) (two.1 ∙ one.1))
 
-pub returns-clause-working : goal.returns-clause-working
-returns-clause-working g c clean =
-    let it = done g c clean in
-    λ digest. record { is = record { inside = (c.in_ok-close_upload.ensures.holds clean).within; sound = it.sound; bodies = it.bodies }; limits = it.limits; digests = it.digests digest }
+pub returns-clause-works : goal.returns-clause-works
+returns-clause-works g c = record {
+  within = search rules;
+  opens = search rules;
+  working = λ clean.
+      let it = done g c clean in
+      λ digest. record { is = record { inside = (c.in_ok-close_upload.ensures.changes.holds clean).within; sound = it.sound; bodies = it.bodies }; limits = it.limits; digests = it.digests digest };
+}
 
 pub returns-clause-carries : goal.returns-clause-carries
 returns-clause-carries g c clean =
@@ -57,13 +60,17 @@ returns-clause-carries g c clean =
     rw told (done g c clean).step
 
 pub new_numbers-requires : goal.new_numbers-requires
-new_numbers-requires g c clean = (c.in_ok-found.ensures.working clean (λ bytes. bytes)).is
+new_numbers-requires g c clean = (c.in_ok-found.ensures.works.working clean (λ bytes. bytes)).is
 
 pub write_version-requires : goal.write_version-requires
-write_version-requires g c clean = (c.in_ok-numbers.ensures.working clean (λ bytes. bytes)).is.inside
+write_version-requires g c clean = (c.in_ok-numbers.ensures.works.working clean (λ bytes. bytes)).is.inside
 
-pub returns-in_err-numbers-clause-working : goal.returns-in_err-numbers-clause-working
-returns-in_err-numbers-clause-working g c =
-    let p = err_from_is_err_and c.from_residual-in_err-numbers.result c.from_residual-in_err-numbers.ensures.1 in
-    rw (p.1, p.2) (unless_then _ _ c.in_err-numbers.field-0.0
-    (λ still clean. works_then (state g.S.Store c.args.connection.now) (state g.S.Store c.completion_plan.new.connection) (state g.S.Store c.new_numbers.new.connection) (c.in_ok-found.ensures.working (c.in_err-numbers.ensures.within.follows.clean clean)) (still clean)) c.in_err-numbers.ensures.working)
+pub returns-in_err-numbers-clause-works : goal.returns-in_err-numbers-clause-works
+returns-in_err-numbers-clause-works g c = record {
+  within = search rules;
+  opens = search rules;
+  working =
+      let p = err_from_is_err_and c.from_residual-in_err-numbers.result c.from_residual-in_err-numbers.ensures.1 in
+      rw (p.1, p.2) (unless_then _ _ c.in_err-numbers.field-0.0
+      (λ still clean. works_then (state g.S.Store c.args.connection.now) (state g.S.Store c.completion_plan.new.connection) (state g.S.Store c.new_numbers.new.connection) (c.in_ok-found.ensures.works.working (c.in_err-numbers.ensures.works.within.follows.clean clean)) (still clean)) c.in_err-numbers.ensures.works.working);
+}

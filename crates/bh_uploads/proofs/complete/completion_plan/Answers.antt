@@ -1,4 +1,4 @@
-use Rattle.std.proofs.Common.{ap, ◌∙◌, map, sym}
+use Rattle.std.proofs.Common.{rules, ap, ◌∙◌, map}
 use Rattle.std.proofs.lemmas.Result.{err_from_is_err_and}
 use Rattle.sqlite.specs.Held.{state}
 use Rattle.bh_model.specs.Shown.{naming_of}
@@ -13,13 +13,21 @@ use Rattle.bh_uploads.proofs.Steps.{asked_then}
 use Rattle.bh_uploads.proofs.complete.completion_plan.Goals as goal
 
 pub upload_parts-requires-clause-inside : goal.upload_parts-requires-clause-inside
-upload_parts-requires-clause-inside g c clean = (c.in_ok-found.ensures.working clean (λ bytes. bytes)).is.inside
+upload_parts-requires-clause-inside g c clean = (c.in_ok-found.ensures.works.working clean (λ bytes. bytes)).is.inside
 
-pub returns-in_err-joined-clause-working : goal.returns-in_err-joined-clause-working
-returns-in_err-joined-clause-working g c = any_unless c.from_residual-in_err-joined.result _ (asked_then (state g.S.Store c.args.connection.now) (state g.S.Store c.found_upload.new.connection) (state g.S.Store c.upload_parts.new.connection) c.in_ok-found.ensures.working c.in_ok-list.ensures.within c.in_ok-list.ensures.same)
+pub returns-in_err-joined-clause-works : goal.returns-in_err-joined-clause-works
+returns-in_err-joined-clause-works g c = record {
+  within = search rules;
+  opens = search rules;
+  working = any_unless c.from_residual-in_err-joined.result _ (asked_then (state g.S.Store c.args.connection.now) (state g.S.Store c.found_upload.new.connection) (state g.S.Store c.upload_parts.new.connection) c.in_ok-found.ensures.works.working c.in_ok-list.ensures.reads.within c.in_ok-list.ensures.reads.same);
+}
 
-pub returns-clause-working : goal.returns-clause-working
-returns-clause-working g c = asked_then (state g.S.Store c.args.connection.now) (state g.S.Store c.found_upload.new.connection) (state g.S.Store c.upload_parts.new.connection) c.in_ok-found.ensures.working c.in_ok-list.ensures.within c.in_ok-list.ensures.same
+pub returns-clause-works : goal.returns-clause-works
+returns-clause-works g c = record {
+  within = search rules;
+  opens = search rules;
+  working = asked_then (state g.S.Store c.args.connection.now) (state g.S.Store c.found_upload.new.connection) (state g.S.Store c.upload_parts.new.connection) c.in_ok-found.ensures.works.working c.in_ok-list.ensures.reads.within c.in_ok-list.ensures.reads.same;
+}
 
 pub returns-in_err-joined-clause-decides : goal.returns-in_err-joined-clause-decides
 returns-in_err-joined-clause-decides g c clean =
@@ -30,11 +38,11 @@ returns-in_err-joined-clause-decides g c clean =
     let last = state g.S.Store c.upload_parts.new.connection in
     let found = c.in_ok-found.found in
     let list = c.in_ok-list.list in
-    let clean_middle = c.in_ok-list.ensures.within.follows.clean clean in
+    let clean_middle = c.in_ok-list.ensures.reads.within.follows.clean clean in
     let one = c.in_ok-found.ensures.decides clean_middle in
-    rw (p.1, p.2) (completion_refused (tables_at first) (host_at first (c.requires (c.in_ok-found.ensures.within.follows.clean clean_middle))) u.tenant.now u.bucket.now u.key.now u.upload found.mode found.number one.0 c.args.least (map naming_of c.args.named.now)
-    list.rows.items (c.in_ok-list.ensures.rows clean ∙ ap (λ (x : Tables). map seen_row (listed_parts u.tenant.now found.number x)) one.1) list.bodies.items (c.in_ok-list.ensures.bodies clean ∙ ap (λ (x : Tables). map (λ (p : PartRow). p.body) (listed_parts u.tenant.now found.number x)) one.1)
-    (tables_at last) (same_tables middle last (c.in_ok-list.ensures.same clean.intact) ∙ one.1) c.in_err-joined.field-0.0 (λ (c : Completion). (c.mode, c.number, joined_content u.tenant.now (tables_at first) c.joined)) c.in_err-joined.ensures)
+    rw (p.1, p.2) (completion_refused (tables_at first) (host_at first (c.requires (c.in_ok-found.ensures.works.within.follows.clean clean_middle))) u.tenant.now u.bucket.now u.key.now u.upload found.mode found.number one.0 c.args.least (map naming_of c.args.named.now)
+    list.rows.items ((c.in_ok-list.ensures.parts clean).rows ∙ ap (λ (x : Tables). map seen_row (listed_parts u.tenant.now found.number x)) one.1) list.bodies.items ((c.in_ok-list.ensures.parts clean).bodies ∙ ap (λ (x : Tables). map (λ (p : PartRow). p.body) (listed_parts u.tenant.now found.number x)) one.1)
+    (tables_at last) (same_tables middle last (c.in_ok-list.ensures.reads.same clean.intact) ∙ one.1) c.in_err-joined.field-0.0 (λ (c : Completion). (c.mode, c.number, joined_content u.tenant.now (tables_at first) c.joined)) c.in_err-joined.ensures)
 
 pub returns-clause-decides : goal.returns-clause-decides
 returns-clause-decides g c clean =
@@ -44,12 +52,12 @@ returns-clause-decides g c clean =
     let last = state g.S.Store c.upload_parts.new.connection in
     let found = c.in_ok-found.found in
     let list = c.in_ok-list.list in
-    let clean_middle = c.in_ok-list.ensures.within.follows.clean clean in
+    let clean_middle = c.in_ok-list.ensures.reads.within.follows.clean clean in
     let one = c.in_ok-found.ensures.decides clean_middle in (
-      completion_is (tables_at first) (host_at first (c.requires (c.in_ok-found.ensures.within.follows.clean clean_middle))) u.tenant.now u.bucket.now u.key.now u.upload found.mode found.number one.0 c.args.least (map naming_of c.args.named.now)
-          list.rows.items (c.in_ok-list.ensures.rows clean ∙ ap (λ (x : Tables). map seen_row (listed_parts u.tenant.now found.number x)) one.1) list.bodies.items (c.in_ok-list.ensures.bodies clean ∙ ap (λ (x : Tables). map (λ (p : PartRow). p.body) (listed_parts u.tenant.now found.number x)) one.1)
+      completion_is (tables_at first) (host_at first (c.requires (c.in_ok-found.ensures.works.within.follows.clean clean_middle))) u.tenant.now u.bucket.now u.key.now u.upload found.mode found.number one.0 c.args.least (map naming_of c.args.named.now)
+          list.rows.items ((c.in_ok-list.ensures.parts clean).rows ∙ ap (λ (x : Tables). map seen_row (listed_parts u.tenant.now found.number x)) one.1) list.bodies.items ((c.in_ok-list.ensures.parts clean).bodies ∙ ap (λ (x : Tables). map (λ (p : PartRow). p.body) (listed_parts u.tenant.now found.number x)) one.1)
           c.in_ok-joined.joined c.in_ok-joined.ensures,
-      same_tables middle last (c.in_ok-list.ensures.same clean.intact) ∙ one.1,
+      same_tables middle last (c.in_ok-list.ensures.reads.same clean.intact) ∙ one.1,
     )
 
 pub returns-clause-size : goal.returns-clause-size
@@ -58,8 +66,8 @@ returns-clause-size g c clean =
     let first = state g.S.Store c.args.connection.now in
     let found = c.in_ok-found.found in
     let list = c.in_ok-list.list in
-    let clean_middle = c.in_ok-list.ensures.within.follows.clean clean in
+    let clean_middle = c.in_ok-list.ensures.reads.within.follows.clean clean in
     let one = c.in_ok-found.ensures.decides clean_middle in
-    completion_sized (tables_at first) (host_at first (c.requires (c.in_ok-found.ensures.within.follows.clean clean_middle))) u.tenant.now u.bucket.now u.key.now u.upload found.mode found.number one.0 c.args.least (map naming_of c.args.named.now)
-    list.rows.items (c.in_ok-list.ensures.rows clean ∙ ap (λ (x : Tables). map seen_row (listed_parts u.tenant.now found.number x)) one.1) list.bodies.items (c.in_ok-list.ensures.bodies clean ∙ ap (λ (x : Tables). map (λ (p : PartRow). p.body) (listed_parts u.tenant.now found.number x)) one.1)
+    completion_sized (tables_at first) (host_at first (c.requires (c.in_ok-found.ensures.works.within.follows.clean clean_middle))) u.tenant.now u.bucket.now u.key.now u.upload found.mode found.number one.0 c.args.least (map naming_of c.args.named.now)
+    list.rows.items ((c.in_ok-list.ensures.parts clean).rows ∙ ap (λ (x : Tables). map seen_row (listed_parts u.tenant.now found.number x)) one.1) list.bodies.items ((c.in_ok-list.ensures.parts clean).bodies ∙ ap (λ (x : Tables). map (λ (p : PartRow). p.body) (listed_parts u.tenant.now found.number x)) one.1)
     c.in_ok-joined.joined c.in_ok-joined.ensures

@@ -6,7 +6,6 @@ use Rattle.std.proofs.lemmas.Option.{slice_get_read}
 use Rattle.sha2.specs.Sha256.{sha256}
 use Rattle.bh_types.specs.Checksums.{checksum_text}
 use Rattle.bh_core.specs.declared.parts.PartRow.{PartRow}
-use Rattle.bh_uploads.specs.Joining.{sums_at}
 use Rattle.bh_uploads.proofs.Taking.{taken_next, split_last}
 use Rattle.bh_uploads.proofs.joining.digests_at.Goals as goal
 

@@ -1,4 +1,4 @@
-use Rattle.std.proofs.Common.{◌≡◌, refl, get_or}
+use Rattle.std.proofs.Common.{refl, get_or}
 use Rattle.std.proofs.lemmas.Option.{slice_get_read}
 use Rattle.bh_core.specs.declared.parts.PartRow.{PartRow}
 use Rattle.bh_uploads.proofs.Taking.{taken_sum}

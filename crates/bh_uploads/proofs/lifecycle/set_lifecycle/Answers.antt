@@ -1,4 +1,4 @@
-use Rattle.std.proofs.Common.{◌≡◌, Some, ap, ◌∙◌}
+use Rattle.std.proofs.Common.{rules, ◌≡◌, Some, ap, ◌∙◌}
 use Rattle.sqlite.specs.Held.{state}
 use Rattle.sqlite_keyed.specs.Lists.{update_where}
 use Rattle.bh_model.specs.Operations.{Done, put_lifecycle}
@@ -22,23 +22,27 @@ done g c clean =
     let old = state g.S.Store c.args.connection.now in
     let t = c.args.tenant.now in
     let b = c.args.bucket.now in
-    let clean_first = c.set_days.ensures.within.follows.clean clean in
-    let clean_old = c.in_ok-bucket_state.ensures.within.follows.clean clean_first in
+    let clean_first = c.set_days.ensures.writes.within.follows.clean clean in
+    let clean_old = c.in_ok-bucket_state.ensures.works.within.follows.clean clean_first in
     let one = c.in_ok-bucket_state.ensures.decides clean_first in
     let is = rw (c.as_str.ensures.value, c.as_str-2.ensures.value) at (on_ok _ c.in_ok-or_trouble.ensures.ok c.set_days.ensures.holds clean).is in
     sets_rule (tables_at old) (tables_at (state g.S.Store c.set_days.new.connection)) t b _ one.0 (c.requires.working clean_old).sound c.args.days c.requires.least c.requires.most
     (is ∙ ap (λ (x : Tables). record x { buckets = update_where (is_bucket t b) (λ r. record r { days = Some c.args.days }) x.buckets }) one.1)
 
-pub returns-clause-working : goal.returns-clause-working
-returns-clause-working g c clean =
-    let old = state g.S.Store c.args.connection.now in
-    let holds = on_ok _ c.in_ok-or_trouble.ensures.ok c.set_days.ensures.holds clean in
-    let clean_1 = c.set_days.ensures.within.follows.clean clean in
-    let clean_old = c.in_ok-bucket_state.ensures.within.follows.clean clean_1 in
-    still_buckets old (state g.S.Store c.bucket_state.new.connection) (state g.S.Store c.set_days.new.connection) _ ((c.in_ok-bucket_state.ensures.decides clean_1).1) (c.requires.working clean_old) holds.within holds.is (done g c clean).1 (done g c clean).2
+pub returns-clause-works : goal.returns-clause-works
+returns-clause-works g c = record {
+  within = search rules;
+  opens = search rules;
+  working = λ clean.
+      let old = state g.S.Store c.args.connection.now in
+      let holds = on_ok _ c.in_ok-or_trouble.ensures.ok c.set_days.ensures.holds clean in
+      let clean_1 = c.set_days.ensures.writes.within.follows.clean clean in
+      let clean_old = c.in_ok-bucket_state.ensures.works.within.follows.clean clean_1 in
+      still_buckets old (state g.S.Store c.bucket_state.new.connection) (state g.S.Store c.set_days.new.connection) _ ((c.in_ok-bucket_state.ensures.decides clean_1).1) (c.requires.working clean_old) holds.within holds.is (done g c clean).1 (done g c clean).2;
+}
 
 pub returns-clause-carries : goal.returns-clause-carries
 returns-clause-carries g c clean = (done g c clean).0
 
 pub set_days-requires : goal.set_days-requires
-set_days-requires g c = record { inside = λ clean. (c.in_ok-bucket_state.ensures.working clean (λ bytes. bytes)).is.inside }
+set_days-requires g c = record { inside = λ clean. (c.in_ok-bucket_state.ensures.works.working clean (λ bytes. bytes)).is.inside }

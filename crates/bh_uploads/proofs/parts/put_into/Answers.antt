@@ -1,14 +1,9 @@
-use Rattle.std.proofs.Common.{◌≡◌, ◌≤◌, [], Ok, Err, String, Global, sym, ap, subst, ◌∙◌}
+use Rattle.std.proofs.Common.{rules, ◌≡◌, ◌≤◌, Err, String, Global, sym, ap, subst, ◌∙◌}
 use Rattle.std.proofs.lemmas.Result.{err_from_is_err_and}
-use Rattle.std.specs.Prelude.{if◌then◌else◌}
 use Rattle.std.specs.Option.{option_copied}
 use Rattle.std.specs.String.{string_bytes}
 use Rattle.sqlite.specs.Held.{state}
-use Rattle.bh_http.proofs.BodyLemmas.{gives_none, going_may}
-use Rattle.bh_types.specs.declared.refusal.Refusal.{Refusal}
-use Rattle.bh_types.specs.declared.refusal.Refusal.TheVariants.{BadDigest}
 use Rattle.bh_model.specs.Operations.{PartStored}
-use Rattle.bh_model.specs.Parts.{is_checksum}
 use Rattle.bh_model.specs.State.{Octets}
 use Rattle.bh_model.specs.Uploads.{upload_part}
 use Rattle.bh_storage.specs.Calls.{GivesStep}
@@ -18,18 +13,21 @@ use Rattle.bh_cache.specs.Kept.{AreCopies}
 use Rattle.bh_tables.specs.Typed.{Tables}
 use Rattle.bh_schema.specs.Layer.{Holds, IsStateClean, standing}
 use Rattle.bh_schema.specs.Working.{tables_at}
-use Rattle.bh_objects.proofs.Receiving.{operates_failed, operates_outcome, operates_refusing, unless_outcome, unless_spoilt}
+use Rattle.bh_objects.proofs.Receiving.{operates_failed, operates_outcome, operates_refusing, refusing_unless, unless_outcome}
 use Rattle.bh_objects.proofs.Working.{host_at}
-use Rattle.bh_uploads.specs.Found.{part_bytes_in, part_entry_in, replaced_body}
+use Rattle.bh_uploads.specs.Found.{part_bytes_in, part_entry_in, part_step, replaced_body}
 use Rattle.bh_uploads.specs.Writes.{part_written}
+use Rattle.bh_uploads.specs.declared.quotas.PartEntry.{PartEntry}
 use Rattle.bh_uploads.proofs.Receiving.{part_bad, part_puts, part_unfit}
 use Rattle.bh_uploads.proofs.parts.put_into.Goals as goal
 
-pub store_part-requires-clause-inside : goal.store_part-requires-clause-inside
-store_part-requires-clause-inside g c clean = (c.in-Ok.ensures.working clean (λ bytes. bytes)).is.inside
-
-pub store_part-requires-clause-copies : goal.store_part-requires-clause-copies
-store_part-requires-clause-copies g c clean = subst (λ (x : Tables). AreCopies c.args.cache.now x.blocks) (sym (c.in-Ok.ensures.decides clean).1) (c.requires.copies (c.in-Ok.ensures.within.follows.clean clean))
+pub store_part-requires-clause-may : goal.store_part-requires-clause-may
+store_part-requires-clause-may g c = record {
+  inside = λ clean. (c.in-Ok.ensures.works.working clean (λ bytes. bytes)).is.inside;
+  copies = λ clean. subst (λ (x : Tables). AreCopies c.args.blocks.now.cache.now x.blocks) (sym (c.in-Ok.ensures.decides clean).1) (c.requires.may.copies (c.in-Ok.ensures.works.within.follows.clean clean));
+  positive = c.requires.may.positive;
+  going = c.requires.may.going;
+}
 
 pub store_part-requires-clause-held : goal.store_part-requires-clause-held
 store_part-requires-clause-held g c clean =
@@ -40,26 +38,29 @@ store_part-requires-clause-replaced g c clean =
     c.in-Ok.ensures.replaced clean ∙ ap (replaced_body c.args.part.now.upload.tenant.now c.args.found.number c.args.part.now.number) (sym (c.in-Ok.ensures.decides clean).1)
 
 -- the checksum comes before what the head decides
-pub returns-in-Err-Refused-clause-operates : goal.returns-in-Err-Refused-clause-operates
-returns-in-Err-Refused-clause-operates g c =
+pub returns-in-Err-clause-operates : goal.returns-in-Err-clause-operates
+returns-in-Err-clause-operates g c =
     let part = c.args.part.now in
     let old = tables_at (state g.S.Store c.args.connection.now) in
-    let refusal = c.in-Err-Refused.refusal in
     let (given, gives, by) = c.refused_checked.ensures.came in
-    operates_refusing _ part.upload.tenant.now (λ bytes. upload_part part.at part.upload.bucket.now part.upload.key.now part.upload.upload part.number bytes (option_copied c.args.given)) _ _ _ _ _ _ given gives _ c.refused_checked.result by
-    (λ r count is clean.
-    let clean_old = c.in-Err-Refused.ensures.within.follows.clean clean in
-    let d = rw c.in-Err-Refused.field-0-is at c.in-Err-Refused.ensures.decides clean in (
-      part_unfit old (c.requires.working clean_old).sound part.upload.tenant.now part.upload.bucket.now part.upload.key.now part.upload.upload c.args.found.mode c.args.found.number part.number part.at given (option_copied c.args.given) (c.requires.found clean_old) refusal
-          (subst (λ n. part_entry_in (part_bytes_in part.upload.tenant.now c.args.found.number part.number old) n (view old part.upload.tenant.now) ≡ Err refusal) (c.due.ensures ∙ count) d.0) r (rw c.in-Err-Refused.field-0-is at is),
+    operates_refusing _ part.upload.tenant.now (part_step part (option_copied c.args.given)) _ _ _ _ _ _ given gives _ c.refused_checked.result by
+    (λ r count it clean.
+    let (refusal, is, told) = it in
+    let clean_old = c.in-Err.ensures.works.within.follows.clean clean in
+    let d = rw is at c.in-Err.ensures.decides clean in (
+      part_unfit old (c.requires.may.working clean_old).sound part.upload.tenant.now part.upload.bucket.now part.upload.key.now part.upload.upload c.args.found.mode c.args.found.number part.number part.at given (option_copied c.args.given) (c.requires.found clean_old) refusal
+          (subst (λ n. part_entry_in (part_bytes_in part.upload.tenant.now c.args.found.number part.number old) n (view old part.upload.tenant.now) ≡ Err refusal) (c.due.ensures ∙ count) d.0) r told,
       d.1,
     ))
 
-pub returns-in-Err-Refused-clause-working : goal.returns-in-Err-Refused-clause-working
-returns-in-Err-Refused-clause-working g c = unless_spoilt {X = String Global} {E = Refusal} (Err c.refused_checked.result) _ (λ clean. (rw c.in-Err-Refused.field-0-is at c.in-Err-Refused.ensures.working) clean g.D.Digester.digest_of)
-
-pub returns-in-Err-Failed-clause-operates : goal.returns-in-Err-Failed-clause-operates
-returns-in-Err-Failed-clause-operates g c = record { given = []; gives = gives_none _ c.requires.going; decided = going_may _ c.requires.going; carries = λ _. tt; says = tt }
+pub returns-in-Err-clause-works : goal.returns-in-Err-clause-works
+returns-in-Err-clause-works g c =
+    let (given, gives, by) = c.refused_checked.ensures.came in
+    record {
+      within = c.in-Err.ensures.works.within;
+      opens = refusing_unless PartEntry (String Global) c.in-Err.error c.refused_checked.result _ _ _ _ (λ r it. (it.0, it.1)) by (λ h. h) c.in-Err.ensures.works.opens;
+      working = refusing_unless PartEntry (String Global) c.in-Err.error c.refused_checked.result _ _ _ _ (λ r it. (it.0, it.1)) by (λ h clean. h clean g.D.Digester.digest_of) c.in-Err.ensures.works.working;
+    }
 
 pub returns-in_err-outcome-in-Ok-clause-operates : goal.returns-in_err-outcome-in-Ok-clause-operates
 returns-in_err-outcome-in-Ok-clause-operates g c =
@@ -67,21 +68,25 @@ returns-in_err-outcome-in-Ok-clause-operates g c =
     let it = c.in_err-outcome-in-Ok.ensures.stores in
     rw (p.1, p.2) (operates_failed _ _ _ _ _ _ _ _ _ it.bytes it.gives _ it.received)
 
-pub returns-in_ok-outcome-in-Ok-clause-working : goal.returns-in_ok-outcome-in-Ok-clause-working
-returns-in_ok-outcome-in-Ok-clause-working g c =
-    let part = c.args.part.now in
-    let old = tables_at (state g.S.Store c.args.connection.now) in
-    let mid = tables_at (state g.S.Store c.part_entry.new.connection) in
-    let new = tables_at (state g.S.Store c.store_part.new.connection) in
-    let Did : Octets → Type 0 = λ bytes. (1 ≤ part.number) × (part.number ≤ 10000) × (IsStateClean (state g.S.Store c.store_part.new.connection)
-    → Holds (part_written g.D.Digester.digest_of c.args.block_size part.upload.tenant.now c.args.found.number part.number bytes part.at c.in-Ok.taken.entry c.in-Ok.taken.replaced mid) (standing (state g.S.Store c.store_part.new.connection))) in
-    unless_outcome _ _ (option_copied c.args.given) Did c.in_ok-outcome-in-Ok.outcome _ (λ bytes count right did clean.
-    let clean_mid = c.in_ok-outcome-in-Ok.ensures.within.follows.clean clean in
-    let clean_old = c.in-Ok.ensures.within.follows.clean clean_mid in
-    let it = part_puts old mid new (host_at (state g.S.Store c.args.connection.now) (c.requires.working clean_old)) part.upload.tenant.now part.upload.bucket.now part.upload.key.now part.upload.upload c.args.found.mode c.args.found.number (c.requires.found clean_old)
-    part.number part.at bytes (option_copied c.args.given) did.0 did.1 (c.requires.early clean_old) right g.D.Digester.digest_of c.args.block_size c.requires.positive (c.requires.digests clean_old) c.in-Ok.taken.entry c.due.result c.in-Ok.taken.replaced
-    (c.in-Ok.ensures.decides clean_mid).0 (c.due.ensures ∙ count) (c.in-Ok.ensures.decides clean_mid).1 (c.in-Ok.ensures.replaced clean_mid) (did.2 clean).is in
-    record { is = record { inside = (did.2 clean).within; sound = it.sound; bodies = it.bodies }; limits = it.limits; digests = λ _. it.digests }) c.in_ok-outcome-in-Ok.ensures.stores
+pub returns-in_ok-outcome-in-Ok-clause-works : goal.returns-in_ok-outcome-in-Ok-clause-works
+returns-in_ok-outcome-in-Ok-clause-works g c = record {
+  within = search rules;
+  opens = search rules;
+  working =
+      let part = c.args.part.now in
+      let old = tables_at (state g.S.Store c.args.connection.now) in
+      let mid = tables_at (state g.S.Store c.part_entry.new.connection) in
+      let new = tables_at (state g.S.Store c.store_part.new.connection) in
+      let Did : Octets → Type 0 = λ bytes. (1 ≤ part.number) × (part.number ≤ 10000) × (IsStateClean (state g.S.Store c.store_part.new.connection)
+      → Holds (part_written g.D.Digester.digest_of c.args.blocks.now.size part.upload.tenant.now c.args.found.number part.number bytes part.at c.in-Ok.taken.entry c.in-Ok.taken.replaced mid) (standing (state g.S.Store c.store_part.new.connection))) in
+      unless_outcome _ _ (option_copied c.args.given) Did c.in_ok-outcome-in-Ok.outcome _ (λ bytes count right did clean.
+      let clean_mid = c.in_ok-outcome-in-Ok.ensures.within.follows.clean clean in
+      let clean_old = c.in-Ok.ensures.works.within.follows.clean clean_mid in
+      let it = part_puts old mid new (host_at (state g.S.Store c.args.connection.now) (c.requires.may.working clean_old)) part.upload.tenant.now part.upload.bucket.now part.upload.key.now part.upload.upload c.args.found.mode c.args.found.number (c.requires.found clean_old)
+      part.number part.at bytes (option_copied c.args.given) did.0 did.1 (c.requires.may.early clean_old) right g.D.Digester.digest_of c.args.blocks.now.size c.requires.may.positive (c.requires.may.digests clean_old) c.in-Ok.taken.entry c.due.result c.in-Ok.taken.replaced
+      (c.in-Ok.ensures.decides clean_mid).0 (c.due.ensures ∙ count) (c.in-Ok.ensures.decides clean_mid).1 (c.in-Ok.ensures.replaced clean_mid) (did.2 clean).is in
+      record { is = record { inside = (did.2 clean).within; sound = it.sound; bodies = it.bodies }; limits = it.limits; digests = λ _. it.digests }) c.in_ok-outcome-in-Ok.ensures.stores;
+}
 
 pub returns-in_ok-outcome-in-Ok-clause-operates : goal.returns-in_ok-outcome-in-Ok-clause-operates
 returns-in_ok-outcome-in-Ok-clause-operates g c =
@@ -90,16 +95,16 @@ returns-in_ok-outcome-in-Ok-clause-operates g c =
     let mid = tables_at (state g.S.Store c.part_entry.new.connection) in
     let new = tables_at (state g.S.Store c.store_part.new.connection) in
     let Did : Octets → Type 0 = λ bytes. (1 ≤ part.number) × (part.number ≤ 10000) × (IsStateClean (state g.S.Store c.store_part.new.connection)
-    → Holds (part_written g.D.Digester.digest_of c.args.block_size part.upload.tenant.now c.args.found.number part.number bytes part.at c.in-Ok.taken.entry c.in-Ok.taken.replaced mid) (standing (state g.S.Store c.store_part.new.connection))) in
+    → Holds (part_written g.D.Digester.digest_of c.args.blocks.now.size part.upload.tenant.now c.args.found.number part.number bytes part.at c.in-Ok.taken.entry c.in-Ok.taken.replaced mid) (standing (state g.S.Store c.store_part.new.connection))) in
     let step = λ (bytes : Octets). upload_part part.at part.upload.bucket.now part.upload.key.now part.upload.upload part.number bytes (option_copied c.args.given) in
-    operates_outcome (λ checksum. PartStored (string_bytes checksum)) part.upload.tenant.now step (λ bytes. StoresPieces g.D.Digester.digest_of c.args.block_size bytes old new) _ _ _ old new (option_copied c.args.given) Did c.in_ok-outcome-in-Ok.outcome
+    operates_outcome (λ checksum. PartStored (string_bytes checksum)) part.upload.tenant.now step (λ bytes. StoresPieces g.D.Digester.digest_of c.args.blocks.now.size bytes old new) _ _ _ old new (option_copied c.args.given) Did c.in_ok-outcome-in-Ok.outcome
     (λ bytes text count right told did clean.
     let clean_mid = c.in_ok-outcome-in-Ok.ensures.within.follows.clean clean in
-    let clean_old = c.in-Ok.ensures.within.follows.clean clean_mid in
-    let it = part_puts old mid new (host_at (state g.S.Store c.args.connection.now) (c.requires.working clean_old)) part.upload.tenant.now part.upload.bucket.now part.upload.key.now part.upload.upload c.args.found.mode c.args.found.number (c.requires.found clean_old)
-    part.number part.at bytes (option_copied c.args.given) did.0 did.1 (c.requires.early clean_old) right g.D.Digester.digest_of c.args.block_size c.requires.positive (c.requires.digests clean_old) c.in-Ok.taken.entry c.due.result c.in-Ok.taken.replaced
+    let clean_old = c.in-Ok.ensures.works.within.follows.clean clean_mid in
+    let it = part_puts old mid new (host_at (state g.S.Store c.args.connection.now) (c.requires.may.working clean_old)) part.upload.tenant.now part.upload.bucket.now part.upload.key.now part.upload.upload c.args.found.mode c.args.found.number (c.requires.found clean_old)
+    part.number part.at bytes (option_copied c.args.given) did.0 did.1 (c.requires.may.early clean_old) right g.D.Digester.digest_of c.args.blocks.now.size c.requires.may.positive (c.requires.may.digests clean_old) c.in-Ok.taken.entry c.due.result c.in-Ok.taken.replaced
     (c.in-Ok.ensures.decides clean_mid).0 (c.due.ensures ∙ count) (c.in-Ok.ensures.decides clean_mid).1 (c.in-Ok.ensures.replaced clean_mid) (did.2 clean).is in
     (subst (λ (l : Octets). GivesStep part.upload.tenant.now (step bytes) (PartStored l) old new) (sym told) it.step, it.blocks))
     (λ bytes wrong clean. part_bad part.upload.bucket.now part.upload.key.now part.upload.upload c.args.found.mode c.args.found.number part.number part.at bytes (option_copied c.args.given) (view old part.upload.tenant.now)
-    (c.requires.found (c.in-Ok.ensures.within.follows.clean (c.in_ok-outcome-in-Ok.ensures.within.follows.clean clean))) wrong)
+    (c.requires.found (c.in-Ok.ensures.works.within.follows.clean (c.in_ok-outcome-in-Ok.ensures.within.follows.clean clean))) wrong)
     c.in_ok-outcome-in-Ok.ensures.stores

@@ -1,4 +1,4 @@
-use Rattle.std.proofs.Common.{refl, sym, ap, ◌∙◌}
+use Rattle.std.proofs.Common.{ap, ◌∙◌}
 use Rattle.std.proofs.lemmas.Result.{err_from_is_err_and}
 use Rattle.sqlite.specs.Held.{state}
 use Rattle.bh_http.proofs.BodyLemmas.{gives_none, going_may}
@@ -11,7 +11,7 @@ use Rattle.bh_uploads.proofs.parts.store_part.Goals as goal
 pub returns-in_err-require_number-clause-stores : goal.returns-in_err-require_number-clause-stores
 returns-in_err-require_number-clause-stores g c =
     let p = err_from_is_err_and c.from_residual.result c.from_residual.ensures.1 in
-    received_err c.from_residual.result _ _ _ _ p.0 p.1 _ (gives_none _ c.requires.going) (going_may _ c.requires.going)
+    received_err c.from_residual.result _ _ _ _ p.0 p.1 _ (gives_none _ c.requires.may.going) (going_may _ c.requires.may.going)
 
 pub returns-in_err-outcome-clause-stores : goal.returns-in_err-outcome-clause-stores
 returns-in_err-outcome-clause-stores g c =
@@ -23,7 +23,7 @@ pub add_part-requires-clause-held : goal.add_part-requires-clause-held
 add_part-requires-clause-held g c clean =
     let part = c.args.part.now in
     let (whole, right, told, becomes) = (rw c.in-Done.is at c.in_ok-outcome.ensures.received).received in
-    ap (part_bytes_in part.upload.tenant.now c.args.upload part.number) (rw c.as_str.ensures.value at (becomes clean).is) ∙ part_size_again part.upload.tenant.now c.args.upload part.number _ _ (tables_at (state g.S.Store c.args.connection.now))
+    ap (part_bytes_in part.upload.tenant.now c.args.upload part.number) (rw c.as_str-name.ensures.value at (becomes clean).is) ∙ part_size_again part.upload.tenant.now c.args.upload part.number _ _ (tables_at (state g.S.Store c.args.connection.now))
     ∙ c.requires.held (c.in_ok-outcome.ensures.within.follows.clean clean)
 
 pub returns-in-Spoilt-clause-stores : goal.returns-in-Spoilt-clause-stores
@@ -60,15 +60,15 @@ returns-in_ok-drop_old-in-Done-clause-stores g c =
           c.in_ok-require_number.ensures.least,
           c.in_ok-require_number.ensures.most,
           λ clean.
-              let clean_row = c.in_ok-drop_old-in-Done.ensures.within.follows.clean clean in
-              let clean_body = c.in_ok-add_part-in-Done.ensures.within.follows.clean clean_row in
+              let clean_row = c.in_ok-drop_old-in-Done.ensures.changes.within.follows.clean clean in
+              let clean_body = c.in_ok-add_part-in-Done.ensures.changes.within.follows.clean clean_row in
               let clean_old = c.in_ok-outcome.ensures.within.follows.clean clean_body in
-              let last = c.in_ok-drop_old-in-Done.ensures.holds clean in
+              let last = c.in_ok-drop_old-in-Done.ensures.changes.holds clean in
               record {
                 within = last.within;
-                is = part_chain g.D.Digester.digest_of c.args.block_size part.upload.tenant.now c.args.upload part.number it.bytes part.at c.args.taken.entry c.args.taken.replaced
+                is = part_chain g.D.Digester.digest_of c.args.blocks.now.size part.upload.tenant.now c.args.upload part.number it.bytes part.at c.args.taken.entry c.args.taken.replaced
                     (tables_at (state g.S.Store c.args.connection.now)) (tables_at (state g.S.Store c.store_checked.new.connection)) (tables_at (state g.S.Store c.add_part.new.connection)) (tables_at (state g.S.Store c.drop_old.new.connection))
-                    (c.requires.replaced clean_old) (rw c.as_str.ensures.value at (becomes clean_body).is) (rw (count, c.as_str-in-Done.ensures.value, told) at (c.in_ok-add_part-in-Done.ensures.holds clean_row).is) last.is;
+                    (c.requires.replaced clean_old) (rw c.as_str-name.ensures.value at (becomes clean_body).is) (rw (count, c.as_str.ensures.value, told) at (c.in_ok-add_part-in-Done.ensures.changes.holds clean_row).is) last.is;
               },
         ),
       );

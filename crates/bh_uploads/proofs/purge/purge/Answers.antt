@@ -1,12 +1,9 @@
-use Rattle.std.proofs.Common.{◌≡◌, ℕ, map, flat_map, ap, ◌∙◌}
+use Rattle.std.proofs.Common.{rules, ap, ◌∙◌}
 use Rattle.sqlite.specs.Held.{state}
-use Rattle.bh_tables.specs.Typed.{Tables}
-use Rattle.bh_schema.specs.Rows.{rule_in, listed_rules}
 use Rattle.bh_schema.specs.Working.{tables_at}
-use Rattle.bh_view.specs.View.{is_stale_in, without_uploads, rows_purged}
-use Rattle.bh_objects.proofs.Working.{same_tables, asked_working, works_on, works_then}
-use Rattle.bh_schema.proofs.Storing.{within_then}
-use Rattle.bh_uploads.specs.Purging.{stale_by, is_among}
+use Rattle.bh_view.specs.View.{without_uploads, rows_purged}
+use Rattle.bh_objects.proofs.Working.{same_tables, asked_working, works_then}
+use Rattle.bh_uploads.specs.Purging.{is_among}
 use Rattle.bh_uploads.proofs.Staleness.{numbers_are}
 use Rattle.bh_uploads.proofs.purge.purge.Goals as goal
 
@@ -15,15 +12,19 @@ stale_uploads-requires g c = record { inside = λ clean. (c.requires clean).insi
 
 pub remove_uploads-requires : goal.remove_uploads-requires
 remove_uploads-requires g c clean =
-    (asked_working (state g.S.Store c.args.connection.now) (state g.S.Store c.stale_uploads.new.connection) c.requires c.in_ok-stale.ensures.within c.in_ok-stale.ensures.same clean (λ bytes. bytes)).is
+    (asked_working (state g.S.Store c.args.connection.now) (state g.S.Store c.stale_uploads.new.connection) c.requires c.in_ok-stale.ensures.reads.within c.in_ok-stale.ensures.reads.same clean (λ bytes. bytes)).is
 
-pub returns-clause-working : goal.returns-clause-working
-returns-clause-working g c clean =
-    let old = state g.S.Store c.args.connection.now in
-    let mid = state g.S.Store c.stale_uploads.new.connection in
-    let new = state g.S.Store c.remove_uploads.new.connection in
-    let clean_mid = c.in_ok-remove_uploads.ensures.within.follows.clean clean in
-    works_then old mid new (asked_working old mid c.requires c.in_ok-stale.ensures.within c.in_ok-stale.ensures.same clean_mid) (c.in_ok-remove_uploads.ensures.working clean)
+pub returns-clause-works : goal.returns-clause-works
+returns-clause-works g c = record {
+  within = search rules;
+  opens = search rules;
+  working = λ clean.
+      let old = state g.S.Store c.args.connection.now in
+      let mid = state g.S.Store c.stale_uploads.new.connection in
+      let new = state g.S.Store c.remove_uploads.new.connection in
+      let clean_mid = c.in_ok-remove_uploads.ensures.works.within.follows.clean clean in
+      works_then old mid new (asked_working old mid c.requires c.in_ok-stale.ensures.reads.within c.in_ok-stale.ensures.reads.same clean_mid) (c.in_ok-remove_uploads.ensures.works.working clean);
+}
 
 pub returns-clause-purges : goal.returns-clause-purges
 unfolding rows_purged
@@ -31,9 +32,9 @@ returns-clause-purges g c clean =
     let old = state g.S.Store c.args.connection.now in
     let mid = state g.S.Store c.stale_uploads.new.connection in
     let t = c.args.tenant.now in
-    let clean_mid = c.in_ok-remove_uploads.ensures.within.follows.clean clean in
-    let clean_old = c.in_ok-stale.ensures.within.follows.clean clean_mid in
-    let same = same_tables old mid (c.in_ok-stale.ensures.same clean_mid.intact) in
+    let clean_mid = c.in_ok-remove_uploads.ensures.works.within.follows.clean clean in
+    let clean_old = c.in_ok-stale.ensures.reads.within.follows.clean clean_mid in
+    let same = same_tables old mid (c.in_ok-stale.ensures.reads.same clean_mid.intact) in
     let tables = tables_at old in
     (rw c.deref.ensures.value at (c.in_ok-remove_uploads.ensures.removed clean))
     ∙ ap (without_uploads t (is_among c.in_ok-stale.stale.numbers.items)) same

@@ -1,4 +1,4 @@
-use Rattle.std.proofs.Common.{◌≡◌, ap, ◌∙◌, subst}
+use Rattle.std.proofs.Common.{rules, ap, ◌∙◌, subst}
 use Rattle.sqlite.specs.Held.{state}
 use Rattle.bh_tables.specs.Typed.{Tables}
 use Rattle.bh_schema.specs.Layer.{IsStateClean}
@@ -16,17 +16,21 @@ gone g c clean =
     let old = state g.S.Store c.args.connection.now in
     let t = c.args.tenant.now in
     let n = c.in_ok-number.number in
-    let clean_list = c.in_ok-close_upload.ensures.within.follows.clean clean in
-    let clean_old = c.in_ok-list.ensures.within.follows.clean clean_list in
-    let same = same_tables old (state g.S.Store c.upload_parts.new.connection) (c.in_ok-list.ensures.same clean_list.intact) in
+    let clean_list = c.in_ok-close_upload.ensures.changes.within.follows.clean clean in
+    let clean_old = c.in_ok-list.ensures.reads.within.follows.clean clean_list in
+    let same = same_tables old (state g.S.Store c.upload_parts.new.connection) (c.in_ok-list.ensures.reads.same clean_list.intact) in
     subst (λ k. IsGone t (λ m. same_number m k) (tables_at old) (tables_at (state g.S.Store c.close_upload.new.connection))) c.in_ok-number.ensures.same
-    (closed_gone (tables_at old) (tables_at (state g.S.Store c.close_upload.new.connection)) (host_at old (c.requires clean_old)) t n c.in_ok-list.list.bodies.items (c.in_ok-list.ensures.bodies clean_list)
-    ((rw c.deref.ensures.value at (c.in_ok-close_upload.ensures.holds clean).is) ∙ ap (upload_closed t n c.in_ok-list.list.bodies.items) same))
+    (closed_gone (tables_at old) (tables_at (state g.S.Store c.close_upload.new.connection)) (host_at old (c.requires clean_old)) t n c.in_ok-list.list.bodies.items ((c.in_ok-list.ensures.parts clean_list).bodies)
+    ((rw c.deref.ensures.value at (c.in_ok-close_upload.ensures.changes.holds clean).is) ∙ ap (upload_closed t n c.in_ok-list.list.bodies.items) same))
 
-pub returns-clause-working : goal.returns-clause-working
-returns-clause-working g c clean =
-    let it = gone g c clean in
-    still_working (state g.S.Store c.args.connection.now) (state g.S.Store c.close_upload.new.connection) (c.in_ok-close_upload.ensures.holds clean).within it.sound it.bodies it.limits (ap (λ (x : Tables). x.blocks) it.is)
+pub returns-clause-works : goal.returns-clause-works
+returns-clause-works g c = record {
+  within = search rules;
+  opens = search rules;
+  working = λ clean.
+      let it = gone g c clean in
+      still_working (state g.S.Store c.args.connection.now) (state g.S.Store c.close_upload.new.connection) (c.in_ok-close_upload.ensures.changes.holds clean).within it.sound it.bodies it.limits (ap (λ (x : Tables). x.blocks) it.is);
+}
 
 pub returns-clause-removed : goal.returns-clause-removed
 returns-clause-removed g c clean = (gone g c clean).is
@@ -36,4 +40,4 @@ upload_parts-requires-clause-inside g c clean = (c.requires clean).inside
 
 pub close_upload-requires-clause-inside : goal.close_upload-requires-clause-inside
 close_upload-requires-clause-inside g c clean =
-    (asked_working (state g.S.Store c.args.connection.now) (state g.S.Store c.upload_parts.new.connection) c.requires c.in_ok-list.ensures.within c.in_ok-list.ensures.same clean (λ bytes. bytes)).is.inside
+    (asked_working (state g.S.Store c.args.connection.now) (state g.S.Store c.upload_parts.new.connection) c.requires c.in_ok-list.ensures.reads.within c.in_ok-list.ensures.reads.same clean (λ bytes. bytes)).is.inside

@@ -1,8 +1,7 @@
-use Rattle.std.proofs.Common.{arith, ◌≡◌, ◌+◌, drop, refl, sym, ap, ◌∙◌}
+use Rattle.std.proofs.Common.{arith, ◌+◌, drop, sym, ap, ◌∙◌}
 use Rattle.sqlite.specs.Held.{state}
 use Rattle.bh_schema.specs.Working.{tables_at}
 use Rattle.bh_schema.proofs.Storing.{within_then}
-use Rattle.bh_view.specs.Grouped.{same_number}
 use Rattle.bh_view.specs.View.{without_uploads}
 use Rattle.bh_objects.proofs.Working.{works_on, works_then}
 use Rattle.bh_uploads.specs.Purging.{is_among}
@@ -20,14 +19,14 @@ loop-number-preserved g c =
     let rest = drop (c.loop-number.number-index + 1) c.args.numbers.now in
     let t = c.args.tenant.now in
     record {
-      within = within_then _ _ _ inv.opens inv.within step.within;
-      opens = λ intact up. step.opens intact (inv.opens (step.within.follows.intact intact) up);
-      working = λ clean. works_then (state g.S.Store c.args.connection.now) (state g.S.Store c.loop-number.connection) (state g.S.Store c.remove_upload.new.connection) (inv.working (step.within.follows.clean clean)) (step.working clean);
+      within = within_then _ _ _ inv.opens inv.within step.works.within;
+      opens = λ intact up. step.works.opens intact (inv.opens (step.works.within.follows.intact intact) up);
+      working = λ clean. works_then (state g.S.Store c.args.connection.now) (state g.S.Store c.loop-number.connection) (state g.S.Store c.remove_upload.new.connection) (inv.working (step.works.within.follows.clean clean)) (step.works.working clean);
       left = λ clean.
           ap (without_uploads t (is_among rest)) (step.removed clean)
           ∙ gone_twice t _ (is_among rest) (tables_at (state g.S.Store c.loop-number.connection))
           ∙ ap (λ l. without_uploads t (is_among l) (tables_at (state g.S.Store c.loop-number.connection))) (sym (drop_next c.args.numbers.now c.loop-number.number-index c.loop-number-test.true))
-          ∙ inv.left (step.within.follows.clean clean);
+          ∙ inv.left (step.works.within.follows.clean clean);
     }
 
 pub returns-clause-removed : goal.returns-clause-removed

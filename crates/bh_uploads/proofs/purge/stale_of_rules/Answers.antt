@@ -1,4 +1,4 @@
-use Rattle.std.proofs.Common.{arith, ◌≡◌, ◌++◌, ◌+◌, ℕ, List, drop, flat_map, sym, ap, ◌∙◌, subst}
+use Rattle.std.proofs.Common.{rules, arith, ◌≡◌, ◌++◌, ◌+◌, ℕ, List, drop, flat_map, sym, ap, ◌∙◌, subst}
 use Rattle.sqlite.specs.Held.{state}
 use Rattle.bh_tables.specs.Typed.{tables_in}
 use Rattle.bh_schema.specs.Layer.{Standing, IsInside}
@@ -13,11 +13,19 @@ use Rattle.bh_uploads.proofs.purge.stale_of_rules.Goals as goal
 pub rule_stale-requires : goal.rule_stale-requires
 rule_stale-requires g c = record { inside = λ clean. subst IsInside (sym (c.loop-rule.invariant.same clean.intact)) (c.requires.inside (c.loop-rule.invariant.within.follows.clean clean)) }
 
-pub returns-in_err-found-clause-within : goal.returns-in_err-found-clause-within
-returns-in_err-found-clause-within g c = within_then _ _ _ c.loop-rule.invariant.opens c.loop-rule.invariant.within c.in_err-found.ensures.within
+pub returns-in_err-found-clause-reads : goal.returns-in_err-found-clause-reads
+returns-in_err-found-clause-reads g c = record {
+  within = within_then _ _ _ c.loop-rule.invariant.opens c.loop-rule.invariant.within c.in_err-found.ensures.reads.within;
+  opens = search rules;
+  same = search rules;
+}
 
-pub returns-in_err-append-clause-within : goal.returns-in_err-append-clause-within
-returns-in_err-append-clause-within g c = within_then _ _ _ c.loop-rule.invariant.opens c.loop-rule.invariant.within c.in_ok-found.ensures.within
+pub returns-in_err-append-clause-reads : goal.returns-in_err-append-clause-reads
+returns-in_err-append-clause-reads g c = record {
+  within = within_then _ _ _ c.loop-rule.invariant.opens c.loop-rule.invariant.within c.in_ok-found.ensures.reads.within;
+  opens = search rules;
+  same = search rules;
+}
 
 pub loop-rule-preserved : goal.loop-rule-preserved
 loop-rule-preserved g c =
@@ -27,11 +35,11 @@ loop-rule-preserved g c =
     let f : BucketRule → List ℕ = λ rule. stale_by c.args.tenant.now c.args.at old.uploads (rule_seen rule) in
     let i = c.loop-rule.rule-index in
     record {
-      within = within_then _ _ _ inv.opens inv.within step.within;
-      opens = λ intact up. step.opens intact (inv.opens (step.within.follows.intact intact) up);
-      same = λ intact. step.same intact ∙ inv.same (step.within.follows.intact intact);
+      within = within_then _ _ _ inv.opens inv.within step.reads.within;
+      opens = λ intact up. step.reads.opens intact (inv.opens (step.reads.within.follows.intact intact) up);
+      same = λ intact. step.reads.same intact ∙ inv.same (step.reads.within.follows.intact intact);
       numbers = λ clean.
-          let was = step.within.follows.clean clean in
+          let was = step.reads.within.follows.clean clean in
           let same : tables_at (state g.S.Store c.loop-rule.connection) ≡ old = ap (λ (x : Standing). tables_in x.now) (inv.same was.intact) in
           ap (λ l. l ++ flat_map f (drop (i + 1) c.args.rules.now)) c.in_ok-append.ensures
           ∙ flat_next f c.args.rules.now i _ _ c.loop-rule.numbers.items c.in_ok-found.found.items _ c.loop-rule-test.true c.rule-item.is

@@ -1,4 +1,4 @@
-use Rattle.std.proofs.Common.{ℕ, sym, ap, ◌∙◌}
+use Rattle.std.proofs.Common.{rules, ℕ, sym, ap, ◌∙◌}
 use Rattle.std.proofs.lemmas.Result.{err_from_is_err_and}
 use Rattle.sqlite.specs.Held.{state}
 use Rattle.bh_types.specs.Outcomes.{◌>>=◌}
@@ -18,25 +18,33 @@ pub tenant_account-requires : goal.tenant_account-requires
 tenant_account-requires g c clean =
     let first = state g.S.Store c.args.connection.now in
     let second = state g.S.Store c.replaced_part.new.connection in
-    works_on first second (asked_working first second c.requires.working c.in_ok-replaced.ensures.within c.in_ok-replaced.ensures.same clean)
+    works_on first second (asked_working first second c.requires.working c.in_ok-replaced.ensures.reads.within c.in_ok-replaced.ensures.reads.same clean)
 
-pub returns-in_err-account-clause-working : goal.returns-in_err-account-clause-working
-returns-in_err-account-clause-working g c =
-    let first = state g.S.Store c.args.connection.now in
-    let second = state g.S.Store c.replaced_part.new.connection in
-    let p = err_from_is_err_and c.from_residual-in_err-account.result c.from_residual-in_err-account.ensures.1 in
-    rw (p.1, p.2) (unless_then _ _ c.in_err-account.field-0.0
-    (λ still clean. works_then first second (state g.S.Store c.tenant_account.new.connection)
-    (asked_working first second c.requires.working c.in_ok-replaced.ensures.within c.in_ok-replaced.ensures.same (c.in_err-account.ensures.within.follows.clean clean)) (still clean)) c.in_err-account.ensures.working)
+pub returns-in_err-account-clause-works : goal.returns-in_err-account-clause-works
+returns-in_err-account-clause-works g c = record {
+  within = search rules;
+  opens = search rules;
+  working =
+      let first = state g.S.Store c.args.connection.now in
+      let second = state g.S.Store c.replaced_part.new.connection in
+      let p = err_from_is_err_and c.from_residual-in_err-account.result c.from_residual-in_err-account.ensures.1 in
+      rw (p.1, p.2) (unless_then _ _ c.in_err-account.field-0.0
+      (λ still clean. works_then first second (state g.S.Store c.tenant_account.new.connection)
+      (asked_working first second c.requires.working c.in_ok-replaced.ensures.reads.within c.in_ok-replaced.ensures.reads.same (c.in_err-account.ensures.works.within.follows.clean clean)) (still clean)) c.in_err-account.ensures.works.working);
+}
 
-pub returns-in_err-require_room-clause-working : goal.returns-in_err-require_room-clause-working
-returns-in_err-require_room-clause-working g c = any_unless c.from_residual-in_err-require_room.result _ (λ clean.
-    let first = state g.S.Store c.args.connection.now in
-    let second = state g.S.Store c.replaced_part.new.connection in
-    let third = state g.S.Store c.tenant_account.new.connection in
-    works_then first second third
-    (asked_working first second c.requires.working c.in_ok-replaced.ensures.within c.in_ok-replaced.ensures.same (c.in_ok-account.ensures.within.follows.clean clean))
-    (c.in_ok-account.ensures.working clean))
+pub returns-in_err-require_room-clause-works : goal.returns-in_err-require_room-clause-works
+returns-in_err-require_room-clause-works g c = record {
+  within = search rules;
+  opens = search rules;
+  working = any_unless c.from_residual-in_err-require_room.result _ (λ clean.
+      let first = state g.S.Store c.args.connection.now in
+      let second = state g.S.Store c.replaced_part.new.connection in
+      let third = state g.S.Store c.tenant_account.new.connection in
+      works_then first second third
+      (asked_working first second c.requires.working c.in_ok-replaced.ensures.reads.within c.in_ok-replaced.ensures.reads.same (c.in_ok-account.ensures.works.within.follows.clean clean))
+      (c.in_ok-account.ensures.works.working clean));
+}
 
 pub returns-in_err-require_room-clause-decides : goal.returns-in_err-require_room-clause-decides
 returns-in_err-require_room-clause-decides g c clean =
@@ -48,9 +56,9 @@ returns-in_err-require_room-clause-decides g c clean =
     let used = c.in_ok-account.account.used in
     let counters = c.in_ok-account.account.counters in
     let bytes = c.in_ok-replaced.replaced.bytes in
-    let clean_second = c.in_ok-account.ensures.within.follows.clean clean in
-    let clean_first = c.in_ok-replaced.ensures.within.follows.clean clean_second in
-    let one = same_tables first second (c.in_ok-replaced.ensures.same clean_second.intact) in
+    let clean_second = c.in_ok-account.ensures.works.within.follows.clean clean in
+    let clean_first = c.in_ok-replaced.ensures.reads.within.follows.clean clean_second in
+    let one = same_tables first second (c.in_ok-replaced.ensures.reads.same clean_second.intact) in
     let two = c.in_ok-account.ensures.decides clean in
     let its = c.in_ok-account.ensures.used clean ∙ ap (bytes_in t) one in
     let whole =
@@ -60,14 +68,18 @@ returns-in_err-require_room-clause-decides g c clean =
     rw (p.1, p.2) (room_failed (λ (taken : PartEntry). taken.entry) (λ (x : Tables). part_entry_in (part_bytes_in t c.args.upload c.args.number old) c.args.added (view x t))
     (room_under quota used bytes c.args.added) (λ _. given counters.entry) old (tables_at (state g.S.Store c.tenant_account.new.connection)) c.in_err-require_room.field-0.0 (two.1 ∙ one) whole c.in_err-require_room.ensures)
 
-pub returns-in_err-entry-clause-working : goal.returns-in_err-entry-clause-working
-returns-in_err-entry-clause-working g c = any_unless c.from_residual-in_err-entry.result _ (λ clean.
-    let first = state g.S.Store c.args.connection.now in
-    let second = state g.S.Store c.replaced_part.new.connection in
-    let third = state g.S.Store c.tenant_account.new.connection in
-    works_then first second third
-    (asked_working first second c.requires.working c.in_ok-replaced.ensures.within c.in_ok-replaced.ensures.same (c.in_ok-account.ensures.within.follows.clean clean))
-    (c.in_ok-account.ensures.working clean))
+pub returns-in_err-entry-clause-works : goal.returns-in_err-entry-clause-works
+returns-in_err-entry-clause-works g c = record {
+  within = search rules;
+  opens = search rules;
+  working = any_unless c.from_residual-in_err-entry.result _ (λ clean.
+      let first = state g.S.Store c.args.connection.now in
+      let second = state g.S.Store c.replaced_part.new.connection in
+      let third = state g.S.Store c.tenant_account.new.connection in
+      works_then first second third
+      (asked_working first second c.requires.working c.in_ok-replaced.ensures.reads.within c.in_ok-replaced.ensures.reads.same (c.in_ok-account.ensures.works.within.follows.clean clean))
+      (c.in_ok-account.ensures.works.working clean));
+}
 
 pub returns-in_err-entry-clause-decides : goal.returns-in_err-entry-clause-decides
 returns-in_err-entry-clause-decides g c clean =
@@ -79,9 +91,9 @@ returns-in_err-entry-clause-decides g c clean =
     let used = c.in_ok-account.account.used in
     let counters = c.in_ok-account.account.counters in
     let bytes = c.in_ok-replaced.replaced.bytes in
-    let clean_second = c.in_ok-account.ensures.within.follows.clean clean in
-    let clean_first = c.in_ok-replaced.ensures.within.follows.clean clean_second in
-    let one = same_tables first second (c.in_ok-replaced.ensures.same clean_second.intact) in
+    let clean_second = c.in_ok-account.ensures.works.within.follows.clean clean in
+    let clean_first = c.in_ok-replaced.ensures.reads.within.follows.clean clean_second in
+    let one = same_tables first second (c.in_ok-replaced.ensures.reads.same clean_second.intact) in
     let two = c.in_ok-account.ensures.decides clean in
     let its = c.in_ok-account.ensures.used clean ∙ ap (bytes_in t) one in
     let whole =
@@ -93,14 +105,18 @@ returns-in_err-entry-clause-decides g c clean =
       two.1 ∙ one,
     )
 
-pub returns-clause-working : goal.returns-clause-working
-returns-clause-working g c clean =
-    let first = state g.S.Store c.args.connection.now in
-    let second = state g.S.Store c.replaced_part.new.connection in
-    let third = state g.S.Store c.tenant_account.new.connection in
-    works_then first second third
-    (asked_working first second c.requires.working c.in_ok-replaced.ensures.within c.in_ok-replaced.ensures.same (c.in_ok-account.ensures.within.follows.clean clean))
-    (c.in_ok-account.ensures.working clean)
+pub returns-clause-works : goal.returns-clause-works
+returns-clause-works g c = record {
+  within = search rules;
+  opens = search rules;
+  working = λ clean.
+      let first = state g.S.Store c.args.connection.now in
+      let second = state g.S.Store c.replaced_part.new.connection in
+      let third = state g.S.Store c.tenant_account.new.connection in
+      works_then first second third
+      (asked_working first second c.requires.working c.in_ok-replaced.ensures.reads.within c.in_ok-replaced.ensures.reads.same (c.in_ok-account.ensures.works.within.follows.clean clean))
+      (c.in_ok-account.ensures.works.working clean);
+}
 
 pub returns-clause-decides : goal.returns-clause-decides
 returns-clause-decides g c clean =
@@ -112,9 +128,9 @@ returns-clause-decides g c clean =
     let used = c.in_ok-account.account.used in
     let counters = c.in_ok-account.account.counters in
     let bytes = c.in_ok-replaced.replaced.bytes in
-    let clean_second = c.in_ok-account.ensures.within.follows.clean clean in
-    let clean_first = c.in_ok-replaced.ensures.within.follows.clean clean_second in
-    let one = same_tables first second (c.in_ok-replaced.ensures.same clean_second.intact) in
+    let clean_second = c.in_ok-account.ensures.works.within.follows.clean clean in
+    let clean_first = c.in_ok-replaced.ensures.reads.within.follows.clean clean_second in
+    let one = same_tables first second (c.in_ok-replaced.ensures.reads.same clean_second.intact) in
     let two = c.in_ok-account.ensures.decides clean in
     let its = c.in_ok-account.ensures.used clean ∙ ap (bytes_in t) one in
     let whole =
@@ -125,4 +141,4 @@ returns-clause-decides g c clean =
     )
 
 pub returns-clause-bytes : goal.returns-clause-bytes
-returns-clause-bytes g c clean = sym (c.in_ok-replaced.ensures.bytes (c.in_ok-account.ensures.within.follows.clean clean))
+returns-clause-bytes g c clean = sym (c.in_ok-replaced.ensures.bytes (c.in_ok-account.ensures.works.within.follows.clean clean))

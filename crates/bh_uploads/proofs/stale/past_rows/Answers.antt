@@ -26,9 +26,7 @@ returns g c =
     let new = state g.S.Store c.query_all.new.self in
     let q = question old new (λ v. v.items) _ c.query_all.result c.requires.inside (past_shown old new (ready old c.requires.inside) c.args.moment c.args.limit (λ v. v.items) c.query_all.result h.ok h.err h.survives) in
     record {
-      within = q.within;
-      opens = q.opens;
-      same = q.same;
+      reads = record { within = q.within; opens = q.opens; same = q.same };
       rows = as_past (λ v. v.items) (IsStateClean new) (tables_at old) c.args.moment c.args.limit c.query_all.result q.rows;
       trouble = q.trouble;
     }

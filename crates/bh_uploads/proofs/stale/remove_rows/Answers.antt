@@ -1,4 +1,4 @@
-use Rattle.std.proofs.Common.{arith, ◌≡◌, ◌+◌, drop, refl, sym, ap, ◌∙◌}
+use Rattle.std.proofs.Common.{arith, ◌+◌, drop, sym, ap, ◌∙◌}
 use Rattle.sqlite.specs.Held.{state}
 use Rattle.bh_tables.specs.Due.{shown_owner}
 use Rattle.bh_schema.specs.Working.{tables_at}
@@ -17,14 +17,14 @@ loop-row-preserved g c =
     let step = c.in_ok-remove_row.ensures in
     let loop = tables_at (state g.S.Store c.loop-row.connection) in
     record {
-      within = within_then _ _ _ inv.opens inv.within step.within;
-      opens = λ intact up. step.opens intact (inv.opens (step.within.follows.intact intact) up);
-      working = λ clean. works_then (state g.S.Store c.args.connection.now) (state g.S.Store c.loop-row.connection) (state g.S.Store c.remove_row.new.connection) (inv.working (step.within.follows.clean clean)) (step.working clean);
+      within = within_then _ _ _ inv.opens inv.within step.works.within;
+      opens = λ intact up. step.works.opens intact (inv.opens (step.works.within.follows.intact intact) up);
+      working = λ clean. works_then (state g.S.Store c.args.connection.now) (state g.S.Store c.loop-row.connection) (state g.S.Store c.remove_row.new.connection) (inv.working (step.works.within.follows.clean clean)) (step.works.working clean);
       left = λ clean us is.
           let it = at_row shown_owner us c.args.rows.now c.loop-row.row-index c.row-item.result c.loop-row-test.true c.row-item.is is in
           ap (without_each (drop (c.loop-row.row-index + 1) us)) (step.removed it.0 it.1 clean)
           ∙ ap (λ l. without_each l loop) (sym it.2)
-          ∙ inv.left (step.within.follows.clean clean) us is;
+          ∙ inv.left (step.works.within.follows.clean clean) us is;
     }
 
 pub returns-clause-removed : goal.returns-clause-removed

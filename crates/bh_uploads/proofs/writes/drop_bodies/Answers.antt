@@ -1,4 +1,4 @@
-use Rattle.std.proofs.Common.{arith, ◌≡◌, ◌+◌, drop, sym, ap, ◌∙◌}
+use Rattle.std.proofs.Common.{rules, arith, ◌+◌, drop, sym, ap, ◌∙◌}
 use Rattle.sqlite.specs.Held.{state}
 use Rattle.bh_schema.specs.Working.{tables_at}
 use Rattle.bh_schema.proofs.Storing.{within_then}
@@ -14,19 +14,25 @@ loop-body-preserved g c =
     let inv = c.loop-body.invariant in
     let step = c.in_ok-drop_entry_body.ensures in
     record {
-      within = within_then _ _ _ inv.opens inv.within step.within;
-      opens = λ intact up. step.opens intact (inv.opens (step.within.follows.intact intact) up);
-      inside = λ clean. (step.holds clean).within;
+      within = within_then _ _ _ inv.opens inv.within step.changes.within;
+      opens = λ intact up. step.changes.opens intact (inv.opens (step.changes.within.follows.intact intact) up);
+      inside = λ clean. (step.changes.holds clean).within;
       left = λ clean.
-          ap (without_bodies c.args.tenant.now (drop (c.loop-body.body-index + 1) c.args.bodies.now)) (step.holds clean).is
+          ap (without_bodies c.args.tenant.now (drop (c.loop-body.body-index + 1) c.args.bodies.now)) (step.changes.holds clean).is
           ∙ ap (λ l. without_bodies c.args.tenant.now l (tables_at (state g.S.Store c.loop-body.connection))) (sym (drop_next c.args.bodies.now c.loop-body.body-index c.loop-body-test.true))
-          ∙ inv.left (step.within.follows.clean clean);
+          ∙ inv.left (step.changes.within.follows.clean clean);
     }
 
-pub returns-clause-holds : goal.returns-clause-holds
-returns-clause-holds g c clean =
-    let inv = c.loop-body.invariant in
-    record {
-      within = inv.inside clean;
-      is = ap (λ l. without_bodies c.args.tenant.now l (tables_at (state g.S.Store c.loop-body.connection))) (sym (drop_last c.args.bodies.now c.loop-body.body-index (λ low. let end = c.loop-body-test.false in omega (arith, low, end)))) ∙ inv.left clean;
-    }
+pub returns : goal.returns
+returns g c = record {
+  changes = record {
+    within = search rules;
+    opens = search rules;
+    holds = λ clean.
+        let inv = c.loop-body.invariant in
+        record {
+          within = inv.inside clean;
+          is = ap (λ l. without_bodies c.args.tenant.now l (tables_at (state g.S.Store c.loop-body.connection))) (sym (drop_last c.args.bodies.now c.loop-body.body-index (λ low. let end = c.loop-body-test.false in omega (arith, low, end)))) ∙ inv.left clean;
+        };
+  };
+}

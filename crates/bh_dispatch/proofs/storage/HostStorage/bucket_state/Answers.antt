@@ -26,14 +26,14 @@ returns g c =
     let h = c.bucket_state.ensures in
     let shown = λ (state : BucketState). state in
     let answer = λ (x : Tables). mode_in c.args.bucket.now (view x c.args.tenant.now) in
-    let began = λ (clean : AreBoth new). c.requires (parts (h.within.follows.clean (both clean))) in
+    let began = λ (clean : AreBoth new). c.requires (parts (h.works.within.follows.clean (both clean))) in
     let same = decided_same shown (answer (tables_at old)) (tables_at old) (tables_at new) _ c.bucket_state.result h.decides in
-    let works = same_works digest k l old new began c.bucket_state.result h.working same in
-    let agrees = same_agrees digest k l old new began c.bucket_state.result (λ clean. agrees_seen k l old (c.requires (parts (h.within.follows.clean clean)))) same in
+    let works = same_works digest k l old new began c.bucket_state.result h.works.working same in
+    let agrees = same_agrees digest k l old new began c.bucket_state.result (λ clean. agrees_seen k l old (c.requires (parts (h.works.within.follows.clean clean)))) same in
     record {
       goes_on = record {
-        within = stored g.S.Store c.args.self.now _ (keeps g.S.Store c.args.self.now.host _ refl h.within);
-        opens = opened (IsIntact new) (IsOpen old) (IsOpen new) c.bucket_state.result h.opens;
+        within = stored g.S.Store c.args.self.now _ (keeps g.S.Store c.args.self.now.host _ refl h.works.within);
+        opens = opened (IsIntact new) (IsOpen old) (IsOpen new) c.bucket_state.result h.works.opens;
         working = works_beside digest k k l old new began c.bucket_state.result works agrees;
       };
       decides = said_beside digest k l old new began (λ r a b. Decides shown (answer a) a b r) (λ trouble a b. tt) c.bucket_state.result works agrees h.decides;

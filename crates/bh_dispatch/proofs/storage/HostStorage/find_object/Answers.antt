@@ -30,13 +30,13 @@ returns g c =
     let old = state g.S.Store c.args.self.now.host.connection in
     let new = state g.S.Store c.find_object.new.connection in
     let h = c.find_object.ensures in
-    let began = λ (clean : AreBoth new). c.requires.working (parts (h.within.follows.clean (both clean))) in
-    let works = same_works digest k l old new began c.find_object.result h.working h.same in
-    let agrees = same_agrees digest k l old new began c.find_object.result (λ clean. agrees_seen k l old (c.requires.working (parts (h.within.follows.clean clean)))) h.same in
+    let began = λ (clean : AreBoth new). c.requires.working (parts (h.works.within.follows.clean (both clean))) in
+    let works = same_works digest k l old new began c.find_object.result h.works.working h.same in
+    let agrees = same_agrees digest k l old new began c.find_object.result (λ clean. agrees_seen k l old (c.requires.working (parts (h.works.within.follows.clean clean)))) h.same in
     record {
       goes_on = record {
-        within = stored g.S.Store c.args.self.now _ (keeps g.S.Store c.args.self.now.host _ refl h.within);
-        opens = opened (IsIntact new) (IsOpen old) (IsOpen new) c.find_object.result h.opens;
+        within = stored g.S.Store c.args.self.now _ (keeps g.S.Store c.args.self.now.host _ refl h.works.within);
+        opens = opened (IsIntact new) (IsOpen old) (IsOpen new) c.find_object.result h.works.opens;
         working = works_beside digest k k l old new began c.find_object.result works agrees;
       };
       same = said_done digest k l old new began (λ a b. b ≡ a) c.find_object.result works agrees h.same;

@@ -22,17 +22,17 @@ returns g c =
     let old = state g.S.Store c.args.self.now.host.connection in
     let new = state g.S.Store c.purge.new.connection in
     let h = c.purge.ensures in
-    let began = λ (clean : AreBoth new). c.requires (parts (h.within.follows.clean (both clean))) in
+    let began = λ (clean : AreBoth new). c.requires (parts (h.works.within.follows.clean (both clean))) in
     let was : AreBoth new → IsAtWork digest l old = λ clean. under _ _ (began clean) in
-    let works = works_after digest l old new c.purge.result t c.args.at was h.working h.purges in
-    let agrees = kept_ok k c.purge.result old new (λ clean. agrees_seen k l old (c.requires (parts (h.within.follows.clean clean))))
+    let works = works_after digest l old new c.purge.result t c.args.at was h.works.working h.purges in
+    let agrees = kept_ok k c.purge.result old new (λ clean. agrees_seen k l old (c.requires (parts (h.works.within.follows.clean clean))))
     (on_ok_weaker c.purge.result (λ is clean. ap (λ (x : Tables). x.blocks) (is clean) ∙ purged_blocks t c.args.at (tables_at old)) h.purges) in
     record {
       goes_on = record {
-        within = stored g.S.Store c.args.self.now _ (keeps g.S.Store c.args.self.now.host _ refl h.within);
-        opens = opened_ok (IsIntact new) (IsOpen old) (IsOpen new) c.purge.result h.opens;
+        within = stored g.S.Store c.args.self.now _ (keeps g.S.Store c.args.self.now.host _ refl h.works.within);
+        opens = opened_ok (IsIntact new) (IsOpen old) (IsOpen new) c.purge.result h.works.opens;
         working = works_after_all digest k k l old new began c.purge.result works agrees;
       };
-      purges = shown_beside digest k k l old new began c.purge.result works agrees (Purges t c.args.at) (purged_after digest l old new c.purge.result t c.args.at was h.working h.purges);
+      purges = shown_beside digest k k l old new began c.purge.result works agrees (Purges t c.args.at) (purged_after digest l old new c.purge.result t c.args.at was h.works.working h.purges);
       ruled = ruled_beside digest k l old new began t c.purge.result h.ruled;
     }

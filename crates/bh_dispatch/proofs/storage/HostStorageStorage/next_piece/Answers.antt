@@ -19,11 +19,11 @@ returns g c =
     let old = state g.S.Store c.args.self.now.host.connection in
     let new = state g.S.Store c.next_piece.new.connection in
     let h = c.next_piece.ensures in
-    let was = λ (clean : AreBoth new). parts (h.within.follows.clean (both clean)) in
+    let was = λ (clean : AreBoth new). parts (h.reads.within.follows.clean (both clean)) in
     record {
-      within = stored g.S.Store c.args.self.now _ (keeps g.S.Store c.args.self.now.host _ refl h.within);
-      opens = opened_ok (IsIntact new) (IsOpen old) (IsOpen new) c.next_piece.result h.opens;
-      same = seen_after k l old new c.requires was c.next_piece.new.cache c.next_piece.result h.same h.agrees;
+      within = stored g.S.Store c.args.self.now _ (keeps g.S.Store c.args.self.now.host _ refl h.reads.within);
+      opens = opened_ok (IsIntact new) (IsOpen old) (IsOpen new) c.next_piece.result h.reads.opens;
+      same = seen_after k l old new c.requires was c.next_piece.new.cache c.next_piece.result h.reads.same h.agrees;
       gives = gives_seen k l old new c.requires was c.next_piece.result c.args.plan.now c.next_piece.new.plan h.gives;
       ends = ends_seen k l old new c.requires was c.next_piece.result c.args.plan.now h.ends;
       some = h.some;

@@ -1,4 +1,4 @@
-use Rattle.std.proofs.Common.{◌≡◌, Bool, true, false, cond, List, ℕ, Option, Some, None, option_map, option_and_then, option_copied, sym, ap, ◌∙◌, subst, get_or, ◌<◌}
+use Rattle.std.proofs.Common.{◌≡◌, Bool, true, false, cond, List, ℕ, Some, None, option_map, option_and_then, option_copied, sym, ap, ◌∙◌, subst, ◌<◌}
 use Rattle.std.specs.List.{AllByRecursion}
 use Rattle.matchit.specs.Seek.{first}
 use Rattle.bh_operation.specs.Targets.{kind_at, text_of}

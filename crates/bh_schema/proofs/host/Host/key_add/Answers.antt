@@ -20,7 +20,7 @@ pub find_key-requires : goal.find_key-requires
 find_key-requires g c = record { inside = λ clean. inside_of _ (state g.S.Store c.args.self.now.connection) (under _ _ (c.requires (parts clean))) }
 
 pub returns-in_err-or_trouble-clause-within : goal.returns-in_err-or_trouble-clause-within
-returns-in_err-or_trouble-clause-within g c = keeps g.S.Store c.args.self.now _ refl c.find_key.ensures.within
+returns-in_err-or_trouble-clause-within g c = keeps g.S.Store c.args.self.now _ refl c.find_key.ensures.reads.within
 
 pub returns-in-NoTenant : goal.returns-in-NoTenant
 returns-in-NoTenant g c =
@@ -28,11 +28,11 @@ returns-in-NoTenant g c =
     let n = c.args.name.now in
     let old = state g.S.Store c.args.self.now.connection in
     let new = state g.S.Store c.find_key.new.connection in
-    let w = c.find_key.ensures.within in
-    let same = on_ok _ c.in_ok-or_trouble.ensures.ok c.find_key.ensures.same in
+    let w = c.find_key.ensures.reads.within in
+    let same = on_ok _ c.in_ok-or_trouble.ensures.ok c.find_key.ensures.reads.same in
     let words : (is_tenant_name t && is_key_name n && is_secret c.args.secret.now) ≡ true = search rules in
     record {
-      opens = λ up intact. (on_ok _ c.in_ok-or_trouble.ensures.ok c.find_key.ensures.opens intact).1;
+      opens = λ up intact. (on_ok _ c.in_ok-or_trouble.ensures.ok c.find_key.ensures.reads.opens intact).1;
       working = asked_works _ _ old new c.requires w same;
       within = keeps g.S.Store c.args.self.now _ refl w;
       settings = (refl, w.follows.limit);
@@ -47,11 +47,11 @@ returns-in-Key g c =
     let n = c.args.name.now in
     let old = state g.S.Store c.args.self.now.connection in
     let new = state g.S.Store c.find_key.new.connection in
-    let w = c.find_key.ensures.within in
-    let same = on_ok _ c.in_ok-or_trouble.ensures.ok c.find_key.ensures.same in
+    let w = c.find_key.ensures.reads.within in
+    let same = on_ok _ c.in_ok-or_trouble.ensures.ok c.find_key.ensures.reads.same in
     let words : (is_tenant_name t && is_key_name n && is_secret c.args.secret.now) ≡ true = search rules in
     record {
-      opens = λ up intact. (on_ok _ c.in_ok-or_trouble.ensures.ok c.find_key.ensures.opens intact).1;
+      opens = λ up intact. (on_ok _ c.in_ok-or_trouble.ensures.ok c.find_key.ensures.reads.opens intact).1;
       working = asked_works _ _ old new c.requires w same;
       within = keeps g.S.Store c.args.self.now _ refl w;
       settings = (refl, w.follows.limit);
@@ -62,7 +62,7 @@ returns-in-Key g c =
 
 pub insert_key-requires : goal.insert_key-requires
 insert_key-requires g c =
-    record { inside = asked_inside _ _ (state g.S.Store c.args.self.now.connection) (state g.S.Store c.find_key.new.connection) c.requires c.find_key.ensures.within (on_ok _ c.in_ok-or_trouble.ensures.ok c.find_key.ensures.same) }
+    record { inside = asked_inside _ _ (state g.S.Store c.args.self.now.connection) (state g.S.Store c.find_key.new.connection) c.requires c.find_key.ensures.reads.within (on_ok _ c.in_ok-or_trouble.ensures.ok c.find_key.ensures.reads.same) }
 
 pub returns-in_err-or_trouble-2-clause-within : goal.returns-in_err-or_trouble-2-clause-within
 returns-in_err-or_trouble-2-clause-within g c =
@@ -70,7 +70,7 @@ returns-in_err-or_trouble-2-clause-within g c =
     let mid = state g.S.Store c.find_key.new.connection in
     let new = state g.S.Store c.insert_key.new.connection in
     keeps g.S.Store c.args.self.now _ refl
-    (wrote_within old mid new c.find_key.ensures.within (on_ok _ c.in_ok-or_trouble.ensures.ok c.find_key.ensures.opens) c.insert_key.ensures.within)
+    (wrote_within old mid new c.find_key.ensures.reads.within (on_ok _ c.in_ok-or_trouble.ensures.ok c.find_key.ensures.reads.opens) c.insert_key.ensures.writes.within)
 
 pub returns : goal.returns
 returns g c =
@@ -79,13 +79,13 @@ returns g c =
     let old = state g.S.Store c.args.self.now.connection in
     let mid = state g.S.Store c.find_key.new.connection in
     let new = state g.S.Store c.insert_key.new.connection in
-    let w = c.find_key.ensures.within in
+    let w = c.find_key.ensures.reads.within in
     let words : (is_tenant_name t && is_key_name n && is_secret c.args.secret.now) ≡ true = search rules in
-    let same = on_ok _ c.in_ok-or_trouble.ensures.ok c.find_key.ensures.same in
+    let same = on_ok _ c.in_ok-or_trouble.ensures.ok c.find_key.ensures.reads.same in
     let holds = on_ok _ c.in_ok-or_trouble-2.ensures.ok c.insert_key.ensures.holds in
-    let opens = on_ok _ c.in_ok-or_trouble.ensures.ok c.find_key.ensures.opens in
-    let before = wrote_before old mid new w opens c.insert_key.ensures.within in
-    let was = λ (clean : AreBoth new). c.requires (wrote_first old mid new w opens c.insert_key.ensures.within clean) in
+    let opens = on_ok _ c.in_ok-or_trouble.ensures.ok c.find_key.ensures.reads.opens in
+    let before = wrote_before old mid new w opens c.insert_key.ensures.writes.within in
+    let was = λ (clean : AreBoth new). c.requires (wrote_first old mid new w opens c.insert_key.ensures.writes.within clean) in
     let works = λ (clean : AreBoth new). under _ _ (was clean) in
     let known : AreBoth new → (s : Machine) × (view (seen_in c.args.self.now.limits old).now t ≡ Some s) × (get s.keys n ≡ None) = λ clean.
     no_key n _ (sym c.in-NoKey.is ∙ known_seen _ old t n _ (works clean) (IfOk-at_ok _ c.in_ok-or_trouble.ensures.ok c.find_key.ensures.known (both (before clean)))) in
@@ -96,12 +96,12 @@ returns g c =
     key_becomes _ old new t n c.args.secret.now it.0 (works clean) it.1 it.2 words (held clean) in
     let after = λ (clean : AreBoth new). plain_after _ _ (was clean) (seen_in c.args.self.now.limits new) (ap (λ (x : List VersionRow × List PartRow × List RefRow × List BlockRow). x.3) (bodied_still _ old new change (λ x. refl) (works clean) (held clean))) in
     record {
-      opens = wrote_opens old mid new w opens c.insert_key.ensures.within (on_ok _ c.in_ok-or_trouble-2.ensures.ok c.insert_key.ensures.opens);
+      opens = wrote_opens old mid new w opens c.insert_key.ensures.writes.within (on_ok _ c.in_ok-or_trouble-2.ensures.ok c.insert_key.ensures.writes.opens);
       working = λ clean. rw (after clean) (works_of _ t _ old new change (λ x. refl) (works clean) (held clean) (becomes clean)
           (bound_of _ t (add_key t n c.args.secret.now) Done _ old (used_stays_bounded.add_key_bounded t n c.args.secret.now) (adds_key t n c.args.secret.now _ words (known clean).0 (known clean).1 (known clean).2) (works clean)));
       within = keeps g.S.Store c.args.self.now _ refl
-          (wrote_within old mid new w (on_ok _ c.in_ok-or_trouble.ensures.ok c.find_key.ensures.opens) c.insert_key.ensures.within);
-      settings = (refl, c.insert_key.ensures.within.follows.limit ∙ w.follows.limit);
+          (wrote_within old mid new w (on_ok _ c.in_ok-or_trouble.ensures.ok c.find_key.ensures.reads.opens) c.insert_key.ensures.writes.within);
+      settings = (refl, c.insert_key.ensures.writes.within.follows.limit ∙ w.follows.limit);
       carries = λ clean. let it = known clean in rw (plain _ _ (was clean), after clean) (gives_of t (add_key t n c.args.secret.now) Done _ (seen_in c.args.self.now.limits old).now (seen_in c.args.self.now.limits new).now (adds_key t n c.args.secret.now _ words it.0 it.1 it.2) (becomes clean)
           (bodied_still _ old new change (λ x. refl) (works clean) (held clean)));
     }

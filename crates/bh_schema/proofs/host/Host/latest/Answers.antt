@@ -11,6 +11,6 @@ find_latest-requires g c = record { inside = λ clean. inside_of _ (state g.S.St
 pub returns-in-Some-clause-latest : goal.returns-in-Some-clause-latest
 returns-in-Some-clause-latest g c clean =
     let read : c.in-Some.latest ≡ unwrap_or c.in_ok-found.found 0 = search rules in
-    let working = c.requires (parts (c.find_latest.ensures.within.follows.clean (both clean))) in
+    let working = c.requires (parts (c.find_latest.ensures.reads.within.follows.clean (both clean))) in
     rw (plain _ _ working) (latest_read _ (state g.S.Store c.args.self.now.connection) c.in_ok-found.found c.in-Some.latest
     (under _ _ working) (IfOk-at_ok _ c.in_ok-found.ensures.ok c.find_latest.ensures.found (both clean)) read)

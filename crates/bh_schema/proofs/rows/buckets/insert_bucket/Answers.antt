@@ -16,8 +16,8 @@ state_low Suspended = refl
 
 pub returns : goal.returns
 returns g c =
-    let h = rw (c.to_sql.ensures, c.to_sql-2.ensures, c.number.ensures, c.number-3.ensures, c.number-2.ensures) at c.execute.ensures in
+    let h = rw (c.to_sql.ensures, c.to_sql-2.ensures, c.number.ensures, c.number-3.ensures, c.number-2.ensures) at c.write.ensures in
     let old = state g.S.Store c.args.connection.now in
-    let w = inserted buckets old (state g.S.Store c.execute.new.self) c.requires.inside (λ t l. refl) c.execute.result c.schema-schema.ensures.live (bucket_inserted c.args.tenant.now c.args.bucket.now c.args.created (state_number c.args.state))
+    let w = inserted buckets old (state g.S.Store c.write.new.connection) c.requires.inside (λ t l. refl) c.write.result h.live (bucket_inserted c.args.tenant.now c.args.bucket.now c.args.created (state_number c.args.state))
     (λ clean is. new_bucket (standing old).now (c.requires.inside clean).host _ (state_low c.args.state) is.free is.owned) h.runs h.survives in
-    record { within = w.within; opens = w.opens; holds = w.holds; trouble = w.trouble }
+    record { writes = record { within = w.within; opens = w.opens; inside = w.inside }; holds = w.holds; trouble = w.trouble }

@@ -8,7 +8,7 @@ use Rattle.bh_schema.proofs.rows.host.insert_host.Goals as goal
 
 pub returns : goal.returns
 returns g c =
-    let h = rw (c.number.ensures, c.number-2.ensures, c.number-3.ensures) at c.execute.ensures in
+    let h = rw (c.number.ensures, c.number-2.ensures, c.number-3.ensures) at c.write.ensures in
     let old = state g.S.Store c.args.connection.now in
-    let w = inserted host old (state g.S.Store c.execute.new.self) c.requires.inside (λ t l. refl) c.execute.result c.schema-schema.ensures.live (host_inserted c.args.min_part c.args.max_body c.args.digest) (λ clean none. first_host (standing old).now _ (none clean)) h.runs h.survives in
-    record { within = w.within; opens = w.opens; holds = w.holds; trouble = w.trouble }
+    let w = inserted host old (state g.S.Store c.write.new.connection) c.requires.inside (λ t l. refl) c.write.result h.live (host_inserted c.args.min_part c.args.max_body c.args.digest) (λ clean none. first_host (standing old).now _ (none clean)) h.runs h.survives in
+    record { writes = record { within = w.within; opens = w.opens; inside = w.inside }; holds = w.holds; trouble = w.trouble }

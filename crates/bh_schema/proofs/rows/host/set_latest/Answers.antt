@@ -7,7 +7,7 @@ use Rattle.bh_schema.proofs.rows.host.set_latest.Goals as goal
 
 pub returns : goal.returns
 returns g c =
-    let h = rw c.number.ensures at c.execute.ensures in
+    let h = rw c.number.ensures at c.write.ensures in
     let old = state g.S.Store c.args.connection.now in
-    let w = updated host old (state g.S.Store c.execute.new.self) c.requires.inside (λ t l. refl) c.execute.result c.schema-schema.ensures.live (latest_set c.args.stamp) (latest_may c.args.stamp) h.runs h.survives in
-    record { within = w.within; opens = w.opens; holds = w.holds; trouble = w.trouble }
+    let w = updated host old (state g.S.Store c.write.new.connection) c.requires.inside (λ t l. refl) c.write.result h.live (latest_set c.args.stamp) (latest_may c.args.stamp) h.runs h.survives in
+    record { writes = record { within = w.within; opens = w.opens; inside = w.inside }; holds = w.holds; trouble = w.trouble }

@@ -1,19 +1,34 @@
-use Rattle.std.proofs.Common.{ap, ◌∙◌}
-use Rattle.sqlite.specs.Held.{state}
-use Rattle.bh_rows.specs.Means.{is_trouble}
-use Rattle.bh_tables.specs.Shown.{is_key, shown_secret}
-use Rattle.bh_schema.specs.Layer.{IsStateClean}
+use Rattle.bh_rows.proofs.ScanLemmas.{first_row}
+use Rattle.bh_schema.proofs.Asking.{failed_if, no_value, first}
+use Rattle.bh_schema.proofs.Calls.{selected}
+use Rattle.bh_schema.specs.Connections.{tables}
 use Rattle.bh_schema.specs.Rows.{secret_in}
-use Rattle.bh_schema.proofs.Finds.{none_read, row_of, row_read, handed_on}
+use Rattle.bh_tables.proofs.KeyTexts.{secret_shown}
+use Rattle.bh_tables.proofs.Places.{keys}
+use Rattle.bh_tables.specs.Shown.{is_key, shown_secret}
+use Rattle.sqlite.specs.Held.{state}
+use Rattle.sqlite.specs.Order.{Row}
+use Rattle.sqlite.specs.declared.types.Value.TheVariants.{Text}
+use Rattle.std.proofs.Common.{List, [], ◌∷◌, Ok, Err, ap, find, slice_get, ◌∙◌}
+use Rattle.std.specs.Str.{IsUtf8}
+use Rattle.std.specs.String.{string_bytes}
 use Rattle.bh_schema.proofs.rows.keys.find_secret.Goals as goal
 
-pub returns-in-None-clause-found : goal.returns-in-None-clause-found
-returns-in-None-clause-found g c clean = none_read shown_secret (is_key c.args.tenant.now c.args.name.now) _ _ (c.deref.ensures.value ∙ c.in_ok-rows.ensures.rows clean) secret_in c.in-None.ensures.value
+pub returns-in_err-rows : goal.returns-in_err-rows
+returns-in_err-rows g c =
+    let h = rw (c.to_sql.ensures, c.to_sql-2.ensures) at c.in_err-rows.ensures in
+    let old = c.args.connection.now in
+    let new = c.query_all.new.self in
+    let q = selected keys (state g.S.Store old) (state g.S.Store new) c.requires.inside (λ (l : List Row). l) (Err c.in_err-rows.field-0.0) (secret_shown c.args.tenant.now c.args.name.now) h.ok h.err h.survives in
+    let f = failed_if g.S.Store old new c.from_residual.result _ c.from_residual.ensures _ q in
+    record { reads = f.reads; found = no_value _ _ _ c.from_residual.ensures; trouble = f.trouble }
 
-pub returns-clause-found : goal.returns-clause-found
-returns-clause-found g c clean = row_read shown_secret (is_key c.args.tenant.now c.args.name.now) _ _ (c.deref.ensures.value ∙ c.in_ok-rows.ensures.rows clean) secret_in _ c.in-Some.row.now c.in-Some.ensures.value c.in_ok-read_secret-in-Some.ensures.read
-
-pub returns-in_err-read_secret-in-Some-clause-trouble : goal.returns-in_err-read_secret-in-Some-clause-trouble
-returns-in_err-read_secret-in-Some-clause-trouble g c = handed_on _ _ _ c.from_residual-in_err-read_secret-in-Some.ensures (λ e same intact unlimited text.
-    let clean : IsStateClean (state g.S.Store c.secret_rows.new.connection) = record { intact = intact; is_open = (c.in_ok-rows.ensures.opens intact).1 } in
-    ap is_trouble same ∙ row_of shown_secret (is_key c.args.tenant.now c.args.name.now) _ _ (c.deref.ensures.value ∙ c.in_ok-rows.ensures.rows clean) c.in-Some.row.now c.in-Some.ensures.value (λ t found row. c.in_err-read_secret-in-Some.ensures.trouble t row (text t found)))
+pub returns : goal.returns
+returns g c =
+    let h = rw (c.to_sql.ensures, c.to_sql-2.ensures) at c.in_ok-rows.ensures in
+    let old = c.args.connection.now in
+    let new = c.query_all.new.self in
+    let q = selected keys (state g.S.Store old) (state g.S.Store new) c.requires.inside (λ (l : List Row). l) (Ok c.in_ok-rows.rows.items) (secret_shown c.args.tenant.now c.args.name.now) h.ok h.err h.survives in
+    let a = first g.S.Store old new c.first_of.result _ (λ s. Text s ∷ []) secret_in string_bytes (λ s. s) IsUtf8 c.first_of.ensures.found c.first_of.ensures.trouble q (find (is_key c.args.tenant.now c.args.name.now) (tables g.S.Store old).keys)
+    (λ clean. ap (λ l. slice_get l 0) c.deref.ensures.value ∙ first_row shown_secret (is_key c.args.tenant.now c.args.name.now) _ _ (q.rows clean)) in
+    record { reads = a.reads; found = a.found; trouble = a.trouble }

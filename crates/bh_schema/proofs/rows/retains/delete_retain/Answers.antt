@@ -7,7 +7,7 @@ use Rattle.bh_schema.proofs.rows.retains.delete_retain.Goals as goal
 
 pub returns : goal.returns
 returns g c =
-    let h = rw (c.to_sql.ensures, c.number.ensures) at c.execute.ensures in
+    let h = rw (c.to_sql.ensures, c.number.ensures) at c.write.ensures in
     let old = state g.S.Store c.args.connection.now in
-    let w = deleted retains old (state g.S.Store c.execute.new.self) c.requires.inside (λ t l. refl) c.execute.result c.schema-schema.ensures.live (retain_deleted c.args.tenant.now c.args.seq) retains_unused h.runs h.survives in
-    record { within = w.within; opens = w.opens; holds = w.holds; trouble = w.trouble }
+    let w = deleted retains old (state g.S.Store c.write.new.connection) c.requires.inside (λ t l. refl) c.write.result h.live (retain_deleted c.args.tenant.now c.args.seq) retains_unused h.runs h.survives in
+    record { writes = record { within = w.within; opens = w.opens; inside = w.inside }; holds = w.holds; trouble = w.trouble }

@@ -1,19 +1,32 @@
-use Rattle.std.proofs.Common.{ap, ◌∙◌}
-use Rattle.sqlite.specs.Held.{state}
-use Rattle.bh_rows.specs.Means.{is_trouble}
-use Rattle.bh_tables.specs.Shown.{is_retain, shown_until}
-use Rattle.bh_schema.specs.Layer.{IsStateClean}
+use Rattle.bh_rows.proofs.ScanLemmas.{first_row}
+use Rattle.bh_schema.proofs.Asking.{failed, no_value, plain}
+use Rattle.bh_schema.proofs.Calls.{selected}
+use Rattle.bh_schema.specs.Connections.{tables}
 use Rattle.bh_schema.specs.Rows.{until_in}
-use Rattle.bh_schema.proofs.Finds.{none_read, row_of, row_read, handed_on}
+use Rattle.bh_tables.proofs.Places.{retains}
+use Rattle.bh_tables.proofs.RetainTexts.{until_shown}
+use Rattle.bh_tables.specs.Shown.{is_retain, shown_until}
+use Rattle.bh_tables.specs.Typed.{number}
+use Rattle.sqlite.specs.Held.{state}
+use Rattle.sqlite.specs.Order.{Row}
+use Rattle.std.proofs.Common.{List, [], ◌∷◌, Ok, Err, ap, find, slice_get, ◌∙◌}
 use Rattle.bh_schema.proofs.rows.retains.find_until.Goals as goal
 
-pub returns-in-None-clause-found : goal.returns-in-None-clause-found
-returns-in-None-clause-found g c clean = none_read shown_until (is_retain c.args.tenant.now c.args.seq) _ _ (c.deref.ensures.value ∙ c.in_ok-rows.ensures.rows clean) until_in c.in-None.ensures.value
+pub returns-in_err-rows : goal.returns-in_err-rows
+returns-in_err-rows g c =
+    let h = rw (c.to_sql.ensures, c.number.ensures) at c.in_err-rows.ensures in
+    let old = c.args.connection.now in
+    let new = c.query_all.new.self in
+    let q = selected retains (state g.S.Store old) (state g.S.Store new) c.requires.inside (λ (l : List Row). l) (Err c.in_err-rows.field-0.0) (until_shown c.args.tenant.now c.args.seq) h.ok h.err h.survives in
+    let f = failed g.S.Store old new c.from_residual.result _ c.from_residual.ensures q in
+    record { reads = f.reads; found = no_value _ _ _ c.from_residual.ensures; trouble = f.trouble }
 
-pub returns-clause-found : goal.returns-clause-found
-returns-clause-found g c clean = row_read shown_until (is_retain c.args.tenant.now c.args.seq) _ _ (c.deref.ensures.value ∙ c.in_ok-rows.ensures.rows clean) until_in _ c.in-Some.row.now c.in-Some.ensures.value c.in_ok-read_until-in-Some.ensures.read
-
-pub returns-in_err-read_until-in-Some-clause-trouble : goal.returns-in_err-read_until-in-Some-clause-trouble
-returns-in_err-read_until-in-Some-clause-trouble g c = handed_on _ _ _ c.from_residual-in_err-read_until-in-Some.ensures (λ e same intact unlimited.
-    let clean : IsStateClean (state g.S.Store c.until_rows.new.connection) = record { intact = intact; is_open = (c.in_ok-rows.ensures.opens intact).1 } in
-    ap is_trouble same ∙ row_of shown_until (is_retain c.args.tenant.now c.args.seq) _ _ (c.deref.ensures.value ∙ c.in_ok-rows.ensures.rows clean) c.in-Some.row.now c.in-Some.ensures.value (λ t found row. c.in_err-read_until-in-Some.ensures.trouble t row))
+pub returns : goal.returns
+returns g c =
+    let h = rw (c.to_sql.ensures, c.number.ensures) at c.in_ok-rows.ensures in
+    let old = c.args.connection.now in
+    let new = c.query_all.new.self in
+    let q = selected retains (state g.S.Store old) (state g.S.Store new) c.requires.inside (λ (l : List Row). l) (Ok c.in_ok-rows.rows.items) (until_shown c.args.tenant.now c.args.seq) h.ok h.err h.survives in
+    let a = plain g.S.Store old new c.first_of.result _ (λ n. number n ∷ []) until_in (λ n. n) c.first_of.ensures.found c.first_of.ensures.trouble q (find (is_retain c.args.tenant.now c.args.seq) (tables g.S.Store old).retains)
+    (λ clean. ap (λ l. slice_get l 0) c.deref.ensures.value ∙ first_row shown_until (is_retain c.args.tenant.now c.args.seq) _ _ (q.rows clean)) in
+    record { reads = a.reads; found = a.found; trouble = a.trouble }

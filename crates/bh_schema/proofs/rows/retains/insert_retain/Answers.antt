@@ -8,7 +8,7 @@ use Rattle.bh_schema.proofs.rows.retains.insert_retain.Goals as goal
 
 pub returns : goal.returns
 returns g c =
-    let h = rw (c.to_sql.ensures, c.number.ensures, c.number-2.ensures) at c.execute.ensures in
+    let h = rw (c.to_sql.ensures, c.number.ensures, c.number-2.ensures) at c.write.ensures in
     let old = state g.S.Store c.args.connection.now in
-    let w = inserted retains old (state g.S.Store c.execute.new.self) c.requires.inside (λ t l. refl) c.execute.result c.schema-schema.ensures.live (retain_inserted c.args.tenant.now c.args.seq c.args.until) (λ clean is. new_retain (standing old).now (c.requires.inside clean).host _ is.free is.owned) h.runs h.survives in
-    record { within = w.within; opens = w.opens; holds = w.holds; trouble = w.trouble }
+    let w = inserted retains old (state g.S.Store c.write.new.connection) c.requires.inside (λ t l. refl) c.write.result h.live (retain_inserted c.args.tenant.now c.args.seq c.args.until) (λ clean is. new_retain (standing old).now (c.requires.inside clean).host _ is.free is.owned) h.runs h.survives in
+    record { writes = record { within = w.within; opens = w.opens; inside = w.inside }; holds = w.holds; trouble = w.trouble }

@@ -7,7 +7,7 @@ use Rattle.bh_schema.proofs.rows.retains.set_until.Goals as goal
 
 pub returns : goal.returns
 returns g c =
-    let h = rw (c.to_sql.ensures, c.number.ensures, c.number-2.ensures) at c.execute.ensures in
+    let h = rw (c.to_sql.ensures, c.number.ensures, c.number-2.ensures) at c.write.ensures in
     let old = state g.S.Store c.args.connection.now in
-    let w = updated retains old (state g.S.Store c.execute.new.self) c.requires.inside (λ t l. refl) c.execute.result c.schema-schema.ensures.live (until_set c.args.tenant.now c.args.seq c.args.until) (until_may c.args.tenant.now c.args.seq c.args.until) h.runs h.survives in
-    record { within = w.within; opens = w.opens; holds = w.holds; trouble = w.trouble }
+    let w = updated retains old (state g.S.Store c.write.new.connection) c.requires.inside (λ t l. refl) c.write.result h.live (until_set c.args.tenant.now c.args.seq c.args.until) (until_may c.args.tenant.now c.args.seq c.args.until) h.runs h.survives in
+    record { writes = record { within = w.within; opens = w.opens; inside = w.inside }; holds = w.holds; trouble = w.trouble }

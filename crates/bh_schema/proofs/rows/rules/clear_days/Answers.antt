@@ -7,7 +7,7 @@ use Rattle.bh_schema.proofs.rows.rules.clear_days.Goals as goal
 
 pub returns : goal.returns
 returns g c =
-    let h = rw (c.to_sql.ensures, c.to_sql-2.ensures) at c.execute.ensures in
+    let h = rw (c.to_sql.ensures, c.to_sql-2.ensures) at c.write.ensures in
     let old = state g.S.Store c.args.connection.now in
-    let w = updated buckets old (state g.S.Store c.execute.new.self) c.requires.inside (λ t l. refl) c.execute.result c.schema-schema.ensures.live (days_cleared c.args.tenant.now c.args.bucket.now) (days_may c.args.tenant.now c.args.bucket.now None) h.runs h.survives in
-    record { within = w.within; opens = w.opens; holds = w.holds; trouble = w.trouble }
+    let w = updated buckets old (state g.S.Store c.write.new.connection) c.requires.inside (λ t l. refl) c.write.result h.live (days_cleared c.args.tenant.now c.args.bucket.now) (days_may c.args.tenant.now c.args.bucket.now None) h.runs h.survives in
+    record { writes = record { within = w.within; opens = w.opens; inside = w.inside }; holds = w.holds; trouble = w.trouble }

@@ -1,19 +1,35 @@
-use Rattle.std.proofs.Common.{ap, ◌∙◌}
-use Rattle.sqlite.specs.Held.{state}
-use Rattle.bh_rows.specs.Means.{is_trouble}
-use Rattle.bh_tables.specs.Shown.{is_tenant, shown_tenant}
-use Rattle.bh_schema.specs.Layer.{IsStateClean}
+use Rattle.bh_rows.proofs.ScanLemmas.{first_row}
+use Rattle.bh_schema.proofs.Asking.{failed, no_value, plain}
+use Rattle.bh_schema.proofs.Calls.{selected}
+use Rattle.bh_schema.specs.Layer.{standing}
+use Rattle.bh_schema.specs.Connections.{tables}
 use Rattle.bh_schema.specs.Rows.{tenant_numbers}
-use Rattle.bh_schema.proofs.Finds.{none_read, row_of, row_read, handed_on}
+use Rattle.bh_tables.proofs.Places.{tenants}
+use Rattle.bh_tables.proofs.TenantTexts.{tenant_shown}
+use Rattle.bh_tables.specs.Shown.{is_tenant, shown_tenant}
+use Rattle.bh_tables.specs.Typed.{totals_of, tables as tables_of}
+use Rattle.sqlite.specs.Held.{state}
+use Rattle.sqlite.specs.Order.{Row}
+use Rattle.std.proofs.Common.{List, Ok, Err, ap, find, slice_get, ◌∙◌}
 use Rattle.bh_schema.proofs.rows.tenants.find_tenant.Goals as goal
 
-pub returns-in-None-clause-found : goal.returns-in-None-clause-found
-returns-in-None-clause-found g c clean = none_read shown_tenant (is_tenant c.args.name.now) _ _ (c.deref.ensures.value ∙ c.in_ok-rows.ensures.rows clean) tenant_numbers c.in-None.ensures.value
+pub returns-in_err-rows : goal.returns-in_err-rows
+unfolding standing
+returns-in_err-rows g c =
+    let h = rw c.to_sql.ensures at c.in_err-rows.ensures in
+    let old = c.args.connection.now in
+    let new = c.query_all.new.self in
+    let q = selected tenants (state g.S.Store old) (state g.S.Store new) c.requires.inside (λ (l : List Row). l) (Err c.in_err-rows.field-0.0) (tenant_shown (totals_of (tables_of (state g.S.Store old))) c.args.name.now) h.ok h.err h.survives in
+    let f = failed g.S.Store old new c.from_residual.result _ c.from_residual.ensures q in
+    record { reads = f.reads; found = no_value _ _ _ c.from_residual.ensures; trouble = f.trouble }
 
-pub returns-clause-found : goal.returns-clause-found
-returns-clause-found g c clean = row_read shown_tenant (is_tenant c.args.name.now) _ _ (c.deref.ensures.value ∙ c.in_ok-rows.ensures.rows clean) tenant_numbers _ c.in-Some.row.now c.in-Some.ensures.value c.in_ok-read_numbers-in-Some.ensures.read
-
-pub returns-in_err-read_numbers-in-Some-clause-trouble : goal.returns-in_err-read_numbers-in-Some-clause-trouble
-returns-in_err-read_numbers-in-Some-clause-trouble g c = handed_on _ _ _ c.from_residual-in_err-read_numbers-in-Some.ensures (λ e same intact unlimited.
-    let clean : IsStateClean (state g.S.Store c.tenant_rows.new.connection) = record { intact = intact; is_open = (c.in_ok-rows.ensures.opens intact).1 } in
-    ap is_trouble same ∙ row_of shown_tenant (is_tenant c.args.name.now) _ _ (c.deref.ensures.value ∙ c.in_ok-rows.ensures.rows clean) c.in-Some.row.now c.in-Some.ensures.value (λ t found row. c.in_err-read_numbers-in-Some.ensures.trouble t row))
+pub returns : goal.returns
+unfolding standing
+returns g c =
+    let h = rw c.to_sql.ensures at c.in_ok-rows.ensures in
+    let old = c.args.connection.now in
+    let new = c.query_all.new.self in
+    let q = selected tenants (state g.S.Store old) (state g.S.Store new) c.requires.inside (λ (l : List Row). l) (Ok c.in_ok-rows.rows.items) (tenant_shown (totals_of (tables_of (state g.S.Store old))) c.args.name.now) h.ok h.err h.survives in
+    let a = plain g.S.Store old new c.first_of.result _ shown_tenant (λ t. t) tenant_numbers c.first_of.ensures.found c.first_of.ensures.trouble q (find (is_tenant c.args.name.now) (tables g.S.Store old).tenants)
+    (λ clean. ap (λ l. slice_get l 0) c.deref.ensures.value ∙ first_row shown_tenant (is_tenant c.args.name.now) _ _ (q.rows clean)) in
+    record { reads = a.reads; found = a.found; trouble = a.trouble }

@@ -1,5 +1,4 @@
 use Rattle.sqlite.specs.Held.{state}
-use Rattle.bh_tables.specs.Typed.{totals_of, tables}
 use Rattle.bh_tables.proofs.UsedTexts.{tenant_inserted}
 use Rattle.bh_tables.proofs.TenantTexts.{new_tenant}
 use Rattle.bh_schema.specs.Layer.{standing}
@@ -8,7 +7,7 @@ use Rattle.bh_schema.proofs.rows.tenants.insert_tenant.Goals as goal
 
 pub returns : goal.returns
 returns g c =
-    let h = rw (c.to_sql.ensures, c.number.ensures) at c.execute.ensures in
+    let h = rw (c.to_sql.ensures, c.number.ensures) at c.write.ensures in
     let old = state g.S.Store c.args.connection.now in
-    let w = tenant_added old (state g.S.Store c.execute.new.self) c.requires.inside c.execute.result c.schema-schema.ensures.live c.args.name.now c.args.quota (tenant_inserted c.args.name.now c.args.quota) (λ clean is. new_tenant _ (standing old).now (c.requires.inside clean).host _ is.free) h.runs h.survives in
-    record { within = w.within; opens = w.opens; holds = w.holds; trouble = w.trouble }
+    let w = tenant_added old (state g.S.Store c.write.new.connection) c.requires.inside c.write.result h.live c.args.name.now c.args.quota (tenant_inserted c.args.name.now c.args.quota) (λ clean is. new_tenant _ (standing old).now (c.requires.inside clean).host _ is.free) h.runs h.survives in
+    record { writes = record { within = w.within; opens = w.opens; inside = w.inside }; holds = w.holds; trouble = w.trouble }

@@ -8,7 +8,7 @@ use Rattle.bh_schema.proofs.rows.tenants.set_numbers.Goals as goal
 
 pub returns : goal.returns
 returns g c =
-    let h = rw (c.to_sql.ensures, c.number.ensures, c.number-2.ensures) at c.execute.ensures in
+    let h = rw (c.to_sql.ensures, c.number.ensures, c.number-2.ensures) at c.write.ensures in
     let old = state g.S.Store c.args.connection.now in
-    let w = updated tenants old (state g.S.Store c.execute.new.self) c.requires.inside (λ t l. refl) c.execute.result c.schema-schema.ensures.live (numbers_set (totals_of (tables (state g.S.Store c.args.connection.now))) c.args.tenant.now c.args.version c.args.entry) (numbers_may (totals_of (tables (state g.S.Store c.args.connection.now))) c.args.tenant.now c.args.version c.args.entry) h.runs h.survives in
-    record { within = w.within; opens = w.opens; holds = w.holds; trouble = w.trouble }
+    let w = updated tenants old (state g.S.Store c.write.new.connection) c.requires.inside (λ t l. refl) c.write.result h.live (numbers_set (totals_of (tables (state g.S.Store c.args.connection.now))) c.args.tenant.now c.args.version c.args.entry) (numbers_may (totals_of (tables (state g.S.Store c.args.connection.now))) c.args.tenant.now c.args.version c.args.entry) h.runs h.survives in
+    record { writes = record { within = w.within; opens = w.opens; inside = w.inside }; holds = w.holds; trouble = w.trouble }

@@ -5,7 +5,7 @@ use Rattle.bh_schema.proofs.rows.tenants.use_less.Goals as goal
 
 pub returns : goal.returns
 returns g c =
-    let h = rw (c.to_sql.ensures, c.number.ensures) at c.execute.ensures in
+    let h = rw (c.to_sql.ensures, c.number.ensures) at c.write.ensures in
     let old = state g.S.Store c.args.connection.now in
-    let w = fewer_used old (state g.S.Store c.execute.new.self) c.requires.midst c.execute.result c.schema-schema.ensures.live c.args.tenant.now c.args.less (used_taken c.args.tenant.now c.args.less c.requires.less) h.runs h.survives in
-    record { within = w.within; opens = w.opens; midst = w.midst; rewrites = w.rewrites }
+    let w = fewer_used old (state g.S.Store c.write.new.connection) c.requires.midst c.write.result h.live c.args.tenant.now c.args.less (used_taken c.args.tenant.now c.args.less c.requires.less) h.runs h.survives in
+    record { writes = record { within = w.within; opens = w.opens; midst = w.midst }; rewrites = w.rewrites }

@@ -3,6 +3,7 @@ use Rattle.bh_tables.specs.Typed.{used_changed, tables_in}
 use Rattle.bh_schema.specs.Layer.{standing}
 use Rattle.bh_schema.specs.Written.{with_version, with_next}
 use Rattle.bh_schema.proofs.Calls.{in_midst}
+use Rattle.bh_schema.proofs.Storing.{within_then}
 use Rattle.bh_schema.proofs.VersionSteps.{then_turned, ended, added_law}
 use Rattle.bh_schema.proofs.rows.versions.add_version.Goals as goal
 
@@ -17,6 +18,16 @@ returns-clause-holds g c =
     let d = state g.S.Store c.insert_version.new.connection in
     let one = c.in_ok-use_entry.ensures in
     let two = c.in_ok-insert_version.ensures in
-    ended a d (used_changed v.tenant.now v.size 0) (λ t. with_version v (with_next v.tenant.now c.args.next t)) (λ clean. one.within.follows.clean (two.within.follows.clean clean)) c.requires.inside
-    (then_turned a b d (used_changed v.tenant.now v.size 0) (λ s. s) (with_next v.tenant.now c.args.next) (with_version v) two.within.follows.clean one.rewrites two.rewrites)
+    ended a d (used_changed v.tenant.now v.size 0) (λ t. with_version v (with_next v.tenant.now c.args.next t)) (λ clean. one.writes.within.follows.clean (two.writes.within.follows.clean clean)) c.requires.inside
+    (then_turned a b d (used_changed v.tenant.now v.size 0) (λ s. s) (with_next v.tenant.now c.args.next) (with_version v) two.writes.within.follows.clean one.rewrites two.rewrites)
     (λ was. added_law (tables_in (standing a).now) v c.args.next)
+
+pub returns-clause-writes : goal.returns-clause-writes
+returns-clause-writes g c =
+    let one = c.in_ok-use_entry.ensures.writes in
+    let two = c.in_ok-insert_version.ensures.writes in
+    record {
+      within = within_then (state g.S.Store c.args.connection.now) (state g.S.Store c.use_entry.new.connection) (state g.S.Store c.insert_version.new.connection) one.opens one.within two.within;
+      opens = λ intact up. two.opens intact (one.opens (two.within.follows.intact intact) up);
+      inside = λ clean. (returns-clause-holds g c clean).within;
+    }

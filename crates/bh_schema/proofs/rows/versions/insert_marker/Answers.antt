@@ -8,7 +8,7 @@ use Rattle.bh_schema.proofs.rows.versions.insert_marker.Goals as goal
 pub returns : goal.returns
 returns g c =
     let v = c.args.marker.now in
-    let h = rw (c.to_sql.ensures, c.number.ensures, c.to_sql-2.ensures, c.to_sql-3.ensures, c.number-2.ensures, c.number-3.ensures) at c.execute.ensures in
+    let h = rw (c.to_sql.ensures, c.number.ensures, c.to_sql-2.ensures, c.to_sql-3.ensures, c.number-2.ensures, c.number-3.ensures) at c.write.ensures in
     let old = state g.S.Store c.args.connection.now in
-    let w = inserted old (state g.S.Store c.execute.new.self) c.requires.inside c.execute.result c.schema-schema.ensures.live refl (marker_inserted v.tenant.now v.bucket.now v.okey.now v.seq v.id v.stamp) (λ clean is. new_version (standing old).now (c.requires.inside clean).host _ refl is.unnumbered is.free is.owned) h.runs h.survives in
-    record { within = w.within; opens = w.opens; holds = w.holds; trouble = w.trouble }
+    let w = inserted old (state g.S.Store c.write.new.connection) c.requires.inside c.write.result h.live refl (marker_inserted v.tenant.now v.bucket.now v.okey.now v.seq v.id v.stamp) (λ clean is. new_version (standing old).now (c.requires.inside clean).host _ refl is.unnumbered is.free is.owned) h.runs h.survives in
+    record { writes = record { within = w.within; opens = w.opens; inside = w.inside }; holds = w.holds; trouble = w.trouble }

@@ -1,19 +1,33 @@
-use Rattle.std.proofs.Common.{ap, ◌∙◌}
-use Rattle.sqlite.specs.Held.{state}
-use Rattle.bh_rows.specs.Means.{is_trouble}
-use Rattle.bh_tables.specs.Shown.{is_version, shown_head}
-use Rattle.bh_schema.specs.Layer.{IsStateClean}
+use Rattle.bh_rows.proofs.ScanLemmas.{first_row}
+use Rattle.bh_schema.proofs.Asking.{failed_if, no_value, first}
+use Rattle.bh_schema.proofs.VersionCalls.{selected}
+use Rattle.bh_schema.specs.Connections.{tables}
 use Rattle.bh_schema.specs.Rows.{seen_head}
-use Rattle.bh_schema.proofs.Finds.{none_read, row_of, row_read, handed_on}
+use Rattle.bh_schema.specs.Views.{head_seen}
+use Rattle.bh_tables.proofs.VersionTexts.{head_shown}
+use Rattle.bh_tables.specs.Shown.{is_version, shown_head}
+use Rattle.bh_tables.specs.Typed.{VersionRow}
+use Rattle.sqlite.specs.Held.{state}
+use Rattle.sqlite.specs.Order.{Row}
+use Rattle.std.proofs.Common.{List, Ok, Err, ap, find, slice_get, ◌∙◌}
+use Rattle.std.specs.Str.{IsUtf8}
 use Rattle.bh_schema.proofs.rows.versions.version_of_id.Goals as goal
 
-pub returns-in-None-clause-found : goal.returns-in-None-clause-found
-returns-in-None-clause-found g c clean = none_read shown_head (is_version c.args.tenant.now c.args.bucket.now c.args.okey.now c.args.id) _ _ (c.deref.ensures.value ∙ c.in_ok-rows.ensures.rows clean) seen_head c.in-None.ensures.value
+pub returns-in_err-rows : goal.returns-in_err-rows
+returns-in_err-rows g c =
+    let h = rw (c.to_sql.ensures, c.to_sql-2.ensures, c.to_sql-3.ensures, c.number.ensures) at c.in_err-rows.ensures in
+    let old = c.args.connection.now in
+    let new = c.query_all.new.self in
+    let q = selected (state g.S.Store old) (state g.S.Store new) c.requires.inside (λ (l : List Row). l) (Err c.in_err-rows.field-0.0) (head_shown c.args.tenant.now c.args.bucket.now c.args.okey.now c.args.id) h.ok h.err h.survives in
+    let f = failed_if g.S.Store old new c.from_residual.result _ c.from_residual.ensures _ q in
+    record { reads = f.reads; found = no_value _ _ _ c.from_residual.ensures; trouble = f.trouble }
 
-pub returns-clause-found : goal.returns-clause-found
-returns-clause-found g c clean = row_read shown_head (is_version c.args.tenant.now c.args.bucket.now c.args.okey.now c.args.id) _ _ (c.deref.ensures.value ∙ c.in_ok-rows.ensures.rows clean) seen_head _ c.in-Some.row.now c.in-Some.ensures.value c.in_ok-read_head-in-Some.ensures.read
-
-pub returns-in_err-read_head-in-Some-clause-trouble : goal.returns-in_err-read_head-in-Some-clause-trouble
-returns-in_err-read_head-in-Some-clause-trouble g c = handed_on _ _ _ c.from_residual-in_err-read_head-in-Some.ensures (λ e same intact unlimited text.
-    let clean : IsStateClean (state g.S.Store c.head_rows.new.connection) = record { intact = intact; is_open = (c.in_ok-rows.ensures.opens intact).1 } in
-    ap is_trouble same ∙ row_of shown_head (is_version c.args.tenant.now c.args.bucket.now c.args.okey.now c.args.id) _ _ (c.deref.ensures.value ∙ c.in_ok-rows.ensures.rows clean) c.in-Some.row.now c.in-Some.ensures.value (λ t found row. c.in_err-read_head-in-Some.ensures.trouble t row (text t found)))
+pub returns : goal.returns
+returns g c =
+    let h = rw (c.to_sql.ensures, c.to_sql-2.ensures, c.to_sql-3.ensures, c.number.ensures) at c.in_ok-rows.ensures in
+    let old = c.args.connection.now in
+    let new = c.query_all.new.self in
+    let q = selected (state g.S.Store old) (state g.S.Store new) c.requires.inside (λ (l : List Row). l) (Ok c.in_ok-rows.rows.items) (head_shown c.args.tenant.now c.args.bucket.now c.args.okey.now c.args.id) h.ok h.err h.survives in
+    let a = first g.S.Store old new c.first_of.result _ shown_head (λ v. v) head_seen seen_head (λ (v : VersionRow). IsUtf8 v.checksum) c.first_of.ensures.found c.first_of.ensures.trouble q (find (is_version c.args.tenant.now c.args.bucket.now c.args.okey.now c.args.id) (tables g.S.Store old).versions)
+    (λ clean. ap (λ l. slice_get l 0) c.deref.ensures.value ∙ first_row shown_head (is_version c.args.tenant.now c.args.bucket.now c.args.okey.now c.args.id) _ _ (q.rows clean)) in
+    record { reads = a.reads; found = a.found; trouble = a.trouble }

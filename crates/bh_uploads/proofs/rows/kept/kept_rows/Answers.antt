@@ -12,4 +12,4 @@ returns g c =
     let h = rw (c.to_sql.ensures, c.number.ensures) at c.query_all.ensures in
     let old = state g.S.Store c.args.connection.now in
     let q = selected uploads old (state g.S.Store c.query_all.new.self) c.requires.inside (λ v. v.items) c.query_all.result (kept_shown (totals_of (tables old)) c.args.tenant.now c.args.upload) h.ok h.err h.survives in
-    record { within = q.within; opens = q.opens; same = q.same; rows = q.rows; trouble = q.trouble }
+    record { reads = record { within = q.within; opens = q.opens; same = q.same }; rows = q.rows; trouble = q.trouble }

@@ -6,9 +6,9 @@ use Rattle.bh_uploads.proofs.rows.parts.delete_parts.Goals as goal
 
 pub returns : goal.returns
 returns g c =
-    let h = rw (c.to_sql.ensures, c.number.ensures) at c.execute.ensures in
+    let h = rw (c.to_sql.ensures, c.number.ensures) at c.write.ensures in
     let old = state g.S.Store c.args.connection.now in
-    let new = state g.S.Store c.execute.new.self in
-    let live = c.schema-schema.ensures.live in
-    let w = goes old new c.requires.midst c.execute.result live (parts_deleted c.args.tenant.now c.args.upload) h.runs h.survives in
-    record { within = w.within; opens = w.opens; midst = w.midst; rewrites = w.rewrites; trouble = alone old new c.execute.result (goes_trouble old new c.requires.midst c.execute.result live (parts_deleted c.args.tenant.now c.args.upload) h.runs h.survives) }
+    let new = state g.S.Store c.write.new.connection in
+    let live = h.live in
+    let w = goes old new c.requires.midst c.write.result live (parts_deleted c.args.tenant.now c.args.upload) h.runs h.survives in
+    record { writes = record { within = w.within; opens = w.opens; midst = w.midst }; rewrites = w.rewrites; trouble = alone old new c.write.result (goes_trouble old new c.requires.midst c.write.result live (parts_deleted c.args.tenant.now c.args.upload) h.runs h.survives) }

@@ -6,6 +6,6 @@ use Rattle.bh_uploads.proofs.rows.parts.insert_part.Goals as goal
 
 pub returns : goal.returns
 returns g c =
-    let h = rw (c.to_sql.ensures, c.number.ensures, c.number-2.ensures, c.number-3.ensures, c.to_sql-2.ensures, c.number-4.ensures, c.number-5.ensures) at c.execute.ensures in
-    let w = comes (state g.S.Store c.args.connection.now) (state g.S.Store c.execute.new.self) c.requires.midst c.execute.result c.schema-schema.ensures.live (part_inserted (stored_part c.args.part.now)) h.runs h.survives in
-    record { within = w.within; opens = w.opens; midst = w.midst; rewrites = w.rewrites }
+    let h = rw (c.to_sql.ensures, c.number.ensures, c.number-2.ensures, c.number-3.ensures, c.to_sql-2.ensures, c.number-4.ensures, c.number-5.ensures) at c.write.ensures in
+    let w = comes (state g.S.Store c.args.connection.now) (state g.S.Store c.write.new.connection) c.requires.midst c.write.result h.live (part_inserted (stored_part c.args.part.now)) h.runs h.survives in
+    record { writes = record { within = w.within; opens = w.opens; midst = w.midst }; rewrites = w.rewrites }

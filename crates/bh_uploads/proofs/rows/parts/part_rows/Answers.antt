@@ -7,4 +7,4 @@ pub returns : goal.returns
 returns g c =
     let h = rw (c.to_sql.ensures, c.number.ensures) at c.query_all.ensures in
     let q = sorted (state g.S.Store c.args.connection.now) (state g.S.Store c.query_all.new.self) c.requires.inside (λ v. v.items) c.query_all.result (parts_listed c.args.tenant.now c.args.upload) h.ok h.err h.survives in
-    record { within = q.within; opens = q.opens; same = q.same; rows = q.rows; trouble = q.trouble }
+    record { reads = record { within = q.within; opens = q.opens; same = q.same }; rows = q.rows; trouble = q.trouble }

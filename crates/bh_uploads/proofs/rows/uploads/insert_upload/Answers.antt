@@ -11,7 +11,7 @@ pub returns : goal.returns
 unfolding standing
 returns g c =
     let u = stored_upload c.args.upload.now in
-    let h = rw (c.to_sql.ensures, c.number.ensures, c.to_sql-2.ensures, c.to_sql-3.ensures, c.number-2.ensures) at c.execute.ensures in
+    let h = rw (c.to_sql.ensures, c.number.ensures, c.to_sql-2.ensures, c.to_sql-3.ensures, c.number-2.ensures) at c.write.ensures in
     let old = state g.S.Store c.args.connection.now in
-    let w = upload_added old (state g.S.Store c.execute.new.self) c.requires.inside c.execute.result c.schema-schema.ensures.live u (upload_inserted u) (λ clean is. new_upload (totals_of (tables old)) (standing old).now (c.requires.inside clean).host u is.free is.owned) h.runs h.survives in
-    record { within = w.within; opens = w.opens; holds = w.holds; trouble = w.trouble }
+    let w = upload_added old (state g.S.Store c.write.new.connection) c.requires.inside c.write.result h.live u (upload_inserted u) (λ clean is. new_upload (totals_of (tables old)) (standing old).now (c.requires.inside clean).host u is.free is.owned) h.runs h.survives in
+    record { writes = record { within = w.within; opens = w.opens; inside = w.inside }; holds = w.holds; trouble = w.trouble }

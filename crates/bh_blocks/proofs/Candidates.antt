@@ -1,0 +1,45 @@
+-- From the blocks of a digest to the one that holds some bytes.
+use Rattle.std.proofs.Common.{◌≡◌, ℕ, ◌+◌, Bool, true, false, ◌&&◌, List, [], ◌∷◌, map, filter, find, length, drop, cond, Option, Some, None, option_map, refl, sym, ap, ◌∙◌, subst, if◌then◌else◌}
+use Rattle.sqlite_typed.specs.Tests.{bytes_eq}
+use Rattle.bh_tables.specs.Schema.{Octets}
+use Rattle.bh_tables.specs.Typed.{BlockRow}
+use Rattle.bh_tables.specs.Shown.{has_digest, is_copy, by_ord}
+use Rattle.bh_view.specs.Blocks.{copy_in, free_ord, least}
+use Rattle.sqlite_keyed.specs.Lists.{sort_by}
+use Rattle.bh_blocks.specs.Lookups.{ord_of_copy}
+
+abbrev pub has_bytes : Octets → BlockRow → Bool
+has_bytes bytes b = bytes_eq b.bytes bytes
+
+-- it is looked for among those of the digest
+pub copy_among : (digest bytes : Octets) (blocks : List BlockRow) → copy_in digest bytes blocks ≡ find (has_bytes bytes) (filter (has_digest digest) blocks)
+copy_among digest bytes [] = refl
+copy_among digest bytes (b ∷ blocks) = elim (bytes_eq b.digest digest) as (λ s. (if s && has_bytes bytes b then Some b else find (is_copy digest bytes) blocks) ≡ find (has_bytes bytes) (cond s (b ∷ filter (has_digest digest) blocks) (filter (has_digest digest) blocks))) [
+  | true ↦ ap (λ o. if has_bytes bytes b then Some b else o) (copy_among digest bytes blocks)
+  | false ↦ copy_among digest bytes blocks
+]
+
+module _ (bytes : Octets) (bs : List BlockRow) (i : ℕ) (so_far : find (has_bytes bytes) bs ≡ find (has_bytes bytes) (drop i bs)) where
+  module _ (b : BlockRow) (left : drop i bs ≡ b ∷ drop (i + 1) bs) where
+    -- the next one holds the bytes
+    pub found_here : has_bytes bytes b ≡ true → find (has_bytes bytes) bs ≡ Some b
+    found_here is = so_far ∙ ap (find (has_bytes bytes)) left ∙ ap (λ s. if s then Some b else find (has_bytes bytes) (drop (i + 1) bs)) is
+
+    -- it doesn't
+    pub found_later : has_bytes bytes b ≡ false → find (has_bytes bytes) bs ≡ find (has_bytes bytes) (drop (i + 1) bs)
+    found_later not = so_far ∙ ap (find (has_bytes bytes)) left ∙ ap (λ s. if s then Some b else find (has_bytes bytes) (drop (i + 1) bs)) not
+
+  -- there is no other
+  pub found_nowhere : drop i bs ≡ [] → find (has_bytes bytes) bs ≡ None
+  found_nowhere none = so_far ∙ ap (find (has_bytes bytes)) none
+
+-- the ordinal of the one that was found
+pub copy_found : (digest bytes : Octets) (blocks : List BlockRow) (o : Option BlockRow) → find (has_bytes bytes) (filter (has_digest digest) blocks) ≡ o → option_map (λ (b : BlockRow). b.ord) o ≡ ord_of_copy digest bytes blocks
+copy_found digest bytes blocks o is = ap (option_map (λ (b : BlockRow). b.ord)) (sym is ∙ sym (copy_among digest bytes blocks))
+
+-- where no block has the digest, none holds the bytes, and the first ordinal is free
+pub none_copied : (digest bytes : Octets) (blocks : List BlockRow) → filter (has_digest digest) blocks ≡ [] → None ≡ ord_of_copy digest bytes blocks
+none_copied digest bytes blocks none = copy_found digest bytes blocks None (ap (find (has_bytes bytes)) none)
+
+pub first_free : (digest : Octets) (blocks : List BlockRow) → filter (has_digest digest) blocks ≡ [] → 0 ≡ free_ord digest blocks
+first_free digest blocks none = sym (ap (λ bs. least 0 (sort_by by_ord bs)) none)

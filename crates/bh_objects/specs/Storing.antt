@@ -1,0 +1,49 @@
+-- What a call that stores the bytes of a body needs, and what it leaves.
+use Rattle.std.specs.Prelude.{◌≡◌, ◌≤◌, ◌<◌, ◌^◌, ℕ, [], None, Result, IfOk, IfErr, OnOk}
+use Rattle.sha2.specs.Sha256.{sha256}
+use Rattle.sqlite.specs.Held.{Held}
+use Rattle.sqlite_trees.specs.declared.store.Store.{Ghosts}
+use Rattle.bh_http.specs.Bodies.{Coming, Gives, IsWhole, MayBreak}
+use Rattle.bh_model.specs.State.{Octets}
+use Rattle.bh_storage.specs.declared.error.Trouble.{Trouble}
+use Rattle.bh_tables.specs.Shown.{Name}
+use Rattle.bh_view.specs.Blocks.{AreDigests}
+use Rattle.bh_view.specs.Bodies.{pieces, body_stored}
+use Rattle.bh_view.specs.View.{latest_of}
+use Rattle.bh_cache.specs.Kept.{KeptBlocks, AreCopies}
+use Rattle.bh_schema.specs.Connections.{IsClean, tables, InTransaction, StaysWithin, StaysOpen, Becomes}
+use Rattle.bh_schema.specs.Working.{Works}
+use Rattle.bh_blocks.specs.declared.drafts.Draft.{Draft}
+
+-- nothing of a body is there yet
+pub record IsBegun (draft : Draft) : Type 0 where
+  pub size : 1 ≤ draft.size
+  pub body : draft.body < 2 ^ 63
+  pub place : draft.place ≡ 0
+  pub waiting : draft.waiting.items ≡ []
+
+module _ {S : Type 0} (g : Ghosts S) where
+  -- bytes of a body that comes may be stored, in blocks of a size
+  pub record MayStore (kept : KeptBlocks) (size : ℕ) (c : Held S) (body : Coming) : Type 0 where
+    pub inside : InTransaction g c
+    pub copies : IsClean g c → AreCopies kept (tables g c).blocks
+    pub positive : 1 ≤ size
+    pub going : body.broken ≡ None
+
+  -- all that came of a body is stored under this name, unless it broke off or the store was wanting, and its SHA-256 digest is told
+  pub record Stores (digest : Octets → Octets) (size : ℕ) (name : Name) (before after : Coming) (old new : Held S)
+      (result : Result Octets Trouble) : Type 0 where
+    pub within : StaysWithin g old new
+    pub opens : OnOk result (StaysOpen g old new)
+    pub stored : IfOk result (λ sum. (given : Octets) × Gives before after given × IsWhole after × (sum ≡ sha256 given)
+        × Becomes g old new (body_stored digest name 0 (pieces size given)))
+    pub stopped : IfErr result (λ _. (given : Octets) × Gives before after given × MayBreak after)
+
+  -- a put at a moment may begin
+  pub record MayPut (digest : Octets → Octets) (kept : KeptBlocks) (size at : ℕ) (c : Held S) (body : Coming) : Type 0 where
+    pub working : Works g c
+    pub copies : IsClean g c → AreCopies kept (tables g c).blocks
+    pub digests : IsClean g c → AreDigests digest (tables g c).blocks
+    pub positive : 1 ≤ size
+    pub early : IsClean g c → at ≤ latest_of (tables g c)
+    pub going : body.broken ≡ None

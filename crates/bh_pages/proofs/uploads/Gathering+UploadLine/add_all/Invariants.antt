@@ -1,7 +1,0 @@
-use Rattle.std.proofs.Common.{◌≡◌, map, drop}
-use Rattle.bh_pages.specs.Uploads.{seen, seen_line, uploads_added, AreUnder}
-use Rattle.bh_pages.proofs.uploads.Gathering+UploadLine.add_all.Given as goal
-
--- with the rows that are left it comes to the same
-abbrev pub invariant-loop-line : goal.invariant-loop-line
-invariant-loop-line l = AreUnder l.asked l.fn.lines → uploads_added l.asked (seen l.fn.self) (map seen_line l.fn.lines) ≡ uploads_added l.asked (seen l.self) (map seen_line (drop l.line-index l.lines))

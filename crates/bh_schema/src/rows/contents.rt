@@ -1,0 +1,52 @@
+//! Whether there is anything of a bucket besides its own row.
+
+ghost use Rattle.std.specs.Prelude.{◌≡◌, IfOk, IfErr};
+ghost use Rattle.bh_schema.specs.Calls.{Reads};
+ghost use Rattle.bh_schema.specs.Connections.{IsClean, tables, InTransaction, IsTrouble};
+ghost use Rattle.bh_schema.specs.Contents.{has_content, IsTextOf};
+
+use sqlite::types::ToSql;
+use sqlite::{Alter, Connection, Error};
+
+/// What may be of a bucket.
+#[derive(Clone, Copy)]
+pub enum Content {
+    /// Its lock.
+    Lock,
+    /// A version or a marker in it.
+    Version,
+    /// An upload to it that is neither completed nor aborted.
+    Upload,
+}
+
+impl Content {
+    fn text(self) -> &'static str
+        ensures { IsTextOf self result.now }
+    {
+        match self {
+            Content::Lock =>
+                "SELECT bucket FROM locks WHERE tenant = ?1 AND bucket = ?2 ORDER BY rowid",
+            Content::Version =>
+                "SELECT seq FROM versions WHERE tenant = ?1 AND bucket = ?2 ORDER BY okey, id, rowid LIMIT 1",
+            Content::Upload =>
+                "SELECT upload FROM uploads WHERE tenant = ?1 AND bucket = ?2 ORDER BY okey, upload, rowid LIMIT 1",
+        }
+    }
+}
+
+/// Whether there is such a thing of a tenant's bucket of this name.
+pub fn bucket_has<S: Alter>(
+    connection: &mut Connection<S>,
+    tenant: &str,
+    bucket: &str,
+    content: Content,
+) -> Result<bool, Error>
+    requires inside { InTransaction S.Store connection.old }
+    ensures reads { Reads S.Store connection.old connection.new result }
+    ensures found { IfOk result (λ found. IsClean S.Store connection.new
+        → found ≡ has_content content tenant.now bucket.now (tables S.Store connection.old)) }
+    ensures trouble { IfErr result (IsTrouble S.Store connection.old connection.new) }
+{
+    let rows = connection.query_all(content.text(), &[tenant.to_sql(), bucket.to_sql()])?;
+    Ok(!rows.is_empty())
+}

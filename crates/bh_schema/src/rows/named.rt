@@ -1,0 +1,45 @@
+//! Rows that a tenant has by name, and that no other row names.
+
+ghost use Rattle.std.specs.Prelude.{IfErr, OnOk};
+ghost use Rattle.bh_schema.specs.Calls.{Writes};
+ghost use Rattle.bh_schema.specs.Connections.{InTransaction, Becomes, IsTrouble};
+ghost use Rattle.bh_schema.specs.Named.{without_named, IsTextOf};
+
+use crate::rows::writing::write;
+use sqlite::types::ToSql;
+use sqlite::{Alter, Connection, Error};
+
+/// Such a row.
+#[derive(Clone, Copy)]
+pub enum Named {
+    /// An access key.
+    Key,
+    /// The lock of a bucket: it goes before the bucket itself.
+    Lock,
+}
+
+impl Named {
+    fn text(self) -> &'static str
+        ensures { IsTextOf self result.now }
+    {
+        match self {
+            Named::Key => "DELETE FROM keys WHERE tenant = ?1 AND name = ?2",
+            Named::Lock => "DELETE FROM locks WHERE tenant = ?1 AND bucket = ?2",
+        }
+    }
+}
+
+/// Takes such a row of a tenant away, if it is there.
+pub fn delete_named<S: Alter>(
+    connection: &mut Connection<S>,
+    tenant: &str,
+    name: &str,
+    row: Named,
+) -> Result<usize, Error>
+    requires inside { InTransaction S.Store connection.old }
+    ensures writes { Writes S.Store connection.old connection.new result }
+    ensures holds { OnOk result (Becomes S.Store connection.old connection.new (without_named row tenant.now name.now)) }
+    ensures trouble { IfErr result (IsTrouble S.Store connection.old connection.new) }
+{
+    write(connection, row.text(), &[tenant.to_sql(), name.to_sql()])
+}
