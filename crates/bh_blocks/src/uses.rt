@@ -43,16 +43,15 @@ pub enum UseChange {
     Removed,
 }
 
-impl UseChange {
-    fn text(self) -> &'static str
-        ensures { IsTextOf self result.now }
-    {
-        match self {
-            UseChange::Added => "INSERT INTO uses (digest, ord, uses) VALUES (?1, ?2, 1)",
-            UseChange::Raised => "UPDATE uses SET uses = uses + 1 WHERE digest = ?1 AND ord = ?2",
-            UseChange::Lowered => "UPDATE uses SET uses = uses - 1 WHERE digest = ?1 AND ord = ?2",
-            UseChange::Removed => "DELETE FROM uses WHERE digest = ?1 AND ord = ?2",
-        }
+/// The text of a change, of a block with the digest ?1 and the number ?2 among those of that digest.
+fn text_of(change: UseChange) -> &'static str
+    ensures { IsTextOf change result.now }
+{
+    match change {
+        UseChange::Added => "INSERT INTO uses (digest, ord, uses) VALUES (?1, ?2, 1)",
+        UseChange::Raised => "UPDATE uses SET uses = uses + 1 WHERE digest = ?1 AND ord = ?2",
+        UseChange::Lowered => "UPDATE uses SET uses = uses - 1 WHERE digest = ?1 AND ord = ?2",
+        UseChange::Removed => "DELETE FROM uses WHERE digest = ?1 AND ord = ?2",
     }
 }
 
@@ -73,5 +72,5 @@ pub fn change_uses<S: Alter>(
 {
     // Asked for what it ensures: the rows obey the schema.
     let _schema = connection.schema();
-    connection.execute(change.text(), &[digest.to_sql(), number(ord)])
+    connection.execute(text_of(change), &[digest.to_sql(), number(ord)])
 }

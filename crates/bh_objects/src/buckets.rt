@@ -96,8 +96,7 @@ pub fn create_bucket<S: Alter>(
     requires working { Works S.Store connection.old }
     requires early { IsClean S.Store connection.old → at ≤ latest_of (tables S.Store connection.old) }
     ensures works { WorksOn S.Store (Unless result) connection.old connection.new }
-    ensures carries { IsClean S.Store connection.new
-        → Carries (λ _. machine.Done) tenant.now (machine.create_bucket at bucket.now locked)
+    ensures carries { IsClean S.Store connection.new → Carries (λ _. machine.Done) tenant.now (machine.create_bucket at bucket.now locked)
         (tables S.Store connection.old) (tables S.Store connection.new) result }
 {
     require_tenant(connection, tenant)?;
@@ -114,8 +113,7 @@ pub fn head_bucket<S: Alter>(
 ) -> Result<(), StepError<Refusal>>
     requires working { Works S.Store connection.old }
     ensures works { WorksOn S.Store (Unless result) connection.old connection.new }
-    ensures carries { IsClean S.Store connection.new
-        → Carries (λ _. machine.Done) tenant.now (machine.head_bucket bucket.now)
+    ensures carries { IsClean S.Store connection.new → Carries (λ _. machine.Done) tenant.now (machine.head_bucket bucket.now)
         (tables S.Store connection.old) (tables S.Store connection.new) result }
 {
     bucket_state(connection, tenant, bucket)?;
@@ -130,8 +128,7 @@ pub fn versioning<S: Alter>(
 ) -> Result<BucketState, StepError<Refusal>>
     requires working { Works S.Store connection.old }
     ensures works { WorksOn S.Store (Unless result) connection.old connection.new }
-    ensures carries { IsClean S.Store connection.new
-        → Carries machine.Versioning tenant.now (machine.get_versioning bucket.now)
+    ensures carries { IsClean S.Store connection.new → Carries machine.Versioning tenant.now (machine.get_versioning bucket.now)
         (tables S.Store connection.old) (tables S.Store connection.new) result }
 {
     bucket_state(connection, tenant, bucket)
@@ -179,8 +176,7 @@ pub fn set_versioning<S: Alter>(
     requires working { Works S.Store connection.old }
     requires kept { state ≢ BucketState.Unversioned }
     ensures works { WorksOn S.Store (Unless result) connection.old connection.new }
-    ensures carries { IsClean S.Store connection.new
-        → Carries (λ _. machine.Done) tenant.now (machine.put_versioning bucket.now state)
+    ensures carries { IsClean S.Store connection.new → Carries (λ _. machine.Done) tenant.now (machine.put_versioning bucket.now state)
         (tables S.Store connection.old) (tables S.Store connection.new) result }
 {
     bucket_state(connection, tenant, bucket)?;
@@ -247,8 +243,7 @@ pub fn delete_bucket<S: Alter>(
 ) -> Result<RemovedEntry, StepError<Refusal>>
     requires working { Works S.Store connection.old }
     ensures works { WorksOn S.Store (Unless result) connection.old connection.new }
-    ensures carries { IsClean S.Store connection.new
-        → Carries removed_answer tenant.now (machine.delete_bucket bucket.now)
+    ensures carries { IsClean S.Store connection.new → Carries removed_answer tenant.now (machine.delete_bucket bucket.now)
         (tables S.Store connection.old) (tables S.Store connection.new) result }
 {
     bucket_state(connection, tenant, bucket)?;
@@ -288,8 +283,7 @@ pub fn list_buckets<S: Alter>(
 ) -> Result<Vec<BucketEntry>, StepError<Refusal>>
     requires working { Works S.Store connection.old }
     ensures works { WorksOn S.Store (Unless result) connection.old connection.new }
-    ensures carries { IsClean S.Store connection.new
-        → Carries (λ buckets. machine.Buckets (map bucket_view buckets.items)) tenant.now machine.list_buckets
+    ensures carries { IsClean S.Store connection.new → Carries (λ buckets. machine.Buckets (map bucket_view buckets.items)) tenant.now machine.list_buckets
         (tables S.Store connection.old) (tables S.Store connection.new) result }
 {
     let listed: Vec<ListedBucket> = or_trouble(list_of(connection, alloc, tenant.as_str()))?;

@@ -11,4 +11,5 @@ pub mod Written
 pub mod Contents
 pub mod Counted
 pub mod OwnNumbers
+pub mod Reading
 pub mod Named

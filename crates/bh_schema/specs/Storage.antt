@@ -1,15 +1,18 @@
 -- A host's connection, in the words of a host's storage.
-use Rattle.std.specs.Prelude.{◌≡◌, if◌then◌else◌}
+use Rattle.std.specs.Prelude.{◌≡◌, if◌then◌else◌, Option, Result}
 use Rattle.sqlite_trees.specs.declared.store.Store.{Ghosts}
 use Rattle.sqlite.specs.Effect.{Database, IsDatabase}
 use Rattle.sqlite.specs.Held.{state}
 use Rattle.sqlite.specs.State.{State}
 use Rattle.bh_types.specs.Limits.{HostLimits}
-use Rattle.bh_model.specs.State.{Octets}
+use Rattle.bh_types.specs.declared.refusal.Refusal.{Refusal}
+use Rattle.bh_model.specs.Operations.{Outcome, Done}
+use Rattle.bh_model.specs.State.{Octets, State as Machine}
 use Rattle.bh_tables.specs.Typed.{Tables, no_rows}
 use Rattle.bh_tables.specs.Hosts.{tables_shown}
 use Rattle.bh_view.specs.Bodies.{IsSoundHost}
-use Rattle.bh_storage.specs.Calls.{Seen, Clean, Within, IsWorking}
+use Rattle.bh_storage.specs.Calls.{Seen, Clean, Within, IsWorking, Unless, Carries}
+use Rattle.bh_storage.specs.declared.error.StepError.{StepError}
 use Rattle.bh_schema.specs.declared.host.Host.{Host}
 use Rattle.bh_cache.specs.Kept.{KeptBlocks, no_blocks, agrees}
 use Rattle.bh_schema.specs.Layer.{Standing, standing, Leaves}
@@ -72,3 +75,13 @@ module _ {S D : Type 0} (g : Ghosts S) where
   abbrev pub Empties : Host S D → Host S D → Type 0
   Empties old new = (new ≡ record old { connection = new.connection; cache = no_blocks old.cache.tuning })
       × ((standing (state g new.connection)).limit ≡ (standing (state g old.connection)).limit)
+
+  -- a tenant's step, which answers nothing, is carried out: nothing is committed and no setting changes; unless memory or the store
+  -- was wanting, the connection is open, and at work
+  pub record CarriesOut (digest : Octets → Octets) (old new : Host S D) (tenant : Octets)
+      (step : Option Machine → Result Outcome Refusal) (result : Result Unit (StepError Refusal)) : Type 0 where
+    pub within : Keeps old new
+    pub opens : Unless result (StaysOpen old new)
+    pub working : Unless result (Works digest new)
+    pub carries : IsClean new → Carries (λ _. Done) tenant step (seen old).now (seen new).now result
+    pub settings : KeepsSettings old new

@@ -2,7 +2,9 @@ ghost use Rattle.std.specs.Prelude.{◌≡◌, ◌≤◌, ℕ, List};
 ghost use Rattle.sha2.specs.Sha256.{sha256};
 
 use bh_cache::blocks::BlockCache;
+use bh_storage::error::StepError;
 use bh_types::limits::Limits;
+use bh_types::refusal::Refusal;
 use sqlite::{Alter, Connection};
 
 /// Some function from bytes to 32 bytes, one for each type, of which nothing else is assumed.
@@ -18,6 +20,9 @@ pub trait Digester {
         requires { checksum.now ≡ sha256 bytes.now }
         ensures { result ≡ digest_of bytes.now };
 }
+
+/// How an operator's command ends that tells nothing where it is carried out.
+pub type Carried = Result<(), StepError<Refusal>>;
 
 /// A host of buckets over a SQL database.
 #[derive(Drop)]

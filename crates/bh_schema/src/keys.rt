@@ -1,8 +1,7 @@
-ghost use Rattle.bh_model.specs.Operations.{Done, add_key, remove_key};
-ghost use Rattle.bh_storage.specs.Calls.{Unless, Carries};
-ghost use Rattle.bh_schema.specs.Storage.{IsClean, seen, Works, Keeps, StaysOpen, KeepsSettings};
+ghost use Rattle.bh_model.specs.Operations.{add_key, remove_key};
+ghost use Rattle.bh_schema.specs.Storage.{Works, CarriesOut};
 
-use crate::host::{Digester, Host};
+use crate::host::{Carried, Digester, Host};
 use crate::rows::keys::insert_key;
 use crate::rows::known::{Known, find_key};
 use crate::rows::named::{Named, delete_named};
@@ -16,21 +15,9 @@ use std::alloc::Global;
 impl<S: Alter + Drop, D: Digester + Drop> Host<S, D> {
     /// Adds an access key to a tenant: InvalidName for either name or the secret, NoSuchTenant,
     /// KeyExists.
-    pub fn key_add(
-        &mut self,
-        alloc: Global,
-        tenant: &str,
-        name: &str,
-        secret: &str,
-    ) -> Result<(), StepError<Refusal>>
+    pub fn key_add(&mut self, alloc: Global, tenant: &str, name: &str, secret: &str) -> Carried
         requires { Works S.Store D.digest_of self.old }
-        ensures within { Keeps S.Store self.old self.new }
-        ensures opens { Unless result (StaysOpen S.Store self.old self.new) }
-        ensures working { Unless result (Works S.Store D.digest_of self.new) }
-        ensures carries { IsClean S.Store self.new
-            → Carries (λ _. Done) tenant.now (add_key tenant.now name.now secret.now)
-            (seen S.Store self.old).now (seen S.Store self.new).now result }
-        ensures settings { KeepsSettings S.Store self.old self.new }
+        ensures { CarriesOut S.Store D.digest_of self.old self.new tenant.now (add_key tenant.now name.now secret.now) result }
     {
         if !are_texts(alloc, tenant, name, secret)? {
             return Err(StepError::Refused(Refusal::InvalidName));
@@ -45,20 +32,9 @@ impl<S: Alter + Drop, D: Digester + Drop> Host<S, D> {
     }
 
     /// Takes an access key of a tenant away: InvalidName for either name, NoSuchTenant, NoSuchKeyName.
-    pub fn key_remove(
-        &mut self,
-        alloc: Global,
-        tenant: &str,
-        name: &str,
-    ) -> Result<(), StepError<Refusal>>
+    pub fn key_remove(&mut self, alloc: Global, tenant: &str, name: &str) -> Carried
         requires { Works S.Store D.digest_of self.old }
-        ensures within { Keeps S.Store self.old self.new }
-        ensures opens { Unless result (StaysOpen S.Store self.old self.new) }
-        ensures working { Unless result (Works S.Store D.digest_of self.new) }
-        ensures carries { IsClean S.Store self.new
-            → Carries (λ _. Done) tenant.now (remove_key tenant.now name.now)
-            (seen S.Store self.old).now (seen S.Store self.new).now result }
-        ensures settings { KeepsSettings S.Store self.old self.new }
+        ensures { CarriesOut S.Store D.digest_of self.old self.new tenant.now (remove_key tenant.now name.now) result }
     {
         if !are_names(alloc, tenant, name)? {
             return Err(StepError::Refused(Refusal::InvalidName));

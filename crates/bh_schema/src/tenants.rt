@@ -1,8 +1,7 @@
-ghost use Rattle.bh_model.specs.Operations.{Done, add_tenant, set_quota};
-ghost use Rattle.bh_storage.specs.Calls.{Unless, Carries};
-ghost use Rattle.bh_schema.specs.Storage.{IsClean, seen, Works, Keeps, StaysOpen, KeepsSettings};
+ghost use Rattle.bh_model.specs.Operations.{add_tenant, set_quota};
+ghost use Rattle.bh_schema.specs.Storage.{Works, CarriesOut};
 
-use crate::host::{Digester, Host};
+use crate::host::{Carried, Digester, Host};
 use crate::rows::tenants::{TenantNumber, find_tenant, insert_tenant, set_number};
 use crate::texts::is_tenant;
 use crate::trouble::or_trouble;
@@ -14,20 +13,9 @@ use std::alloc::Global;
 
 impl<S: Alter + Drop, D: Digester + Drop> Host<S, D> {
     /// Adds a tenant with a quota in bytes: InvalidName, InvalidQuota, TenantExists.
-    pub fn tenant_add(
-        &mut self,
-        alloc: Global,
-        tenant: &str,
-        quota: u64,
-    ) -> Result<(), StepError<Refusal>>
+    pub fn tenant_add(&mut self, alloc: Global, tenant: &str, quota: u64) -> Carried
         requires { Works S.Store D.digest_of self.old }
-        ensures within { Keeps S.Store self.old self.new }
-        ensures opens { Unless result (StaysOpen S.Store self.old self.new) }
-        ensures working { Unless result (Works S.Store D.digest_of self.new) }
-        ensures carries { IsClean S.Store self.new
-            → Carries (λ _. Done) tenant.now (add_tenant tenant.now quota)
-            (seen S.Store self.old).now (seen S.Store self.new).now result }
-        ensures settings { KeepsSettings S.Store self.old self.new }
+        ensures { CarriesOut S.Store D.digest_of self.old self.new tenant.now (add_tenant tenant.now quota) result }
     {
         if !is_tenant(alloc, tenant)? {
             return Err(StepError::Refused(Refusal::InvalidName));
@@ -35,8 +23,7 @@ impl<S: Alter + Drop, D: Digester + Drop> Host<S, D> {
         if !is_quota(quota) {
             return Err(StepError::Refused(Refusal::InvalidQuota));
         }
-        let found = or_trouble(find_tenant(&mut self.connection, tenant))?;
-        if found.is_some() {
+        if or_trouble(find_tenant(&mut self.connection, tenant))?.is_some() {
             return Err(StepError::Refused(Refusal::TenantExists));
         }
         or_trouble(insert_tenant(&mut self.connection, tenant, quota))?;
@@ -44,20 +31,9 @@ impl<S: Alter + Drop, D: Digester + Drop> Host<S, D> {
     }
 
     /// Sets a tenant's quota in bytes, also below what it uses: InvalidName, InvalidQuota, NoSuchTenant.
-    pub fn quota_set(
-        &mut self,
-        alloc: Global,
-        tenant: &str,
-        quota: u64,
-    ) -> Result<(), StepError<Refusal>>
+    pub fn quota_set(&mut self, alloc: Global, tenant: &str, quota: u64) -> Carried
         requires { Works S.Store D.digest_of self.old }
-        ensures within { Keeps S.Store self.old self.new }
-        ensures opens { Unless result (StaysOpen S.Store self.old self.new) }
-        ensures working { Unless result (Works S.Store D.digest_of self.new) }
-        ensures carries { IsClean S.Store self.new
-            → Carries (λ _. Done) tenant.now (set_quota tenant.now quota)
-            (seen S.Store self.old).now (seen S.Store self.new).now result }
-        ensures settings { KeepsSettings S.Store self.old self.new }
+        ensures { CarriesOut S.Store D.digest_of self.old self.new tenant.now (set_quota tenant.now quota) result }
     {
         if !is_tenant(alloc, tenant)? {
             return Err(StepError::Refused(Refusal::InvalidName));

@@ -67,8 +67,7 @@ pub fn lifecycle<S: Alter>(
 ) -> Result<u16, StepError<Refusal>>
     requires { Works S.Store connection.old }
     ensures works { WorksOn S.Store (Unless result) connection.old connection.new }
-    ensures carries { IsClean S.Store connection.new
-        → Carries (λ days. machine.Lifecycle days) tenant.now (machine.get_lifecycle bucket.now)
+    ensures carries { IsClean S.Store connection.new → Carries (λ days. machine.Lifecycle days) tenant.now (machine.get_lifecycle bucket.now)
         (tables S.Store connection.old) (tables S.Store connection.new) result }
 {
     match bucket_rule(connection, tenant, bucket) {
@@ -76,6 +75,22 @@ pub fn lifecycle<S: Alter>(
         Ok(None) => Err(StepError::Refused(Refusal::NoSuchLifecycleConfiguration)),
         Err(error) => Err(error),
     }
+}
+
+/// S3's DeleteBucketLifecycle: NoSuchBucket. A bucket without a rule stays as it is.
+pub fn delete_lifecycle<S: Alter>(
+    connection: &mut Connection<S>,
+    tenant: &TenantName,
+    bucket: &BucketName,
+) -> Result<RemovedEntry, StepError<Refusal>>
+    requires working { Works S.Store connection.old }
+    ensures works { WorksOn S.Store (Unless result) connection.old connection.new }
+    ensures carries { IsClean S.Store connection.new → Carries removed_answer tenant.now (machine.delete_lifecycle bucket.now)
+        (tables S.Store connection.old) (tables S.Store connection.new) result }
+{
+    bucket_state(connection, tenant, bucket)?;
+    or_trouble(rows::rules::clear_days(connection, tenant.as_str(), bucket.as_str()))?;
+    Ok(nothing_told())
 }
 
 /// S3's PutBucketLifecycleConfiguration: NoSuchBucket. The rule holds of uploads that were begun before, too.
@@ -89,28 +104,10 @@ pub fn set_lifecycle<S: Alter>(
     requires least { 1 ≤ days }
     requires most { days ≤ 3650 }
     ensures works { WorksOn S.Store (Unless result) connection.old connection.new }
-    ensures carries { IsClean S.Store connection.new
-        → Carries (λ _. machine.Done) tenant.now (machine.put_lifecycle bucket.now days)
+    ensures carries { IsClean S.Store connection.new → Carries (λ _. machine.Done) tenant.now (machine.put_lifecycle bucket.now days)
         (tables S.Store connection.old) (tables S.Store connection.new) result }
 {
     bucket_state(connection, tenant, bucket)?;
     or_trouble(rows::rules::set_days(connection, tenant.as_str(), bucket.as_str(), days))?;
     Ok(())
-}
-
-/// S3's DeleteBucketLifecycle: NoSuchBucket. A bucket without a rule stays as it is.
-pub fn delete_lifecycle<S: Alter>(
-    connection: &mut Connection<S>,
-    tenant: &TenantName,
-    bucket: &BucketName,
-) -> Result<RemovedEntry, StepError<Refusal>>
-    requires working { Works S.Store connection.old }
-    ensures works { WorksOn S.Store (Unless result) connection.old connection.new }
-    ensures carries { IsClean S.Store connection.new
-        → Carries removed_answer tenant.now (machine.delete_lifecycle bucket.now)
-        (tables S.Store connection.old) (tables S.Store connection.new) result }
-{
-    bucket_state(connection, tenant, bucket)?;
-    or_trouble(rows::rules::clear_days(connection, tenant.as_str(), bucket.as_str()))?;
-    Ok(nothing_told())
 }

@@ -1,14 +1,11 @@
-ghost use Rattle.std.specs.Prelude.{◌≡◌, ◌++◌, ◌∷◌, [], ◌<◌, ◌^◌, ℕ, None, map, find, option_map, IfOk, IfErr, OnOk};
-ghost use Rattle.std.specs.Str.{IsUtf8};
+ghost use Rattle.std.specs.Prelude.{◌≡◌, ◌++◌, ◌∷◌, [], ◌<◌, ◌^◌, None, map, find, option_map, IfOk, IfErr, OnOk};
 ghost use Rattle.sqlite_keyed.specs.Lists.{update_where, delete_where};
 ghost use Rattle.bh_types.specs.BucketStates.{state_number};
-ghost use Rattle.bh_tables.specs.Schema.{Octets};
-ghost use Rattle.bh_tables.specs.Typed.{BucketRow as Stored};
-ghost use Rattle.bh_tables.specs.Shown.{is_bucket, shown_bucket, shown_entry};
+ghost use Rattle.bh_tables.specs.Shown.{is_bucket, shown_entry};
 ghost use Rattle.bh_schema.specs.Calls.{Reads, Writes};
 ghost use Rattle.bh_schema.specs.Connections.{IsClean, tables, InTransaction, Becomes, IsTrouble, IsTroubleIf};
-ghost use Rattle.bh_schema.specs.Rows.{bucket_numbers, listed_buckets, entry_in, IsNewBucket, IsEmptyBucket};
-ghost use Rattle.bh_schema.specs.Views.{entry_seen};
+ghost use Rattle.bh_schema.specs.Rows.{bucket_numbers, listed_buckets, IsNewBucket, IsEmptyBucket};
+ghost use Rattle.bh_schema.specs.Views.{bucket_reading, entry_reading};
 
 use crate::rows::number::number;
 use crate::rows::reading::{FromRow, Listed, first_of};
@@ -37,17 +34,7 @@ pub struct ListedBucket {
 }
 
 impl FromRow for BucketNumbers {
-    ghost Typed = { Stored };
-
-    ghost shown = { shown_bucket };
-
-    ghost Meaning = { Self };
-
-    ghost meaning = { λ numbers. numbers };
-
-    ghost told = { bucket_numbers };
-
-    ghost IsReadable = { λ _. Unit {0} };
+    ghost reading = { bucket_reading };
 
     fn read(row: &Row) -> Result<BucketNumbers, Error> {
         Ok(BucketNumbers {
@@ -59,17 +46,7 @@ impl FromRow for BucketNumbers {
 }
 
 impl FromRow for ListedBucket {
-    ghost Typed = { Stored };
-
-    ghost shown = { shown_entry };
-
-    ghost Meaning = { Octets × ℕ };
-
-    ghost meaning = { entry_seen };
-
-    ghost told = { entry_in };
-
-    ghost IsReadable = { λ b. IsUtf8 b.bucket };
+    ghost reading = { entry_reading };
 
     fn read(row: &Row) -> Result<ListedBucket, Error> {
         Ok(ListedBucket {

@@ -1,57 +1,31 @@
 //! What the rows that a question shows are read as.
 
-ghost use Rattle.std.specs.Prelude.{◌≡◌, ◌∷◌, [], ℕ, List, Option, Some, true, map, option_map, slice_get, IfOk, IfErr};
+ghost use Rattle.std.specs.Prelude.{◌≡◌, List, Option, Some, true, map, option_map, slice_get, IfOk, IfErr};
 ghost use Rattle.std.specs.List.{AllByRecursion};
-ghost use Rattle.std.specs.Str.{IsUtf8};
-ghost use Rattle.std.specs.String.{string_bytes};
 ghost use Rattle.sqlite.specs.Order.{Row as Shown};
-ghost use Rattle.sqlite.specs.declared.types.Value.TheVariants.{Text};
 ghost use Rattle.bh_rows.specs.Means.{is_trouble};
 ghost use Rattle.bh_tables.specs.Schema.{Octets};
-ghost use Rattle.bh_tables.specs.Typed.{number, Tables};
+ghost use Rattle.bh_tables.specs.Typed.{Tables};
 ghost use Rattle.bh_schema.specs.Calls.{Reads};
 ghost use Rattle.bh_schema.specs.Connections.{IsClean, tables, InTransaction, IsTrouble, IsTroubleIf};
+ghost use Rattle.bh_schema.specs.Reading.{Reading, lone_number, lone_text};
 
 use sqlite::{Alter, Connection, Error, Row};
 use std::alloc::Global;
 
 /// A value that a row is read as.
 pub trait FromRow: Sized {
-    /// A row, as the tables have it.
-    ghost Typed: { Type 0 };
-
-    /// What is shown of such a row.
-    ghost shown: { Typed → Shown };
-
-    /// What a value says.
-    ghost Meaning: { Type 0 };
-
-    ghost meaning: { Self → Meaning };
-
-    /// What it says when it is read of such a row.
-    ghost told: { Typed → Meaning };
-
-    /// The texts in such a row are UTF-8, where there are some.
-    ghost IsReadable: { Typed → Type 0 };
+    /// What is shown of a row, and what a value says that is read of it.
+    ghost reading: { Reading Self };
 
     fn read(row: &Row) -> Result<Self, Error>
-        ensures read { IfOk result (λ value. (t : Typed) → row.now ≡ shown t → meaning value ≡ told t) }
-        ensures trouble { IfErr result (λ e. (t : Typed) → row.now ≡ shown t → IsReadable t → is_trouble e ≡ true) };
+        ensures read { IfOk result (λ value. (t : reading.Typed) → row.now ≡ reading.shown t → reading.meaning value ≡ reading.told t) }
+        ensures trouble { IfErr result (λ e. (t : reading.Typed) → row.now ≡ reading.shown t → reading.IsReadable t → is_trouble e ≡ true) };
 }
 
 /// A number from 0 on, alone in its row.
 impl FromRow for u64 {
-    ghost Typed = { ℕ };
-
-    ghost shown = { λ n. number n ∷ [] };
-
-    ghost Meaning = { ℕ };
-
-    ghost meaning = { λ n. n };
-
-    ghost told = { λ n. n };
-
-    ghost IsReadable = { λ _. Unit {0} };
+    ghost reading = { lone_number };
 
     fn read(row: &Row) -> Result<u64, Error> {
         row.get(0)
@@ -60,17 +34,7 @@ impl FromRow for u64 {
 
 /// A text, alone in its row.
 impl FromRow for String {
-    ghost Typed = { Octets };
-
-    ghost shown = { λ s. Text s ∷ [] };
-
-    ghost Meaning = { Octets };
-
-    ghost meaning = { string_bytes };
-
-    ghost told = { λ s. s };
-
-    ghost IsReadable = { IsUtf8 };
+    ghost reading = { lone_text };
 
     fn read(row: &Row) -> Result<String, Error> {
         row.get(0)
@@ -93,10 +57,10 @@ pub trait Listed: FromRow {
 
 /// What the first row is read as, if there is a row.
 pub fn first_of<R: FromRow>(rows: &[Row]) -> Result<Option<R>, Error>
-    ensures found { IfOk result (λ found. (sought : Option R.Typed) → slice_get rows.now 0 ≡ option_map R.shown sought
-        → option_map R.meaning found ≡ option_map R.told sought) }
-    ensures trouble { IfErr result (λ e. (sought : Option R.Typed) → slice_get rows.now 0 ≡ option_map R.shown sought
-        → ((t : R.Typed) → sought ≡ Some t → R.IsReadable t) → is_trouble e ≡ true) }
+    ensures found { IfOk result (λ found. (sought : Option (R.reading).Typed) → slice_get rows.now 0 ≡ option_map (R.reading).shown sought
+        → option_map (R.reading).meaning found ≡ option_map (R.reading).told sought) }
+    ensures trouble { IfErr result (λ e. (sought : Option (R.reading).Typed) → slice_get rows.now 0 ≡ option_map (R.reading).shown sought
+        → ((t : (R.reading).Typed) → sought ≡ Some t → (R.reading).IsReadable t) → is_trouble e ≡ true) }
 {
     match rows.first() {
         None => Ok(None),
@@ -106,10 +70,10 @@ pub fn first_of<R: FromRow>(rows: &[Row]) -> Result<Option<R>, Error>
 
 /// What all rows are read as.
 pub fn all_of<R: FromRow + Drop>(alloc: Global, rows: &[Row]) -> Result<Vec<R>, Error>
-    ensures read { IfOk result (λ values. (ts : List R.Typed) → rows.now ≡ map R.shown ts
-        → map R.meaning values.items ≡ map R.told ts) }
-    ensures trouble { IfErr result (λ e. (ts : List R.Typed) → rows.now ≡ map R.shown ts
-        → AllByRecursion R.IsReadable ts → is_trouble e ≡ true) }
+    ensures read { IfOk result (λ values. (ts : List (R.reading).Typed) → rows.now ≡ map (R.reading).shown ts
+        → map (R.reading).meaning values.items ≡ map (R.reading).told ts) }
+    ensures trouble { IfErr result (λ e. (ts : List (R.reading).Typed) → rows.now ≡ map (R.reading).shown ts
+        → AllByRecursion (R.reading).IsReadable ts → is_trouble e ≡ true) }
 {
     let mut values = Vec::new(alloc);
     for row in rows {
@@ -127,10 +91,10 @@ pub fn list_of<S: Alter, R: Listed + Drop>(
     requires inside { InTransaction S.Store connection.old }
     ensures reads { Reads S.Store connection.old connection.new result }
     ensures listed { IfOk result (λ values. IsClean S.Store connection.new
-        → (ts : List R.Typed) → R.listed tenant.now (tables S.Store connection.old) ≡ map R.shown ts
-        → map R.meaning values.items ≡ map R.told ts) }
+        → (ts : List (R.reading).Typed) → R.listed tenant.now (tables S.Store connection.old) ≡ map (R.reading).shown ts
+        → map (R.reading).meaning values.items ≡ map (R.reading).told ts) }
     ensures trouble { IfErr result (IsTroubleIf S.Store connection.old connection.new
-        ((ts : List R.Typed) × (R.listed tenant.now (tables S.Store connection.old) ≡ map R.shown ts) × AllByRecursion R.IsReadable ts)) }
+        ((ts : List (R.reading).Typed) × (R.listed tenant.now (tables S.Store connection.old) ≡ map (R.reading).shown ts) × AllByRecursion (R.reading).IsReadable ts)) }
 {
     let rows = R::rows(connection, tenant)?;
     all_of(alloc, &rows)

@@ -11,26 +11,6 @@ use crate::rows::writing::write;
 use sqlite::types::ToSql;
 use sqlite::{Alter, Connection, Error};
 
-/// The date of a tenant's version of this entry number, in seconds since 1970, if it has one.
-pub fn find_until<S: Alter>(
-    connection: &mut Connection<S>,
-    tenant: &str,
-    seq: u64,
-) -> Result<Option<u64>, Error>
-    requires inside { InTransaction S.Store connection.old }
-    requires small { seq < 2 ^ 63 }
-    ensures reads { Reads S.Store connection.old connection.new result }
-    ensures found { IfOk result (λ found. IsClean S.Store connection.new
-        → found ≡ option_map until_in (find (is_retain tenant.now seq) (tables S.Store connection.old).retains)) }
-    ensures trouble { IfErr result (IsTrouble S.Store connection.old connection.new) }
-{
-    let rows = connection.query_all(
-        "SELECT until FROM retains WHERE tenant = ?1 AND seq = ?2 ORDER BY rowid",
-        &[tenant.to_sql(), number(seq)],
-    )?;
-    first_of(&rows)
-}
-
 /// Gives a tenant's version of this entry number its first date.
 pub fn insert_retain<S: Alter>(
     connection: &mut Connection<S>,
@@ -76,6 +56,26 @@ pub fn set_until<S: Alter>(
         "UPDATE retains SET until = ?3 WHERE tenant = ?1 AND seq = ?2",
         &[tenant.to_sql(), number(seq), number(until)],
     )
+}
+
+/// The date of a tenant's version of this entry number, in seconds since 1970, if it has one.
+pub fn find_until<S: Alter>(
+    connection: &mut Connection<S>,
+    tenant: &str,
+    seq: u64,
+) -> Result<Option<u64>, Error>
+    requires inside { InTransaction S.Store connection.old }
+    requires small { seq < 2 ^ 63 }
+    ensures reads { Reads S.Store connection.old connection.new result }
+    ensures found { IfOk result (λ found. IsClean S.Store connection.new
+        → found ≡ option_map until_in (find (is_retain tenant.now seq) (tables S.Store connection.old).retains)) }
+    ensures trouble { IfErr result (IsTrouble S.Store connection.old connection.new) }
+{
+    let rows = connection.query_all(
+        "SELECT until FROM retains WHERE tenant = ?1 AND seq = ?2 ORDER BY rowid",
+        &[tenant.to_sql(), number(seq)],
+    )?;
+    first_of(&rows)
 }
 
 /// Takes the date of a tenant's version of this entry number away, if it has one: before the version itself.

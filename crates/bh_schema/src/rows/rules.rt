@@ -1,13 +1,10 @@
-ghost use Rattle.std.specs.Prelude.{ℕ, Option, Some, None, map, IfErr, OnOk};
-ghost use Rattle.std.specs.Str.{IsUtf8};
+ghost use Rattle.std.specs.Prelude.{Option, Some, None, map, IfErr, OnOk};
 ghost use Rattle.sqlite_keyed.specs.Lists.{update_where};
-ghost use Rattle.bh_tables.specs.Schema.{Octets};
-ghost use Rattle.bh_tables.specs.Typed.{BucketRow as Stored};
 ghost use Rattle.bh_tables.specs.Shown.{is_bucket, shown_rule};
 ghost use Rattle.bh_schema.specs.Calls.{Writes};
 ghost use Rattle.bh_schema.specs.Connections.{tables, InTransaction, Becomes, IsTrouble};
-ghost use Rattle.bh_schema.specs.Rows.{rule_in, listed_rules};
-ghost use Rattle.bh_schema.specs.Views.{rule_seen};
+ghost use Rattle.bh_schema.specs.Rows.{listed_rules};
+ghost use Rattle.bh_schema.specs.Views.{rule_reading};
 
 use crate::rows::number::number;
 use crate::rows::reading::{FromRow, Listed};
@@ -24,17 +21,7 @@ pub struct BucketRule {
 }
 
 impl FromRow for BucketRule {
-    ghost Typed = { Stored };
-
-    ghost shown = { shown_rule };
-
-    ghost Meaning = { Octets × Option ℕ };
-
-    ghost meaning = { rule_seen };
-
-    ghost told = { rule_in };
-
-    ghost IsReadable = { λ b. IsUtf8 b.bucket };
+    ghost reading = { rule_reading };
 
     fn read(row: &Row) -> Result<BucketRule, Error> {
         Ok(BucketRule {

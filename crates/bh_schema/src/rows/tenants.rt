@@ -1,11 +1,12 @@
 ghost use Rattle.std.specs.Prelude.{◌≡◌, ◌++◌, ◌∷◌, [], ◌<◌, ◌^◌, find, option_map, IfOk, IfErr, OnOk};
-ghost use Rattle.bh_tables.specs.Typed.{TenantRow as Stored, Tables, totals_of, used_changed};
-ghost use Rattle.bh_tables.specs.Shown.{is_tenant, shown_tenant, shown_account};
+ghost use Rattle.bh_tables.specs.Typed.{used_changed};
+ghost use Rattle.bh_tables.specs.Shown.{is_tenant};
 ghost use Rattle.bh_schema.specs.Calls.{Reads, Writes, WritesOn};
 ghost use Rattle.bh_schema.specs.Connections.{IsClean, tables, InTransaction, InMidst, Rewrites, Becomes, IsTrouble, IsTroubleIf};
 ghost use Rattle.bh_schema.specs.Written.{with_next, with_numbers};
 ghost use Rattle.bh_schema.specs.OwnNumbers.{with_number, IsTextOf};
 ghost use Rattle.bh_schema.specs.Rows.{tenant_numbers, tenant_account, IsNewTenant};
+ghost use Rattle.bh_schema.specs.Views.{numbers_reading, account_reading};
 
 use crate::rows::number::number;
 use crate::rows::reading::{FromRow, first_of};
@@ -58,17 +59,7 @@ impl TenantNumber {
 }
 
 impl FromRow for TenantNumbers {
-    ghost Typed = { Stored };
-
-    ghost shown = { shown_tenant };
-
-    ghost Meaning = { Self };
-
-    ghost meaning = { λ numbers. numbers };
-
-    ghost told = { tenant_numbers };
-
-    ghost IsReadable = { λ _. Unit {0} };
+    ghost reading = { numbers_reading };
 
     fn read(row: &Row) -> Result<TenantNumbers, Error> {
         Ok(TenantNumbers {
@@ -81,17 +72,7 @@ impl FromRow for TenantNumbers {
 }
 
 impl FromRow for TenantAccount {
-    ghost Typed = { Tables × Stored };
-
-    ghost shown = { λ t. shown_account (totals_of t.0) t.1 };
-
-    ghost Meaning = { Self };
-
-    ghost meaning = { λ account. account };
-
-    ghost told = { λ t. tenant_account t.0 t.1 };
-
-    ghost IsReadable = { λ _. Unit {0} };
+    ghost reading = { account_reading };
 
     fn read(row: &Row) -> Result<TenantAccount, Error> {
         Ok(TenantAccount {

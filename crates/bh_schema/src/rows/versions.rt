@@ -2,11 +2,11 @@ ghost use Rattle.std.specs.Prelude.{◌≡◌, ◌++◌, ◌∷◌, [], ◌<◌,
 ghost use Rattle.std.specs.Str.{IsUtf8};
 ghost use Rattle.bh_tables.specs.Typed.{VersionRow as Stored};
 ghost use Rattle.bh_tables.specs.Bodies.{resolved};
-ghost use Rattle.bh_tables.specs.Shown.{is_version, shown_head};
+ghost use Rattle.bh_tables.specs.Shown.{is_version};
 ghost use Rattle.bh_schema.specs.Calls.{Reads, Writes, WritesOn};
 ghost use Rattle.bh_schema.specs.Connections.{IsClean, tables, InTransaction, InMidst, Rewrites, Becomes, IsTroubleIf};
-ghost use Rattle.bh_schema.specs.Rows.{SeenHead, seen_head, newest_at, IsNewVersion};
-ghost use Rattle.bh_schema.specs.Views.{head_seen};
+ghost use Rattle.bh_schema.specs.Rows.{seen_head, newest_at, IsNewVersion};
+ghost use Rattle.bh_schema.specs.Views.{head_seen, head_reading};
 ghost use Rattle.bh_schema.specs.Written.{with_version, without_version, with_next, with_numbers, bytes_of_id};
 
 use crate::rows::number::number;
@@ -65,17 +65,7 @@ pub struct NewMarker<'a> {
 }
 
 impl FromRow for VersionHead {
-    ghost Typed = { Stored };
-
-    ghost shown = { shown_head };
-
-    ghost Meaning = { SeenHead };
-
-    ghost meaning = { head_seen };
-
-    ghost told = { seen_head };
-
-    ghost IsReadable = { λ v. IsUtf8 v.checksum };
+    ghost reading = { head_reading };
 
     fn read(row: &Row) -> Result<VersionHead, Error> {
         Ok(VersionHead {

@@ -1,5 +1,5 @@
 use Rattle.bh_tables.proofs.UseTexts.{use_inserted, uses_raised, uses_lowered, use_deleted}
-use Rattle.bh_blocks.proofs.uses.UseChange.text.Goals as goal
+use Rattle.bh_blocks.proofs.uses.text_of.Goals as goal
 
 pub returns-in-Added : goal.returns-in-Added
 returns-in-Added c = rw c.in-Added.is use_inserted

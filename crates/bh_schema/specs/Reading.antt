@@ -1,0 +1,34 @@
+-- How rows are read.
+use Rattle.std.specs.Prelude.{ℕ, ◌∷◌, []}
+use Rattle.std.specs.Str.{IsUtf8}
+use Rattle.std.specs.String.{string_bytes}
+use Rattle.std.specs.declared.string.String.{String}
+use Rattle.sqlite.specs.Order.{Row}
+use Rattle.sqlite.specs.declared.types.Value.TheVariants.{Text}
+use Rattle.bh_tables.specs.Typed.{number}
+
+-- what is shown of a row, and what a value says that is read of it
+pub record Reading (R : Type 0) : Type 1 where
+  -- a row, as the tables have it
+  pub Typed : Type 0
+  -- what is shown of such a row
+  pub shown : Typed → Row
+  -- what a value says
+  pub Meaning : Type 0
+  pub meaning : R → Meaning
+  -- what it says when it is read of such a row
+  pub told : Typed → Meaning
+  -- the texts in such a row are UTF-8, where there are some
+  pub IsReadable : Typed → Type 0
+
+-- a row without texts: a value says itself
+abbrev pub textless : {R Typed : Type 0} → (Typed → Row) → (Typed → R) → Reading R
+textless shown told = record { Typed = Typed; shown = shown; Meaning = R; meaning = λ value. value; told = told; IsReadable = λ _. Unit {0} }
+
+-- a number from 0 on, alone in its row
+abbrev pub lone_number : Reading ℕ
+lone_number = textless (λ n. number n ∷ []) (λ n. n)
+
+-- a text, alone in its row
+abbrev pub lone_text : Reading String
+lone_text = record { shown = λ s. Text s ∷ []; meaning = string_bytes; told = λ s. s; IsReadable = IsUtf8 }
