@@ -283,7 +283,8 @@ pub fn list_buckets<S: Alter>(
 ) -> Result<Vec<BucketEntry>, StepError<Refusal>>
     requires working { Works S.Store connection.old }
     ensures works { WorksOn S.Store (Unless result) connection.old connection.new }
-    ensures carries { IsClean S.Store connection.new → Carries (λ buckets. machine.Buckets (map bucket_view buckets.items)) tenant.now machine.list_buckets
+    ensures carries { IsClean S.Store connection.new
+        → Carries (λ buckets. machine.Buckets (map bucket_view buckets.items)) tenant.now machine.list_buckets
         (tables S.Store connection.old) (tables S.Store connection.new) result }
 {
     let listed: Vec<ListedBucket> = or_trouble(list_of(connection, alloc, tenant.as_str()))?;

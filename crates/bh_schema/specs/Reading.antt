@@ -2,9 +2,11 @@
 use Rattle.std.specs.Prelude.{ℕ, ◌∷◌, []}
 use Rattle.std.specs.Str.{IsUtf8}
 use Rattle.std.specs.String.{string_bytes}
+use Rattle.std.specs.declared.alloc.Global.{Global}
 use Rattle.std.specs.declared.string.String.{String}
 use Rattle.sqlite.specs.Order.{Row}
 use Rattle.sqlite.specs.declared.types.Value.TheVariants.{Text}
+use Rattle.bh_tables.specs.Schema.{Octets}
 use Rattle.bh_tables.specs.Typed.{number}
 
 -- what is shown of a row, and what a value says that is read of it
@@ -21,14 +23,18 @@ pub record Reading (R : Type 0) : Type 1 where
   -- the texts in such a row are UTF-8, where there are some
   pub IsReadable : Typed → Type 0
 
+abbrev pub read_as : {R Typed Meaning : Type 0} → (Typed → Row) → (R → Meaning) → (Typed → Meaning) → (Typed → Type 0) → Reading R
+read_as {R = R} {Typed = Typed} {Meaning = Meaning} shown meaning told IsReadable =
+    record { Typed = Typed; shown = shown; Meaning = Meaning; meaning = meaning; told = told; IsReadable = IsReadable }
+
 -- a row without texts: a value says itself
 abbrev pub textless : {R Typed : Type 0} → (Typed → Row) → (Typed → R) → Reading R
-textless shown told = record { Typed = Typed; shown = shown; Meaning = R; meaning = λ value. value; told = told; IsReadable = λ _. Unit {0} }
+textless shown told = read_as shown (λ value. value) told (λ _. Unit {0})
 
 -- a number from 0 on, alone in its row
 abbrev pub lone_number : Reading ℕ
 lone_number = textless (λ n. number n ∷ []) (λ n. n)
 
 -- a text, alone in its row
-abbrev pub lone_text : Reading String
-lone_text = record { shown = λ s. Text s ∷ []; meaning = string_bytes; told = λ s. s; IsReadable = IsUtf8 }
+abbrev pub lone_text : Reading (String Global)
+lone_text = read_as (λ s. Text s ∷ []) string_bytes (λ (s : Octets). s) IsUtf8

@@ -5,7 +5,7 @@ use Rattle.std.specs.String.{string_bytes}
 use Rattle.bh_tables.specs.Schema.{Octets}
 use Rattle.bh_tables.specs.Typed.{TenantRow, BucketRow, VersionRow, Tables, totals_of}
 use Rattle.bh_tables.specs.Shown.{shown_tenant, shown_account, shown_bucket, shown_entry, shown_rule, shown_head}
-use Rattle.bh_schema.specs.Reading.{Reading, textless}
+use Rattle.bh_schema.specs.Reading.{Reading, read_as, textless}
 use Rattle.bh_schema.specs.Rows.{SeenHead, tenant_numbers, tenant_account, bucket_numbers, entry_in, rule_in, seen_head}
 use Rattle.bh_schema.specs.declared.rows.tenants.TenantNumbers.{TenantNumbers}
 use Rattle.bh_schema.specs.declared.rows.tenants.TenantAccount.{TenantAccount}
@@ -36,10 +36,10 @@ abbrev pub bucket_reading : Reading BucketNumbers
 bucket_reading = textless shown_bucket bucket_numbers
 
 abbrev pub entry_reading : Reading ListedBucket
-entry_reading = record { shown = shown_entry; meaning = entry_seen; told = entry_in; IsReadable = λ b. IsUtf8 b.bucket }
+entry_reading = read_as shown_entry entry_seen entry_in (λ b. IsUtf8 b.bucket)
 
 abbrev pub rule_reading : Reading BucketRule
-rule_reading = record { shown = shown_rule; meaning = rule_seen; told = rule_in; IsReadable = λ b. IsUtf8 b.bucket }
+rule_reading = read_as shown_rule rule_seen rule_in (λ b. IsUtf8 b.bucket)
 
 abbrev pub head_reading : Reading VersionHead
-head_reading = record { shown = shown_head; meaning = head_seen; told = seen_head; IsReadable = λ v. IsUtf8 v.checksum }
+head_reading = read_as shown_head head_seen seen_head (λ v. IsUtf8 v.checksum)

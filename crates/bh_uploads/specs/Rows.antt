@@ -1,12 +1,15 @@
 -- What the columns of uploads and parts that are read stand for, and which new rows no key forbids.
 use Rattle.std.specs.Prelude.{◌≡◌, ℕ, true, false, List, map, filter}
 use Rattle.std.specs.List.{list_any}
+use Rattle.std.specs.Str.{IsUtf8}
 use Rattle.std.specs.String.{string_bytes}
 use Rattle.sqlite_keyed.specs.Lists.{sort_by}
 use Rattle.bh_core.specs.declared.parts.PartRow as core
 use Rattle.bh_tables.specs.Schema.{Octets}
 use Rattle.bh_tables.specs.Typed.{UploadRow, PartColumns, PartRow, Tables}
 use Rattle.bh_tables.specs.Shown.{is_bucket, is_upload, is_part, is_part_of, has_body, by_part, is_begun_before, by_begun}
+use Rattle.bh_tables.specs.Shown.{shown_upload, shown_body}
+use Rattle.bh_schema.specs.Reading.{Reading, read_as, textless}
 use Rattle.bh_uploads.specs.declared.rows.uploads.UploadHead.{UploadHead}
 use Rattle.bh_uploads.specs.declared.rows.uploads.UploadRecord.{UploadRecord}
 use Rattle.bh_uploads.specs.declared.rows.parts.PartBody.{PartBody}
@@ -25,6 +28,9 @@ seen_upload u = record { bucket = u.bucket; key = u.okey; begun = u.begun }
 
 abbrev pub upload_seen : UploadHead → SeenUpload
 upload_seen u = record { bucket = string_bytes u.bucket; key = u.key.items; begun = u.begun }
+
+abbrev pub upload_reading : Reading UploadHead
+upload_reading = read_as shown_upload upload_seen seen_upload (λ u. IsUtf8 u.bucket)
 
 abbrev pub stored_upload : UploadRecord → UploadRow
 stored_upload u = record { tenant = u.tenant.now; upload = u.upload; bucket = u.bucket.now; okey = u.okey.now; begun = u.begun }
@@ -53,6 +59,9 @@ row_seen p = record { number = p.number; size = p.size; checksum = string_bytes 
 
 abbrev pub part_body : PartRow → PartBody
 part_body p = record { body = p.body; size = p.size }
+
+abbrev pub body_reading : Reading PartBody
+body_reading = textless shown_body part_body
 
 abbrev pub stored_part : PartRecord → PartColumns
 stored_part p = record {

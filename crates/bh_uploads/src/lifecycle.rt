@@ -67,7 +67,8 @@ pub fn lifecycle<S: Alter>(
 ) -> Result<u16, StepError<Refusal>>
     requires { Works S.Store connection.old }
     ensures works { WorksOn S.Store (Unless result) connection.old connection.new }
-    ensures carries { IsClean S.Store connection.new → Carries (λ days. machine.Lifecycle days) tenant.now (machine.get_lifecycle bucket.now)
+    ensures carries { IsClean S.Store connection.new
+        → Carries (λ days. machine.Lifecycle days) tenant.now (machine.get_lifecycle bucket.now)
         (tables S.Store connection.old) (tables S.Store connection.new) result }
 {
     match bucket_rule(connection, tenant, bucket) {

@@ -1,9 +1,11 @@
 -- What the columns of listed keys and tenants stand for.
 use Rattle.std.specs.Prelude.{ℕ, length, filter}
+use Rattle.std.specs.Str.{IsUtf8}
 use Rattle.std.specs.String.{string_bytes}
 use Rattle.bh_model.specs.State.{Octets}
-use Rattle.bh_tables.specs.Typed.{KeyRow, TenantRow, Tables, bytes_used}
-use Rattle.bh_tables.specs.Shown.{is_owned_key}
+use Rattle.bh_tables.specs.Typed.{KeyRow, TenantRow, Tables, bytes_used, totals_of}
+use Rattle.bh_tables.specs.Shown.{is_owned_key, shown_quota}
+use Rattle.bh_schema.specs.Reading.{Reading, read_as}
 use Rattle.bh_storage.specs.Reports.{TenantTold}
 use Rattle.bh_usage.specs.declared.rows.ListedTenant.{ListedTenant}
 
@@ -21,6 +23,11 @@ tenant_seen t = record { name = string_bytes t.name; quota = t.quota; used = t.u
 
 abbrev pub quota_in_row : Tables → TenantRow → Quota
 quota_in_row tables t = record { name = t.tenant; quota = t.quota; used = bytes_used tables.versions tables.parts t.tenant }
+
+-- the row of a tenant beside the tables that it is in
+abbrev pub quota_reading : Reading ListedTenant
+quota_reading =
+    read_as (λ (t : Tables × TenantRow). shown_quota (totals_of t.0) t.1) tenant_seen (λ t. quota_in_row t.0 t.1) (λ t. IsUtf8 t.1.tenant)
 
 -- as it is told, with how many access keys these tables have of it
 abbrev pub told_with : Tables → Quota → TenantTold

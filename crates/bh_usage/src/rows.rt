@@ -3,11 +3,10 @@ ghost use Rattle.std.specs.Prelude.{◌≡◌, map, IfOk, IfErr};
 ghost use Rattle.std.specs.List.{AllByRecursion};
 ghost use Rattle.std.specs.Str.{IsUtf8};
 ghost use Rattle.std.specs.String.{string_bytes};
-ghost use Rattle.bh_tables.specs.Typed.{TenantRow, Tables, totals_of};
-ghost use Rattle.bh_tables.specs.Shown.{keys_by_name, tenants_by_name, shown_quota};
+ghost use Rattle.bh_tables.specs.Shown.{keys_by_name, tenants_by_name};
 ghost use Rattle.bh_schema.specs.Connections.{IsClean, tables, InTransaction, IsTroubleIf};
 ghost use Rattle.bh_schema.specs.Calls.{Reads};
-ghost use Rattle.bh_usage.specs.Listed.{Quota, name_in, quota_in_row, tenant_seen};
+ghost use Rattle.bh_usage.specs.Listed.{quota_reading, name_in, quota_in_row, tenant_seen};
 
 use bh_schema::rows::reading::{FromRow, all_of};
 use sqlite::types::ToSql;
@@ -25,17 +24,7 @@ pub struct ListedTenant {
 }
 
 impl FromRow for ListedTenant {
-    ghost Typed = { Tables × TenantRow };
-
-    ghost shown = { λ t. shown_quota (totals_of t.0) t.1 };
-
-    ghost Meaning = { Quota };
-
-    ghost meaning = { tenant_seen };
-
-    ghost told = { λ t. quota_in_row t.0 t.1 };
-
-    ghost IsReadable = { λ t. IsUtf8 t.1.tenant };
+    ghost reading = { quota_reading };
 
     fn read(row: &Row) -> Result<ListedTenant, Error> {
         Ok(ListedTenant {

@@ -20,7 +20,8 @@ pub trait FromRow: Sized {
 
     fn read(row: &Row) -> Result<Self, Error>
         ensures read { IfOk result (λ value. (t : reading.Typed) → row.now ≡ reading.shown t → reading.meaning value ≡ reading.told t) }
-        ensures trouble { IfErr result (λ e. (t : reading.Typed) → row.now ≡ reading.shown t → reading.IsReadable t → is_trouble e ≡ true) };
+        ensures trouble { IfErr result (λ e. (t : reading.Typed) → row.now ≡ reading.shown t → reading.IsReadable t
+            → is_trouble e ≡ true) };
 }
 
 /// A number from 0 on, alone in its row.
@@ -94,7 +95,8 @@ pub fn list_of<S: Alter, R: Listed + Drop>(
         → (ts : List (R.reading).Typed) → R.listed tenant.now (tables S.Store connection.old) ≡ map (R.reading).shown ts
         → map (R.reading).meaning values.items ≡ map (R.reading).told ts) }
     ensures trouble { IfErr result (IsTroubleIf S.Store connection.old connection.new
-        ((ts : List (R.reading).Typed) × (R.listed tenant.now (tables S.Store connection.old) ≡ map (R.reading).shown ts) × AllByRecursion (R.reading).IsReadable ts)) }
+        ((ts : List (R.reading).Typed) × (R.listed tenant.now (tables S.Store connection.old) ≡ map (R.reading).shown ts)
+        × AllByRecursion (R.reading).IsReadable ts)) }
 {
     let rows = R::rows(connection, tenant)?;
     all_of(alloc, &rows)

@@ -2,10 +2,10 @@ ghost use Rattle.std.specs.Prelude.{◌≡◌, ◌++◌, ◌∷◌, [], List, �
 ghost use Rattle.sqlite_keyed.specs.Lists.{delete_where};
 ghost use Rattle.bh_tables.specs.Typed.{PartRow as Stored};
 ghost use Rattle.bh_tables.specs.Bodies.{resolved_part};
-ghost use Rattle.bh_tables.specs.Shown.{is_part, is_part_of, shown_part, shown_body};
+ghost use Rattle.bh_tables.specs.Shown.{is_part, is_part_of, shown_part};
 ghost use Rattle.bh_schema.specs.Calls.{Reads, WritesOn};
 ghost use Rattle.bh_schema.specs.Connections.{IsClean, tables, InTransaction, InMidst, Rewrites, IsTrouble};
-ghost use Rattle.bh_uploads.specs.Rows.{AreListed, seen_row, row_seen, part_body, stored_part, listed_parts};
+ghost use Rattle.bh_uploads.specs.Rows.{AreListed, body_reading, seen_row, row_seen, part_body, stored_part, listed_parts};
 
 use bh_core::parts::PartRow;
 use bh_schema::rows::number::number;
@@ -124,17 +124,7 @@ pub fn part_list<S: Alter>(
 }
 
 impl FromRow for PartBody {
-    ghost Typed = { Stored };
-
-    ghost shown = { shown_body };
-
-    ghost Meaning = { Self };
-
-    ghost meaning = { λ body. body };
-
-    ghost told = { part_body };
-
-    ghost IsReadable = { λ _. Unit {0} };
+    ghost reading = { body_reading };
 
     fn read(row: &Row) -> Result<PartBody, Error> {
         Ok(PartBody {

@@ -1,12 +1,10 @@
 ghost use Rattle.std.specs.Prelude.{◌≡◌, ◌++◌, ◌∷◌, [], ◌<◌, ◌^◌, false, map, find, option_map, IfOk, IfErr, OnOk};
 ghost use Rattle.std.specs.List.{list_any};
-ghost use Rattle.std.specs.Str.{IsUtf8};
 ghost use Rattle.sqlite_keyed.specs.Lists.{delete_where};
-ghost use Rattle.bh_tables.specs.Typed.{UploadRow as Stored};
-ghost use Rattle.bh_tables.specs.Shown.{is_upload, is_part_of, shown_upload};
+ghost use Rattle.bh_tables.specs.Shown.{is_upload, is_part_of};
 ghost use Rattle.bh_schema.specs.Calls.{Reads, Writes};
 ghost use Rattle.bh_schema.specs.Connections.{IsClean, tables, InTransaction, Becomes, IsTroubleIf};
-ghost use Rattle.bh_uploads.specs.Rows.{SeenUpload, seen_upload, upload_seen, stored_upload, begun_before, IsNewUpload};
+ghost use Rattle.bh_uploads.specs.Rows.{upload_reading, seen_upload, upload_seen, stored_upload, begun_before, IsNewUpload};
 
 use bh_schema::rows::number::number;
 use bh_schema::rows::reading::{FromRow, all_of, first_of};
@@ -39,17 +37,7 @@ pub struct UploadRecord<'a> {
 }
 
 impl FromRow for UploadHead {
-    ghost Typed = { Stored };
-
-    ghost shown = { shown_upload };
-
-    ghost Meaning = { SeenUpload };
-
-    ghost meaning = { upload_seen };
-
-    ghost told = { seen_upload };
-
-    ghost IsReadable = { λ u. IsUtf8 u.bucket };
+    ghost reading = { upload_reading };
 
     fn read(row: &Row) -> Result<UploadHead, Error> {
         Ok(UploadHead {

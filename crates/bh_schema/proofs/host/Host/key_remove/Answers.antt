@@ -21,8 +21,14 @@ use Rattle.bh_schema.proofs.host.Host.key_remove.Goals as goal
 pub find_key-requires : goal.find_key-requires
 find_key-requires g c = record { inside = λ clean. inside_of _ (state g.S.Store c.args.self.now.connection) (under _ _ (c.requires (parts clean))) }
 
-pub returns-in_err-or_trouble-clause-within : goal.returns-in_err-or_trouble-clause-within
-returns-in_err-or_trouble-clause-within g c = keeps g.S.Store c.args.self.now _ refl c.find_key.ensures.reads.within
+pub returns-in_err-or_trouble : goal.returns-in_err-or_trouble
+returns-in_err-or_trouble g c = record {
+  within = keeps g.S.Store c.args.self.now _ refl c.find_key.ensures.reads.within;
+  opens = search rules;
+  working = search rules;
+  carries = search rules;
+  settings = (refl, c.find_key.ensures.reads.within.follows.limit);
+}
 
 pub returns-in-NoTenant : goal.returns-in-NoTenant
 returns-in-NoTenant g c =
@@ -66,13 +72,20 @@ pub delete_named-requires : goal.delete_named-requires
 delete_named-requires g c =
     record { inside = asked_inside _ _ (state g.S.Store c.args.self.now.connection) (state g.S.Store c.find_key.new.connection) c.requires c.find_key.ensures.reads.within (on_ok _ c.in_ok-or_trouble.ensures.ok c.find_key.ensures.reads.same) }
 
-pub returns-in_err-or_trouble-2-clause-within : goal.returns-in_err-or_trouble-2-clause-within
-returns-in_err-or_trouble-2-clause-within g c =
+pub returns-in_err-or_trouble-2 : goal.returns-in_err-or_trouble-2
+returns-in_err-or_trouble-2 g c =
     let old = state g.S.Store c.args.self.now.connection in
     let mid = state g.S.Store c.find_key.new.connection in
     let new = state g.S.Store c.delete_named.new.connection in
-    keeps g.S.Store c.args.self.now _ refl
-    (wrote_within old mid new c.find_key.ensures.reads.within (on_ok _ c.in_ok-or_trouble.ensures.ok c.find_key.ensures.reads.opens) c.delete_named.ensures.writes.within)
+    let asked = c.find_key.ensures.reads.within in
+    let wrote = c.delete_named.ensures.writes.within in
+    record {
+      within = keeps g.S.Store c.args.self.now _ refl (wrote_within old mid new asked (on_ok _ c.in_ok-or_trouble.ensures.ok c.find_key.ensures.reads.opens) wrote);
+      opens = search rules;
+      working = search rules;
+      carries = search rules;
+      settings = (refl, wrote.follows.limit ∙ asked.follows.limit);
+    }
 
 pub returns : goal.returns
 returns g c =

@@ -21,8 +21,14 @@ use Rattle.bh_schema.proofs.host.Host.quota_set.Goals as goal
 pub find_tenant-requires : goal.find_tenant-requires
 find_tenant-requires g c = record { inside = λ clean. inside_of _ (state g.S.Store c.args.self.now.connection) (under _ _ (c.requires (parts clean))) }
 
-pub returns-in_err-found-clause-within : goal.returns-in_err-found-clause-within
-returns-in_err-found-clause-within g c = keeps g.S.Store c.args.self.now _ refl c.find_tenant.ensures.reads.within
+pub returns-in_err-found : goal.returns-in_err-found
+returns-in_err-found g c = record {
+  within = keeps g.S.Store c.args.self.now _ refl c.find_tenant.ensures.reads.within;
+  opens = search rules;
+  working = search rules;
+  carries = search rules;
+  settings = (refl, c.find_tenant.ensures.reads.within.follows.limit);
+}
 
 pub returns-then-is_none : goal.returns-then-is_none
 returns-then-is_none g c =
@@ -49,11 +55,20 @@ pub set_number-requires-clause-inside : goal.set_number-requires-clause-inside
 set_number-requires-clause-inside g c =
     asked_inside _ _ (state g.S.Store c.args.self.now.connection) (state g.S.Store c.find_tenant.new.connection) c.requires c.find_tenant.ensures.reads.within (on_ok _ c.in_ok-found.ensures.ok c.find_tenant.ensures.reads.same)
 
-pub returns-in_err-or_trouble-clause-within : goal.returns-in_err-or_trouble-clause-within
-returns-in_err-or_trouble-clause-within g c =
-    keeps g.S.Store c.args.self.now _ refl
-    (wrote_within (state g.S.Store c.args.self.now.connection) (state g.S.Store c.find_tenant.new.connection) (state g.S.Store c.set_number.new.connection)
-    c.find_tenant.ensures.reads.within (on_ok _ c.in_ok-found.ensures.ok c.find_tenant.ensures.reads.opens) c.set_number.ensures.writes.within)
+pub returns-in_err-or_trouble : goal.returns-in_err-or_trouble
+returns-in_err-or_trouble g c =
+    let old = state g.S.Store c.args.self.now.connection in
+    let mid = state g.S.Store c.find_tenant.new.connection in
+    let new = state g.S.Store c.set_number.new.connection in
+    let asked = c.find_tenant.ensures.reads.within in
+    let wrote = c.set_number.ensures.writes.within in
+    record {
+      within = keeps g.S.Store c.args.self.now _ refl (wrote_within old mid new asked (on_ok _ c.in_ok-found.ensures.ok c.find_tenant.ensures.reads.opens) wrote);
+      opens = search rules;
+      working = search rules;
+      carries = search rules;
+      settings = (refl, wrote.follows.limit ∙ asked.follows.limit);
+    }
 
 pub returns : goal.returns
 returns g c =
