@@ -10,9 +10,9 @@ returns g c =
     let new = state g.S.Store c.execute.new.self in
     let live = c.schema-schema.ensures.live in
     let q : Name = (c.args.digest.now, c.args.ord) in
-    let w = turns old new c.requires.midst c.execute.result live _ q c.args.change c.text.ensures h.runs h.survives in
+    let w = turns old new c.requires.midst c.execute.result live _ q c.args.change c.text_of.ensures h.runs h.survives in
     record {
       writes = record { within = w.within; opens = w.opens; midst = w.midst };
       rewrites = w.rewrites;
-      trouble = turns_trouble old new c.requires.midst c.execute.result live _ q c.args.change c.text.ensures h.runs h.survives;
+      trouble = turns_trouble old new c.requires.midst c.execute.result live _ q c.args.change c.text_of.ensures h.runs h.survives;
     }
