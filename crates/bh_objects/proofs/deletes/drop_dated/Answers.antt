@@ -14,14 +14,16 @@ drop_entry-requires-clause-held g c clean =
     let k = c.args.key.now in
     ap (bytes_of_id t b k c.args.number) (c.in_ok-set_date.ensures.changes.holds clean).is ∙ sizes_stay t b k c.args.number c.args.entry.seq c.args.date (tables_at (state g.S.Store c.args.connection.now)) ∙ c.requires.held (c.in_ok-set_date.ensures.changes.within.follows.clean clean)
 
-pub returns-clause-changes : goal.returns-clause-changes
-returns-clause-changes g c = record {
-  within = search rules;
-  opens = search rules;
-  holds = on_ok_then c.drop_entry.result _ _ (λ holds clean.
-      let it = holds clean in
-      record {
-        within = it.within;
-        is = it.is ∙ ap (without_entry c.args.tenant.now c.args.bucket.now c.args.key.now c.args.number c.args.entry.seq) (c.in_ok-set_date.ensures.changes.holds (c.drop_entry.ensures.changes.within.follows.clean clean)).is;
-      }) c.drop_entry.ensures.changes.holds;
+pub returns : goal.returns
+returns g c = record {
+  changes = record {
+    within = search rules;
+    opens = search rules;
+    holds = on_ok_then c.drop_entry.result _ _ (λ holds clean.
+        let it = holds clean in
+        record {
+          within = it.within;
+          is = it.is ∙ ap (without_entry c.args.tenant.now c.args.bucket.now c.args.key.now c.args.number c.args.entry.seq) (c.in_ok-set_date.ensures.changes.holds (c.drop_entry.ensures.changes.within.follows.clean clean)).is;
+        }) c.drop_entry.ensures.changes.holds;
+  };
 }

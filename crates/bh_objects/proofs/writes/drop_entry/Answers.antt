@@ -17,14 +17,16 @@ delete_version-requires-clause-held g c clean =
     ap (bytes_of_id t b k c.args.number) one ∙ size_again t b k c.args.number _ _ (tables_at (state g.S.Store c.args.connection.now)) ∙ c.requires.held (c.drop_body.ensures.within.follows.clean clean)
     )
 
-pub returns-clause-changes : goal.returns-clause-changes
-returns-clause-changes g c = record {
-  within = search rules;
-  opens = search rules;
-  holds = λ clean.
-      let clean_middle = c.delete_version.ensures.writes.within.follows.clean clean in
-      let one = rw c.as_str-tenant.ensures.value at (on_ok _ c.in_ok-or_trouble.ensures.ok c.drop_body.ensures.dropped clean_middle).is in
-      let holds = on_ok _ c.in_ok-or_trouble-2.ensures.ok c.delete_version.ensures.holds clean in
-      let two = rw (c.as_str-tenant.ensures.value, c.as_str-2.ensures.value, c.as_bytes-key.ensures.value, c.as_str.ensures.value) at holds.is in
-      record { within = holds.within; is = two ∙ ap (without_row c.args.tenant.now c.args.bucket.now c.args.key.now c.args.number) one };
+pub returns : goal.returns
+returns g c = record {
+  changes = record {
+    within = search rules;
+    opens = search rules;
+    holds = λ clean.
+        let clean_middle = c.delete_version.ensures.writes.within.follows.clean clean in
+        let one = rw c.as_str-tenant.ensures.value at (on_ok _ c.in_ok-or_trouble.ensures.ok c.drop_body.ensures.dropped clean_middle).is in
+        let holds = on_ok _ c.in_ok-or_trouble-2.ensures.ok c.delete_version.ensures.holds clean in
+        let two = rw (c.as_str-tenant.ensures.value, c.as_str-2.ensures.value, c.as_bytes-key.ensures.value, c.as_str.ensures.value) at holds.is in
+        record { within = holds.within; is = two ∙ ap (without_row c.args.tenant.now c.args.bucket.now c.args.key.now c.args.number) one };
+  };
 }

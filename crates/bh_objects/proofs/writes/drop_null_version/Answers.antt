@@ -26,56 +26,62 @@ of_row : (t b k : Octets) (tables : Tables) (row : VersionRow) (marked : Bool) �
     → (if marked then tables else without_entry t b k 0 row.seq tables) ≡ without_null_version t b k tables
 of_row t b k tables row marked there its = sym (ap (left t b k tables) there ∙ ap (λ m. if m then tables else without_entry t b k 0 row.seq tables) its)
 
-pub returns-in-None-clause-changes : goal.returns-in-None-clause-changes
-returns-in-None-clause-changes g c = record {
-  within = search rules;
-  opens = search rules;
-  holds = λ clean.
-      let old = state g.S.Store c.args.connection.now in
-      let same = c.in_ok-numbered_head.ensures.reads.same clean.intact in
-      let none = none_mapped seen_head _ (sym (c.in_ok-numbered_head.ensures.found clean) ∙ ap (option_map head_seen) c.in-None.is) in
-      record {
-        within = subst IsInside (sym same) (c.requires (c.in_ok-numbered_head.ensures.reads.within.follows.clean clean));
-        is = same_tables old (state g.S.Store c.numbered_head.new.connection) same ∙ ap (left c.args.tenant.now c.args.bucket.now c.args.key.now (tables_at old)) (sym none);
-      };
+pub returns-in-None : goal.returns-in-None
+returns-in-None g c = record {
+  changes = record {
+    within = search rules;
+    opens = search rules;
+    holds = λ clean.
+        let old = state g.S.Store c.args.connection.now in
+        let same = c.in_ok-numbered_head.ensures.reads.same clean.intact in
+        let none = none_mapped seen_head _ (sym (c.in_ok-numbered_head.ensures.found clean) ∙ ap (option_map head_seen) c.in-None.is) in
+        record {
+          within = subst IsInside (sym same) (c.requires (c.in_ok-numbered_head.ensures.reads.within.follows.clean clean));
+          is = same_tables old (state g.S.Store c.numbered_head.new.connection) same ∙ ap (left c.args.tenant.now c.args.bucket.now c.args.key.now (tables_at old)) (sym none);
+        };
+  };
 }
 
-pub returns-then-is_marker-clause-changes : goal.returns-then-is_marker-clause-changes
-returns-then-is_marker-clause-changes g c = record {
-  within = search rules;
-  opens = search rules;
-  holds = λ clean.
-      let old = state g.S.Store c.args.connection.now in
-      let same = c.in_ok-numbered_head.ensures.reads.same clean.intact in
-      let row = row_of seen_head _ (head_seen c.in-Some.head) (sym (c.in_ok-numbered_head.ensures.found clean) ∙ ap (option_map head_seen) c.in-Some.is) in
-      record {
-        within = subst IsInside (sym same) (c.requires (c.in_ok-numbered_head.ensures.reads.within.follows.clean clean));
-        is = same_tables old (state g.S.Store c.numbered_head.new.connection) same
-            ∙ of_row c.args.tenant.now c.args.bucket.now c.args.key.now (tables_at old) row.0 true row.1 (ap (λ (x : SeenHead). is_marked x.marker) row.2 ∙ sym c.is_marker.ensures ∙ c.if-is_marker.true);
-      };
+pub returns-then-is_marker : goal.returns-then-is_marker
+returns-then-is_marker g c = record {
+  changes = record {
+    within = search rules;
+    opens = search rules;
+    holds = λ clean.
+        let old = state g.S.Store c.args.connection.now in
+        let same = c.in_ok-numbered_head.ensures.reads.same clean.intact in
+        let row = row_of seen_head _ (head_seen c.in-Some.head) (sym (c.in_ok-numbered_head.ensures.found clean) ∙ ap (option_map head_seen) c.in-Some.is) in
+        record {
+          within = subst IsInside (sym same) (c.requires (c.in_ok-numbered_head.ensures.reads.within.follows.clean clean));
+          is = same_tables old (state g.S.Store c.numbered_head.new.connection) same
+              ∙ of_row c.args.tenant.now c.args.bucket.now c.args.key.now (tables_at old) row.0 true row.1 (ap (λ (x : SeenHead). is_marked x.marker) row.2 ∙ sym c.is_marker.ensures ∙ c.if-is_marker.true);
+        };
+  };
 }
 
-pub returns-clause-changes : goal.returns-clause-changes
-returns-clause-changes g c = record {
-  within = search rules;
-  opens = search rules;
-  holds = on_ok_then c.drop_entry.result _ _ (λ holds clean.
-      let t = c.args.tenant.now in
-      let b = c.args.bucket.now in
-      let k = c.args.key.now in
-      let old = state g.S.Store c.args.connection.now in
-      let middle = state g.S.Store c.numbered_head.new.connection in
-      let clean_middle = c.drop_entry.ensures.changes.within.follows.clean clean in
-      let same = same_tables old middle (c.in_ok-numbered_head.ensures.reads.same clean_middle.intact) in
-      let row = row_of seen_head _ (head_seen c.in-Some.head) (sym (c.in_ok-numbered_head.ensures.found clean_middle) ∙ ap (option_map head_seen) c.in-Some.is) in
-      let it = holds clean in
-      record {
-        within = it.within;
-        is = it.is ∙ ap (λ (n : ℕ). without_entry t b k 0 n (tables_at middle)) c.as_replaced.ensures.seq
-            ∙ ap (λ (x : SeenHead). without_entry t b k 0 x.seq (tables_at middle)) (sym row.2)
-            ∙ ap (without_entry t b k 0 row.0.seq) same
-            ∙ of_row t b k (tables_at old) row.0 false row.1 (ap (λ (x : SeenHead). is_marked x.marker) row.2 ∙ sym c.is_marker.ensures ∙ c.if-is_marker.false);
-      }) c.drop_entry.ensures.changes.holds;
+pub returns : goal.returns
+returns g c = record {
+  changes = record {
+    within = search rules;
+    opens = search rules;
+    holds = on_ok_then c.drop_entry.result _ _ (λ holds clean.
+        let t = c.args.tenant.now in
+        let b = c.args.bucket.now in
+        let k = c.args.key.now in
+        let old = state g.S.Store c.args.connection.now in
+        let middle = state g.S.Store c.numbered_head.new.connection in
+        let clean_middle = c.drop_entry.ensures.changes.within.follows.clean clean in
+        let same = same_tables old middle (c.in_ok-numbered_head.ensures.reads.same clean_middle.intact) in
+        let row = row_of seen_head _ (head_seen c.in-Some.head) (sym (c.in_ok-numbered_head.ensures.found clean_middle) ∙ ap (option_map head_seen) c.in-Some.is) in
+        let it = holds clean in
+        record {
+          within = it.within;
+          is = it.is ∙ ap (λ (n : ℕ). without_entry t b k 0 n (tables_at middle)) c.as_replaced.ensures.seq
+              ∙ ap (λ (x : SeenHead). without_entry t b k 0 x.seq (tables_at middle)) (sym row.2)
+              ∙ ap (without_entry t b k 0 row.0.seq) same
+              ∙ of_row t b k (tables_at old) row.0 false row.1 (ap (λ (x : SeenHead). is_marked x.marker) row.2 ∙ sym c.is_marker.ensures ∙ c.if-is_marker.false);
+        }) c.drop_entry.ensures.changes.holds;
+  };
 }
 
 pub drop_entry-requires-clause-held : goal.drop_entry-requires-clause-held

@@ -24,22 +24,24 @@ drop_replaced-requires-clause-held g c clean =
     subst (λ (x : Tables). IsHeld t b k c.in_ok-replaced.replaced x) (sym (same_tables old middle (c.in_ok-replaced.ensures.reads.same clean.intact)))
     (subst (λ (r : Option Replaced). IsHeld t b k r (tables_at old)) (sym (c.in_ok-replaced.ensures.found clean)) (replaced_held t b k (tables_at old) c.args.mode))
 
-pub returns-clause-changes : goal.returns-clause-changes
-returns-clause-changes g c = record {
-  within = search rules;
-  opens = search rules;
-  holds = on_ok_then c.drop_replaced.result _ _ (λ holds clean.
-      let t = c.args.tenant.now in
-      let b = c.args.bucket.now in
-      let k = c.args.key.now in
-      let old = state g.S.Store c.args.connection.now in
-      let middle = state g.S.Store c.find_replaced.new.connection in
-      let between = c.drop_replaced.ensures.changes.within.follows.clean clean in
-      let same = same_tables old middle (c.in_ok-replaced.ensures.reads.same between.intact) in
-      let it = holds clean in
-      record {
-        within = it.within;
-        is = it.is ∙ ap (λ (r : Option Replaced). without_replaced t b k r (tables_at middle)) (c.in_ok-replaced.ensures.found between)
-            ∙ ap (λ (x : Tables). without_replaced t b k (replaced_in c.args.mode t b k (tables_at old)) x) same ∙ room_found c.args.mode t b k (tables_at old) (tables_at old) refl;
-      }) c.drop_replaced.ensures.changes.holds;
+pub returns : goal.returns
+returns g c = record {
+  changes = record {
+    within = search rules;
+    opens = search rules;
+    holds = on_ok_then c.drop_replaced.result _ _ (λ holds clean.
+        let t = c.args.tenant.now in
+        let b = c.args.bucket.now in
+        let k = c.args.key.now in
+        let old = state g.S.Store c.args.connection.now in
+        let middle = state g.S.Store c.find_replaced.new.connection in
+        let between = c.drop_replaced.ensures.changes.within.follows.clean clean in
+        let same = same_tables old middle (c.in_ok-replaced.ensures.reads.same between.intact) in
+        let it = holds clean in
+        record {
+          within = it.within;
+          is = it.is ∙ ap (λ (r : Option Replaced). without_replaced t b k r (tables_at middle)) (c.in_ok-replaced.ensures.found between)
+              ∙ ap (λ (x : Tables). without_replaced t b k (replaced_in c.args.mode t b k (tables_at old)) x) same ∙ room_found c.args.mode t b k (tables_at old) (tables_at old) refl;
+        }) c.drop_replaced.ensures.changes.holds;
+  };
 }

@@ -23,14 +23,16 @@ loop-body-preserved g c =
           ∙ inv.left (step.changes.within.follows.clean clean);
     }
 
-pub returns-clause-changes : goal.returns-clause-changes
-returns-clause-changes g c = record {
-  within = search rules;
-  opens = search rules;
-  holds = λ clean.
-      let inv = c.loop-body.invariant in
-      record {
-        within = inv.inside clean;
-        is = ap (λ l. without_bodies c.args.tenant.now l (tables_at (state g.S.Store c.loop-body.connection))) (sym (drop_last c.args.bodies.now c.loop-body.body-index (λ low. let end = c.loop-body-test.false in omega (arith, low, end)))) ∙ inv.left clean;
-      };
+pub returns : goal.returns
+returns g c = record {
+  changes = record {
+    within = search rules;
+    opens = search rules;
+    holds = λ clean.
+        let inv = c.loop-body.invariant in
+        record {
+          within = inv.inside clean;
+          is = ap (λ l. without_bodies c.args.tenant.now l (tables_at (state g.S.Store c.loop-body.connection))) (sym (drop_last c.args.bodies.now c.loop-body.body-index (λ low. let end = c.loop-body-test.false in omega (arith, low, end)))) ∙ inv.left clean;
+        };
+  };
 }
